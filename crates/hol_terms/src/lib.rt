@@ -1,0 +1,10 @@
+//! Named terms, which contracts see as trees, and their nameless terms.
+#![tactic(auto)]
+
+mod scope;
+mod term;
+mod variable;
+
+pub use scope::Scope;
+pub use term::{Term, TermError, TermNode};
+pub use variable::Variable;

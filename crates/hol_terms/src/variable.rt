@@ -1,0 +1,77 @@
+//! Variables: a name and a type.
+ghost use Rattle.std.specs.Prelude.{◌≡◌, IfOk, ◌++◌, ◌∷◌, []};
+ghost use Rattle.hol_types.specs.Equal.{variable_eq};
+
+use hol_types::{Name, Ty};
+use std::alloc::{AllocError, Global};
+use std::marker::Model;
+
+#[derive(Drop)]
+pub struct Variable {
+    name: Name,
+    ty: Ty,
+}
+
+impl Model for Variable {
+    ghost use Rattle.std.specs.Prelude.{ℕ, List};
+    ghost use Rattle.hol_types.specs.Tree.{TypeTree};
+    ghost use Rattle.hol_terms.specs.Code.{coded_variable};
+
+    ghost Value = { List ℕ × TypeTree };
+
+    ghost coded = { coded_variable };
+
+    ghost view = { λ a. (a.name, a.ty) };
+}
+
+impl Variable {
+    /// The variable of this name and type.
+    ///
+    /// Answers an error where memory is short, and nowhere else.
+    pub fn new(name: &Name, ty: &Ty) -> Result<Variable, AllocError>
+        ensures { IfOk result (λ v. v ≡ (name.now, ty.now)) }
+    {
+        Ok(Variable {
+            name: name.copy()?,
+            ty: ty.copy()?,
+        })
+    }
+
+    /// Its name.
+    pub fn name(&self) -> &Name
+        ensures { result.now ≡ self.now.0 }
+    {
+        &self.name
+    }
+
+    pub fn ty(&self) -> &Ty
+        ensures { result.now ≡ self.now.1 }
+    {
+        &self.ty
+    }
+
+    pub fn copy(&self) -> Result<Variable, AllocError>
+        ensures { IfOk result (λ v. v ≡ self.now) }
+    {
+        Ok(Variable {
+            name: self.name.copy()?,
+            ty: self.ty.copy()?,
+        })
+    }
+
+    pub fn same(&self, other: &Variable) -> bool
+        ensures { result ≡ variable_eq self.now other.now }
+    {
+        self.name.same(&other.name) && self.ty.same(&other.ty)
+    }
+
+    /// The variable with a prime more in its name.
+    pub fn primed(&self, alloc: Global) -> Result<Variable, AllocError>
+        ensures { IfOk result (λ v. v ≡ (self.now.0 ++ 39 ∷ [], self.now.1)) }
+    {
+        Ok(Variable {
+            name: self.name.primed(alloc)?,
+            ty: self.ty.copy()?,
+        })
+    }
+}

@@ -1,0 +1,64 @@
+-- One step of a loop over arguments.
+use Rattle.std.proofs.Common.{◌≡◌, ℕ, ◌+◌, ◌<◌, ◌≤◌, zero, suc, List, [], ◌∷◌, length, get_or, drop, take, map, refl, ap, ◌∙◌, arith, add-one, drop-cons}
+use Rattle.std.proofs.lemmas.List.{take_all, drop_all}
+use Rattle.std.proofs.Math.Seq.{drop-nil}
+use Rattle.hol_types.specs.Tree.{TypeTree, TyVar, no_types, more_types, type_list}
+use Rattle.std.specs.Prelude.{Result, IfOk, Some, None}
+use Rattle.hol_types.specs.Match.{match_types}
+use Rattle.hol_types.specs.Fun.{both_of}
+use Rattle.std.proofs.lemmas.Result.{IfOk-weaker}
+use Rattle.hol_types.specs.Order.{types_cmp}
+use Rattle.std.specs.declared.cmp.Ordering.TheVariants.{Less}
+use Rattle.hol_types.specs.Subst.{type_subst, types_subst}
+
+-- the arguments from i on are the i-th and those after it
+pub next_of : {A : Type 0} (xs : List A) (i : ℕ) (x : A) → i < length xs → x ≡ get_or xs i x → drop i xs ≡ x ∷ drop (i + 1) xs
+next_of xs i x h e = rw (add-one, drop-cons xs i x, ← e) refl
+
+pub subst_list : (pairs : List (TypeTree × List ℕ)) (ts : List TypeTree) → type_list (map (type_subst pairs) ts) ≡ types_subst pairs (type_list ts)
+subst_list pairs [] = refl
+subst_list pairs (t ∷ ts) = ap (more_types (type_subst pairs t)) (subst_list pairs ts)
+
+-- the first list ends before the second
+pub ends_less : (ts us : List TypeTree) (i : ℕ) → length ts ≤ i → i < length us → types_cmp (type_list (drop i ts)) (type_list (drop i us)) ≡ Less
+ends_less [] us zero h k = first us k
+  where
+    first : (vs : List TypeTree) → 0 < length vs → types_cmp no_types (type_list vs) ≡ Less
+    first [] p = absurd (omega arith)
+    first (v ∷ vs) p = refl
+ends_less [] [] (suc i) h k = absurd (omega arith)
+ends_less [] (u ∷ us) (suc i) h k = let r : types_cmp (type_list (drop i [])) (type_list (drop i us)) ≡ Less = ends_less [] us i (omega arith) (omega arith) in rw (drop-nil i) at r
+ends_less (t ∷ ts) us zero h k = absurd (omega arith)
+ends_less (t ∷ ts) [] (suc i) h k = absurd (omega arith)
+ends_less (t ∷ ts) (u ∷ us) (suc i) h k = ends_less ts us i (omega arith) (omega arith)
+
+pub copied : {E : Type 0} (r : Result TypeTree E) (x y : TypeTree) → IfOk r (λ t. t ≡ x) → x ≡ y → IfOk r (λ t. t ≡ y)
+copied r x y h e = IfOk-weaker r _ _ (λ t p. p ∙ e) h
+
+-- where the loop over the arguments is over
+pub subst_all : (pairs : List (TypeTree × List ℕ)) (ts us : List TypeTree) (i : ℕ) → us ≡ map (type_subst pairs) (take i ts) → length ts ≤ i → type_list us ≡ types_subst pairs (type_list ts)
+subst_all pairs ts us i e h = ap type_list (e ∙ ap (map (type_subst pairs)) (take_all i ts h)) ∙ subst_list pairs ts
+
+-- the arguments are not two
+pub below_two : (ts : List TypeTree) → length ts < 2 → both_of (type_list ts) ≡ None
+below_two [] h = refl
+below_two (s ∷ []) h = refl
+below_two (s ∷ t ∷ ts) h = absurd (omega arith)
+
+pub above_two : (ts : List TypeTree) → 3 ≤ length ts → both_of (type_list ts) ≡ None
+above_two [] h = absurd (omega arith)
+above_two (s ∷ []) h = absurd (omega arith)
+above_two (s ∷ t ∷ []) h = absurd (omega arith)
+above_two (s ∷ t ∷ u ∷ ts) h = refl
+
+-- the lists end together, or the second goes on
+pub match_ends_some : (found : List (TypeTree × List ℕ)) (ts us : List TypeTree) (i : ℕ) → length ts ≤ i → length us ≤ i → match_types (type_list (drop i ts)) found (type_list (drop i us)) ≡ Some found
+match_ends_some found ts us i h k = rw (drop_all i ts h, drop_all i us k) refl
+
+pub match_ends_none : (found : List (TypeTree × List ℕ)) (ts us : List TypeTree) (i : ℕ) → length ts ≤ i → i < length us → match_types (type_list (drop i ts)) found (type_list (drop i us)) ≡ None
+match_ends_none found ts us i h k = rw (drop_all i ts h, drop-cons us i (TyVar [])) refl
+
+pub match_more_none : (found : List (TypeTree × List ℕ)) (ts us : List TypeTree) (i : ℕ) → i < length ts → length us ≤ i → match_types (type_list (drop i ts)) found (type_list (drop i us)) ≡ None
+match_more_none found ts us i h k = rw (drop_all i us k, drop-cons ts i (TyVar [])) refl
+
+pub ruleset match_ends = (match_ends_some, match_ends_none, match_more_none)

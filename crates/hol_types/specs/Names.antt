@@ -1,0 +1,35 @@
+-- The names of the variables of a type.
+use Rattle.std.specs.Prelude.{ℕ, List, [], ◌∷◌, ◌++◌}
+use Rattle.std.specs.declared.cmp.Ordering.{Ordering}
+use Rattle.std.specs.declared.cmp.Ordering.TheVariants.{Less, Equal, Greater}
+use Rattle.hol_types.specs.Tree.{TypeTree, TypeList, TyVar, TyApp, no_types, more_types}
+use Rattle.hol_types.specs.Order.{name_cmp}
+
+-- as they occur
+abbrev mutual
+  pub type_names : TypeTree → List (List ℕ)
+  type_names (TyVar a) = a ∷ []
+  type_names (TyApp c ts) = types_names ts
+
+  pub types_names : TypeList → List (List ℕ)
+  types_names no_types = []
+  types_names (more_types t ts) = type_names t ++ types_names ts
+
+-- the name a put before b and the names after it, where r says how a and b compare
+abbrev pub placed_name : Ordering → List ℕ → List ℕ → List (List ℕ) → List (List ℕ) → List (List ℕ)
+placed_name Less a b after inserted = a ∷ b ∷ after
+placed_name Equal a b after inserted = b ∷ after
+placed_name Greater a b after inserted = b ∷ inserted
+
+-- a list in order of bytes, with the name a in its place, unless it is there
+abbrev pub insert_name : List ℕ → List (List ℕ) → List (List ℕ)
+insert_name a [] = a ∷ []
+insert_name a (b ∷ after) = placed_name (name_cmp a b) a b after (insert_name a after)
+
+abbrev pub insert_names : List (List ℕ) → List (List ℕ) → List (List ℕ)
+insert_names names [] = names
+insert_names names (a ∷ more) = insert_names (insert_name a names) more
+
+-- each name once, in order of bytes
+abbrev pub tyvars : TypeTree → List (List ℕ)
+tyvars t = insert_names [] (type_names t)

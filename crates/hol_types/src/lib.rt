@@ -1,0 +1,8 @@
+//! Types: finite trees of variables and constructors, with shared nodes.
+#![tactic(auto)]
+
+mod name;
+mod ty;
+
+pub use name::Name;
+pub use ty::{Ty, TyNode, order_is_total};

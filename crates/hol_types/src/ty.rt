@@ -1,0 +1,349 @@
+//! Types, which contracts see as finite trees.
+ghost use Rattle.std.specs.Prelude.{◌≡◌, ℕ, Some, None, OnOk, length, ◌≤◌, map, if◌then◌else◌, List, ◌++◌, [], ◌∷◌, min, IfOk, IfSome, IsNone, MatchOption, IsTrue, ◌↔◌};
+ghost use Rattle.std.specs.List.{insert};
+ghost use Rattle.std.specs.Cmp.{IsTotalOrder};
+ghost use Rattle.hol_types.specs.Tree.{TypeTree, TyVar, TyApp, type_list, type_size};
+ghost use Rattle.hol_types.specs.Subst.{type_lookup, type_for, type_subst};
+ghost use Rattle.hol_types.specs.Names.{type_names, insert_name, insert_names, tyvars};
+ghost use Rattle.hol_types.specs.Match.{match_type, pairs_for, IsMatchOf, HasNoMatch};
+ghost use Rattle.hol_types.specs.Order.{type_cmp};
+ghost use Rattle.hol_types.specs.Equal.{type_eq};
+ghost use Rattle.hol_types.specs.Fun.{fun_type, fun_parts};
+ghost use Rattle.hol_types.specs.View.{tree_of};
+
+use crate::name::Name;
+use std::alloc::{AllocError, Global};
+use std::cmp::Ordering;
+use std::marker::Model;
+use std::rc::Rc;
+
+/// A type. Its copies share their nodes.
+#[cycle(ty)]
+#[derive(Drop)]
+pub struct Ty {
+    node: Rc<TyNode>,
+}
+
+/// The top node of a type.
+#[cycle(ty)]
+#[derive(Drop)]
+pub enum TyNode {
+    Var(Name),
+    App(Name, Vec<Ty>),
+}
+
+impl Model for Ty {
+    ghost use Rattle.hol_types.specs.Tree.{TypeTree, type_size};
+    ghost use Rattle.hol_types.specs.Code.{coded_type};
+
+    ghost Value = { TypeTree };
+
+    ghost coded = { coded_type };
+
+    ghost use Rattle.hol_types.specs.View.{tree_of};
+
+    ghost view = { λ a. tree_of a.node.value };
+
+    ghost size = { type_size };
+
+    ghost use Rattle.hol_types.specs.Falls.{deep_le_size};
+
+    ghost size_decreases = { λ a h. deep_le_size a.node.value };
+}
+
+impl Ty {
+    /// The type variable of this name.
+    ///
+    /// Answers an error where memory is short, and nowhere else.
+    pub fn var(alloc: Global, name: &Name) -> Result<Ty, AllocError>
+        ensures { IfOk result (λ ty. ty ≡ TyVar name.now) }
+    {
+        Ty::from_node(alloc, TyNode::Var(name.copy()?))
+    }
+
+    /// The constructor of this name applied to the arguments, in their order.
+    ///
+    /// Answers an error where memory is short, and nowhere else.
+    pub fn app(alloc: Global, name: &Name, args: &[Ty]) -> Result<Ty, AllocError>
+        ensures { IfOk result (λ ty. ty ≡ TyApp name.now (type_list args.now)) }
+    {
+        let mut own_args = Vec::with_capacity(alloc, args.len())?;
+        for arg in args {
+            own_args.push(arg.copy()?)?;
+        }
+        Ty::from_node(alloc, TyNode::App(name.copy()?, own_args))
+    }
+
+    // The type of this top node.
+    fn from_node(alloc: Global, node: TyNode) -> Result<Ty, AllocError>
+        ensures { IfOk result (λ ty. ty ≡ tree_of node) }
+    {
+        Ok(Ty {
+            node: Rc::new(alloc, node)?,
+        })
+    }
+
+    pub fn copy(&self) -> Result<Ty, AllocError>
+        ensures { IfOk result (λ ty. ty ≡ self.now) }
+    {
+        Ok(Ty {
+            node: self.node.clone()?,
+        })
+    }
+
+    pub fn node(&self) -> &TyNode
+        ensures { tree_of result.now ≡ self.now }
+    {
+        self.node.as_ref()
+    }
+
+    /// The type of functions from `domain` to `range`: the constructor `fun` of these two.
+    ///
+    /// Answers an error where memory is short, and nowhere else.
+    pub fn fun(alloc: Global, domain: &Ty, range: &Ty) -> Result<Ty, AllocError>
+        ensures { IfOk result (λ ty. ty ≡ fun_type domain.now range.now) }
+    {
+        let name = Name::new(alloc, "fun")?;
+        let mut args = Vec::with_capacity(alloc, 2)?;
+        args.push(domain.copy()?)?;
+        args.push(range.copy()?)?;
+        Ty::from_node(alloc, TyNode::App(name, args))
+    }
+
+    #[tactic(auto, using(crate::proofs::Steps::below_two, crate::proofs::Steps::above_two))]
+    pub fn dest_fun(&self) -> Option<(&Ty, &Ty)>
+        ensures { MatchOption result (fun_parts self.now ≡ None) (λ parts. fun_parts self.now ≡ Some (parts.0.now, parts.1.now)) }
+    {
+        match self.node() {
+            TyNode::Var(_) => None,
+            TyNode::App(name, args) => {
+                if name.as_str() != "fun" {
+                    return None;
+                }
+                match args.as_slice() {
+                    [domain, range] => Some((domain, range)),
+                    _ => None,
+                }
+            }
+        }
+    }
+
+    /// The least of the number of nodes and `limit`.
+    pub fn size_within(&self, limit: u32) -> u32
+        ensures { result ≡ min (type_size self.now) limit }
+    {
+        if limit == 0 {
+            return 0;
+        }
+        match &*self.node {
+            TyNode::Var(_) => 1,
+            TyNode::App(_, args) => {
+                let mut count = 1;
+                for arg in args {
+                    count += arg.size_within(limit - count);
+                    if count == limit {
+                        return limit;
+                    }
+                }
+                count
+            }
+        }
+    }
+
+    pub fn size(&self) -> u32
+        ensures { result ≡ min (type_size self.now) 20001 }
+    {
+        self.size_within(20_001)
+    }
+
+    #[tactic(auto, using(crate::proofs::Steps::subst_list))]
+    pub fn subst(&self, alloc: Global, pairs: &[(Ty, Name)]) -> Result<Ty, AllocError>
+        ensures { IfOk result (λ ty. ty ≡ type_subst pairs.now self.now) }
+    {
+        match &*self.node {
+            TyNode::Var(name) => match replacement(pairs, name) {
+                Some(ty) => ty.copy(),
+                None => self.copy(),
+            },
+            TyNode::App(name, args) => {
+                let mut new_args = Vec::with_capacity(alloc, args.len())?;
+                for arg in args {
+                    new_args.push(arg.subst(alloc, pairs)?)?;
+                }
+                Ty::from_node(alloc, TyNode::App(name.copy()?, new_args))
+            }
+        }
+    }
+
+    #[tactic(auto, using(crate::proofs::OrderLaws::type_cmp_decides))]
+    pub fn same(&self, other: &Ty) -> bool
+        ensures test { result ≡ type_eq self.now other.now }
+        ensures equal { IsTrue result ↔ (self.now ≡ other.now) }
+    {
+        self.order(other).is_eq()
+    }
+
+    #[tactic(auto, using(crate::proofs::Steps::ends_less))]
+    pub fn order(&self, other: &Ty) -> Ordering
+        ensures { result ≡ type_cmp self.now other.now }
+    {
+        match (&*self.node, &*other.node) {
+            (TyNode::Var(a), TyNode::Var(b)) => a.order(b),
+            (TyNode::Var(_), TyNode::App(_, _)) => Ordering::Less,
+            (TyNode::App(_, _), TyNode::Var(_)) => Ordering::Greater,
+            (TyNode::App(c, ts), TyNode::App(d, us)) => match c.order(d) {
+                Ordering::Equal => {
+                    for (i, t) in ts.iter().enumerate() {
+                        let Some(u) = us.get(i) else {
+                            return Ordering::Greater;
+                        };
+                        match t.order(u) {
+                            Ordering::Equal => {}
+                            unequal => return unequal,
+                        }
+                    }
+                    if ts.len() < us.len() {
+                        Ordering::Less
+                    } else {
+                        Ordering::Equal
+                    }
+                }
+                unequal => unequal,
+            },
+        }
+    }
+
+    /// The names of the type variables, each once, in order of bytes.
+    pub fn tyvars(&self, alloc: Global) -> Result<Vec<Name>, AllocError>
+        ensures { IfOk result (λ names. names.items ≡ tyvars self.now) }
+    {
+        let mut names = Vec::new(alloc);
+        self.add_names(&mut names)?;
+        Ok(names)
+    }
+
+    #[tactic(auto, using(crate::proofs::Names::add_step))]
+    fn add_names(&self, names: &mut Vec<Name>) -> Result<(), AllocError>
+        ensures { OnOk result (names.new.items ≡ insert_names names.old.items (type_names self.now)) }
+    {
+        match &*self.node {
+            TyNode::Var(name) => add_name(names, name),
+            TyNode::App(_, args) => {
+                for arg in args {
+                    arg.add_names(names)?;
+                }
+                Ok(())
+            }
+        }
+    }
+
+    /// The pairs whose substitution gives the target, one for each name of `tyvars` in its order, if there are such pairs.
+    #[tactic(auto, using(crate::proofs::MatchLaws::matching))]
+    pub fn match_to(
+        &self,
+        alloc: Global,
+        target: &Ty,
+    ) -> Result<Option<Vec<(Ty, Name)>>, AllocError>
+        ensures some { IfOk result (λ found. IfSome found (λ pairs. IsMatchOf self.now target.now pairs.items)) }
+        ensures none { IfOk result (λ found. IsNone found → HasNoMatch self.now target.now) }
+    {
+        let mut found = Vec::new(alloc);
+        if !self.match_into(target, &mut found)? {
+            return Ok(None);
+        }
+        let names = self.tyvars(alloc)?;
+        let pairs = pairs_for(alloc, &found, &names)?;
+        Ok(Some(pairs))
+    }
+
+    #[tactic(auto, using(crate::proofs::Steps::match_ends))]
+    fn match_into(&self, target: &Ty, found: &mut Vec<(Ty, Name)>) -> Result<bool, AllocError>
+        ensures { IfOk result (λ matched. match_type self.now found.old.items target.now ≡ (if matched then Some found.new.items else None)) }
+    {
+        match (&*self.node, &*target.node) {
+            (TyNode::Var(name), _) => match replacement(found, name) {
+                Some(earlier) => Ok(earlier.same(target)),
+                None => {
+                    found.push((target.copy()?, name.copy()?))?;
+                    Ok(true)
+                }
+            },
+            (TyNode::App(_, _), TyNode::Var(_)) => Ok(false),
+            (TyNode::App(c, ts), TyNode::App(d, us)) => {
+                if !c.same(d) {
+                    return Ok(false);
+                }
+                for (i, t) in ts.iter().enumerate() {
+                    let Some(u) = us.get(i) else {
+                        return Ok(false);
+                    };
+                    if !t.match_into(u, found)? {
+                        return Ok(false);
+                    }
+                }
+                Ok(us.len() <= ts.len())
+            }
+        }
+    }
+}
+
+// Puts the name in its place, unless it is there.
+fn add_name(names: &mut Vec<Name>, name: &Name) -> Result<(), AllocError>
+    ensures { OnOk result (names.new.items ≡ insert_name name.now names.old.items) }
+{
+    if let Some(at) = place_of(names, name) {
+        names.insert(at, name.copy()?)?;
+    }
+    Ok(())
+}
+
+// The place of a name that is not there.
+fn place_of(names: &[Name], name: &Name) -> Option<usize>
+    ensures { MatchOption result (insert_name name.now names.now ≡ names.now) (λ at. (at ≤ length names.now) × (insert_name name.now names.now ≡ insert names.now at name.now)) }
+{
+    for (i, other) in names.iter().enumerate() {
+        match name.order(other) {
+            Ordering::Less => return Some(i),
+            Ordering::Equal => return None,
+            Ordering::Greater => {}
+        }
+    }
+    Some(names.len())
+}
+
+// The pairs in the order of the names.
+fn pairs_for(
+    alloc: Global,
+    found: &[(Ty, Name)],
+    names: &[Name],
+) -> Result<Vec<(Ty, Name)>, AllocError>
+    ensures { IfOk result (λ pairs. pairs.items ≡ pairs_for found.now names.now) }
+{
+    let mut pairs = Vec::with_capacity(alloc, names.len())?;
+    for name in names {
+        let ty = match replacement(found, name) {
+            Some(ty) => ty.copy()?,
+            None => Ty::var(alloc, name)?,
+        };
+        pairs.push((ty, name.copy()?))?;
+    }
+    Ok(pairs)
+}
+
+// What stands for a variable: the first pair of its name counts.
+fn replacement<'a>(pairs: &'a [(Ty, Name)], name: &Name) -> Option<&'a Ty>
+    ensures { MatchOption result (type_lookup pairs.now name.now ≡ None) (λ ty. type_lookup pairs.now name.now ≡ Some ty.now) }
+{
+    for pair in pairs {
+        if pair.1.same(name) {
+            return Some(&pair.0);
+        }
+    }
+    None
+}
+
+/// The law of `order`: it is a total order.
+#[tactic(auto, using(crate::proofs::OrderLaws::type_cmp_total))]
+pub fn order_is_total()
+    ensures { IsTotalOrder type_cmp }
+{}
