@@ -18,11 +18,11 @@ both_true true b p q = q
 both_true false b p q = absurd (cc)
 
 -- both tests hold where both facts do
-and_decides : {P Q : Type 0} (a b : Bool) → Decides a P → Decides b Q → Decides (a && b) (P × Q)
+pub and_decides : {P Q : Type 0} (a b : Bool) → Decides a P → Decides b Q → Decides (a && b) (P × Q)
 and_decides a b p q = (λ e. let t = and_parts a b e in (p.0 t.0, q.0 t.1), λ h. both_true a b (p.1 h.0) (q.1 h.1))
 
 -- a test of one fact is a test of another that says the same
-decides_other : {P Q : Type 0} (b : Bool) → (P → Q) → (Q → P) → Decides b P → Decides b Q
+pub decides_other : {P Q : Type 0} (b : Bool) → (P → Q) → (Q → P) → Decides b P → Decides b Q
 decides_other b f g d = (λ e. f (d.0 e), λ h. d.1 (g h))
 
 pub variable_eq_decides : (v w : List ℕ × TypeTree) → Decides (variable_eq v w) (v ≡ w)
@@ -40,10 +40,10 @@ place_above (u ∷ env) i j v h e = by (variable_eq u v) (place_above env i (j +
     by false r p e = r (rw p at e)
 
 -- false decides what is not
-never : {P : Type 0} → (P → ⊥) → Decides false P
+pub never : {P : Type 0} → (P → ⊥) → Decides false P
 never f = (λ e. absurd (cc), λ p. absurd (f p))
 
-always : {P : Type 0} → P → Decides true P
+pub always : {P : Type 0} → P → Decides true P
 always p = (λ e. p, λ q. refl)
 
 pub same_place_decides : (left : Variables) (v : List ℕ × TypeTree) (right : Variables) (w : List ℕ × TypeTree) (i : ℕ) → length left ≡ length right → Decides (same_place left v right w) (place left i v ≡ place right i w)
@@ -59,14 +59,14 @@ same_place_decides (l ∷ left) v (r ∷ right) w i h = by (variable_eq l v) (va
     by false false d p q = rw (p, q) d
 
 -- a place is a free variable or an index
-abbrev IsPlace : Nameless → Type 0
+abbrev pub IsPlace : Nameless → Type 0
 IsPlace (free v) = Unit {0}
 IsPlace (bound i) = Unit {0}
 IsPlace (fixed c s) = ⊥
 IsPlace (app f x) = ⊥
 IsPlace (lam a s b) = ⊥
 
-place_is : (env : Variables) (i : ℕ) (v : List ℕ × TypeTree) → IsPlace (place env i v)
+pub place_is : (env : Variables) (i : ℕ) (v : List ℕ × TypeTree) → IsPlace (place env i v)
 place_is [] i v = tt
 place_is (u ∷ env) i v = by (variable_eq u v) (place_is env (i + 1) v)
   where
@@ -83,7 +83,7 @@ not_app n f x p e = subst IsPlace e p
 not_lam : (n : Nameless) (a : List ℕ) (s : TypeTree) (b : Nameless) → IsPlace n → n ≡ lam a s b → ⊥
 not_lam n a s b p e = subst IsPlace e p
 
-pub same_named_decides : (left : Variables) (s : Named) (right : Variables) (t : Named) → length left ≡ length right → Decides (same_named left s right t) (nameless left s ≡ nameless right t)
+pub same_named_decides : (left : Variables) (s : Named) (right : Variables) (t : Named) → length left ≡ length right → Decides (same_named true left s right t) (nameless left s ≡ nameless right t)
 same_named_decides left (var v) right (var w) h = same_place_decides left v right w 0 h
 same_named_decides left (var v) right (constant d t) h = never (not_fixed (place left 0 v) d t (place_is left 0 v))
 same_named_decides left (var v) right (comb g y) h = never (not_app (place left 0 v) (nameless right g) (nameless right y) (place_is left 0 v))
@@ -98,7 +98,7 @@ same_named_decides left (comb f x) right (var w) h = never (λ e. not_app _ _ _ 
 same_named_decides left (comb f x) right (constant d t) h = never (λ e. absurd (cc))
 same_named_decides left (comb f x) right (comb g y) h =
     decides_other _ (λ p i. app (p.0 i) (p.1 i)) (λ e. let p : nameless left f ≡ nameless right g = cc in let q : nameless left x ≡ nameless right y = cc in (p, q))
-    (and_decides (same_named left f right g) (same_named left x right y) (same_named_decides left f right g h) (same_named_decides left x right y h))
+    (and_decides (same_named true left f right g) (same_named true left x right y) (same_named_decides left f right g h) (same_named_decides left x right y h))
 same_named_decides left (comb f x) right (abs w c) h = never (λ e. absurd (cc))
 same_named_decides left (abs v b) right (var w) h = never (λ e. not_lam _ _ _ _ (place_is right 0 w) (sym e))
 same_named_decides left (abs v b) right (constant d t) h = never (λ e. absurd (cc))
@@ -109,5 +109,5 @@ same_named_decides left (abs v b) right (abs w c) h =
     (and_decides _ _ (bytes_eq-Decides (base_of v.0) (base_of w.0))
     (and_decides _ _ (type_cmp_decides v.1 w.1) (same_named_decides (v ∷ left) b (w ∷ right) c (omega arith))))
 
-pub same_terms_decides : (s t : Named) → Decides (same_named [] s [] t) (nameless [] s ≡ nameless [] t)
+pub same_terms_decides : (s t : Named) → Decides (same_named true [] s [] t) (nameless [] s ≡ nameless [] t)
 same_terms_decides s t = same_named_decides [] s [] t refl

@@ -1,5 +1,5 @@
 -- What the code compares and collects under binders, on the named terms themselves. Laws in proofs/ lead from here to nameless terms.
-use Rattle.std.specs.Prelude.{ℕ, List, [], ◌∷◌, ◌++◌, Bool, false, cond, ◌&&◌, ◌||◌, bytes_eq}
+use Rattle.std.specs.Prelude.{ℕ, List, [], ◌∷◌, ◌++◌, Bool, false, cond, not, ◌&&◌, ◌||◌, bytes_eq}
 use Rattle.hol_types.specs.Tree.{TypeTree}
 use Rattle.hol_types.specs.Equal.{type_eq, variable_eq}
 use Rattle.hol_terms.specs.Named.{Named, var, constant, comb, abs}
@@ -17,12 +17,13 @@ same_place [] v (r ∷ right) w = false
 same_place (l ∷ left) v [] w = false
 same_place (l ∷ left) v (r ∷ right) w = cond (variable_eq l v) (variable_eq r w) (cond (variable_eq r w) false (same_place left v right w))
 
-abbrev pub same_named : List (List ℕ × TypeTree) → Named → List (List ℕ × TypeTree) → Named → Bool
-same_named left (var v) right (var w) = same_place left v right w
-same_named left (constant c s) right (constant d t) = bytes_eq c d && type_eq s t
-same_named left (comb f x) right (comb g y) = same_named left f right g && same_named left x right y
-same_named left (abs v b) right (abs w c) = bytes_eq (base_of v.0) (base_of w.0) && (type_eq v.1 w.1 && same_named (v ∷ left) b (w ∷ right) c)
-same_named left _ right _ = false
+-- the terms agree under their binders; base names count where with_bases is true
+abbrev pub same_named : Bool → List (List ℕ × TypeTree) → Named → List (List ℕ × TypeTree) → Named → Bool
+same_named with_bases left (var v) right (var w) = same_place left v right w
+same_named with_bases left (constant c s) right (constant d t) = bytes_eq c d && type_eq s t
+same_named with_bases left (comb f x) right (comb g y) = same_named with_bases left f right g && same_named with_bases left x right y
+same_named with_bases left (abs v b) right (abs w c) = (not with_bases || bytes_eq (base_of v.0) (base_of w.0)) && (type_eq v.1 w.1 && same_named with_bases (v ∷ left) b (w ∷ right) c)
+same_named with_bases left _ right _ = false
 
 -- the list with v at its end, unless it is there
 abbrev pub add_new : List (List ℕ × TypeTree) → List ℕ × TypeTree → List (List ℕ × TypeTree)

@@ -1,10 +1,12 @@
 //! Named terms, which contracts see as trees, and their nameless terms.
 #![tactic(auto)]
 
+mod base;
 mod scope;
 mod term;
 mod variable;
 
+pub use base::base_name;
 pub use scope::Scope;
 pub use term::{Term, TermError, TermNode};
 pub use variable::Variable;

@@ -1,25 +1,35 @@
 //! Terms, which contracts see as named trees.
-ghost use Rattle.std.specs.Prelude.{◌≡◌, ℕ, List, [], ◌∷◌, ◌↔◌, IfOk, IsErr, IsErrOf, IsTrue, MatchOption, OnOk, bytes_eq, Some, None};
+ghost use Rattle.std.specs.Prelude.{◌≡◌, ℕ, List, [], ◌∷◌, ◌↔◌, IfOk, IsErrOf, IsOkUnless, IsTrue, MatchOption, OnOk, bytes_eq, Some, None, min};
 ghost use Rattle.hol_terms.specs.Named.{Named, var, constant, comb, abs, named_type, applied_type};
 ghost use Rattle.hol_types.specs.Tree.{TypeTree};
 ghost use Rattle.hol_terms.specs.Nameless.{nameless, base_of, free_occurrences};
 ghost use Rattle.hol_terms.specs.Scoped.{binds, same_named, add_all, occurs_in};
 ghost use Rattle.hol_terms.specs.Scope.{binders};
+ghost use Rattle.hol_terms.specs.Alpha.{strip, alpha_eq};
+ghost use Rattle.hol_terms.specs.Size.{named_size, term_size};
 ghost use Rattle.hol_terms.specs.View.{named_of};
 ghost use Rattle.hol_terms.specs.declared.term.TermError.TheVariants.{Memory};
 
+use crate::base::base_name;
 use crate::scope::{Scope, same_place};
 use crate::variable::Variable;
 use hol_types::{Name, Ty};
 use std::alloc::{AllocError, AllocFailed, Global};
 use std::marker::Model;
 use std::rc::Rc;
+use thiserror::Error;
 
 /// Why a term was not made.
-#[derive(Clone, Copy, Debug, PartialEq, Eq)]
+#[derive(Clone, Copy, Debug, PartialEq, Eq, Error)]
 pub enum TermError {
+    /// The first term's type is no function type, or its domain is not the second term's type.
+    #[error("the types do not fit")]
     TypesDontFit,
+    /// What an abstraction is to bind is not a variable.
+    #[error("not a variable")]
     NotAVariable,
+    /// There is no memory left.
+    #[error("out of memory")]
     Memory,
 }
 
@@ -85,7 +95,7 @@ impl Term {
     /// Answers an error where memory is short, and nowhere else.
     pub fn var(alloc: Global, variable: &Variable) -> Result<Term, TermError>
         ensures ok { IfOk result (λ t. t ≡ var variable.now) }
-        ensures memory { IsErr result → IsErrOf result TermError.Memory }
+        ensures memory { IsOkUnless result TermError.Memory }
     {
         let ty = variable.ty().copy()?;
         let node = TermNode::Var(variable.copy()?);
@@ -100,7 +110,7 @@ impl Term {
     /// Answers an error where memory is short, and nowhere else.
     pub fn constant(alloc: Global, name: &Name, ty: &Ty) -> Result<Term, TermError>
         ensures ok { IfOk result (λ t. t ≡ constant name.now ty.now) }
-        ensures memory { IsErr result → IsErrOf result TermError.Memory }
+        ensures memory { IsOkUnless result TermError.Memory }
     {
         let node = TermNode::Const(name.copy()?, ty.copy()?);
         Ok(Term {
@@ -144,7 +154,7 @@ impl Term {
     #[tactic(auto, using(crate::proofs::Typing::abs_type))]
     pub fn abstraction(alloc: Global, v: &Variable, body: &Term) -> Result<Term, TermError>
         ensures ok { IfOk result (λ t. t ≡ abs v.now body.now) }
-        ensures memory { IsErr result → IsErrOf result TermError.Memory }
+        ensures memory { IsOkUnless result TermError.Memory }
     {
         let ty = Ty::fun(alloc, v.ty(), body.type_of())?;
         let v = v.copy()?;
@@ -157,7 +167,7 @@ impl Term {
 
     pub fn copy(&self) -> Result<Term, TermError>
         ensures ok { IfOk result (λ t. t ≡ self.now) }
-        ensures memory { IsErr result → IsErrOf result TermError.Memory }
+        ensures memory { IsOkUnless result TermError.Memory }
     {
         Ok(Term {
             node: self.node.clone()?,
@@ -178,28 +188,78 @@ impl Term {
     }
 
     /// Whether the two are equal as nameless terms, base names of bound variables included.
+    ///
+    /// Takes no memory. Shared nodes are compared again at each place where they stand.
     #[tactic(auto, using(crate::proofs::Same::same_terms_decides))]
     pub fn same(&self, other: &Term) -> bool
         ensures { IsTrue result ↔ (nameless [] self.now ≡ nameless [] other.now) }
     {
-        self.same_under(&Scope::Outside, other, &Scope::Outside)
+        self.same_under(&Scope::Outside, other, &Scope::Outside, true)
     }
 
-    fn same_under(&self, left: &Scope, other: &Term, right: &Scope) -> bool
-        ensures { result ≡ same_named (binders left.now) self.now (binders right.now) other.now }
+    /// Whether the two are alpha equivalent: equal as nameless terms where base names are left out.
+    ///
+    /// Takes no memory. Shared nodes are compared again at each place where they stand.
+    #[tactic(auto, using(crate::proofs::Alpha::alpha_equivalence))]
+    pub fn alpha_equivalent(&self, other: &Term) -> bool
+        ensures test { result ≡ alpha_eq (nameless [] self.now) (nameless [] other.now) }
+        ensures equal { IsTrue result ↔ (strip (nameless [] self.now) ≡ strip (nameless [] other.now)) }
+    {
+        self.same_under(&Scope::Outside, other, &Scope::Outside, false)
+    }
+
+    // Whether the two agree under their binders. Base names count only where `with_bases` says so.
+    fn same_under(&self, left: &Scope, other: &Term, right: &Scope, with_bases: bool) -> bool
+        ensures { result ≡ same_named with_bases (binders left.now) self.now (binders right.now) other.now }
     {
         match (&*self.node, &*other.node) {
             (TermNode::Var(v), TermNode::Var(w)) => same_place(left, v, right, w),
             (TermNode::Const(c, s), TermNode::Const(d, t)) => c.same(d) && s.same(t),
             (TermNode::Comb(f, x), TermNode::Comb(g, y)) => {
-                f.same_under(left, g, right) && x.same_under(left, y, right)
+                f.same_under(left, g, right, with_bases) && x.same_under(left, y, right, with_bases)
             }
             (TermNode::Abs(v, b), TermNode::Abs(w, c)) => {
-                same_base(v.name(), w.name())
+                let left = &Scope::Inside(v, &*left);
+                let right = &Scope::Inside(w, &*right);
+                (!with_bases || same_base(v.name(), w.name()))
                     && v.ty().same(w.ty())
-                    && b.same_under(&Scope::Inside(v, &*left), c, &Scope::Inside(w, &*right))
+                    && b.same_under(left, c, right, with_bases)
             }
             _ => false,
+        }
+    }
+
+    /// The size: a variable, also a bound occurrence, or a constant counts 1 and its type's nodes, an application 1 and both
+    /// parts, an abstraction 1, the nodes of the bound variable's type, and the body. Answers the count, or 20,001 for more.
+    ///
+    /// Takes no memory, and looks at no more than 20,001 nodes.
+    #[tactic(auto, using(crate::proofs::Size::size_is))]
+    pub fn size(&self) -> u32
+        ensures named { result ≡ min (named_size self.now) 20001 }
+        ensures size { result ≡ min (term_size [] (nameless [] self.now)) 20001 }
+    {
+        self.size_within(20_001)
+    }
+
+    // The least of the size and `limit`.
+    fn size_within(&self, limit: u32) -> u32
+        ensures { result ≡ min (named_size self.now) limit }
+    {
+        if limit == 0 {
+            return 0;
+        }
+        let left = limit - 1;
+        match &*self.node {
+            TermNode::Var(v) => 1 + v.ty().size_within(left),
+            TermNode::Const(_, ty) => 1 + ty.size_within(left),
+            TermNode::Comb(f, x) => {
+                let function = f.size_within(left);
+                1 + function + x.size_within(left - function)
+            }
+            TermNode::Abs(v, b) => {
+                let ty = v.ty().size_within(left);
+                1 + ty + b.size_within(left - ty)
+            }
         }
     }
 
@@ -224,8 +284,11 @@ impl Term {
     }
 
     /// The free variables, each once, by first occurrence.
+    ///
+    /// Answers `Memory` where memory is short, and no other error.
     pub fn frees(&self, alloc: Global) -> Result<Vec<Variable>, TermError>
-        ensures { IfOk result (λ vs. vs.items ≡ add_all [] (free_occurrences (nameless [] self.now))) }
+        ensures memory { IsOkUnless result TermError.Memory }
+        ensures ok { IfOk result (λ vs. vs.items ≡ add_all [] (free_occurrences (nameless [] self.now))) }
     {
         let mut found = Vec::new(alloc);
         self.add_frees(&Scope::Outside, &mut found)?;
@@ -234,7 +297,8 @@ impl Term {
 
     #[tactic(auto, using(crate::proofs::Frees::collecting))]
     fn add_frees(&self, scope: &Scope, found: &mut Vec<Variable>) -> Result<(), TermError>
-        ensures { OnOk result (found.new.items ≡ add_all found.old.items (free_occurrences (nameless (binders scope.now) self.now))) }
+        ensures memory { IsOkUnless result TermError.Memory }
+        ensures ok { OnOk result (found.new.items ≡ add_all found.old.items (free_occurrences (nameless (binders scope.now) self.now))) }
     {
         match &*self.node {
             TermNode::Var(v) => {
@@ -268,21 +332,7 @@ fn contains(variables: &[Variable], v: &Variable) -> bool
 fn same_base(a: &Name, b: &Name) -> bool
     ensures { result ≡ bytes_eq (base_of a.now) (base_of b.now) }
 {
-    without_primes(a.as_str().as_bytes()) == without_primes(b.as_str().as_bytes())
-}
-
-#[tactic(auto, using(crate::proofs::Base::bases))]
-fn without_primes(bytes: &[u8]) -> &[u8]
-    ensures { result.now ≡ base_of bytes.now }
-{
-    let Some((last, front)) = bytes.split_last() else {
-        return bytes;
-    };
-    if *last == b'\'' {
-        without_primes(front)
-    } else {
-        bytes
-    }
+    base_name(a.as_str()) == base_name(b.as_str())
 }
 
 // The type of an application of a function of type `f` to an argument of type `x`.
