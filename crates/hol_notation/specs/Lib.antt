@@ -1,0 +1,4 @@
+pub mod Command
+pub mod Token
+pub mod Lexeme
+pub mod Errors
