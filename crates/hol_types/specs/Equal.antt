@@ -1,4 +1,4 @@
--- The tests of equality of names, types and variables.
+-- The tests of equality of types and variables, by their order and the bytes of names.
 use Rattle.std.specs.Prelude.{ℕ, List, Bool, ◌&&◌, bytes_eq}
 use Rattle.std.specs.Ordering.{is_eq}
 use Rattle.hol_types.specs.Tree.{TypeTree}

@@ -1,4 +1,5 @@
 -- Matching a pattern with a type: pairs are found from left to right, and each name once.
+-- Source: HOL Light's type_match. A reader has to believe IsMatchOf and HasNoMatch alone: the rest says how the code finds pairs.
 use Rattle.std.specs.Prelude.{◌≡◌, ℕ, List, [], ◌∷◌, ◌++◌, map, cond, bytes_eq, Option, Some, None}
 use Rattle.std.specs.Option.{option_and_then}
 use Rattle.hol_types.specs.Tree.{TypeTree, TypeList, TyVar, TyApp, no_types, more_types}

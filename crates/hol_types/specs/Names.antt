@@ -1,4 +1,5 @@
 -- The names of the variables of a type.
+-- Source: HOL Light's fusion.ml, tyvars, the union of the arguments' variables. Here they stand in order of bytes.
 use Rattle.std.specs.Prelude.{ℕ, List, [], ◌∷◌, ◌++◌}
 use Rattle.std.specs.declared.cmp.Ordering.{Ordering}
 use Rattle.std.specs.declared.cmp.Ordering.TheVariants.{Less, Equal, Greater}

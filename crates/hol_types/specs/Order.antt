@@ -1,4 +1,5 @@
 -- The order of types: variables before applications, then names by bytes, then arguments from the left, fewer first.
+-- Source: lexicographic order of finite trees. HOL Light takes OCaml's compare in its place, which is not asked for here.
 use Rattle.std.specs.Prelude.{ℕ, List}
 use Rattle.std.specs.Ordering.{nat_cmp, ordering_then}
 use Rattle.std.specs.Cmp.Lexicographic.{slice_cmp}

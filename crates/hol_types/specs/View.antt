@@ -1,4 +1,4 @@
--- The tree that a node stands for.
+-- The tree that a node stands for: what contracts see of it.
 use Rattle.hol_types.specs.declared.ty.TyNode.{TyNode}
 use Rattle.hol_types.specs.declared.ty.TyNode.TheVariants.{Var, App}
 use Rattle.hol_types.specs.Tree.{TypeTree, TyVar, TyApp, type_list}

@@ -2,6 +2,8 @@
 #![tactic(auto)]
 
 mod name;
+#[cfg(test)]
+mod tests;
 mod ty;
 
 pub use name::Name;

@@ -17,7 +17,7 @@ use std::cmp::Ordering;
 use std::marker::Model;
 use std::rc::Rc;
 
-/// A type. Its copies share their nodes.
+/// A type: a variable, or a constructor with its arguments. Copies share their nodes.
 #[cycle(ty)]
 #[derive(Drop)]
 pub struct Ty {
@@ -28,7 +28,9 @@ pub struct Ty {
 #[cycle(ty)]
 #[derive(Drop)]
 pub enum TyNode {
+    /// A type variable.
     Var(Name),
+    /// A constructor and its arguments, in order.
     App(Name, Vec<Ty>),
 }
 
@@ -83,6 +85,9 @@ impl Ty {
         })
     }
 
+    /// The same type, sharing its nodes.
+    ///
+    /// Answers an error where memory is short (no count is left for one more copy), and nowhere else.
     pub fn copy(&self) -> Result<Ty, AllocError>
         ensures { IfOk result (λ ty. ty ≡ self.now) }
     {
@@ -91,6 +96,7 @@ impl Ty {
         })
     }
 
+    /// The top node, with its parts by reference.
     pub fn node(&self) -> &TyNode
         ensures { tree_of result.now ≡ self.now }
     {
@@ -110,6 +116,9 @@ impl Ty {
         Ty::from_node(alloc, TyNode::App(name, args))
     }
 
+    /// The domain and the range of a function type, and `None` for a type of another form.
+    ///
+    /// Takes no memory.
     #[tactic(auto, using(crate::proofs::Steps::below_two, crate::proofs::Steps::above_two))]
     pub fn dest_fun(&self) -> Option<(&Ty, &Ty)>
         ensures { MatchOption result (fun_parts self.now ≡ None) (λ parts. fun_parts self.now ≡ Some (parts.0.now, parts.1.now)) }
@@ -128,7 +137,9 @@ impl Ty {
         }
     }
 
-    /// The least of the number of nodes and `limit`.
+    /// The number of nodes, or `limit` where there are more.
+    ///
+    /// Takes no memory, and looks at no more than `limit` nodes however they are shared.
     pub fn size_within(&self, limit: u32) -> u32
         ensures { result ≡ min (type_size self.now) limit }
     {
@@ -150,12 +161,18 @@ impl Ty {
         }
     }
 
+    /// The size: the number of nodes, or 20,001 where there are more.
+    ///
+    /// Takes no memory.
     pub fn size(&self) -> u32
         ensures { result ≡ min (type_size self.now) 20001 }
     {
         self.size_within(20_001)
     }
 
+    /// The type in which each variable's place is taken by the type of the first pair with its name. A variable with no pair stays.
+    ///
+    /// Answers an error where memory is short, and nowhere else.
     #[tactic(auto, using(crate::proofs::Steps::subst_list))]
     pub fn subst(&self, alloc: Global, pairs: &[(Ty, Name)]) -> Result<Ty, AllocError>
         ensures { IfOk result (λ ty. ty ≡ type_subst pairs.now self.now) }
@@ -175,6 +192,9 @@ impl Ty {
         }
     }
 
+    /// Whether the two types are equal.
+    ///
+    /// Takes no memory. Shared nodes are compared again at each place where they stand.
     #[tactic(auto, using(crate::proofs::OrderLaws::type_cmp_decides))]
     pub fn same(&self, other: &Ty) -> bool
         ensures test { result ≡ type_eq self.now other.now }
@@ -183,6 +203,9 @@ impl Ty {
         self.order(other).is_eq()
     }
 
+    /// The order of types: variables before applications, then by the bytes of the name, then by the arguments from the left.
+    ///
+    /// It is total (`order_is_total`). Takes no memory. Shared nodes are compared again at each place where they stand.
     #[tactic(auto, using(crate::proofs::Steps::ends_less))]
     pub fn order(&self, other: &Ty) -> Ordering
         ensures { result ≡ type_cmp self.now other.now }
@@ -214,6 +237,8 @@ impl Ty {
     }
 
     /// The names of the type variables, each once, in order of bytes.
+    ///
+    /// Answers an error where memory is short, and nowhere else.
     pub fn tyvars(&self, alloc: Global) -> Result<Vec<Name>, AllocError>
         ensures { IfOk result (λ names. names.items ≡ tyvars self.now) }
     {
@@ -222,6 +247,7 @@ impl Ty {
         Ok(names)
     }
 
+    // Puts the names of the variables in their places.
     #[tactic(auto, using(crate::proofs::Names::add_step))]
     fn add_names(&self, names: &mut Vec<Name>) -> Result<(), AllocError>
         ensures { OnOk result (names.new.items ≡ insert_names names.old.items (type_names self.now)) }
@@ -237,7 +263,10 @@ impl Ty {
         }
     }
 
-    /// The pairs whose substitution gives the target, one for each name of `tyvars` in its order, if there are such pairs.
+    /// The pairs whose substitution gives the target, one for each name of `tyvars` in its order, and `None` exactly where no pairs
+    /// give it.
+    ///
+    /// Answers an error where memory is short, and nowhere else.
     #[tactic(auto, using(crate::proofs::MatchLaws::matching))]
     pub fn match_to(
         &self,
@@ -256,6 +285,7 @@ impl Ty {
         Ok(Some(pairs))
     }
 
+    // Whether the pattern matches the target beside the pairs found so far. Those that it needs more are put at their end.
     #[tactic(auto, using(crate::proofs::Steps::match_ends))]
     fn match_into(&self, target: &Ty, found: &mut Vec<(Ty, Name)>) -> Result<bool, AllocError>
         ensures { IfOk result (λ matched. match_type self.now found.old.items target.now ≡ (if matched then Some found.new.items else None)) }
