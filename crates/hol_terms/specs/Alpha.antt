@@ -1,4 +1,5 @@
 -- Alpha equivalence. Two named terms are alpha equivalent where their nameless terms are equal but for base names.
+-- Source: de Bruijn's form, where alpha equivalent terms are equal. HOL Light's fusion.ml has it as aconv.
 use Rattle.std.specs.Prelude.{[], Bool, false, ◌&&◌, ◌==◌, bytes_eq}
 use Rattle.hol_types.specs.Equal.{type_eq, variable_eq}
 use Rattle.hol_terms.specs.Nameless.{Nameless, free, bound, fixed, app, lam}

@@ -1,4 +1,4 @@
--- How the logic stores a variable, a named term and a nameless term.
+-- How the logic stores a variable, a named term and a nameless term: as trees of numbers, by functions that map no two to one tree.
 use Rattle.std.specs.Coded.{Coded, coded×}
 use Rattle.std.proofs.Common.{◌≡◌, ◌≢◌, ℕ, List, ap, arith}
 use base.Stored.{Gv, gnil, gnum, gcons}

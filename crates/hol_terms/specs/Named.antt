@@ -1,4 +1,5 @@
 -- Terms with names, as they are written, and their types.
+-- Source: HOL Light's fusion.ml, the type term with Var, Const, Comb and Abs, and type_of. Where mk_comb would fail there is no type.
 use Rattle.std.specs.Prelude.{ℕ, ◌+◌, List, cond, Option, Some, None}
 use Rattle.std.specs.Option.{option_map, option_and_then}
 use Rattle.hol_types.specs.Tree.{TypeTree}

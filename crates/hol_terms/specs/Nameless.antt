@@ -1,4 +1,6 @@
 -- Nameless terms, in de Bruijn's form, and the nameless term of a named one.
+-- Source: N. G. de Bruijn, Lambda calculus notation with nameless dummies (Indagationes Mathematicae 34, 1972), with types, constants
+-- and free variables by name as in HOL Light's fusion.ml. Two terms with one nameless term but for base names are alpha equivalent.
 use Rattle.std.specs.Prelude.{ℕ, ◌+◌, List, [], ◌∷◌, ◌++◌, cond, ◌==◌, Option, Some, slice_get}
 use Rattle.std.specs.Option.{option_map, option_and_then}
 use Rattle.hol_types.specs.Tree.{TypeTree}
@@ -6,7 +8,8 @@ use Rattle.hol_types.specs.Fun.{fun_type}
 use Rattle.hol_types.specs.Equal.{variable_eq}
 use Rattle.hol_terms.specs.Named.{Named, var, constant, comb, abs, applied_type}
 
--- Index i is the i-th enclosing abstraction, counted from the inside from 0. An abstraction keeps a base name.
+-- Index i is the i-th enclosing abstraction, counted from the inside from 0. An abstraction keeps the base of its variable's name, which
+-- says how the variable is to be called where the term is written.
 pub data Nameless : Type 0 where
   free : List ℕ × TypeTree → Nameless
   bound : ℕ → Nameless

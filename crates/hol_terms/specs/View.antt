@@ -1,4 +1,4 @@
--- The named term that a node stands for.
+-- The named term that a node stands for: what contracts see of it.
 use Rattle.hol_terms.specs.declared.term.TermNode.{TermNode}
 use Rattle.hol_terms.specs.declared.term.TermNode.TheVariants.{Var, Const, Comb, Abs}
 use Rattle.hol_terms.specs.Named.{Named, var, constant, comb, abs}

@@ -4,6 +4,8 @@
 mod base;
 mod scope;
 mod term;
+#[cfg(test)]
+mod tests;
 mod variable;
 
 pub use base::base_name;

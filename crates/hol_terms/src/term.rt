@@ -1,4 +1,4 @@
-//! Terms, which contracts see as named trees.
+//! Terms. Contracts see a term as a named tree, and state what they say of bound variables on its nameless term.
 ghost use Rattle.std.specs.Prelude.{◌≡◌, ℕ, List, [], ◌∷◌, ◌↔◌, IfOk, IsErrOf, IsOkUnless, IsTrue, MatchOption, OnOk, bytes_eq, Some, None, min};
 ghost use Rattle.hol_terms.specs.Named.{Named, var, constant, comb, abs, named_type, applied_type};
 ghost use Rattle.hol_types.specs.Tree.{TypeTree};
@@ -61,9 +61,13 @@ pub struct Term {
 #[cycle(term)]
 #[derive(Drop)]
 pub enum TermNode {
+    /// A variable.
     Var(Variable),
+    /// A constant: its name and its type.
     Const(Name, Ty),
+    /// An application of the first to the second.
     Comb(Term, Term),
+    /// An abstraction: the bound variable and the body.
     Abs(Variable, Term),
 }
 
@@ -92,7 +96,7 @@ impl Model for Term {
 impl Term {
     /// The term that is this variable.
     ///
-    /// Answers an error where memory is short, and nowhere else.
+    /// Answers `Memory` where memory is short, and no other error.
     pub fn var(alloc: Global, variable: &Variable) -> Result<Term, TermError>
         ensures ok { IfOk result (λ t. t ≡ var variable.now) }
         ensures memory { IsOkUnless result TermError.Memory }
@@ -107,7 +111,7 @@ impl Term {
 
     /// The constant of this name and type.
     ///
-    /// Answers an error where memory is short, and nowhere else.
+    /// Answers `Memory` where memory is short, and no other error.
     pub fn constant(alloc: Global, name: &Name, ty: &Ty) -> Result<Term, TermError>
         ensures ok { IfOk result (λ t. t ≡ constant name.now ty.now) }
         ensures memory { IsOkUnless result TermError.Memory }
@@ -119,6 +123,10 @@ impl Term {
         })
     }
 
+    /// The application of `f` to `x`.
+    ///
+    /// Answers `TypesDontFit` exactly where the type of `f` is no function type whose domain is the type of `x`, and `Memory` where
+    /// memory is short.
     #[tactic(auto, using(crate::proofs::Typing::comb_type))]
     pub fn comb(alloc: Global, f: &Term, x: &Term) -> Result<Term, TermError>
         ensures ok { IfOk result (λ t. t ≡ comb f.now x.now) }
@@ -137,7 +145,9 @@ impl Term {
         })
     }
 
-    /// The abstraction of the variable that the term `variable` is.
+    /// The abstraction of the variable that the term `variable` is, in `body`.
+    ///
+    /// Answers `NotAVariable` exactly where that term is no variable, and `Memory` where memory is short.
     #[tactic(auto, using(crate::proofs::Typing::abs_type))]
     pub fn abs(alloc: Global, variable: &Term, body: &Term) -> Result<Term, TermError>
         ensures ok { IfOk result (λ t. (v : List ℕ × TypeTree) × (variable.now ≡ var v) × (t ≡ abs v body.now)) }
@@ -150,7 +160,9 @@ impl Term {
         Term::abstraction(alloc, v, body)
     }
 
-    /// The abstraction of a variable.
+    /// The abstraction of the variable `v` in `body`.
+    ///
+    /// Answers `Memory` where memory is short, and no other error.
     #[tactic(auto, using(crate::proofs::Typing::abs_type))]
     pub fn abstraction(alloc: Global, v: &Variable, body: &Term) -> Result<Term, TermError>
         ensures ok { IfOk result (λ t. t ≡ abs v.now body.now) }
@@ -165,6 +177,9 @@ impl Term {
         })
     }
 
+    /// The same term, sharing its nodes.
+    ///
+    /// Answers `Memory` where memory is short (no count is left for one more copy), and no other error.
     pub fn copy(&self) -> Result<Term, TermError>
         ensures ok { IfOk result (λ t. t ≡ self.now) }
         ensures memory { IsOkUnless result TermError.Memory }
@@ -175,12 +190,14 @@ impl Term {
         })
     }
 
+    /// The top node, with its parts by reference.
     pub fn node(&self) -> &TermNode
         ensures { named_of result.now ≡ self.now }
     {
         self.node.as_ref()
     }
 
+    /// The type of the term. Each term keeps it, so this is at once and takes no memory.
     pub fn type_of(&self) -> &Ty
         ensures { named_type self.now ≡ Some result.now }
     {
@@ -264,6 +281,8 @@ impl Term {
     }
 
     /// Whether the variable occurs free.
+    ///
+    /// Takes no memory.
     #[tactic(auto, using(crate::proofs::Occurs::occurs_is))]
     pub fn vfree_in(&self, v: &Variable) -> bool
         ensures named { result ≡ occurs_in v.now self.now }
@@ -272,6 +291,7 @@ impl Term {
         self.occurs(v)
     }
 
+    // The recursion of `vfree_in`.
     fn occurs(&self, v: &Variable) -> bool
         ensures { result ≡ occurs_in v.now self.now }
     {
@@ -295,6 +315,7 @@ impl Term {
         Ok(found)
     }
 
+    // Puts each variable that is free under the binders, and not there yet, at the end.
     #[tactic(auto, using(crate::proofs::Frees::collecting))]
     fn add_frees(&self, scope: &Scope, found: &mut Vec<Variable>) -> Result<(), TermError>
         ensures memory { IsOkUnless result TermError.Memory }
@@ -317,6 +338,7 @@ impl Term {
     }
 }
 
+// Whether the variable is one of these.
 fn contains(variables: &[Variable], v: &Variable) -> bool
     ensures { result ≡ binds variables.now v.now }
 {

@@ -6,6 +6,7 @@ use hol_types::{Name, Ty};
 use std::alloc::{AllocError, Global};
 use std::marker::Model;
 
+/// A variable: a name and a type. Two variables are the same where both are.
 #[derive(Drop)]
 pub struct Variable {
     name: Name,
@@ -44,12 +45,16 @@ impl Variable {
         &self.name
     }
 
+    /// Its type.
     pub fn ty(&self) -> &Ty
         ensures { result.now ≡ self.now.1 }
     {
         &self.ty
     }
 
+    /// The same variable, sharing its name and the nodes of its type.
+    ///
+    /// Answers an error where memory is short (no count is left for one more copy), and nowhere else.
     pub fn copy(&self) -> Result<Variable, AllocError>
         ensures { IfOk result (λ v. v ≡ self.now) }
     {
@@ -59,13 +64,18 @@ impl Variable {
         })
     }
 
+    /// Whether the two have the same name and the same type.
+    ///
+    /// Takes no memory.
     pub fn same(&self, other: &Variable) -> bool
         ensures { result ≡ variable_eq self.now other.now }
     {
         self.name.same(&other.name) && self.ty.same(&other.ty)
     }
 
-    /// The variable with a prime more in its name.
+    /// The variable with one prime more at the end of its name.
+    ///
+    /// Answers an error where memory is short, and nowhere else.
     pub fn primed(&self, alloc: Global) -> Result<Variable, AllocError>
         ensures { IfOk result (λ v. v ≡ (self.now.0 ++ 39 ∷ [], self.now.1)) }
     {
