@@ -1,0 +1,57 @@
+-- Legal lists of items, the newest first: each item meets its condition over the prelude and the items before it (fusion.ml's checks in new_type,
+-- new_constant, new_basic_definition, new_basic_type_definition, new_axiom).
+use Rattle.std.specs.Prelude.{◌≡◌, ◌≢◌, ℕ, IsTrue, List, [], ◌∷◌, Contains}
+use Rattle.std.specs.FinSet as set
+use Rattle.hol_types.specs.Tree.{TypeTree}
+use Rattle.hol_types.specs.Names.{tyvars}
+use Rattle.hol_terms.specs.Nameless.{Nameless, app, free_occurrences}
+use Rattle.hol_kernel.specs.Item.{Item, declared_type, declared_constant, defined_constant, defined_type, declared_axiom}
+use Rattle.hol_kernel.specs.Items.{Items, Holds, item_set}
+use Rattle.hol_kernel.specs.Sequent.{no_hyps, bool_type}
+use Rattle.hol_kernel.specs.Signature.{Key, item_keys, prelude_keys, term_tyvars}
+use Rattle.hol_kernel.specs.Typing.{is_type, HasType}
+use Rattle.hol_kernel.specs.Derivation.{Derives}
+
+-- neither the prelude nor an item has the key
+abbrev pub IsNew : Items → Key → Type 0
+IsNew earlier k = (Contains prelude_keys k → ⊥) × ((y : Item) → Holds earlier y → Contains (item_keys y) k → ⊥)
+
+abbrev pub HasNewKeys : Items → Item → Type 0
+HasNewKeys earlier x = (k : Key) → Contains (item_keys x) k → IsNew earlier k
+
+-- no variable is free in the term
+abbrev pub IsClosed : Nameless → Type 0
+IsClosed t = free_occurrences t ≡ []
+
+-- What a constant definition asks: a closed term, all of whose type variables occur in its type a.
+pub record IsDefinable (earlier : Items) (r : Nameless) (a : TypeTree) : Type 0 where
+  pub typed : HasType earlier r a
+  pub closed : IsClosed r
+  pub reflected : (n : List ℕ) → Contains (term_tyvars r) n → Contains (tyvars a) n
+
+-- What a type definition asks: two constants, and a closed predicate that some x is shown to have.
+pub record IsCarvable (earlier : Items) (abs rep : List ℕ) (p x : Nameless) : Type 0 where
+  pub apart : abs ≢ rep
+  pub closed : IsClosed p
+  pub inhabited : Derives earlier no_hyps (app p x)
+
+-- what an item asks of the items before it, its names apart
+abbrev pub IsSound : Items → Item → Type 0
+IsSound earlier (declared_type c n) = Unit {0}
+IsSound earlier (declared_constant c a) = IsTrue (is_type earlier a)
+IsSound earlier (defined_constant c r) = (a : TypeTree) × IsDefinable earlier r a
+IsSound earlier (defined_type c abs rep p) = (x : Nameless) × IsCarvable earlier abs rep p x
+IsSound earlier (declared_axiom n p) = HasType earlier p bool_type
+
+abbrev pub IsLegal : List Item → Type 0
+IsLegal [] = Unit {0}
+IsLegal (x ∷ earlier) = HasNewKeys (item_set earlier) x × IsSound (item_set earlier) x × IsLegal earlier
+
+-- in some order the items are a legal list
+abbrev pub IsLegalSet : Items → Type 0
+IsLegalSet items = (order : List Item) × IsLegal order × (item_set order ≡ items)
+
+-- What a basis keeps of the list that it stores: the set is legal, and the list has each item once, in the order of items.
+pub record IsStorable (stored : List Item) : Type 0 where
+  pub legal : IsLegalSet (item_set stored)
+  pub ordered : stored ≡ set.items (item_set stored)

@@ -1,0 +1,13 @@
+pub mod Order
+pub mod Item
+pub mod ItemView
+pub mod Items
+pub mod Sequent
+pub mod Signature
+pub mod Typing
+pub mod NamedTyping
+pub mod Derivation
+pub mod Legal
+pub mod Theorem
+pub mod Rules
+pub mod Gives

@@ -1,0 +1,45 @@
+-- Sequents: a finite set of hypotheses, taken up to the names of bound variables, and a conclusion (fusion.ml: the values of type thm).
+use Rattle.std.specs.Prelude.{List, [], map, codes}
+use Rattle.std.specs.declared.cmp.Ordering.{Ordering}
+use Rattle.std.specs.FinSet as set
+use Rattle.hol_types.specs.Tree.{TypeTree, TyApp, no_types}
+use Rattle.hol_types.specs.Fun.{fun_type}
+use Rattle.hol_terms.specs.Nameless.{Nameless, fixed, app, nameless}
+use Rattle.hol_terms.specs.Named as named
+use Rattle.hol_kernel.specs.Order.{coded_cmp}
+use Rattle.hol_terms.specs.Code.{coded_nameless}
+use Rattle.hol_terms.specs.Alpha.{strip}
+
+abbrev pub nameless_cmp : Nameless → Nameless → Ordering
+nameless_cmp = coded_cmp coded_nameless
+
+-- the hypotheses, with their base names left out
+abbrev pub Hyps : Type 0
+Hyps = set.FinSet nameless_cmp
+
+abbrev pub no_hyps : Hyps
+no_hyps = set.empty
+
+-- a named term as it counts among hypotheses
+abbrev pub hyp_of : named.Named → Nameless
+hyp_of p = strip (nameless [] p)
+
+-- the hypotheses that a list of named terms stands for
+abbrev pub hyps_of : List named.Named → Hyps
+hyps_of ps = set.from_list (map hyp_of ps)
+
+-- the type of truth values
+abbrev pub bool_type : TypeTree
+bool_type = TyApp (codes "bool") no_types
+
+-- the type of (=) between terms of the type a
+abbrev pub equality_type : TypeTree → TypeTree
+equality_type a = fun_type a (fun_type a bool_type)
+
+-- (=) l r
+abbrev pub equation : TypeTree → Nameless → Nameless → Nameless
+equation a l r = app (app (fixed (codes "=") (equality_type a)) l) r
+
+-- its named form
+abbrev pub named_equation : TypeTree → named.Named → named.Named → named.Named
+named_equation a l r = named.comb (named.comb (named.constant (codes "=") (equality_type a)) l) r

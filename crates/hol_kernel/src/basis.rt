@@ -1,0 +1,187 @@
+//! Bases: legal sets of items.
+ghost use Rattle.std.specs.Prelude.{◌≡◌, ◌||◌, IfOk, []};
+ghost use Rattle.std.specs.List.{list_any};
+ghost use Rattle.std.specs.FinSet as set;
+ghost use Rattle.hol_terms.specs.Nameless.{nameless};
+ghost use Rattle.hol_kernel.specs.Items.{item_set, no_items};
+ghost use Rattle.hol_kernel.specs.Signature.{has_arity, has_constant, makes_type, makes_constant};
+ghost use Rattle.hol_kernel.specs.Typing.{is_type, is_typed};
+ghost use Rattle.hol_kernel.specs.NamedTyping.{is_known_named};
+ghost use Rattle.hol_kernel.specs.Legal.{IsLegalSet, IsStorable};
+
+use crate::item::Item;
+use crate::prelude;
+use hol_terms::{Term, TermNode};
+use hol_types::{Name, Ty, TyNode};
+use std::alloc::{AllocError, Global};
+use std::marker::Model;
+use std::rc::Rc;
+
+/// A legal set of items. Its copies share it. The prelude belongs to every basis and is not listed.
+#[derive(Drop)]
+pub struct Basis {
+    items: Rc<Vec<Item>>,
+}
+
+impl Model for Basis {
+    ghost use Rattle.hol_kernel.specs.Items.{Items, items_code, item_set};
+
+    ghost Value = { Items };
+
+    ghost coded = { items_code };
+
+    ghost use Rattle.hol_kernel.specs.Legal.{IsStorable};
+
+    ghost view = { λ b. item_set b.items.value.items };
+
+    ghost invariant = { λ b. IsStorable b.items.value.items };
+}
+
+impl Basis {
+    // The basis of the items.
+    fn made(alloc: Global, items: Vec<Item>) -> Result<Basis, AllocError>
+        requires { IsStorable items.items }
+        ensures { IfOk result (λ basis. basis ≡ item_set items.items) }
+    {
+        Ok(Basis {
+            items: Rc::new(alloc, items)?,
+        })
+    }
+
+    /// The basis without items: the prelude alone.
+    ///
+    /// Answers an error where memory is short, and nowhere else.
+    pub fn empty(alloc: Global) -> Result<Basis, AllocError>
+        ensures { IfOk result (λ basis. basis ≡ no_items) }
+    {
+        let none = Vec::new(alloc);
+        Basis::made(alloc, none)
+    }
+
+    /// The same basis.
+    ///
+    /// Answers an error where memory is short, and nowhere else.
+    pub fn copy(&self) -> Result<Basis, AllocError>
+        ensures { IfOk result (λ basis. basis ≡ self.now) }
+    {
+        Ok(Basis {
+            items: self.items.clone()?,
+        })
+    }
+
+    /// The items, each once: axioms, declared constants, defined constants, declared types, defined types; each kind by the bytes
+    /// of its names.
+    pub fn items(&self) -> &[Item]
+        ensures items { result.now ≡ set.items self.now }
+        ensures legal { IsLegalSet self.now }
+    {
+        &self.items
+    }
+
+    /// Whether the type constructor stands at this arity.
+    pub fn has_arity(&self, constructor: &Name, arity: usize) -> bool
+        ensures { result ≡ has_arity self.now constructor.now arity }
+    {
+        prelude::has_type(constructor, arity) || makes_type(self.items(), constructor, arity)
+    }
+
+    #[tactic(auto, using(crate::proofs::Steps::is_type_app))]
+    /// Whether each type constructor in the type stands and has as many arguments as its arity says.
+    pub fn is_type(&self, ty: &Ty) -> bool
+        ensures { result ≡ is_type self.now ty.now }
+    {
+        match ty.node() {
+            TyNode::Var(_) => true,
+            TyNode::App(constructor, args) => {
+                if !self.has_arity(constructor, args.len()) {
+                    return false;
+                }
+                for arg in args {
+                    if !self.is_type(arg) {
+                        return false;
+                    }
+                }
+                true
+            }
+        }
+    }
+
+    /// Whether the constant stands, and the type is an instance of its generic type.
+    ///
+    /// Answers an error where memory is short, and nowhere else.
+    pub fn has_constant(&self, alloc: Global, constant: &Name, ty: &Ty) -> Result<bool, AllocError>
+        ensures { IfOk result (λ has. has ≡ has_constant self.now constant.now ty.now) }
+    {
+        if prelude::has_constant(alloc, constant, ty)? {
+            return Ok(true);
+        }
+        makes_constant(alloc, self.items(), constant, ty)
+    }
+
+    #[tactic(auto, using(crate::proofs::Typed::typed_named))]
+    /// Whether the term is well typed over the prelude and the items.
+    ///
+    /// Answers an error where memory is short, and nowhere else.
+    pub fn is_typed(&self, alloc: Global, term: &Term) -> Result<bool, AllocError>
+        ensures { IfOk result (λ is. is ≡ is_typed self.now (nameless [] term.now)) }
+    {
+        let _ty = term.type_of();
+        self.knows(alloc, term)
+    }
+
+    // Whether each type and each constant of the term stands.
+    fn knows(&self, alloc: Global, term: &Term) -> Result<bool, AllocError>
+        ensures { IfOk result (λ knows. knows ≡ is_known_named self.now term.now) }
+    {
+        match term.node() {
+            TermNode::Var(v) => Ok(self.is_type(v.ty())),
+            TermNode::Const(name, ty) => {
+                if !self.is_type(ty) {
+                    return Ok(false);
+                }
+                self.has_constant(alloc, name, ty)
+            }
+            TermNode::Comb(function, argument) => {
+                if !self.knows(alloc, function)? {
+                    return Ok(false);
+                }
+                self.knows(alloc, argument)
+            }
+            TermNode::Abs(v, body) => {
+                if !self.is_type(v.ty()) {
+                    return Ok(false);
+                }
+                self.knows(alloc, body)
+            }
+        }
+    }
+}
+
+// Whether an item of the list makes the type constructor at this arity.
+fn makes_type(items: &[Item], constructor: &Name, arity: usize) -> bool
+    ensures { result ≡ list_any (makes_type constructor.now arity) items.now }
+{
+    for item in items {
+        if item.makes_type(constructor, arity) {
+            return true;
+        }
+    }
+    false
+}
+
+// Whether an item of the list makes the constant, and the type is an instance of its generic type.
+fn makes_constant(
+    alloc: Global,
+    items: &[Item],
+    constant: &Name,
+    ty: &Ty,
+) -> Result<bool, AllocError>
+    ensures { IfOk result (λ makes. makes ≡ list_any (makes_constant constant.now ty.now) items.now) }
+{
+    for item in items {
+        if item.makes_constant(alloc, constant, ty)? {
+            return Ok(true);
+        }
+    }
+    Ok(false)
+}
