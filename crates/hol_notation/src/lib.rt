@@ -2,11 +2,21 @@
 #![tactic(auto)]
 
 mod bytes;
+mod command;
+mod equation;
 mod error;
 mod lexer;
+mod pre_type;
+mod reader;
+#[cfg(test)]
+mod tests;
 mod token;
 
 pub use bytes::is_identifier;
+pub use command::{Command, Quotation};
+pub use equation::{Equation, Side};
 pub use error::SyntaxError;
 pub use lexer::lex;
+pub use pre_type::PreType;
+pub use reader::read_command;
 pub use token::{Kind, MAX_OPEN, MAX_TOKENS, Token};
