@@ -1,6 +1,6 @@
 -- The names of the variables of a type.
 -- Source: HOL Light's fusion.ml, tyvars, the union of the arguments' variables. Here they stand in order of bytes.
-use Rattle.std.specs.Prelude.{ℕ, List, [], ◌∷◌, ◌++◌}
+use Rattle.std.specs.Prelude.{◌≡◌, ℕ, List, [], ◌∷◌, ◌++◌, Bool, false, ◌||◌, bytes_eq}
 use Rattle.std.specs.declared.cmp.Ordering.{Ordering}
 use Rattle.std.specs.declared.cmp.Ordering.TheVariants.{Less, Equal, Greater}
 use Rattle.hol_types.specs.Tree.{TypeTree, TypeList, TyVar, TyApp, no_types, more_types}
@@ -34,3 +34,18 @@ insert_names names (a ∷ more) = insert_names (insert_name a names) more
 -- each name once, in order of bytes
 abbrev pub tyvars : TypeTree → List (List ℕ)
 tyvars t = insert_names [] (type_names t)
+
+-- the name a comes before each of the names
+abbrev pub IsBelowAll : List ℕ → List (List ℕ) → Type 0
+IsBelowAll a [] = Unit {0}
+IsBelowAll a (b ∷ names) = (name_cmp a b ≡ Less) × IsBelowAll a names
+
+-- each name comes before those after it, so that none stands twice
+abbrev pub IsAscending : List (List ℕ) → Type 0
+IsAscending [] = Unit {0}
+IsAscending (a ∷ names) = IsBelowAll a names × IsAscending names
+
+-- a is one of the names
+abbrev pub is_among : List (List ℕ) → List ℕ → Bool
+is_among [] a = false
+is_among (b ∷ names) a = bytes_eq a b || is_among names a

@@ -4,7 +4,7 @@ ghost use Rattle.std.specs.List.{insert};
 ghost use Rattle.std.specs.Cmp.{IsTotalOrder};
 ghost use Rattle.hol_types.specs.Tree.{TypeTree, TyVar, TyApp, type_list, type_size};
 ghost use Rattle.hol_types.specs.Subst.{type_lookup, type_for, type_subst};
-ghost use Rattle.hol_types.specs.Names.{type_names, insert_name, insert_names, tyvars};
+ghost use Rattle.hol_types.specs.Names.{type_names, insert_name, insert_names, tyvars, IsAscending, is_among};
 ghost use Rattle.hol_types.specs.Match.{match_type, pairs_for, IsMatchOf, HasNoMatch};
 ghost use Rattle.hol_types.specs.Order.{type_cmp};
 ghost use Rattle.hol_types.specs.Equal.{type_eq};
@@ -239,8 +239,11 @@ impl Ty {
     /// The names of the type variables, each once, in order of bytes.
     ///
     /// Answers an error where memory is short, and nowhere else.
+    #[tactic(auto, using(crate::proofs::Names::collected))]
     pub fn tyvars(&self, alloc: Global) -> Result<Vec<Name>, AllocError>
-        ensures { IfOk result (λ names. names.items ≡ tyvars self.now) }
+        ensures list { IfOk result (λ names. names.items ≡ tyvars self.now) }
+        ensures ascending { IfOk result (λ names. IsAscending names.items) }
+        ensures occurring { IfOk result (λ names. (a : List ℕ) → is_among names.items a ≡ is_among (type_names self.now) a) }
     {
         let mut names = Vec::new(alloc);
         self.add_names(&mut names)?;
