@@ -99,7 +99,7 @@ map-begins None place t e = absurd (none-not_some t e)
 map-begins (Some x) place t e = (x, refl)
 
 -- a token stands within the text
-token-within : (text : List ℕ) (before : List Token) (place : ℕ) (t : Token) → token_after text before place ≡ Some t → place < length text
+pub token-within : (text : List ℕ) (before : List Token) (place : ℕ) (t : Token) → token_after text before place ≡ Some t → place < length text
 token-within text before place t e =
     let m = map-begins (limited (length before) (open_after 0 before) (word_at (drop place text))) place t e in
     let l = word-begins (length before) (open_after 0 before) (drop place text) m.0 m.1 in

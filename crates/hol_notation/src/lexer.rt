@@ -1,5 +1,6 @@
 //! The tokens of a text.
-ghost use Rattle.std.specs.Prelude.{◌≡◌, ◌<◌, ◌≤◌, ◌+◌, length, drop, map, IfOk, IfSome, MatchResult, IsAscii, take};
+ghost use Rattle.std.specs.Prelude.{◌≡◌, ◌<◌, ◌≤◌, ◌+◌, length, drop, map, IfOk, IfSome, MatchResult, IsAscii, take, List, ℕ};
+ghost use Rattle.hol_notation.specs.declared.token.Token.{Token};
 ghost use Rattle.hol_notation.specs.Token.{opened, limited, AreTokens};
 ghost use Rattle.hol_notation.specs.Token.{word_at as text_word};
 ghost use Rattle.hol_notation.specs.Errors.{IsLexError};
@@ -89,3 +90,8 @@ pub fn lex(alloc: Global, text: &str) -> Result<Vec<Token>, SyntaxError>
     }
     Ok(tokens)
 }
+
+/// A text has one list of tokens.
+pub fn one_lexing()
+    ensures { (text : List ℕ) (ts us : List Token) → AreTokens text ts → AreTokens text us → ts ≡ us }
+{}

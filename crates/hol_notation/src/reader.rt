@@ -2,14 +2,14 @@
 //!
 //! A reader takes the words that are left and gives what it has read and the words after it. Where no command goes on
 //! it answers `Syntax` with the place of the next word, or with the end where there is none.
-ghost use Rattle.std.specs.Prelude.{◌≡◌, ◌<◌, length, map, IfOk, IfSome, IsTrue, ◌↔◌, MatchResult, MatchOption};
+ghost use Rattle.std.specs.Prelude.{◌≡◌, ◌<◌, length, map, IfOk, IfSome, IsTrue, ◌↔◌, MatchResult, MatchOption, List, ℕ};
 ghost use Rattle.hol_notation.specs.declared.reader.Class.TheVariants.{Sign};
 ghost use Rattle.hol_notation.specs.Token.{is_reserved, is_constant};
 ghost use Rattle.hol_notation.specs.Lexeme.{seen};
 ghost use Rattle.hol_notation.specs.Category.{ReadsPart};
 ghost use Rattle.hol_notation.specs.Grammar.{IsOf, IsNotNext, a_leaf, a_type, a_side, an_equation, a_quotation, a_command, Follows};
 ghost use Rattle.hol_notation.specs.View.{type_text, side_text, term_text, quotation_text, command_text};
-ghost use Rattle.hol_notation.specs.Reading.{IsRead, Reads};
+ghost use Rattle.hol_notation.specs.Reading.{IsRead, ReadText, Reads};
 ghost use Rattle.hol_notation.specs.Errors.{IsSyntaxError, IsAnswer};
 
 use crate::command::{Command, Quotation};
@@ -233,3 +233,8 @@ pub fn read_command(alloc: Global, text: &str) -> Result<Command, SyntaxError>
     }
     Ok(command)
 }
+
+/// A text reads as one thing: as one command, or as a break at one place.
+pub fn one_reading()
+    ensures { (text : List ℕ) (a b : ReadText) → IsRead text a → IsRead text b → a ≡ b }
+{}
