@@ -15,7 +15,7 @@ pub data Item : Type 0 where
   declared_constant : List ℕ → TypeTree → Item
   -- a constant and the term that it equals
   defined_constant : List ℕ → Nameless → Item
-  -- a type constructor, the constants abs and rep to and from it, and the predicate that cuts it out
+  -- a type constructor, the constants abs and rep to and from it, and the predicate of its members
   defined_type : List ℕ → List ℕ → List ℕ → Nameless → Item
   -- an axiom of this name
   declared_axiom : List ℕ → Nameless → Item

@@ -29,8 +29,8 @@ pub record IsDefinable (earlier : Items) (r : Nameless) (a : TypeTree) : Type 0 
   pub closed : IsClosed r
   pub reflected : (n : List ℕ) → Contains (term_tyvars r) n → Contains (tyvars a) n
 
--- What a type definition asks: two constants, and a closed predicate that some x is shown to have.
-pub record IsCarvable (earlier : Items) (abs rep : List ℕ) (p x : Nameless) : Type 0 where
+-- What a type definition asks: two different constants, and a closed predicate that is derived of some x.
+pub record IsTypeDefinable (earlier : Items) (abs rep : List ℕ) (p x : Nameless) : Type 0 where
   pub apart : abs ≢ rep
   pub closed : IsClosed p
   pub inhabited : Derives earlier no_hyps (app p x)
@@ -40,7 +40,7 @@ abbrev pub IsSound : Items → Item → Type 0
 IsSound earlier (declared_type c n) = Unit {0}
 IsSound earlier (declared_constant c a) = IsTrue (is_type earlier a)
 IsSound earlier (defined_constant c r) = (a : TypeTree) × IsDefinable earlier r a
-IsSound earlier (defined_type c abs rep p) = (x : Nameless) × IsCarvable earlier abs rep p x
+IsSound earlier (defined_type c abs rep p) = (x : Nameless) × IsTypeDefinable earlier abs rep p x
 IsSound earlier (declared_axiom n p) = HasType earlier p bool_type
 
 abbrev pub IsLegal : List Item → Type 0

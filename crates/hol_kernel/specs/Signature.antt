@@ -77,10 +77,10 @@ term_tyvars t = insert_names [] (type_names_in t)
 abbrev pub new_type : List ℕ → List (List ℕ) → TypeTree
 new_type c names = TyApp c (type_list (map TyVar names))
 
--- the constants of a type definition, where its predicate is one on the type a
-abbrev pub carved_constants : List ℕ → List ℕ → TypeTree → Option (TypeTree × TypeTree) → List (List ℕ × TypeTree)
-carved_constants abs rep new None = []
-carved_constants abs rep new (Some parts) = (abs, fun_type parts.0 new) ∷ (rep, fun_type new parts.0) ∷ []
+-- the constants of a type definition, to the new type and from it, where the predicate is on a type
+abbrev pub bijections : List ℕ → List ℕ → TypeTree → Option (TypeTree × TypeTree) → List (List ℕ × TypeTree)
+bijections abs rep new None = []
+bijections abs rep new (Some parts) = (abs, fun_type parts.0 new) ∷ (rep, fun_type new parts.0) ∷ []
 
 abbrev pub constant_of : List ℕ → Option TypeTree → List (List ℕ × TypeTree)
 constant_of c None = []
@@ -99,7 +99,7 @@ abbrev pub item_constants : Item → List (List ℕ × TypeTree)
 item_constants (declared_type c n) = []
 item_constants (declared_constant c a) = (c, a) ∷ []
 item_constants (defined_constant c r) = constant_of c (nameless_type [] r)
-item_constants (defined_type c abs rep p) = carved_constants abs rep (new_type c (term_tyvars p)) (option_and_then fun_parts (nameless_type [] p))
+item_constants (defined_type c abs rep p) = bijections abs rep (new_type c (term_tyvars p)) (option_and_then fun_parts (nameless_type [] p))
 item_constants (declared_axiom n p) = []
 
 -- ---- names
@@ -132,7 +132,7 @@ makes_type c n x = list_any (is_constructor c n) (item_types x)
 abbrev pub has_arity : Items → List ℕ → ℕ → Bool
 has_arity items c n = list_any (is_constructor c n) prelude_types || list_any (makes_type c n) (set.items items)
 
--- some substitution for the type variables of the first type gives the second
+-- some substitution for the type variables of the first type gives the second, as matching finds it
 abbrev pub is_instance : TypeTree → TypeTree → Bool
 is_instance generic a = is_some (match_type generic [] a)
 

@@ -13,7 +13,7 @@ pub enum Rule {
 }
 
 /// Why a call of the kernel gives nothing.
-#[derive(Clone, Copy, Debug, PartialEq, Eq, Error)]
+#[derive(Debug, Drop, Error)]
 pub enum KernelError {
     /// The rule does not apply to what it was handed.
     #[error("the rule does not apply")]

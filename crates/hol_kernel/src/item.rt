@@ -27,7 +27,7 @@ pub enum ItemNode {
     DeclaredConstant(Name, Ty),
     /// A constant and the term that it equals.
     DefinedConstant(Name, Term),
-    /// A type constructor, the constants `abs` to it and `rep` from it, the predicate that cuts it out, and this predicate's type
+    /// A type constructor, the constants `abs` to it and `rep` from it, the predicate of its members, and this predicate's type
     /// variables, by bytes.
     DefinedType {
         name: Name,

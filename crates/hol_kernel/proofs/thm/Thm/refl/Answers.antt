@@ -1,4 +1,4 @@
-use Rattle.std.proofs.Common.{sym, ◌∙◌}
+use Rattle.std.proofs.Common.{rules}
 use Rattle.hol_kernel.proofs.Reflexive.{refl_derived, refl_gives}
 use Rattle.hol_kernel.proofs.thm.Thm.refl.Goals as goal
 
@@ -10,7 +10,7 @@ made-requires c =
       hyps_is = c.new-hyps.ensures.items;
       concl_is = c.in_ok-concl.ensures;
       has_type = c.type_of.ensures;
-      typed = sym c.in_ok-is_typed.ensures ∙ c.if-not-branch.false;
+      typed = search rules;
     })
 
 pub returns : goal.returns
@@ -21,6 +21,6 @@ returns c =
       hyps_is = c.new-hyps.ensures.items;
       concl_is = c.in_ok-concl.ensures;
       has_type = c.type_of.ensures;
-      typed = sym c.in_ok-is_typed.ensures ∙ c.if-not-branch.false;
+      typed = search rules;
     })
     c.in_ok-made.ensures
