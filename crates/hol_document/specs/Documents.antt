@@ -1,0 +1,59 @@
+-- Documents: theories in order, each a name and the texts of its commands, and what an edit makes of them.
+use Rattle.std.specs.Prelude.{ℕ, List, [], ◌&&◌, length, Bool, not, nat_lt, nat_le, if◌then◌else◌, Option, Some, None, Result, Ok, Err, is_some, position, slice_set, slice_index_or, bytes_eq}
+use Rattle.std.specs.List.{insert}
+use Rattle.hol_notation.specs.Token.{is_identifier}
+use Rattle.hol_document.specs.declared.error.Refusal.{Refusal}
+use Rattle.hol_document.specs.declared.error.Refusal.TheVariants.{UnknownTheory, TheoryNameTaken, BadTheoryName, PositionOutOfRange, TooMany}
+
+pub record TheoryText : Type 0 where
+  pub name : List ℕ
+  pub commands : List (List ℕ)
+
+-- what the documents are, as the machine sees them
+pub record Documents : Type 0 where
+  pub theories : List TheoryText
+
+abbrev pub theory_limit : ℕ
+theory_limit = 64
+
+abbrev pub command_limit : ℕ
+command_limit = 1000
+
+-- an identifier of at most 64 bytes
+abbrev pub is_theory_name : List ℕ → Bool
+is_theory_name name = is_identifier name && nat_le (length name) 64
+
+abbrev pub no_theory : TheoryText
+no_theory = record { name = []; commands = [] }
+
+-- the place of the theory of that name
+abbrev pub find_theory : List ℕ → List TheoryText → Option ℕ
+find_theory name theories = position (λ t. bytes_eq t.name name) theories
+
+-- the theories with a new one at a place, or the first refusal that fits
+abbrev pub with_theory : List TheoryText → List ℕ → ℕ → Result (List TheoryText) Refusal
+with_theory theories name at =
+    if is_some (find_theory name theories) then Err TheoryNameTaken else
+    (if not (is_theory_name name) then Err BadTheoryName else
+    (if nat_lt (length theories) at then Err PositionOutOfRange else
+    (if nat_le theory_limit (length theories) then Err TooMany else
+    Ok (insert theories at (record { name = name; commands = [] })))))
+
+-- the theory with a new command at a place, or the first refusal that fits
+abbrev pub with_command_of : TheoryText → ℕ → List ℕ → Result TheoryText Refusal
+with_command_of theory at text =
+    if nat_lt (length theory.commands) at then Err PositionOutOfRange else
+    (if nat_le command_limit (length theory.commands) then Err TooMany else
+    Ok (record { name = theory.name; commands = insert theory.commands at text }))
+
+abbrev pub put_theory : List TheoryText → ℕ → Result TheoryText Refusal → Result (List TheoryText) Refusal
+put_theory theories i (Ok theory) = Ok (slice_set theories i theory)
+put_theory theories i (Err refusal) = Err refusal
+
+abbrev pub with_command_in : List TheoryText → Option ℕ → ℕ → List ℕ → Result (List TheoryText) Refusal
+with_command_in theories None at text = Err UnknownTheory
+with_command_in theories (Some i) at text = put_theory theories i (with_command_of (slice_index_or theories i no_theory) at text)
+
+-- the theories with a new command in the one of that name, or the first refusal that fits
+abbrev pub with_command : List TheoryText → List ℕ → ℕ → List ℕ → Result (List TheoryText) Refusal
+with_command theories name at text = with_command_in theories (find_theory name theories) at text

@@ -1,0 +1,12 @@
+//! Documents: theories whose commands are edited, and what running them afresh says.
+#![tactic(auto)]
+
+mod afresh;
+mod docs;
+mod error;
+mod items;
+mod line;
+mod theory;
+
+pub use docs::{COMMAND_LIMIT, Docs, THEORY_LIMIT};
+pub use error::{DocsError, Refusal};

@@ -1,0 +1,7 @@
+-- A goal: its assumptions, the newest first, and its conclusion. HOL Light's goals are such pairs; here the terms are nameless.
+use Rattle.std.specs.Prelude.{List}
+use Rattle.hol_terms.specs.Nameless.{Nameless}
+
+pub record GoalValue : Type 0 where
+  pub assumptions : List Nameless
+  pub conclusion : Nameless

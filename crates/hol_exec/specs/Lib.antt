@@ -1,0 +1,17 @@
+pub mod Refusal
+pub mod ReportValue
+pub mod ReportView
+pub mod Goal
+pub mod Reading
+pub mod ReadingView
+pub mod Tac
+pub mod StateValue
+pub mod Codes
+pub mod Sound
+pub mod ReadsValue
+pub mod OutcomeValue
+pub mod OutcomeView
+pub mod Local
+pub mod At
+pub mod Show
+pub mod ReportOf

@@ -1,0 +1,22 @@
+-- The report on a command: what it made, why it was refused, or all goals that are open after it.
+use Rattle.std.specs.Prelude.{ℕ, List, [], ◌++◌, codes, map, Option, Some, None}
+use Rattle.hol_exec.specs.Goal.{GoalValue}
+use Rattle.hol_exec.specs.StateValue.{EntryValue, ProofValue, StateValue}
+use Rattle.hol_exec.specs.OutcomeValue.{OutcomeValue, Opens, Leaves, Proves, Refuses}
+use Rattle.hol_exec.specs.ReportValue.{ReportValue, ShowsGoals, HasMade, WasRefused}
+use Rattle.hol_exec.specs.Show.{shown_goal, theorem_text}
+
+-- `thm N |- p`
+abbrev pub entry_text : EntryValue → List ℕ
+entry_text e = codes "thm " ++ e.name ++ codes " " ++ theorem_text e.theorem.concl
+
+abbrev pub open_goals : Option ProofValue → List GoalValue
+open_goals None = []
+open_goals (Some p) = p.newest.goals
+
+-- the report on an outcome, `s` being the state after it
+abbrev pub report_of : OutcomeValue → StateValue → ReportValue
+report_of (Opens name statement basis) s = ShowsGoals (map shown_goal (open_goals s.proof))
+report_of (Leaves goals) s = ShowsGoals (map shown_goal (open_goals s.proof))
+report_of (Proves entries) s = HasMade (map entry_text entries)
+report_of (Refuses kind arg) s = WasRefused kind arg

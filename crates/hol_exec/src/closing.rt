@@ -1,0 +1,109 @@
+//! What the end of a proof reads of it.
+ghost use Rattle.std.specs.Prelude.{◌≡◌, [], IfOk, string_bytes, Some};
+ghost use Rattle.hol_terms.specs.Nameless.{nameless};
+ghost use Rattle.hol_exec.specs.ReadsValue.{ClosingValue, closing_of};
+ghost use Rattle.hol_exec.specs.Sound.{IsSoundClosing};
+ghost use Rattle.hol_exec.specs.Local.{proved};
+
+use crate::equation::sides;
+use crate::made::made;
+use crate::proof::Proof;
+use hol_kernel::{Basis, KernelError, Thm};
+use hol_terms::Term;
+use std::alloc::{AllocError, Global};
+use std::marker::Model;
+
+/// What the end of a proof reads of it: its name, statement and basis, and how many goals are open.
+#[derive(Drop)]
+pub struct Closing {
+    name: String,
+    statement: Term,
+    basis: Basis,
+    open_goals: usize,
+}
+
+impl Model for Closing {
+    ghost use Rattle.std.specs.Prelude.{string_bytes, []};
+    ghost use Rattle.hol_terms.specs.Nameless.{nameless};
+    ghost use Rattle.hol_exec.specs.ReadsValue.{ClosingValue};
+    ghost use Rattle.hol_exec.specs.Codes.{coded_closing};
+    ghost use Rattle.hol_exec.specs.Sound.{IsSoundClosing};
+
+    ghost Value = { ClosingValue };
+
+    ghost coded = { coded_closing };
+
+    ghost view = { λ c. record { name = string_bytes c.name; statement = nameless [] c.statement; basis = c.basis; open_goals = c.open_goals } };
+
+    ghost invariant = { λ c. IsSoundClosing (record { name = string_bytes c.name; statement = nameless [] c.statement; basis = c.basis; open_goals = c.open_goals }) };
+}
+
+impl Closing {
+    /// What the end of the proof reads of it.
+    pub fn of(alloc: Global, proof: &Proof) -> Result<Closing, AllocError>
+        ensures { IfOk result (λ c. closing_of (Some proof.now) ≡ Some c) }
+    {
+        proof.promise();
+        let name = String::from_str(alloc, proof.name())?;
+        let statement = made(proof.statement().copy())?;
+        let basis = proof.basis().copy()?;
+        let open_goals = proof.goals().len();
+        Ok(Closing {
+            name,
+            statement,
+            basis,
+            open_goals,
+        })
+    }
+
+    /// The theorem's name.
+    pub fn name(&self) -> &str
+        ensures { result.now ≡ self.now.name }
+    {
+        self.name.as_str()
+    }
+
+    /// The statement.
+    pub fn statement(&self) -> &Term
+        ensures { nameless [] result.now ≡ self.now.statement }
+    {
+        &self.statement
+    }
+
+    /// The proof's basis.
+    pub fn basis(&self) -> &Basis
+        ensures { result.now ≡ self.now.basis }
+    {
+        &self.basis
+    }
+
+    /// How many goals are open.
+    pub fn open_goals(&self) -> usize
+        ensures { result ≡ self.now.open_goals }
+    {
+        self.open_goals
+    }
+
+    /// The theorem of the statement, without hypotheses, on the proof's basis.
+    pub fn theorem(&self, alloc: Global) -> Result<Thm, AllocError>
+        requires { self.now.open_goals ≡ 0 }
+        ensures { IfOk result (λ th. th ≡ proved self.now.basis self.now.statement) }
+    {
+        self.promise();
+        let Some((left, _right)) = sides(self.statement()) else {
+            unreachable!()
+        };
+        match Thm::refl(alloc, self.basis(), left) {
+            Ok(theorem) => Ok(theorem),
+            Err(KernelError::Memory) => Err(AllocError),
+            Err(KernelError::Refused(_)) => unreachable!(),
+        }
+    }
+
+    /// Where no goal is open the statement is proved by reflexivity.
+    pub fn promise(&self)
+        ensures { IsSoundClosing self.now }
+    {
+        let _ = &self.name;
+    }
+}

@@ -1,0 +1,67 @@
+//! Why a command was refused.
+
+/// The kinds of refusals of commands. Each has a number and a text that clients see.
+#[derive(Clone, Copy, Debug, PartialEq, Eq)]
+pub enum RefusalKind {
+    /// The text is no command.
+    Syntax,
+    /// The command opens a proof while one is open.
+    InProof,
+    /// The command needs an open proof.
+    NoProofOpen,
+    /// No TAC of that name is known.
+    UnknownTac,
+    /// The term has no typing.
+    Untypable,
+    /// A type constructor has another number of arguments than its arity.
+    Arity,
+    /// The name of what the command makes stands already.
+    NameTaken,
+    /// A TAC needs an open goal.
+    NoGoalOpen,
+    /// The TAC doesn't fit the goal.
+    Refused,
+    /// A proof is finished only where no goal is open.
+    GoalsRemain,
+}
+
+impl RefusalKind {
+    ghost use Rattle.std.specs.Prelude.{◌≡◌};
+    ghost use Rattle.hol_exec.specs.Refusal.{kind_number, kind_text};
+
+    /// The number that clients see.
+    pub fn number(self) -> u8
+        ensures { result ≡ kind_number self }
+    {
+        match self {
+            RefusalKind::Syntax => 1,
+            RefusalKind::InProof => 2,
+            RefusalKind::NoProofOpen => 3,
+            RefusalKind::UnknownTac => 6,
+            RefusalKind::Untypable => 7,
+            RefusalKind::Arity => 9,
+            RefusalKind::NameTaken => 10,
+            RefusalKind::NoGoalOpen => 16,
+            RefusalKind::Refused => 17,
+            RefusalKind::GoalsRemain => 19,
+        }
+    }
+
+    /// The text that clients see.
+    pub fn text(self) -> &'static str
+        ensures { result.now ≡ kind_text self }
+    {
+        match self {
+            RefusalKind::Syntax => "syntax",
+            RefusalKind::InProof => "in a proof",
+            RefusalKind::NoProofOpen => "no proof open",
+            RefusalKind::UnknownTac => "unknown TAC or wrong arguments",
+            RefusalKind::Untypable => "untypable",
+            RefusalKind::Arity => "type constructor's arity",
+            RefusalKind::NameTaken => "name taken",
+            RefusalKind::NoGoalOpen => "no goal open",
+            RefusalKind::Refused => "refused",
+            RefusalKind::GoalsRemain => "goals remain",
+        }
+    }
+}

@@ -1,0 +1,63 @@
+//! The report on a command.
+ghost use Rattle.std.specs.Prelude.{◌≡◌, IfOk, map, string_bytes};
+ghost use Rattle.hol_exec.specs.StateValue.{ProofValue};
+ghost use Rattle.hol_exec.specs.OutcomeView.{outcome_value};
+ghost use Rattle.hol_exec.specs.ReportOf.{report_of, open_goals, entry_text};
+ghost use Rattle.hol_exec.specs.ReportView.{report_value, shown_goal_text};
+ghost use Rattle.hol_exec.specs.Show.{shown_goal};
+
+use crate::entry::Entry;
+use crate::goal::Goal;
+use crate::outcome::Outcome;
+use crate::report::{Report, ShownGoal};
+use crate::show;
+use crate::state::State;
+use std::alloc::{AllocError, Global};
+
+/// The report on an outcome, the state being that after it.
+pub fn report_of(alloc: Global, outcome: &Outcome, state: &State) -> Result<Report, AllocError>
+    ensures { IfOk result (λ report. report_value report ≡ report_of (outcome_value outcome.now) state.now) }
+{
+    match outcome {
+        Outcome::Opens(_, _, _) | Outcome::Leaves(_) => Ok(Report::Goals(shown_goals(
+            alloc,
+            state.goals(),
+        )?)),
+        Outcome::Proves(entries) => Ok(Report::Made(entry_texts(alloc, entries)?)),
+        Outcome::Refuses(no, arg) => Ok(Report::Refusal {
+            no: *no,
+            arg: String::from_str(alloc, arg.as_str())?,
+        }),
+    }
+}
+
+fn shown_goals(alloc: Global, goals: &[Goal]) -> Result<Vec<ShownGoal>, AllocError>
+    ensures { IfOk result (λ shown. map shown_goal_text shown.items ≡ map shown_goal goals.now) }
+{
+    let mut shown = Vec::with_capacity(alloc, goals.len())?;
+    for goal in goals {
+        shown.push(show::shown_goal(alloc, goal)?)?;
+    }
+    Ok(shown)
+}
+
+fn entry_text(alloc: Global, entry: &Entry) -> Result<String, AllocError>
+    ensures { IfOk result (λ text. string_bytes text ≡ entry_text entry.now) }
+{
+    let mut text = String::from_str(alloc, "thm ")?;
+    text.push_str(entry.name())?;
+    text.push_str(" |- ")?;
+    let conclusion = show::term_text(alloc, entry.theorem().concl())?;
+    text.push_str(conclusion.as_str())?;
+    Ok(text)
+}
+
+fn entry_texts(alloc: Global, entries: &[Entry]) -> Result<Vec<String>, AllocError>
+    ensures { IfOk result (λ texts. map string_bytes texts.items ≡ map entry_text entries.now) }
+{
+    let mut texts = Vec::with_capacity(alloc, entries.len())?;
+    for entry in entries {
+        texts.push(entry_text(alloc, entry)?)?;
+    }
+    Ok(texts)
+}
