@@ -1,14 +1,13 @@
 -- The laws of the grammar, and the steps into the parts of its productions.
-use Rattle.std.proofs.Common.{◌≡◌, ℕ, List, [], ◌∷◌, ◌++◌, refl, ap, ◌∙◌, sym, subst, false, Some, None, codes, get_or, arith}
-use Rattle.hol_notation.specs.declared.token.Kind.{Kind}
+use Rattle.std.proofs.Common.{◌≡◌, ℕ, List, [], ◌∷◌, ◌++◌, refl, ap, ◌∙◌, sym, subst, Some, None, codes, get_or, arith}
 use Rattle.hol_notation.specs.declared.token.Kind.TheVariants.{Ident as IdentKind, Arrow as ArrowKind, Colon, Equals, Backquote}
 use Rattle.hol_notation.specs.declared.reader.Class.{Class}
 use Rattle.hol_notation.specs.declared.reader.Class.TheVariants.{Identifier, Name, Variable, Sign}
 use Rattle.hol_notation.specs.Lexeme.{Lexeme}
 use Rattle.hol_notation.specs.Command.{TypeText, Ident, Arrow, SideText, TermText, OpenGoal, RunTac}
 use Rattle.hol_notation.specs.Category.{Category, SameNext}
-use Rattle.hol_notation.specs.Grammar.{IsOf, HasText, Leaf, A, IsNotNext, WrittenType, alone, arrow, WrittenSide, bare, annotated, WrittenEquation, WrittenQuotation, WrittenCommand, open_goal, run_tac, finish, type_then, side_then, equation_then, quotation_then, command_then, type_value, side_value, equation_value, quotation_value, command_value, EndsType, EndsSide, a_leaf, a_type, a_side, an_equation, a_quotation, a_command}
-use Rattle.hol_notation.proofs.Parts.{Step, Certain, pair, Follows, first-same, not-next, leaf-certain, left, right}
+use Rattle.hol_notation.specs.Grammar.{IsOf, HasText, Leaf, OneOf, IsNotNext, WrittenType, alone, arrow, WrittenSide, bare, annotated, WrittenEquation, WrittenQuotation, WrittenCommand, open_goal, run_tac, finish, type_then, side_then, equation_then, quotation_then, command_then, type_value, side_value, equation_value, quotation_value, command_value, EndsType, EndsSide, a_leaf, a_type, a_side, an_equation, a_quotation, a_command}
+use Rattle.hol_notation.proofs.Parts.{Step, Certain, pair, first-same, not-next, leaf-certain, left, right}
 
 -- one of each class
 pub some-leaf : (class : Class) → Leaf (IsOf class)
@@ -78,11 +77,11 @@ side-same (annotated i a t) (annotated j b s) u w h k e =
     (ap (λ (x : Lexeme). record { name = x.text; annotation = Some (type_value t) }) f.0 ∙ ap (λ (y : TypeText). record { name = j.lexeme.text; annotation = Some y }) r.0, r.1)
 
 -- the signs before which a side ends
-side-ends : (s : WrittenSide) (x : A (Sign Equals)) (w : List Lexeme) → EndsSide s (x.lexeme ∷ w)
+side-ends : (s : WrittenSide) (x : OneOf (Sign Equals)) (w : List Lexeme) → EndsSide s (x.lexeme ∷ w)
 side-ends (bare i) x w = λ c. let h : Colon ≡ Equals = sym c ∙ x.is in absurd cc
 side-ends (annotated i c t) x w = λ a. let h : ArrowKind ≡ Equals = sym a ∙ x.is in absurd cc
 
-side-closes : (s : WrittenSide) (x : A (Sign Backquote)) (w : List Lexeme) → EndsSide s (x.lexeme ∷ w)
+side-closes : (s : WrittenSide) (x : OneOf (Sign Backquote)) (w : List Lexeme) → EndsSide s (x.lexeme ∷ w)
 side-closes (bare i) x w = λ c. let h : Colon ≡ Backquote = sym c ∙ x.is in absurd cc
 side-closes (annotated i c t) x w = λ a. let h : ArrowKind ≡ Backquote = sym a ∙ x.is in absurd cc
 
@@ -166,14 +165,14 @@ pub type-first : (words : List Lexeme) → Step (a_leaf (IsOf Identifier)) a_typ
 type-first words = record { append = λ u w. refl; up = alone; goes = λ d w. (w, refl); back = back words }
   where
     back : (words : List Lexeme) (p : WrittenType) (after more : List Lexeme) → EndsType p after → SameNext more words → more ≡ type_then p after
-        → (s : A Identifier) × (later : List Lexeme) × Unit {0} × (more ≡ s.lexeme ∷ later)
+        → (s : OneOf Identifier) × (later : List Lexeme) × Unit {0} × (more ≡ s.lexeme ∷ later)
     back words (alone i) after more ends next e = (i, after, tt, e)
     back words (arrow i a t) after more ends next e = (i, a.lexeme ∷ type_then t after, tt, e)
 
-pub type-rest : (i : A Identifier) (a : A (Sign ArrowKind)) (words : List Lexeme) → Step a_type a_type words (λ w. i.lexeme ∷ a.lexeme ∷ w)
+pub type-rest : (i : OneOf Identifier) (a : OneOf (Sign ArrowKind)) (words : List Lexeme) → Step a_type a_type words (λ w. i.lexeme ∷ a.lexeme ∷ w)
 type-rest i a words = record { append = λ u w. refl; up = arrow i a; goes = λ d w. (w, refl); back = back i a words }
   where
-    back : (i : A Identifier) (a : A (Sign ArrowKind)) (words : List Lexeme) (p : WrittenType) (after more : List Lexeme) → EndsType p after → SameNext more words
+    back : (i : OneOf Identifier) (a : OneOf (Sign ArrowKind)) (words : List Lexeme) (p : WrittenType) (after more : List Lexeme) → EndsType p after → SameNext more words
         → i.lexeme ∷ a.lexeme ∷ more ≡ type_then p after → (s : WrittenType) × (later : List Lexeme) × EndsType s later × (more ≡ type_then s later)
     back i a words (alone j) after more ends next e =
         let f = first-same i.lexeme j.lexeme (a.lexeme ∷ more) after e in absurd (subst (IsNotNext (IsOf (Sign ArrowKind))) (sym f.1) ends a.is)
@@ -185,14 +184,14 @@ pub side-first : (words : List Lexeme) → Step (a_leaf (IsOf Variable)) a_side 
 side-first words = record { append = λ u w. refl; up = bare; goes = λ d w. (w, refl); back = back words }
   where
     back : (words : List Lexeme) (p : WrittenSide) (after more : List Lexeme) → EndsSide p after → SameNext more words → more ≡ side_then p after
-        → (s : A Variable) × (later : List Lexeme) × Unit {0} × (more ≡ s.lexeme ∷ later)
+        → (s : OneOf Variable) × (later : List Lexeme) × Unit {0} × (more ≡ s.lexeme ∷ later)
     back words (bare i) after more ends next e = (i, after, tt, e)
     back words (annotated i c t) after more ends next e = (i, c.lexeme ∷ type_then t after, tt, e)
 
-pub side-rest : (i : A Variable) (c : A (Sign Colon)) (words : List Lexeme) → Step a_type a_side words (λ w. i.lexeme ∷ c.lexeme ∷ w)
+pub side-rest : (i : OneOf Variable) (c : OneOf (Sign Colon)) (words : List Lexeme) → Step a_type a_side words (λ w. i.lexeme ∷ c.lexeme ∷ w)
 side-rest i c words = record { append = λ u w. refl; up = annotated i c; goes = λ d w. (w, refl); back = back i c words }
   where
-    back : (i : A Variable) (c : A (Sign Colon)) (words : List Lexeme) (p : WrittenSide) (after more : List Lexeme) → EndsSide p after → SameNext more words
+    back : (i : OneOf Variable) (c : OneOf (Sign Colon)) (words : List Lexeme) (p : WrittenSide) (after more : List Lexeme) → EndsSide p after → SameNext more words
         → i.lexeme ∷ c.lexeme ∷ more ≡ side_then p after → (s : WrittenType) × (later : List Lexeme) × EndsType s later × (more ≡ type_then s later)
     back i c words (bare j) after more ends next e =
         let f = first-same i.lexeme j.lexeme (c.lexeme ∷ more) after e in absurd (subst (IsNotNext (IsOf (Sign Colon))) (sym f.1) ends c.is)
@@ -205,7 +204,7 @@ goal-parts g words = record { append = λ u w. refl; up = λ d. open_goal g d.0 
   where
     back : (g : Leaf (HasText (codes "g"))) (words : List Lexeme) (p : WrittenCommand) (after more : List Lexeme) → Unit {0} → SameNext more words
         → g.lexeme ∷ more ≡ command_then p after
-        → (s : A Name × WrittenQuotation) × (later : List Lexeme) × Unit {0} × (more ≡ s.0.lexeme ∷ quotation_then s.1 later)
+        → (s : OneOf Name × WrittenQuotation) × (later : List Lexeme) × Unit {0} × (more ≡ s.0.lexeme ∷ quotation_then s.1 later)
     back g words (open_goal i n q) after more ends next e = ((n, q), after, tt, (first-same g.lexeme i.lexeme more (n.lexeme ∷ quotation_then q after) e).1)
     back g words (run_tac j n) after more ends next e = absurd (g-not-e (texts-same g j (first-same g.lexeme j.lexeme _ _ e).0))
     back g words (finish j) after more ends next e = absurd (g-not-qed (texts-same g j (first-same g.lexeme j.lexeme _ _ e).0))
@@ -214,7 +213,7 @@ pub tactic-name : (i : Leaf (HasText (codes "e"))) (words : List Lexeme) → Ste
 tactic-name i words = record { append = λ u w. refl; up = run_tac i; goes = λ d w. (w, refl); back = back i words }
   where
     back : (i : Leaf (HasText (codes "e"))) (words : List Lexeme) (p : WrittenCommand) (after more : List Lexeme) → Unit {0} → SameNext more words
-        → i.lexeme ∷ more ≡ command_then p after → (s : A Name) × (later : List Lexeme) × Unit {0} × (more ≡ s.lexeme ∷ later)
+        → i.lexeme ∷ more ≡ command_then p after → (s : OneOf Name) × (later : List Lexeme) × Unit {0} × (more ≡ s.lexeme ∷ later)
     back i words (open_goal g n q) after more ends next e = absurd (g-not-e (sym (texts-same i g (first-same i.lexeme g.lexeme _ _ e).0)))
     back i words (run_tac j n) after more ends next e = (n, after, tt, (first-same i.lexeme j.lexeme more (n.lexeme ∷ after) e).1)
     back i words (finish j) after more ends next e = absurd (e-not-qed (texts-same i j (first-same i.lexeme j.lexeme _ _ e).0))
@@ -239,7 +238,7 @@ pub equation-sign : (words after : List Lexeme) (l : WrittenSide) → words ≡ 
 equation-sign words after l whole ends =
     left equals_sign a_side an_equation after (side_then l) (equation-after words after l whole ends) some-side (λ a b w. tt)
 
-pub equation-right : (words after last_words : List Lexeme) (l : WrittenSide) (s : A (Sign Equals)) → words ≡ side_then l after → EndsSide l after
+pub equation-right : (words after last_words : List Lexeme) (l : WrittenSide) (s : OneOf (Sign Equals)) → words ≡ side_then l after → EndsSide l after
     → after ≡ s.lexeme ∷ last_words → Step a_side an_equation last_words (λ w. side_then l (s.lexeme ∷ w))
 equation-right words after last_words l s whole ends next =
     right equals_sign a_side an_equation after last_words (side_then l) (equation-after words after l whole ends) (leaf-certain (IsOf (Sign Equals))) (λ a b w. tt) s next tt
@@ -248,15 +247,15 @@ pub quotation-opening : (words : List Lexeme) → Step backquote a_quotation wor
 quotation-opening words =
     left backquote (pair an_equation backquote) a_quotation words (λ w. w) (quotation-parts words) (some-equation, some-leaf (Sign Backquote)) (λ a b w. tt)
 
-quotation-inside : (words inside : List Lexeme) (o : A (Sign Backquote)) → words ≡ o.lexeme ∷ inside → Step (pair an_equation backquote) a_quotation inside (λ w. o.lexeme ∷ w)
+quotation-inside : (words inside : List Lexeme) (o : OneOf (Sign Backquote)) → words ≡ o.lexeme ∷ inside → Step (pair an_equation backquote) a_quotation inside (λ w. o.lexeme ∷ w)
 quotation-inside words inside o whole =
     right backquote (pair an_equation backquote) a_quotation words inside (λ w. w) (quotation-parts words) (leaf-certain (IsOf (Sign Backquote))) (λ a b w. tt) o whole tt
 
-pub quotation-equation : (words inside : List Lexeme) (o : A (Sign Backquote)) → words ≡ o.lexeme ∷ inside → Step an_equation a_quotation inside (λ w. o.lexeme ∷ w)
+pub quotation-equation : (words inside : List Lexeme) (o : OneOf (Sign Backquote)) → words ≡ o.lexeme ∷ inside → Step an_equation a_quotation inside (λ w. o.lexeme ∷ w)
 quotation-equation words inside o whole =
     left an_equation backquote a_quotation inside (λ w. o.lexeme ∷ w) (quotation-inside words inside o whole) (some-leaf (Sign Backquote)) (λ a b w. side-closes a.right b w)
 
-pub quotation-closing : (words inside after : List Lexeme) (o : A (Sign Backquote)) (d : WrittenEquation) → words ≡ o.lexeme ∷ inside → inside ≡ equation_then d after → EndsSide d.right after
+pub quotation-closing : (words inside after : List Lexeme) (o : OneOf (Sign Backquote)) (d : WrittenEquation) → words ≡ o.lexeme ∷ inside → inside ≡ equation_then d after → EndsSide d.right after
     → Step backquote a_quotation after (λ w. o.lexeme ∷ equation_then d w)
 quotation-closing words inside after o d whole next ends =
     right an_equation backquote a_quotation inside after (λ w. o.lexeme ∷ w) (quotation-inside words inside o whole) equation-certain (λ a b w. side-closes a.right b w) d next ends
@@ -264,7 +263,7 @@ quotation-closing words inside after o d whole next ends =
 pub goal-name : (g : Leaf (HasText (codes "g"))) (words : List Lexeme) → Step (a_leaf (IsOf Name)) a_command words (λ w. g.lexeme ∷ w)
 goal-name g words = left (a_leaf (IsOf Name)) a_quotation a_command words (λ w. g.lexeme ∷ w) (goal-parts g words) some-quotation (λ a b w. tt)
 
-pub goal-quotation : (g : Leaf (HasText (codes "g"))) (n : A Name) (words after : List Lexeme) → words ≡ n.lexeme ∷ after → Step a_quotation a_command after (λ w. g.lexeme ∷ n.lexeme ∷ w)
+pub goal-quotation : (g : Leaf (HasText (codes "g"))) (n : OneOf Name) (words after : List Lexeme) → words ≡ n.lexeme ∷ after → Step a_quotation a_command after (λ w. g.lexeme ∷ n.lexeme ∷ w)
 goal-quotation g n words after whole =
     right (a_leaf (IsOf Name)) a_quotation a_command words after (λ w. g.lexeme ∷ w) (goal-parts g words) (leaf-certain (IsOf Name)) (λ a b w. tt) n whole tt
 

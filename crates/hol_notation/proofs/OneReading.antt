@@ -2,7 +2,7 @@
 use Rattle.std.proofs.Common.{◌≡◌, ◌+◌, ◌⊎◌, inl, inr, ℕ, List, [], ◌∷◌, ◌++◌, refl, ap, ◌∙◌, sym, subst, append_assoc, append-nil, Some, length, arith}
 use Rattle.std.proofs.lemmas.List.{map-append}
 use Rattle.hol_notation.specs.declared.token.Token.{Token}
-use Rattle.hol_notation.specs.Token.{IsLexed, AreTokens, token_after, skip}
+use Rattle.hol_notation.specs.Token.{IsLexed, AreTokens, token_after}
 use Rattle.hol_notation.specs.Lexeme.{Lexeme, lexeme_of, lexemes}
 use Rattle.hol_notation.specs.Command.{CommandText}
 use Rattle.hol_notation.specs.Reading.{IsCommand, IsBeginning, IsBreak, IsCommandText, ReadText, Reads, Breaks, IsRead}

@@ -1,5 +1,5 @@
 -- From what is known of the words to what is known of the text.
-use Rattle.std.proofs.Common.{◌≡◌, ◌<◌, ◌≤◌, ◌+◌, ◌-◌, ℕ, List, [], ◌∷◌, ◌++◌, refl, ap, ◌∙◌, sym, subst, append_assoc, append-nil, Ok, Err, Some, None, Option, option_map, length, drop, map, length-drop, arith}
+use Rattle.std.proofs.Common.{◌≡◌, ◌<◌, ◌≤◌, ◌+◌, ℕ, List, [], ◌∷◌, ◌++◌, refl, ap, ◌∙◌, sym, subst, append_assoc, append-nil, Ok, Err, Some, None, Option, option_map, length, drop, map, length-drop, arith}
 use Rattle.hol_notation.specs.declared.token.Kind.{Kind}
 use Rattle.hol_notation.specs.declared.token.Token.{Token}
 use Rattle.hol_notation.specs.declared.lexer.Word.{Word}
@@ -12,7 +12,7 @@ use Rattle.hol_notation.specs.Lexeme.{Lexeme, lexeme_of, lexemes, seen, token_of
 use Rattle.hol_notation.specs.Command.{CommandText}
 use Rattle.hol_notation.specs.Category.{Stuck, Found, Fails, SameNext, place_at}
 use Rattle.hol_notation.specs.Grammar.{WrittenCommand, a_command, command_then, command_value}
-use Rattle.hol_notation.specs.Reading.{IsCommand, IsBeginning, IsBreak, IsCommandText, IsRead, Breaks, Reads}
+use Rattle.hol_notation.specs.Reading.{IsCommand, IsBeginning, IsBreak, IsCommandText}
 use Rattle.hol_notation.specs.Errors.{IsDead, IsFaultAt, IsAnswer, IsSyntaxError}
 use Rattle.std.proofs.lemmas.List.{map-append}
 use Rattle.hol_notation.proofs.Tokens.{none-not_some, some-same}

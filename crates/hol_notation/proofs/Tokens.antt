@@ -13,7 +13,7 @@ use Rattle.hol_notation.specs.declared.lexer.Word.{Word}
 use Rattle.hol_notation.specs.Lexeme.{Lexeme, lexeme_of, lexemes, seen, token_of}
 use Rattle.hol_notation.specs.declared.token.Kind.{Kind}
 use Rattle.hol_notation.specs.declared.token.Token.{Token}
-use Rattle.hol_notation.specs.Token.{has, run, word_at, skip, begins_with, first_symbol, symbols, IsLexed, token_after, limited, opened, open_after, within_limits}
+use Rattle.hol_notation.specs.Token.{has, run, word_at, skip, begins_with, first_symbol, symbols, IsLexed, token_after, limited, opened, open_after}
 
 run-true : (c : Class) (b : ℕ) (bytes : List ℕ) → has c b ≡ true → run c (b ∷ bytes) ≡ suc (run c bytes)
 run-true c b bytes h = ap (λ (t : Bool). cond t (suc (run c bytes)) 0) h

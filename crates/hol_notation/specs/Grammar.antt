@@ -6,7 +6,6 @@
 --   side      := IDENT | IDENT : type             IDENT is not T, F, ONE_ONE or ONTO
 --   type      := IDENT | IDENT -> type
 use Rattle.std.specs.Prelude.{◌≡◌, false, List, [], ◌∷◌, ℕ, codes, Some, None}
-use Rattle.hol_notation.specs.declared.token.Kind.{Kind}
 use Rattle.hol_notation.specs.declared.token.Kind.TheVariants.{Ident as IdentKind, Arrow as ArrowKind, Colon, Equals, Backquote}
 use Rattle.hol_notation.specs.declared.reader.Class.{Class}
 use Rattle.hol_notation.specs.declared.reader.Class.TheVariants.{Identifier, Name, Variable, Sign}
@@ -31,30 +30,31 @@ pub record Leaf (P : Lexeme → Type 0) : Type 0 where
   pub lexeme : Lexeme
   pub is : P lexeme
 
-abbrev pub A : Class → Type 0
-A class = Leaf (IsOf class)
+-- one of a class
+abbrev pub OneOf : Class → Type 0
+OneOf class = Leaf (IsOf class)
 
 pub data WrittenType : Type 0 where
-  alone : A Identifier → WrittenType
-  arrow : A Identifier → A (Sign ArrowKind) → WrittenType → WrittenType
+  alone : OneOf Identifier → WrittenType
+  arrow : OneOf Identifier → OneOf (Sign ArrowKind) → WrittenType → WrittenType
 
 pub data WrittenSide : Type 0 where
-  bare : A Variable → WrittenSide
-  annotated : A Variable → A (Sign Colon) → WrittenType → WrittenSide
+  bare : OneOf Variable → WrittenSide
+  annotated : OneOf Variable → OneOf (Sign Colon) → WrittenType → WrittenSide
 
 pub record WrittenEquation : Type 0 where
   pub left : WrittenSide
-  pub equals : A (Sign Equals)
+  pub equals : OneOf (Sign Equals)
   pub right : WrittenSide
 
 pub record WrittenQuotation : Type 0 where
-  pub opening : A (Sign Backquote)
+  pub opening : OneOf (Sign Backquote)
   pub equation : WrittenEquation
-  pub closing : A (Sign Backquote)
+  pub closing : OneOf (Sign Backquote)
 
 pub data WrittenCommand : Type 0 where
-  open_goal : Leaf (HasText (codes "g")) → A Name → WrittenQuotation → WrittenCommand
-  run_tac : Leaf (HasText (codes "e")) → A Name → WrittenCommand
+  open_goal : Leaf (HasText (codes "g")) → OneOf Name → WrittenQuotation → WrittenCommand
+  run_tac : Leaf (HasText (codes "e")) → OneOf Name → WrittenCommand
   finish : Leaf (HasText (codes "qed")) → WrittenCommand
 
 -- the lexemes of what is written, and then others

@@ -1,5 +1,5 @@
 -- What a text reads as: a command, or the place where no command goes on.
-use Rattle.std.specs.Prelude.{◌≡◌, ◌≤◌, ℕ, List, [], ◌∷◌, ◌++◌, length, Option, Some, None}
+use Rattle.std.specs.Prelude.{◌≡◌, ◌≤◌, ℕ, List, [], ◌∷◌, ◌++◌, length, Some}
 use Rattle.hol_notation.specs.declared.token.Token.{Token}
 use Rattle.hol_notation.specs.Token.{IsLexed, AreTokens, token_after}
 use Rattle.hol_notation.specs.Lexeme.{Lexeme, lexemes}

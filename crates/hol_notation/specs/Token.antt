@@ -1,5 +1,5 @@
 -- The tokens of a text, with the limits on them.
-use Rattle.std.specs.Prelude.{◌≡◌, ◌<◌, ◌+◌, ◌-◌, ◌==◌, ◌||◌, ◌&&◌, not, ℕ, suc, List, [], ◌∷◌, ◌++◌, length, take, drop, map, Bool, true, false, Option, Some, None, option_map, nat_le, nat_lt, if◌then◌else◌, codes, bytes_eq}
+use Rattle.std.specs.Prelude.{◌≡◌, ◌<◌, ◌+◌, ◌-◌, ◌==◌, ◌||◌, ◌&&◌, not, ℕ, suc, List, [], ◌∷◌, ◌++◌, length, drop, Bool, true, false, Option, Some, None, option_map, nat_le, nat_lt, if◌then◌else◌, codes, bytes_eq}
 use Rattle.std.specs.List.{list_all, list_any}
 use Rattle.hol_notation.specs.declared.token.Kind.{Kind}
 use Rattle.hol_notation.specs.declared.token.Kind.TheVariants.{Ident, Number, Iff, Implies, Or, And, Arrow, ExistsUnique, Equals, Not, Lambda, ForAll, Exists, Choice, Open, Close, OpenList, CloseList, Dot, Colon, Comma, Semicolon, Backquote}

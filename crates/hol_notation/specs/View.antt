@@ -1,5 +1,5 @@
 -- What the code's commands say.
-use Rattle.std.specs.Prelude.{Option, Some, None, option_map, string_bytes}
+use Rattle.std.specs.Prelude.{option_map, string_bytes}
 use Rattle.hol_notation.specs.declared.pre_type.PreType.{PreType}
 use Rattle.hol_notation.specs.declared.pre_type.PreType.TheVariants.{Ident as TheIdent, Arrow'}
 use Rattle.hol_notation.specs.declared.equation.Side.{Side}

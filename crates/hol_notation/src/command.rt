@@ -10,6 +10,7 @@ use std::alloc::{AllocError, Global};
 pub struct Quotation {
     /// The place of the opening backquote in the command's text, in bytes from 0.
     pub place: usize,
+    /// The term.
     pub equation: Equation,
 }
 

@@ -8,7 +8,9 @@ use std::alloc::{AllocError, Global};
 /// A side of an equation: an identifier, with a type where one is written.
 #[derive(Drop)]
 pub struct Side {
+    /// The identifier.
     pub name: String,
+    /// The type that is written after it.
     pub annotation: Option<PreType>,
 }
 
@@ -31,7 +33,9 @@ impl Side {
 /// A term as it is written: an equation.
 #[derive(Drop)]
 pub struct Equation {
+    /// What stands before `=`.
     pub left: Side,
+    /// What stands after it.
     pub right: Side,
 }
 

@@ -7,7 +7,9 @@ use std::alloc::{AllocError, Global};
 /// A type as it is written: an identifier, or the type of functions between two.
 #[derive(Drop)]
 pub enum PreType {
+    /// An identifier: a constructor without arguments, or a variable.
     Ident(String),
+    /// `A->B`: the type of functions from the first to the second.
     Arrow(Box<PreType>, Box<PreType>),
 }
 

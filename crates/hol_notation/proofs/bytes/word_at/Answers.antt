@@ -1,5 +1,3 @@
-use Rattle.std.proofs.Common.{sym, subst, take, ℕ}
-use Rattle.std.specs.Str.{IsAscii}
 use Rattle.hol_notation.specs.declared.bytes.Class.TheVariants.{Word, Digit}
 use Rattle.hol_notation.proofs.Tokens.{run-front, symbol-front}
 use Rattle.hol_notation.proofs.bytes.word_at.Goals as goal

@@ -1,8 +1,7 @@
-use Rattle.std.proofs.Common.{◌≡◌, ◌≤◌, ◌∙◌, ◌-◌, sym, ap, subst, map, take, drop, length, ℕ, List, arith, Some, refl, [], ◌∷◌, ◌++◌, ◌+◌}
+use Rattle.std.proofs.Common.{◌≡◌, ◌≤◌, ◌∙◌, sym, ap, subst, map, take, drop, length, ℕ, List, arith, Some, refl, [], ◌∷◌, ◌++◌, ◌+◌}
 use Rattle.std.proofs.lemmas.List.{length-map, map-append}
 use Rattle.hol_notation.specs.declared.lexer.Word.{Word}
 use Rattle.std.specs.Str.{IsAscii}
-use Rattle.hol_notation.specs.declared.token.Token.{Token}
 use Rattle.hol_notation.specs.Lexeme.{token_of}
 use Rattle.hol_notation.specs.Token.{opened, open_after, limited, word_at, skip, IsLexed}
 use Rattle.hol_notation.proofs.Tokens.{scan-more, part-end, part-within, rest-of, open-more}

@@ -1,4 +1,4 @@
-use Rattle.std.proofs.Common.{map, ap, ◌∙◌, ◌∷◌}
+use Rattle.std.proofs.Common.{map, ap}
 use Rattle.std.proofs.lemmas.Result.{err_from_is_err_and}
 use Rattle.hol_notation.specs.View.{command_text}
 use Rattle.hol_notation.specs.Lexeme.{seen}
