@@ -1,5 +1,4 @@
 pub mod Documents
-pub mod DocsView
 pub mod Afresh
 pub mod ItemTexts
 pub mod Asked

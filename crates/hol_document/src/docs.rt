@@ -10,6 +10,7 @@ use crate::{afresh, items};
 use hol_exec::Report;
 use hol_notation::is_identifier;
 use std::alloc::Global;
+use std::marker::Model;
 
 /// The most theories that may stand.
 pub const THEORY_LIMIT: usize = 64;
@@ -31,11 +32,18 @@ pub struct Docs {
     cache: u32,
 }
 
+impl Model for Docs {
+    ghost use Rattle.hol_document.specs.Documents.{Documents};
+
+    ghost Value = { Documents };
+
+    ghost view = { λ d. record { theories = d.theories.items } };
+}
+
 impl Docs {
     ghost use Rattle.std.specs.Prelude.{string_bytes, map};
     ghost use Rattle.std.specs.Option.{option_map};
     ghost use Rattle.hol_exec.specs.ReportView.{report_value};
-    ghost use Rattle.hol_document.specs.DocsView.{seen};
 
     /// Documents without theories. `turns` is the number of turns that a command has, and `cache` that of the outcomes that
     /// are kept after they have left the documents; no command of this language takes a turn, and nothing is kept yet.
@@ -44,7 +52,7 @@ impl Docs {
         requires turns_high { turns ≤ 100000 }
         requires cache_low { 1 ≤ cache }
         requires cache_high { cache ≤ 4096 }
-        ensures { (seen result).theories ≡ [] }
+        ensures { result.theories ≡ [] }
     {
         Docs {
             alloc,
@@ -58,9 +66,9 @@ impl Docs {
     ///
     /// Refused where the name is taken, is bad, the place is above the number of theories, or 64 theories stand: in this order.
     pub fn new_theory(&mut self, name: &str, at: usize) -> Result<(), DocsError>
-        ensures ok { OnOk result (with_theory (seen self.old).theories name.now at ≡ Ok (seen self.new).theories) }
-        ensures refused { IfErr result (IfRefused (λ refusal. with_theory (seen self.old).theories name.now at ≡ Err refusal)) }
-        ensures kept { OnErr result (seen self.new ≡ seen self.old) }
+        ensures ok { OnOk result (with_theory self.old.theories name.now at ≡ Ok self.new.theories) }
+        ensures refused { IfErr result (IfRefused (λ refusal. with_theory self.old.theories name.now at ≡ Err refusal)) }
+        ensures kept { OnErr result (self.new ≡ self.old) }
     {
         if self.find(name).is_some() {
             return Err(DocsError::Refused(Refusal::TheoryNameTaken));
@@ -83,9 +91,9 @@ impl Docs {
     ///
     /// Refused where the theory is unknown, the place is above the number of its commands, or 1,000 commands stand: in this order.
     pub fn insert(&mut self, theory: &str, at: usize, text: &str) -> Result<(), DocsError>
-        ensures ok { OnOk result (with_command (seen self.old).theories theory.now at text.now ≡ Ok (seen self.new).theories) }
-        ensures refused { IfErr result (IfRefused (λ refusal. with_command (seen self.old).theories theory.now at text.now ≡ Err refusal)) }
-        ensures kept { OnErr result (seen self.new ≡ seen self.old) }
+        ensures ok { OnOk result (with_command self.old.theories theory.now at text.now ≡ Ok self.new.theories) }
+        ensures refused { IfErr result (IfRefused (λ refusal. with_command self.old.theories theory.now at text.now ≡ Err refusal)) }
+        ensures kept { OnErr result (self.new ≡ self.old) }
     {
         let Some(i) = self.find(theory) else {
             return Err(DocsError::Refused(Refusal::UnknownTheory));
@@ -107,8 +115,8 @@ impl Docs {
     ///
     /// Refused where the theory is unknown or no command stands at the place: in this order.
     pub fn report(&self, theory: &str, at: usize) -> Result<Report, DocsError>
-        ensures ok { IfOk result (λ report. Reported (seen self.now).theories theory.now at (Ok (report_value report))) }
-        ensures refused { IfErr result (IfRefused (λ refusal. Reported (seen self.now).theories theory.now at (Err refusal))) }
+        ensures ok { IfOk result (λ report. Reported self.now.theories theory.now at (Ok (report_value report))) }
+        ensures refused { IfErr result (IfRefused (λ refusal. Reported self.now.theories theory.now at (Err refusal))) }
     {
         let Some(i) = self.find(theory) else {
             return Err(DocsError::Refused(Refusal::UnknownTheory));
@@ -125,8 +133,8 @@ impl Docs {
     ///
     /// Refused where the theory is unknown.
     pub fn basis(&self, theory: &str, name: &str) -> Result<Option<Vec<String>>, DocsError>
-        ensures ok { IfOk result (λ texts. BasisOf (seen self.now).theories theory.now name.now (Ok (option_map (λ ts. map string_bytes ts.items) texts))) }
-        ensures refused { IfErr result (IfRefused (λ refusal. BasisOf (seen self.now).theories theory.now name.now (Err refusal))) }
+        ensures ok { IfOk result (λ texts. BasisOf self.now.theories theory.now name.now (Ok (option_map (λ ts. map string_bytes ts.items) texts))) }
+        ensures refused { IfErr result (IfRefused (λ refusal. BasisOf self.now.theories theory.now name.now (Err refusal))) }
     {
         let Some(i) = self.find(theory) else {
             return Err(DocsError::Refused(Refusal::UnknownTheory));
@@ -137,7 +145,7 @@ impl Docs {
 
     // The place of the theory of that name.
     fn find(&self, name: &str) -> Option<usize>
-        ensures { result ≡ find_theory name.now (seen self.now).theories }
+        ensures { result ≡ find_theory name.now self.now.theories }
     {
         self.theories
             .iter()

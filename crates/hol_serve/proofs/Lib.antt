@@ -1,0 +1,8 @@
+pub mod Known
+pub mod Cutting
+pub mod Sessions
+pub mod Chunks
+pub mod Runs
+pub mod Literals
+pub mod Floats
+pub mod Machines

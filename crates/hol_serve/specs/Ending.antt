@@ -1,0 +1,24 @@
+-- How the program ends.
+use Rattle.std.specs.Prelude.{ℕ}
+use Rattle.hol_serve.specs.declared.ending.Ending.{Ending}
+use Rattle.hol_serve.specs.declared.ending.Ending.TheVariants.{BadWords, Read, Write, Memory}
+use Rattle.hol_serve.specs.declared.lines.session.Fault.{Fault}
+use Rattle.hol_serve.specs.declared.lines.session.Fault.TheVariants as fault
+use Rattle.hol_serve.specs.declared.settings.Words.{Words}
+use Rattle.hol_serve.specs.declared.settings.Words.TheVariants as words
+
+-- 2 where the program's words are refused, 1 for the other ends; a session that comes to its end has 0
+abbrev pub status_of : Ending → ℕ
+status_of BadWords = 2
+status_of Read = 1
+status_of Write = 1
+status_of Memory = 1
+
+abbrev pub fault_ending : Fault → Ending
+fault_ending fault.Read = Read
+fault_ending fault.Write = Write
+fault_ending fault.Memory = Memory
+
+abbrev pub words_ending : Words → Ending
+words_ending words.Bad = BadWords
+words_ending words.Memory = Memory

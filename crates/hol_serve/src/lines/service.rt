@@ -1,0 +1,83 @@
+ghost use Rattle.std.specs.Prelude.{◌≡◌, ◌<◌, ◌≤◌, ℕ, List, Bool, length, Ok, IfOk, OnOk, OnErr};
+ghost use Rattle.std.specs.Io.{ReadsAtMost, WritesAtMost};
+ghost use Rattle.std.specs.Io.KnownBytes.{ReadConsumes, WriteAppends};
+ghost use Rattle.hol_serve.specs.Lines.{line_limit};
+
+use std::alloc::Global;
+use std::io;
+use std::io::{Read, Write};
+
+/// A reader that tells whether it failed. It then stays so.
+pub trait Source: Read {
+    ghost has_failed: { Self → Type 0 };
+
+    /// Reads some bytes to the front of the buffer, as `Read::read`. The answer 0 is the end, where there is room.
+    fn read_some(&mut self, buffer: &mut [u8]) -> io::Result<usize>
+        ensures bound { ReadsAtMost result buffer.new }
+        ensures bytes { ReadConsumes (Self.remaining self.old) (Self.remaining self.new) result buffer.new }
+        ensures failed { OnErr result (has_failed self.new) }
+        ensures only { OnOk result (has_failed self.new → has_failed self.old) };
+}
+
+/// A writer that tells whether it failed, or took no byte of some. It then stays so.
+pub trait Sink: Write {
+    ghost has_failed: { Self → Type 0 };
+
+    /// Writes some of the bytes, from the first on, as `Write::write`, and tells how many.
+    fn write_some(&mut self, buffer: &[u8]) -> io::Result<usize>
+        ensures bound { WritesAtMost result buffer.now }
+        ensures bytes { WriteAppends (Self.contents self.old) (Self.contents self.new) result buffer.now }
+        ensures failed { OnErr result (has_failed self.new) }
+        ensures stuck { 0 < length buffer.now → result ≡ Ok 0 → has_failed self.new }
+        ensures only { IfOk result (λ count. 0 < count → has_failed self.new → has_failed self.old) };
+}
+
+/// A reply to a line.
+#[derive(Drop)]
+pub struct Reply {
+    /// Its bytes.
+    pub text: ReplyText,
+    /// Whether the session ends with it.
+    pub closes: bool,
+}
+
+/// A reply's bytes, with its newline.
+#[derive(Drop)]
+pub enum ReplyText {
+    /// The same for each request. It takes no memory.
+    Constant(&'static [u8]),
+    /// Made for one request.
+    Owned(Vec<u8>),
+}
+
+/// What answers lines over a state.
+pub trait Service<D> {
+    ghost use Rattle.hol_serve.specs.ReplyBytes.{reply_bytes};
+
+    // From the old state the line may get this reply, which closes the session or not, and leave the new one.
+    ghost may_answer: { D → List ℕ → List ℕ → Bool → D → Type 0 };
+
+    /// The reply to a line.
+    fn answer(&self, alloc: Global, state: &mut D, line: &[u8]) -> Reply
+        requires { length line.now ≤ line_limit }
+        ensures { may_answer state.old line.now (reply_bytes result.text) result.closes state.new };
+
+    /// The reply to a line that is too long, whose bytes are gone.
+    fn answer_overlong(&self, state: &mut D) -> Reply
+        ensures { (line : List ℕ) → line_limit < length line
+            → may_answer state.old line (reply_bytes result.text) result.closes state.new };
+}
+
+impl Reply {
+    ghost use Rattle.hol_serve.specs.ReplyBytes.{reply_bytes};
+
+    /// Its bytes, with its newline.
+    pub fn as_bytes(&self) -> &[u8]
+        ensures { result.now ≡ reply_bytes self.now.text }
+    {
+        match &self.text {
+            ReplyText::Constant(text) => text,
+            ReplyText::Owned(text) => text.as_slice(),
+        }
+    }
+}
