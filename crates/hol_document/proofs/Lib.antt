@@ -1,2 +1,4 @@
 pub mod Running
 pub mod Sorting
+pub mod Proved
+pub mod Unique

@@ -3,3 +3,4 @@ pub mod Afresh
 pub mod ItemTexts
 pub mod Asked
 pub mod ReadingView
+pub mod Shown

@@ -5,8 +5,10 @@ mod afresh;
 mod docs;
 mod error;
 mod items;
+mod laws;
 mod line;
 mod theory;
 
 pub use docs::{COMMAND_LIMIT, Docs, THEORY_LIMIT};
 pub use error::{DocsError, Refusal};
+pub use laws::{reports_are_unique, shown_theorems_are_proved};
