@@ -1,3 +1,4 @@
 pub mod Shown
 pub mod Typed
 pub mod Outcomes
+pub mod Principal

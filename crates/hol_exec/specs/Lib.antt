@@ -4,6 +4,7 @@ pub mod ReportView
 pub mod Goal
 pub mod Reading
 pub mod ReadingView
+pub mod Typing
 pub mod Tac
 pub mod StateValue
 pub mod Codes

@@ -5,6 +5,7 @@ mod closing;
 mod entry;
 mod equation;
 mod goal;
+mod laws;
 mod made;
 mod next;
 mod outcome;
@@ -20,6 +21,7 @@ mod state;
 mod tac;
 
 pub use goal::Goal;
+pub use laws::readings_are_principal;
 pub use next::apply;
 pub use outcome::Outcome;
 pub use reads::Reads;

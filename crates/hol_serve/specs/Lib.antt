@@ -8,3 +8,4 @@ pub mod Replies
 pub mod Texts
 pub mod Machine
 pub mod Ending
+pub mod Promise

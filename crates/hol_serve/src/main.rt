@@ -4,6 +4,7 @@
 mod answering;
 mod constants;
 mod ending;
+mod laws;
 mod lines;
 mod reading;
 mod replies;

@@ -1,0 +1,59 @@
+-- Every run of the machine shows proved theorems alone.
+use Rattle.std.proofs.Common.{◌≡◌, ℕ, List, [], ◌∷◌, ◌++◌, Bool, true, false, inl, inr, sym, ◌∙◌}
+use Rattle.std.specs.Prelude.{◌⊎◌, Result, Ok, Err, Option, Some, None}
+use Rattle.hol_exec.specs.ReportValue.{ReportValue, ShowsGoals, HasMade, WasRefused}
+use Rattle.hol_document.specs.declared.error.Refusal.{Refusal}
+use Rattle.hol_document.specs.Documents.{Documents, TheoryText, find_theory, with_theory, with_command}
+use Rattle.hol_document.specs.Asked.{Reported, BasisOf}
+use Rattle.hol_document.proofs.Proved.{asked_theorems}
+use Rattle.hol_serve.specs.Machine.{Machine, too_long, no_json, served, no_memory, Edits, reply_to, Serves, ServesIf, MayAnswer}
+use Rattle.hol_serve.specs.Requests.{RequestText, NewTheory, Insert, Report, Basis, request_of}
+use Rattle.hol_serve.specs.Replies.{ReplyValue, Refused, Done, Reports, RestsOn, Closed, reply_line, closes}
+use Rattle.hol_serve.specs.Session.{Answers}
+use Rattle.hol_serve.specs.Promise.{ReportsProved, ShowsOnlyProved, AnswersProved}
+
+edit_shows : (old : Documents) (r : Result (List TheoryText) Refusal) (reply : ReplyValue) (new : Documents) → Edits old r reply new → ShowsOnlyProved old reply
+edit_shows old (Ok theories) reply new h = rw h.0 tt
+edit_shows old (Err refusal) reply new h = rw h.0 tt
+
+report_shows : (old : Documents) (theory : List ℕ) (at : ℕ) (report : ReportValue) → Reported old.theories theory at (Ok report) → ReportsProved old report
+report_shows old theory at (ShowsGoals goals) h = tt
+report_shows old theory at (HasMade texts) h = (theory, at, asked_theorems old.theories theory at texts h)
+report_shows old theory at (WasRefused kind arg) h = tt
+
+answer_shows : (old : Documents) (theory : List ℕ) (at : ℕ) (answer : Result ReportValue Refusal) → Reported old.theories theory at answer → ShowsOnlyProved old (reply_to Reports answer)
+answer_shows old theory at (Ok report) h = report_shows old theory at report h
+answer_shows old theory at (Err refusal) h = tt
+
+basis_shows : (old : Documents) (answer : Result (Option (List (List ℕ))) Refusal) → ShowsOnlyProved old (reply_to RestsOn answer)
+basis_shows old (Ok items) = tt
+basis_shows old (Err refusal) = tt
+
+serves_shows : (old : Documents) (request : RequestText) (reply : ReplyValue) (new : Documents) → Serves old request reply new → ShowsOnlyProved old reply
+serves_shows old (NewTheory name at) reply new h = edit_shows old (with_theory old.theories name at) reply new h
+serves_shows old (Insert theory at text) reply new h = edit_shows old (with_command old.theories theory at text) reply new h
+serves_shows old (Report theory at) reply new h = rw h.2 (answer_shows old theory at h.0 h.1)
+serves_shows old (Basis theory name) reply new h = rw h.2 (basis_shows old h.0)
+
+serves_if_shows : (old : Documents) (request : Option RequestText) (reply : ReplyValue) (new : Documents) → ServesIf old request reply new → ShowsOnlyProved old reply
+serves_if_shows old None reply new h = rw h.0 tt
+serves_if_shows old (Some request) reply new h = serves_shows old request reply new h
+
+machine_shows : (old : Documents) (line : List ℕ) (reply : ReplyValue) (new : Documents) → Machine old line reply new → ShowsOnlyProved old reply
+machine_shows old line reply new (too_long h is same) = rw is tt
+machine_shows old line reply new (no_json h none is same) = rw is tt
+machine_shows old line reply new (served h d reads serves) = serves_if_shows old (request_of d) reply new serves
+machine_shows old line reply new (no_memory h some is same) = rw is tt
+
+answers_more : {S : Type 0} (may might : S → List ℕ → List ℕ → Bool → S → Type 0) → ((old : S) (line text : List ℕ) (closed : Bool) (new : S) → may old line text closed new → might old line text closed new)
+    → (lines : List (List ℕ)) (old : S) (replies : List ℕ) (closed : Bool) (new : S) → Answers may old lines replies closed new → Answers might old lines replies closed new
+answers_more may might more [] old replies closed new h = h
+answers_more may might more (line ∷ lines) old replies closed new (reply, closes, mid, one, inl ends) = (reply, closes, mid, more old line reply closes mid one, inl ends)
+answers_more may might more (line ∷ lines) old replies closed new (reply, closes, mid, one, inr (stays, rest, is, others)) =
+    (reply, closes, mid, more old line reply closes mid one, inr (stays, rest, is, answers_more may might more lines mid rest closed new others))
+
+one_shows : (old : Documents) (line text : List ℕ) (closed : Bool) (new : Documents) → MayAnswer old line text closed new → AnswersProved old line text closed new
+one_shows old line text closed new (reply, machine, is, ends) = (reply, machine, is, ends, machine_shows old line reply new machine)
+
+pub runs_show_proved : (old : Documents) (lines : List (List ℕ)) (replies : List ℕ) (closed : Bool) (new : Documents) → Answers MayAnswer old lines replies closed new → Answers AnswersProved old lines replies closed new
+runs_show_proved old lines replies closed new h = answers_more MayAnswer AnswersProved one_shows lines old replies closed new h
