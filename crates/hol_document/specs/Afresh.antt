@@ -1,4 +1,5 @@
 -- Running documents afresh: theories in order and commands in order, each theory from the prelude alone.
+-- Source: this project.
 use Rattle.std.specs.Prelude.{ℕ, List, [], ◌∷◌, ◌++◌}
 use Rattle.hol_notation.specs.Reading.{ReadText, Reads, Breaks}
 use Rattle.hol_exec.specs.StateValue.{EntryValue, StateValue, start}

@@ -1,4 +1,5 @@
 -- What is answered to a question about the documents: what running them afresh says.
+-- Source: this project.
 use Rattle.std.specs.Prelude.{◌≡◌, ℕ, List, [], ◌∷◌, ◌≤◌, ◌<◌, ⊤, length, take, Option, Some, None, Result, Ok, Err, slice_index_or}
 use Rattle.hol_notation.specs.Reading.{ReadText, IsRead}
 use Rattle.hol_kernel.specs.Theorem.{Theorem}

@@ -1,4 +1,5 @@
 -- Documents: theories in order, each a name and the texts of its commands, and what an edit makes of them.
+-- Source: this project.
 use Rattle.std.specs.Prelude.{ℕ, List, [], ◌&&◌, length, Bool, not, nat_lt, nat_le, if◌then◌else◌, Option, Some, None, Result, Ok, Err, is_some, position, slice_set, slice_index_or, bytes_eq}
 use Rattle.std.specs.List.{insert}
 use Rattle.hol_notation.specs.Token.{is_identifier}

@@ -1,4 +1,5 @@
 -- The texts of a basis's items, as clients see them.
+-- Source: this project.
 use Rattle.std.specs.Prelude.{ℕ, List, ◌++◌, codes, map, IsSorted, IsPermutation}
 use Rattle.std.specs.FinSet as set
 use Rattle.hol_types.specs.Order.{name_cmp}

@@ -1,4 +1,4 @@
--- How the logic stores goals, entries, proofs, states, reads and outcomes.
+-- How the logic stores goals, entries, proofs, states and reads.
 use Rattle.std.specs.Prelude.{ℕ, List, Option, Bool, refl}
 use Rattle.std.specs.Coded.{Coded, code_by, coded×, coded_ℕ, coded_bool, coded_list, coded_option}
 use Rattle.hol_types.specs.Code.{coded_name}

@@ -1,4 +1,5 @@
 -- What a command does to a state, and the state after it.
+-- Source: HOL Light's goal stacks (tactics.ml), and the scheme of goals and subgoals of Edinburgh LCF (LNCS 78).
 use Rattle.std.specs.Prelude.{ℕ, List, [], ◌∷◌, ◌++◌, Option, Some, None, drop}
 use Rattle.hol_terms.specs.Nameless.{Nameless}
 use Rattle.hol_kernel.specs.Items.{Items}

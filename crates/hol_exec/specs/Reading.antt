@@ -2,6 +2,7 @@
 -- Each identifier of a side is a free variable, and one type for both sides makes the equation well typed. A side's
 -- annotation is that type. So an equation has a typing unless two annotations differ; where neither side has one the type is
 -- left open, and is named `?0`.
+-- Source: HOL Light's preterm.ml; the names of types left open are this project's.
 use Rattle.std.specs.Prelude.{ℕ, List, codes, Bool, true, cond, not, ◌&&◌, ◌||◌, bytes_eq, Option, Some, None}
 use Rattle.hol_types.specs.Tree.{TypeTree, TyVar, TyApp, no_types}
 use Rattle.hol_types.specs.Fun.{fun_type}

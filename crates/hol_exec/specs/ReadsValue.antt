@@ -1,4 +1,5 @@
 -- What a command reads of a state: its outcome is a function of the command and of this alone.
+-- Source: this project.
 use Rattle.std.specs.Prelude.{ℕ, List, [], ◌∷◌, Bool, length, Option, Some, None, is_some}
 use Rattle.hol_terms.specs.Nameless.{Nameless}
 use Rattle.hol_kernel.specs.Items.{Items}

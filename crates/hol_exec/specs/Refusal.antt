@@ -1,4 +1,5 @@
 -- The refusals of commands: their numbers and their texts, as clients see them.
+-- Source: this project.
 use Rattle.std.specs.Prelude.{ℕ, List, codes}
 use Rattle.hol_exec.specs.declared.refusal.RefusalKind.{RefusalKind}
 use Rattle.hol_exec.specs.declared.refusal.RefusalKind.TheVariants.{Syntax, InProof, NoProofOpen, UnknownTac, Untypable, Arity, NameTaken, NoGoalOpen, Refused, GoalsRemain}

@@ -1,4 +1,5 @@
 -- What a client is told of a command: the open goals after it, what it made, or why it was refused.
+-- Source: this project.
 use Rattle.std.specs.Prelude.{ℕ, List}
 use Rattle.hol_exec.specs.declared.refusal.RefusalKind.{RefusalKind}
 

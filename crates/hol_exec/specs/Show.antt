@@ -1,5 +1,6 @@
 -- The texts of types, of equations between variables, of goals and of theorems. No other type or term is read in this
 -- language: a constructor has no arguments, or is `fun` with two.
+-- Source: HOL Light's printer; the exact text is this project's.
 use Rattle.std.specs.Prelude.{ℕ, List, [], ◌∷◌, ◌++◌, codes, Bool, true, false, cond, bytes_eq, map, Option, Some, is_some}
 use Rattle.std.specs.Ordering.{is_lt, ordering_then}
 use Rattle.std.specs.declared.cmp.Ordering.{Ordering}

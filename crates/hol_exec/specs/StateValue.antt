@@ -1,4 +1,5 @@
 -- The state of a theory while it is run: its entries, and the open proof, if there is one.
+-- Source: HOL Light's goal stacks (tactics.ml); entries are this project's.
 use Rattle.std.specs.Prelude.{ℕ, List, [], ◌∷◌, cond, bytes_eq, Option, Some, None}
 use Rattle.hol_terms.specs.Nameless.{Nameless}
 use Rattle.hol_kernel.specs.Items.{Items}

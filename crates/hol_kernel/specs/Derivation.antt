@@ -1,5 +1,5 @@
--- Derivations: finite trees, each node one of HOL Light's ten primitive rules or a leaf (fusion.ml, REFL to INST_TYPE, and new_basic_definition,
--- new_basic_type_definition, new_axiom).
+-- Derivations: finite trees whose nodes are HOL Light's primitive rules (fusion.ml, REFL to INST_TYPE) and whose leaves are the statements of
+-- the prelude and of items (new_basic_definition, new_basic_type_definition, new_axiom). REFL stands so far; the others are further constructors.
 use Rattle.hol_types.specs.Tree.{TypeTree}
 use Rattle.hol_terms.specs.Nameless.{Nameless}
 use Rattle.hol_kernel.specs.Items.{Items}

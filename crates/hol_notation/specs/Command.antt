@@ -1,4 +1,5 @@
 -- What a command says: its name, its terms as they are written, and the places of its quotations.
+-- Source: this project; `g` and `e` are the names of HOL Light's functions on goal stacks.
 use Rattle.std.specs.Prelude.{ℕ, List, Option}
 
 -- A type as it is written: an identifier, or the type of functions between two.

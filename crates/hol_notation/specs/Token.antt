@@ -1,4 +1,5 @@
 -- The tokens of a text, with the limits on them.
+-- Source: the symbols are HOL Light's in ASCII; which words are reserved, and the limits, are this project's.
 use Rattle.std.specs.Prelude.{◌≡◌, ◌<◌, ◌+◌, ◌-◌, ◌==◌, ◌||◌, ◌&&◌, not, ℕ, suc, List, [], ◌∷◌, ◌++◌, length, drop, Bool, true, false, Option, Some, None, option_map, nat_le, nat_lt, if◌then◌else◌, codes, bytes_eq}
 use Rattle.std.specs.List.{list_all, list_any}
 use Rattle.hol_notation.specs.declared.token.Kind.{Kind}

@@ -1,5 +1,5 @@
 -- The types of functions.
--- Source: HOL Light's fusion.ml, where type_of gives an abstraction the type Tyapp("fun", [domain; range]), and its dest_fun_ty.
+-- Source: HOL Light's fusion.ml, where type_of gives an abstraction the type Tyapp("fun", [domain; range]), and basics.ml, dest_fun_ty.
 use Rattle.std.specs.Prelude.{codes, bytes_eq, cond, Option, Some, None}
 use Rattle.hol_types.specs.Tree.{TypeTree, TypeList, TyVar, TyApp, no_types, more_types}
 

@@ -1,5 +1,6 @@
 -- Matching a pattern with a type: pairs are found from left to right, and each name once.
--- Source: HOL Light's type_match. A reader has to believe IsMatchOf and HasNoMatch alone: the rest says how the code finds pairs.
+-- Source: HOL Light's basics.ml, type_match. What a match is, say IsMatchOf and HasNoMatch. `match_type` is a test that computes, by which
+-- definitions above say `instance of`; that some substitution gives the type exactly where it finds pairs is a law of the kernel.
 use Rattle.std.specs.Prelude.{◌≡◌, ℕ, List, [], ◌∷◌, ◌++◌, map, cond, bytes_eq, Option, Some, None}
 use Rattle.std.specs.Option.{option_and_then}
 use Rattle.hol_types.specs.Tree.{TypeTree, TypeList, TyVar, TyApp, no_types, more_types}

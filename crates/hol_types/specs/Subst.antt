@@ -1,5 +1,5 @@
 -- Substitution for type variables by a list of pairs (new type, name), of which the first of a name counts.
--- Source: HOL Light's fusion.ml, type_subst, whose pairs are looked up by rev_assocd.
+-- Source: HOL Light's fusion.ml, type_subst, whose pairs are looked up by lib.ml's rev_assocd.
 use Rattle.std.specs.Prelude.{ℕ, List, [], ◌∷◌, cond, bytes_eq, Option, Some, None, unwrap_or}
 use Rattle.hol_types.specs.Tree.{TypeTree, TypeList, TyVar, TyApp, no_types, more_types}
 
