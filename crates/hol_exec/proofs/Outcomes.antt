@@ -180,3 +180,8 @@ leaves_at s outcome (inl h) sound goals e = by s.proof refl sound
     by None z k = tt
     by (Some p) z k = leaves_sound h.0 s p z k goals (sym e ∙ h.1)
 leaves_at s outcome (inr h) sound goals e = let g : Leaves goals ≡ Refuses _ _ = sym e ∙ h.1 in absurd (cc)
+
+-- ---- the outcome of a command from what it reads of a state is one that the state may get
+
+pub local_is_at : (s : StateValue) (outcome : OutcomeValue) (command : CommandText) → outcome ≡ local command (reads_of command s) → IsOutcomeAt s outcome
+local_is_at s outcome command e = inl (command, e)

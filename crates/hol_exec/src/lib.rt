@@ -19,6 +19,8 @@ mod run;
 mod show;
 mod state;
 mod tac;
+#[cfg(test)]
+mod tests;
 
 pub use goal::Goal;
 pub use laws::readings_are_principal;
