@@ -1,0 +1,5 @@
+pub mod Shift
+pub mod Closing
+pub mod Substitution
+pub mod Pairs
+pub mod Variant

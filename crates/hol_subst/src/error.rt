@@ -1,0 +1,43 @@
+//! Refusals of substitution.
+ghost use Rattle.std.specs.Prelude.{◌≡◌};
+ghost use Rattle.hol_subst.specs.declared.error.SubstError.TheVariants.{Memory};
+
+use hol_terms::TermError;
+use std::alloc::{AllocError, AllocFailed};
+use thiserror::Error;
+
+/// Why a term was not substituted.
+#[derive(Clone, Copy, Debug, PartialEq, Eq, Error)]
+pub enum SubstError {
+    /// The second part of a pair is no variable, or its type is not that of the first part.
+    #[error("bad pair")]
+    BadPair,
+    /// There is no memory left.
+    #[error("out of memory")]
+    Memory,
+}
+
+impl From<AllocError> for SubstError {
+    ghost from_gives = { λ _ e. e ≡ Memory };
+
+    fn from(_e: AllocError) -> SubstError {
+        SubstError::Memory
+    }
+}
+
+impl<T: Drop> From<AllocFailed<T>> for SubstError {
+    ghost from_gives = { λ _ e. e ≡ Memory };
+
+    fn from(_e: AllocFailed<T>) -> SubstError {
+        SubstError::Memory
+    }
+}
+
+/// Of a call that finds no other fault in terms than want of memory.
+impl From<TermError> for SubstError {
+    ghost from_gives = { λ _ e. e ≡ Memory };
+
+    fn from(_e: TermError) -> SubstError {
+        SubstError::Memory
+    }
+}
