@@ -2,5 +2,9 @@
 #![tactic(auto)]
 
 mod error;
+#[cfg(test)]
+mod tests;
+mod variants;
 
 pub use error::SubstError;
+pub use variants::variant;
