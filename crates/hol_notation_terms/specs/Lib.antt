@@ -1,0 +1,6 @@
+pub mod Text
+pub mod Code
+pub mod TypeView
+pub mod VariableView
+pub mod TermView
+pub mod Falls

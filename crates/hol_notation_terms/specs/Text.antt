@@ -1,0 +1,51 @@
+-- Types and terms as they are written, before names are resolved. Names are lists of bytes.
+-- Source: this project, after HOL Light's preterms, where an infix is its constant applied to both sides, and a binder its
+-- constant applied to an abstraction.
+use Rattle.std.specs.Prelude.{ℕ, ◌+◌, List, [], ◌∷◌, Option}
+use Rattle.hol_notation_terms.specs.declared.operator.Operator.{Operator}
+
+mutual
+  -- an identifier, the type of functions between two, or a constructor with arguments
+  pub data TypeText : Type 0 where
+    Ident : List ℕ → TypeText
+    Arrow : TypeText → TypeText → TypeText
+    Apply : List ℕ → TypeTexts → TypeText
+
+  pub data TypeTexts : Type 0 where
+    no_types : TypeTexts
+    more_types : TypeText → TypeTexts → TypeTexts
+
+-- types from a list
+abbrev pub type_texts : List TypeText → TypeTexts
+type_texts [] = no_types
+type_texts (t ∷ ts) = more_types t (type_texts ts)
+
+-- a variable where it is bound, with the type that is written for it
+pub record VariableText : Type 0 where
+  pub name : List ℕ
+  pub annotation : Option TypeText
+
+pub data TermText : Type 0 where
+  Named : List ℕ → TermText
+  Constant : Operator → TermText
+  Applied : TermText → TermText → TermText
+  Abstraction : VariableText → TermText → TermText
+  Typed : TermText → TypeText → TermText
+
+-- the number of nodes
+abbrev mutual
+  pub type_nodes : TypeText → ℕ
+  type_nodes (Ident a) = 1
+  type_nodes (Arrow s t) = 1 + type_nodes s + type_nodes t
+  type_nodes (Apply c ts) = 1 + types_nodes ts
+
+  pub types_nodes : TypeTexts → ℕ
+  types_nodes no_types = 0
+  types_nodes (more_types t ts) = type_nodes t + types_nodes ts
+
+abbrev pub term_nodes : TermText → ℕ
+term_nodes (Named x) = 1
+term_nodes (Constant c) = 1
+term_nodes (Applied f a) = 1 + term_nodes f + term_nodes a
+term_nodes (Abstraction x b) = 1 + term_nodes b
+term_nodes (Typed t ty) = 1 + term_nodes t

@@ -1,0 +1,74 @@
+//! Types as they are written.
+ghost use Rattle.std.specs.Prelude.{◌≡◌, IfOk};
+ghost use Rattle.hol_notation_terms.specs.TypeView.{type_of_node};
+
+use std::alloc::{AllocError, Global};
+use std::marker::Model;
+use std::rc::Rc;
+
+/// A type as it is written. Copies share their nodes.
+#[cycle(pre_type)]
+#[derive(Drop)]
+pub struct PreType {
+    node: Rc<PreTypeNode>,
+}
+
+/// The top node of a type.
+#[cycle(pre_type)]
+#[derive(Drop)]
+pub enum PreTypeNode {
+    /// An identifier: a constructor without arguments, or a variable.
+    Ident(String),
+    /// `A->B`: the type of functions from the first to the second.
+    Arrow(PreType, PreType),
+    /// `A list` or `(A,B) prod`: a constructor and its arguments, one or more, in order.
+    Apply(String, Vec<PreType>),
+}
+
+impl Model for PreType {
+    ghost use Rattle.hol_notation_terms.specs.Text.{TypeText, type_nodes};
+    ghost use Rattle.hol_notation_terms.specs.Code.{coded_type};
+
+    ghost Value = { TypeText };
+
+    ghost coded = { coded_type };
+
+    ghost use Rattle.hol_notation_terms.specs.TypeView.{type_of_node};
+
+    ghost view = { λ a. type_of_node a.node.value };
+
+    ghost size = { type_nodes };
+
+    ghost use Rattle.hol_notation_terms.specs.Falls.{deep_le_type_nodes};
+
+    ghost size_decreases = { λ a h. deep_le_type_nodes a.node.value };
+}
+
+impl PreType {
+    /// The type with this top node. Answers an error where memory is short, and nowhere else.
+    pub fn new(alloc: Global, node: PreTypeNode) -> Result<PreType, AllocError>
+        ensures { IfOk result (λ ty. ty ≡ type_of_node node) }
+    {
+        Ok(PreType {
+            node: Rc::new(alloc, node)?,
+        })
+    }
+
+    /// The top node, with its parts by reference.
+    pub fn node(&self) -> &PreTypeNode
+        ensures { type_of_node result.now ≡ self.now }
+    {
+        self.node.as_ref()
+    }
+
+    /// The same type, sharing its nodes.
+    ///
+    /// Answers an error where memory is short (no count is left for one more copy), and nowhere else.
+    pub fn copy(&self) -> Result<PreType, AllocError>
+        ensures { IfOk result (λ ty. ty ≡ self.now) }
+    {
+        Ok(PreType {
+            node: self.node.clone()?,
+        })
+    }
+}
