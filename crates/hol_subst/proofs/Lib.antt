@@ -1,2 +1,4 @@
 pub mod Longest
 pub mod Closing
+pub mod AlphaOrder
+pub mod CodeOrder

@@ -1,10 +1,14 @@
 //! Substitution of terms for variables and of types for type variables, with renaming of bound variables.
 #![tactic(auto)]
 
+mod alpha;
+#[cfg(test)]
+mod alpha_tests;
 mod error;
 #[cfg(test)]
 mod tests;
 mod variants;
 
+pub use alpha::{aconv, alpha_order, alpha_order_is_total};
 pub use error::SubstError;
 pub use variants::variant;
