@@ -97,6 +97,7 @@ impl Closing {
             Ok(theorem) => Ok(theorem),
             Err(KernelError::Memory) => Err(AllocError),
             Err(KernelError::Refused(_)) => unreachable!(),
+            Err(KernelError::Clash(_)) => unreachable!(),
         }
     }
 

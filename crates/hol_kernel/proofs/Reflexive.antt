@@ -15,6 +15,7 @@ use Rattle.hol_kernel.specs.Theorem.{Theorem, theorem_of, IsDerived}
 use Rattle.hol_kernel.specs.Rules.{reflexive, refl_of}
 use Rattle.hol_kernel.proofs.Sets.{items_empty}
 use Rattle.hol_kernel.proofs.Typed.{typed_type}
+use Rattle.hol_kernel.proofs.Equations.{equation_right}
 
 -- What the program makes of a term t of type a: these three parts, for a term that is well typed over the basis.
 pub record IsReflexive (basis : Items) (t : Named) (a : TypeTree) (own : Items) (hyps : List Named) (concl : Named) : Type 0 where
@@ -29,6 +30,7 @@ module _ (basis : Items) (t : Named) (a : TypeTree) where
   derived_itself e typed = record {
     derives = by_refl (nameless [] t) a (typed_type basis t a e typed);
     ordered = sym (items_empty (coded_total coded_nameless));
+    typed = equation_right a t t e e;
   }
 
   pub refl_derived : (own : Items) (hyps : List Named) (concl : Named) → IsReflexive basis t a own hyps concl → IsDerived own hyps concl

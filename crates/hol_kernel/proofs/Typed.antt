@@ -1,18 +1,35 @@
 -- Well typed terms, and the named terms that they come from.
-use Rattle.std.specs.Prelude.{◌≡◌, ℕ, ◌+◌, Bool, true, false, cond, ◌&&◌, List, [], ◌∷◌, Some, None, is_some, refl}
+use Rattle.std.specs.Prelude.{◌≡◌, ℕ, ◌+◌, ◌==◌, Bool, true, false, cond, ◌&&◌, List, [], ◌∷◌, Some, None, is_some, refl}
 use Rattle.std.proofs.Common.{ap, sym, ◌∙◌}
+use Rattle.std.proofs.lemmas.Slice.Eq.{bytes_eq-Decides}
 use Rattle.hol_types.specs.Tree.{TypeTree}
 use Rattle.hol_types.specs.Equal.{variable_eq}
 use Rattle.hol_terms.specs.Named.{Named, var, constant, comb, abs, named_type}
-use Rattle.hol_terms.specs.Nameless.{place, nameless}
+use Rattle.hol_terms.specs.Nameless.{base_of, with_letter, place, nameless}
 use Rattle.hol_terms.proofs.Same.{variable_eq_decides}
 use Rattle.hol_terms.proofs.Typing.{type_outside}
 use Rattle.hol_kernel.specs.Items.{Items}
-use Rattle.hol_kernel.specs.Typing.{is_type, is_known, type_over, is_typed, HasType}
+use Rattle.hol_kernel.specs.Typing.{is_type, is_base, is_known, type_over, is_typed, HasType}
 use Rattle.hol_kernel.specs.NamedTyping.{is_known_named}
 
 abbrev Variables : Type 0
 Variables = List (List ℕ × TypeTree)
+
+-- a base name has no primes at its end
+base_again : (a : List ℕ) → base_of (base_of a) ≡ base_of a
+base_again [] = refl
+base_again (x ∷ xs) = by (base_of xs) (base_again xs)
+  where
+    letter : (t : Bool) → (x == 39) ≡ t → base_of (cond t [] (x ∷ [])) ≡ cond t [] (x ∷ [])
+    letter true e = refl
+    letter false e = ap (λ b. cond b [] (x ∷ [])) e
+
+    by : (b : List ℕ) → base_of b ≡ b → base_of (with_letter x b) ≡ with_letter x b
+    by [] e = letter (x == 39) refl
+    by (y ∷ ys) e = ap (with_letter x) e
+
+base_is_base : (a : List ℕ) → is_base (base_of a) ≡ true
+base_is_base a = (bytes_eq-Decides (base_of (base_of a)) (base_of a)).1 (base_again a)
 
 module _ (items : Items) where
   -- the types of the binders stand
@@ -32,7 +49,9 @@ module _ (items : Items) where
   known_under env (var v) h = known_place env 0 v h
   known_under env (constant c s) h = refl
   known_under env (comb f x) h = λ i. known_under env f h i && known_under env x h i
-  known_under env (abs v b) h = by (is_type items v.1) refl (λ e. known_under (v ∷ env) b (e, h))
+  known_under env (abs v b) h =
+      ap (λ is. is && (is_type items v.1 && is_known items (nameless (v ∷ env) b))) (base_is_base v.0)
+      ∙ by (is_type items v.1) refl (λ e. known_under (v ∷ env) b (e, h))
     where
       by : (k : Bool) → is_type items v.1 ≡ k → (is_type items v.1 ≡ true → is_known items (nameless (v ∷ env) b) ≡ is_known_named items b) → (is_type items v.1 && is_known items (nameless (v ∷ env) b)) ≡ (is_type items v.1 && is_known_named items b)
       by true e r = ap (λ k. is_type items v.1 && k) (r e)

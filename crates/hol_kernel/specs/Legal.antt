@@ -3,6 +3,7 @@
 use Rattle.std.specs.Prelude.{◌≡◌, ◌≢◌, ℕ, IsTrue, List, [], ◌∷◌, Contains}
 use Rattle.std.specs.FinSet as set
 use Rattle.hol_types.specs.Tree.{TypeTree}
+use Rattle.hol_types.specs.Fun.{fun_type}
 use Rattle.hol_types.specs.Names.{tyvars}
 use Rattle.hol_terms.specs.Nameless.{Nameless, app, free_occurrences}
 use Rattle.hol_kernel.specs.Item.{Item, declared_type, declared_constant, defined_constant, defined_type, declared_axiom}
@@ -29,9 +30,10 @@ pub record IsDefinable (earlier : Items) (r : Nameless) (a : TypeTree) : Type 0 
   pub closed : IsClosed r
   pub reflected : (n : List ℕ) → Contains (term_tyvars r) n → Contains (tyvars a) n
 
--- What a type definition asks: two different constants, and a closed predicate that is derived of some x.
-pub record IsTypeDefinable (earlier : Items) (abs rep : List ℕ) (p x : Nameless) : Type 0 where
+-- What a type definition asks: two different constants, and a closed predicate on a type s that is derived of some x.
+pub record IsTypeDefinable (earlier : Items) (abs rep : List ℕ) (p x : Nameless) (s : TypeTree) : Type 0 where
   pub apart : abs ≢ rep
+  pub typed : HasType earlier p (fun_type s bool_type)
   pub closed : IsClosed p
   pub inhabited : Derives earlier no_hyps (app p x)
 
@@ -40,7 +42,7 @@ abbrev pub IsSound : Items → Item → Type 0
 IsSound earlier (declared_type c n) = Unit {0}
 IsSound earlier (declared_constant c a) = IsTrue (is_type earlier a)
 IsSound earlier (defined_constant c r) = (a : TypeTree) × IsDefinable earlier r a
-IsSound earlier (defined_type c abs rep p) = (x : Nameless) × IsTypeDefinable earlier abs rep p x
+IsSound earlier (defined_type c abs rep p) = (x : Nameless) × ((s : TypeTree) × IsTypeDefinable earlier abs rep p x s)
 IsSound earlier (declared_axiom n p) = HasType earlier p bool_type
 
 abbrev pub IsLegal : List Item → Type 0

@@ -6,8 +6,11 @@ pub mod Sequent
 pub mod Signature
 pub mod Typing
 pub mod NamedTyping
+pub mod Prelude
+pub mod Bijections
 pub mod Derivation
 pub mod Legal
 pub mod Theorem
 pub mod Rules
+pub mod Extends
 pub mod Gives

@@ -20,6 +20,14 @@ Hyps = set.FinSet nameless_cmp
 abbrev pub no_hyps : Hyps
 no_hyps = set.empty
 
+-- p alone
+abbrev pub only_hyp : Nameless → Hyps
+only_hyp p = set.insert no_hyps (strip p)
+
+-- what a map of terms makes of the hypotheses
+abbrev pub hyps_image : (Nameless → Nameless) → Hyps → Hyps
+hyps_image f hs = set.from_list (map (λ h. strip (f h)) (set.items hs))
+
 -- a named term as it counts among hypotheses
 abbrev pub hyp_of : named.Named → Nameless
 hyp_of p = strip (nameless [] p)

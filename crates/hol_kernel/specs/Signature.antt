@@ -17,10 +17,10 @@ use Rattle.hol_kernel.specs.Sequent.{bool_type, equality_type}
 abbrev pub prelude_types : List (List ℕ × ℕ)
 prelude_types = (codes "bool", 0) ∷ (codes "fun", 2) ∷ (codes "ind", 0) ∷ []
 
-abbrev var_a : TypeTree
+abbrev pub var_a : TypeTree
 var_a = TyVar (codes "A")
 
-abbrev var_b : TypeTree
+abbrev pub var_b : TypeTree
 var_b = TyVar (codes "B")
 
 -- bool->bool->bool
@@ -109,6 +109,11 @@ pub data Key : Type 0 where
   type_key : List ℕ → Key
   constant_key : List ℕ → Key
   axiom_key : List ℕ → Key
+
+abbrev pub key_name : Key → List ℕ
+key_name (type_key c) = c
+key_name (constant_key c) = c
+key_name (axiom_key n) = n
 
 abbrev pub item_keys : Item → List Key
 item_keys (declared_type c n) = type_key c ∷ []

@@ -1,0 +1,195 @@
+-- The definitions and axioms that stand in every basis, as named terms.
+-- Source: HOL Light's bool.ml (T_DEF to EXISTS_UNIQUE_DEF), class.ml (ETA_AX, SELECT_AX), nums.ml (ONE_ONE, ONTO, INFINITY_AX). ONE_ONE and
+-- ONTO stand as the equations of constants with abstractions that new_basic_definition takes.
+use Rattle.std.specs.Prelude.{ℕ, List, [], codes}
+use Rattle.hol_types.specs.Tree.{TypeTree, TyApp, no_types}
+use Rattle.hol_types.specs.Fun.{fun_type}
+use Rattle.hol_terms.specs.Named.{Named, var, constant, comb, abs}
+use Rattle.hol_terms.specs.Nameless.{Nameless, nameless}
+use Rattle.hol_kernel.specs.Sequent.{bool_type, named_equation}
+use Rattle.hol_kernel.specs.Signature.{var_a, var_b, connective_type, binder_type, choice_type, function_property_type}
+use Rattle.hol_kernel.specs.declared.postulate.Postulate.{Postulate}
+use Rattle.hol_kernel.specs.declared.postulate.Postulate.TheVariants.{TDef, AndDef, ImpDef, ForallDef, ExistsDef, OrDef, FDef, NotDef, ExistsUniqueDef, EtaAx, SelectAx, OneOne, Onto, InfinityAx}
+
+-- ---- types
+
+abbrev pub ind_type : TypeTree
+ind_type = TyApp (codes "ind") no_types
+
+-- the type of properties of what has type a
+abbrev pub property_type : TypeTree → TypeTree
+property_type a = fun_type a bool_type
+
+-- ---- terms
+
+abbrev pub truth : Named
+truth = constant (codes "T") bool_type
+
+abbrev pub falsity : Named
+falsity = constant (codes "F") bool_type
+
+abbrev pub connective : List ℕ → Named
+connective c = constant c connective_type
+
+abbrev pub connected : List ℕ → Named → Named → Named
+connected c p q = comb (comb (connective c) p) q
+
+-- p /\ q
+abbrev pub conjunction : Named → Named → Named
+conjunction p q = connected (codes "/\\") p q
+
+-- p ==> q
+abbrev pub implication : Named → Named → Named
+implication p q = connected (codes "==>") p q
+
+abbrev pub negation_sign : Named
+negation_sign = constant (codes "~") (fun_type bool_type bool_type)
+
+-- a quantifier at its generic type
+abbrev pub quantifier : List ℕ → Named
+quantifier c = constant c binder_type
+
+-- the quantifier c over the variable v
+abbrev pub quantified : List ℕ → List ℕ × TypeTree → Named → Named
+quantified c v p = comb (constant c (fun_type (property_type v.1) bool_type)) (abs v p)
+
+-- !v. p
+abbrev pub universal : List ℕ × TypeTree → Named → Named
+universal v p = quantified (codes "!") v p
+
+-- ?v. p
+abbrev pub existential : List ℕ × TypeTree → Named → Named
+existential v p = quantified (codes "?") v p
+
+-- p <=> q
+abbrev pub equivalence : Named → Named → Named
+equivalence p q = named_equation bool_type p q
+
+-- ONE_ONE and ONTO at the type of functions from a to b
+abbrev pub function_property : List ℕ → TypeTree → TypeTree → Named
+function_property c a b = constant c (property_type (fun_type a b))
+
+-- ---- variables
+
+abbrev pub boolean : List ℕ → List ℕ × TypeTree
+boolean name = (name, bool_type)
+
+abbrev pub element : List ℕ → List ℕ × TypeTree
+element name = (name, var_a)
+
+-- P:A->bool
+abbrev pub property : List ℕ × TypeTree
+property = (codes "P", property_type var_a)
+
+-- P x
+abbrev pub of_element : List ℕ → Named
+of_element name = comb (var property) (var (element name))
+
+-- f:A->B
+abbrev pub function : List ℕ × TypeTree
+function = (codes "f", fun_type var_a var_b)
+
+-- f x
+abbrev pub value_at : List ℕ → Named
+value_at name = comb (var function) (var (element name))
+
+-- ---- right sides of the definitions
+
+-- \p:bool. p
+abbrev pub identity : Named
+identity = abs (boolean (codes "p")) (var (boolean (codes "p")))
+
+-- \f:bool->bool->bool. f p q
+abbrev pub paired : Named → Named → Named
+paired p q = abs (codes "f", connective_type) (comb (comb (var (codes "f", connective_type)) p) q)
+
+-- (\f. f p q) = (\f. f T T)
+abbrev pub both : Named → Named → Named
+both p q = named_equation (fun_type connective_type bool_type) (paired p q) (paired truth truth)
+
+-- \p q. .., of two truth values
+abbrev pub of_two : (Named → Named → Named) → Named
+of_two f = abs (boolean (codes "p")) (abs (boolean (codes "q")) (f (var (boolean (codes "p"))) (var (boolean (codes "q")))))
+
+-- !r. (p ==> r) ==> (q ==> r) ==> r
+abbrev pub either : Named → Named → Named
+either p q =
+    let r = var (boolean (codes "r")) in
+    universal (boolean (codes "r")) (implication (implication p r) (implication (implication q r) r))
+
+-- \P:A->bool. P = (\x. T)
+abbrev pub everywhere : Named
+everywhere = abs property (named_equation (property_type var_a) (var property) (abs (element (codes "x")) truth))
+
+-- \P:A->bool. !q. (!x. P x ==> q) ==> q
+abbrev pub somewhere : Named
+somewhere =
+    let q = var (boolean (codes "q")) in
+    abs property (universal (boolean (codes "q")) (implication (universal (element (codes "x")) (implication (of_element (codes "x")) q)) q))
+
+-- !x y. P x /\ P y ==> x = y
+abbrev pub at_most_once : Named
+at_most_once =
+    universal (element (codes "x")) (universal (element (codes "y"))
+    (implication (conjunction (of_element (codes "x")) (of_element (codes "y"))) (named_equation var_a (var (element (codes "x"))) (var (element (codes "y"))))))
+
+-- \P:A->bool. (?) P /\ (!x y. P x /\ P y ==> x = y)
+abbrev pub once : Named
+once = abs property (conjunction (comb (quantifier (codes "?")) (var property)) at_most_once)
+
+-- \f:A->B. !x1 x2. f x1 = f x2 ==> x1 = x2
+abbrev pub injective : Named
+injective =
+    abs function (universal (element (codes "x1")) (universal (element (codes "x2"))
+    (implication (named_equation var_b (value_at (codes "x1")) (value_at (codes "x2"))) (named_equation var_a (var (element (codes "x1"))) (var (element (codes "x2")))))))
+
+-- \f:A->B. !y. ?x. y = f x
+abbrev pub surjective : Named
+surjective =
+    abs function (universal (codes "y", var_b) (existential (element (codes "x")) (named_equation var_b (var (codes "y", var_b)) (value_at (codes "x")))))
+
+-- ---- statements
+
+-- (c) = r, for a constant c of the type a
+abbrev pub defining : List ℕ → TypeTree → Named → Named
+defining c a r = named_equation a (constant c a) r
+
+-- !t:A->B. (\x. t x) = t
+abbrev pub eta : Named
+eta =
+    let t : List ℕ × TypeTree = (codes "t", fun_type var_a var_b) in
+    universal t (named_equation (fun_type var_a var_b) (abs (element (codes "x")) (comb (var t) (var (element (codes "x"))))) (var t))
+
+-- !P x. P x ==> P ((@) P)
+abbrev pub chosen : Named
+chosen =
+    universal property (universal (element (codes "x"))
+    (implication (of_element (codes "x")) (comb (var property) (comb (constant (codes "@") choice_type) (var property)))))
+
+-- ?f:ind->ind. ONE_ONE f /\ ~ONTO f
+abbrev pub infinite : Named
+infinite =
+    let f : List ℕ × TypeTree = (codes "f", fun_type ind_type ind_type) in
+    existential f
+    (conjunction (comb (function_property (codes "ONE_ONE") ind_type ind_type) (var f))
+      (comb negation_sign (comb (function_property (codes "ONTO") ind_type ind_type) (var f))))
+
+abbrev pub postulated : Postulate → Named
+postulated TDef = defining (codes "T") bool_type (named_equation (fun_type bool_type bool_type) identity identity)
+postulated AndDef = defining (codes "/\\") connective_type (of_two both)
+postulated ImpDef = defining (codes "==>") connective_type (of_two (λ p q. equivalence (conjunction p q) p))
+postulated ForallDef = defining (codes "!") binder_type everywhere
+postulated ExistsDef = defining (codes "?") binder_type somewhere
+postulated OrDef = defining (codes "\\/") connective_type (of_two either)
+postulated FDef = defining (codes "F") bool_type (universal (boolean (codes "p")) (var (boolean (codes "p"))))
+postulated NotDef = defining (codes "~") (fun_type bool_type bool_type) (abs (boolean (codes "p")) (implication (var (boolean (codes "p"))) falsity))
+postulated ExistsUniqueDef = defining (codes "?!") binder_type once
+postulated EtaAx = eta
+postulated SelectAx = chosen
+postulated OneOne = defining (codes "ONE_ONE") function_property_type injective
+postulated Onto = defining (codes "ONTO") function_property_type surjective
+postulated InfinityAx = infinite
+
+-- the statement of a definition or an axiom of the prelude
+abbrev pub statement_of : Postulate → Nameless
+statement_of which = nameless [] (postulated which)
