@@ -6,3 +6,4 @@ pub mod Variant
 pub mod AlphaOrder
 pub mod CodeOrder
 pub mod Ordered
+pub mod FreeName

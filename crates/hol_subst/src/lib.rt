@@ -5,10 +5,14 @@ mod alpha;
 #[cfg(test)]
 mod alpha_tests;
 mod error;
+mod names;
+#[cfg(test)]
+mod names_tests;
 #[cfg(test)]
 mod tests;
 mod variants;
 
 pub use alpha::{aconv, alpha_order, alpha_order_is_total};
 pub use error::SubstError;
+pub use names::free_name;
 pub use variants::variant;
