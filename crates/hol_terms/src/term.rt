@@ -49,12 +49,13 @@ impl<T: Drop> From<AllocFailed<T>> for TermError {
     }
 }
 
-/// A well typed term. Its copies share their nodes.
+/// A well typed term. It keeps its type and its size, and copies share their nodes.
 #[cycle(term)]
 #[derive(Drop)]
 pub struct Term {
     node: Rc<TermNode>,
     ty: Ty,
+    size: u32,
 }
 
 /// The top node of a term.
@@ -72,8 +73,9 @@ pub enum TermNode {
 }
 
 impl Model for Term {
-    ghost use Rattle.std.specs.Prelude.{◌≡◌, Some};
+    ghost use Rattle.std.specs.Prelude.{◌≡◌, Some, min};
     ghost use Rattle.hol_terms.specs.Named.{Named, named_type, term_nodes};
+    ghost use Rattle.hol_terms.specs.Size.{named_size};
     ghost use Rattle.hol_terms.specs.Code.{coded_named};
 
     ghost Value = { Named };
@@ -84,7 +86,7 @@ impl Model for Term {
 
     ghost view = { λ a. named_of a.node.value };
 
-    ghost invariant = { λ a. named_type (named_of a.node.value) ≡ Some a.ty };
+    ghost invariant = { λ a. (named_type (named_of a.node.value) ≡ Some a.ty) × (a.size ≡ min (named_size (named_of a.node.value)) 20001) };
 
     ghost size = { term_nodes };
 
@@ -103,10 +105,7 @@ impl Term {
     {
         let ty = variable.ty().copy()?;
         let node = TermNode::Var(variable.copy()?);
-        Ok(Term {
-            node: Rc::new(alloc, node)?,
-            ty,
-        })
+        Ok(Term::from_node(alloc, node, ty)?)
     }
 
     /// The constant of this name and type.
@@ -117,10 +116,8 @@ impl Term {
         ensures memory { IsOkUnless result TermError.Memory }
     {
         let node = TermNode::Const(name.copy()?, ty.copy()?);
-        Ok(Term {
-            node: Rc::new(alloc, node)?,
-            ty: ty.copy()?,
-        })
+        let ty = ty.copy()?;
+        Ok(Term::from_node(alloc, node, ty)?)
     }
 
     /// The application of `f` to `x`.
@@ -137,12 +134,8 @@ impl Term {
             return Err(TermError::TypesDontFit);
         };
         let ty = range.copy()?;
-        let f = f.copy()?;
-        let x = x.copy()?;
-        Ok(Term {
-            node: Rc::new(alloc, TermNode::Comb(f, x))?,
-            ty,
-        })
+        let node = TermNode::Comb(f.copy()?, x.copy()?);
+        Ok(Term::from_node(alloc, node, ty)?)
     }
 
     /// The abstraction of the variable that the term `variable` is, in `body`.
@@ -169,11 +162,21 @@ impl Term {
         ensures memory { IsOkUnless result TermError.Memory }
     {
         let ty = Ty::fun(alloc, v.ty(), body.type_of())?;
-        let v = v.copy()?;
-        let body = body.copy()?;
+        let node = TermNode::Abs(v.copy()?, body.copy()?);
+        Ok(Term::from_node(alloc, node, ty)?)
+    }
+
+    // The term with this top node, whose type is `ty`.
+    fn from_node(alloc: Global, node: TermNode, ty: Ty) -> Result<Term, TermError>
+        requires { named_type (named_of node) ≡ Some ty }
+        ensures ok { IfOk result (λ t. t ≡ named_of node) }
+        ensures memory { IsOkUnless result TermError.Memory }
+    {
+        let size = node.size();
         Ok(Term {
-            node: Rc::new(alloc, TermNode::Abs(v, body))?,
+            node: Rc::new(alloc, node)?,
             ty,
+            size,
         })
     }
 
@@ -187,6 +190,7 @@ impl Term {
         Ok(Term {
             node: self.node.clone()?,
             ty: self.ty.copy()?,
+            size: self.size,
         })
     }
 
@@ -206,23 +210,25 @@ impl Term {
 
     /// Whether the two are equal as nameless terms, base names of bound variables included.
     ///
-    /// Takes no memory. Shared nodes are compared again at each place where they stand.
-    #[tactic(auto, using(crate::proofs::Same::same_terms_decides))]
+    /// Takes no memory. Terms of different sizes are told apart at once. Else shared nodes are compared again at each place where
+    /// they stand, up to the first difference.
+    #[tactic(auto, using(crate::proofs::Same::same_terms_decides, crate::proofs::Size::same_sizes))]
     pub fn same(&self, other: &Term) -> bool
         ensures { IsTrue result ↔ (nameless [] self.now ≡ nameless [] other.now) }
     {
-        self.same_under(&Scope::Outside, other, &Scope::Outside, true)
+        self.size == other.size && self.same_under(&Scope::Outside, other, &Scope::Outside, true)
     }
 
     /// Whether the two are alpha equivalent: equal as nameless terms where base names are left out.
     ///
-    /// Takes no memory. Shared nodes are compared again at each place where they stand.
-    #[tactic(auto, using(crate::proofs::Alpha::alpha_equivalence))]
+    /// Takes no memory. Terms of different sizes are told apart at once. Else shared nodes are compared again at each place where
+    /// they stand, up to the first difference.
+    #[tactic(auto, using(crate::proofs::Alpha::alpha_equivalence, crate::proofs::Size::alpha_sizes))]
     pub fn alpha_equivalent(&self, other: &Term) -> bool
         ensures test { result ≡ alpha_eq (nameless [] self.now) (nameless [] other.now) }
         ensures equal { IsTrue result ↔ (strip (nameless [] self.now) ≡ strip (nameless [] other.now)) }
     {
-        self.same_under(&Scope::Outside, other, &Scope::Outside, false)
+        self.size == other.size && self.same_under(&Scope::Outside, other, &Scope::Outside, false)
     }
 
     // Whether the two agree under their binders. Base names count only where `with_bases` says so.
@@ -249,35 +255,13 @@ impl Term {
     /// The size: a variable, also a bound occurrence, or a constant counts 1 and its type's nodes, an application 1 and both
     /// parts, an abstraction 1, the nodes of the bound variable's type, and the body. Answers the count, or 20,001 for more.
     ///
-    /// Takes no memory, and looks at no more than 20,001 nodes.
+    /// Takes no memory. Each term keeps it, so this is at once.
     #[tactic(auto, using(crate::proofs::Size::size_is))]
     pub fn size(&self) -> u32
         ensures named { result ≡ min (named_size self.now) 20001 }
         ensures size { result ≡ min (term_size [] (nameless [] self.now)) 20001 }
     {
-        self.size_within(20_001)
-    }
-
-    // The least of the size and `limit`.
-    fn size_within(&self, limit: u32) -> u32
-        ensures { result ≡ min (named_size self.now) limit }
-    {
-        if limit == 0 {
-            return 0;
-        }
-        let left = limit - 1;
-        match &*self.node {
-            TermNode::Var(v) => 1 + v.ty().size_within(left),
-            TermNode::Const(_, ty) => 1 + ty.size_within(left),
-            TermNode::Comb(f, x) => {
-                let function = f.size_within(left);
-                1 + function + x.size_within(left - function)
-            }
-            TermNode::Abs(v, b) => {
-                let ty = v.ty().size_within(left);
-                1 + ty + b.size_within(left - ty)
-            }
-        }
+        self.size
     }
 
     /// Whether the variable occurs free.
@@ -335,6 +319,24 @@ impl Term {
             }
             TermNode::Abs(v, b) => b.add_frees(&Scope::Inside(v, &*scope), found),
         }
+    }
+}
+
+// The most that a size says.
+const LARGEST_SIZE: u32 = 20_001;
+
+impl TermNode {
+    // The size of the term with this top node.
+    fn size(&self) -> u32
+        ensures { result ≡ min (named_size (named_of self.now)) 20001 }
+    {
+        let parts = match self {
+            TermNode::Var(v) => v.ty().size(),
+            TermNode::Const(_, ty) => ty.size(),
+            TermNode::Comb(f, x) => f.size() + x.size(),
+            TermNode::Abs(v, b) => v.ty().size() + b.size(),
+        };
+        (1 + parts).min(LARGEST_SIZE)
     }
 }
 

@@ -1,5 +1,5 @@
 -- The order of types is total, and ties at equal types alone.
-use Rattle.std.proofs.Common.{◌≡◌, ℕ, ◌+◌, List, [], ◌∷◌, refl, sym, ap, ◌∙◌, subst, arith, true}
+use Rattle.std.proofs.Common.{◌≡◌, ◌≢◌, ℕ, ◌+◌, min, List, [], ◌∷◌, refl, sym, ap, ◌∙◌, subst, arith, Bool, true, false}
 use Rattle.std.specs.Ordering.{nat_cmp, ordering_then, is_eq}
 use Rattle.std.specs.Bool.{Decides}
 use Rattle.std.specs.Cmp.{IsTotalOrder, on_total, Equal-is, nat_cmp_is}
@@ -9,7 +9,7 @@ use Rattle.std.specs.declared.cmp.Ordering.{Ordering}
 use Rattle.std.specs.declared.cmp.Ordering.TheVariants.{Less, Equal, Greater}
 use Rattle.std.proofs.lemmas.Map.Text.{is_eq-slice_cmp}
 use Rattle.std.proofs.lemmas.Slice.Eq.{bytes_eq-Decides}
-use Rattle.hol_types.specs.Tree.{TypeTree, TypeList, TyVar, TyApp, no_types, more_types}
+use Rattle.hol_types.specs.Tree.{TypeTree, TypeList, TyVar, TyApp, no_types, more_types, type_size}
 use Rattle.hol_types.specs.Order.{name_cmp, type_cmp, types_cmp}
 
 pub then_equal : (r s : Ordering) → ordering_then r s ≡ Equal → (r ≡ Equal) × (s ≡ Equal)
@@ -51,6 +51,14 @@ mutual
 
 pub type_cmp_decides : (s t : TypeTree) → Decides (is_eq (type_cmp s t)) (s ≡ t)
 type_cmp_decides s t = (λ e. type_equal s t ((Equal-is (type_cmp s t)).0 e), λ e. subst (λ u. is_eq (type_cmp s u) ≡ true) e (ap is_eq (type_same s)))
+
+-- equal types have one size
+pub sizes_differ : (s t : TypeTree) → min (type_size s) 20001 ≢ min (type_size t) 20001 → is_eq (type_cmp s t) ≡ false
+sizes_differ s t h = by (is_eq (type_cmp s t)) refl
+  where
+    by : (b : Bool) → is_eq (type_cmp s t) ≡ b → b ≡ false
+    by true e = absurd (h (ap (λ u. min (type_size u) 20001) ((type_cmp_decides s t).0 e)))
+    by false e = refl
 
 -- A type as a list of numbers, none of which begins another: the order of types is the order of these lists.
 abbrev name_key : List ℕ → List ℕ → List ℕ

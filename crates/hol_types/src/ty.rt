@@ -17,11 +17,12 @@ use std::cmp::Ordering;
 use std::marker::Model;
 use std::rc::Rc;
 
-/// A type: a variable, or a constructor with its arguments. Copies share their nodes.
+/// A type: a variable, or a constructor with its arguments. It keeps its size, and copies share their nodes.
 #[cycle(ty)]
 #[derive(Drop)]
 pub struct Ty {
     node: Rc<TyNode>,
+    size: u32,
 }
 
 /// The top node of a type.
@@ -35,6 +36,7 @@ pub enum TyNode {
 }
 
 impl Model for Ty {
+    ghost use Rattle.std.specs.Prelude.{◌≡◌, min};
     ghost use Rattle.hol_types.specs.Tree.{TypeTree, type_size};
     ghost use Rattle.hol_types.specs.Code.{coded_type};
 
@@ -45,6 +47,8 @@ impl Model for Ty {
     ghost use Rattle.hol_types.specs.View.{tree_of};
 
     ghost view = { λ a. tree_of a.node.value };
+
+    ghost invariant = { λ a. a.size ≡ min (type_size (tree_of a.node.value)) 20001 };
 
     ghost size = { type_size };
 
@@ -80,8 +84,10 @@ impl Ty {
     fn from_node(alloc: Global, node: TyNode) -> Result<Ty, AllocError>
         ensures { IfOk result (λ ty. ty ≡ tree_of node) }
     {
+        let size = node.size();
         Ok(Ty {
             node: Rc::new(alloc, node)?,
+            size,
         })
     }
 
@@ -93,6 +99,7 @@ impl Ty {
     {
         Ok(Ty {
             node: self.node.clone()?,
+            size: self.size,
         })
     }
 
@@ -137,37 +144,13 @@ impl Ty {
         }
     }
 
-    /// The number of nodes, or `limit` where there are more.
-    ///
-    /// Takes no memory, and looks at no more than `limit` nodes however they are shared.
-    pub fn size_within(&self, limit: u32) -> u32
-        ensures { result ≡ min (type_size self.now) limit }
-    {
-        if limit == 0 {
-            return 0;
-        }
-        match &*self.node {
-            TyNode::Var(_) => 1,
-            TyNode::App(_, args) => {
-                let mut count = 1;
-                for arg in args {
-                    count += arg.size_within(limit - count);
-                    if count == limit {
-                        return limit;
-                    }
-                }
-                count
-            }
-        }
-    }
-
     /// The size: the number of nodes, or 20,001 where there are more.
     ///
-    /// Takes no memory.
+    /// Takes no memory. Each type keeps it, so this is at once.
     pub fn size(&self) -> u32
         ensures { result ≡ min (type_size self.now) 20001 }
     {
-        self.size_within(20_001)
+        self.size
     }
 
     /// The type in which each variable's place is taken by the type of the first pair with its name. A variable with no pair stays.
@@ -194,18 +177,21 @@ impl Ty {
 
     /// Whether the two types are equal.
     ///
-    /// Takes no memory. Shared nodes are compared again at each place where they stand.
-    #[tactic(auto, using(crate::proofs::OrderLaws::type_cmp_decides))]
+    /// Takes no memory. Types of different sizes are told apart at once. Else shared nodes are compared again at each place where
+    /// they stand, up to the first difference: two types of one size may share all their nodes, and this can't be seen, since
+    /// std's `Rc::ptr_eq` promises nothing.
+    #[tactic(auto, using(crate::proofs::OrderLaws::type_cmp_decides, crate::proofs::OrderLaws::sizes_differ))]
     pub fn same(&self, other: &Ty) -> bool
         ensures test { result ≡ type_eq self.now other.now }
         ensures equal { IsTrue result ↔ (self.now ≡ other.now) }
     {
-        self.order(other).is_eq()
+        self.size == other.size && self.order(other).is_eq()
     }
 
     /// The order of types: variables before applications, then by the bytes of the name, then by the arguments from the left.
     ///
-    /// It is total (`order_is_total`). Takes no memory. Shared nodes are compared again at each place where they stand.
+    /// It is total (`order_is_total`). Takes no memory. Shared nodes are compared again at each place where they stand, up to the
+    /// first difference.
     #[tactic(auto, using(crate::proofs::Steps::ends_less))]
     pub fn order(&self, other: &Ty) -> Ordering
         ensures { result ≡ type_cmp self.now other.now }
@@ -315,6 +301,27 @@ impl Ty {
                     }
                 }
                 Ok(us.len() <= ts.len())
+            }
+        }
+    }
+}
+
+// The most that a size says.
+const LARGEST_SIZE: u32 = 20_001;
+
+impl TyNode {
+    // The size of the type with this top node.
+    fn size(&self) -> u32
+        ensures { result ≡ min (type_size (tree_of self.now)) 20001 }
+    {
+        match self {
+            TyNode::Var(_) => 1,
+            TyNode::App(_, args) => {
+                let mut count = 1;
+                for arg in args {
+                    count = (count + arg.size()).min(LARGEST_SIZE);
+                }
+                count
             }
         }
     }
