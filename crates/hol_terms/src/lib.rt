@@ -2,6 +2,7 @@
 #![tactic(auto)]
 
 mod base;
+mod filter;
 mod scope;
 mod term;
 #[cfg(test)]

@@ -7,10 +7,12 @@ ghost use Rattle.hol_terms.specs.Scoped.{binds, same_named, add_all, occurs_in};
 ghost use Rattle.hol_terms.specs.Scope.{binders};
 ghost use Rattle.hol_terms.specs.Alpha.{strip, alpha_eq};
 ghost use Rattle.hol_terms.specs.Size.{named_size, term_size};
+ghost use Rattle.hol_terms.specs.Filter.{filter_of};
 ghost use Rattle.hol_terms.specs.View.{named_of};
 ghost use Rattle.hol_terms.specs.declared.term.TermError.TheVariants.{Memory};
 
 use crate::base::base_name;
+use crate::filter::Filter;
 use crate::scope::{Scope, same_place};
 use crate::variable::Variable;
 use hol_types::{Name, Ty};
@@ -49,13 +51,14 @@ impl<T: Drop> From<AllocFailed<T>> for TermError {
     }
 }
 
-/// A well typed term. It keeps its type and its size, and copies share their nodes.
+/// A well typed term. It keeps its type, its size and a filter of its free variables, and copies share their nodes.
 #[cycle(term)]
 #[derive(Drop)]
 pub struct Term {
     node: Rc<TermNode>,
     ty: Ty,
     size: u32,
+    filter: Filter,
 }
 
 /// The top node of a term.
@@ -76,6 +79,7 @@ impl Model for Term {
     ghost use Rattle.std.specs.Prelude.{◌≡◌, Some, min};
     ghost use Rattle.hol_terms.specs.Named.{Named, named_type, term_nodes};
     ghost use Rattle.hol_terms.specs.Size.{named_size};
+    ghost use Rattle.hol_terms.specs.Filter.{filter_of};
     ghost use Rattle.hol_terms.specs.Code.{coded_named};
 
     ghost Value = { Named };
@@ -86,7 +90,7 @@ impl Model for Term {
 
     ghost view = { λ a. named_of a.node.value };
 
-    ghost invariant = { λ a. (named_type (named_of a.node.value) ≡ Some a.ty) × (a.size ≡ min (named_size (named_of a.node.value)) 20001) };
+    ghost invariant = { λ a. (named_type (named_of a.node.value) ≡ Some a.ty) × (a.size ≡ min (named_size (named_of a.node.value)) 20001) × (a.filter.bits ≡ filter_of (named_of a.node.value)) };
 
     ghost size = { term_nodes };
 
@@ -173,10 +177,12 @@ impl Term {
         ensures memory { IsOkUnless result TermError.Memory }
     {
         let size = node.size();
+        let filter = node.filter();
         Ok(Term {
             node: Rc::new(alloc, node)?,
             ty,
             size,
+            filter,
         })
     }
 
@@ -191,6 +197,7 @@ impl Term {
             node: self.node.clone()?,
             ty: self.ty.copy()?,
             size: self.size,
+            filter: self.filter,
         })
     }
 
@@ -287,6 +294,16 @@ impl Term {
         }
     }
 
+    /// Whether the variable may occur free: where it does, the answer is `true`. So `false` says that it doesn't, and spares a walk.
+    ///
+    /// Takes no memory and no more time for a larger term: each term keeps 64 bits, of which each variable's name has one.
+    #[tactic(auto, using(crate::proofs::Filters::occurs_filter))]
+    pub fn may_have_free(&self, v: &Variable) -> bool
+        ensures { IsTrue (occurs_in v.now self.now) → IsTrue result }
+    {
+        self.filter.has(v.place())
+    }
+
     /// The free variables, each once, by first occurrence.
     ///
     /// Answers `Memory` where memory is short, and no other error.
@@ -337,6 +354,18 @@ impl TermNode {
             TermNode::Abs(v, b) => v.ty().size() + b.size(),
         };
         (1 + parts).min(LARGEST_SIZE)
+    }
+
+    // The filter of the term with this top node. A bound variable's name stays in it: another free variable may have its place.
+    fn filter(&self) -> Filter
+        ensures { result.bits ≡ filter_of (named_of self.now) }
+    {
+        match self {
+            TermNode::Var(v) => Filter::only(v.place()),
+            TermNode::Const(_, _) => Filter::empty(),
+            TermNode::Comb(f, x) => f.filter.union(x.filter),
+            TermNode::Abs(_, b) => b.filter,
+        }
     }
 }
 

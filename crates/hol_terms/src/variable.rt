@@ -1,7 +1,9 @@
 //! Variables: a name and a type.
-ghost use Rattle.std.specs.Prelude.{◌≡◌, IfOk, ◌++◌, ◌∷◌, []};
+ghost use Rattle.std.specs.Prelude.{◌≡◌, ◌<◌, IfOk, ◌++◌, ◌∷◌, []};
 ghost use Rattle.hol_types.specs.Equal.{variable_eq};
+ghost use Rattle.hol_terms.specs.Filter.{name_place};
 
+use crate::filter::place_of;
 use hol_types::{Name, Ty};
 use std::alloc::{AllocError, Global};
 use std::marker::Model;
@@ -11,18 +13,23 @@ use std::marker::Model;
 pub struct Variable {
     name: Name,
     ty: Ty,
+    place: u32,
 }
 
 impl Model for Variable {
     ghost use Rattle.std.specs.Prelude.{ℕ, List};
     ghost use Rattle.hol_types.specs.Tree.{TypeTree};
+    ghost use Rattle.std.specs.Prelude.{◌≡◌};
     ghost use Rattle.hol_terms.specs.Code.{coded_variable};
+    ghost use Rattle.hol_terms.specs.Filter.{name_place};
 
     ghost Value = { List ℕ × TypeTree };
 
     ghost coded = { coded_variable };
 
     ghost view = { λ a. (a.name, a.ty) };
+
+    ghost invariant = { λ a. a.place ≡ name_place 0 a.name };
 }
 
 impl Variable {
@@ -32,9 +39,11 @@ impl Variable {
     pub fn new(name: &Name, ty: &Ty) -> Result<Variable, AllocError>
         ensures { IfOk result (λ v. v ≡ (name.now, ty.now)) }
     {
+        let place = place_of(name);
         Ok(Variable {
             name: name.copy()?,
             ty: ty.copy()?,
+            place,
         })
     }
 
@@ -61,6 +70,7 @@ impl Variable {
         Ok(Variable {
             name: self.name.copy()?,
             ty: self.ty.copy()?,
+            place: self.place,
         })
     }
 
@@ -79,9 +89,21 @@ impl Variable {
     pub fn primed(&self, alloc: Global) -> Result<Variable, AllocError>
         ensures { IfOk result (λ v. v ≡ (self.now.0 ++ 39 ∷ [], self.now.1)) }
     {
+        let name = self.name.primed(alloc)?;
+        let place = place_of(&name);
         Ok(Variable {
-            name: self.name.primed(alloc)?,
+            name,
             ty: self.ty.copy()?,
+            place,
         })
+    }
+
+    // The place of its name in filters. Each variable keeps it.
+    #[tactic(auto, using(crate::proofs::Filters::variable_place))]
+    pub(crate) fn place(&self) -> u32
+        ensures place { result ≡ name_place 0 self.now.0 }
+        ensures within { result < 64 }
+    {
+        self.place
     }
 }
