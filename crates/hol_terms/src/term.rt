@@ -273,7 +273,7 @@ impl Term {
 
     /// Whether the variable occurs free.
     ///
-    /// Takes no memory.
+    /// Takes no memory. Parts that `may_have_free` excludes are passed over.
     #[tactic(auto, using(crate::proofs::Occurs::occurs_is))]
     pub fn vfree_in(&self, v: &Variable) -> bool
         ensures named { result ≡ occurs_in v.now self.now }
@@ -286,6 +286,9 @@ impl Term {
     fn occurs(&self, v: &Variable) -> bool
         ensures { result ≡ occurs_in v.now self.now }
     {
+        if !self.may_have_free(v) {
+            return false;
+        }
         match &*self.node {
             TermNode::Var(w) => w.same(v),
             TermNode::Const(_, _) => false,

@@ -137,3 +137,51 @@ fn a_base_name_has_no_primes_at_its_end(rt: HostRuntime) {
     assert_eq!(rt; base_name("x'y"), "x'y");
     assert_eq!(rt; base_name("''"), "");
 }
+
+// A variable of type bool -> bool -> bool.
+fn connective(alloc: Global) -> Result<Term, TermError> {
+    let name = Name::new(alloc, "f")?;
+    let bool_type = bool_type(alloc)?;
+    let unary = Ty::fun(alloc, &bool_type, &bool_type)?;
+    let binary = Ty::fun(alloc, &bool_type, &unary)?;
+    Term::var(alloc, &Variable::new(&name, &binary)?)
+}
+
+// A term whose tree has the variable `text` at 2^60 places, over two nodes a level.
+fn doubled(alloc: Global, text: &str) -> Result<Term, TermError> {
+    let f = connective(alloc)?;
+    let mut t = leaf(alloc, text)?;
+    for _ in 0..60 {
+        let first = Term::comb(alloc, &f, &t)?;
+        t = Term::comb(alloc, &first, &t)?;
+    }
+    Ok(t)
+}
+
+// The next three would not end in the reader's lifetime if a call walked the tree.
+#[test]
+fn a_shared_term_has_its_size_and_type_at_once(rt: HostRuntime) -> Result<(), Fail> {
+    let t = doubled(rt.alloc(), "p")?;
+    assert_eq!(rt; t.size(), 20_001);
+    assert!(rt; t.type_of().same(&bool_type(rt.alloc())?));
+    Ok(())
+}
+
+#[test]
+fn a_shared_term_tells_at_once_what_is_not_free(rt: HostRuntime) -> Result<(), Fail> {
+    let t = doubled(rt.alloc(), "p")?;
+    assert!(rt; t.may_have_free(&variable(rt.alloc(), "p")?));
+    assert!(rt; !t.may_have_free(&variable(rt.alloc(), "q")?));
+    assert!(rt; !t.vfree_in(&variable(rt.alloc(), "q")?));
+    Ok(())
+}
+
+#[test]
+fn shared_terms_are_compared_up_to_the_first_difference(rt: HostRuntime) -> Result<(), Fail> {
+    let t = doubled(rt.alloc(), "p")?;
+    let u = doubled(rt.alloc(), "q")?;
+    assert!(rt; !t.same(&u));
+    assert!(rt; !t.alpha_equivalent(&u));
+    assert!(rt; !t.alpha_equivalent(&leaf(rt.alloc(), "p")?));
+    Ok(())
+}

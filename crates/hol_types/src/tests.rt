@@ -1,6 +1,7 @@
 //! Each call that takes memory is seen to have an answer, which no clause can promise.
 use crate::{Name, Ty, TyNode};
 use std::alloc::{AllocError, Global};
+use std::cmp::Ordering;
 use std::test::Fail;
 
 fn variable(alloc: Global, text: &str) -> Result<Ty, AllocError> {
@@ -131,5 +132,40 @@ fn matching_finds_no_pair(rt: HostRuntime) -> Result<(), Fail> {
     let target = function(rt.alloc(), "bool", "ind")?;
     let found = endofunction(rt.alloc())?.match_to(rt.alloc(), &target)?;
     assert!(rt; found.is_none());
+    Ok(())
+}
+
+// A type whose tree has 2^`levels` leaves, over one node a level.
+fn doubled(alloc: Global, levels: u32) -> Result<Ty, AllocError> {
+    let mut ty = variable(alloc, "A")?;
+    for _ in 0..levels {
+        ty = Ty::fun(alloc, &ty, &ty)?;
+    }
+    Ok(ty)
+}
+
+// The next two would not end in the reader's lifetime if a call walked the tree.
+#[test]
+fn a_shared_type_has_its_size_at_once(rt: HostRuntime) -> Result<(), Fail> {
+    assert_eq!(rt; doubled(rt.alloc(), 13)?.size(), 16_383);
+    assert_eq!(rt; doubled(rt.alloc(), 60)?.size(), 20_001);
+    Ok(())
+}
+
+#[test]
+fn a_shared_type_is_compared_up_to_the_first_difference(rt: HostRuntime) -> Result<(), Fail> {
+    let large = doubled(rt.alloc(), 60)?;
+    let larger = doubled(rt.alloc(), 61)?;
+    assert_eq!(rt; large.order(&larger), Ordering::Less);
+    assert!(rt; !larger.same(&large));
+    Ok(())
+}
+
+#[test]
+fn a_variable_comes_before_a_shared_type(rt: HostRuntime) -> Result<(), Fail> {
+    let small = variable(rt.alloc(), "A")?;
+    let large = doubled(rt.alloc(), 60)?;
+    assert_eq!(rt; small.order(&large), Ordering::Less);
+    assert!(rt; !small.same(&large));
     Ok(())
 }
