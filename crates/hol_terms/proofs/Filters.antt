@@ -1,7 +1,6 @@
 -- A variable that occurs free has its bit in the filter.
-use Rattle.std.proofs.Common.{◌≡◌, ℕ, ◌+◌, ◌*◌, ◌^◌, ◌%◌, ◌<◌, List, [], ◌∷◌, refl, ap, sym, ◌∙◌, ◌/◌, subst, Bool, true, false, ◌||◌, cond, arith, lit<}
+use Rattle.std.proofs.Common.{◌≡◌, ℕ, ◌+◌, ◌*◌, ◌^◌, ◌%◌, ◌<◌, List, [], ◌∷◌, refl, ap, ◌∙◌, ◌/◌, subst, Bool, true, false, ◌||◌, cond, arith, lit<}
 use Rattle.std.specs.Int.{bit_at}
-use Rattle.std.specs.Int.RustNames.{bit_or}
 use lib.Bits.{bit_and}
 use Rattle.std.proofs.lemmas.Nat.Bits.{bit_at_or, bit_at-pow_same, bit_at-lt, shr_and_one}
 use Rattle.std.proofs.Math.Nat.{one-mul, mod-eq_of_lt}
