@@ -3,3 +3,8 @@ pub mod Closing
 pub mod AlphaOrder
 pub mod CodeOrder
 pub mod FreeName
+pub mod Commute
+pub mod Typing
+pub mod Rest
+pub mod Taken
+pub mod Steps

@@ -7,3 +7,4 @@ pub mod AlphaOrder
 pub mod CodeOrder
 pub mod Ordered
 pub mod FreeName
+pub mod Capture

@@ -8,6 +8,8 @@ mod error;
 mod names;
 #[cfg(test)]
 mod names_tests;
+mod pairs;
+mod substitution;
 #[cfg(test)]
 mod tests;
 mod variants;
@@ -15,4 +17,5 @@ mod variants;
 pub use alpha::{aconv, alpha_order, alpha_order_is_total};
 pub use error::SubstError;
 pub use names::free_name;
+pub use substitution::vsubst;
 pub use variants::variant;

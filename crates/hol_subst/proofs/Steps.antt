@@ -1,0 +1,83 @@
+-- The cases of substitution in a named term, for what the code has at its ends.
+use Rattle.std.proofs.Common.{◌≡◌, ℕ, ◌+◌, ◌<◌, ◌≤◌, List, [], ◌∷◌, length, drop, get_or, refl, ap, sym, ◌∙◌, Bool, true, false, cond, subst, Option, Some, None, unwrap_or, inl, inr, ◌⊎◌, ◌↔◌}
+use Rattle.hol_types.specs.Tree.{TypeTree}
+use Rattle.hol_types.specs.Equal.{variable_eq}
+use Rattle.hol_terms.specs.Named.{Named, var, constant, comb, abs, named_type}
+use Rattle.hol_terms.specs.Nameless.{Nameless, free, app, nameless, nameless_type}
+use Rattle.hol_terms.proofs.Same.{variable_eq_decides}
+use Rattle.hol_terms.proofs.Typing.{type_outside}
+use Rattle.hol_subst.specs.Substitution.{term_lookup, term_for, term_subst}
+use Rattle.hol_subst.specs.Pairs.{nameless_pairs, IsGoodPair, HasBadPair}
+use Rattle.hol_subst.specs.Capture.{named_pairs, Fit, comes_in, IsRest, IsRenaming}
+use Rattle.hol_subst.proofs.Closing.{shift_whole}
+use Rattle.hol_subst.proofs.Commute.{subst_agree}
+use Rattle.hol_subst.proofs.Typing.{AllTyped, subst_type}
+use Rattle.hol_subst.proofs.Rest.{next_pair, drop-all}
+use Rattle.hol_subst.proofs.Taken.{closed_pairs, kept, renamed}
+
+abbrev Var : Type 0
+Var = List ℕ × TypeTree
+
+abbrev NamedPairs : Type 0
+NamedPairs = List (Named × (List ℕ × TypeTree))
+
+-- what the term r is where it stands for t after substitution
+abbrev pub IsSubst : List (Named × (List ℕ × TypeTree)) → Named → Named → Type 0
+IsSubst ps t r = nameless [] r ≡ term_subst (named_pairs ps) 0 (nameless [] t)
+
+-- ---- types
+pub fit_typed : (ps : List (Named × (List ℕ × TypeTree))) → Fit ps → AllTyped (named_pairs ps)
+fit_typed [] h w = refl
+fit_typed (p ∷ ps) h w = by (variable_eq p.1 w) refl (fit_typed ps h.1 w)
+  where
+    by : (b : Bool) → variable_eq p.1 w ≡ b → nameless_type [] (term_for (named_pairs ps) w) ≡ Some w.1 → nameless_type [] (unwrap_or (cond b (Some (nameless [] p.0)) (term_lookup (named_pairs ps) w)) (free w)) ≡ Some w.1
+    by true q r = type_outside p.0 ∙ h.0 ∙ ap (λ x. Some x.1) ((variable_eq_decides p.1 w).0 q)
+    by false q r = r
+
+pub kept_type : (ps : List (Named × (List ℕ × TypeTree))) (t r : Named) → Fit ps → IsSubst ps t r → named_type r ≡ named_type t
+kept_type ps t r h e = sym (type_outside r) ∙ ap (nameless_type []) e ∙ subst_type (named_pairs ps) [] 0 (nameless [] t) (fit_typed ps h) ∙ type_outside t
+
+pub comb_typed : (ps : List (Named × (List ℕ × TypeTree))) (t f x g y : Named) (s : TypeTree) → Fit ps → t ≡ comb f x → named_type t ≡ Some s → IsSubst ps f g → IsSubst ps x y → named_type (comb g y) ≡ None → ⊥
+comb_typed ps t f x g y s h e k p q n =
+    let i : IsSubst ps (comb f x) (comb g y) = (λ j. app (p j) (q j)) in
+    let z : None ≡ Some s = sym n ∙ kept_type ps (comb f x) (comb g y) h i ∙ ap named_type (sym e) ∙ k in
+    absurd (cc)
+
+pub renaming_fits : (rest pairs : List (Named × (List ℕ × TypeTree))) (b : Named) (v u : List ℕ × TypeTree) → Fit rest → IsRenaming rest b v u → pairs ≡ (var u, v) ∷ rest → Fit pairs
+renaming_fits rest pairs b v u h i e = subst Fit (sym e) (ap (λ x. Some x.1) i.is, h)
+
+-- ---- cases
+pub at_var : (ps : List (Named × (List ℕ × TypeTree))) (t : Named) (v : List ℕ × TypeTree) (o : Option Named) → t ≡ var v → nameless [] (unwrap_or o (var v)) ≡ term_for (named_pairs ps) v → IsSubst ps t (unwrap_or o t)
+at_var ps t v o e h = subst (λ x. IsSubst ps x (unwrap_or o x)) (sym e) (h ∙ sym (shift_whole 0 0 (term_for (named_pairs ps) v) (closed_pairs ps v)))
+
+pub at_const : (ps : List (Named × (List ℕ × TypeTree))) (t : Named) (c : List ℕ) (s : TypeTree) → t ≡ constant c s → IsSubst ps t t
+at_const ps t c s e = subst (λ x. IsSubst ps x x) (sym e) refl
+
+pub at_comb : (ps : List (Named × (List ℕ × TypeTree))) (t f x g y : Named) (o : Option Named) → t ≡ comb f x → IsSubst ps f g → IsSubst ps x y → unwrap_or o (comb f x) ≡ comb g y → IsSubst ps t (unwrap_or o t)
+at_comb ps t f x g y o e p q r = subst (λ z. IsSubst ps z (unwrap_or o z)) (sym e) (ap (nameless []) r ∙ (λ j. app (p j) (q j)))
+
+pub at_kept : (ps rest : List (Named × (List ℕ × TypeTree))) (t b r : Named) (v : List ℕ × TypeTree) (o : Option Named) → t ≡ abs v b → IsRest v b ps rest → comes_in rest v b ≡ false → IsSubst rest b r → unwrap_or o (abs v b) ≡ abs v r → IsSubst ps t (unwrap_or o t)
+at_kept ps rest t b r v o e g n h k = subst (λ z. IsSubst ps z (unwrap_or o z)) (sym e) (ap (nameless []) k ∙ kept v b r ps rest g n h)
+
+pub at_renamed : (ps rest pairs : List (Named × (List ℕ × TypeTree))) (t b i r w : Named) (v u : List ℕ × TypeTree) → t ≡ abs v b → IsRest v b ps rest → IsRenaming rest b v u → pairs ≡ (var u, v) ∷ rest → IsSubst pairs b r → i ≡ r → w ≡ abs u i → IsSubst ps t w
+at_renamed ps rest pairs t b i r w v u e g n f h j k =
+    subst (λ z. IsSubst ps z w) (sym e) (ap (nameless []) (k ∙ ap (abs u) j) ∙ renamed v u b r ps rest g n (h ∙ ap (λ x. term_subst (named_pairs x) 0 (nameless [] b)) f))
+
+pub at_top : (pairs : List (Named × Named)) (found : List (Named × (List ℕ × TypeTree))) (t r q : Named) → ((w : List ℕ × TypeTree) → term_lookup (named_pairs found) w ≡ term_lookup (nameless_pairs pairs) w) → IsSubst found t r → q ≡ r → nameless [] q ≡ term_subst (nameless_pairs pairs) 0 (nameless [] t)
+at_top pairs found t r q h e f = ap (nameless []) f ∙ e ∙ subst_agree (named_pairs found) (nameless_pairs pairs) 0 (nameless [] t) (λ w g. ap (λ o. unwrap_or o (free w)) (h w))
+
+-- ---- bad pairs
+pub bad_here : (pairs : List (Named × Named)) (i : ℕ) (p : Named × Named) → (HasBadPair pairs ↔ HasBadPair (drop i pairs)) → i < length pairs → p ≡ get_or pairs i p → (IsGoodPair p → ⊥) → HasBadPair pairs
+bad_here pairs i p h l e b = h.1 (subst HasBadPair (sym (next_pair pairs i p l e)) (inl b))
+
+pub bad_later : (pairs : List (Named × Named)) (i : ℕ) (p : Named × Named) → (HasBadPair pairs ↔ HasBadPair (drop i pairs)) → i < length pairs → p ≡ get_or pairs i p → IsGoodPair p → HasBadPair pairs ↔ HasBadPair (drop (i + 1) pairs)
+bad_later pairs i p h l e g = (λ b. by (subst HasBadPair (next_pair pairs i p l e) (h.0 b)), λ b. h.1 (subst HasBadPair (sym (next_pair pairs i p l e)) (inr b)))
+  where
+    by : (IsGoodPair p → ⊥) ⊎ HasBadPair (drop (i + 1) pairs) → HasBadPair (drop (i + 1) pairs)
+    by (inl b) = absurd (b g)
+    by (inr b) = b
+
+pub bad_nowhere : (pairs : List (Named × Named)) (i : ℕ) → (HasBadPair pairs ↔ HasBadPair (drop i pairs)) → length pairs ≤ i → HasBadPair pairs → ⊥
+bad_nowhere pairs i h l b = subst HasBadPair (drop-all pairs i l) (h.0 b)
+
+pub ruleset bad_pairs = (bad_here, bad_later, bad_nowhere)

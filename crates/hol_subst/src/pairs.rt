@@ -1,0 +1,132 @@
+//! Lists of a term and a variable.
+ghost use Rattle.std.specs.Prelude.{◌≡◌, ◌∷◌, ◌++◌, [], true, false, IfOk, IsOkUnless, MatchOption, OnOk, Some, None};
+ghost use Rattle.hol_types.specs.Equal.{variable_eq};
+ghost use Rattle.hol_terms.specs.Named.{Named, var};
+ghost use Rattle.hol_terms.specs.Nameless.{nameless};
+ghost use Rattle.hol_terms.specs.declared.term.TermError.TheVariants.{Memory};
+ghost use Rattle.hol_terms.specs.Scoped.{occurs_in};
+ghost use Rattle.hol_subst.specs.Substitution.{term_lookup};
+ghost use Rattle.hol_subst.specs.Capture.{named_pairs, has_pair, comes_in, is_taken, IsRest, IsRenaming};
+
+use hol_terms::{Term, TermError, Variable};
+use std::alloc::Global;
+
+/// The term of the first pair of the variable.
+pub fn replacement<'a>(pairs: &'a [(Term, Variable)], v: &Variable) -> Option<&'a Term>
+    ensures { MatchOption result (term_lookup (named_pairs pairs.now) v.now ≡ None) (λ t. term_lookup (named_pairs pairs.now) v.now ≡ Some (nameless [] t.now)) }
+{
+    for pair in pairs {
+        if pair.1.same(v) {
+            return Some(&pair.0);
+        }
+    }
+    None
+}
+
+/// Whether some pair is of the variable.
+pub fn has_pair(pairs: &[(Term, Variable)], v: &Variable) -> bool
+    ensures { result ≡ has_pair pairs.now v.now }
+{
+    for pair in pairs {
+        if pair.1.same(v) {
+            return true;
+        }
+    }
+    false
+}
+
+/// Whether the variable is free in the term of a pair whose variable is free in `b`.
+pub fn comes_in(pairs: &[(Term, Variable)], v: &Variable, b: &Term) -> bool
+    ensures { result ≡ comes_in pairs.now v.now b.now }
+{
+    for pair in pairs {
+        if pair.0.vfree_in(v) && b.vfree_in(&pair.1) {
+            return true;
+        }
+    }
+    false
+}
+
+/// The pairs that are left in the body `b` of an abstraction over `v`.
+pub fn rest_of(
+    alloc: Global,
+    pairs: &[(Term, Variable)],
+    v: &Variable,
+    b: &Term,
+) -> Result<Vec<(Term, Variable)>, TermError>
+    ensures ok { IfOk result (λ rest. IsRest v.now b.now pairs.now rest.items) }
+    ensures memory { IsOkUnless result TermError.Memory }
+{
+    let mut rest = Vec::new(alloc);
+    for pair in pairs {
+        if stays(&pair.1, v, b) {
+            add_pair(&mut rest, &pair.0, &pair.1)?;
+        }
+    }
+    Ok(rest)
+}
+
+// Whether a pair of `u` is needed in the body `b` of an abstraction over `v`.
+fn stays(u: &Variable, v: &Variable, b: &Term) -> bool
+    ensures own { variable_eq u.now v.now ≡ true → result ≡ false }
+    ensures others { result ≡ false → variable_eq u.now v.now ≡ false → occurs_in u.now b.now ≡ false }
+{
+    !u.same(v) && b.may_have_free(u)
+}
+
+/// Puts the pair at the end.
+///
+/// Answers `Memory` where memory is short, and no other error.
+pub fn add_pair(
+    pairs: &mut Vec<(Term, Variable)>,
+    term: &Term,
+    v: &Variable,
+) -> Result<(), TermError>
+    ensures ok { OnOk result (pairs.new.items ≡ pairs.old.items ++ (term.now, v.now) ∷ []) }
+    ensures memory { IsOkUnless result TermError.Memory }
+{
+    pairs.push((term.copy()?, v.copy()?))?;
+    Ok(())
+}
+
+/// What a variable bound over `b` is called where the pairs are substituted in `b`: with the fewest primes more that make it free in
+/// nothing that is then in `b`.
+///
+/// The substituted body isn't made for this: its free variables are those of `b` that have no pair, and those of the terms that come in.
+pub fn renaming(
+    alloc: Global,
+    pairs: &[(Term, Variable)],
+    v: &Variable,
+    b: &Term,
+) -> Result<Variable, TermError>
+    ensures ok { IfOk result (λ u. IsRenaming pairs.now b.now v.now u) }
+    ensures memory { IsOkUnless result TermError.Memory }
+{
+    let mut candidate = v.copy()?;
+    'primes: while is_taken(pairs, b, &candidate) {
+        candidate = candidate.primed(alloc)?;
+    }
+    Ok(candidate)
+}
+
+// Whether the variable is free in `b` once the pairs are substituted there.
+fn is_taken(pairs: &[(Term, Variable)], b: &Term, v: &Variable) -> bool
+    ensures { result ≡ is_taken pairs.now b.now v.now }
+{
+    b.vfree_in(v) && !has_pair(pairs, v) || comes_in(pairs, v, b)
+}
+
+/// The pairs after one that gives the variable `u` for `v`.
+pub fn renaming_first(
+    alloc: Global,
+    u: &Variable,
+    v: &Variable,
+    rest: Vec<(Term, Variable)>,
+) -> Result<Vec<(Term, Variable)>, TermError>
+    ensures ok { IfOk result (λ pairs. pairs.items ≡ (var u.now, v.now) ∷ rest.items) }
+    ensures memory { IsOkUnless result TermError.Memory }
+{
+    let mut pairs = rest;
+    pairs.insert(0, (Term::var(alloc, u)?, v.copy()?))?;
+    Ok(pairs)
+}
