@@ -6,3 +6,12 @@ pub mod Typed
 pub mod Equations
 pub mod Reflexive
 pub mod Variables
+pub mod SortedSets
+pub mod Members
+pub mod Ordered
+pub mod ItemOrder
+pub mod Weaken
+pub mod Unions
+pub mod Clashes
+pub mod Merging
+pub mod Declared

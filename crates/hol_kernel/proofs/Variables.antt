@@ -2,14 +2,13 @@
 use Rattle.std.specs.Prelude.{◌≡◌, ℕ, Bool, true, false, cond, ◌&&◌, ◌||◌, List, [], ◌∷◌, codes, Some, None, refl}
 use Rattle.std.specs.Option.{option_map}
 use Rattle.std.specs.List.{list_any}
-use Rattle.std.specs.FinSet as set
 use Rattle.std.proofs.Common.{ap, sym, ◌∙◌}
 use Rattle.hol_types.specs.Tree.{TypeTree, TypeList, TyVar, TyApp, no_types, more_types}
 use Rattle.hol_types.specs.Fun.{fun_type}
 use Rattle.hol_terms.specs.Nameless.{Nameless, free, app, fixed, nameless_type}
 use Rattle.hol_kernel.specs.Order.{coded_total}
 use Rattle.hol_kernel.specs.Item.{item_code}
-use Rattle.hol_kernel.specs.Items.{Items, no_items}
+use Rattle.hol_kernel.specs.Items.{Items, no_items, in_order_of, in_order}
 use Rattle.hol_kernel.specs.Sequent.{bool_type, equality_type, equation}
 use Rattle.hol_kernel.specs.Signature.{has_arity, has_constant, is_constructor, makes_type, makes_constant, prelude_types}
 use Rattle.hol_kernel.specs.Typing.{types_count, is_type, are_types, is_known, HasType}
@@ -42,7 +41,7 @@ variable_typed items v stands = typed_known items (free v) v.1 stands refl
 
 equality_stands : (items : Items) (a : TypeTree) → has_constant items (codes "=") (equality_type a) ≡ true
 equality_stands items a =
-    ap (λ b. b || list_any (makes_constant (codes "=") (equality_type a)) (set.items items))
+    ap (λ b. b || list_any (makes_constant (codes "=") (equality_type a)) (in_order items))
     (instance_of_subst (equality_type (TyVar (codes "A"))) (equality_type a) ((a, codes "A") ∷ []) refl)
 
 equality_type_stands : (items : Items) (a : TypeTree) → is_type items a ≡ true → is_type items (equality_type a) ≡ true
@@ -72,14 +71,14 @@ refl_variable items v stands = refl_typed items (free v) v.1 (variable_typed ite
 -- ---- types of the prelude stand over all items
 
 none_made : (c : List ℕ) (n : ℕ) → has_arity no_items c n ≡ list_any (is_constructor c n) prelude_types
-none_made c n = ap (λ xs. list_any (is_constructor c n) prelude_types || list_any (makes_type c n) xs) (items_empty (coded_total item_code)) ∙ or_false _
+none_made c n = ap (λ xs. list_any (is_constructor c n) prelude_types || list_any (makes_type c n) (in_order_of xs)) (items_empty (coded_total item_code)) ∙ or_false _
   where
     or_false : (b : Bool) → (b || false) ≡ b
     or_false true = refl
     or_false false = refl
 
 prelude_arity : (items : Items) (c : List ℕ) (n : ℕ) → has_arity no_items c n ≡ true → has_arity items c n ≡ true
-prelude_arity items c n e = ap (λ b. b || list_any (makes_type c n) (set.items items)) (sym (none_made c n) ∙ e)
+prelude_arity items c n e = ap (λ b. b || list_any (makes_type c n) (in_order items)) (sym (none_made c n) ∙ e)
 
 mutual
   pub prelude_type : (items : Items) (a : TypeTree) → is_type no_items a ≡ true → is_type items a ≡ true

@@ -1,6 +1,6 @@
 -- What declarations and definitions give: a larger basis, and the theorems that the new item says (fusion.ml, new_type, new_constant,
 -- new_axiom, new_basic_definition, new_basic_type_definition).
-use Rattle.std.specs.Prelude.{◌≡◌, ◌≢◌, ℕ, List, Contains}
+use Rattle.std.specs.Prelude.{◌≡◌, ◌≢◌, ℕ, true, List}
 use Rattle.std.specs.FinSet as set
 use Rattle.hol_types.specs.Tree.{TypeTree}
 use Rattle.hol_types.specs.Fun.{fun_type}
@@ -8,7 +8,7 @@ use Rattle.hol_terms.specs.Nameless.{Nameless, fixed, app}
 use Rattle.hol_kernel.specs.Item.{Item, declared_type, declared_constant, defined_constant, defined_type, declared_axiom}
 use Rattle.hol_kernel.specs.Items.{Items, Holds}
 use Rattle.hol_kernel.specs.Sequent.{no_hyps, bool_type, equation}
-use Rattle.hol_kernel.specs.Signature.{Key, item_keys, term_tyvars, new_type}
+use Rattle.hol_kernel.specs.Signature.{Key, has_key, term_tyvars, new_type}
 use Rattle.hol_kernel.specs.Typing.{HasType}
 use Rattle.hol_kernel.specs.Legal.{HasNewKeys, IsSound, IsClosed, IsDefinable}
 use Rattle.hol_kernel.specs.Bijections.{abs_rep, rep_abs}
@@ -56,16 +56,16 @@ pub record IsTypeDefine (basis : Items) (c abs rep : List ℕ) (member : Theorem
 
 -- ---- clashes
 
--- the key is that of two different items, one of each set
+-- the name is that of two different items, one of each set
 pub record ClashesAt (a b : Items) (k : Key) : Type 0 where
   pub first : Item
   pub second : Item
   pub in_first : Holds a first
   pub in_second : Holds b second
-  pub key_of_first : Contains (item_keys first) k
-  pub key_of_second : Contains (item_keys second) k
+  pub name_of_first : has_key first k ≡ true
+  pub name_of_second : has_key second k ≡ true
   pub differ : first ≢ second
 
--- no two different items, one of each set, have one name in its kind
+-- two items, one of each set, that have one name in its kind are the same
 abbrev pub Agree : Items → Items → Type 0
-Agree a b = (k : Key) → ClashesAt a b k → ⊥
+Agree a b = (x y : Item) (k : Key) → Holds a x → Holds b y → has_key x k ≡ true → has_key y k ≡ true → x ≡ y

@@ -1,8 +1,9 @@
 -- Finite sets of items.
-use Rattle.std.specs.Prelude.{◌≡◌, true, IsTrue, List}
+use Rattle.std.specs.Prelude.{◌≡◌, true, IsTrue, List, [], ◌∷◌}
 use Rattle.std.specs.declared.cmp.Ordering.{Ordering}
 use Rattle.std.specs.Coded.{Coded}
 use Rattle.std.specs.FinSet as set
+use Rattle.std.specs.Set.{sorted_merge}
 use Rattle.hol_kernel.specs.Order.{coded_cmp}
 use Rattle.hol_kernel.specs.Item.{Item, item_code}
 
@@ -21,6 +22,14 @@ no_items = set.empty
 -- the set of a list's items
 abbrev pub item_set : List Item → Items
 item_set xs = set.from_list xs
+
+-- the items, each once, in their order
+abbrev pub in_order_of : List Item → List Item
+in_order_of [] = []
+in_order_of (x ∷ xs) = sorted_merge item_cmp true (x ∷ []) (in_order_of xs)
+
+abbrev pub in_order : Items → List Item
+in_order items = in_order_of (set.items items)
 
 -- x is one of the items
 abbrev pub Holds : Items → Item → Type 0

@@ -1,24 +1,24 @@
 -- Legal lists of items, the newest first: each item meets its condition over the prelude and the items before it (fusion.ml's checks in new_type,
 -- new_constant, new_basic_definition, new_basic_type_definition, new_axiom).
-use Rattle.std.specs.Prelude.{◌≡◌, ◌≢◌, ℕ, IsTrue, List, [], ◌∷◌, Contains}
-use Rattle.std.specs.FinSet as set
+use Rattle.std.specs.Prelude.{◌≡◌, ◌≢◌, ℕ, true, false, IsTrue, List, [], ◌∷◌, Contains}
+use Rattle.std.specs.List.Sorted.{IsStrictlySortedBy}
 use Rattle.hol_types.specs.Tree.{TypeTree}
 use Rattle.hol_types.specs.Fun.{fun_type}
 use Rattle.hol_types.specs.Names.{tyvars}
 use Rattle.hol_terms.specs.Nameless.{Nameless, app, free_occurrences}
 use Rattle.hol_kernel.specs.Item.{Item, declared_type, declared_constant, defined_constant, defined_type, declared_axiom}
-use Rattle.hol_kernel.specs.Items.{Items, Holds, item_set}
+use Rattle.hol_kernel.specs.Items.{Items, item_cmp, Holds, item_set}
 use Rattle.hol_kernel.specs.Sequent.{no_hyps, bool_type}
-use Rattle.hol_kernel.specs.Signature.{Key, item_keys, prelude_keys, term_tyvars}
+use Rattle.hol_kernel.specs.Signature.{Key, has_key, prelude_has, term_tyvars}
 use Rattle.hol_kernel.specs.Typing.{is_type, HasType}
 use Rattle.hol_kernel.specs.Derivation.{Derives}
 
--- neither the prelude nor an item has the key
+-- neither the prelude nor an item has the name
 abbrev pub IsNew : Items → Key → Type 0
-IsNew earlier k = (Contains prelude_keys k → ⊥) × ((y : Item) → Holds earlier y → Contains (item_keys y) k → ⊥)
+IsNew earlier k = (prelude_has k ≡ false) × ((y : Item) → Holds earlier y → has_key y k ≡ false)
 
 abbrev pub HasNewKeys : Items → Item → Type 0
-HasNewKeys earlier x = (k : Key) → Contains (item_keys x) k → IsNew earlier k
+HasNewKeys earlier x = (k : Key) → has_key x k ≡ true → IsNew earlier k
 
 -- no variable is free in the term
 abbrev pub IsClosed : Nameless → Type 0
@@ -56,4 +56,4 @@ IsLegalSet items = (order : List Item) × IsLegal order × (item_set order ≡ i
 -- What a basis keeps of the list that it stores: the set is legal, and the list has each item once, in the order of items.
 pub record IsStorable (stored : List Item) : Type 0 where
   pub legal : IsLegalSet (item_set stored)
-  pub ordered : stored ≡ set.items (item_set stored)
+  pub ordered : IsStrictlySortedBy item_cmp stored

@@ -13,4 +13,5 @@ pub mod Legal
 pub mod Theorem
 pub mod Rules
 pub mod Extends
+pub mod Clashing
 pub mod Gives

@@ -172,7 +172,7 @@ infinite =
     let f : List ℕ × TypeTree = (codes "f", fun_type ind_type ind_type) in
     existential f
     (conjunction (comb (function_property (codes "ONE_ONE") ind_type ind_type) (var f))
-      (comb negation_sign (comb (function_property (codes "ONTO") ind_type ind_type) (var f))))
+    (comb negation_sign (comb (function_property (codes "ONTO") ind_type ind_type) (var f))))
 
 abbrev pub postulated : Postulate → Named
 postulated TDef = defining (codes "T") bool_type (named_equation (fun_type bool_type bool_type) identity identity)

@@ -2,14 +2,13 @@
 use Rattle.std.specs.Prelude.{ℕ, Bool, false, cond, ◌&&◌, ◌||◌, ◌==◌, List, [], ◌∷◌, ◌++◌, map, length, bytes_eq, codes, Option, Some, None, is_some}
 use Rattle.std.specs.List.{list_any}
 use Rattle.std.specs.Option.{option_and_then}
-use Rattle.std.specs.FinSet as set
 use Rattle.hol_types.specs.Tree.{TypeTree, TyVar, TyApp, type_list}
 use Rattle.hol_types.specs.Fun.{fun_type, fun_parts}
 use Rattle.hol_types.specs.Names.{tyvars, insert_names}
 use Rattle.hol_types.specs.Match.{match_type}
 use Rattle.hol_terms.specs.Nameless.{Nameless, free, bound, fixed, app, lam, nameless_type}
 use Rattle.hol_kernel.specs.Item.{Item, declared_type, declared_constant, defined_constant, defined_type, declared_axiom}
-use Rattle.hol_kernel.specs.Items.{Items}
+use Rattle.hol_kernel.specs.Items.{Items, in_order}
 use Rattle.hol_kernel.specs.Sequent.{bool_type, equality_type}
 
 -- ---- the prelude
@@ -122,8 +121,21 @@ item_keys (defined_constant c r) = constant_key c ∷ []
 item_keys (defined_type c abs rep p) = type_key c ∷ constant_key abs ∷ constant_key rep ∷ []
 item_keys (declared_axiom n p) = axiom_key n ∷ []
 
-abbrev pub prelude_keys : List Key
-prelude_keys = map (λ p. type_key p.0) prelude_types ++ map (λ p. constant_key p.0) prelude_constants ++ map axiom_key prelude_axioms
+abbrev pub key_eq : Key → Key → Bool
+key_eq (type_key c) (type_key d) = bytes_eq c d
+key_eq (constant_key c) (constant_key d) = bytes_eq c d
+key_eq (axiom_key m) (axiom_key n) = bytes_eq m n
+key_eq _ _ = false
+
+-- the item has the name
+abbrev pub has_key : Item → Key → Bool
+has_key x k = list_any (key_eq k) (item_keys x)
+
+-- the prelude has the name
+abbrev pub prelude_has : Key → Bool
+prelude_has (type_key c) = list_any (λ p. bytes_eq c p.0) prelude_types
+prelude_has (constant_key c) = list_any (λ p. bytes_eq c p.0) prelude_constants
+prelude_has (axiom_key n) = list_any (bytes_eq n) prelude_axioms
 
 -- ---- the signature of the prelude and a set of items
 
@@ -135,7 +147,7 @@ makes_type c n x = list_any (is_constructor c n) (item_types x)
 
 -- c is a type constructor of arity n
 abbrev pub has_arity : Items → List ℕ → ℕ → Bool
-has_arity items c n = list_any (is_constructor c n) prelude_types || list_any (makes_type c n) (set.items items)
+has_arity items c n = list_any (is_constructor c n) prelude_types || list_any (makes_type c n) (in_order items)
 
 -- some substitution for the type variables of the first type gives the second, as matching finds it
 abbrev pub is_instance : TypeTree → TypeTree → Bool
@@ -161,4 +173,4 @@ makes_constant c a x = list_any (is_constant_at c a) (item_constants x)
 
 -- c is a constant, and a an instance of its generic type
 abbrev pub has_constant : Items → List ℕ → TypeTree → Bool
-has_constant items c a = is_instance_of (prelude_generic c) a || list_any (makes_constant c a) (set.items items)
+has_constant items c a = is_instance_of (prelude_generic c) a || list_any (makes_constant c a) (in_order items)

@@ -1,9 +1,9 @@
 //! Bases: legal sets of items.
 ghost use Rattle.std.specs.Prelude.{◌≡◌, ◌||◌, IfOk, []};
 ghost use Rattle.std.specs.List.{list_any};
-ghost use Rattle.std.specs.FinSet as set;
+ghost use Rattle.std.specs.List.Sorted.{IsStrictlySortedBy};
 ghost use Rattle.hol_terms.specs.Nameless.{nameless};
-ghost use Rattle.hol_kernel.specs.Items.{item_set, no_items};
+ghost use Rattle.hol_kernel.specs.Items.{item_cmp, item_set, no_items, in_order};
 ghost use Rattle.hol_kernel.specs.Signature.{has_arity, has_constant, makes_type, makes_constant};
 ghost use Rattle.hol_kernel.specs.Typing.{is_type, is_typed};
 ghost use Rattle.hol_kernel.specs.NamedTyping.{is_known_named};
@@ -39,7 +39,7 @@ impl Model for Basis {
 
 impl Basis {
     // The basis of the items.
-    fn made(alloc: Global, items: Vec<Item>) -> Result<Basis, AllocError>
+    pub(crate) fn made(alloc: Global, items: Vec<Item>) -> Result<Basis, AllocError>
         requires { IsStorable items.items }
         ensures { IfOk result (λ basis. basis ≡ item_set items.items) }
     {
@@ -72,7 +72,9 @@ impl Basis {
     /// The items, each once: axioms, declared constants, defined constants, declared types, defined types; each kind by the bytes
     /// of its names.
     pub fn items(&self) -> &[Item]
-        ensures items { result.now ≡ set.items self.now }
+        ensures items { result.now ≡ in_order self.now }
+        ensures set { item_set result.now ≡ self.now }
+        ensures ordered { IsStrictlySortedBy item_cmp result.now }
         ensures legal { IsLegalSet self.now }
     {
         &self.items

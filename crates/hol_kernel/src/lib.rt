@@ -2,9 +2,13 @@
 #![tactic(auto)]
 
 mod basis;
+mod declare;
 mod equation;
 mod error;
 mod item;
+mod item_names;
+mod join;
+mod kind;
 mod postulate;
 mod prelude;
 mod thm;
@@ -12,9 +16,12 @@ mod thm;
 pub use basis::Basis;
 pub use error::{KernelError, Rule};
 pub use item::{Item, ItemNode};
+pub use kind::Kind;
 pub use postulate::Postulate;
 pub use prelude::instances_are_substitutions;
 pub use thm::Thm;
 
+#[cfg(test)]
+mod basis_tests;
 #[cfg(test)]
 mod tests;

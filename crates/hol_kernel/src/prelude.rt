@@ -5,8 +5,10 @@ ghost use Rattle.hol_types.specs.Tree.{TypeTree, TyVar};
 ghost use Rattle.hol_types.specs.Fun.{fun_type};
 ghost use Rattle.hol_types.specs.Subst.{type_subst};
 ghost use Rattle.hol_kernel.specs.Sequent.{bool_type, equality_type};
-ghost use Rattle.hol_kernel.specs.Signature.{prelude_types, prelude_constants, is_constructor, is_constant_at, is_instance, connective_type, binder_type, function_property_type, choice_type, prelude_generic, is_instance_of};
+ghost use Rattle.hol_kernel.specs.Signature.{prelude_types, prelude_constants, is_constructor, is_constant_at, is_instance, connective_type, binder_type, function_property_type, choice_type, prelude_generic, is_instance_of, constant_key, prelude_has};
+ghost use Rattle.hol_kernel.specs.Clashing.{key_at};
 
+use crate::kind::Kind;
 use hol_types::{Name, Ty};
 use std::alloc::{AllocError, Global};
 
@@ -18,6 +20,39 @@ pub fn has_type(constructor: &Name, arity: usize) -> bool
         "bool" => arity == 0,
         "fun" => arity == 2,
         "ind" => arity == 0,
+        _ => false,
+    }
+}
+
+/// Whether the prelude has the name, as one of this kind.
+pub fn has_name(kind: Kind, name: &Name) -> bool
+    ensures { result ≡ prelude_has (key_at kind name.now) }
+{
+    match kind {
+        Kind::Type => matches!(name.as_str(), "bool" | "fun" | "ind"),
+        Kind::Constant => has_constant_name(name),
+        Kind::Axiom => matches!(name.as_str(), "ETA_AX" | "SELECT_AX" | "INFINITY_AX"),
+    }
+}
+
+// Whether the prelude has a constant of the name.
+fn has_constant_name(name: &Name) -> bool
+    ensures { result ≡ prelude_has (constant_key name.now) }
+{
+    match name.as_str() {
+        "="
+        | "@"
+        | "T"
+        | "F"
+        | "/\\"
+        | "\\/"
+        | "==>"
+        | "~"
+        | "!"
+        | "?"
+        | "?!"
+        | "ONE_ONE"
+        | "ONTO" => true,
         _ => false,
     }
 }

@@ -1,0 +1,30 @@
+use Rattle.std.proofs.Common.{◌≡◌, refl, ap, sym, ◌∙◌, subst}
+use Rattle.std.specs.FinSet as set
+use Rattle.hol_kernel.specs.Item.{Item, declared_constant}
+use Rattle.hol_kernel.specs.Legal.{HasNewKeys, IsSound}
+use Rattle.hol_kernel.proofs.Declared.{constant_new, constant_taken, no_type}
+use Rattle.hol_kernel.proofs.basis.Basis.declare_const.Goals as goal
+
+pub returns-then-not-is_new : goal.returns-then-not-is_new
+returns-then-not-is_new c = (refl, λ t d. constant_taken c.args.self.now c.args.name.now c.args.ty.now t (sym c.is_new.ensures ∙ c.if-not-is_new.true) d)
+
+pub returns-then-not-is_type : goal.returns-then-not-is_type
+returns-then-not-is_type c = (refl, λ t d. no_type c.args.self.now c.args.name.now c.args.ty.now t (sym c.is_type.ensures ∙ c.if-not-is_type.true) d)
+
+pub extended-requires-clause-new : goal.extended-requires-clause-new
+extended-requires-clause-new c =
+    let is : c.in_ok-item.item ≡ declared_constant c.args.name.now c.args.ty.now = c.in_ok-item.ensures ∙ (λ i. declared_constant (c.in_ok-copy.ensures i) (c.in_ok-copy-2.ensures i)) in
+    subst (λ (x : Item). HasNewKeys c.args.self.now x) (sym is) (constant_new c.args.self.now c.args.name.now c.args.ty.now (sym c.is_new.ensures ∙ c.if-not-is_new.false))
+
+pub extended-requires-clause-sound : goal.extended-requires-clause-sound
+extended-requires-clause-sound c =
+    let is : c.in_ok-item.item ≡ declared_constant c.args.name.now c.args.ty.now = c.in_ok-item.ensures ∙ (λ i. declared_constant (c.in_ok-copy.ensures i) (c.in_ok-copy-2.ensures i)) in
+    subst (λ (x : Item). IsSound c.args.self.now x) (sym is) (sym c.is_type.ensures ∙ c.if-not-is_type.false)
+
+pub returns : goal.returns
+returns c =
+    let is : c.in_ok-item.item ≡ declared_constant c.args.name.now c.args.ty.now = c.in_ok-item.ensures ∙ (λ i. declared_constant (c.in_ok-copy.ensures i) (c.in_ok-copy-2.ensures i)) in (
+      constant_new c.args.self.now c.args.name.now c.args.ty.now (sym c.is_new.ensures ∙ c.if-not-is_new.false),
+      sym c.is_type.ensures ∙ c.if-not-is_type.false,
+      c.in_ok-extended.ensures ∙ ap (set.insert c.args.self.now) is,
+    )
