@@ -1,0 +1,106 @@
+-- The shapes of a solved graph make the most general typing.
+use Rattle.std.proofs.Common.{◌≡◌, ℕ, ◌<◌, [], List, ◌∷◌, length, refl, sym, ◌∙◌, ap, subst, arith, cond, bytes_eq, Option, Some, None, zero}
+use Rattle.std.specs.Prelude.{◌↔◌}
+use Rattle.std.proofs.lemmas.List.Elements.{All-nil}
+use Rattle.hol_types.specs.Tree.{TypeTree, TyVar}
+use Rattle.hol_terms.specs.Nameless.{Nameless, free, bound, fixed, app, lam, base_of}
+use Rattle.hol_infer.specs.Raw.{RawTree}
+use Rattle.hol_infer.specs.Typing.{HasNoTyping}
+use Rattle.hol_infer.specs.Shape.{ShapeTree}
+use Rattle.hol_infer.specs.SlotTree.{SlotTree, SlotBound, SlotConstant, SlotFree, SlotApply, SlotAbstraction, typed, AreSlotsIn}
+use Rattle.hol_infer.specs.declared.cell.Cell.{Cell}
+use Rattle.hol_infer.specs.declared.cell.Cell.TheVariants.{Unknown}
+use Rattle.hol_infer.specs.declared.cell.Equation.{Equation}
+use Rattle.hol_infer.specs.declared.generate.Graph.{Graph}
+use Rattle.hol_infer.specs.Graph.{Respects, EquationHolds, IsSolution, SameSolutions}
+use Rattle.hol_infer.specs.Generate.{Solves, slots, slot_of, IsWellFormed, Agree, IsFresh, Generates}
+use Rattle.hol_infer.specs.Found.{types_at, AreGeneral}
+use Rattle.hol_infer.specs.Solved.{IsGraphOf, IsSolvedBy, IsGeneralTyping}
+use Rattle.hol_infer.proofs.Extending.{typing_at}
+
+-- ---- the graph of a whole term
+
+pub empty_formed : (g : Graph) → g.cells.items ≡ [] → g.pending.items ≡ [] → g.names.items ≡ [] → IsWellFormed g
+empty_formed g p q r = record {
+  cells_in = record { cell_in = λ i. rw p tt };
+  pending_in = rw (p, q) (All-nil (λ (e : Equation). (e.left < 0) × (e.right < 0)));
+  names_in = λ a s e. (let f : None ≡ Some s = rw r at e in absurd (cc));
+}
+
+empty_solves : (g : Graph) (type_of : List ℕ → TypeTree) (types : ℕ → TypeTree) → g.cells.items ≡ [] → g.pending.items ≡ [] → g.names.items ≡ [] → Solves g type_of types
+empty_solves g type_of types p q r = record {
+  solution = record {
+    respects = record { cell = λ i. rw p tt };
+    equations = rw q (All-nil (EquationHolds types));
+  };
+  names = λ a s e. (let f : None ≡ Some s = rw r at e in absurd (cc));
+}
+
+pub whole_graph : (raw : RawTree) (expected : ℕ) (g g1 h : Graph) (term : SlotTree) →
+    g.cells.items ≡ [] → g.pending.items ≡ [] → g.names.items ≡ [] → IsFresh g g1 expected Unknown → Generates g1 h [] raw expected term → IsGraphOf raw h term
+whole_graph raw expected g g1 h term p q r fresh gen = record {
+  well_formed = gen.well_formed;
+  slots_in = gen.slots_in;
+  scoped = gen.scoped;
+  sound = λ type_of types s. (type_of, (types expected, (gen.sound type_of types s).1));
+  complete = λ p' (type_of, (t, typing)).
+      let types = λ (i : ℕ). t in
+      let s1 : Solves g1 type_of types = (fresh.solves type_of types).1 (empty_solves g type_of types p q r, tt) in
+      let x = gen.complete type_of types p' s1 typing in
+      (type_of, x.0, x.2, x.3);
+}
+
+-- ---- solving
+
+pub solved_by : (before after : List Cell) (pending : List Equation) (shapes : List ShapeTree) → length after ≡ length before → SameSolutions after [] before pending → AreGeneral after shapes → IsSolvedBy before pending shapes
+solved_by before after pending shapes len same general = record {
+  respects = λ at. (same (types_at shapes at)).0 (record { respects = general.respects at; equations = All-nil (EquationHolds (types_at shapes at)) });
+  instances = λ types s. general.instances types ((same types).1 s).respects;
+  rigid = general.rigid;
+  len = general.len ∙ len;
+  below = general.below;
+}
+
+pub unsolved : (before after : List Cell) (pending : List Equation) → SameSolutions after [] before pending → ((types : ℕ → TypeTree) → Respects after types → ⊥) → (types : ℕ → TypeTree) → IsSolution before pending types → ⊥
+unsolved before after pending same none types s = none types ((same types).1 s).respects
+
+-- ---- typings
+
+-- types for the free names by their slots
+abbrev name_type : (ℕ → TypeTree) → Option ℕ → TypeTree
+name_type types None = TyVar []
+name_type types (Some s) = types s
+
+solves_by_names : (g : Graph) (types : ℕ → TypeTree) → IsSolution g.cells.items g.pending.items types → Solves g (λ a. name_type types (slot_of g.names.items a)) types
+solves_by_names g types s = record {
+  solution = s;
+  names = λ a k e. ap (name_type types) e;
+}
+
+app_same : (u u' v v' : Nameless) → u ≡ u' → v ≡ v' → app u v ≡ app u' v'
+app_same u u' v v' p q = cc
+
+lam_same : (x : List ℕ) (a a' : TypeTree) (b b' : Nameless) → a ≡ a' → b ≡ b' → lam x a b ≡ lam x a' b'
+lam_same x a a' b b' p q = cc
+
+pub typed_same : (types types' : ℕ → TypeTree) (term : SlotTree) → ((i : ℕ) → types i ≡ types' i) → typed types term ≡ typed types' term
+typed_same types types' (SlotBound i) h = refl
+typed_same types types' (SlotConstant c s) h = ap (fixed c) (h s)
+typed_same types types' (SlotFree x s) h = ap (λ (t : TypeTree). free (x, t)) (h s)
+typed_same types types' (SlotApply f a) h = app_same (typed types f) (typed types' f) (typed types a) (typed types' a) (typed_same types types' f h) (typed_same types types' a h)
+typed_same types types' (SlotAbstraction x s b) h = lam_same (base_of x) (types s) (types' s) (typed types b) (typed types' b) (h s) (typed_same types types' b h)
+
+pub general_of : (raw : RawTree) (g : Graph) (term : SlotTree) (shapes : List ShapeTree) → IsGraphOf raw g term → IsSolvedBy g.cells.items g.pending.items shapes → IsGeneralTyping raw shapes term
+general_of raw g term shapes of solved = record {
+  slots_in = subst (λ (n : ℕ). AreSlotsIn n term) (sym solved.len) of.slots_in;
+  scoped = of.scoped;
+  typing = λ at. of.sound (λ a. name_type (types_at shapes at) (slot_of g.names.items a)) (types_at shapes at) (solves_by_names g (types_at shapes at) (solved.respects at));
+  instances = λ p t.
+      let x = of.complete p t in
+      (x.1, x.3 ∙ typed_same x.1 (types_at shapes x.1) term (solved.instances x.1 x.2.solution));
+  rigid = solved.rigid;
+  below = solved.below;
+}
+
+pub untypable_of : (raw : RawTree) (g : Graph) (term : SlotTree) → IsGraphOf raw g term → ((types : ℕ → TypeTree) → IsSolution g.cells.items g.pending.items types → ⊥) → HasNoTyping raw
+untypable_of raw g term of none p t = (let x = of.complete p t in none x.1 x.2.solution)

@@ -1,0 +1,173 @@
+-- A graph that grows.
+use Rattle.std.proofs.Common.{◌≡◌, ℕ, ◌+◌, ◌<◌, ◌≤◌, ◌⊎◌, inl, inr, List, [], ◌∷◌, ◌++◌, length, map, get_or, refl, sym, ◌∙◌, subst, arith, length-append, Option, Some, None}
+use Rattle.std.specs.Prelude.{◌↔◌}
+use Rattle.std.specs.List.{All}
+use Rattle.std.proofs.lemmas.Bool.{cases_eq, cases_lt}
+use Rattle.std.proofs.lemmas.List.{get_or_append_left, get_or_past}
+use Rattle.std.proofs.lemmas.List.Elements.{All-push, All-head, All-tail, All-weaker}
+use Rattle.std.proofs.Math.Seq.{get_or-append_seam}
+use Rattle.hol_types.specs.Tree.{TypeTree, TyApp, type_list}
+use Rattle.hol_infer.specs.declared.cell.Cell.{Cell}
+use Rattle.hol_infer.specs.declared.cell.Cell.TheVariants.{Unknown, Link, Rigid, App}
+use Rattle.hol_infer.specs.declared.cell.Equation.{Equation}
+use Rattle.hol_infer.specs.declared.generate.Graph.{Graph}
+use Rattle.hol_infer.specs.Graph.{CellHolds, cell_at, Respects, EquationHolds, IsSolution, IsCellIn, IsGraph, AreIn}
+use Rattle.hol_infer.specs.Generate.{Agree, IsNewCell, Solves, slots, slot_of, IsWellFormed, IsFresh, IsEquated}
+
+-- of a list with one more at its end
+pub All-last : (P : Equation → Type 0) (xs : List Equation) (x : Equation) → All P (xs ++ x ∷ []) → All P xs × P x
+All-last P xs x h = (
+  λ k d lt. rw (get_or_append_left xs (x ∷ []) d k lt) at (h k d (rw length-append (omega arith))),
+  rw (get_or-append_seam xs x [] x) at (h (length xs) x (rw length-append (omega arith))),
+)
+
+-- the cells of a graph with one slot more
+old_cell : (cells : List Cell) (cell : Cell) (i : ℕ) → i < length cells → cell_at (cells ++ cell ∷ []) i ≡ cell_at cells i
+old_cell cells cell i lt = get_or_append_left cells (cell ∷ []) Unknown i lt
+
+new_cell : (cells : List Cell) (cell : Cell) → cell_at (cells ++ cell ∷ []) (length cells) ≡ cell
+new_cell cells cell = get_or-append_seam cells cell [] Unknown
+
+past_cell : (cells : List Cell) (i : ℕ) → length cells ≤ i → cell_at cells i ≡ Unknown
+past_cell cells i le = get_or_past cells i Unknown le
+
+below_more : (n : ℕ) (parts : List ℕ) → All (λ p. p < n) parts → All (λ p. p < n + 1) parts
+below_more n parts h = All-weaker (λ (p : ℕ). p < n) (λ (p : ℕ). p < n + 1) (λ x l. omega arith) parts h
+
+IsCellIn-new : (n : ℕ) (cell : Cell) → IsNewCell n cell → IsCellIn (n + 1) n cell
+IsCellIn-new n Unknown h = tt
+IsCellIn-new n (Link j) h = h
+IsCellIn-new n (Rigid a) h = h
+IsCellIn-new n (App c parts) h = below_more n parts.items h
+
+IsCellIn-more : (n i : ℕ) (cell : Cell) → IsCellIn n i cell → IsCellIn (n + 1) i cell
+IsCellIn-more n i Unknown h = tt
+IsCellIn-more n i (Link j) h = h
+IsCellIn-more n i (Rigid a) h = h
+IsCellIn-more n i (App c parts) h = below_more n parts.items h
+
+-- a slot is an old one, the new one, or none
+by_slot : (n i : ℕ) → (i < n) ⊎ ((i ≡ n) ⊎ (n + 1 ≤ i))
+by_slot n i = elim (cases_lt i n) [
+  | inl lt ↦ inl lt
+  | inr ge ↦ elim (cases_eq i n) [ inl e ↦ inr (inl e) | inr ne ↦ inr (inr (omega arith)) ]
+]
+
+pushed_length : (cells : List Cell) (cell : Cell) → length (cells ++ cell ∷ []) ≡ length cells + 1
+pushed_length cells cell = length-append cells (cell ∷ [])
+
+pub IsGraph-push : (cells : List Cell) (cell : Cell) → IsGraph cells → IsNewCell (length cells) cell → IsGraph (cells ++ cell ∷ [])
+IsGraph-push cells cell g new = record {
+  cell_in = λ i. elim (by_slot (length cells) i) [
+    | inl lt ↦ rw (pushed_length cells cell, old_cell cells cell i lt) (IsCellIn-more (length cells) i (cell_at cells i) (g.cell_in i))
+    | inr more ↦ elim more [
+      | inl e ↦ subst (λ (k : ℕ). IsCellIn (length (cells ++ cell ∷ [])) k (cell_at (cells ++ cell ∷ []) k)) (sym e)
+          (rw (pushed_length cells cell, new_cell cells cell) (IsCellIn-new (length cells) cell new))
+      | inr le ↦ rw (past_cell (cells ++ cell ∷ []) i (rw pushed_length le)) tt
+    ]
+  ];
+}
+
+pub Respects-push : (cells : List Cell) (cell : Cell) (types : ℕ → TypeTree) → Respects (cells ++ cell ∷ []) types ↔ (Respects cells types × CellHolds types (types (length cells)) cell)
+Respects-push cells cell types = (
+  λ r. (
+    record {
+      cell = λ i. elim (cases_lt i (length cells)) [
+        | inl lt ↦ rw (old_cell cells cell i lt) at (r.cell i)
+        | inr ge ↦ rw (past_cell cells i ge) tt
+      ];
+    },
+    rw (new_cell cells cell) at (r.cell (length cells)),
+  ),
+  λ (r, h). record {
+    cell = λ i. elim (by_slot (length cells) i) [
+      | inl lt ↦ rw (old_cell cells cell i lt) (r.cell i)
+      | inr more ↦ elim more [
+        | inl e ↦ subst (λ (k : ℕ). CellHolds types (types k) (cell_at (cells ++ cell ∷ []) k)) (sym e) (rw (new_cell cells cell) h)
+        | inr le ↦ rw (past_cell (cells ++ cell ∷ []) i (rw pushed_length le)) tt
+      ]
+    ];
+  },
+)
+
+-- the solutions with a cell more, and with an equation more
+pub push_cell_solves : (cells : List Cell) (pending : List Equation) (cell : Cell) (types : ℕ → TypeTree) →
+    IsSolution (cells ++ cell ∷ []) pending types ↔ (IsSolution cells pending types × CellHolds types (types (length cells)) cell)
+push_cell_solves cells pending cell types = (
+  λ s. let parts = (Respects-push cells cell types).0 s.respects in (record { respects = parts.0; equations = s.equations }, parts.1),
+  λ (s, h). record { respects = (Respects-push cells cell types).1 (s.respects, h); equations = s.equations },
+)
+
+pub push_equation_solves : (cells : List Cell) (pending : List Equation) (e : Equation) (types : ℕ → TypeTree) →
+    IsSolution cells (pending ++ e ∷ []) types ↔ (IsSolution cells pending types × EquationHolds types e)
+push_equation_solves cells pending e types = (
+  λ s. let parts = All-last (EquationHolds types) pending e s.equations in (record { respects = s.respects; equations = parts.0 }, parts.1),
+  λ (s, h). record { respects = s.respects; equations = All-push (EquationHolds types) pending e s.equations h },
+)
+
+pub AreIn-push_cell : (cells : List Cell) (pending : List Equation) (cell : Cell) → AreIn cells pending → AreIn (cells ++ cell ∷ []) pending
+AreIn-push_cell cells pending cell h k d lt = let w = h k d lt in let e = pushed_length cells cell in (omega (arith, e, w.0), omega (arith, e, w.1))
+
+-- a graph with a slot more
+pub fresh_of : (g h : Graph) (slot : ℕ) (cell : Cell) → IsWellFormed g → IsNewCell (slots g) cell → slot ≡ slots g →
+    h.cells.items ≡ g.cells.items ++ cell ∷ [] → h.pending.items ≡ g.pending.items → h.names.items ≡ g.names.items → IsFresh g h slot cell
+fresh_of g h slot cell w new at cells pending names =
+    let len : slots h ≡ slots g + 1 = subst (λ (xs : List Cell). length xs ≡ slots g + 1) (sym cells) (pushed_length g.cells.items cell) in
+    record {
+      slot_is = at;
+      slots_are = len;
+      names_are = names;
+      well_formed = record {
+        cells_in = subst (λ (xs : List Cell). IsGraph xs) (sym cells) (IsGraph-push g.cells.items cell w.cells_in new);
+        pending_in = rw (cells, pending) (AreIn-push_cell g.cells.items g.pending.items cell w.pending_in);
+        names_in = λ a s e. (let l = w.names_in a s (rw names at e) in omega (arith, l, len));
+      };
+      solves = λ type_of types. (
+        λ s.
+            let parts = (push_cell_solves g.cells.items g.pending.items cell types).0 (rw (cells, pending) at s.solution) in
+            (record { solution = parts.0; names = λ a k e. s.names a k (rw names e) }, subst (λ (k : ℕ). CellHolds types (types k) cell) (sym at) parts.1),
+        λ (s, holds).
+            record {
+              solution = rw (cells, pending) ((push_cell_solves g.cells.items g.pending.items cell types).1 (s.solution, subst (λ (k : ℕ). CellHolds types (types k) cell) at holds));
+              names = λ a k e. s.names a k (rw names at e);
+            },
+      );
+    }
+
+-- types that agree on the slots solve the same
+parts_agree : (n : ℕ) (types types' : ℕ → TypeTree) (parts : List ℕ) → Agree n types types' → All (λ p. p < n) parts → map types parts ≡ map types' parts
+parts_agree n types types' [] a h = refl
+parts_agree n types types' (p ∷ parts) a h =
+    let e : types p ≡ types' p = a.agree p (All-head (λ (k : ℕ). k < n) p parts h) in
+    let f : map types parts ≡ map types' parts = parts_agree n types types' parts a (All-tail (λ (k : ℕ). k < n) p parts h) in
+    cc
+
+pub map_agree : (n : ℕ) (types types' : ℕ → TypeTree) (env : List ℕ) → Agree n types types' → All (λ s. s < n) env → map types env ≡ map types' env
+map_agree n types types' env a h = parts_agree n types types' env a h
+
+app_ap : (c : List ℕ) (ss ts : List TypeTree) → ss ≡ ts → TyApp c (type_list ss) ≡ TyApp c (type_list ts)
+app_ap c ss ts e = cc
+
+CellHolds-agree : (n i : ℕ) (types types' : ℕ → TypeTree) (cell : Cell) → Agree n types types' → i < n → IsCellIn n i cell → CellHolds types (types i) cell → CellHolds types' (types' i) cell
+CellHolds-agree n i types types' Unknown a lt in' h = tt
+CellHolds-agree n i types types' (Link j) a lt in' h = sym (a.agree i lt) ∙ h ∙ a.agree j (omega arith)
+CellHolds-agree n i types types' (Rigid x) a lt in' h = sym (a.agree i lt) ∙ h
+CellHolds-agree n i types types' (App c parts) a lt in' h =
+    sym (a.agree i lt) ∙ h ∙ app_ap c (map types parts.items) (map types' parts.items) (parts_agree n types types' parts.items a in')
+
+pub agree_solves : (cells : List Cell) (pending : List Equation) (types types' : ℕ → TypeTree) → IsGraph cells → AreIn cells pending → Agree (length cells) types types' → IsSolution cells pending types → IsSolution cells pending types'
+agree_solves cells pending types types' g p a s = record {
+  respects = record {
+    cell = λ i. elim (cases_lt i (length cells)) [
+      | inl lt ↦ CellHolds-agree (length cells) i types types' (cell_at cells i) a lt (g.cell_in i) (s.respects.cell i)
+      | inr ge ↦ rw (past_cell cells i ge) tt
+    ];
+  };
+  equations = λ k d lt. let in' = p k d lt in sym (a.agree (get_or pending k d).left in'.0) ∙ s.equations k d lt ∙ a.agree (get_or pending k d).right in'.1;
+}
+
+pub Solves-agree : (g : Graph) (type_of : List ℕ → TypeTree) (types types' : ℕ → TypeTree) → IsWellFormed g → Agree (slots g) types types' → Solves g type_of types → Solves g type_of types'
+Solves-agree g type_of types types' w a s = record {
+  solution = agree_solves g.cells.items g.pending.items types types' w.cells_in w.pending_in a s.solution;
+  names = λ b k e. s.names b k e ∙ a.agree k (w.names_in b k e);
+}

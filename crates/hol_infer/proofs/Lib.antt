@@ -1,0 +1,12 @@
+pub mod Joining
+pub mod Merging
+pub mod Growing
+pub mod Solving
+pub mod Saturating
+pub mod Extending
+pub mod Instances
+pub mod Types
+pub mod Slots
+pub mod Generating
+pub mod General
+pub mod Holes

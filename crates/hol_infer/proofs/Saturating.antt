@@ -1,0 +1,218 @@
+-- Finding the shapes of the slots.
+use Rattle.std.proofs.Common.{◌≡◌, ℕ, zero, suc, ◌+◌, ◌*◌, ◌<◌, ◌≤◌, inl, inr, List, [], ◌∷◌, length, map, set, refl, sym, ◌∙◌, ap, subst, arith, Bool, true, false, get_or, slice_index_or, get_or-set_same, get_or-set_other, Option, Some, None}
+use Rattle.std.specs.List.{All, Contains}
+use Rattle.std.proofs.lemmas.Bool.{cases_eq, cases_lt}
+use Rattle.std.proofs.lemmas.List.{get_or_past}
+use Rattle.std.proofs.lemmas.List.Elements.{All-head, All-tail, All-contains}
+use Rattle.std.proofs.Math.Nat.{mul-le-mul_right}
+use Rattle.std.proofs.lemmas.List.Sums.{sum_by-set}
+use Rattle.hol_types.specs.Tree.{TypeTree, TypeList, TyVar, TyApp, more_types, type_list, type_size, types_size}
+use Rattle.hol_infer.specs.Shape.{ShapeTree, Hole, Fixed, Built, shape_list, fill, fills}
+use Rattle.hol_infer.specs.Typing.{IsOpen}
+use Rattle.hol_infer.specs.declared.cell.Cell.{Cell}
+use Rattle.hol_infer.specs.declared.cell.Cell.TheVariants.{Unknown, Link, Rigid, App}
+use Rattle.hol_infer.specs.Graph.{cell_at, Respects, CellHolds, IsGraph, IsCellIn}
+use Rattle.hol_infer.specs.Found.{found_at, ArePartsFound, IsPartMissing, BuiltFrom, IsBlocked, HasRigidNames, HaveRigidNames, AreHolesBelow, AllHolesBelow, IsBuilt, IsStuckAt, IsStuck, none_weight, missing, shape_at, types_at, AreGeneral}
+
+-- a sweep that has come to slot n
+abbrev pub SweepSoFar : List Cell → List (Option ShapeTree) → List (Option ShapeTree) → ℕ → Bool → Type 0
+SweepSoFar cells before after n true = missing after < missing before
+SweepSoFar cells before after n false = (after ≡ before) × ((k : ℕ) → k < n → IsStuckAt cells after k)
+
+none_some : (s : ShapeTree) → None ≡ Some s → ⊥
+none_some s p = cc
+
+some_same : (s t : ShapeTree) → Some s ≡ Some t → s ≡ t
+some_same s t p = cc
+
+cons_parts : (o p : Option ShapeTree) (os ps : List (Option ShapeTree)) → o ∷ os ≡ p ∷ ps → (o ≡ p) × (os ≡ ps)
+cons_parts o p os ps e = (cc, cc)
+
+cons_same : (o p : Option ShapeTree) (os ps : List (Option ShapeTree)) → o ≡ p → os ≡ ps → o ∷ os ≡ p ∷ ps
+cons_same o p os ps e f = cc
+
+types_same : (s t : TypeTree) (ss ts : TypeList) → s ≡ t → ss ≡ ts → more_types s ss ≡ more_types t ts
+types_same s t ss ts p q = cc
+
+-- a slot that gets a shape had none, so no other shape is lost
+keeps : (found : List (Option ShapeTree)) (at i : ℕ) (s t : ShapeTree) → found_at found at ≡ None → found_at found i ≡ Some s → found_at (set found at (Some t)) i ≡ Some s
+keeps found at i s t none some = elim (cases_eq i at) [
+  | inl e ↦ (let w : found_at found i ≡ None = ap (λ (k : ℕ). found_at found k) e ∙ none in cc)
+  | inr ne ↦ get_or-set_other found at i (Some t) None ne ∙ some
+]
+
+parts_keep : (found : List (Option ShapeTree)) (at : ℕ) (t : ShapeTree) (parts : List ℕ) (shapes : List ShapeTree) → found_at found at ≡ None → ArePartsFound found parts shapes → ArePartsFound (set found at (Some t)) parts shapes
+parts_keep found at t [] shapes none e = e
+parts_keep found at t (p ∷ parts) [] none e = absurd (cc)
+parts_keep found at t (p ∷ parts) (s ∷ shapes) none e =
+    let both = cons_parts (found_at found p) (Some s) (map (found_at found) parts) (map Some shapes) e in
+    cons_same (found_at (set found at (Some t)) p) (Some s) (map (found_at (set found at (Some t))) parts) (map Some shapes)
+    (keeps found at p s t none both.0) (parts_keep found at t parts shapes none both.1)
+
+BuiltFrom-more : (found : List (Option ShapeTree)) (at i : ℕ) (s t : ShapeTree) (cell : Cell) → found_at found at ≡ None → BuiltFrom found i s cell → BuiltFrom (set found at (Some t)) i s cell
+BuiltFrom-more found at i s t Unknown none b = b
+BuiltFrom-more found at i s t (Link j) none b = keeps found at j s t none b
+BuiltFrom-more found at i s t (Rigid a) none b = b
+BuiltFrom-more found at i s t (App c parts) none (shapes, p, e) = (shapes, parts_keep found at t parts.items shapes none p, e)
+
+-- the types of parts are instances of their shapes
+parts_general : (cells : List Cell) (found : List (Option ShapeTree)) (types : ℕ → TypeTree) → IsBuilt cells found → Respects cells types → (parts : List ℕ) (shapes : List ShapeTree) → ArePartsFound found parts shapes → type_list (map types parts) ≡ fills types (shape_list shapes)
+parts_general cells found types b r [] [] e = refl
+parts_general cells found types b r [] (s ∷ shapes) e = absurd (cc)
+parts_general cells found types b r (p ∷ parts) [] e = absurd (cc)
+parts_general cells found types b r (p ∷ parts) (s ∷ shapes) e =
+    let both = cons_parts (found_at found p) (Some s) (map (found_at found) parts) (map Some shapes) e in
+    types_same (types p) (fill types s) (type_list (map types parts)) (fills types (shape_list shapes))
+    (b.general types r p s both.0) (parts_general cells found types b r parts shapes both.1)
+
+-- a shape made of general shapes is general
+BuiltFrom-general : (cells : List Cell) (found : List (Option ShapeTree)) (i : ℕ) (s : ShapeTree) (cell : Cell) (types : ℕ → TypeTree) → IsBuilt cells found → Respects cells types → CellHolds types (types i) cell → BuiltFrom found i s cell → types i ≡ fill types s
+BuiltFrom-general cells found i s Unknown types b r holds e = sym (ap (fill types) e)
+BuiltFrom-general cells found i s (Link j) types b r holds e = holds ∙ b.general types r j s e
+BuiltFrom-general cells found i s (Rigid a) types b r holds e = holds ∙ sym (ap (fill types) e)
+BuiltFrom-general cells found i s (App c parts) types b r holds (shapes, p, e) =
+    holds ∙ ap (TyApp c) (parts_general cells found types b r parts.items shapes p) ∙ sym (ap (fill types) e)
+
+-- and one made of shapes with rigid names has rigid names
+parts_rigid : (cells : List Cell) (found : List (Option ShapeTree)) → IsBuilt cells found → (parts : List ℕ) (shapes : List ShapeTree) → ArePartsFound found parts shapes → HaveRigidNames (shape_list shapes)
+parts_rigid cells found b parts [] e = tt
+parts_rigid cells found b [] (s ∷ shapes) e = absurd (cc)
+parts_rigid cells found b (p ∷ parts) (s ∷ shapes) e =
+    let both = cons_parts (found_at found p) (Some s) (map (found_at found) parts) (map Some shapes) e in
+    (b.rigid p s both.0, parts_rigid cells found b parts shapes both.1)
+
+BuiltFrom-rigid : (cells : List Cell) (found : List (Option ShapeTree)) (n i : ℕ) (s : ShapeTree) (cell : Cell) → IsBuilt cells found → IsCellIn n i cell → BuiltFrom found i s cell → HasRigidNames s
+BuiltFrom-rigid cells found n i s Unknown b in' e = subst HasRigidNames (sym e) tt
+BuiltFrom-rigid cells found n i s (Link j) b in' e = b.rigid j s e
+BuiltFrom-rigid cells found n i s (Rigid a) b in' e = subst HasRigidNames (sym e) in'
+BuiltFrom-rigid cells found n i s (App c parts) b in' (shapes, p, e) = subst HasRigidNames (sym e) (parts_rigid cells found b parts.items shapes p)
+
+-- and the open slots are among those of the graph
+parts_below : (cells : List Cell) (found : List (Option ShapeTree)) → IsBuilt cells found → (parts : List ℕ) (shapes : List ShapeTree) → ArePartsFound found parts shapes → AllHolesBelow (length cells) (shape_list shapes)
+parts_below cells found b parts [] e = tt
+parts_below cells found b [] (s ∷ shapes) e = absurd (cc)
+parts_below cells found b (p ∷ parts) (s ∷ shapes) e =
+    let both = cons_parts (found_at found p) (Some s) (map (found_at found) parts) (map Some shapes) e in
+    (b.below p s both.0, parts_below cells found b parts shapes both.1)
+
+BuiltFrom-below : (cells : List Cell) (found : List (Option ShapeTree)) (i : ℕ) (s : ShapeTree) (cell : Cell) → i < length cells → IsBuilt cells found → BuiltFrom found i s cell → AreHolesBelow (length cells) s
+BuiltFrom-below cells found i s Unknown lt b e = subst (AreHolesBelow (length cells)) (sym e) lt
+BuiltFrom-below cells found i s (Link j) lt b e = b.below j s e
+BuiltFrom-below cells found i s (Rigid a) lt b e = subst (AreHolesBelow (length cells)) (sym e) tt
+BuiltFrom-below cells found i s (App c parts) lt b (shapes, p, e) = subst (AreHolesBelow (length cells)) (sym e) (parts_below cells found b parts.items shapes p)
+
+pub IsBuilt-more : (cells : List Cell) (found : List (Option ShapeTree)) (at : ℕ) (t : ShapeTree) → at < length found → length found ≡ length cells → found_at found at ≡ None → IsGraph cells → IsBuilt cells found → BuiltFrom found at t (cell_at cells at) → IsBuilt cells (set found at (Some t))
+IsBuilt-more cells found at t lt len none graph b new =
+    let the_new : (i : ℕ) (s : ShapeTree) → i ≡ at → found_at (set found at (Some t)) i ≡ Some s → t ≡ s =
+    λ i s e p. some_same t s (sym (get_or-set_same found at (Some t) None lt) ∙ ap (λ (k : ℕ). found_at (set found at (Some t)) k) (sym e) ∙ p) in
+    record {
+      built = λ i s p. elim (cases_eq i at) [
+        | inl e ↦
+            subst (λ (k : ℕ). BuiltFrom (set found at (Some t)) k s (cell_at cells k)) (sym e)
+            (BuiltFrom-more found at at s t (cell_at cells at) none
+            (subst (λ (u : ShapeTree). BuiltFrom found at u (cell_at cells at)) (the_new i s e p) new))
+        | inr ne ↦ BuiltFrom-more found at i s t (cell_at cells i) none (b.built i s (sym (get_or-set_other found at i (Some t) None ne) ∙ p))
+      ];
+      general = λ types r i s p. elim (cases_eq i at) [
+        | inl e ↦
+            ap types e ∙ BuiltFrom-general cells found at t (cell_at cells at) types b r (r.cell at) new ∙ ap (fill types) (the_new i s e p)
+        | inr ne ↦ b.general types r i s (sym (get_or-set_other found at i (Some t) None ne) ∙ p)
+      ];
+      rigid = λ i s p. elim (cases_eq i at) [
+        | inl e ↦ subst HasRigidNames (the_new i s e p) (BuiltFrom-rigid cells found (length cells) at t (cell_at cells at) b (graph.cell_in at) new)
+        | inr ne ↦ b.rigid i s (sym (get_or-set_other found at i (Some t) None ne) ∙ p)
+      ];
+      below = λ i s p. elim (cases_eq i at) [
+        | inl e ↦ subst (AreHolesBelow (length cells)) (the_new i s e p) (BuiltFrom-below cells found at t (cell_at cells at) (omega (arith, lt, len)) b new)
+        | inr ne ↦ b.below i s (sym (get_or-set_other found at i (Some t) None ne) ∙ p)
+      ];
+    }
+
+pub missing-less : (found : List (Option ShapeTree)) (at : ℕ) (t : ShapeTree) → at < length found → found_at found at ≡ None → missing (set found at (Some t)) < missing found
+missing-less found at t lt none =
+    let a = sum_by-set none_weight found at (Some t) None lt in
+    let g : none_weight (found_at found at) ≡ 1 = ap none_weight none in
+    omega (arith, a, g)
+
+smaller : (s t n i j : ℕ) → s + 1 ≤ t → j < n → s * (n + 1) + j < t * (n + 1) + i
+smaller s t n i j h l = let e : (s + 1) * (n + 1) ≤ t * (n + 1) = mul-le-mul_right (n + 1) h in omega arith
+
+-- a part is smaller than the whole
+part_size : (types : ℕ → TypeTree) (parts : List ℕ) (j : ℕ) → Contains parts j → type_size (types j) ≤ types_size (type_list (map types parts))
+part_size types [] j (k, lt, e) = absurd (omega (arith, lt))
+part_size types (p ∷ parts) j (zero, lt, e) = let f : type_size (types p) ≡ type_size (types j) = ap (λ (x : ℕ). type_size (types x)) e in omega (arith, f)
+part_size types (p ∷ parts) j (suc k, lt, e) = let r = part_size types parts j (k, omega (arith, lt), e) in omega (arith, r)
+
+-- where no slot can get a shape, one without a shape would be of an infinite type
+module _ (cells : List Cell) (found : List (Option ShapeTree)) (graph : IsGraph cells) (stuck : IsStuck cells found) (types : ℕ → TypeTree) (r : Respects cells types) where
+  abbrev weight : ℕ → ℕ
+  weight i = type_size (types i) * (length cells + 1) + i
+
+  blocked_falls : (fuel i : ℕ) (cell : Cell) →
+      ((j : ℕ) → j < length cells → weight j < fuel → found_at found j ≡ None → ⊥) →
+      i < length cells → weight i < suc fuel → IsCellIn (length cells) i cell → CellHolds types (types i) cell → IsBlocked found cell → ⊥
+  blocked_falls fuel i Unknown below lt less in' holds blocked = blocked
+  blocked_falls fuel i (Link j) below lt less in' holds blocked =
+      let e : weight j ≡ type_size (types i) * (length cells + 1) + j = ap (λ (t : TypeTree). type_size t * (length cells + 1) + j) (sym holds) in
+      below j (omega arith) (omega (arith, e)) blocked
+  blocked_falls fuel i (Rigid a) below lt less in' holds blocked = blocked
+  blocked_falls fuel i (App c parts) below lt less in' holds (j, contains, none) =
+      let e : type_size (types i) ≡ 1 + types_size (type_list (map types parts.items)) = ap type_size holds in
+      let p = part_size types parts.items j contains in
+      let j_in : j < length cells = All-contains (λ (k : ℕ). k < length cells) parts.items j in' contains in
+      let w : weight j < weight i = smaller (type_size (types j)) (type_size (types i)) (length cells) i j (omega (arith, e, p)) j_in in
+      below j j_in (omega arith) none
+
+  none_below : (fuel i : ℕ) → i < length cells → weight i < fuel → found_at found i ≡ None → ⊥
+  none_below zero i lt less none = omega arith
+  none_below (suc fuel) i lt less none = blocked_falls fuel i (cell_at cells i) (none_below fuel) lt less (graph.cell_in i) (r.cell i) (stuck.stuck i lt none)
+
+  pub stuck_untypable : (i : ℕ) → i < length cells → found_at found i ≡ None → ⊥
+  stuck_untypable i lt none = none_below (weight i + 1) i lt (omega arith) none
+
+-- before anything is found
+pub IsBuilt-none : (cells : List Cell) (found : List (Option ShapeTree)) → ((i : ℕ) → found_at found i ≡ None) → IsBuilt cells found
+IsBuilt-none cells found none = record {
+  built = λ i t p. (let w : found_at found i ≡ None = none i in absurd (none_some t (sym w ∙ p)));
+  general = λ types r i t p. (let w : found_at found i ≡ None = none i in absurd (none_some t (sym w ∙ p)));
+  rigid = λ i t p. (let w : found_at found i ≡ None = none i in absurd (none_some t (sym w ∙ p)));
+  below = λ i t p. (let w : found_at found i ≡ None = none i in absurd (none_some t (sym w ∙ p)));
+}
+
+-- all shapes are found
+module _ (cells : List Cell) (found : List (Option ShapeTree)) (ss : List ShapeTree) (graph : IsGraph cells) (b : IsBuilt cells found) (len : length ss ≡ length cells) (all : (i : ℕ) → i < length cells → found_at found i ≡ Some (shape_at ss i)) where
+  parts_hold : (at : ℕ → TypeTree) (parts : List ℕ) (shapes : List ShapeTree) → All (λ p. p < length cells) parts → ArePartsFound found parts shapes → fills at (shape_list shapes) ≡ type_list (map (types_at ss at) parts)
+  parts_hold at [] [] in' e = refl
+  parts_hold at [] (s ∷ shapes) in' e = absurd (cc)
+  parts_hold at (p ∷ parts) [] in' e = absurd (cc)
+  parts_hold at (p ∷ parts) (s ∷ shapes) in' e =
+      let both = cons_parts (found_at found p) (Some s) (map (found_at found) parts) (map Some shapes) e in
+      let same : s ≡ shape_at ss p = some_same s (shape_at ss p) (sym both.0 ∙ all p (All-head (λ (k : ℕ). k < length cells) p parts in')) in
+      types_same (fill at s) (types_at ss at p) (fills at (shape_list shapes)) (type_list (map (types_at ss at) parts))
+      (ap (fill at) same) (parts_hold at parts shapes (All-tail (λ (k : ℕ). k < length cells) p parts in') both.1)
+
+  cell_holds : (at : ℕ → TypeTree) (i : ℕ) (cell : Cell) → i < length cells → IsCellIn (length cells) i cell → BuiltFrom found i (shape_at ss i) cell → CellHolds (types_at ss at) (types_at ss at i) cell
+  cell_holds at i Unknown lt in' e = tt
+  cell_holds at i (Link j) lt in' e = ap (fill at) (some_same (shape_at ss i) (shape_at ss j) (sym e ∙ all j (omega arith)))
+  cell_holds at i (Rigid a) lt in' e = ap (fill at) e
+  cell_holds at i (App c parts) lt in' (shapes, p, e) = ap (fill at) e ∙ ap (TyApp c) (parts_hold at parts.items shapes in' p)
+
+  pub shapes_general : AreGeneral cells ss
+  shapes_general = record {
+    respects = λ at. record {
+      cell = λ i. elim (cases_lt i (length cells)) [
+        | inl lt ↦ cell_holds at i (cell_at cells i) lt (graph.cell_in i) (b.built i (shape_at ss i) (all i lt))
+        | inr ge ↦ rw (get_or_past cells i Unknown ge) tt
+      ];
+    };
+    instances = λ types r i. elim (cases_lt i (length cells)) [
+      | inl lt ↦ b.general types r i (shape_at ss i) (all i lt)
+      | inr ge ↦ sym (ap (fill types) (get_or_past ss i (Hole i) (rw len ge)))
+    ];
+    rigid = λ i. elim (cases_lt i (length cells)) [
+      | inl lt ↦ b.rigid i (shape_at ss i) (all i lt)
+      | inr ge ↦ rw (get_or_past ss i (Hole i) (rw len ge)) tt
+    ];
+    len = len;
+    below = λ i lt. subst (λ (n : ℕ). AreHolesBelow n (shape_at ss i)) (sym len) (b.below i (shape_at ss i) (all i (omega (arith, lt, len))));
+  }

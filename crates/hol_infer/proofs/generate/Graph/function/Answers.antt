@@ -1,0 +1,15 @@
+use Rattle.std.proofs.Common.{◌≡◌, ◌∷◌, [], List, ℕ, codes, rules, map}
+use Rattle.std.specs.Prelude.{◌↔◌}
+use Rattle.hol_types.specs.Tree.{TypeTree}
+use Rattle.hol_types.specs.Fun.{fun_type}
+use Rattle.hol_infer.specs.Graph.{CellHolds}
+use Rattle.hol_infer.proofs.Slots.{function_of, function_cell}
+use Rattle.hol_infer.proofs.generate.Graph.function.Goals as goal
+
+pub returns : goal.returns
+returns c =
+    let items : c.push-2.new.self.items ≡ c.args.domain ∷ c.args.range ∷ [] = search rules in
+    let name : c.in_ok-name.name ≡ codes "fun" = search rules in
+    function_of c.args.self.now c.fresh.new.self c.in_ok-slot.slot c.args.domain c.args.range _
+    (λ types t. function_cell c.in_ok-name.name c.push-2.new.self.items c.args.domain c.args.range types t name items)
+    c.in_ok-slot.ensures

@@ -1,0 +1,97 @@
+-- What a graph of slots, and equations between slots, say of the types of the slots. Only private contracts and proofs cite this.
+use Rattle.std.specs.Prelude.{◌≡◌, ℕ, ◌+◌, ◌<◌, ◌↔◌, List, [], ◌∷◌, length, get_or, map}
+use Rattle.std.specs.List.{All, sum_by}
+use Rattle.hol_types.specs.Tree.{TypeTree, TyVar, TyApp, type_list}
+use Rattle.hol_infer.specs.declared.cell.Cell.{Cell}
+use Rattle.hol_infer.specs.declared.cell.Cell.TheVariants.{Unknown, Link, Rigid, App}
+use Rattle.hol_infer.specs.declared.cell.Equation.{Equation}
+use Rattle.hol_infer.specs.Typing.{IsOpen}
+
+-- the slot of type t meets its cell
+abbrev pub CellHolds : (ℕ → TypeTree) → TypeTree → Cell → Type 0
+CellHolds types t Unknown = Unit {0}
+CellHolds types t (Link j) = t ≡ types j
+CellHolds types t (Rigid a) = t ≡ TyVar a
+CellHolds types t (App c parts) = t ≡ TyApp c (type_list (map types parts.items))
+
+-- the cell of a slot; none beyond the graph
+abbrev pub cell_at : List Cell → ℕ → Cell
+cell_at cells i = get_or cells i Unknown
+
+-- the types meet the graph
+pub record Respects (cells : List Cell) (types : ℕ → TypeTree) : Type 0 where
+  pub cell : (i : ℕ) → CellHolds types (types i) (cell_at cells i)
+
+abbrev pub EquationHolds : (ℕ → TypeTree) → Equation → Type 0
+EquationHolds types e = types e.left ≡ types e.right
+
+-- the types meet the graph and the equations
+pub record IsSolution (cells : List Cell) (pending : List Equation) (types : ℕ → TypeTree) : Type 0 where
+  pub respects : Respects cells types
+  pub equations : All (EquationHolds types) pending
+
+-- two graphs with equations have the same solutions
+abbrev pub SameSolutions : List Cell → List Equation → List Cell → List Equation → Type 0
+SameSolutions cells pending cells' pending' = (types : ℕ → TypeTree) → IsSolution cells pending types ↔ IsSolution cells' pending' types
+
+-- no types meet the graph and the equations
+abbrev pub HasNoSolution : List Cell → List Equation → Type 0
+HasNoSolution cells pending = (types : ℕ → TypeTree) → IsSolution cells pending types → ⊥
+
+-- a cell of slot i in a graph of n slots: a link goes down, and an annotation's type variable is no open one
+abbrev pub IsCellIn : ℕ → ℕ → Cell → Type 0
+IsCellIn n i Unknown = Unit {0}
+IsCellIn n i (Link j) = j < i
+IsCellIn n i (Rigid a) = IsOpen a → ⊥
+IsCellIn n i (App c parts) = All (λ p. p < n) parts.items
+
+pub record IsGraph (cells : List Cell) : Type 0 where
+  pub cell_in : (i : ℕ) → IsCellIn (length cells) i (cell_at cells i)
+
+-- the slots of the equations are below n
+abbrev pub AreBelow : ℕ → List Equation → Type 0
+AreBelow n pending = All (λ e. (e.left < n) × (e.right < n)) pending
+
+abbrev pub AreIn : List Cell → List Equation → Type 0
+AreIn cells pending = AreBelow (length cells) pending
+
+-- a slot whose cell is no link
+abbrev pub IsRootCell : Cell → Type 0
+IsRootCell Unknown = Unit {0}
+IsRootCell (Link j) = ⊥
+IsRootCell (Rigid a) = Unit {0}
+IsRootCell (App c parts) = Unit {0}
+
+-- a slot of which something is known
+abbrev pub IsKnownCell : Cell → Type 0
+IsKnownCell Unknown = ⊥
+IsKnownCell (Link j) = ⊥
+IsKnownCell (Rigid a) = Unit {0}
+IsKnownCell (App c parts) = Unit {0}
+
+-- what is left to do: each merge of two roots lowers it
+abbrev pub cell_weight : Cell → ℕ
+cell_weight Unknown = 1
+cell_weight (Link j) = 0
+cell_weight (Rigid a) = 1
+cell_weight (App c parts) = 1 + length parts.items
+
+abbrev pub work_left : List Cell → List Equation → ℕ
+work_left cells pending = sum_by cell_weight cells + length pending
+
+-- What joining the cells of two roots says: the equations that come are those that were there, and those that make a type that meets
+-- the first cell meet the second.
+pub record IsJoined (low high : Cell) (before after : List Equation) : Type 0 where
+  pub joins : (types : ℕ → TypeTree) (t : TypeTree) → CellHolds types t low → All (EquationHolds types) after ↔ (CellHolds types t high × All (EquationHolds types) before)
+  pub are_in : (n i j : ℕ) → IsCellIn n i low → IsCellIn n j high → AreBelow n before → AreBelow n after
+  pub less : length after < length before + cell_weight high
+
+-- no type meets both cells
+abbrev pub HaveNoType : Cell → Cell → Type 0
+HaveNoType low high = (types : ℕ → TypeTree) (t : TypeTree) → CellHolds types t low → CellHolds types t high → ⊥
+
+-- the equations between the parts of two constructors
+abbrev pub part_equations : List ℕ → List ℕ → List Equation
+part_equations [] rights = []
+part_equations (l ∷ lefts) [] = []
+part_equations (l ∷ lefts) (r ∷ rights) = record { left = l; right = r } ∷ part_equations lefts rights

@@ -1,0 +1,51 @@
+-- Types as inference finds them: over slots, which stand for types that are still open. Only private contracts and proofs cite this.
+use Rattle.std.specs.Prelude.{ℕ, ◌+◌, List, [], ◌∷◌, ◌++◌}
+use Rattle.hol_types.specs.Tree.{TypeTree, TypeList, TyVar, TyApp, no_types, more_types}
+
+mutual
+  -- an open slot, a type variable of an annotation, or a constructor with its arguments
+  pub data ShapeTree : Type 0 where
+    Hole : ℕ → ShapeTree
+    Fixed : List ℕ → ShapeTree
+    Built : List ℕ → ShapeList → ShapeTree
+
+  pub data ShapeList : Type 0 where
+    no_shapes : ShapeList
+    more_shapes : ShapeTree → ShapeList → ShapeList
+
+abbrev pub shape_list : List ShapeTree → ShapeList
+shape_list [] = no_shapes
+shape_list (s ∷ ss) = more_shapes s (shape_list ss)
+
+-- the number of nodes
+abbrev mutual
+  pub shape_size : ShapeTree → ℕ
+  shape_size (Hole k) = 1
+  shape_size (Fixed a) = 1
+  shape_size (Built c ss) = 1 + shapes_size ss
+
+  pub shapes_size : ShapeList → ℕ
+  shapes_size no_shapes = 0
+  shapes_size (more_shapes s ss) = shape_size s + shapes_size ss
+
+-- the type, where `at` gives types to the open slots
+abbrev mutual
+  pub fill : (ℕ → TypeTree) → ShapeTree → TypeTree
+  fill at (Hole k) = at k
+  fill at (Fixed a) = TyVar a
+  fill at (Built c ss) = TyApp c (fills at ss)
+
+  pub fills : (ℕ → TypeTree) → ShapeList → TypeList
+  fills at no_shapes = no_types
+  fills at (more_shapes s ss) = more_types (fill at s) (fills at ss)
+
+-- the open slots as they occur
+abbrev mutual
+  pub shape_holes : ShapeTree → List ℕ
+  shape_holes (Hole k) = k ∷ []
+  shape_holes (Fixed a) = []
+  shape_holes (Built c ss) = shapes_holes ss
+
+  pub shapes_holes : ShapeList → List ℕ
+  shapes_holes no_shapes = []
+  shapes_holes (more_shapes s ss) = shape_holes s ++ shapes_holes ss

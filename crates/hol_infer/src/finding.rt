@@ -1,0 +1,175 @@
+//! The shapes of the slots of a solved graph, or that there are none.
+ghost use Rattle.std.specs.Prelude.{◌≡◌, ℕ, ◌+◌, ◌<◌, ◌≤◌, length, IfOk, IfErr, OnOk, MatchOption, None};
+ghost use Rattle.std.specs.List.{All};
+ghost use Rattle.hol_types.specs.Tree.{TypeTree};
+ghost use Rattle.hol_infer.specs.Graph.{Respects, IsGraph, IsCellIn};
+ghost use Rattle.hol_infer.specs.Found.{found_at, ArePartsFound, IsPartMissing, BuiltFrom, IsBlocked, IsBuilt, IsStuck, missing, StepGives, SweepGives, AreGeneral};
+
+use crate::cell::Cell;
+use crate::fault::Fault;
+use crate::shape::Shape;
+use std::alloc::{AllocError, Global};
+
+// The shapes of the parts, where each is found.
+fn parts_found(
+    alloc: Global,
+    found: &[Option<Shape>],
+    parts: &[usize],
+) -> Result<Option<Vec<Shape>>, AllocError>
+    requires parts_in { All (λ p. p < length found.now) parts.now }
+    ensures { IfOk result (λ o. MatchOption o (IsPartMissing found.now parts.now) (λ shapes. ArePartsFound found.now parts.now shapes.items)) }
+{
+    let mut shapes = Vec::with_capacity(alloc, parts.len())?;
+    for part in parts {
+        match &found[*part] {
+            Some(shape) => shapes.push(shape.copy()?)?,
+            None => return Ok(None),
+        }
+    }
+    Ok(Some(shapes))
+}
+
+// The shape of a slot with this cell, where the shapes of the cell's parts are found.
+fn shape_of_cell(
+    alloc: Global,
+    found: &[Option<Shape>],
+    slot: usize,
+    cell: &Cell,
+) -> Result<Option<Shape>, AllocError>
+    requires slot_in { slot < length found.now }
+    requires cell_in { IsCellIn (length found.now) slot cell.now }
+    ensures { IfOk result (λ o. MatchOption o (IsBlocked found.now cell.now) (λ shape. BuiltFrom found.now slot shape cell.now)) }
+{
+    match cell {
+        Cell::Unknown => Ok(Some(Shape::open(alloc, slot)?)),
+        Cell::Rigid(name) => Ok(Some(Shape::rigid(alloc, name)?)),
+        Cell::Link(target) => match &found[*target] {
+            Some(shape) => Ok(Some(shape.copy()?)),
+            None => Ok(None),
+        },
+        Cell::App(name, parts) => match parts_found(alloc, found, parts)? {
+            Some(shapes) => Ok(Some(Shape::app(alloc, name, shapes)?)),
+            None => Ok(None),
+        },
+    }
+}
+
+// Gives the slot its shape, where it has none and those of its parts are found. Says whether it did.
+fn step(
+    alloc: Global,
+    cells: &[Cell],
+    found: &mut [Option<Shape>],
+    slot: usize,
+) -> Result<bool, AllocError>
+    requires graph { IsGraph cells.now }
+    requires len { length found.old ≡ length cells.now }
+    requires slot_in { slot < length cells.now }
+    requires built { IsBuilt cells.now found.old }
+    ensures len { length found.new ≡ length cells.now }
+    ensures built { IsBuilt cells.now found.new }
+    ensures gives { IfOk result (λ b. StepGives cells.now found.old found.new slot b) }
+{
+    if found[slot].is_some() {
+        return Ok(false);
+    }
+    match shape_of_cell(alloc, found, slot, &cells[slot])? {
+        Some(shape) => {
+            found[slot] = Some(shape);
+            Ok(true)
+        }
+        None => Ok(false),
+    }
+}
+
+// Gives shapes to all slots whose parts have shapes, from the lowest up. Says whether there were such slots.
+fn sweep(alloc: Global, cells: &[Cell], found: &mut [Option<Shape>]) -> Result<bool, AllocError>
+    requires graph { IsGraph cells.now }
+    requires len { length found.old ≡ length cells.now }
+    requires built { IsBuilt cells.now found.old }
+    ensures len { length found.new ≡ length cells.now }
+    ensures built { IsBuilt cells.now found.new }
+    ensures gives { IfOk result (λ b. SweepGives cells.now found.old found.new b) }
+{
+    let mut progress = false;
+    for slot in 0..cells.len() {
+        if step(alloc, cells, found, slot)? {
+            progress = true;
+        }
+    }
+    Ok(progress)
+}
+
+// The same from the highest slot down. A long chain of slots is found in one sweep or the other.
+fn sweep_down(alloc: Global, cells: &[Cell], found: &mut [Option<Shape>]) -> Result<(), AllocError>
+    requires graph { IsGraph cells.now }
+    requires len { length found.old ≡ length cells.now }
+    requires built { IsBuilt cells.now found.old }
+    ensures len { length found.new ≡ length cells.now }
+    ensures built { IsBuilt cells.now found.new }
+    ensures no_more { OnOk result (missing found.new ≤ missing found.old) }
+{
+    let count = cells.len();
+    for passed in 0..count {
+        step(alloc, cells, found, count - 1 - passed)?;
+    }
+    Ok(())
+}
+
+// Gives shapes to slots until no slot can get one.
+fn saturate(alloc: Global, cells: &[Cell], found: &mut [Option<Shape>]) -> Result<(), AllocError>
+    requires graph { IsGraph cells.now }
+    requires len { length found.old ≡ length cells.now }
+    requires built { IsBuilt cells.now found.old }
+    ensures len { length found.new ≡ length cells.now }
+    ensures built { IsBuilt cells.now found.new }
+    ensures stuck { OnOk result (IsStuck cells.now found.new) }
+{
+    while sweep(alloc, cells, found)? {
+        sweep_down(alloc, cells, found)?;
+    }
+    Ok(())
+}
+
+// The shapes found, where each slot has one.
+fn all_found(alloc: Global, cells: &[Cell], found: &[Option<Shape>]) -> Result<Vec<Shape>, Fault>
+    requires graph { IsGraph cells.now }
+    requires len { length found.now ≡ length cells.now }
+    requires built { IsBuilt cells.now found.now }
+    requires stuck { IsStuck cells.now found.now }
+    ensures general { IfOk result (λ v. AreGeneral cells.now v.items) }
+    ensures untypable { IfErr result (λ e. e ≡ Fault.Untypable → (types : ℕ → TypeTree) → Respects cells.now types → ⊥) }
+{
+    let mut shapes = Vec::with_capacity(alloc, found.len())?;
+    for shape in found {
+        match shape {
+            Some(shape) => shapes.push(shape.copy()?)?,
+            None => return Err(Fault::Untypable),
+        }
+    }
+    Ok(shapes)
+}
+
+// No shapes for as many slots.
+fn none_found(alloc: Global, count: usize) -> Result<Vec<Option<Shape>>, AllocError>
+    ensures len { IfOk result (λ v. length v.items ≡ count) }
+    ensures none { IfOk result (λ v. (i : ℕ) → found_at v.items i ≡ None) }
+{
+    let mut found = Vec::with_capacity(alloc, count)?;
+    for _ in 0..count {
+        found.push(None)?;
+    }
+    Ok(found)
+}
+
+/// The shape of each slot: of these the types that meet the graph are the instances.
+///
+/// Answers `Untypable` only where no types meet the graph.
+pub fn shapes_of(alloc: Global, cells: &[Cell]) -> Result<Vec<Shape>, Fault>
+    requires graph { IsGraph cells.now }
+    ensures general { IfOk result (λ v. AreGeneral cells.now v.items) }
+    ensures untypable { IfErr result (λ e. e ≡ Fault.Untypable → (types : ℕ → TypeTree) → Respects cells.now types → ⊥) }
+{
+    let mut found = none_found(alloc, cells.len())?;
+    saturate(alloc, cells, &mut found)?;
+    all_found(alloc, cells, &found)
+}

@@ -1,0 +1,201 @@
+//! Types as inference finds them, over slots that are still open.
+ghost use Rattle.std.specs.Prelude.{◌≡◌, ◌+◌, IfOk, OnOk, min};
+ghost use Rattle.hol_infer.specs.Shape.{Hole, Fixed, Built, shape_list, shape_size, shapes_size, fill, shape_holes};
+ghost use Rattle.hol_infer.specs.Typing.{open_name};
+ghost use Rattle.hol_infer.specs.Holes.{is_hole_among, add_hole, add_holes, hole_index, open_type};
+ghost use Rattle.hol_infer.specs.ShapeView.{shape_of};
+
+use hol_types::{Name, Ty};
+use std::alloc::{AllocError, Global};
+use std::marker::Model;
+use std::rc::Rc;
+
+/// One more than the nodes that a reading may have.
+pub const TOO_LARGE: u32 = 20_001;
+
+/// A type over slots. Its copies share their nodes.
+#[cycle(shape)]
+#[derive(Drop)]
+pub struct Shape {
+    size: u32,
+    node: Rc<ShapeNode>,
+}
+
+/// The top node of a shape.
+#[cycle(shape)]
+#[derive(Drop)]
+pub enum ShapeNode {
+    /// A slot whose type is open.
+    Open(usize),
+    /// A type variable of an annotation.
+    Rigid(Name),
+    /// A constructor and its arguments, in order.
+    App(Name, Vec<Shape>),
+}
+
+impl Model for Shape {
+    ghost use Rattle.std.specs.Prelude.{◌≡◌, min};
+    ghost use Rattle.hol_infer.specs.Shape.{ShapeTree, shape_size};
+    ghost use Rattle.hol_infer.specs.ShapeCode.{coded_shape};
+
+    ghost Value = { ShapeTree };
+
+    ghost coded = { coded_shape };
+
+    ghost use Rattle.hol_infer.specs.ShapeView.{shape_of};
+
+    ghost view = { λ a. shape_of a.node.value };
+
+    ghost invariant = { λ a. a.size ≡ min (shape_size (shape_of a.node.value)) 20001 };
+
+    ghost size = { shape_size };
+
+    ghost use Rattle.hol_infer.specs.ShapeFalls.{deep_le_size};
+
+    ghost size_decreases = { λ a h. deep_le_size a.node.value };
+}
+
+impl Shape {
+    /// The open slot of this number.
+    pub fn open(alloc: Global, slot: usize) -> Result<Shape, AllocError>
+        ensures { IfOk result (λ s. s ≡ Hole slot) }
+    {
+        Ok(Shape {
+            size: 1,
+            node: Rc::new(alloc, ShapeNode::Open(slot))?,
+        })
+    }
+
+    /// The type variable of this name.
+    pub fn rigid(alloc: Global, name: &Name) -> Result<Shape, AllocError>
+        ensures { IfOk result (λ s. s ≡ Fixed name.now) }
+    {
+        Ok(Shape {
+            size: 1,
+            node: Rc::new(alloc, ShapeNode::Rigid(name.copy()?))?,
+        })
+    }
+
+    /// The constructor of this name applied to the parts.
+    pub fn app(alloc: Global, name: &Name, parts: Vec<Shape>) -> Result<Shape, AllocError>
+        ensures { IfOk result (λ s. s ≡ Built name.now (shape_list parts.items)) }
+    {
+        let size = size_with(&parts);
+        Ok(Shape {
+            size,
+            node: Rc::new(alloc, ShapeNode::App(name.copy()?, parts))?,
+        })
+    }
+
+    /// The same shape, sharing its nodes.
+    pub fn copy(&self) -> Result<Shape, AllocError>
+        ensures { IfOk result (λ s. s ≡ self.now) }
+    {
+        Ok(Shape {
+            size: self.size,
+            node: self.node.clone()?,
+        })
+    }
+
+    /// The number of nodes, or 20,001 where there are more.
+    pub fn size(&self) -> u32
+        ensures { result ≡ min (shape_size self.now) 20001 }
+    {
+        self.size
+    }
+
+    /// Puts the open slots at the end of the list as they occur, each unless it is there.
+    #[tactic(auto, using(crate::proofs::Holes::add_step))]
+    pub fn add_holes(&self, order: &mut Vec<usize>) -> Result<(), AllocError>
+        ensures { OnOk result (order.new.items ≡ add_holes order.old.items (shape_holes self.now)) }
+    {
+        match &*self.node {
+            ShapeNode::Open(slot) => add_hole(order, *slot),
+            ShapeNode::Rigid(_) => Ok(()),
+            ShapeNode::App(_, parts) => {
+                for part in parts {
+                    part.add_holes(order)?;
+                }
+                Ok(())
+            }
+        }
+    }
+
+    /// The type, where an open slot is the type variable named by its place in the order.
+    #[tactic(auto, using(crate::proofs::Holes::fill_all))]
+    pub fn ty(&self, alloc: Global, order: &[usize]) -> Result<Ty, AllocError>
+        ensures { IfOk result (λ t. t ≡ fill (open_type order.now) self.now) }
+    {
+        match &*self.node {
+            ShapeNode::Open(slot) => {
+                let name = open_name(alloc, hole_index(order, *slot))?;
+                let ty = Ty::var(alloc, &name)?;
+                Ok(ty)
+            }
+            ShapeNode::Rigid(name) => Ty::var(alloc, name),
+            ShapeNode::App(name, parts) => {
+                let mut args = Vec::with_capacity(alloc, parts.len())?;
+                for part in parts {
+                    args.push(part.ty(alloc, order)?)?;
+                }
+                let ty = Ty::app(alloc, name, &args)?;
+                Ok(ty)
+            }
+        }
+    }
+}
+
+// Whether the slot is in the order.
+fn is_hole_among(order: &[usize], slot: usize) -> bool
+    ensures { result ≡ is_hole_among order.now slot }
+{
+    for other in order {
+        if *other == slot {
+            return true;
+        }
+    }
+    false
+}
+
+// Puts the slot at the end, unless it is there.
+fn add_hole(order: &mut Vec<usize>, slot: usize) -> Result<(), AllocError>
+    ensures { OnOk result (order.new.items ≡ add_hole order.old.items slot) }
+{
+    if is_hole_among(order, slot) {
+        return Ok(());
+    }
+    order.push(slot)?;
+    Ok(())
+}
+
+// The place of the slot in the order, or the number of places.
+fn hole_index(order: &[usize], slot: usize) -> usize
+    ensures { result ≡ hole_index order.now slot }
+{
+    for (i, other) in order.iter().enumerate() {
+        if *other == slot {
+            return i;
+        }
+    }
+    order.len()
+}
+
+// The name of the k-th type that is left open.
+fn open_name(alloc: Global, k: usize) -> Result<Name, AllocError>
+    ensures { IfOk result (λ name. name ≡ open_name k) }
+{
+    let text = format!(in alloc; "?{k}")?;
+    let name = Name::new(alloc, text.as_str())?;
+    Ok(name)
+}
+
+// The number of nodes of a constructor with these parts, or 20,001 where there are more.
+fn size_with(parts: &[Shape]) -> u32
+    ensures { result ≡ min (1 + shapes_size (shape_list parts.now)) 20001 }
+{
+    let mut size: u32 = 1;
+    for part in parts {
+        size = (size + part.size()).min(TOO_LARGE);
+    }
+    size
+}
