@@ -8,3 +8,5 @@ pub mod Typing
 pub mod Rest
 pub mod Taken
 pub mod Steps
+pub mod TypeLaws
+pub mod Strip

@@ -3,13 +3,15 @@ use Rattle.std.proofs.Common.{◌≡◌, ℕ, ◌+◌, ◌<◌, ◌≤◌, List,
 use Rattle.hol_types.specs.Tree.{TypeTree}
 use Rattle.hol_types.specs.Equal.{variable_eq}
 use Rattle.hol_terms.specs.Named.{Named, var, constant, comb, abs, named_type}
-use Rattle.hol_terms.specs.Nameless.{Nameless, free, app, nameless, nameless_type}
+use Rattle.hol_terms.specs.Nameless.{Nameless, free, bound, fixed, app, lam, nameless, nameless_type}
 use Rattle.hol_terms.proofs.Same.{variable_eq_decides}
+use Rattle.hol_terms.specs.Scoped.{occurs_in}
+use Rattle.hol_terms.proofs.Occurs.{occurs_is}
 use Rattle.hol_terms.proofs.Typing.{type_outside}
 use Rattle.hol_subst.specs.Substitution.{term_lookup, term_for, term_subst}
 use Rattle.hol_subst.specs.Pairs.{nameless_pairs, IsGoodPair, HasBadPair}
-use Rattle.hol_subst.specs.Capture.{named_pairs, Fit, comes_in, IsRest, IsRenaming}
-use Rattle.hol_subst.proofs.Closing.{shift_whole}
+use Rattle.hol_subst.specs.Capture.{named_pairs, Fit, touches, comes_in, IsRest, IsRenaming}
+use Rattle.hol_subst.proofs.Closing.{shift_whole, or_false}
 use Rattle.hol_subst.proofs.Commute.{subst_agree}
 use Rattle.hol_subst.proofs.Typing.{AllTyped, subst_type}
 use Rattle.hol_subst.proofs.Rest.{next_pair, drop-all}
@@ -45,6 +47,25 @@ comb_typed ps t f x g y s h e k p q n =
 
 pub renaming_fits : (rest pairs : List (Named × (List ℕ × TypeTree))) (b : Named) (v u : List ℕ × TypeTree) → Fit rest → IsRenaming rest b v u → pairs ≡ (var u, v) ∷ rest → Fit pairs
 renaming_fits rest pairs b v u h i e = subst Fit (sym e) (ap (λ x. Some x.1) i.is, h)
+
+-- ---- no variable of a pair is free
+subst_nothing : (k : ℕ) (n : Nameless) → term_subst [] k n ≡ n
+subst_nothing k (free v) = refl
+subst_nothing k (bound i) = refl
+subst_nothing k (fixed c s) = refl
+subst_nothing k (app f x) = λ i. app (subst_nothing k f i) (subst_nothing k x i)
+subst_nothing k (lam a s b) = ap (lam a s) (subst_nothing (k + 1) b)
+
+untouched_for : (ps : NamedPairs) (t : Named) (w : Var) → touches ps t ≡ false → occurs_in w t ≡ true → term_for (named_pairs ps) w ≡ free w
+untouched_for [] t w e o = refl
+untouched_for (p ∷ ps) t w e o = by (variable_eq p.1 w) refl (untouched_for ps t w (or_false _ _ e).1 o)
+  where
+    by : (b : Bool) → variable_eq p.1 w ≡ b → term_for (named_pairs ps) w ≡ free w → unwrap_or (cond b (Some (nameless [] p.0)) (term_lookup (named_pairs ps) w)) (free w) ≡ free w
+    by true q r = let z : true ≡ false = sym o ∙ ap (λ x. occurs_in x t) (sym ((variable_eq_decides p.1 w).0 q)) ∙ (or_false _ _ e).0 in absurd (cc)
+    by false q r = r
+
+pub untouched : (ps : List (Named × (List ℕ × TypeTree))) (t : Named) → touches ps t ≡ false → IsSubst ps t t
+untouched ps t e = sym (subst_agree (named_pairs ps) [] 0 (nameless [] t) (λ w f. untouched_for ps t w e (occurs_is w t ∙ f)) ∙ subst_nothing 0 (nameless [] t))
 
 -- ---- cases
 pub at_var : (ps : List (Named × (List ℕ × TypeTree))) (t : Named) (v : List ℕ × TypeTree) (o : Option Named) → t ≡ var v → nameless [] (unwrap_or o (var v)) ≡ term_for (named_pairs ps) v → IsSubst ps t (unwrap_or o t)

@@ -22,6 +22,11 @@ abbrev pub has_pair : List (Named × (List ℕ × TypeTree)) → List ℕ × Typ
 has_pair [] v = false
 has_pair (p ∷ pairs) v = variable_eq p.1 v || has_pair pairs v
 
+-- the variable of some pair is free in t
+abbrev pub touches : List (Named × (List ℕ × TypeTree)) → Named → Bool
+touches [] t = false
+touches (p ∷ pairs) t = occurs_in p.1 t || touches pairs t
+
 -- v is free in the term of a pair whose variable is free in b
 abbrev pub comes_in : List (Named × (List ℕ × TypeTree)) → List ℕ × TypeTree → Named → Bool
 comes_in [] v b = false

@@ -11,6 +11,8 @@ mod names_tests;
 mod pairs;
 mod substitution;
 #[cfg(test)]
+mod substitution_tests;
+#[cfg(test)]
 mod tests;
 mod variants;
 

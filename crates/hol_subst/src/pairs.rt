@@ -6,7 +6,7 @@ ghost use Rattle.hol_terms.specs.Nameless.{nameless};
 ghost use Rattle.hol_terms.specs.declared.term.TermError.TheVariants.{Memory};
 ghost use Rattle.hol_terms.specs.Scoped.{occurs_in};
 ghost use Rattle.hol_subst.specs.Substitution.{term_lookup};
-ghost use Rattle.hol_subst.specs.Capture.{named_pairs, has_pair, comes_in, is_taken, IsRest, IsRenaming};
+ghost use Rattle.hol_subst.specs.Capture.{named_pairs, has_pair, touches, comes_in, is_taken, IsRest, IsRenaming};
 
 use hol_terms::{Term, TermError, Variable};
 use std::alloc::Global;
@@ -29,6 +29,18 @@ pub fn has_pair(pairs: &[(Term, Variable)], v: &Variable) -> bool
 {
     for pair in pairs {
         if pair.1.same(v) {
+            return true;
+        }
+    }
+    false
+}
+
+/// Whether the variable of some pair may be free in the term: where it says no, none is.
+pub fn may_touch(pairs: &[(Term, Variable)], t: &Term) -> bool
+    ensures { result ≡ false → touches pairs.now t.now ≡ false }
+{
+    for pair in pairs {
+        if t.may_have_free(&pair.1) {
             return true;
         }
     }

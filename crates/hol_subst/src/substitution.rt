@@ -9,7 +9,9 @@ ghost use Rattle.hol_subst.specs.Pairs.{nameless_pairs, IsGoodPair, HasBadPair};
 ghost use Rattle.hol_subst.specs.Capture.{named_pairs, has_pair, Fit};
 
 use crate::error::SubstError;
-use crate::pairs::{add_pair, comes_in, has_pair, renaming, renaming_first, replacement, rest_of};
+use crate::pairs::{
+    add_pair, comes_in, has_pair, may_touch, renaming, renaming_first, replacement, rest_of,
+};
 use hol_terms::{Term, TermError, TermNode, Variable};
 use std::alloc::Global;
 
@@ -93,6 +95,9 @@ fn substituted(
     ensures ok { IfOk result (λ r. nameless [] (unwrap_or r t.now) ≡ term_subst (named_pairs pairs.now) 0 (nameless [] t.now)) }
     ensures memory { IsOkUnless result TermError.Memory }
 {
+    if !may_touch(pairs, t) {
+        return Ok(None);
+    }
     match t.node() {
         TermNode::Var(v) => Ok(at_variable(pairs, v)?),
         TermNode::Const(_, _) => Ok(None),

@@ -3,7 +3,7 @@ use Rattle.hol_terms.specs.Nameless.{nameless}
 use Rattle.hol_terms.specs.View.{named_of}
 use Rattle.hol_subst.specs.Substitution.{term_subst}
 use Rattle.hol_subst.specs.Capture.{named_pairs, comes_in, IsRenaming}
-use Rattle.hol_subst.proofs.Steps.{comb_typed, at_var, at_kept, at_renamed}
+use Rattle.hol_subst.proofs.Steps.{comb_typed, untouched, at_var, at_kept, at_renamed}
 use Rattle.hol_subst.proofs.substitution.+substituted.Goals as goal
 
 pub applied-requires : goal.applied-requires
@@ -38,3 +38,6 @@ returns-in_ok-abstraction-in-Abs-clause-ok t c =
     (c.in_ok-substituted-in-Abs.ensures.ok ∙ ap (λ x. term_subst (named_pairs x) 0 (nameless [] c.in-Abs.b)) c.deref-in-Abs-2.ensures.value)
     c.in_ok-inside-in-Abs-2.ensures.ok
     c.in_ok-abstraction-in-Abs.ensures.ok
+
+pub returns-then-not-may_touch-clause-ok : goal.returns-then-not-may_touch-clause-ok
+returns-then-not-may_touch-clause-ok t c = untouched c.args.pairs.now c.args.t.now (c.may_touch.ensures c.if-not-may_touch.true)
