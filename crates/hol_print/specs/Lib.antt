@@ -1,0 +1,5 @@
+pub mod ShowType
+pub mod ShowTerm
+pub mod BareView
+pub mod ShapeView
+pub mod ShowGoal

@@ -1,0 +1,19 @@
+//! The texts of types, terms and goals. The text of a term is a function of its nameless term.
+#![tactic(auto)]
+
+mod bare;
+mod goal_text;
+mod names;
+mod notation;
+mod shape;
+mod shown_goal;
+mod term_text;
+#[cfg(test)]
+mod tests;
+mod type_text;
+
+pub use goal_text::show_goal;
+pub use names::shown_names_have_fewest_primes;
+pub use shown_goal::ShownGoal;
+pub use term_text::show_term;
+pub use type_text::show_type;

@@ -1,0 +1,77 @@
+//! The text of a type.
+ghost use Rattle.std.specs.Prelude.{◌≡◌, ◌++◌, IfOk, OnOk, string_bytes};
+ghost use Rattle.hol_print.specs.ShowType.{in_parentheses, is_function, show_type, show_arguments};
+ghost use Rattle.hol_types.specs.Tree.{type_list};
+
+use hol_types::{Ty, TyNode};
+use std::alloc::{AllocError, Global};
+
+/// The text of a type: `A->B` without spaces, `A list`, `(A,B) name`.
+///
+/// Answers an error where memory is short, and nowhere else.
+pub fn show_type(alloc: Global, ty: &Ty) -> Result<String, AllocError>
+    ensures { IfOk result (λ text. string_bytes text ≡ show_type ty.now) }
+{
+    let mut text = String::new(alloc);
+    write_type(ty, &mut text)?;
+    Ok(text)
+}
+
+/// Puts the text of the type at the end.
+#[cycle(types)]
+#[tactic(auto, using(crate::proofs::Types::parts, crate::proofs::Types::sizes))]
+pub(crate) fn write_type(ty: &Ty, text: &mut String) -> Result<(), AllocError>
+    ensures { OnOk result (string_bytes text.new ≡ string_bytes text.old ++ show_type ty.now) }
+{
+    if let Some((domain, range)) = ty.dest_fun() {
+        write_operand(domain, text)?;
+        text.push_str("->")?;
+        return write_type(range, text);
+    }
+    match ty.node() {
+        TyNode::Var(name) => text.push_str(name.as_str()),
+        TyNode::App(name, args) => {
+            write_arguments(args, text)?;
+            text.push_str(name.as_str())
+        }
+    }
+}
+
+// What stands before a constructor that is not `->`.
+#[cycle(types)]
+#[tactic(auto, using(crate::proofs::Types::arguments, crate::proofs::Types::sizes))]
+fn write_arguments(args: &[Ty], text: &mut String) -> Result<(), AllocError>
+    ensures { OnOk result (string_bytes text.new ≡ string_bytes text.old ++ show_arguments (type_list args.now)) }
+{
+    match args {
+        [] => Ok(()),
+        [only] => {
+            write_operand(only, text)?;
+            text.push_str(" ")
+        }
+        [first, second, others @ ..] => {
+            text.push_str("(")?;
+            write_type(first, text)?;
+            text.push_str(",")?;
+            write_type(second, text)?;
+            for other in others {
+                text.push_str(",")?;
+                write_type(other, text)?;
+            }
+            text.push_str(") ")
+        }
+    }
+}
+
+// A type on the left of `->` or alone before a constructor: a function type stands in parentheses.
+#[cycle(types)]
+fn write_operand(ty: &Ty, text: &mut String) -> Result<(), AllocError>
+    ensures { OnOk result (string_bytes text.new ≡ string_bytes text.old ++ in_parentheses (is_function ty.now) (show_type ty.now)) }
+{
+    if ty.dest_fun().is_none() {
+        return write_type(ty, text);
+    }
+    text.push_str("(")?;
+    write_type(ty, text)?;
+    text.push_str(")")
+}
