@@ -10,3 +10,5 @@ pub mod Taken
 pub mod Steps
 pub mod TypeLaws
 pub mod Strip
+pub mod TypesInst
+pub mod InstSteps

@@ -8,3 +8,4 @@ pub mod CodeOrder
 pub mod Ordered
 pub mod FreeName
 pub mod Capture
+pub mod Renaming

@@ -5,6 +5,9 @@ mod alpha;
 #[cfg(test)]
 mod alpha_tests;
 mod error;
+mod instances;
+#[cfg(test)]
+mod instances_tests;
 mod names;
 #[cfg(test)]
 mod names_tests;
@@ -18,6 +21,7 @@ mod variants;
 
 pub use alpha::{aconv, alpha_order, alpha_order_is_total};
 pub use error::SubstError;
+pub use instances::inst;
 pub use names::free_name;
 pub use substitution::vsubst;
 pub use variants::variant;

@@ -1,0 +1,190 @@
+-- Instantiation of types in a named term, which renames bound variables, is instantiation in its nameless term.
+use Rattle.std.proofs.Common.{◌≡◌, ℕ, zero, suc, ◌+◌, List, [], ◌∷◌, ◌++◌, map, refl, ap, sym, ◌∙◌, subst, Bool, true, false, cond, ◌||◌, Option, Some, None, IsSome, is_some, unwrap_or}
+use Rattle.std.specs.Option.{option_map, option_and_then}
+use Rattle.hol_types.specs.Tree.{TypeTree}
+use Rattle.hol_types.specs.Fun.{fun_type}
+use Rattle.hol_types.specs.Subst.{type_subst}
+use Rattle.hol_types.specs.Equal.{variable_eq}
+use Rattle.hol_terms.specs.Named.{Named, var, constant, comb, abs, named_type, applied_type}
+use Rattle.hol_terms.specs.Nameless.{Nameless, free, bound, fixed, app, lam, with_letter, base_of, place, nameless, free_occurrences}
+use Rattle.hol_terms.specs.Scoped.{binds, occurs_in, add_new, add_all}
+use Rattle.hol_terms.proofs.Same.{variable_eq_decides}
+use Rattle.hol_terms.proofs.Occurs.{binds-append, occurs_is}
+use Rattle.hol_terms.proofs.Typing.{comb_type, abs_type}
+use Rattle.hol_subst.specs.Variant.{with_primes, is_free_in, IsVariant}
+use Rattle.hol_subst.specs.Substitution.{variable_inst, types_inst}
+use Rattle.hol_subst.specs.Renaming.{image, images_without, KeepsTypes, KeepsPlaces, IsInstance}
+use Rattle.hol_subst.proofs.Closing.{eq_same, eq_flip, or_false}
+use Rattle.hol_subst.proofs.TypesInst.{applied_inst, or_left, or_right}
+
+abbrev Var : Type 0
+Var = List ℕ × TypeTree
+
+abbrev Variables : Type 0
+Variables = List (List ℕ × TypeTree)
+
+abbrev Avoided : Type 0
+Avoided = List Nameless
+
+-- ---- what the bound variable has to avoid
+or_more : (a b c : Bool) → (b ≡ true → c ≡ true) → (a || b) ≡ true → (a || c) ≡ true
+or_more true b c h e = refl
+or_more false b c h e = h e
+
+still_there : (vs ws : Variables) (w : Var) → binds vs w ≡ true → binds (add_all vs ws) w ≡ true
+still_there vs [] w h = h
+still_there vs (x ∷ ws) w h = still_there (add_new vs x) ws w (by (binds vs x))
+  where
+    by : (b : Bool) → binds (cond b vs (vs ++ x ∷ [])) w ≡ true
+    by true = h
+    by false = binds-append vs (x ∷ []) w ∙ or_left (binds vs w) (binds (x ∷ []) w) h
+
+now_there : (vs : Variables) (x w : Var) → variable_eq x w ≡ true → binds (add_new vs x) w ≡ true
+now_there vs x w e = by (binds vs x) refl
+  where
+    by : (b : Bool) → binds vs x ≡ b → binds (cond b vs (vs ++ x ∷ [])) w ≡ true
+    by true h = ap (binds vs) (sym ((variable_eq_decides x w).0 e)) ∙ h
+    by false h = binds-append vs (x ∷ []) w ∙ or_right (binds vs w) (variable_eq x w || false) (or_left (variable_eq x w) false e)
+
+-- each of the added variables is there
+pub all_there : (vs ws : Variables) (w : Var) → binds ws w ≡ true → binds (add_all vs ws) w ≡ true
+all_there vs [] w h = absurd (cc)
+all_there vs (x ∷ ws) w h = by (variable_eq x w) refl h (all_there (add_new vs x) ws w)
+  where
+    by : (b : Bool) → variable_eq x w ≡ b → (b || binds ws w) ≡ true → (binds ws w ≡ true → binds (add_all (add_new vs x) ws) w ≡ true) → binds (add_all (add_new vs x) ws) w ≡ true
+    by true e g r = still_there (add_new vs x) ws w (now_there vs x w e)
+    by false e g r = r g
+
+module _ (pairs : List (TypeTree × List ℕ)) (old new : Variables) (v u : Var) where
+  -- what stands for one of the variables is not u
+  apart_from : (ws : Variables) → is_free_in (map (λ t. nameless [] t) (images_without pairs old new v ws)) u ≡ false → (w : Var) → binds ws w ≡ true → variable_eq v w ≡ false → variable_eq u (image pairs old new w) ≡ false
+  apart_from [] e w h d = absurd (cc)
+  apart_from (x ∷ ws) e w h d = by (variable_eq x v) refl (variable_eq x w) refl e h (λ f g. apart_from ws f w g d)
+    where
+      by : (a : Bool) → variable_eq x v ≡ a → (b : Bool) → variable_eq x w ≡ b
+          → is_free_in (map (λ t. nameless [] t) (cond a (images_without pairs old new v ws) (var (image pairs old new x) ∷ images_without pairs old new v ws))) u ≡ false
+          → (b || binds ws w) ≡ true
+          → (is_free_in (map (λ t. nameless [] t) (images_without pairs old new v ws)) u ≡ false → binds ws w ≡ true → variable_eq u (image pairs old new w) ≡ false)
+          → variable_eq u (image pairs old new w) ≡ false
+      by true p true q f g r = let z : true ≡ false = sym ((variable_eq_decides v w).1 (sym ((variable_eq_decides x v).0 p) ∙ (variable_eq_decides x w).0 q)) ∙ d in absurd (cc)
+      by true p false q f g r = r f g
+      by false p true q f g r =
+          let own : variable_eq (image pairs old new x) u ≡ false = (or_false _ _ (or_false _ _ f).0).0 in
+          ap (λ y. variable_eq u (image pairs old new y)) (sym ((variable_eq_decides x w).0 q)) ∙ eq_flip u (image pairs old new x) ∙ own
+      by false p false q f g r = r (or_false _ _ f).1 g
+
+  -- the same for the free variables of a body
+  pub apart_in : (b : Named) → is_free_in (map (λ t. nameless [] t) (images_without pairs old new v (add_all [] (free_occurrences (nameless [] b))))) u ≡ false → (w : Var) → occurs_in w b ≡ true → variable_eq v w ≡ false → variable_eq u (image pairs old new w) ≡ false
+  apart_in b e w o d = apart_from (add_all [] (free_occurrences (nameless [] b))) e w (all_there [] (free_occurrences (nameless [] b)) w (sym (occurs_is w b) ∙ o)) d
+
+-- ---- types
+pub image_type : (pairs : List (TypeTree × List ℕ)) (old new : Variables) (v : Var) → KeepsTypes pairs old new → (image pairs old new v).1 ≡ type_subst pairs v.1
+image_type pairs [] new v h = refl
+image_type pairs (l ∷ old) [] v h = refl
+image_type pairs (l ∷ old) (r ∷ new) v h = by (variable_eq l v) refl (image_type pairs old new v h.1)
+  where
+    by : (b : Bool) → variable_eq l v ≡ b → (image pairs old new v).1 ≡ type_subst pairs v.1 → (cond b r (image pairs old new v)).1 ≡ type_subst pairs v.1
+    by true e i = h.0 ∙ ap (λ w. type_subst pairs w.1) ((variable_eq_decides l v).0 e)
+    by false e i = i
+
+-- ---- the cases
+module _ (pairs : List (TypeTree × List ℕ)) (old new : Variables) where
+  pub instance_var : (v : Var) → KeepsTypes pairs old new → IsInstance pairs old new (var v) (var (image pairs old new v))
+  instance_var v h = record {
+    types = λ s e. ap Some (image_type pairs old new v h) ∙ ap (option_map (type_subst pairs)) e;
+    terms = λ k. k v (eq_same v) 0;
+  }
+
+  pub instance_constant : (c : List ℕ) (s : TypeTree) → IsInstance pairs old new (constant c s) (constant c (type_subst pairs s))
+  instance_constant c s = record { types = λ t e. ap (option_map (type_subst pairs)) e; terms = λ k. refl }
+
+  comb_types : (f x g y : Named) → IsInstance pairs old new f g → IsInstance pairs old new x y → (o q : Option TypeTree) → named_type f ≡ o → named_type x ≡ q → (s : TypeTree) → option_and_then (λ r. option_and_then (λ t. applied_type r t) q) o ≡ Some s → named_type (comb g y) ≡ Some (type_subst pairs s)
+  comb_types f x g y m n None q a b s e = absurd (cc)
+  comb_types f x g y m n (Some r) None a b s e = absurd (cc)
+  comb_types f x g y m n (Some r) (Some t) a b s e = comb_type g y (type_subst pairs r) (type_subst pairs t) (m.types r a) (n.types t b) ∙ applied_inst pairs r t s e
+
+  pub instance_comb : (f x g y : Named) → IsInstance pairs old new f g → IsInstance pairs old new x y → IsInstance pairs old new (comb f x) (comb g y)
+  instance_comb f x g y m n = record {
+    types = comb_types f x g y m n (named_type f) (named_type x) refl refl;
+    terms = λ k i. app (m.terms (λ w o. k w (or_left (occurs_in w f) (occurs_in w x) o)) i) (n.terms (λ w o. k w (or_right (occurs_in w f) (occurs_in w x) o)) i);
+  }
+
+  abs_types : (v u : Var) (b c : Named) → u.1 ≡ type_subst pairs v.1 → IsInstance pairs (v ∷ old) (u ∷ new) b c → (o : Option TypeTree) → named_type b ≡ o → (s : TypeTree) → option_map (λ t. fun_type v.1 t) o ≡ Some s → named_type (abs u c) ≡ Some (type_subst pairs s)
+  abs_types v u b c p m None a s e = absurd (cc)
+  abs_types v u b c p m (Some t) a s e =
+      abs_type u c (type_subst pairs t) (m.types t a) ∙ ap (λ r. Some (fun_type r (type_subst pairs t))) p
+      ∙ ap (option_map (type_subst pairs)) e
+
+  -- nothing is captured in the body either
+  keeps_inside : (v u : Var) (b : Named) → ((w : Var) → occurs_in w b ≡ true → variable_eq v w ≡ false → variable_eq u (image pairs old new w) ≡ false) → KeepsPlaces pairs old new (abs v b) → KeepsPlaces pairs (v ∷ old) (u ∷ new) b
+  keeps_inside v u b apart k w o i = by (variable_eq v w) refl
+    where
+      by : (d : Bool) → variable_eq v w ≡ d → place (u ∷ new) i (cond d u (image pairs old new w)) ≡ types_inst pairs (cond d (bound i) (place old (i + 1) w))
+      by true e = rw (eq_same u) refl
+      by false e = rw (apart w o e) (k w (rw e o) (i + 1))
+
+  pub instance_abs : (v u : Var) (b c : Named) → u.1 ≡ type_subst pairs v.1 → base_of u.0 ≡ base_of v.0 → ((w : Var) → occurs_in w b ≡ true → variable_eq v w ≡ false → variable_eq u (image pairs old new w) ≡ false) → IsInstance pairs (v ∷ old) (u ∷ new) b c → IsInstance pairs old new (abs v b) (abs u c)
+  instance_abs v u b c p q apart m = record {
+    types = abs_types v u b c p m (named_type b) refl;
+    terms = λ k i. lam (q i) (p i) (m.terms (keeps_inside v u b apart k) i);
+  }
+
+-- outside all binders nothing can be captured
+pub instance_outside : (pairs : List (TypeTree × List ℕ)) (t r : Named) → IsInstance pairs [] [] t r → nameless [] r ≡ types_inst pairs (nameless [] t)
+instance_outside pairs t r m = m.terms (λ w o i. refl)
+
+-- ---- base names
+base_prime : (front : List ℕ) → base_of (front ++ 39 ∷ []) ≡ base_of front
+base_prime [] = refl
+base_prime (y ∷ front) = ap (with_letter y) (base_prime front)
+
+base_with_primes : (k : ℕ) (a : List ℕ) → base_of (with_primes k a) ≡ base_of a
+base_with_primes zero a = refl
+base_with_primes (suc k) a = base_prime (with_primes k a) ∙ base_with_primes k a
+
+pub variant_base : (avoid : Avoided) (v u : Var) → IsVariant avoid v u → base_of u.0 ≡ base_of v.0
+variant_base avoid v u h = ap (λ w. base_of w.0) h.is ∙ base_with_primes h.primes v.0
+
+pub variant_type : (avoid : Avoided) (v u : Var) → IsVariant avoid v u → u.1 ≡ v.1
+variant_type avoid v u h = ap (λ w. w.1) h.is
+
+-- ---- the same for what the code has at its ends: an option, which is none where nothing changed
+module _ (pairs : List (TypeTree × List ℕ)) (old new : Variables) where
+  variable_part : (v u : Var) (o : Option Named) → KeepsTypes pairs old new → u ≡ image pairs old new v → unwrap_or o (var v) ≡ var u → IsInstance pairs old new (var v) (unwrap_or o (var v))
+  variable_part v u o h p q = subst (λ (r : Named). IsInstance pairs old new (var v) r) (sym (q ∙ ap var p)) (instance_var pairs old new v h)
+
+  pub variable_at : (v u : Var) (t : Named) (o : Option Named) → t ≡ var v → KeepsTypes pairs old new → u ≡ image pairs old new v → unwrap_or o (var v) ≡ var u → IsInstance pairs old new t (unwrap_or o t)
+  variable_at v u t o e h p q = subst (λ (x : Named). IsInstance pairs old new x (unwrap_or o x)) (sym e) (variable_part v u o h p q)
+
+  application_part : (f x : Named) (g y o : Option Named) → IsInstance pairs old new f (unwrap_or g f) → IsInstance pairs old new x (unwrap_or y x) → unwrap_or o (comb f x) ≡ comb (unwrap_or g f) (unwrap_or y x) → IsInstance pairs old new (comb f x) (unwrap_or o (comb f x))
+  application_part f x g y o m n q = subst (λ (r : Named). IsInstance pairs old new (comb f x) r) (sym q) (instance_comb pairs old new f x (unwrap_or g f) (unwrap_or y x) m n)
+
+  pub application_at : (f x t : Named) (g y o : Option Named) → t ≡ comb f x → IsInstance pairs old new f (unwrap_or g f) → IsInstance pairs old new x (unwrap_or y x) → unwrap_or o (comb f x) ≡ comb (unwrap_or g f) (unwrap_or y x) → IsInstance pairs old new t (unwrap_or o t)
+  application_at f x t g y o e m n q = subst (λ (z : Named). IsInstance pairs old new z (unwrap_or o z)) (sym e) (application_part f x g y o m n q)
+
+  -- the parts of an application that fits still fit
+  pub fits_at : (f x t : Named) (g y : Option Named) → t ≡ comb f x → IsInstance pairs old new f (unwrap_or g f) → IsInstance pairs old new x (unwrap_or y x) → (s : TypeTree) → named_type t ≡ Some s → IsSome (named_type (comb (unwrap_or g f) (unwrap_or y x)))
+  fits_at f x t g y e m n s h = ap is_some ((instance_comb pairs old new f x (unwrap_or g f) (unwrap_or y x) m n).types s (sym (ap named_type e) ∙ h))
+
+  abstraction_part : (v u : Var) (b : Named) (c o : Option Named)
+      → IsVariant (map (λ t. nameless [] t) (images_without pairs old new v (add_all [] (free_occurrences (nameless [] b))))) (variable_inst pairs v) u
+      → IsInstance pairs (v ∷ old) (u ∷ new) b (unwrap_or c b) → unwrap_or o (abs v b) ≡ abs u (unwrap_or c b)
+      → IsInstance pairs old new (abs v b) (unwrap_or o (abs v b))
+  abstraction_part v u b c o h m q =
+      let avoid : List Nameless = map (λ t. nameless [] t) (images_without pairs old new v (add_all [] (free_occurrences (nameless [] b)))) in
+      let whole : IsInstance pairs old new (abs v b) (abs u (unwrap_or c b)) = instance_abs pairs old new v u b (unwrap_or c b) (variant_type avoid (variable_inst pairs v) u h) (variant_base avoid (variable_inst pairs v) u h) (apart_in pairs old new v u b h.fresh) m in
+      subst (λ (r : Named). IsInstance pairs old new (abs v b) r) (sym q) whole
+
+  pub abstraction_at : (v u : Var) (b t : Named) (c o : Option Named) → t ≡ abs v b
+      → IsVariant (map (λ t. nameless [] t) (images_without pairs old new v (add_all [] (free_occurrences (nameless [] b))))) (variable_inst pairs v) u
+      → IsInstance pairs (v ∷ old) (u ∷ new) b (unwrap_or c b) → unwrap_or o (abs v b) ≡ abs u (unwrap_or c b)
+      → IsInstance pairs old new t (unwrap_or o t)
+  abstraction_at v u b t c o e h m q = subst (λ (z : Named). IsInstance pairs old new z (unwrap_or o z)) (sym e) (abstraction_part v u b c o h m q)
+
+-- where nothing changed
+pub same_variable : (u v : Var) → true ≡ variable_eq u v → u ≡ v
+same_variable u v e = (variable_eq_decides u v).0 (sym e)
+
+pub kept_abstraction : (v u : Var) (b : Named) (c : Option Named) → is_some c ≡ false → true ≡ variable_eq u v → abs v b ≡ abs u (unwrap_or c b)
+kept_abstraction v u b None h e = ap (λ w. abs w b) (sym (same_variable u v e))
+kept_abstraction v u b (Some c) h e = absurd (cc)

@@ -1,0 +1,25 @@
+use Rattle.std.proofs.Common.{ap, sym, ◌∙◌}
+use Rattle.hol_terms.specs.Scope.{binders}
+use Rattle.hol_terms.specs.View.{named_of}
+use Rattle.hol_subst.proofs.InstSteps.{variable_at, application_at, fits_at, abstraction_at}
+use Rattle.hol_subst.proofs.instances.+changed.Goals as goal
+
+pub returns-in_ok-changed_variable-in-Var-clause-ok : goal.returns-in_ok-changed_variable-in-Var-clause-ok
+returns-in_ok-changed_variable-in-Var-clause-ok t c =
+    variable_at c.args.pairs.now (binders c.args.old.now) (binders c.args.new.now) c.in-Var.v c.in_ok-u-in-Var.u c.args.t.now c.in_ok-changed_variable-in-Var.field-0
+    (sym c.node.ensures ∙ ap named_of c.in-Var.is) c.requires c.in_ok-u-in-Var.ensures c.in_ok-changed_variable-in-Var.ensures.ok
+
+pub changed_application-requires : goal.changed_application-requires
+changed_application-requires t c =
+    fits_at c.args.pairs.now (binders c.args.old.now) (binders c.args.new.now) c.in-Comb.f c.in-Comb.x c.args.t.now c.in_ok-g-in-Comb.g c.in_ok-y-in-Comb.y
+    (sym c.node.ensures ∙ ap named_of c.in-Comb.is) c.in_ok-g-in-Comb.ensures.ok c.in_ok-y-in-Comb.ensures.ok
+
+pub returns-in_ok-changed_application-in-Comb-clause-ok : goal.returns-in_ok-changed_application-in-Comb-clause-ok
+returns-in_ok-changed_application-in-Comb-clause-ok t c =
+    application_at c.args.pairs.now (binders c.args.old.now) (binders c.args.new.now) c.in-Comb.f c.in-Comb.x c.args.t.now c.in_ok-g-in-Comb.g c.in_ok-y-in-Comb.y c.in_ok-changed_application-in-Comb.field-0
+    (sym c.node.ensures ∙ ap named_of c.in-Comb.is) c.in_ok-g-in-Comb.ensures.ok c.in_ok-y-in-Comb.ensures.ok c.in_ok-changed_application-in-Comb.ensures.ok
+
+pub returns-in_ok-changed_abstraction-in-Abs-clause-ok : goal.returns-in_ok-changed_abstraction-in-Abs-clause-ok
+returns-in_ok-changed_abstraction-in-Abs-clause-ok t c =
+    abstraction_at c.args.pairs.now (binders c.args.old.now) (binders c.args.new.now) c.in-Abs.v c.in_ok-u-in-Abs.u c.in-Abs.b c.args.t.now c.in_ok-c-in-Abs.c c.in_ok-changed_abstraction-in-Abs.field-0
+    (sym c.node.ensures ∙ ap named_of c.in-Abs.is) c.in_ok-u-in-Abs.ensures.ok c.in_ok-c-in-Abs.ensures.ok c.in_ok-changed_abstraction-in-Abs.ensures.ok

@@ -1,0 +1,7 @@
+use Rattle.std.proofs.Common.{ap, sym, ◌∙◌}
+use Rattle.hol_terms.specs.Named.{var}
+use Rattle.hol_subst.proofs.InstSteps.{same_variable}
+use Rattle.hol_subst.proofs.instances.changed_variable.Goals as goal
+
+pub returns-then-same-clause-ok : goal.returns-then-same-clause-ok
+returns-then-same-clause-ok c = ap var (sym (same_variable c.args.u.now c.args.v.now (sym c.if-same.true ∙ c.same.ensures)))

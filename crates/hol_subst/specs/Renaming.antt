@@ -1,0 +1,36 @@
+-- What the code says of itself where it instantiates types under binders. The binders that it passed are `old`, the innermost first, and `new`
+-- are those that stand for them. Laws in proofs/ lead from here to nameless terms.
+use Rattle.std.specs.Prelude.{◌≡◌, ℕ, List, [], ◌∷◌, true, cond, Some}
+use Rattle.hol_types.specs.Tree.{TypeTree}
+use Rattle.hol_types.specs.Subst.{type_subst}
+use Rattle.hol_types.specs.Equal.{variable_eq}
+use Rattle.hol_terms.specs.Named.{Named, var, named_type}
+use Rattle.hol_terms.specs.Nameless.{place, nameless}
+use Rattle.hol_terms.specs.Scoped.{occurs_in}
+use Rattle.hol_subst.specs.Substitution.{variable_inst, types_inst}
+
+-- what stands for a variable: the new binder where an old one binds it, and else its own instance
+abbrev pub image : List (TypeTree × List ℕ) → List (List ℕ × TypeTree) → List (List ℕ × TypeTree) → List ℕ × TypeTree → List ℕ × TypeTree
+image pairs [] new v = variable_inst pairs v
+image pairs (l ∷ old) [] v = variable_inst pairs v
+image pairs (l ∷ old) (r ∷ new) v = cond (variable_eq l v) r (image pairs old new v)
+
+-- what stands for the variables other than v, as terms
+abbrev pub images_without : List (TypeTree × List ℕ) → List (List ℕ × TypeTree) → List (List ℕ × TypeTree) → List ℕ × TypeTree → List (List ℕ × TypeTree) → List Named
+images_without pairs old new v [] = []
+images_without pairs old new v (w ∷ ws) = cond (variable_eq w v) (images_without pairs old new v ws) (var (image pairs old new w) ∷ images_without pairs old new v ws)
+
+-- each new binder has the instance of the old one's type
+abbrev pub KeepsTypes : List (TypeTree × List ℕ) → List (List ℕ × TypeTree) → List (List ℕ × TypeTree) → Type 0
+KeepsTypes pairs [] new = Unit {0}
+KeepsTypes pairs (l ∷ old) [] = Unit {0}
+KeepsTypes pairs (l ∷ old) (r ∷ new) = (r.1 ≡ type_subst pairs l.1) × KeepsTypes pairs old new
+
+-- what stands for a free variable of the term is bound as that variable was: nothing is captured
+abbrev pub KeepsPlaces : List (TypeTree × List ℕ) → List (List ℕ × TypeTree) → List (List ℕ × TypeTree) → Named → Type 0
+KeepsPlaces pairs old new t = (w : List ℕ × TypeTree) → occurs_in w t ≡ true → (i : ℕ) → place new i (image pairs old new w) ≡ types_inst pairs (place old i w)
+
+-- r under the new binders is the instance of t under the old ones
+pub record IsInstance (pairs : List (TypeTree × List ℕ)) (old new : List (List ℕ × TypeTree)) (t r : Named) : Type 0 where
+  pub types : (s : TypeTree) → named_type t ≡ Some s → named_type r ≡ Some (type_subst pairs s)
+  pub terms : KeepsPlaces pairs old new t → nameless new r ≡ types_inst pairs (nameless old t)

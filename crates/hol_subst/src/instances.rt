@@ -1,0 +1,206 @@
+//! Instantiation of type variables in terms.
+ghost use Rattle.std.specs.Prelude.{◌≡◌, [], map, IfOk, IsOkUnless, IsSome, Some, unwrap_or};
+ghost use Rattle.hol_types.specs.Tree.{TypeTree};
+ghost use Rattle.hol_terms.specs.Named.{var, comb, abs, named_type};
+ghost use Rattle.hol_terms.specs.Nameless.{nameless, free_occurrences};
+ghost use Rattle.hol_terms.specs.Scope.{binders};
+ghost use Rattle.hol_terms.specs.Scoped.{add_all};
+ghost use Rattle.hol_terms.specs.declared.term.TermError.TheVariants.{Memory};
+ghost use Rattle.hol_subst.specs.Substitution.{variable_inst, types_inst};
+ghost use Rattle.hol_subst.specs.Variant.{IsVariant};
+ghost use Rattle.hol_subst.specs.Renaming.{image, images_without, KeepsTypes, IsInstance};
+
+use crate::error::SubstError;
+use crate::variants::variant;
+use hol_terms::{Scope, Term, TermError, TermNode, Variable};
+use hol_types::{Name, Ty};
+use std::alloc::{AllocError, Global};
+
+/// The term with types for its type variables, of which the first pair of a name counts.
+///
+/// A bound variable is renamed, by `variant`, where another free variable of its body would become equal to it, and nowhere else.
+/// Parts that stay as they are are shared with the term.
+///
+/// Answers `Memory` where memory is short, and no other error.
+#[tactic(auto, using(crate::proofs::InstSteps::instance_outside))]
+pub fn inst(alloc: Global, pairs: &[(Ty, Name)], t: &Term) -> Result<Term, SubstError>
+    ensures ok { IfOk result (λ r. nameless [] r ≡ types_inst pairs.now (nameless [] t.now)) }
+    ensures memory { IsOkUnless result SubstError.Memory }
+{
+    match changed(alloc, pairs, &Scope::Outside, &Scope::Outside, t)? {
+        Some(instance) => Ok(instance),
+        None => Ok(t.copy()?),
+    }
+}
+
+// The instance of the term under the old binders, where the new ones stand for these; nothing where it is the term itself.
+fn changed(
+    alloc: Global,
+    pairs: &[(Ty, Name)],
+    old: &Scope,
+    new: &Scope,
+    t: &Term,
+) -> Result<Option<Term>, TermError>
+    requires { KeepsTypes pairs.now (binders old.now) (binders new.now) }
+    ensures ok { IfOk result (λ r. IsInstance pairs.now (binders old.now) (binders new.now) t.now (unwrap_or r t.now)) }
+    ensures memory { IsOkUnless result TermError.Memory }
+{
+    match t.node() {
+        TermNode::Var(v) => {
+            let u = image(alloc, pairs, old, new, v)?;
+            Ok(changed_variable(alloc, v, &u)?)
+        }
+        TermNode::Const(c, ty) => {
+            let new_ty = ty.subst(alloc, pairs)?;
+            if new_ty.same(ty) {
+                return Ok(None);
+            }
+            Ok(Some(Term::constant(alloc, c, &new_ty)?))
+        }
+        TermNode::Comb(f, x) => {
+            let g = changed(alloc, pairs, old, new, f)?;
+            let y = changed(alloc, pairs, old, new, x)?;
+            Ok(changed_application(alloc, t, f, g, x, y)?)
+        }
+        TermNode::Abs(v, b) => {
+            let u = new_binder(alloc, pairs, old, new, v, b)?;
+            let inside_old = &Scope::Inside(v, &*old);
+            let inside_new = &Scope::Inside(&u, &*new);
+            let c = changed(alloc, pairs, inside_old, inside_new, b)?;
+            Ok(changed_abstraction(alloc, v, &u, b, c)?)
+        }
+    }
+}
+
+// The variable `u` as a term, or nothing where it is `v`.
+fn changed_variable(alloc: Global, v: &Variable, u: &Variable) -> Result<Option<Term>, TermError>
+    ensures ok { IfOk result (λ r. unwrap_or r (var v.now) ≡ var u.now) }
+    ensures memory { IsOkUnless result TermError.Memory }
+{
+    if u.same(v) {
+        return Ok(None);
+    }
+    Ok(Some(Term::var(alloc, u)?))
+}
+
+// The application of what became of `f` to what became of `x`, or nothing where both stayed. It fits if the types of the application
+// `t` still fit.
+fn changed_application(
+    alloc: Global,
+    t: &Term,
+    f: &Term,
+    g: Option<Term>,
+    x: &Term,
+    y: Option<Term>,
+) -> Result<Option<Term>, TermError>
+    requires { (s : TypeTree) → named_type t.now ≡ Some s → IsSome (named_type (comb (unwrap_or g f.now) (unwrap_or y x.now))) }
+    ensures ok { IfOk result (λ r. unwrap_or r (comb f.now x.now) ≡ comb (unwrap_or g f.now) (unwrap_or y x.now)) }
+    ensures memory { IsOkUnless result TermError.Memory }
+{
+    if g.is_none() && y.is_none() {
+        return Ok(None);
+    }
+    let _ty = t.type_of();
+    Ok(Some(Term::comb(alloc, either(&g, f), either(&y, x))?))
+}
+
+// The abstraction of `u` in what became of `b`, or nothing where `u` is `v` and `b` stayed.
+fn changed_abstraction(
+    alloc: Global,
+    v: &Variable,
+    u: &Variable,
+    b: &Term,
+    c: Option<Term>,
+) -> Result<Option<Term>, TermError>
+    ensures ok { IfOk result (λ r. unwrap_or r (abs v.now b.now) ≡ abs u.now (unwrap_or c b.now)) }
+    ensures memory { IsOkUnless result TermError.Memory }
+{
+    if c.is_none() && u.same(v) {
+        return Ok(None);
+    }
+    Ok(Some(Term::abstraction(alloc, u, either(&c, b))?))
+}
+
+// The new term, or the old one where there is none.
+fn either<'a>(new: &'a Option<Term>, old: &'a Term) -> &'a Term
+    ensures { result.now ≡ unwrap_or new.now old.now }
+{
+    match new {
+        Some(term) => term,
+        None => old,
+    }
+}
+
+// The variable that is bound in the instance of an abstraction: nothing that stands for another free variable of its body.
+fn new_binder(
+    alloc: Global,
+    pairs: &[(Ty, Name)],
+    old: &Scope,
+    new: &Scope,
+    v: &Variable,
+    body: &Term,
+) -> Result<Variable, TermError>
+    ensures ok { IfOk result (λ u. IsVariant (map (λ t. nameless [] t) (images_without pairs.now (binders old.now) (binders new.now) v.now (add_all [] (free_occurrences (nameless [] body.now))))) (variable_inst pairs.now v.now) u) }
+    ensures memory { IsOkUnless result TermError.Memory }
+{
+    let others = other_images(alloc, pairs, old, new, v, body)?;
+    let own = instance(alloc, pairs, v)?;
+    match variant(alloc, &others, &own) {
+        Ok(u) => Ok(u),
+        Err(_) => Err(TermError::Memory),
+    }
+}
+
+// What stands for the free variables of the body other than the bound one, as terms.
+fn other_images(
+    alloc: Global,
+    pairs: &[(Ty, Name)],
+    old: &Scope,
+    new: &Scope,
+    v: &Variable,
+    body: &Term,
+) -> Result<Vec<Term>, TermError>
+    ensures ok { IfOk result (λ ts. ts.items ≡ images_without pairs.now (binders old.now) (binders new.now) v.now (add_all [] (free_occurrences (nameless [] body.now)))) }
+    ensures memory { IsOkUnless result TermError.Memory }
+{
+    let frees = body.frees(alloc)?;
+    let mut images = Vec::new(alloc);
+    for w in &frees {
+        if !w.same(v) {
+            let u = image(alloc, pairs, old, new, w)?;
+            images.push(Term::var(alloc, &u)?)?;
+        }
+    }
+    Ok(images)
+}
+
+// What stands for the variable: the new binder where an old one binds it, and else its instance.
+fn image(
+    alloc: Global,
+    pairs: &[(Ty, Name)],
+    old: &Scope,
+    new: &Scope,
+    v: &Variable,
+) -> Result<Variable, AllocError>
+    ensures { IfOk result (λ u. u ≡ image pairs.now (binders old.now) (binders new.now) v.now) }
+{
+    match (old, new) {
+        (Scope::Outside, _) => instance(alloc, pairs, v),
+        (Scope::Inside(_, _), Scope::Outside) => instance(alloc, pairs, v),
+        (Scope::Inside(l, old), Scope::Inside(r, new)) => {
+            if l.same(v) {
+                r.copy()
+            } else {
+                image(alloc, pairs, old, new, v)
+            }
+        }
+    }
+}
+
+// The variable with types for the variables of its type.
+fn instance(alloc: Global, pairs: &[(Ty, Name)], v: &Variable) -> Result<Variable, AllocError>
+    ensures { IfOk result (λ u. u ≡ variable_inst pairs.now v.now) }
+{
+    let ty = v.ty().subst(alloc, pairs)?;
+    Variable::new(v.name(), &ty)
+}
