@@ -27,10 +27,6 @@ abbrev Avoided : Type 0
 Avoided = List Nameless
 
 -- ---- what the bound variable has to avoid
-or_more : (a b c : Bool) → (b ≡ true → c ≡ true) → (a || b) ≡ true → (a || c) ≡ true
-or_more true b c h e = refl
-or_more false b c h e = h e
-
 still_there : (vs ws : Variables) (w : Var) → binds vs w ≡ true → binds (add_all vs ws) w ≡ true
 still_there vs [] w h = h
 still_there vs (x ∷ ws) w h = still_there (add_new vs x) ws w (by (binds vs x))

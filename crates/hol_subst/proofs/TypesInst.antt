@@ -10,21 +10,16 @@ use Rattle.hol_types.specs.Subst.{type_subst}
 use Rattle.hol_types.specs.Fun.{fun_type, both_of}
 use Rattle.hol_types.specs.Equal.{type_eq, variable_eq}
 use Rattle.hol_types.proofs.OrderLaws.{type_cmp_decides}
-use Rattle.hol_terms.specs.Named.{applied_type}
-use Rattle.hol_terms.specs.Nameless.{Nameless, free, bound, fixed, app, lam, nameless_type, free_occurrences}
+use Rattle.hol_terms.specs.Named.{Named, named_type, applied_type}
+use Rattle.hol_terms.specs.Nameless.{Nameless, free, bound, fixed, app, lam, nameless, nameless_type, free_occurrences}
 use Rattle.hol_terms.specs.Alpha.{strip}
 use Rattle.hol_terms.specs.Scoped.{binds}
 use Rattle.hol_terms.proofs.Same.{variable_eq_decides}
+use Rattle.hol_terms.proofs.Typing.{type_outside}
 use Rattle.hol_terms.proofs.Occurs.{binds-append}
 use Rattle.hol_subst.specs.Shift.{shift}
 use Rattle.hol_subst.specs.Closing.{close, open_with}
 use Rattle.hol_subst.specs.Substitution.{variable_inst, types_inst}
-
-abbrev Var : Type 0
-Var = List ℕ × TypeTree
-
-abbrev TypePairs : Type 0
-TypePairs = List (TypeTree × List ℕ)
 
 -- ---- types
 -- what is applied is of a type of functions
@@ -136,3 +131,10 @@ inst_close pairs v k (app f x) h = λ i. app
     (inst_close pairs v k f (λ w o. h w (binds-append (free_occurrences f) (free_occurrences x) w ∙ or_left _ _ o)) i)
     (inst_close pairs v k x (λ w o. h w (binds-append (free_occurrences f) (free_occurrences x) w ∙ or_right _ _ o)) i)
 inst_close pairs v k (lam a s b) h = ap (lam a (type_subst pairs s)) (inst_close pairs v (k + 1) b h)
+
+-- ---- what a caller of inst has: r, whose nameless term is the instance of that of t
+pub typed_instance : (pairs : List (TypeTree × List ℕ)) (t r : Named) (s : TypeTree) → nameless [] r ≡ types_inst pairs (nameless [] t) → named_type t ≡ Some s → named_type r ≡ Some (type_subst pairs s)
+typed_instance pairs t r s e h = sym (type_outside r) ∙ ap (nameless_type []) e ∙ typed_inst pairs [] (nameless [] t) s (type_outside t ∙ h)
+
+pub stripped_instance : (pairs : List (TypeTree × List ℕ)) (t r : Named) → nameless [] r ≡ types_inst pairs (nameless [] t) → strip (nameless [] r) ≡ types_inst pairs (strip (nameless [] t))
+stripped_instance pairs t r e = ap strip e ∙ sym (inst_strip pairs (nameless [] t))

@@ -100,6 +100,7 @@ fn changed_application(
     if g.is_none() && y.is_none() {
         return Ok(None);
     }
+    // It has a type, so `t` is known to be well typed.
     let _ty = t.type_of();
     Ok(Some(Term::comb(alloc, either(&g, f), either(&y, x))?))
 }
