@@ -1,20 +1,21 @@
 -- Instantiation of types in a named term, which renames bound variables, is instantiation in its nameless term.
-use Rattle.std.proofs.Common.{◌≡◌, ℕ, zero, suc, ◌+◌, List, [], ◌∷◌, ◌++◌, map, refl, ap, sym, ◌∙◌, subst, Bool, true, false, cond, ◌||◌, Option, Some, None, IsSome, is_some, unwrap_or}
+use Rattle.std.proofs.Common.{◌≡◌, ℕ, ◌+◌, List, [], ◌∷◌, ◌++◌, map, refl, ap, sym, ◌∙◌, subst, Bool, true, false, cond, ◌||◌, Option, Some, None, IsSome, is_some, unwrap_or}
 use Rattle.std.specs.Option.{option_map, option_and_then}
 use Rattle.hol_types.specs.Tree.{TypeTree}
 use Rattle.hol_types.specs.Fun.{fun_type}
 use Rattle.hol_types.specs.Subst.{type_subst}
 use Rattle.hol_types.specs.Equal.{variable_eq}
 use Rattle.hol_terms.specs.Named.{Named, var, constant, comb, abs, named_type, applied_type}
-use Rattle.hol_terms.specs.Nameless.{Nameless, free, bound, fixed, app, lam, with_letter, base_of, place, nameless, free_occurrences}
+use Rattle.hol_terms.specs.Nameless.{Nameless, free, bound, fixed, app, lam, base_of, place, nameless, free_occurrences}
 use Rattle.hol_terms.specs.Scoped.{binds, occurs_in, add_new, add_all}
 use Rattle.hol_terms.proofs.Same.{variable_eq_decides}
 use Rattle.hol_terms.proofs.Occurs.{binds-append, occurs_is}
 use Rattle.hol_terms.proofs.Typing.{comb_type, abs_type}
-use Rattle.hol_subst.specs.Variant.{with_primes, is_free_in, IsVariant}
+use Rattle.hol_subst.specs.Variant.{is_free_in, IsVariant}
 use Rattle.hol_subst.specs.Substitution.{variable_inst, types_inst}
 use Rattle.hol_subst.specs.Renaming.{image, images_without, KeepsTypes, KeepsPlaces, IsInstance}
 use Rattle.hol_subst.proofs.Closing.{eq_same, eq_flip, or_false}
+use Rattle.hol_subst.proofs.Taken.{base_with_primes}
 use Rattle.hol_subst.proofs.TypesInst.{applied_inst, or_left, or_right}
 
 abbrev Var : Type 0
@@ -130,14 +131,6 @@ pub instance_outside : (pairs : List (TypeTree × List ℕ)) (t r : Named) → I
 instance_outside pairs t r m = m.terms (λ w o i. refl)
 
 -- ---- base names
-base_prime : (front : List ℕ) → base_of (front ++ 39 ∷ []) ≡ base_of front
-base_prime [] = refl
-base_prime (y ∷ front) = ap (with_letter y) (base_prime front)
-
-base_with_primes : (k : ℕ) (a : List ℕ) → base_of (with_primes k a) ≡ base_of a
-base_with_primes zero a = refl
-base_with_primes (suc k) a = base_prime (with_primes k a) ∙ base_with_primes k a
-
 pub variant_base : (avoid : Avoided) (v u : Var) → IsVariant avoid v u → base_of u.0 ≡ base_of v.0
 variant_base avoid v u h = ap (λ w. base_of w.0) h.is ∙ base_with_primes h.primes v.0
 
