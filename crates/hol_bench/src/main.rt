@@ -1,0 +1,55 @@
+//! Does one call of the crates below so many times on terms of a size, so that a clock outside can time it: `hol_bench JOB SIZE TIMES`.
+#![tactic(auto)]
+
+mod failure;
+mod substitution;
+mod terms;
+
+use crate::failure::Failure;
+use crate::substitution::substitution;
+use std::alloc::Global;
+use std::env;
+use std::process::ExitCode;
+
+/// What is done, on terms of which size, and how often.
+#[derive(Drop)]
+struct Work {
+    job: String,
+    size: u32,
+    times: u32,
+}
+
+/// The work that the program's words name.
+fn words(rt: &HostRuntime) -> Result<Work, Failure> {
+    let mut words = env::args(rt)?;
+    let _program = words.next();
+    let (Some(job), Some(size), Some(times)) = (words.next(), words.next(), words.next()) else {
+        return Err(Failure::Words);
+    };
+    let (Ok(size), Ok(times)) = (size.as_str().parse(), times.as_str().parse()) else {
+        return Err(Failure::Words);
+    };
+    Ok(Work { job, size, times })
+}
+
+/// Does the work, and answers the size of its last result.
+fn done(alloc: Global, work: &Work) -> Result<u32, Failure> {
+    substitution(alloc, work.job.as_str(), work.size, work.times)
+}
+
+fn report(rt: &HostRuntime) -> Result<(), Failure> {
+    let work = words(rt)?;
+    let size = done(rt.alloc(), &work)?;
+    println!(rt; "{} {} {}: {size} nodes", work.job, work.size, work.times)?;
+    Ok(())
+}
+
+fn main(rt: HostRuntime) -> ExitCode {
+    match report(&rt) {
+        Ok(()) => ExitCode::SUCCESS,
+        Err(failure) => {
+            let _ = eprintln!(rt; "hol_bench: {failure}");
+            ExitCode::FAILURE
+        }
+    }
+}
