@@ -12,9 +12,27 @@ use std::alloc::Global;
 /// many binders, whose variables are all free in the term that comes in.
 pub fn substitution(alloc: Global, job: &str, size: u32, times: u32) -> Result<u32, Failure> {
     match job {
-        "tower" => replaced(alloc, &tower(alloc, "x", size)?, "x", &tower(alloc, "y", 1)?, times),
-        "beside" => replaced(alloc, &beside(alloc, size)?, "x", &tower(alloc, "y", 1)?, times),
-        "captures" => replaced(alloc, &binders(alloc, size)?, "z", &captured(alloc, size)?, times),
+        "tower" => replaced(
+            alloc,
+            &tower(alloc, "x", size)?,
+            "x",
+            &tower(alloc, "y", 1)?,
+            times,
+        ),
+        "beside" => replaced(
+            alloc,
+            &beside(alloc, size)?,
+            "x",
+            &tower(alloc, "y", 1)?,
+            times,
+        ),
+        "captures" => replaced(
+            alloc,
+            &binders(alloc, size)?,
+            "z",
+            &captured(alloc, size)?,
+            times,
+        ),
         _ => Err(Failure::Words),
     }
 }
