@@ -1,14 +1,13 @@
 -- Types for the slots of a graph that grows.
-use Rattle.std.proofs.Common.{◌≡◌, ◌≢◌, ℕ, ◌+◌, ◌-◌, ◌<◌, ◌≤◌, List, [], ◌∷◌, ◌++◌, length, map, refl, sym, ◌∙◌, ap, subst, arith, cond, eqb, ltb, Bool, true, false, Option, Some, None, bytes_eq}
+use Rattle.std.proofs.Common.{◌≡◌, ◌≢◌, ℕ, ◌+◌, ◌<◌, ◌≤◌, List, [], ◌∷◌, ◌++◌, length, map, refl, sym, ◌∙◌, ap, subst, arith, cond, eqb, Some, None}
 use Rattle.std.specs.Prelude.{◌↔◌}
 use Rattle.std.specs.List.{All}
-use Rattle.std.proofs.lemmas.Bool.{eq-eqb, ne_eqb, lt-ltb, le-ltb}
+use Rattle.std.proofs.lemmas.Bool.{eq-eqb, ne_eqb}
 use Rattle.std.proofs.lemmas.List.Elements.{All-weaker, All-nil, All-push}
 use Rattle.hol_types.specs.Tree.{TypeTree, TyVar, TyApp, more_types, type_list}
 use Rattle.hol_types.specs.Fun.{fun_type}
 use Rattle.hol_types.specs.Subst.{type_subst, types_subst, type_lookup}
-use Rattle.hol_types.specs.Names.{is_among}
-use Rattle.hol_terms.specs.Nameless.{Nameless, free, bound, fixed, app, lam, base_of}
+use Rattle.hol_terms.specs.Nameless.{Nameless, free, fixed, app, lam, base_of}
 use Rattle.hol_infer.specs.Raw.{RawTree}
 use Rattle.hol_infer.specs.Typing.{IsTyping, IsOpen}
 use Rattle.hol_infer.specs.SlotTree.{SlotTree, SlotBound, SlotConstant, SlotFree, SlotApply, SlotAbstraction, typed, AreSlotsIn}
@@ -16,7 +15,7 @@ use Rattle.hol_infer.specs.declared.cell.Cell.{Cell}
 use Rattle.hol_infer.specs.declared.cell.Cell.TheVariants.{Unknown, Link, Rigid, App}
 use Rattle.hol_infer.specs.declared.generate.Graph.{Graph}
 use Rattle.hol_infer.specs.Graph.{CellHolds}
-use Rattle.hol_infer.specs.Generate.{Solves, slots, IsWellFormed, Agree, IsNewCell, IsFresh, IsFunction, AddsUnknown, BuildsType, BuildsTypes, IsPlace, HasNoPlace, pairs_from}
+use Rattle.hol_infer.specs.Generate.{Solves, slots, IsWellFormed, Agree, IsNewCell, IsFresh, IsFunction, BuildsType, BuildsTypes, IsPlace, HasNoPlace, pairs_from}
 use Rattle.hol_infer.proofs.Growing.{Solves-agree, map_agree}
 use Rattle.std.proofs.lemmas.List.{map-append}
 

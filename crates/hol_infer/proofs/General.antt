@@ -1,9 +1,8 @@
 -- The shapes of a solved graph make the most general typing.
-use Rattle.std.proofs.Common.{◌≡◌, ℕ, ◌<◌, [], List, ◌∷◌, length, refl, sym, ◌∙◌, ap, subst, arith, cond, bytes_eq, Option, Some, None, zero}
-use Rattle.std.specs.Prelude.{◌↔◌}
+use Rattle.std.proofs.Common.{◌≡◌, ℕ, ◌<◌, [], List, length, refl, sym, ◌∙◌, ap, subst, Option, Some, None}
 use Rattle.std.proofs.lemmas.List.Elements.{All-nil}
 use Rattle.hol_types.specs.Tree.{TypeTree, TyVar}
-use Rattle.hol_terms.specs.Nameless.{Nameless, free, bound, fixed, app, lam, base_of}
+use Rattle.hol_terms.specs.Nameless.{Nameless, free, fixed, app, lam, base_of}
 use Rattle.hol_infer.specs.Raw.{RawTree}
 use Rattle.hol_infer.specs.Typing.{HasNoTyping}
 use Rattle.hol_infer.specs.Shape.{ShapeTree}
@@ -13,10 +12,9 @@ use Rattle.hol_infer.specs.declared.cell.Cell.TheVariants.{Unknown}
 use Rattle.hol_infer.specs.declared.cell.Equation.{Equation}
 use Rattle.hol_infer.specs.declared.generate.Graph.{Graph}
 use Rattle.hol_infer.specs.Graph.{Respects, EquationHolds, IsSolution, SameSolutions}
-use Rattle.hol_infer.specs.Generate.{Solves, slots, slot_of, IsWellFormed, Agree, IsFresh, Generates}
+use Rattle.hol_infer.specs.Generate.{Solves, slot_of, IsWellFormed, IsFresh, Generates}
 use Rattle.hol_infer.specs.Found.{types_at, AreGeneral}
 use Rattle.hol_infer.specs.Solved.{IsGraphOf, IsSolvedBy, IsGeneralTyping}
-use Rattle.hol_infer.proofs.Extending.{typing_at}
 
 -- ---- the graph of a whole term
 

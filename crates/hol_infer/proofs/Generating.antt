@@ -1,7 +1,7 @@
 -- The equations of each kind of term say what its typings are.
-use Rattle.std.proofs.Common.{◌≡◌, ℕ, zero, suc, ◌+◌, ◌-◌, ◌<◌, ◌≤◌, List, [], ◌∷◌, length, map, refl, sym, ◌∙◌, ap, subst, arith, cond, ltb, Option, Some, None, slice_get}
+use Rattle.std.proofs.Common.{◌≡◌, ℕ, zero, suc, ◌<◌, List, [], ◌∷◌, map, refl, sym, ◌∙◌, ap, subst, arith, Option, Some, None, slice_get}
 use Rattle.std.specs.List.{All}
-use Rattle.hol_types.specs.Tree.{TypeTree, type_list}
+use Rattle.hol_types.specs.Tree.{TypeTree}
 use Rattle.hol_types.specs.Fun.{fun_type}
 use Rattle.hol_terms.specs.Nameless.{Nameless, free, bound, fixed, app, lam, base_of}
 use Rattle.hol_infer.specs.Raw.{RawTree, RawBound, RawConstant, RawFree, RawApply, RawAbstraction, RawAnnotated}
@@ -9,7 +9,7 @@ use Rattle.hol_infer.specs.Typing.{IsTyping}
 use Rattle.hol_infer.specs.SlotTree.{SlotTree, SlotBound, SlotConstant, SlotFree, SlotApply, SlotAbstraction, typed}
 use Rattle.hol_infer.specs.declared.cell.Cell.TheVariants.{Unknown}
 use Rattle.hol_infer.specs.declared.generate.Graph.{Graph}
-use Rattle.hol_infer.specs.Generate.{Solves, slots, IsWellFormed, Agree, IsFresh, IsFunction, IsEquated, BuildsType, Instantiates, FindsName, BuildsVariable, Generates, pairs_from}
+use Rattle.hol_infer.specs.Generate.{Solves, slots, IsWellFormed, Agree, IsFresh, IsFunction, IsEquated, BuildsType, Instantiates, FindsName, BuildsVariable, Generates}
 use Rattle.hol_infer.proofs.Growing.{map_agree}
 use Rattle.hol_infer.proofs.Extending.{Agree-refl, Agree-trans, term_agree, AreSlotsIn-more, typing_at, extend_fresh, extend_function}
 use Rattle.hol_infer.proofs.Instances.{rigid_subst}

@@ -1,5 +1,5 @@
 -- A graph that grows.
-use Rattle.std.proofs.Common.{◌≡◌, ℕ, ◌+◌, ◌<◌, ◌≤◌, ◌⊎◌, inl, inr, List, [], ◌∷◌, ◌++◌, length, map, get_or, refl, sym, ◌∙◌, subst, arith, length-append, Option, Some, None}
+use Rattle.std.proofs.Common.{◌≡◌, ℕ, ◌+◌, ◌<◌, ◌≤◌, ◌⊎◌, inl, inr, List, [], ◌∷◌, ◌++◌, length, map, get_or, refl, sym, ◌∙◌, subst, arith, length-append}
 use Rattle.std.specs.Prelude.{◌↔◌}
 use Rattle.std.specs.List.{All}
 use Rattle.std.proofs.lemmas.Bool.{cases_eq, cases_lt}
@@ -12,7 +12,7 @@ use Rattle.hol_infer.specs.declared.cell.Cell.TheVariants.{Unknown, Link, Rigid,
 use Rattle.hol_infer.specs.declared.cell.Equation.{Equation}
 use Rattle.hol_infer.specs.declared.generate.Graph.{Graph}
 use Rattle.hol_infer.specs.Graph.{CellHolds, cell_at, Respects, EquationHolds, IsSolution, IsCellIn, IsGraph, AreIn}
-use Rattle.hol_infer.specs.Generate.{Agree, IsNewCell, Solves, slots, slot_of, IsWellFormed, IsFresh, IsEquated}
+use Rattle.hol_infer.specs.Generate.{Agree, IsNewCell, Solves, slots, IsWellFormed, IsFresh}
 
 -- of a list with one more at its end
 pub All-last : (P : Equation → Type 0) (xs : List Equation) (x : Equation) → All P (xs ++ x ∷ []) → All P xs × P x

@@ -1,11 +1,10 @@
 -- Instances of generic types, by slots for their type variables.
-use Rattle.std.proofs.Common.{◌≡◌, ℕ, zero, suc, ◌+◌, ◌-◌, ◌<◌, ◌≤◌, ◌⊎◌, inl, inr, List, [], ◌∷◌, ◌++◌, length, map, get_or, refl, sym, ◌∙◌, ap, subst, arith, cond, ltb, eqb, Bool, true, false, ◌||◌, bytes_eq, Option, Some, None}
+use Rattle.std.proofs.Common.{◌≡◌, ℕ, zero, suc, ◌+◌, ◌-◌, ◌<◌, ◌≤◌, List, [], ◌∷◌, ◌++◌, length, get_or, refl, sym, ◌∙◌, ap, arith, cond, ltb, Bool, true, false, ◌||◌, bytes_eq, Some}
 use Rattle.std.proofs.lemmas.Bool.{lt-ltb, le-ltb}
 use Rattle.std.proofs.lemmas.Slice.Eq.{bytes_eq-Decides}
 use Rattle.hol_types.specs.Tree.{TypeTree, TypeList, TyVar, TyApp, no_types, more_types}
 use Rattle.hol_types.specs.Subst.{type_subst, types_subst, type_lookup, type_for}
 use Rattle.hol_types.specs.Names.{is_among, type_names, types_names}
-use Rattle.hol_infer.specs.Typing.{IsOpen}
 use Rattle.hol_infer.specs.Generate.{Agree, pairs_from, IsPlace, HasNoPlace, IsRigidBut, AreRigidBut}
 
 -- nothing is put for the type variables of an annotation

@@ -10,3 +10,7 @@ pub mod Slots
 pub mod Generating
 pub mod General
 pub mod Holes
+pub mod Naming
+pub mod Named
+pub mod Sizes
+pub mod Readings

@@ -1,18 +1,17 @@
 -- Finding the shapes of the slots.
-use Rattle.std.proofs.Common.{◌≡◌, ℕ, zero, suc, ◌+◌, ◌*◌, ◌<◌, ◌≤◌, inl, inr, List, [], ◌∷◌, length, map, set, refl, sym, ◌∙◌, ap, subst, arith, Bool, true, false, get_or, slice_index_or, get_or-set_same, get_or-set_other, Option, Some, None}
+use Rattle.std.proofs.Common.{◌≡◌, ℕ, zero, suc, ◌+◌, ◌*◌, ◌<◌, ◌≤◌, inl, inr, List, [], ◌∷◌, length, map, set, refl, sym, ◌∙◌, ap, subst, arith, Bool, true, false, get_or-set_same, get_or-set_other, Option, Some, None}
 use Rattle.std.specs.List.{All, Contains}
 use Rattle.std.proofs.lemmas.Bool.{cases_eq, cases_lt}
 use Rattle.std.proofs.lemmas.List.{get_or_past}
 use Rattle.std.proofs.lemmas.List.Elements.{All-head, All-tail, All-contains}
 use Rattle.std.proofs.Math.Nat.{mul-le-mul_right}
 use Rattle.std.proofs.lemmas.List.Sums.{sum_by-set}
-use Rattle.hol_types.specs.Tree.{TypeTree, TypeList, TyVar, TyApp, more_types, type_list, type_size, types_size}
-use Rattle.hol_infer.specs.Shape.{ShapeTree, Hole, Fixed, Built, shape_list, fill, fills}
-use Rattle.hol_infer.specs.Typing.{IsOpen}
+use Rattle.hol_types.specs.Tree.{TypeTree, TypeList, TyApp, more_types, type_list, type_size, types_size}
+use Rattle.hol_infer.specs.Shape.{ShapeTree, Hole, shape_list, fill, fills}
 use Rattle.hol_infer.specs.declared.cell.Cell.{Cell}
 use Rattle.hol_infer.specs.declared.cell.Cell.TheVariants.{Unknown, Link, Rigid, App}
 use Rattle.hol_infer.specs.Graph.{cell_at, Respects, CellHolds, IsGraph, IsCellIn}
-use Rattle.hol_infer.specs.Found.{found_at, ArePartsFound, IsPartMissing, BuiltFrom, IsBlocked, HasRigidNames, HaveRigidNames, AreHolesBelow, AllHolesBelow, IsBuilt, IsStuckAt, IsStuck, none_weight, missing, shape_at, types_at, AreGeneral}
+use Rattle.hol_infer.specs.Found.{found_at, ArePartsFound, BuiltFrom, IsBlocked, HasRigidNames, HaveRigidNames, AreHolesBelow, AllHolesBelow, IsBuilt, IsStuckAt, IsStuck, none_weight, missing, shape_at, types_at, AreGeneral}
 
 -- a sweep that has come to slot n
 abbrev pub SweepSoFar : List Cell → List (Option ShapeTree) → List (Option ShapeTree) → ℕ → Bool → Type 0

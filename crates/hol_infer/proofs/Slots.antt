@@ -1,20 +1,18 @@
 -- Slots for types of functions, for free names, and for instances of generic types.
-use Rattle.std.proofs.Common.{◌≡◌, ℕ, ◌+◌, ◌<◌, ◌≤◌, List, [], ◌∷◌, ◌++◌, length, map, codes, get_or, slice_index_or, refl, sym, ◌∙◌, ap, subst, arith, Bool, true, false, cond, bytes_eq, Option, Some, None}
+use Rattle.std.proofs.Common.{◌≡◌, ℕ, ◌+◌, ◌<◌, List, [], ◌∷◌, ◌++◌, length, map, codes, get_or, refl, sym, ◌∙◌, ap, subst, arith, Bool, true, false, cond, bytes_eq, Option, Some, None}
 use Rattle.std.specs.Prelude.{◌↔◌}
 use Rattle.std.proofs.lemmas.Slice.Eq.{bytes_eq-Decides}
 use Rattle.hol_types.specs.Tree.{TypeTree, TyApp, type_list}
 use Rattle.hol_types.specs.Fun.{fun_type}
 use Rattle.hol_types.specs.Names.{is_among, type_names}
 use Rattle.hol_types.specs.Subst.{type_subst, type_for}
-use Rattle.hol_infer.specs.Typing.{IsGenericInstance}
 use Rattle.hol_infer.specs.declared.cell.Cell.{Cell}
-use Rattle.hol_infer.specs.declared.cell.Equation.{Equation}
 use Rattle.hol_infer.specs.declared.cell.Cell.TheVariants.{Unknown}
 use Rattle.hol_infer.specs.declared.generate.Graph.{Graph}
-use Rattle.hol_infer.specs.Graph.{CellHolds, IsSolution, IsGraph, AreIn}
+use Rattle.hol_infer.specs.Graph.{CellHolds, IsGraph}
 use Rattle.hol_infer.specs.Generate.{Solves, slots, slot_of, IsWellFormed, Agree, IsFresh, IsFunction, IsEquated, AddsUnknown, BuildsType, Instantiates, FindsName, pairs_from}
 use Rattle.hol_infer.proofs.Growing.{Solves-agree}
-use Rattle.hol_infer.proofs.Extending.{Agree-trans, extend_fresh, put, put_agree, put_same}
+use Rattle.hol_infer.proofs.Extending.{Agree-trans, extend_fresh}
 use Rattle.hol_infer.proofs.Instances.{put_from, put_from-agree, put_from-at, named_types, subst_same}
 
 pub function_of : (g h : Graph) (slot d r : ℕ) (cell : Cell) → ((types : ℕ → TypeTree) (t : TypeTree) → CellHolds types t cell ↔ (t ≡ fun_type (types d) (types r))) → IsFresh g h slot cell → IsFunction g h slot d r

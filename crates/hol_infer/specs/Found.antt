@@ -1,5 +1,5 @@
 -- The shapes of slots that are found so far. Only private contracts and proofs cite this.
-use Rattle.std.specs.Prelude.{◌≡◌, ℕ, ◌<◌, ◌≤◌, List, length, get_or, map, Option, Some, None, Bool, true, false}
+use Rattle.std.specs.Prelude.{◌≡◌, ℕ, ◌<◌, List, length, get_or, map, Option, Some, None, Bool, true, false}
 use Rattle.std.specs.List.{sum_by, Contains}
 use Rattle.hol_types.specs.Tree.{TypeTree}
 use Rattle.hol_infer.specs.Typing.{IsOpen}

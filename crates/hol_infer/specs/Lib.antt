@@ -1,5 +1,6 @@
 pub mod Raw
 pub mod Typing
+pub mod Reading
 pub mod Shape
 pub mod Holes
 pub mod ShapeCode

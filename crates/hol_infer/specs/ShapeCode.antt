@@ -1,6 +1,6 @@
 -- How the logic stores a shape: as a tree of numbers, by a function that maps no two shapes to one tree.
 use Rattle.std.specs.Coded.{Coded}
-use Rattle.std.proofs.Common.{◌≡◌, ◌≢◌, ℕ, List, refl, ap, arith}
+use Rattle.std.proofs.Common.{◌≡◌, ◌≢◌, ℕ, refl, ap, arith}
 use base.Stored.{Gv, gnil, gnum, gcons}
 use Rattle.hol_types.specs.Code.{coded_name}
 use Rattle.hol_infer.specs.Shape.{ShapeTree, ShapeList, Hole, Fixed, Built, no_shapes, more_shapes}

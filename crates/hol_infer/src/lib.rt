@@ -1,6 +1,7 @@
 //! The types that inference gives to terms as they are written.
 #![tactic(auto)]
 
+mod building;
 mod cell;
 mod fault;
 mod finding;
@@ -8,13 +9,11 @@ mod generate;
 mod graph;
 mod principal;
 mod raw;
+mod reading;
 mod shape;
 mod skeleton;
 #[cfg(test)]
 mod tests;
 
-pub use fault::Fault;
-pub use principal::{Typed, principal as principal_typing};
 pub use raw::RawTerm;
-pub use shape::{Shape, ShapeNode};
-pub use skeleton::Skeleton;
+pub use reading::{ReadingError, read};

@@ -1,9 +1,9 @@
-use Rattle.std.proofs.Common.{◌≡◌, ◌++◌, ◌+◌, ◌<◌, List, length, sym, subst, ap, ◌∙◌, arith, rules, map, length-append}
+use Rattle.std.proofs.Common.{◌≡◌, ◌++◌, ◌+◌, List, length, sym, subst, ap, ◌∙◌, arith, rules, map, length-append}
 use Rattle.std.specs.Prelude.{◌↔◌}
 use Rattle.std.specs.List.{All}
 use Rattle.hol_types.specs.Tree.{TyApp, type_list}
 use Rattle.hol_infer.specs.declared.cell.Equation.{Equation}
-use Rattle.hol_infer.specs.Graph.{part_equations, EquationHolds, AreBelow, CellHolds, cell_weight}
+use Rattle.hol_infer.specs.Graph.{part_equations, EquationHolds, AreBelow}
 use Rattle.hol_infer.proofs.Joining.{parts_joined, joined_below, lengths_apart, length_equations}
 use Rattle.hol_infer.proofs.graph.join.Goals as goal
 

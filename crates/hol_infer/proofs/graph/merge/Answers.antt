@@ -1,4 +1,4 @@
-use Rattle.std.proofs.Common.{◌≡◌, ◌∷◌, List, ◌∙◌, arith, rules}
+use Rattle.std.proofs.Common.{◌≡◌, ◌∷◌, ◌∙◌, arith, rules}
 use Rattle.hol_infer.specs.Graph.{cell_at, HasNoSolution}
 use Rattle.hol_infer.specs.declared.cell.Cell.TheVariants.{Unknown}
 use Rattle.hol_infer.specs.declared.fault.Fault.TheVariants.{Untypable}

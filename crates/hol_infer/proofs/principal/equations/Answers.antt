@@ -1,5 +1,5 @@
 use Rattle.hol_infer.specs.RawView.{raw_tree, slot_tree}
-use Rattle.hol_infer.proofs.General.{whole_graph, empty_formed}
+use Rattle.hol_infer.proofs.General.{whole_graph}
 use Rattle.hol_infer.proofs.principal.equations.Goals as goal
 
 pub returns : goal.returns

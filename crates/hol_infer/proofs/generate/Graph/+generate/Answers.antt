@@ -1,5 +1,5 @@
-use Rattle.std.proofs.Common.{◌≡◌, sym, subst, ap, refl, ◌∙◌}
-use Rattle.hol_infer.specs.Raw.{RawTree, RawBound, RawConstant, RawFree, RawApply, RawAbstraction, RawAnnotated}
+use Rattle.std.proofs.Common.{◌≡◌, sym, ap, refl}
+use Rattle.hol_infer.specs.Raw.{RawBound, RawConstant, RawFree, RawApply, RawAbstraction, RawAnnotated}
 use Rattle.hol_infer.specs.SlotTree.{SlotBound, SlotConstant, SlotFree, SlotApply, SlotAbstraction}
 use Rattle.hol_infer.specs.RawView.{raw_tree, slot_tree, scope_slots}
 use Rattle.hol_infer.proofs.Generating.{Generates-bound, Generates-constant, Generates-free, Generates-apply, Generates-abstraction, Generates-annotated, Generates-same}

@@ -1,8 +1,4 @@
-use Rattle.std.proofs.Common.{◌≡◌, ◌∷◌, [], List, ℕ, codes, rules, map}
-use Rattle.std.specs.Prelude.{◌↔◌}
-use Rattle.hol_types.specs.Tree.{TypeTree}
-use Rattle.hol_types.specs.Fun.{fun_type}
-use Rattle.hol_infer.specs.Graph.{CellHolds}
+use Rattle.std.proofs.Common.{◌≡◌, ◌∷◌, [], codes, rules}
 use Rattle.hol_infer.proofs.Slots.{function_of, function_cell}
 use Rattle.hol_infer.proofs.generate.Graph.function.Goals as goal
 

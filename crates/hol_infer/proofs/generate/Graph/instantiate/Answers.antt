@@ -1,5 +1,4 @@
-use Rattle.std.proofs.Common.{◌≡◌, List, ℕ, sym, ◌∙◌, ap, subst, length, rules}
-use Rattle.hol_types.specs.Names.{is_among}
+use Rattle.std.proofs.Common.{◌≡◌, List, ℕ, sym, ◌∙◌, subst, length, rules}
 use Rattle.hol_infer.specs.Generate.{IsRigidBut, AddsUnknown, BuildsType}
 use Rattle.hol_infer.proofs.Instances.{covered_rigid}
 use Rattle.hol_infer.proofs.Slots.{Instantiates-of}

@@ -1,0 +1,118 @@
+//! Terms from their skeletons, with named types in place of open slots.
+ghost use Rattle.std.specs.Prelude.{◌≡◌, map, ◌<◌, length, slice_get, IfOk, IsOkUnless, OnOk, MatchOption, Some, None};
+ghost use Rattle.hol_terms.specs.Scope.{binders};
+ghost use Rattle.hol_terms.specs.Nameless.{nameless};
+ghost use Rattle.hol_infer.specs.RawView.{slot_tree};
+ghost use Rattle.hol_infer.specs.SlotTree.{typed, AreSlotsIn};
+ghost use Rattle.hol_infer.specs.Scoped.{IsSlotScoped};
+ghost use Rattle.hol_infer.specs.Found.{types_at};
+ghost use Rattle.hol_infer.specs.Holes.{add_holes, open_type};
+ghost use Rattle.hol_infer.specs.Solved.{IsWellTyped, term_holes};
+
+use crate::shape::Shape;
+use crate::skeleton::Skeleton;
+use hol_terms::{Scope, Term, TermError, Variable};
+use hol_types::Ty;
+use std::alloc::{AllocError, Global};
+
+/// Puts the open slots of the term at the end of the list as they occur, each unless it is there.
+#[tactic(auto, using(crate::proofs::Holes::add_holes_append))]
+pub fn add_term_holes(
+    shapes: &[Shape],
+    term: &Skeleton,
+    order: &mut Vec<usize>,
+) -> Result<(), AllocError>
+    requires { AreSlotsIn (length shapes.now) (slot_tree term.now) }
+    ensures { OnOk result (order.new.items ≡ add_holes order.old.items (term_holes shapes.now (slot_tree term.now))) }
+{
+    match term {
+        Skeleton::Bound(_) => Ok(()),
+        Skeleton::Constant(_, slot) => shapes[*slot].add_holes(order),
+        Skeleton::Free(_, slot) => shapes[*slot].add_holes(order),
+        Skeleton::Apply(function, argument) => {
+            add_term_holes(shapes, function, order)?;
+            add_term_holes(shapes, argument, order)?;
+            Ok(())
+        }
+        Skeleton::Abstraction(_, slot, body) => {
+            shapes[*slot].add_holes(order)?;
+            add_term_holes(shapes, body, order)?;
+            Ok(())
+        }
+    }
+}
+
+// The variable of the abstraction that an index means.
+fn variable_at<'a>(scope: &Scope<'a>, index: usize) -> Option<&'a Variable>
+    ensures { MatchOption result (slice_get (binders scope.now) index ≡ None) (λ v. slice_get (binders scope.now) index ≡ Some v.now) }
+{
+    match scope {
+        Scope::Outside => None,
+        Scope::Inside(variable, outer) => {
+            if index == 0 {
+                Some(*variable)
+            } else {
+                variable_at(outer, index - 1)
+            }
+        }
+    }
+}
+
+// The type of a slot.
+fn slot_type(
+    alloc: Global,
+    shapes: &[Shape],
+    order: &[usize],
+    slot: usize,
+) -> Result<Ty, AllocError>
+    requires { slot < length shapes.now }
+    ensures { IfOk result (λ t. t ≡ types_at shapes.now (open_type order.now) slot) }
+{
+    let ty = shapes[slot].ty(alloc, order)?;
+    Ok(ty)
+}
+
+/// The term of the skeleton, under binders.
+///
+/// Answers `Memory` where memory is short, and no other error.
+pub fn build(
+    alloc: Global,
+    shapes: &[Shape],
+    order: &[usize],
+    scope: &Scope<'_>,
+    term: &Skeleton,
+) -> Result<Term, TermError>
+    requires slots_in { AreSlotsIn (length shapes.now) (slot_tree term.now) }
+    requires scoped { IsSlotScoped (map (λ v. v.0) (binders scope.now)) (slot_tree term.now) }
+    requires well_typed { IsWellTyped (map (λ v. v.1) (binders scope.now)) (typed (types_at shapes.now (open_type order.now)) (slot_tree term.now)) }
+    ensures ok { IfOk result (λ t. nameless (binders scope.now) t ≡ typed (types_at shapes.now (open_type order.now)) (slot_tree term.now)) }
+    ensures memory { IsOkUnless result TermError.Memory }
+{
+    match term {
+        Skeleton::Bound(index) => match variable_at(scope, *index) {
+            Some(variable) => Term::var(alloc, variable),
+            None => Err(TermError::NotAVariable),
+        },
+        Skeleton::Constant(name, slot) => {
+            let ty = slot_type(alloc, shapes, order, *slot)?;
+            Term::constant(alloc, name, &ty)
+        }
+        Skeleton::Free(name, slot) => {
+            let ty = slot_type(alloc, shapes, order, *slot)?;
+            let variable = Variable::new(name, &ty)?;
+            Term::var(alloc, &variable)
+        }
+        Skeleton::Apply(function, argument) => {
+            let left = build(alloc, shapes, order, &*scope, function)?;
+            let right = build(alloc, shapes, order, &*scope, argument)?;
+            Term::comb(alloc, &left, &right)
+        }
+        Skeleton::Abstraction(name, slot, body) => {
+            let ty = slot_type(alloc, shapes, order, *slot)?;
+            let variable = Variable::new(name, &ty)?;
+            let inside = Scope::Inside(&variable, &*scope);
+            let inner = build(alloc, shapes, order, &inside, body)?;
+            Term::abstraction(alloc, &variable, &inner)
+        }
+    }
+}

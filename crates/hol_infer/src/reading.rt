@@ -1,0 +1,82 @@
+//! The reading of a term whose identifiers are resolved.
+ghost use Rattle.std.specs.Prelude.{◌≡◌, ◌≤◌, [], IfOk, IfErr, IsOkUnless};
+ghost use Rattle.hol_terms.specs.Nameless.{nameless};
+ghost use Rattle.hol_terms.specs.Size.{term_size};
+ghost use Rattle.hol_infer.specs.Raw.{RawTree};
+ghost use Rattle.hol_infer.specs.RawView.{raw_tree, slot_tree};
+ghost use Rattle.hol_infer.specs.Scoped.{IsScoped, HasRigidAnnotations};
+ghost use Rattle.hol_infer.specs.Typing.{HasNoTyping};
+ghost use Rattle.hol_infer.specs.Reading.{IsReading, HasLargeReading};
+ghost use Rattle.hol_infer.specs.Solved.{IsGeneralTyping, slot_term_size};
+ghost use Rattle.hol_infer.specs.declared.reading.ReadingError.TheVariants.{Memory};
+
+use crate::building::{add_term_holes, build};
+use crate::fault::Fault;
+use crate::principal::{principal, size};
+use crate::raw::RawTerm;
+use crate::shape::{Shape, TOO_LARGE};
+use crate::skeleton::{self, Skeleton};
+use hol_terms::{Scope, Term, TermError};
+use std::alloc::Global;
+use thiserror::Error;
+
+/// Why a term has no reading.
+#[derive(Clone, Copy, Debug, PartialEq, Eq, Error)]
+pub enum ReadingError {
+    /// The term has no typing.
+    #[error("untypable")]
+    Untypable,
+    /// A most general typing has over 20,000 nodes.
+    #[error("too large")]
+    TooLarge,
+    /// There is no memory left.
+    #[error("out of memory")]
+    Memory,
+}
+
+impl From<TermError> for ReadingError {
+    ghost from_gives = { λ _ e. e ≡ Memory };
+
+    fn from(_e: TermError) -> ReadingError {
+        ReadingError::Memory
+    }
+}
+
+// The named term of a typing.
+fn named(alloc: Global, shapes: &[Shape], skeleton: &Skeleton) -> Result<Term, TermError>
+    requires typing { (raw : RawTree) × IsScoped [] raw × IsGeneralTyping raw shapes.now (slot_tree skeleton.now) }
+    ensures reading { IfOk result (λ t. (raw : RawTree) → IsGeneralTyping raw shapes.now (slot_tree skeleton.now) → IsReading raw (nameless [] t)) }
+    ensures size { IfOk result (λ t. term_size [] (nameless [] t) ≡ slot_term_size shapes.now [] (slot_tree skeleton.now)) }
+    ensures memory { IsOkUnless result TermError.Memory }
+{
+    let mut order = Vec::new(alloc);
+    add_term_holes(shapes, skeleton, &mut order)?;
+    let term = build(alloc, shapes, &order, &Scope::Outside, skeleton)?;
+    Ok(term)
+}
+
+/// The reading of a term whose identifiers are resolved: the most general typing, its open types named as they occur.
+///
+/// The reading has at most 20,000 nodes. Answers `Untypable` where there is no typing, `TooLarge` where a most general typing has
+/// over 20,000 nodes, and `Memory` where memory is short.
+pub fn read(alloc: Global, term: &RawTerm) -> Result<Term, ReadingError>
+    requires scoped { IsScoped [] (raw_tree term.now) }
+    requires rigid { HasRigidAnnotations (raw_tree term.now) }
+    ensures reading { IfOk result (λ t. IsReading (raw_tree term.now) (nameless [] t)) }
+    ensures small { IfOk result (λ t. term_size [] (nameless [] t) ≤ 20000) }
+    ensures untypable { IfErr result (λ e. e ≡ ReadingError.Untypable → HasNoTyping (raw_tree term.now)) }
+    ensures too_large { IfErr result (λ e. e ≡ ReadingError.TooLarge → HasLargeReading (raw_tree term.now)) }
+{
+    match principal(alloc, term) {
+        Ok(typed) => {
+            let outermost = skeleton::Scope::Outermost;
+            if size(&typed.shapes, &outermost, &typed.skeleton) >= TOO_LARGE {
+                return Err(ReadingError::TooLarge);
+            }
+            let reading = named(alloc, &typed.shapes, &typed.skeleton)?;
+            Ok(reading)
+        }
+        Err(Fault::Untypable) => Err(ReadingError::Untypable),
+        Err(Fault::Memory) => Err(ReadingError::Memory),
+    }
+}
