@@ -1,10 +1,9 @@
 pub mod Instance
 pub mod Sets
-pub mod Stored
 pub mod Steps
 pub mod Typed
+pub mod Stored
 pub mod Equations
-pub mod Reflexive
 pub mod Variables
 pub mod SortedSets
 pub mod Members
@@ -15,3 +14,7 @@ pub mod Unions
 pub mod Clashes
 pub mod Merging
 pub mod Declared
+pub mod HypothesisLists
+pub mod Sides
+pub mod Sound
+pub mod TermRules

@@ -1,10 +1,11 @@
 -- Strictly sorted lists of keys as finite sets: two lists merged, a list but for one key, in any total order in which only equal keys tie.
-use Rattle.std.specs.Prelude.{◌≡◌, Bool, true, false, cond, not, ◌||◌, ◌&&◌, List, [], ◌∷◌, ◌++◌, refl}
-use Rattle.std.proofs.Common.{ap, sym, ◌∙◌}
+use Rattle.std.specs.Prelude.{◌≡◌, ◌⊎◌, Bool, true, false, cond, not, ◌||◌, ◌&&◌, List, [], ◌∷◌, ◌++◌, map, refl}
+use Rattle.std.proofs.Common.{ap, sym, ◌∙◌, subst, inl, inr}
+use mathlib.Core.Bool.{true≢false}
 use Rattle.std.specs.declared.cmp.Ordering.{Ordering}
 use Rattle.std.specs.declared.cmp.Ordering.TheVariants.{Less, Equal, Greater}
 use Rattle.std.specs.Ordering.{eq_by_cmp, is_eq, ordering_reverse, match_ordering}
-use Rattle.std.specs.Cmp.{IsTotalOrder, Equal-is, alike_right, eq_by_cmp_equiv}
+use Rattle.std.specs.Cmp.{IsTotalOrder, Equal-is, both_ways, alike_right, tied_itself, eq_by_cmp_equiv}
 use Rattle.std.specs.List.{list_any, filter, AllByRecursion}
 use Rattle.std.specs.List.Sorted.{IsStrictlySortedBy}
 use Rattle.std.specs.Set.{sorted_merge, merge_step}
@@ -53,6 +54,42 @@ all_filter p P (x ∷ xs) a =
 any_append : {K : Type 0} (p : K → Bool) (xs ys : List K) → list_any p (xs ++ ys) ≡ (list_any p xs || list_any p ys)
 any_append p [] ys = refl
 any_append p (x ∷ xs) ys = ap (λ b. p x || b) (any_append p xs ys) ∙ or_assoc (p x) (list_any p xs) (list_any p ys)
+
+or_true : (a : Bool) → (a || true) ≡ true
+or_true true = refl
+or_true false = refl
+
+or_cases : (a b : Bool) → (a || b) ≡ true → (a ≡ true) ⊎ (b ≡ true)
+or_cases true b e = inl refl
+or_cases false b e = inr e
+
+-- q is one of the list
+abbrev pub Among : {K : Type 0} → K → List K → Type 0
+Among q [] = ⊥
+Among q (x ∷ xs) = (q ≡ x) ⊎ Among q xs
+
+any_some : {K : Type 0} (p : K → Bool) (xs : List K) → list_any p xs ≡ true → (x : K) × Among x xs × (p x ≡ true)
+any_some p [] e = absurd (true≢false (sym e))
+any_some p (x ∷ xs) e =
+    elim (or_cases (p x) (list_any p xs) e) [
+      | inl f ↦ (x, inl refl, f)
+      | inr g ↦ let a = any_some p xs g in (a.0, inr a.1, a.2)
+    ]
+
+some_any : {K : Type 0} (p : K → Bool) (xs : List K) (x : K) → Among x xs → p x ≡ true → list_any p xs ≡ true
+some_any p [] x h e = absurd h
+some_any p (y ∷ xs) x (inl f) e = ap (λ b. b || list_any p xs) (ap p (sym f) ∙ e)
+some_any p (y ∷ xs) x (inr g) e = ap (λ b. p y || b) (some_any p xs x g e) ∙ or_true (p y)
+
+among_map : {K L : Type 0} (f : K → L) (q : K) (xs : List K) → Among q xs → Among (f q) (map f xs)
+among_map f q [] h = absurd h
+among_map f q (x ∷ xs) (inl e) = inl (ap f e)
+among_map f q (x ∷ xs) (inr h) = inr (among_map f q xs h)
+
+among_unmap : {K L : Type 0} (f : K → L) (y : L) (xs : List K) → Among y (map f xs) → (x : K) × Among x xs × (y ≡ f x)
+among_unmap f y [] h = absurd h
+among_unmap f y (x ∷ xs) (inl e) = (x, inl refl, e)
+among_unmap f y (x ∷ xs) (inr h) = let a = among_unmap f y xs h in (a.0, inr a.1, a.2)
 
 module _ {K : Type 0} {R : K → K → Ordering} (o : IsTotalOrder R) where
   abbrev Below : K → List K → Type 0
@@ -143,6 +180,13 @@ module _ {K : Type 0} {R : K → K → Ordering} (o : IsTotalOrder R) where
             same : eq_by_cmp R q x ≡ eq_by_cmp R q k
             same = ap is_eq (alike_right o x k q ((Equal-is (R x k)).0 e))
 
+  -- ---- members
+
+  among_has : (q : K) (xs : List K) → Among q xs → list_any (eq_by_cmp R q) xs ≡ true
+  among_has q [] h = absurd h
+  among_has q (x ∷ xs) (inl e) = ap (λ b. b || list_any (eq_by_cmp R q) xs) (ap (λ k. is_eq (R q k)) (sym e) ∙ ap is_eq (tied_itself o q))
+  among_has q (x ∷ xs) (inr h) = ap (λ b. eq_by_cmp R q x || b) (among_has q xs h) ∙ or_true (eq_by_cmp R q x)
+
   -- ---- as sets
 
   module _ (only : set.IsAntisymmetric R) where
@@ -163,6 +207,42 @@ module _ {K : Type 0} {R : K → K → Ordering} (o : IsTotalOrder R) where
         set.same_set o only _ _
         (λ q. set.contains-from_list o (filter (λ x. not (eq_by_cmp R x k)) xs) q ∙ has_but q k xs
         ∙ sym (set.contains-remove o (set.from_list xs) k q ∙ ap (λ b. not (eq_by_cmp R q k) && b) (set.contains-from_list o xs q)))
+
+    has_among : (q : K) (xs : List K) → list_any (eq_by_cmp R q) xs ≡ true → Among q xs
+    has_among q [] e = absurd (true≢false (sym e))
+    has_among q (x ∷ xs) e =
+        elim (or_cases (eq_by_cmp R q x) (list_any (eq_by_cmp R q) xs) e) [
+          | inl f ↦ inl (only q x ((Equal-is (R q x)).0 f))
+          | inr g ↦ inr (has_among q xs g)
+        ]
+
+    -- the items of a list's set are the list's elements
+    pub items_among : (q : K) (xs : List K) → Among q (set.items (set.from_list {R = R} xs)) → Among q xs
+    items_among q xs h =
+        has_among q xs
+        (sym (set.contains-from_list o xs q) ∙ set.contains-items (set.from_list xs) q ∙ among_has q (set.items (set.from_list xs)) h)
+
+    pub among_items : (q : K) (xs : List K) → Among q xs → Among q (set.items (set.from_list {R = R} xs))
+    among_items q xs h =
+        has_among q (set.items (set.from_list xs))
+        (sym (set.contains-items (set.from_list xs) q) ∙ set.contains-from_list o xs q ∙ among_has q xs h)
+
+    -- a test of some element, and a map of all
+    pub any_of_set : (p : K → Bool) (xs : List K) → list_any p (set.items (set.from_list {R = R} xs)) ≡ list_any p xs
+    any_of_set p xs =
+        both_ways _ _
+        (λ e. let a = any_some p (set.items (set.from_list {R = R} xs)) e in some_any p xs a.0 (items_among a.0 xs a.1) a.2)
+        (λ e. let a = any_some p xs e in some_any p (set.items (set.from_list {R = R} xs)) a.0 (among_items a.0 xs a.1) a.2)
+
+    pub map_of_set : (f : K → K) (xs : List K) → set.from_list {R = R} (map f (set.items (set.from_list {R = R} xs))) ≡ set.from_list (map f xs)
+    map_of_set f xs =
+        let ys : List K = set.items (set.from_list {R = R} xs) in
+        set.same_set o only _ _
+        (λ q. set.contains-from_list o (map f ys) q
+        ∙ both_ways _ _
+        (λ e. let a = among_unmap f q ys (has_among q (map f ys) e) in among_has q (map f xs) (subst (λ (k : K). Among k (map f xs)) (sym a.2) (among_map f a.0 xs (items_among a.0 xs a.1))))
+        (λ e. let a = among_unmap f q xs (has_among q (map f xs) e) in among_has q (map f ys) (subst (λ (k : K). Among k (map f ys)) (sym a.2) (among_map f a.0 ys (among_items a.0 xs a.1))))
+        ∙ sym (set.contains-from_list o (map f xs) q))
 
     pub union_none_left : (s : set.FinSet R) → set.union set.empty s ≡ s
     union_none_left s = set.same_set o only _ _ (λ q. set.contains-union o set.empty s q ∙ ap (λ b. b || set.contains s q) (set.contains-empty R q))

@@ -1,12 +1,16 @@
 //! Equations of two terms.
-ghost use Rattle.std.specs.Prelude.{◌≡◌, IfOk, IsErrOf, Ok, Some};
-ghost use Rattle.hol_terms.specs.Named.{named_type};
+ghost use Rattle.std.specs.Prelude.{◌≡◌, IfOk, IfSome, IsErrOf, MatchOption, Ok, Some, None, []};
+ghost use Rattle.hol_types.specs.Equal.{type_eq};
+ghost use Rattle.hol_types.specs.Fun.{fun_type};
+ghost use Rattle.hol_terms.specs.Named.{comb, abs, named_type};
 ghost use Rattle.hol_terms.specs.declared.term.TermError.TheVariants as term_error;
-ghost use Rattle.hol_kernel.specs.Sequent.{named_equation};
+ghost use Rattle.hol_terms.specs.Nameless.{nameless};
+ghost use Rattle.hol_kernel.specs.Sequent.{named_equation, bool_type};
+ghost use Rattle.hol_kernel.specs.Rules.{sides_of};
 
 use crate::prelude::equality_type;
-use hol_terms::{Term, TermError};
-use hol_types::{Name, Ty};
+use hol_terms::{Term, TermError, TermNode, Variable};
+use hol_types::{Name, Ty, TyNode};
 use std::alloc::{AllocError, Global};
 
 #[tactic(auto, using(crate::proofs::Equations::equations))]
@@ -23,6 +27,86 @@ pub fn equation(alloc: Global, ty: &Ty, left: &Term, right: &Term) -> Result<Ter
     let equality = fitting(Term::constant(alloc, &name, &equality_type))?;
     let applied = fitting(Term::comb(alloc, &equality, left))?;
     fitting(Term::comb(alloc, &applied, right))
+}
+
+/// The application of a function to an argument of a fitting type.
+///
+/// Answers an error where memory is short, and nowhere else.
+pub fn application(alloc: Global, function: &Term, argument: &Term) -> Result<Term, AllocError>
+    requires fits { ¬ (named_type (comb function.now argument.now) ≡ None) }
+    ensures { IfOk result (λ application. application ≡ comb function.now argument.now) }
+{
+    fitting(Term::comb(alloc, function, argument))
+}
+
+/// The abstraction of the variable in the body.
+///
+/// Answers an error where memory is short, and nowhere else.
+pub fn abstraction(alloc: Global, v: &Variable, body: &Term) -> Result<Term, AllocError>
+    ensures { IfOk result (λ abstraction. abstraction ≡ abs v.now body.now) }
+{
+    fitting(Term::abstraction(alloc, v, body))
+}
+
+/// The sides of an equation and their type.
+#[derive(Clone, Copy)]
+pub struct Sides<'a> {
+    /// The type of both sides.
+    pub ty: &'a Ty,
+    /// The left side.
+    pub left: &'a Term,
+    /// The right side.
+    pub right: &'a Term,
+}
+
+#[tactic(auto, using(crate::proofs::Sides::sides_found))]
+/// The sides of the term, and `None` where it is no equation.
+pub fn dest_eq(term: &Term) -> Option<Sides<'_>>
+    ensures sides { MatchOption result (sides_of (nameless [] term.now) ≡ None) (λ x. sides_of (nameless [] term.now) ≡ Some (record { sides_type = x.ty.now; left = nameless [] x.left.now; right = nameless [] x.right.now })) }
+    ensures left { IfSome result (λ x. named_type x.left.now ≡ Some x.ty.now) }
+    ensures right { IfSome result (λ x. named_type x.right.now ≡ Some x.ty.now) }
+{
+    let _ty = term.type_of();
+    let TermNode::Comb(applied, right) = term.node() else {
+        return None;
+    };
+    let TermNode::Comb(equality, left) = applied.node() else {
+        return None;
+    };
+    let TermNode::Const(name, ty) = equality.node() else {
+        return None;
+    };
+    let (domain, property) = ty.dest_fun()?;
+    if name.as_str() != "=" || !is_property(property, domain) {
+        return None;
+    }
+    Some(Sides {
+        ty: domain,
+        left,
+        right,
+    })
+}
+
+// Whether the type is that of functions from the domain to truth values.
+#[tactic(auto, using(crate::proofs::Sides::function_types))]
+fn is_property(ty: &Ty, domain: &Ty) -> bool
+    ensures { result ≡ type_eq ty.now (fun_type domain.now bool_type) }
+{
+    let Some((own, truth)) = ty.dest_fun() else {
+        return false;
+    };
+    own.same(domain) && is_bool(truth)
+}
+
+#[tactic(auto, using(crate::proofs::Sides::bool_types))]
+/// Whether the type is that of truth values.
+pub fn is_bool(ty: &Ty) -> bool
+    ensures { result ≡ type_eq ty.now bool_type }
+{
+    match ty.node() {
+        TyNode::Var(_) => false,
+        TyNode::App(name, args) => name.as_str() == "bool" && args.is_empty(),
+    }
 }
 
 /// A copy of the term.

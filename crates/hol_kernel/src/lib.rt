@@ -5,12 +5,14 @@ mod basis;
 mod declare;
 mod equation;
 mod error;
+mod hypotheses;
 mod item;
 mod item_names;
 mod join;
 mod kind;
 mod postulate;
 mod prelude;
+mod rules;
 mod thm;
 
 pub use basis::Basis;

@@ -1,0 +1,171 @@
+-- Equations taken apart.
+use Rattle.std.specs.Prelude.{◌≡◌, ℕ, Bool, true, false, cond, ◌&&◌, List, [], ◌∷◌, length, ◌==◌, bytes_eq, codes, Option, Some, None, refl}
+use Rattle.std.specs.Option.{option_and_then}
+use Rattle.std.specs.Bool.{one_answer}
+use Rattle.std.specs.Ordering.{ordering_then, is_eq}
+use Rattle.std.specs.declared.cmp.Ordering.{Ordering}
+use Rattle.std.specs.declared.cmp.Ordering.TheVariants.{Less, Equal, Greater}
+use Rattle.std.specs.Cmp.{Equal-is}
+use borrow.Author.Tests.{eqb-true}
+use Rattle.std.proofs.Common.{ap, sym, ◌∙◌, arith}
+use Rattle.std.proofs.lemmas.Slice.Eq.{bytes_eq-Decides}
+use Rattle.hol_types.specs.Tree.{TypeTree, TypeList, TyVar, TyApp, no_types, more_types, type_list}
+use Rattle.hol_types.specs.Equal.{type_eq}
+use Rattle.hol_types.specs.Order.{name_cmp, type_cmp, types_cmp}
+use Rattle.hol_types.specs.Fun.{fun_type, fun_parts, both_of}
+use Rattle.hol_types.proofs.OrderLaws.{type_cmp_decides, name_equal, name_same}
+use Rattle.hol_terms.specs.Named.{Named, constant, comb, named_type, applied_type}
+use Rattle.hol_terms.specs.Nameless.{Nameless, fixed, app}
+use Rattle.hol_kernel.specs.Sequent.{bool_type, equality_type}
+use Rattle.hol_kernel.proofs.Equations.{type_eq_itself}
+use Rattle.hol_kernel.specs.Rules.{Sides, sides_at, sides_of}
+
+-- ---- types of functions
+
+both_is : (ts : TypeList) (p : TypeTree × TypeTree) → both_of ts ≡ Some p → ts ≡ more_types p.0 (more_types p.1 no_types)
+both_is no_types p e = absurd (cc)
+both_is (more_types s no_types) p e = absurd (cc)
+both_is (more_types s (more_types t no_types)) p e = let f : (s, t) ≡ p = cc in λ i. more_types (f i).0 (more_types (f i).1 no_types)
+both_is (more_types s (more_types t (more_types u us))) p e = absurd (cc)
+
+pub fun_parts_is : (t : TypeTree) (p : TypeTree × TypeTree) → fun_parts t ≡ Some p → t ≡ fun_type p.0 p.1
+fun_parts_is (TyVar a) p e = absurd (cc)
+fun_parts_is (TyApp c ts) p e = by (bytes_eq c (codes "fun")) refl e
+  where
+    by : (b : Bool) → bytes_eq c (codes "fun") ≡ b → cond b (both_of ts) None ≡ Some p → TyApp c ts ≡ fun_type p.0 p.1
+    by true f g = λ i. TyApp ((bytes_eq-Decides c (codes "fun")).0 f i) (both_is ts p g i)
+    by false f g = absurd (cc)
+
+then_test : (r s : Ordering) → is_eq (ordering_then r (ordering_then s Equal)) ≡ (is_eq r && is_eq s)
+then_test Less s = refl
+then_test Equal Less = refl
+then_test Equal Equal = refl
+then_test Equal Greater = refl
+then_test Greater s = refl
+
+fun_types_test : (a b d r : TypeTree) → type_eq (fun_type a b) (fun_type d r) ≡ (type_eq a d && type_eq b r)
+fun_types_test a b d r = then_test (type_cmp a d) (type_cmp b r)
+
+pub parts_test : (t d r : TypeTree) (p : TypeTree × TypeTree) → fun_parts t ≡ Some p → type_eq t (fun_type d r) ≡ (type_eq p.0 d && type_eq p.1 r)
+parts_test t d r p e = ap (λ s. type_eq s (fun_type d r)) (fun_parts_is t p e) ∙ fun_types_test p.0 p.1 d r
+
+pub no_parts_test : (t d r : TypeTree) → fun_parts t ≡ None → type_eq t (fun_type d r) ≡ false
+no_parts_test t d r e = by (type_eq t (fun_type d r)) refl
+  where
+    by : (b : Bool) → type_eq t (fun_type d r) ≡ b → b ≡ false
+    by true f = let g : fun_parts t ≡ Some (d, r) = ap fun_parts ((type_cmp_decides t (fun_type d r)).0 f) in absurd (cc)
+    by false f = refl
+
+pub ruleset function_types = (parts_test, no_parts_test)
+
+-- ---- truth values
+
+pub bool_test_var : (a : List ℕ) → type_eq (TyVar a) bool_type ≡ false
+bool_test_var a = refl
+
+no_arguments : (ts : List TypeTree) → is_eq (types_cmp (type_list ts) no_types) ≡ (length ts == 0)
+no_arguments [] = refl
+no_arguments (t ∷ ts) = by (length (t ∷ ts) == 0) refl
+  where
+    by : (b : Bool) → (length (t ∷ ts) == 0) ≡ b → false ≡ b
+    by true e = absurd (omega (arith, eqb-true (length (t ∷ ts)) 0 e))
+    by false e = refl
+
+then_is : (r s : Ordering) → is_eq (ordering_then r s) ≡ (is_eq r && is_eq s)
+then_is Less s = refl
+then_is Equal s = refl
+then_is Greater s = refl
+
+name_test : (a b : List ℕ) → is_eq (name_cmp a b) ≡ bytes_eq a b
+name_test a b =
+    one_answer (is_eq (name_cmp a b)) (bytes_eq a b)
+    (λ e. name_equal a b ((Equal-is (name_cmp a b)).0 e), λ e. ap (λ c. is_eq (name_cmp a c)) (sym e) ∙ ap is_eq (name_same a)) (bytes_eq-Decides a b)
+
+pub bool_test_app : (c : List ℕ) (ts : List TypeTree) → type_eq (TyApp c (type_list ts)) bool_type ≡ (bytes_eq c (codes "bool") && (length ts == 0))
+bool_test_app c ts =
+    then_is (name_cmp c (codes "bool")) (types_cmp (type_list ts) no_types)
+    ∙ (λ i. name_test c (codes "bool") i && no_arguments ts i)
+
+pub ruleset bool_types = (bool_test_var, bool_test_app)
+
+-- ---- applications
+
+some_same : (s t : TypeTree) → Some s ≡ Some t → s ≡ t
+some_same s t e = cc
+
+same_type : (s t : TypeTree) → type_eq s t ≡ true → s ≡ t
+same_type s t e = (type_cmp_decides s t).0 e
+
+applied_is : (s t b : TypeTree) → applied_type s t ≡ Some b → s ≡ fun_type t b
+applied_is s t b e = by (fun_parts s) refl e
+  where
+    fits : (p : TypeTree × TypeTree) (k : Bool) → fun_parts s ≡ Some p → type_eq p.0 t ≡ k → cond k (Some p.1) None ≡ Some b → s ≡ fun_type t b
+    fits p true f g h = let r : p.1 ≡ b = cc in fun_parts_is s p f ∙ (λ i. fun_type (same_type p.0 t g i) (r i))
+    fits p false f g h = absurd (cc)
+
+    by : (o : Option (TypeTree × TypeTree)) → fun_parts s ≡ o → option_and_then (λ p. cond (type_eq p.0 t) (Some p.1) None) o ≡ Some b → s ≡ fun_type t b
+    by None f g = absurd (cc)
+    by (Some p) f g = fits p (type_eq p.0 t) f refl g
+
+-- What a well typed application says of its parts.
+pub record IsApplied (f x : Named) (b : TypeTree) : Type 0 where
+  pub domain : TypeTree
+  pub argument : named_type x ≡ Some domain
+  pub function : named_type f ≡ Some (fun_type domain b)
+
+pub applied_parts : (f x : Named) (b : TypeTree) → named_type (comb f x) ≡ Some b → IsApplied f x b
+applied_parts f x b e = by (named_type f) (named_type x) refl refl e
+  where
+    by : (p q : Option TypeTree) → named_type f ≡ p → named_type x ≡ q → option_and_then (λ s. option_and_then (λ t. applied_type s t) q) p ≡ Some b → IsApplied f x b
+    by None q h k g = absurd (cc)
+    by (Some s) None h k g = absurd (cc)
+    by (Some s) (Some t) h k g = record { domain = t; argument = k; function = h ∙ ap Some (applied_is s t b g) }
+
+-- What a well typed equation says of its parts.
+pub record IsEquation (l r : Named) (a t : TypeTree) : Type 0 where
+  pub left : named_type l ≡ Some a
+  pub right : named_type r ≡ Some a
+  pub whole : t ≡ bool_type
+
+pub equation_parts : (c : List ℕ) (s : TypeTree) (l r : Named) (t : TypeTree) (p : TypeTree × TypeTree) → named_type (comb (comb (constant c s) l) r) ≡ Some t → fun_parts s ≡ Some p → type_eq p.1 (fun_type p.0 bool_type) ≡ true → IsEquation l r p.0 t
+equation_parts c s l r t p e f g =
+    let outer = applied_parts (comb (constant c s) l) r t e in
+    let inner = applied_parts (constant c s) l (fun_type outer.domain t) outer.function in
+    let own : s ≡ fun_type p.0 (fun_type p.0 bool_type) = fun_parts_is s p f ∙ ap (fun_type p.0) (same_type p.1 (fun_type p.0 bool_type) g) in
+    let is : s ≡ fun_type inner.domain (fun_type outer.domain t) = some_same s (fun_type inner.domain (fun_type outer.domain t)) inner.function in
+    let both : fun_type p.0 (fun_type p.0 bool_type) ≡ fun_type inner.domain (fun_type outer.domain t) = sym own ∙ is in
+    let first : p.0 ≡ inner.domain = cc in
+    let second : p.0 ≡ outer.domain = cc in
+    let third : bool_type ≡ t = cc in
+    record { left = inner.argument ∙ ap Some (sym first); right = outer.argument ∙ ap Some (sym second); whole = sym third }
+
+-- ---- the sides of an equation
+
+module _ (c : List ℕ) (s : TypeTree) (l r : Nameless) where
+  abbrev found : TypeTree → Sides
+  found a = record { sides_type = a; left = l; right = r }
+
+  pub sides_yes : (p : TypeTree × TypeTree) → fun_parts s ≡ Some p → bytes_eq c (codes "=") ≡ true → type_eq p.1 (fun_type p.0 bool_type) ≡ true → sides_of (app (app (fixed c s) l) r) ≡ Some (found p.0)
+  sides_yes p e f g =
+      ap (option_and_then (sides_at c s l r)) e
+      ∙ (λ i. cond (f i && (parts_test s p.0 (fun_type p.0 bool_type) p e ∙ (λ j. type_eq_itself p.0 j && g j)) i) (Some (found p.0)) None)
+
+  pub sides_no_name : (p : TypeTree × TypeTree) → fun_parts s ≡ Some p → bytes_eq c (codes "=") ≡ false → sides_of (app (app (fixed c s) l) r) ≡ None
+  sides_no_name p e f = ap (option_and_then (sides_at c s l r)) e ∙ (λ i. cond (f i && type_eq s (equality_type p.0)) (Some (found p.0)) None)
+
+  pub sides_no_type : (p : TypeTree × TypeTree) → fun_parts s ≡ Some p → type_eq p.1 (fun_type p.0 bool_type) ≡ false → sides_of (app (app (fixed c s) l) r) ≡ None
+  sides_no_type p e g =
+      ap (option_and_then (sides_at c s l r)) e
+      ∙ by (bytes_eq c (codes "="))
+    where
+      at : type_eq s (equality_type p.0) ≡ false
+      at = parts_test s p.0 (fun_type p.0 bool_type) p e ∙ (λ j. type_eq_itself p.0 j && g j)
+
+      by : (b : Bool) → cond (b && type_eq s (equality_type p.0)) (Some (found p.0)) None ≡ None
+      by true = ap (λ k. cond k (Some (found p.0)) None) at
+      by false = refl
+
+  pub sides_no_parts : fun_parts s ≡ None → sides_of (app (app (fixed c s) l) r) ≡ None
+  sides_no_parts e = ap (option_and_then (sides_at c s l r)) e
+
+pub ruleset sides_found = (sides_yes, sides_no_name, sides_no_type, sides_no_parts)

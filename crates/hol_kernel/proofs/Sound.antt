@@ -1,0 +1,126 @@
+-- Each rule gives a theorem that has a derivation.
+use Rattle.std.specs.Prelude.{◌≡◌, ℕ, Bool, true, false, cond, ◌&&◌, List, [], ◌∷◌, codes, bytes_eq, Option, Some, None, refl}
+use Rattle.std.specs.Option.{option_map, option_and_then}
+use Rattle.std.proofs.Common.{ap, sym, ◌∙◌, subst}
+use mathlib.Core.Bool.{true≢false}
+use Rattle.std.proofs.lemmas.Slice.Eq.{bytes_eq-Decides}
+use Rattle.std.specs.FinSet as set
+use Rattle.hol_types.specs.Tree.{TypeTree}
+use Rattle.hol_types.specs.Equal.{type_eq}
+use Rattle.hol_types.specs.Fun.{fun_type, fun_parts}
+use Rattle.hol_types.proofs.OrderLaws.{type_cmp_decides}
+use Rattle.hol_terms.specs.Named.{Named, named_type, applied_type}
+use Rattle.hol_terms.specs.Nameless.{Nameless, free, bound, fixed, app, lam, nameless, nameless_type}
+use Rattle.hol_terms.specs.Alpha.{strip, alpha_eq}
+use Rattle.hol_terms.proofs.Alpha.{alpha_eq_decides}
+use Rattle.hol_terms.proofs.Typing.{type_outside}
+use Rattle.hol_kernel.specs.Items.{Items}
+use Rattle.hol_kernel.specs.Sequent.{Hyps, equality_type, equation}
+use Rattle.hol_kernel.specs.Derivation.{Derives, by_trans, by_eq_mp, by_mk_comb, by_deduct_antisym}
+use Rattle.hol_kernel.specs.Theorem.{Theorem, theorem_over}
+use Rattle.hol_kernel.specs.Rules.{Sides, sides_at, sides_of, trans_sides, trans_of, eq_mp_sides, eq_mp_of, comb_parts, comb_sides, mk_comb_of, deduct_antisym_of}
+use Rattle.hol_kernel.proofs.Sides.{fun_parts_is}
+
+-- ---- what tests say
+
+test : {T : Type 0} (b : Bool) (x y : T) → cond b (Some x) None ≡ Some y → (b ≡ true) × (x ≡ y)
+test true x y e = (refl, cc)
+test false x y e = absurd (cc)
+
+two : (a b : Bool) → (a && b) ≡ true → (a ≡ true) × (b ≡ true)
+two true b e = (refl, e)
+two false b e = absurd (true≢false (sym e))
+
+alpha : (m n : Nameless) → alpha_eq m n ≡ true → strip m ≡ strip n
+alpha m n e = (alpha_eq_decides m n).0 e
+
+pub strip_type : (env : List TypeTree) (n : Nameless) → nameless_type env (strip n) ≡ nameless_type env n
+strip_type env (free v) = refl
+strip_type env (bound i) = refl
+strip_type env (fixed c s) = refl
+strip_type env (app f x) = λ i. option_and_then (λ s. option_and_then (λ t. applied_type s t) (strip_type env x i)) (strip_type env f i)
+strip_type env (lam a s b) = ap (option_map (fun_type s)) (strip_type (s ∷ env) b)
+
+-- alpha equivalent terms have one type
+pub alpha_type : (s t : Named) (a b : TypeTree) → alpha_eq (nameless [] s) (nameless [] t) ≡ true → named_type s ≡ Some a → named_type t ≡ Some b → a ≡ b
+alpha_type s t a b e f g =
+    let one : Some a ≡ Some b =
+    sym f ∙ sym (type_outside s) ∙ sym (strip_type [] (nameless [] s)) ∙ ap (nameless_type []) (alpha (nameless [] s) (nameless [] t) e)
+    ∙ strip_type [] (nameless [] t) ∙ type_outside t ∙ g
+    in
+    cc
+
+-- ---- the sides of an equation
+
+sides_is_at : (c : List ℕ) (s : TypeTree) (l r : Nameless) (x : Sides) (p : TypeTree × TypeTree) → sides_at c s l r p ≡ Some x → app (app (fixed c s) l) r ≡ equation x.sides_type x.left x.right
+sides_is_at c s l r x p e =
+    let v = test (bytes_eq c (codes "=") && type_eq s (equality_type p.0)) (record { sides_type = p.0; left = l; right = r }) x e in
+    let w = two (bytes_eq c (codes "=")) (type_eq s (equality_type p.0)) v.0 in
+    (λ i. app (app (fixed ((bytes_eq-Decides c (codes "=")).0 w.0 i) ((type_cmp_decides s (equality_type p.0)).0 w.1 i)) l) r)
+    ∙ ap (λ (z : Sides). equation z.sides_type z.left z.right) v.1
+
+sides_is_by : (c : List ℕ) (s : TypeTree) (l r : Nameless) (x : Sides) (o : Option (TypeTree × TypeTree)) → option_and_then (sides_at c s l r) o ≡ Some x → app (app (fixed c s) l) r ≡ equation x.sides_type x.left x.right
+sides_is_by c s l r x (Some p) e = sides_is_at c s l r x p e
+sides_is_by c s l r x None e = absurd (cc)
+
+pub sides_is : (t : Nameless) (x : Sides) → sides_of t ≡ Some x → t ≡ equation x.sides_type x.left x.right
+sides_is (app (app (fixed c s) l) r) x e = sides_is_by c s l r x (fun_parts s) e
+sides_is t x e = absurd (cc)
+
+-- ---- the rules on theorems
+
+abbrev pub Derived : Theorem → Type 0
+Derived t = Derives t.basis t.hyps t.concl
+
+by_sides : (items : Items) (hs : Hyps) (t : Nameless) (x : Sides) → sides_of t ≡ Some x → Derives items hs t → Derives items hs (equation x.sides_type x.left x.right)
+by_sides items hs t x e d = subst (λ (u : Nameless). Derives items hs u) (sides_is t x e) d
+
+-- the second theorem over the basis of the first
+over_first : (a b : Theorem) → a.basis ≡ b.basis → Derived b → Derives a.basis b.hyps b.concl
+over_first a b one e = subst (λ (s : Items). Derives s b.hyps b.concl) (sym one) e
+
+pub trans_sound : (a b t : Theorem) → a.basis ≡ b.basis → Derived a → Derived b → trans_of a b ≡ Some t → Derived t
+trans_sound a b t one d e is =
+    go (sides_of a.concl) (sides_of b.concl) refl refl is
+  where
+    go : (p q : Option Sides) → sides_of a.concl ≡ p → sides_of b.concl ≡ q → trans_sides a.basis (set.union a.hyps b.hyps) p q ≡ Some t → Derived t
+    go (Some x) (Some y) p q is =
+        let v = test (alpha_eq x.right y.left) (theorem_over a.basis (set.union a.hyps b.hyps) (equation x.sides_type x.left y.right)) t is in
+        subst Derived v.1
+        (by_trans a.hyps b.hyps x.sides_type y.sides_type x.left x.right y.left y.right (by_sides a.basis a.hyps a.concl x p d)
+        (by_sides a.basis b.hyps b.concl y q (over_first a b one e)) (alpha x.right y.left v.0))
+    go (Some x) None p q is = absurd (cc)
+    go None q p' q' is = absurd (cc)
+
+pub eq_mp_sound : (a b t : Theorem) → a.basis ≡ b.basis → Derived a → Derived b → eq_mp_of a b ≡ Some t → Derived t
+eq_mp_sound a b t one d e is =
+    go (sides_of a.concl) refl is
+  where
+    go : (p : Option Sides) → sides_of a.concl ≡ p → eq_mp_sides a.basis (set.union a.hyps b.hyps) p b.concl ≡ Some t → Derived t
+    go (Some x) p is =
+        let v = test (alpha_eq x.left b.concl) (theorem_over a.basis (set.union a.hyps b.hyps) x.right) t is in
+        subst Derived v.1
+        (by_eq_mp a.hyps b.hyps x.sides_type x.left x.right b.concl (by_sides a.basis a.hyps a.concl x p d) (over_first a b one e) (alpha x.left b.concl v.0))
+    go None p is = absurd (cc)
+
+pub mk_comb_sound : (a b t : Theorem) → a.basis ≡ b.basis → Derived a → Derived b → mk_comb_of a b ≡ Some t → Derived t
+mk_comb_sound a b t one d e is =
+    go (sides_of a.concl) (sides_of b.concl) refl refl is
+  where
+    typed : (x y : Sides) (f : Option (TypeTree × TypeTree)) → fun_parts x.sides_type ≡ f → sides_of a.concl ≡ Some x → sides_of b.concl ≡ Some y → comb_parts a.basis (set.union a.hyps b.hyps) x y f ≡ Some t → Derived t
+    typed x y (Some s) f p q is =
+        let v = test (type_eq s.0 y.sides_type) (theorem_over a.basis (set.union a.hyps b.hyps) (equation s.1 (app x.left y.left) (app x.right y.right))) t is in
+        subst Derived v.1
+        (by_mk_comb a.hyps b.hyps s.0 s.1 x.left x.right y.left y.right
+        (subst (λ (u : TypeTree). Derives a.basis a.hyps (equation u x.left x.right)) (fun_parts_is x.sides_type s f) (by_sides a.basis a.hyps a.concl x p d))
+        (subst (λ (u : TypeTree). Derives a.basis b.hyps (equation u y.left y.right)) (sym ((type_cmp_decides s.0 y.sides_type).0 v.0))
+        (by_sides a.basis b.hyps b.concl y q (over_first a b one e))))
+    typed x y None f p q is = absurd (cc)
+
+    go : (p q : Option Sides) → sides_of a.concl ≡ p → sides_of b.concl ≡ q → comb_sides a.basis (set.union a.hyps b.hyps) p q ≡ Some t → Derived t
+    go (Some x) (Some y) p q is = typed x y (fun_parts x.sides_type) refl p q is
+    go (Some x) None p q is = absurd (cc)
+    go None q p' q' is = absurd (cc)
+
+pub deduct_antisym_sound : (a b : Theorem) → a.basis ≡ b.basis → Derived a → Derived b → Derived (deduct_antisym_of a b)
+deduct_antisym_sound a b one d e = by_deduct_antisym a.hyps b.hyps a.concl b.concl d (over_first a b one e)

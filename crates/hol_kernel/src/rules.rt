@@ -1,0 +1,208 @@
+//! The primitive rules of HOL Light (fusion.ml) that need no substitution.
+ghost use Rattle.std.specs.Prelude.{◌≡◌, IfOk, Some, []};
+ghost use Rattle.hol_terms.specs.Nameless.{nameless};
+ghost use Rattle.hol_kernel.specs.Rules.{refl_of, assume_of, beta_of, trans_of, mk_comb_of, abs_of, eq_mp_of, deduct_antisym_of};
+ghost use Rattle.hol_kernel.specs.Gives.{Gives};
+ghost use Rattle.hol_kernel.specs.declared.error.Rule.TheVariants as rule;
+
+use crate::basis::Basis;
+use crate::equation::{abstraction, application, copy_of, dest_eq, equation, is_bool};
+use crate::error::{KernelError, Rule};
+use crate::hypotheses::Hypotheses;
+use crate::prelude::bool_type;
+use crate::thm::Thm;
+use hol_terms::{Term, TermNode};
+use hol_types::Ty;
+use std::alloc::Global;
+
+impl Thm {
+    #[tactic(auto, using(crate::proofs::TermRules::refls))]
+    /// The rule of reflexivity (fusion.ml, REFL): `|- t = t` over the basis.
+    ///
+    /// Refused by [`Rule::Refl`] where `t` is not well typed over the prelude and the basis. The only other error is want of memory.
+    pub fn refl(alloc: Global, basis: &Basis, term: &Term) -> Result<Thm, KernelError>
+        ensures sequent { Gives rule.Refl (refl_of basis.now (nameless [] term.now)) result }
+        ensures basis { IfOk result (λ th. th.basis ≡ basis.now) }
+    {
+        if !basis.is_typed(alloc, term)? {
+            return Err(KernelError::Refused(Rule::Refl));
+        }
+        let concl = equation(alloc, term.type_of(), term, term)?;
+        let basis = basis.copy()?;
+        let hyps = Hypotheses::none(alloc)?;
+        Ok(Thm::made(basis, hyps, concl))
+    }
+
+    #[tactic(auto, using(crate::proofs::TermRules::assumes))]
+    /// The rule of assumption (fusion.ml, ASSUME): `{p} |- p` over the basis.
+    ///
+    /// Refused by [`Rule::Assume`] where `p` is not well typed over the prelude and the basis, or not of type `bool`. The only other
+    /// error is want of memory.
+    pub fn assume(alloc: Global, basis: &Basis, p: &Term) -> Result<Thm, KernelError>
+        ensures sequent { Gives rule.Assume (assume_of basis.now (nameless [] p.now)) result }
+        ensures basis { IfOk result (λ th. th.basis ≡ basis.now) }
+    {
+        if !is_bool(p.type_of()) || !basis.is_typed(alloc, p)? {
+            return Err(KernelError::Refused(Rule::Assume));
+        }
+        let concl = copy_of(p)?;
+        let basis = basis.copy()?;
+        let hyps = Hypotheses::one(alloc, p)?;
+        Ok(Thm::made(basis, hyps, concl))
+    }
+
+    /// The rule of transitivity (fusion.ml, TRANS): from `s = m` and `n = t`, where `m` and `n` are alpha equivalent, `s = t`.
+    ///
+    /// Refused by [`Rule::Trans`] where a theorem is no equation or `m` and `n` are not alpha equivalent. The only other error is
+    /// want of memory.
+    pub fn trans(alloc: Global, a: &Thm, b: &Thm) -> Result<Thm, KernelError>
+        requires one_basis { a.now.basis ≡ b.now.basis }
+        ensures sequent { Gives rule.Trans (trans_of a.now b.now) result }
+        ensures basis { IfOk result (λ th. th.basis ≡ a.now.basis) }
+    {
+        a.promise();
+        b.promise();
+        let Some(x) = dest_eq(a.concl()) else {
+            return Err(KernelError::Refused(Rule::Trans));
+        };
+        let Some(y) = dest_eq(b.concl()) else {
+            return Err(KernelError::Refused(Rule::Trans));
+        };
+        if !x.right.alpha_equivalent(y.left) {
+            return Err(KernelError::Refused(Rule::Trans));
+        }
+        let concl = equation(alloc, x.ty, x.left, y.right)?;
+        let basis = a.basis().copy()?;
+        let hyps = a.hypotheses().union(alloc, b.hypotheses())?;
+        Ok(Thm::made(basis, hyps, concl))
+    }
+
+    /// The rule of application (fusion.ml, MK_COMB): from `f = g` and `x = y`, `f x = g y`.
+    ///
+    /// Refused by [`Rule::MkComb`] where a theorem is no equation, or the type of `x` is not that of the argument of `f`. The only
+    /// other error is want of memory.
+    pub fn mk_comb(alloc: Global, a: &Thm, b: &Thm) -> Result<Thm, KernelError>
+        requires one_basis { a.now.basis ≡ b.now.basis }
+        ensures sequent { Gives rule.MkComb (mk_comb_of a.now b.now) result }
+        ensures basis { IfOk result (λ th. th.basis ≡ a.now.basis) }
+    {
+        a.promise();
+        b.promise();
+        let Some(x) = dest_eq(a.concl()) else {
+            return Err(KernelError::Refused(Rule::MkComb));
+        };
+        let Some(y) = dest_eq(b.concl()) else {
+            return Err(KernelError::Refused(Rule::MkComb));
+        };
+        let Some((domain, range)) = x.ty.dest_fun() else {
+            return Err(KernelError::Refused(Rule::MkComb));
+        };
+        if !domain.same(y.ty) {
+            return Err(KernelError::Refused(Rule::MkComb));
+        }
+        let left = application(alloc, x.left, y.left)?;
+        let right = application(alloc, x.right, y.right)?;
+        let concl = equation(alloc, range, &left, &right)?;
+        let basis = a.basis().copy()?;
+        let hyps = a.hypotheses().union(alloc, b.hypotheses())?;
+        Ok(Thm::made(basis, hyps, concl))
+    }
+
+    /// The rule of abstraction (fusion.ml, ABS): from `l = r`, for a variable `v` that is free in no hypothesis,
+    /// `(\v. l) = (\v. r)`.
+    ///
+    /// Refused by [`Rule::Abs`] where the theorem is no equation, where `v` is no variable or not of a type over the theorem's basis,
+    /// and where it is free in a hypothesis. The only other error is want of memory.
+    pub fn abs(alloc: Global, v: &Term, a: &Thm) -> Result<Thm, KernelError>
+        ensures sequent { Gives rule.Abs (abs_of v.now a.now) result }
+        ensures basis { IfOk result (λ th. th.basis ≡ a.now.basis) }
+    {
+        a.promise();
+        let TermNode::Var(variable) = v.node() else {
+            return Err(KernelError::Refused(Rule::Abs));
+        };
+        let Some(x) = dest_eq(a.concl()) else {
+            return Err(KernelError::Refused(Rule::Abs));
+        };
+        if !a.basis().is_type(variable.ty()) || a.hypotheses().has_free(variable) {
+            return Err(KernelError::Refused(Rule::Abs));
+        }
+        let left = abstraction(alloc, variable, x.left)?;
+        let right = abstraction(alloc, variable, x.right)?;
+        let ty = Ty::fun(alloc, variable.ty(), x.ty)?;
+        let concl = equation(alloc, &ty, &left, &right)?;
+        let basis = a.basis().copy()?;
+        let hyps = a.hypotheses().copy()?;
+        Ok(Thm::made(basis, hyps, concl))
+    }
+
+    #[tactic(auto, using(crate::proofs::TermRules::betas))]
+    /// The rule of beta conversion (fusion.ml, BETA): `(\v. b) v = b` over the basis, for a term that is an abstraction applied to
+    /// its own variable.
+    ///
+    /// Refused by [`Rule::Beta`] where the term is of another form or not well typed over the prelude and the basis. The only other
+    /// error is want of memory.
+    pub fn beta(alloc: Global, basis: &Basis, redex: &Term) -> Result<Thm, KernelError>
+        ensures sequent { Gives rule.Beta (beta_of basis.now redex.now) result }
+        ensures basis { IfOk result (λ th. th.basis ≡ basis.now) }
+    {
+        let TermNode::Comb(function, argument) = redex.node() else {
+            return Err(KernelError::Refused(Rule::Beta));
+        };
+        let (TermNode::Abs(v, body), TermNode::Var(w)) = (function.node(), argument.node()) else {
+            return Err(KernelError::Refused(Rule::Beta));
+        };
+        if !v.same(w) {
+            return Err(KernelError::Refused(Rule::Beta));
+        }
+        if !basis.is_typed(alloc, redex)? {
+            return Err(KernelError::Refused(Rule::Beta));
+        }
+        let concl = equation(alloc, redex.type_of(), redex, body)?;
+        let basis = basis.copy()?;
+        let hyps = Hypotheses::none(alloc)?;
+        Ok(Thm::made(basis, hyps, concl))
+    }
+
+    /// The rule of modus ponens for equations (fusion.ml, EQ_MP): from `l = r` and `m`, where `l` and `m` are alpha equivalent, `r`.
+    ///
+    /// Refused by [`Rule::EqMp`] where the first theorem is no equation or `l` and `m` are not alpha equivalent. The only other
+    /// error is want of memory.
+    pub fn eq_mp(alloc: Global, a: &Thm, b: &Thm) -> Result<Thm, KernelError>
+        requires one_basis { a.now.basis ≡ b.now.basis }
+        ensures sequent { Gives rule.EqMp (eq_mp_of a.now b.now) result }
+        ensures basis { IfOk result (λ th. th.basis ≡ a.now.basis) }
+    {
+        a.promise();
+        b.promise();
+        let Some(x) = dest_eq(a.concl()) else {
+            return Err(KernelError::Refused(Rule::EqMp));
+        };
+        if !x.left.alpha_equivalent(b.concl()) {
+            return Err(KernelError::Refused(Rule::EqMp));
+        }
+        let concl = copy_of(x.right)?;
+        let basis = a.basis().copy()?;
+        let hyps = a.hypotheses().union(alloc, b.hypotheses())?;
+        Ok(Thm::made(basis, hyps, concl))
+    }
+
+    /// The rule of deduction (fusion.ml, DEDUCT_ANTISYM_RULE): from `A |- p` and `B |- q`, `(A - q) u (B - p) |- p = q`.
+    ///
+    /// It applies to any two theorems. The only error is want of memory.
+    pub fn deduct_antisym(alloc: Global, a: &Thm, b: &Thm) -> Result<Thm, KernelError>
+        requires one_basis { a.now.basis ≡ b.now.basis }
+        ensures sequent { Gives rule.DeductAntisym (Some (deduct_antisym_of a.now b.now)) result }
+        ensures basis { IfOk result (λ th. th.basis ≡ a.now.basis) }
+    {
+        a.promise();
+        b.promise();
+        let first = a.hypotheses().without(alloc, b.concl())?;
+        let second = b.hypotheses().without(alloc, a.concl())?;
+        let truth = bool_type(alloc)?;
+        let concl = equation(alloc, &truth, a.concl(), b.concl())?;
+        let basis = a.basis().copy()?;
+        let hyps = first.union(alloc, &second)?;
+        Ok(Thm::made(basis, hyps, concl))
+    }
+}
