@@ -1,9 +1,9 @@
 -- The laws of the grammar, and the steps into the parts of its productions.
 use Rattle.std.proofs.Common.{◌≡◌, ℕ, List, [], ◌∷◌, ◌++◌, refl, ap, ◌∙◌, sym, subst, Some, None, codes, get_or, arith}
-use Rattle.hol_notation.specs.declared.token.Kind.TheVariants.{Ident as IdentKind, Arrow as ArrowKind, Colon, Equals, Backquote}
+use Rattle.hol_notation_tokens.specs.declared.token.Kind.TheVariants.{Ident as IdentKind, Arrow as ArrowKind, Colon, Equals, Backquote}
 use Rattle.hol_notation.specs.declared.reader.Class.{Class}
 use Rattle.hol_notation.specs.declared.reader.Class.TheVariants.{Identifier, Name, Variable, Sign}
-use Rattle.hol_notation.specs.Lexeme.{Lexeme}
+use Rattle.hol_notation_tokens.specs.Lexeme.{Lexeme}
 use Rattle.hol_notation.specs.Command.{TypeText, Ident, Arrow, SideText, TermText, OpenGoal, RunTac}
 use Rattle.hol_notation.specs.Category.{Category, SameNext}
 use Rattle.hol_notation.specs.Grammar.{IsOf, HasText, Leaf, OneOf, IsNotNext, WrittenType, alone, arrow, WrittenSide, bare, annotated, WrittenEquation, WrittenQuotation, WrittenCommand, open_goal, run_tac, finish, type_then, side_then, equation_then, quotation_then, command_then, type_value, side_value, equation_value, quotation_value, command_value, EndsType, EndsSide, a_leaf, a_type, a_side, an_equation, a_quotation, a_command}

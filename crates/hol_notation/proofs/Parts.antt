@@ -1,9 +1,9 @@
 -- How a part that is stuck makes the whole stuck.
 use Rattle.std.proofs.Common.{◌≡◌, ℕ, List, [], ◌∷◌, ◌++◌, refl, ap, ◌∙◌, sym, subst, map, length, arith}
-use Rattle.hol_notation.specs.declared.error.SyntaxError.{SyntaxError}
-use Rattle.hol_notation.specs.declared.error.SyntaxError.TheVariants.{Memory, Syntax}
-use Rattle.hol_notation.specs.declared.lexer.Word.{Word}
-use Rattle.hol_notation.specs.Lexeme.{Lexeme, seen}
+use Rattle.hol_notation_tokens.specs.declared.error.SyntaxError.{SyntaxError}
+use Rattle.hol_notation_tokens.specs.declared.error.SyntaxError.TheVariants.{Memory, Syntax}
+use Rattle.hol_notation_tokens.specs.declared.lexer.Word.{Word}
+use Rattle.hol_notation_tokens.specs.Lexeme.{Lexeme, seen}
 use Rattle.hol_notation.specs.Category.{Category, Stuck, Fails, SameNext, place_at}
 use Rattle.hol_notation.specs.Grammar.{Leaf, IsNotNext, a_leaf}
 

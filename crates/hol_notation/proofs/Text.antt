@@ -1,21 +1,22 @@
 -- From what is known of the words to what is known of the text.
 use Rattle.std.proofs.Common.{◌≡◌, ◌<◌, ◌≤◌, ◌+◌, ℕ, List, [], ◌∷◌, ◌++◌, refl, ap, ◌∙◌, sym, subst, append_assoc, append-nil, Ok, Err, Some, None, Option, option_map, length, drop, map, length-drop, arith}
-use Rattle.hol_notation.specs.declared.token.Kind.{Kind}
-use Rattle.hol_notation.specs.declared.token.Token.{Token}
-use Rattle.hol_notation.specs.declared.lexer.Word.{Word}
-use Rattle.hol_notation.specs.declared.error.SyntaxError.{SyntaxError}
-use Rattle.hol_notation.specs.declared.error.SyntaxError.TheVariants.{Memory, Syntax}
+use Rattle.hol_notation_tokens.specs.declared.token.Kind.{Kind}
+use Rattle.hol_notation_tokens.specs.declared.token.Token.{Token}
+use Rattle.hol_notation_tokens.specs.declared.lexer.Word.{Word}
+use Rattle.hol_notation_tokens.specs.declared.error.SyntaxError.{SyntaxError}
+use Rattle.hol_notation_tokens.specs.declared.error.SyntaxError.TheVariants.{Memory, Syntax}
 use Rattle.hol_notation.specs.declared.command.Command.{Command}
 use Rattle.hol_notation.specs.View.{command_text}
-use Rattle.hol_notation.specs.Token.{IsLexed, token_after, word_at, limited, open_after, skip}
-use Rattle.hol_notation.specs.Lexeme.{Lexeme, lexeme_of, lexemes, seen, token_of, IsScan}
+use Rattle.hol_notation_tokens.specs.Token.{IsLexed, token_after, word_at, limited, open_after, skip}
+use Rattle.hol_notation_tokens.specs.Lexeme.{Lexeme, lexeme_of, lexemes, seen, token_of, IsScan}
 use Rattle.hol_notation.specs.Command.{CommandText}
 use Rattle.hol_notation.specs.Category.{Stuck, Found, Fails, SameNext, place_at}
 use Rattle.hol_notation.specs.Grammar.{WrittenCommand, a_command, command_then, command_value}
 use Rattle.hol_notation.specs.Reading.{IsCommand, IsBeginning, IsBreak, IsCommandText}
 use Rattle.hol_notation.specs.Errors.{IsDead, IsFaultAt, IsAnswer, IsSyntaxError}
 use Rattle.std.proofs.lemmas.List.{map-append}
-use Rattle.hol_notation.proofs.Tokens.{none-not_some, some-same}
+use Rattle.hol_notation_tokens.proofs.Tokens.{none-not_some, some-same}
+use Rattle.hol_notation_tokens.proofs.OneLexing.{token-within}
 use Rattle.hol_notation.proofs.Grammar.{command-append, command-same}
 
 -- dead, from what no command does
@@ -89,22 +90,6 @@ lexed-next text before place [] t b end e =
     rw (append-nil before) (subst (λ (p : ℕ). token_after text before p ≡ Some t) (sym (token-start _ (skip text place) t e.0)) e.0)
 lexed-next text before place (u ∷ a) t b end e =
     subst (λ (ts : List Token). token_after text ts t.start ≡ Some t) (append_assoc before (u ∷ []) a) (lexed-next text (before ++ u ∷ []) (u.start + u.length) a t b end e.1)
-
-word-begins : (count depth : ℕ) (bytes : List ℕ) (x : Kind × ℕ) → limited count depth (word_at bytes) ≡ Some x → 0 < length bytes
-word-begins count depth [] x e = absurd (none-not_some x e)
-word-begins count depth (b ∷ bytes) x e = omega arith
-
-map-begins : (o : Option (Kind × ℕ)) (place : ℕ) (t : Token) → option_map (λ x. record { kind = x.0; start = place; length = x.1 }) o ≡ Some t → (x : Kind × ℕ) × (o ≡ Some x)
-map-begins None place t e = absurd (none-not_some t e)
-map-begins (Some x) place t e = (x, refl)
-
--- a token stands within the text
-pub token-within : (text : List ℕ) (before : List Token) (place : ℕ) (t : Token) → token_after text before place ≡ Some t → place < length text
-token-within text before place t e =
-    let m = map-begins (limited (length before) (open_after 0 before) (word_at (drop place text))) place t e in
-    let l = word-begins (length before) (open_after 0 before) (drop place text) m.0 m.1 in
-    let d = length-drop place text in
-    omega (arith, l, d)
 
 break-at : (text : List ℕ) (a b : List Token) (end place : ℕ) → IsLexed text [] 0 (a ++ b) end → token_after text (a ++ b) end ≡ None → end ≤ length text
     → place ≡ place_at end (lexemes text b) → IsBeginning (lexemes text a) → IsDead (lexemes text a) (lexemes text b) → IsBreak text place

@@ -1,10 +1,10 @@
 -- Reading a part of a text: what is found there, and where reading is stuck.
 use Rattle.std.specs.Prelude.{◌≡◌, ℕ, List, [], ◌∷◌, ◌++◌, map, Result, Ok, Err}
 use Rattle.std.specs.Borrow.{Bor}
-use Rattle.hol_notation.specs.declared.error.SyntaxError.{SyntaxError}
-use Rattle.hol_notation.specs.declared.error.SyntaxError.TheVariants.{Memory, Syntax}
-use Rattle.hol_notation.specs.declared.lexer.Word.{Word}
-use Rattle.hol_notation.specs.Lexeme.{Lexeme, seen}
+use Rattle.hol_notation_tokens.specs.declared.error.SyntaxError.{SyntaxError}
+use Rattle.hol_notation_tokens.specs.declared.error.SyntaxError.TheVariants.{Memory, Syntax}
+use Rattle.hol_notation_tokens.specs.declared.lexer.Word.{Word}
+use Rattle.hol_notation_tokens.specs.Lexeme.{Lexeme, seen}
 
 -- A category of the grammar: the ways to write one of it, the lexemes of what is written and then others,
 -- before which lexemes what is written ends, and what it says.

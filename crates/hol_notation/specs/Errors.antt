@@ -1,20 +1,14 @@
 -- What an error says of the text.
 use Rattle.std.specs.Prelude.{ℕ, List, Result, Ok, Err}
-use Rattle.hol_notation.specs.declared.error.SyntaxError.{SyntaxError}
-use Rattle.hol_notation.specs.declared.error.SyntaxError.TheVariants.{Memory, Syntax}
+use Rattle.hol_notation_tokens.specs.declared.error.SyntaxError.{SyntaxError}
+use Rattle.hol_notation_tokens.specs.declared.error.SyntaxError.TheVariants.{Memory, Syntax}
 use Rattle.hol_notation.specs.declared.command.Command.{Command}
 use Rattle.hol_notation.specs.View.{command_text}
-use Rattle.hol_notation.specs.Token.{IsLexBreak}
-use Rattle.hol_notation.specs.Lexeme.{Lexeme}
+use Rattle.hol_notation_tokens.specs.Lexeme.{Lexeme}
 use Rattle.hol_notation.specs.Category.{place_at}
 use Rattle.hol_notation.specs.Reading.{IsRead, Breaks, IsCommand, IsBeginning}
 use Rattle.std.specs.Prelude.{◌≡◌, ◌++◌, ◌∷◌, []}
 use Rattle.hol_notation.specs.Command.{CommandText}
-
--- the text has no tokens, from this place on
-abbrev pub IsLexError : List ℕ → SyntaxError → Type 0
-IsLexError text (Syntax place) = IsLexBreak text place
-IsLexError text Memory = Unit {0}
 
 -- the text is no command, from this place on
 abbrev pub IsSyntaxError : List ℕ → SyntaxError → Type 0

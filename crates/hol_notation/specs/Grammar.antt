@@ -6,11 +6,11 @@
 --   side      := IDENT | IDENT : type             IDENT is not T, F, ONE_ONE or ONTO
 --   type      := IDENT | IDENT -> type
 use Rattle.std.specs.Prelude.{◌≡◌, false, List, [], ◌∷◌, ℕ, codes, Some, None}
-use Rattle.hol_notation.specs.declared.token.Kind.TheVariants.{Ident as IdentKind, Arrow as ArrowKind, Colon, Equals, Backquote}
+use Rattle.hol_notation_tokens.specs.declared.token.Kind.TheVariants.{Ident as IdentKind, Arrow as ArrowKind, Colon, Equals, Backquote}
 use Rattle.hol_notation.specs.declared.reader.Class.{Class}
 use Rattle.hol_notation.specs.declared.reader.Class.TheVariants.{Identifier, Name, Variable, Sign}
-use Rattle.hol_notation.specs.Token.{is_reserved, is_constant}
-use Rattle.hol_notation.specs.Lexeme.{Lexeme}
+use Rattle.hol_notation_tokens.specs.Token.{is_reserved, is_constant}
+use Rattle.hol_notation_tokens.specs.Lexeme.{Lexeme}
 use Rattle.hol_notation.specs.Command.{TypeText, Ident, Arrow, SideText, TermText, QuotationText, CommandText, OpenGoal, RunTac, Finish}
 use Rattle.hol_notation.specs.Category.{Category}
 

@@ -1,7 +1,7 @@
 pub mod Command
 pub mod View
-pub mod Token
-pub mod Lexeme
+pub use Rattle.hol_notation_tokens.specs.Token
+pub use Rattle.hol_notation_tokens.specs.Lexeme
 pub mod Category
 pub mod Grammar
 pub mod Reading

@@ -1,8 +1,8 @@
 -- What a text reads as: a command, or the place where no command goes on.
 use Rattle.std.specs.Prelude.{◌≡◌, ◌≤◌, ℕ, List, [], ◌∷◌, ◌++◌, length, Some}
-use Rattle.hol_notation.specs.declared.token.Token.{Token}
-use Rattle.hol_notation.specs.Token.{IsLexed, AreTokens, token_after}
-use Rattle.hol_notation.specs.Lexeme.{Lexeme, lexemes}
+use Rattle.hol_notation_tokens.specs.declared.token.Token.{Token}
+use Rattle.hol_notation_tokens.specs.Token.{IsLexed, AreTokens, token_after}
+use Rattle.hol_notation_tokens.specs.Lexeme.{Lexeme, lexemes}
 use Rattle.hol_notation.specs.Command.{CommandText}
 use Rattle.hol_notation.specs.Grammar.{WrittenCommand, command_then, command_value}
 

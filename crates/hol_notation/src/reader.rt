@@ -4,8 +4,8 @@
 //! it answers `Syntax` with the place of the next word, or with the end where there is none.
 ghost use Rattle.std.specs.Prelude.{◌≡◌, ◌<◌, length, map, IfOk, IfSome, IsTrue, ◌↔◌, MatchResult, MatchOption, List, ℕ};
 ghost use Rattle.hol_notation.specs.declared.reader.Class.TheVariants.{Sign};
-ghost use Rattle.hol_notation.specs.Token.{is_reserved, is_constant};
-ghost use Rattle.hol_notation.specs.Lexeme.{seen};
+ghost use Rattle.hol_notation_tokens.specs.Token.{is_reserved, is_constant};
+ghost use Rattle.hol_notation_tokens.specs.Lexeme.{seen};
 ghost use Rattle.hol_notation.specs.Category.{ReadsPart};
 ghost use Rattle.hol_notation.specs.Grammar.{IsOf, IsNotNext, a_leaf, a_type, a_side, an_equation, a_quotation, a_command, Follows};
 ghost use Rattle.hol_notation.specs.View.{type_text, side_text, term_text, quotation_text, command_text};
@@ -14,10 +14,8 @@ ghost use Rattle.hol_notation.specs.Errors.{IsSyntaxError, IsAnswer};
 
 use crate::command::{Command, Quotation};
 use crate::equation::{Equation, Side};
-use crate::error::SyntaxError;
-use crate::lexer::{Word, scan};
 use crate::pre_type::PreType;
-use crate::token::Kind;
+use hol_notation_tokens::{Kind, SyntaxError, Word, scan};
 use std::alloc::Global;
 
 /// The classes of words that the grammar speaks of.

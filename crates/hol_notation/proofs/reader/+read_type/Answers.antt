@@ -2,7 +2,7 @@ use Rattle.std.proofs.Common.{List, ◌∷◌, ◌∙◌, refl, ap, map}
 use Rattle.std.proofs.lemmas.Result.{err_from_is_err_and}
 use Rattle.hol_notation.specs.declared.reader.Class.TheVariants.{Identifier}
 use Rattle.hol_notation.specs.Command.{Ident}
-use Rattle.hol_notation.specs.Lexeme.{Lexeme, seen}
+use Rattle.hol_notation_tokens.specs.Lexeme.{Lexeme, seen}
 use Rattle.hol_notation.specs.Grammar.{IsOf, a_leaf, a_type, alone, arrow}
 use Rattle.hol_notation.proofs.Parts.{fails-lift}
 use Rattle.hol_notation.proofs.Grammar.{type-first, type-rest}

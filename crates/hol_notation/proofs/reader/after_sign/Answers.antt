@@ -1,7 +1,7 @@
 use Rattle.std.proofs.Common.{sym, ap, ◌∙◌, map}
 use denote.Enum.Bare.{same_true}
-use Rattle.hol_notation.specs.contracts.token.Kind.{the_type}
-use Rattle.hol_notation.specs.Lexeme.{seen}
+use Rattle.hol_notation_tokens.specs.contracts.token.Kind.{the_type}
+use Rattle.hol_notation_tokens.specs.Lexeme.{seen}
 use Rattle.hol_notation.proofs.reader.after_sign.Goals as goal
 
 pub returns-then-eq-clause-sign : goal.returns-then-eq-clause-sign

@@ -1,6 +1,6 @@
 use Rattle.std.proofs.lemmas.Bool.{false≢true}
 use Rattle.std.proofs.Common.{List, [], refl, ◌∷◌, ◌∙◌, sym, ap, subst, map}
-use Rattle.hol_notation.specs.Lexeme.{Lexeme, seen}
+use Rattle.hol_notation_tokens.specs.Lexeme.{Lexeme, seen}
 use Rattle.hol_notation.specs.Category.{Stuck}
 use Rattle.hol_notation.specs.Grammar.{IsOf, a_leaf}
 use Rattle.hol_notation.proofs.Parts.{leaf-stuck, none-left}

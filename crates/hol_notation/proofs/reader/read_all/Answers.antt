@@ -1,7 +1,7 @@
 use Rattle.std.proofs.Common.{map, ap}
 use Rattle.std.proofs.lemmas.Result.{err_from_is_err_and}
 use Rattle.hol_notation.specs.View.{command_text}
-use Rattle.hol_notation.specs.Lexeme.{seen}
+use Rattle.hol_notation_tokens.specs.Lexeme.{seen}
 use Rattle.hol_notation.proofs.Parts.{none-left}
 use Rattle.hol_notation.proofs.Text.{answer-err, answer-ok, fault-after}
 use Rattle.hol_notation.proofs.reader.read_all.Goals as goal

@@ -1,8 +1,8 @@
 use Rattle.std.proofs.Common.{List, map, subst, Err}
 use Rattle.std.proofs.lemmas.Result.{err_from_is_err_and}
-use Rattle.hol_notation.specs.declared.lexer.Word.{Word}
+use Rattle.hol_notation_tokens.specs.declared.lexer.Word.{Word}
 use Rattle.hol_notation.specs.View.{command_text}
-use Rattle.hol_notation.specs.Lexeme.{seen}
+use Rattle.hol_notation_tokens.specs.Lexeme.{seen}
 use Rattle.hol_notation.specs.Reading.{IsCommand}
 use Rattle.hol_notation.specs.Errors.{IsAnswer}
 use Rattle.hol_notation.proofs.Text.{error-breaks, break-after, whole-command}

@@ -1,10 +1,10 @@
 use Rattle.std.proofs.Common.{List, ◌∷◌, ◌∙◌, refl, ap, map}
 use Rattle.std.proofs.lemmas.Result.{err_from_is_err_and}
-use Rattle.hol_notation.specs.declared.token.Kind.TheVariants.{Equals}
+use Rattle.hol_notation_tokens.specs.declared.token.Kind.TheVariants.{Equals}
 use Rattle.hol_notation.specs.declared.reader.Class.TheVariants.{Sign}
 use Rattle.hol_notation.specs.Command.{SideText}
 use Rattle.hol_notation.specs.View.{side_text}
-use Rattle.hol_notation.specs.Lexeme.{Lexeme, seen}
+use Rattle.hol_notation_tokens.specs.Lexeme.{Lexeme, seen}
 use Rattle.hol_notation.specs.Grammar.{IsOf, a_leaf, a_side, an_equation, side_then, side_value}
 use Rattle.hol_notation.proofs.Parts.{fails-lift}
 use Rattle.hol_notation.proofs.Grammar.{equation-left, equation-sign, equation-right}

@@ -1,10 +1,10 @@
 use Rattle.std.proofs.Common.{List, ◌∷◌, ◌∙◌, refl, ap, map}
 use Rattle.std.proofs.lemmas.Result.{err_from_is_err_and}
-use Rattle.hol_notation.specs.declared.token.Kind.TheVariants.{Backquote}
+use Rattle.hol_notation_tokens.specs.declared.token.Kind.TheVariants.{Backquote}
 use Rattle.hol_notation.specs.declared.reader.Class.TheVariants.{Sign}
 use Rattle.hol_notation.specs.Command.{TermText}
 use Rattle.hol_notation.specs.View.{term_text}
-use Rattle.hol_notation.specs.Lexeme.{Lexeme, seen}
+use Rattle.hol_notation_tokens.specs.Lexeme.{Lexeme, seen}
 use Rattle.hol_notation.specs.Grammar.{IsOf, a_leaf, an_equation, a_quotation, equation_then}
 use Rattle.hol_notation.proofs.Parts.{fails-lift}
 use Rattle.hol_notation.proofs.Grammar.{quotation-opening, quotation-equation, quotation-closing}

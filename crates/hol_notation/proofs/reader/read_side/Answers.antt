@@ -3,7 +3,7 @@ use Rattle.std.proofs.lemmas.Result.{err_from_is_err_and}
 use Rattle.hol_notation.specs.declared.reader.Class.TheVariants.{Variable}
 use Rattle.hol_notation.specs.Command.{TypeText}
 use Rattle.hol_notation.specs.View.{type_text}
-use Rattle.hol_notation.specs.Lexeme.{Lexeme, seen}
+use Rattle.hol_notation_tokens.specs.Lexeme.{Lexeme, seen}
 use Rattle.hol_notation.specs.Grammar.{IsOf, a_leaf, a_type, a_side, bare, annotated}
 use Rattle.hol_notation.proofs.Parts.{fails-lift}
 use Rattle.hol_notation.proofs.Grammar.{side-first, side-rest}

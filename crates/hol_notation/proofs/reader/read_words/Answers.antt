@@ -3,7 +3,7 @@ use Rattle.std.proofs.lemmas.Result.{err_from_is_err_and}
 use Rattle.hol_notation.specs.declared.reader.Class.TheVariants.{Name}
 use Rattle.hol_notation.specs.Command.{OpenGoal, RunTac}
 use Rattle.hol_notation.specs.View.{quotation_text}
-use Rattle.hol_notation.specs.Lexeme.{Lexeme, seen}
+use Rattle.hol_notation_tokens.specs.Lexeme.{Lexeme, seen}
 use Rattle.hol_notation.specs.Category.{Stuck}
 use Rattle.hol_notation.specs.Grammar.{IsOf, HasText, Leaf, a_leaf, a_quotation, a_command, open_goal, run_tac, finish}
 use Rattle.hol_notation.proofs.Parts.{fails-lift, stuck-here, none-left}
