@@ -28,6 +28,6 @@ pub record IsReading (raw : RawTree) (p : Nameless) : Type 0 where
   pub principal : IsPrincipal raw p
   pub in_order : (m : ℕ) × ComeInOrder 0 (term_tyvars p) m
 
--- Some most general typing has over 20,000 nodes.
+-- Some most general typing has over 20,000 nodes. By `principal_sizes` all of them have the same number.
 abbrev pub HasLargeReading : RawTree → Type 0
 HasLargeReading raw = (p : Nameless) × IsPrincipal raw p × (20000 < term_size [] p)

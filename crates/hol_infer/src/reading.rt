@@ -26,7 +26,7 @@ pub enum ReadingError {
     /// The term has no typing.
     #[error("untypable")]
     Untypable,
-    /// A most general typing has over 20,000 nodes.
+    /// The most general typings have over 20,000 nodes.
     #[error("too large")]
     TooLarge,
     /// There is no memory left.
@@ -57,8 +57,8 @@ fn named(alloc: Global, shapes: &[Shape], skeleton: &Skeleton) -> Result<Term, T
 
 /// The reading of a term whose identifiers are resolved: the most general typing, its open types named as they occur.
 ///
-/// The reading has at most 20,000 nodes. Answers `Untypable` where there is no typing, `TooLarge` where a most general typing has
-/// over 20,000 nodes, and `Memory` where memory is short.
+/// Answers `Untypable` exactly where there is no typing, `TooLarge` exactly where the most general typings, which are all of one size,
+/// have over 20,000 nodes, and `Memory` where memory is short.
 pub fn read(alloc: Global, term: &RawTerm) -> Result<Term, ReadingError>
     requires scoped { IsScoped [] (raw_tree term.now) }
     requires rigid { HasRigidAnnotations (raw_tree term.now) }
