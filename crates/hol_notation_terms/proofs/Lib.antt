@@ -1,0 +1,4 @@
+pub mod Picks
+pub mod Certain
+pub mod Some
+pub mod TypeSteps

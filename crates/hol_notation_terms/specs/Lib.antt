@@ -4,3 +4,5 @@ pub mod TypeView
 pub mod VariableView
 pub mod TermView
 pub mod Falls
+pub mod Grammar
+pub mod Value

@@ -32,6 +32,15 @@ pub data TermText : Type 0 where
   Abstraction : VariableText → TermText → TermText
   Typed : TermText → TypeText → TermText
 
+-- a quotation: the place of its opening backquote, in bytes from 0, and its term or type
+pub record QuotationText : Type 0 where
+  pub place : ℕ
+  pub term : TermText
+
+pub record TypeQuotationText : Type 0 where
+  pub place : ℕ
+  pub ty : TypeText
+
 -- the number of nodes
 abbrev mutual
   pub type_nodes : TypeText → ℕ

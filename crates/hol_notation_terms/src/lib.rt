@@ -1,4 +1,4 @@
-//! Types and terms as they are written.
+//! Types and terms as they are written, and their readers.
 #![tactic(auto)]
 
 mod operator;
@@ -7,8 +7,10 @@ mod pre_type;
 mod pre_variable;
 #[cfg(test)]
 mod tests;
+mod type_reader;
 
 pub use operator::Operator;
 pub use pre_term::{PreTerm, PreTermNode};
 pub use pre_type::{PreType, PreTypeNode};
 pub use pre_variable::PreVariable;
+pub use type_reader::read_type;

@@ -1,5 +1,6 @@
 //! What copies of types and terms say.
-use crate::{Operator, PreTerm, PreTermNode, PreType, PreTypeNode, PreVariable};
+use crate::{Operator, PreTerm, PreTermNode, PreType, PreTypeNode, PreVariable, read_type};
+use hol_notation_tokens::{SyntaxError, scan};
 use std::alloc::{AllocError, Global};
 use std::test::Fail;
 
@@ -62,5 +63,135 @@ fn copies_terms(rt: HostRuntime) -> Result<(), Fail> {
         }
         _ => assert!(rt; false),
     }
+    Ok(())
+}
+
+// Writes the type with its structure shown, down to so many levels.
+fn spell(levels: usize, ty: &PreType, text: &mut String) -> Result<(), AllocError> {
+    if levels == 0 {
+        return text.push_str("..");
+    }
+    match ty.node() {
+        PreTypeNode::Ident(name) => text.push_str(name.as_str())?,
+        PreTypeNode::Arrow(from, to) => {
+            text.push_str("{")?;
+            spell(levels - 1, from, text)?;
+            text.push_str(">")?;
+            spell(levels - 1, to, text)?;
+            text.push_str("}")?;
+        }
+        PreTypeNode::Apply(name, arguments) => {
+            text.push_str(name.as_str())?;
+            text.push_str("[")?;
+            for argument in arguments {
+                spell(levels - 1, argument, text)?;
+                text.push_str(";")?;
+            }
+            text.push_str("]")?;
+        }
+    }
+    Ok(())
+}
+
+// The structure of the type with which the text begins, and after `|` how many words are left.
+fn type_read(alloc: Global, text: &str) -> Result<String, SyntaxError> {
+    let (words, end) = scan(alloc, text)?;
+    let (ty, rest) = read_type(alloc, &words, end)?;
+    let mut spelled = String::new(alloc);
+    spell(8, &ty, &mut spelled)?;
+    for _ in rest {
+        spelled.push_str("|")?;
+    }
+    Ok(spelled)
+}
+
+// The place where the text is refused as a type.
+fn type_refused_at(alloc: Global, text: &str) -> Option<usize> {
+    match type_read(alloc, text) {
+        Err(SyntaxError::Syntax(place)) => Some(place),
+        _ => None,
+    }
+}
+
+#[test]
+fn reads_types(rt: HostRuntime) -> Result<(), Fail> {
+    let cases = [
+        ("A", "A"),
+        ("A->B->C", "{A>{B>C}}"),
+        ("(A->B)->C", "{{A>B}>C}"),
+        ("A list list", "list[list[A;];]"),
+        ("(A->B) list->C", "{list[{A>B};]>C}"),
+        ("(A,B) prod", "prod[A;B;]"),
+        ("(A,B->C,D) p q", "q[p[A;{B>C};D;];]"),
+        ("((A))", "A"),
+        ("A . x", "A||"),
+        ("A->B)", "{A>B}|"),
+    ];
+    for (text, wanted) in cases {
+        let read = type_read(rt.alloc(), text)?;
+        assert_eq!(rt; read.as_str(), wanted, "at {text}");
+    }
+    Ok(())
+}
+
+#[test]
+fn refuses_where_no_type_goes_on(rt: HostRuntime) {
+    let cases = [
+        ("", 0),
+        (" ->", 1),
+        ("A->", 3),
+        ("A->)", 3),
+        ("(A,B)", 5),
+        ("(A,B)->C", 5),
+        ("(A,B", 4),
+        ("(A B", 4),
+        ("(A,)", 3),
+        ("(A.B)", 2),
+        ("()", 1),
+        ("(A;B) p", 2),
+    ];
+    for (text, place) in cases {
+        assert_eq!(rt; type_refused_at(rt.alloc(), text), Some(place), "at {text}");
+    }
+}
+
+// A part again and again, between a beginning and an end.
+fn repeated(
+    alloc: Global,
+    before: &str,
+    part: &str,
+    count: usize,
+    after: &str,
+) -> Result<String, AllocError> {
+    let mut text = String::from_str(alloc, before)?;
+    for _ in 0..count {
+        text.push_str(part)?;
+    }
+    text.push_str(after)?;
+    Ok(text)
+}
+
+// Whether the text is read as a type whole.
+fn is_read(alloc: Global, text: &str) -> Result<bool, SyntaxError> {
+    let (words, end) = scan(alloc, text)?;
+    let (_ty, rest) = read_type(alloc, &words, end)?;
+    Ok(rest.is_empty())
+}
+
+#[test]
+fn reads_types_of_many_tokens(rt: HostRuntime) -> Result<(), Fail> {
+    let arrows = repeated(rt.alloc(), "A", "->A", 2047, "")?;
+    assert!(rt; is_read(rt.alloc(), arrows.as_str())?);
+    let constructors = repeated(rt.alloc(), "A", " list", 2047, "")?;
+    assert!(rt; is_read(rt.alloc(), constructors.as_str())?);
+    Ok(())
+}
+
+#[test]
+fn reads_types_of_many_parts(rt: HostRuntime) -> Result<(), Fail> {
+    let list = repeated(rt.alloc(), "(A", ",A", 2046, ") p")?;
+    assert!(rt; is_read(rt.alloc(), list.as_str())?);
+    let brackets = repeated(rt.alloc(), "", "(A->", 200, "A")?;
+    assert_eq!(rt; type_refused_at(rt.alloc(), brackets.as_str()), Some(801));
     Ok(())
 }

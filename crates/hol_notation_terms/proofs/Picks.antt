@@ -1,0 +1,345 @@
+-- The production that the next tokens pick.
+use Rattle.std.proofs.Common.{◌≡◌, Bool, true, false, IsTrue, ◌||◌, cond, ℕ, zero, suc, List, [], ◌∷◌, refl, ap, ◌∙◌, sym, subst, Option, Some, None}
+use Rattle.std.proofs.lemmas.Bool.{false≢true}
+use Rattle.hol_notation_tokens.specs.declared.token.Kind.{Kind}
+use Rattle.hol_notation_tokens.specs.declared.token.Kind.TheVariants.{Ident, Iff, Implies, Or, And, Arrow, ExistsUnique, Equals, Not, Lambda, ForAll, Exists, Choice, Open, Close, Dot, Colon, Comma}
+use Rattle.hol_notation_tokens.specs.Lexeme.{Lexeme}
+use Rattle.hol_notation_grammar.specs.Terminal.{IsNotNext, SameNext, next_kind, is_binder, is_infix, is_operator}
+use Rattle.hol_notation_grammar.specs.Syntax.{Tree, node, Trees, done, leaf, tree, then, all_then, Stands}
+use Rattle.hol_notation_terms.specs.Grammar.{Nonterminal, Production, parts, term_grammar, infix_at, is_infix_at, opens, closes, IsClosing, a_type, an_arrow, an_applied_type, a_type_list, a_type_rest, a_postfix, a_level, a_tail, a_unary, a_typed, an_arguments, an_annotation, an_atom, an_inside, a_bound, an_after_name, an_after_bound, a_quotation, a_type_quotation, applied_first, no_arrow, to_type, named_type, listed_type, one_type, two_types, more_type, last_type, no_postfix, postfix_name, level_zero, level_up, no_infix, infixed, negation, binding, plain, typed_term, no_argument, argument, no_annotation, annotated, identifier_atom, parenthesised, operator_alone, inner, named_bound, typed_bound, last_typed, name_body, name_more, bound_body, bound_more, quoted, type_quoted}
+
+-- whether the next token opens an optional part
+abbrev pub next_opens : Nonterminal → List Lexeme → Bool
+next_opens n [] = false
+next_opens n (x ∷ rest) = opens n x.kind
+
+-- by the kind of the next token
+abbrev pub choose_applied : Option Kind → Option (Production an_applied_type)
+choose_applied (Some Ident) = Some named_type
+choose_applied (Some Open) = Some listed_type
+choose_applied _ = None
+
+abbrev pub choose_list : Option Kind → Option (Production a_type_list)
+choose_list (Some Close) = Some one_type
+choose_list (Some Comma) = Some two_types
+choose_list _ = None
+
+abbrev pub choose_rest : Option Kind → Option (Production a_type_rest)
+choose_rest (Some Comma) = Some more_type
+choose_rest (Some Close) = Some last_type
+choose_rest _ = None
+
+abbrev pub choose_unary : Option Kind → Option (Production a_unary)
+choose_unary (Some Not) = Some negation
+choose_unary (Some Lambda) = Some binding
+choose_unary (Some ForAll) = Some binding
+choose_unary (Some Exists) = Some binding
+choose_unary (Some ExistsUnique) = Some binding
+choose_unary (Some Choice) = Some binding
+choose_unary _ = Some plain
+
+abbrev pub choose_atom : Option Kind → Option (Production an_atom)
+choose_atom (Some Ident) = Some identifier_atom
+choose_atom (Some Open) = Some parenthesised
+choose_atom _ = None
+
+abbrev pub choose_bound : Option Kind → Option (Production a_bound)
+choose_bound (Some Ident) = Some named_bound
+choose_bound (Some Open) = Some typed_bound
+choose_bound _ = None
+
+abbrev pub choose_after_name : Option Kind → Option (Production an_after_name)
+choose_after_name (Some Colon) = Some last_typed
+choose_after_name (Some Dot) = Some name_body
+choose_after_name _ = Some name_more
+
+abbrev pub choose_after_bound : Option Kind → Option (Production an_after_bound)
+choose_after_bound (Some Dot) = Some bound_body
+choose_after_bound _ = Some bound_more
+
+abbrev pub closes_next : Option Kind → Bool
+closes_next (Some Close) = true
+closes_next _ = false
+
+-- what stands in parentheses is known by two tokens
+abbrev pub choose_inside : Kind → Bool → Option (Production an_inside)
+choose_inside k closed = cond (is_operator k) (cond (is_infix k || closed) (Some operator_alone) (Some inner)) (Some inner)
+
+abbrev pub pick_inside : List Lexeme → Option (Production an_inside)
+pick_inside [] = Some inner
+pick_inside (x ∷ rest) = choose_inside x.kind (closes_next (next_kind rest))
+
+abbrev pub pick : (n : Nonterminal) → List Lexeme → Option (Production n)
+pick a_type words = Some applied_first
+pick an_arrow words = cond (next_opens an_arrow words) (Some to_type) (Some no_arrow)
+pick an_applied_type words = choose_applied (next_kind words)
+pick a_type_list words = choose_list (next_kind words)
+pick a_type_rest words = choose_rest (next_kind words)
+pick a_postfix words = cond (next_opens a_postfix words) (Some postfix_name) (Some no_postfix)
+pick (a_level zero) words = Some level_zero
+pick (a_level (suc h)) words = Some level_up
+pick (a_tail h) words = cond (next_opens (a_tail h) words) (Some infixed) (Some no_infix)
+pick a_unary words = choose_unary (next_kind words)
+pick a_typed words = Some typed_term
+pick an_arguments words = cond (next_opens an_arguments words) (Some argument) (Some no_argument)
+pick an_annotation words = cond (next_opens an_annotation words) (Some annotated) (Some no_annotation)
+pick an_atom words = choose_atom (next_kind words)
+pick an_inside words = pick_inside words
+pick a_bound words = choose_bound (next_kind words)
+pick an_after_name words = choose_after_name (next_kind words)
+pick an_after_bound words = choose_after_bound (next_kind words)
+pick a_quotation words = Some quoted
+pick a_type_quotation words = Some type_quoted
+
+pub kind-same : (u w : List Lexeme) → SameNext u w → next_kind u ≡ next_kind w
+kind-same [] [] h = refl
+kind-same [] (y ∷ ys) h = absurd h
+kind-same (x ∷ xs) [] h = absurd h
+kind-same (x ∷ xs) (y ∷ ys) h = ap (λ (z : Lexeme). Some z.kind) h
+
+opens-same : (n : Nonterminal) (u w : List Lexeme) → SameNext u w → next_opens n u ≡ next_opens n w
+opens-same n [] [] h = refl
+opens-same n [] (y ∷ ys) h = absurd h
+opens-same n (x ∷ xs) [] h = absurd h
+opens-same n (x ∷ xs) (y ∷ ys) h = ap (λ (z : Lexeme). opens n z.kind) h
+
+abbrev pub NotInside : Nonterminal → Type 0
+NotInside an_inside = ⊥
+NotInside _ = Unit {0}
+
+-- one token is enough but for what stands in parentheses
+pub looks : (n : Nonterminal) → NotInside n → (u w : List Lexeme) → SameNext u w → pick n u ≡ pick n w
+looks a_type m u w h = refl
+looks an_arrow m u w h = ap (λ (b : Bool). cond b (Some to_type) (Some no_arrow)) (opens-same an_arrow u w h)
+looks an_applied_type m u w h = ap choose_applied (kind-same u w h)
+looks a_type_list m u w h = ap choose_list (kind-same u w h)
+looks a_type_rest m u w h = ap choose_rest (kind-same u w h)
+looks a_postfix m u w h = ap (λ (b : Bool). cond b (Some postfix_name) (Some no_postfix)) (opens-same a_postfix u w h)
+looks (a_level zero) m u w h = refl
+looks (a_level (suc n)) m u w h = refl
+looks (a_tail n) m u w h = ap (λ (b : Bool). cond b (Some infixed) (Some no_infix)) (opens-same (a_tail n) u w h)
+looks a_unary m u w h = ap choose_unary (kind-same u w h)
+looks a_typed m u w h = refl
+looks an_arguments m u w h = ap (λ (b : Bool). cond b (Some argument) (Some no_argument)) (opens-same an_arguments u w h)
+looks an_annotation m u w h = ap (λ (b : Bool). cond b (Some annotated) (Some no_annotation)) (opens-same an_annotation u w h)
+looks an_atom m u w h = ap choose_atom (kind-same u w h)
+looks an_inside m u w h = absurd m
+looks a_bound m u w h = ap choose_bound (kind-same u w h)
+looks an_after_name m u w h = ap choose_after_name (kind-same u w h)
+looks an_after_bound m u w h = ap choose_after_bound (kind-same u w h)
+looks a_quotation m u w h = refl
+looks a_type_quotation m u w h = refl
+
+not-true : (b : Bool) → (IsTrue b → ⊥) → b ≡ false
+not-true true h = absurd (h refl)
+not-true false h = refl
+
+pub not-opens : (n : Nonterminal) (rest : List Lexeme) → IsNotNext (λ x. IsTrue (opens n x.kind)) rest → next_opens n rest ≡ false
+not-opens n [] h = refl
+not-opens n (x ∷ rest) h = not-true (opens n x.kind) h
+
+pub infix-opens : (h : ℕ) → is_infix_at h (infix_at h) ≡ true
+infix-opens zero = refl
+infix-opens (suc zero) = refl
+infix-opens (suc (suc zero)) = refl
+infix-opens (suc (suc (suc zero))) = refl
+infix-opens (suc (suc (suc (suc h)))) = refl
+
+pub binder-chosen : (k : Kind) → IsTrue (is_binder k) → choose_unary (Some k) ≡ Some binding
+binder-chosen Lambda h = refl
+binder-chosen ForAll h = refl
+binder-chosen Exists h = refl
+binder-chosen ExistsUnique h = refl
+binder-chosen Choice h = refl
+binder-chosen _ h = absurd (false≢true h)
+
+-- the next kind opens an atom
+abbrev IsAtomKind : Option Kind → Type 0
+IsAtomKind (Some Ident) = Unit {0}
+IsAtomKind (Some Open) = Unit {0}
+IsAtomKind _ = ⊥
+
+atom-opens : (a : Tree term_grammar an_atom) (w : List Lexeme) → Stands a w → IsAtomKind (next_kind (then a w))
+atom-opens (node identifier_atom (leaf x done)) w s = subst (λ (k : Kind). IsAtomKind (Some k)) (sym s.1.0) tt
+atom-opens (node parenthesised (leaf x (tree t done))) w s = subst (λ (k : Kind). IsAtomKind (Some k)) (sym s.1.0) tt
+
+typed-opens : (t : Tree term_grammar a_typed) (w : List Lexeme) → Stands t w → IsAtomKind (next_kind (then t w))
+typed-opens (node typed_term (tree a (tree xs (tree n done)))) w s = atom-opens a (then xs (then n w)) s.1.0
+
+bound-opens : (b : Tree term_grammar a_bound) (w : List Lexeme) → Stands b w → IsAtomKind (next_kind (then b w))
+bound-opens (node named_bound (leaf x ts)) w s = subst (λ (k : Kind). IsAtomKind (Some k)) (sym s.1.0) tt
+bound-opens (node typed_bound (leaf x ts)) w s = subst (λ (k : Kind). IsAtomKind (Some k)) (sym s.1.0) tt
+
+-- the next kind opens a term below the infixes
+abbrev IsUnaryKind : Option Kind → Type 0
+IsUnaryKind (Some Ident) = Unit {0}
+IsUnaryKind (Some Open) = Unit {0}
+IsUnaryKind (Some Not) = Unit {0}
+IsUnaryKind (Some Lambda) = Unit {0}
+IsUnaryKind (Some ForAll) = Unit {0}
+IsUnaryKind (Some Exists) = Unit {0}
+IsUnaryKind (Some ExistsUnique) = Unit {0}
+IsUnaryKind (Some Choice) = Unit {0}
+IsUnaryKind _ = ⊥
+
+atom-unary : (k : Option Kind) → IsAtomKind k → IsUnaryKind k
+atom-unary (Some Ident) h = tt
+atom-unary (Some Open) h = tt
+atom-unary _ h = absurd h
+
+binder-unary : (k : Kind) → IsTrue (is_binder k) → IsUnaryKind (Some k)
+binder-unary Lambda h = tt
+binder-unary ForAll h = tt
+binder-unary Exists h = tt
+binder-unary ExistsUnique h = tt
+binder-unary Choice h = tt
+binder-unary _ h = absurd (false≢true h)
+
+pub unary-opens : (t : Tree term_grammar a_unary) (w : List Lexeme) → Stands t w → IsUnaryKind (next_kind (then t w))
+unary-opens (node negation (leaf x ts)) w s = subst (λ (k : Kind). IsUnaryKind (Some k)) (sym s.1.0) tt
+unary-opens (node binding (leaf x ts)) w s = binder-unary x.kind s.1.0
+unary-opens (node plain (tree t done)) w s = atom-unary _ (typed-opens t w s.1.0)
+
+unary-no_close : (k : Option Kind) → IsUnaryKind k → closes_next k ≡ false
+unary-no_close (Some Close) h = absurd h
+unary-no_close _ h = refl
+
+atom-plain : (k : Option Kind) → IsAtomKind k → choose_unary k ≡ Some plain
+atom-plain (Some Ident) h = refl
+atom-plain (Some Open) h = refl
+atom-plain _ h = absurd h
+
+atom-argument : (rest : List Lexeme) → IsAtomKind (next_kind rest) → next_opens an_arguments rest ≡ true
+atom-argument [] h = absurd h
+atom-argument (x ∷ rest) h = go x.kind h
+  where
+    go : (k : Kind) → IsAtomKind (Some k) → opens an_arguments k ≡ true
+    go Ident h = refl
+    go Open h = refl
+    go _ h = absurd h
+
+atom-more : (k : Option Kind) → IsAtomKind k → choose_after_name k ≡ Some name_more
+atom-more (Some Ident) h = refl
+atom-more (Some Open) h = refl
+atom-more _ h = absurd h
+
+atom-bound_more : (k : Option Kind) → IsAtomKind k → choose_after_bound k ≡ Some bound_more
+atom-bound_more (Some Ident) h = refl
+atom-bound_more (Some Open) h = refl
+atom-bound_more _ h = absurd h
+
+-- a kind that opens a term, and is no constant or is followed by no closing parenthesis
+binder-inner : (k : Kind) → IsTrue (is_binder k) → choose_inside k false ≡ Some inner
+binder-inner Lambda h = refl
+binder-inner ForAll h = refl
+binder-inner Exists h = refl
+binder-inner ExistsUnique h = refl
+binder-inner Choice h = refl
+binder-inner _ h = absurd (false≢true h)
+
+atom-inner : (words : List Lexeme) → IsAtomKind (next_kind words) → pick_inside words ≡ Some inner
+atom-inner [] h = refl
+atom-inner (x ∷ rest) h = go x.kind (closes_next (next_kind rest)) h
+  where
+    go : (k : Kind) (b : Bool) → IsAtomKind (Some k) → choose_inside k b ≡ Some inner
+    go Ident b h = refl
+    go Open b h = refl
+    go _ b h = absurd h
+
+unary-inner : (t : Tree term_grammar a_unary) (w : List Lexeme) → Stands t w → pick_inside (then t w) ≡ Some inner
+unary-inner (node negation (leaf x (tree t done))) w s =
+    ap (λ (k : Kind). choose_inside k (closes_next (next_kind (then t w)))) s.1.0
+    ∙ ap (choose_inside Not) (unary-no_close (next_kind (then t w)) (unary-opens t w s.1.1.0))
+unary-inner (node binding (leaf x (tree b done))) w s =
+    ap (choose_inside x.kind) (unary-no_close (next_kind (then b w)) (atom-unary _ (bound-opens b w s.1.1.0))) ∙ binder-inner x.kind s.1.0
+unary-inner (node plain (tree t done)) w s = atom-inner _ (typed-opens t w s.1.0)
+
+level-inner : {h : ℕ} (t : Tree term_grammar (a_level h)) (w : List Lexeme) → Stands t w → pick_inside (then t w) ≡ Some inner
+level-inner (node level_zero (tree t done)) w s = unary-inner t w s.1.0
+level-inner (node level_up (tree l (tree r done))) w s = level-inner l (then r w) s.1.0
+
+or-true : (b : Bool) → b || true ≡ true
+or-true true = refl
+or-true false = refl
+
+operator-picked : (k : Kind) (c : Bool) → IsTrue (is_operator k) → c ≡ true → choose_inside k c ≡ Some operator_alone
+operator-picked k c h e =
+    ap (λ (b : Bool). cond b (cond (is_infix k || c) (Some operator_alone) (Some inner)) (Some inner)) h
+    ∙ ap (λ (b : Bool). cond (is_infix k || b) (Some operator_alone) (Some inner)) e
+    ∙ ap (λ (b : Bool). cond b (Some operator_alone) (Some inner)) (or-true (is_infix k))
+
+-- what is written is picked
+pub picks : {n : Nonterminal} (p : Production n) (ts : Trees term_grammar (parts p)) (rest : List Lexeme) → Stands {G = term_grammar} (node p ts) rest → pick n (all_then ts rest) ≡ Some p
+picks applied_first ts rest s = refl
+picks no_arrow done rest s = ap (λ (b : Bool). cond b (Some to_type) (Some no_arrow)) (not-opens an_arrow rest s.0)
+picks to_type (leaf x ts) rest s = ap (λ (k : Kind). cond (opens an_arrow k) (Some to_type) (Some no_arrow)) s.1.0
+picks named_type (leaf x ts) rest s = ap (λ (k : Kind). choose_applied (Some k)) s.1.0
+picks listed_type (leaf x ts) rest s = ap (λ (k : Kind). choose_applied (Some k)) s.1.0
+picks one_type (leaf x ts) rest s = ap (λ (k : Kind). choose_list (Some k)) s.1.0
+picks two_types (leaf x ts) rest s = ap (λ (k : Kind). choose_list (Some k)) s.1.0
+picks more_type (leaf x ts) rest s = ap (λ (k : Kind). choose_rest (Some k)) s.1.0
+picks last_type (leaf x ts) rest s = ap (λ (k : Kind). choose_rest (Some k)) s.1.0
+picks no_postfix done rest s = ap (λ (b : Bool). cond b (Some postfix_name) (Some no_postfix)) (not-opens a_postfix rest s.0)
+picks postfix_name (leaf x ts) rest s = ap (λ (k : Kind). cond (opens a_postfix k) (Some postfix_name) (Some no_postfix)) s.1.0
+picks level_zero ts rest s = refl
+picks level_up ts rest s = refl
+picks (no_infix {h}) done rest s = ap (λ (b : Bool). cond b (Some infixed) (Some no_infix)) (not-opens (a_tail h) rest s.0)
+picks (infixed {h}) (leaf x ts) rest s = ap (λ (k : Kind). cond (is_infix_at h k) (Some infixed) (Some no_infix)) s.1.0 ∙ ap (λ (b : Bool). cond b (Some infixed) (Some no_infix)) (infix-opens h)
+picks negation (leaf x ts) rest s = ap (λ (k : Kind). choose_unary (Some k)) s.1.0
+picks binding (leaf x ts) rest s = binder-chosen x.kind s.1.0
+picks plain (tree t done) rest s = atom-plain _ (typed-opens t rest s.1.0)
+picks typed_term ts rest s = refl
+picks no_argument done rest s = ap (λ (b : Bool). cond b (Some argument) (Some no_argument)) (not-opens an_arguments rest s.0)
+picks argument (tree a (tree xs done)) rest s = ap (λ (b : Bool). cond b (Some argument) (Some no_argument)) (atom-argument (then a (then xs rest)) (atom-opens a (then xs rest) s.1.0))
+picks no_annotation done rest s = ap (λ (b : Bool). cond b (Some annotated) (Some no_annotation)) (not-opens an_annotation rest s.0)
+picks annotated (leaf x ts) rest s = ap (λ (k : Kind). cond (opens an_annotation k) (Some annotated) (Some no_annotation)) s.1.0
+picks identifier_atom (leaf x ts) rest s = ap (λ (k : Kind). choose_atom (Some k)) s.1.0
+picks parenthesised (leaf x ts) rest s = ap (λ (k : Kind). choose_atom (Some k)) s.1.0
+picks operator_alone (leaf x (leaf y done)) rest s = operator-picked x.kind (closes_next (Some y.kind)) s.1.0 (ap (λ (k : Kind). closes_next (Some k)) s.1.1.0)
+picks inner (tree t (leaf y done)) rest s = level-inner t (y ∷ rest) s.1.0
+picks named_bound (leaf x ts) rest s = ap (λ (k : Kind). choose_bound (Some k)) s.1.0
+picks typed_bound (leaf x ts) rest s = ap (λ (k : Kind). choose_bound (Some k)) s.1.0
+picks last_typed (leaf x ts) rest s = ap (λ (k : Kind). choose_after_name (Some k)) s.1.0
+picks name_body (leaf x ts) rest s = ap (λ (k : Kind). choose_after_name (Some k)) s.1.0
+picks name_more (tree b done) rest s = atom-more _ (bound-opens b rest s.1.0)
+picks bound_body (leaf x ts) rest s = ap (λ (k : Kind). choose_after_bound (Some k)) s.1.0
+picks bound_more (tree b done) rest s = atom-bound_more _ (bound-opens b rest s.1.0)
+picks quoted ts rest s = refl
+picks type_quoted ts rest s = refl
+
+closed-shut : (n : Nonterminal) (k : Kind) → IsTrue (closes k) → opens n k ≡ false
+closed-shut an_arrow k h = go k h
+  where
+    go : (k : Kind) → IsTrue (closes k) → opens an_arrow k ≡ false
+    go Arrow h = absurd (false≢true h)
+    go _ h = refl
+closed-shut a_postfix k h = go k h
+  where
+    go : (k : Kind) → IsTrue (closes k) → opens a_postfix k ≡ false
+    go Ident h = absurd (false≢true h)
+    go _ h = refl
+closed-shut (a_tail n) k h = go n k h
+  where
+    go : (n : ℕ) (k : Kind) → IsTrue (closes k) → is_infix_at n k ≡ false
+    go zero Equals h = absurd (false≢true h)
+    go (suc zero) And h = absurd (false≢true h)
+    go (suc (suc zero)) Or h = absurd (false≢true h)
+    go (suc (suc (suc zero))) Implies h = absurd (false≢true h)
+    go (suc (suc (suc (suc n)))) Iff h = absurd (false≢true h)
+    go _ _ h = refl
+closed-shut an_arguments k h = go k h
+  where
+    go : (k : Kind) → IsTrue (closes k) → opens an_arguments k ≡ false
+    go Ident h = absurd (false≢true h)
+    go Open h = absurd (false≢true h)
+    go _ h = refl
+closed-shut an_annotation k h = go k h
+  where
+    go : (k : Kind) → IsTrue (closes k) → opens an_annotation k ≡ false
+    go Colon h = absurd (false≢true h)
+    go _ h = refl
+closed-shut _ k h = refl
+
+pub shut : (n : Nonterminal) (after : List Lexeme) → IsClosing after → IsNotNext (λ x. IsTrue (opens n x.kind)) after
+shut n [] k = tt
+shut n (x ∷ after) k = λ o. false≢true (sym (closed-shut n x.kind k) ∙ o)

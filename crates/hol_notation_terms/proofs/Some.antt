@@ -1,0 +1,67 @@
+-- Some way to write each part, for what a text may go on with.
+use Rattle.std.proofs.Common.{List, [], ◌∷◌, refl, codes}
+use Rattle.hol_notation_tokens.specs.declared.token.Kind.{Kind}
+use Rattle.hol_notation_tokens.specs.declared.token.Kind.TheVariants.{Ident, Close}
+use Rattle.hol_notation_tokens.specs.Lexeme.{Lexeme}
+use Rattle.hol_notation_grammar.specs.Syntax.{nothing, part, Tree, node, done, leaf, tree, Stands}
+use Rattle.hol_notation_grammar.specs.Reading.{Begins}
+use Rattle.hol_notation_grammar.proofs.Steps.{Fits}
+use Rattle.hol_notation_terms.specs.Grammar.{Nonterminal, term_grammar, IsClosing, an_arrow, an_applied_type, a_type_list, a_type_rest, a_postfix, no_arrow, named_type, one_type, last_type, no_postfix}
+use Rattle.hol_notation_terms.proofs.Picks.{shut}
+
+-- a lexeme of a kind
+abbrev pub mark : Kind → Lexeme
+mark k = record { kind = k; text = codes "x"; place = 0 }
+
+abbrev pub Some-tree : Nonterminal → List Lexeme → Type 0
+Some-tree n after = (t : Tree term_grammar n) × Stands t after
+
+pub some-postfix : (after : List Lexeme) → IsClosing after → Some-tree a_postfix after
+some-postfix after k = (node no_postfix done, (shut a_postfix after k, tt))
+
+pub some-arrow : (after : List Lexeme) → IsClosing after → Some-tree an_arrow after
+some-arrow after k = (node no_arrow done, (shut an_arrow after k, tt))
+
+pub fit-nothing : (n m : Nonterminal) → Fits term_grammar n m nothing
+fit-nothing n m after k = record { written = done; stands = tt; closes = k }
+
+pub fit-arrow : (n m : Nonterminal) → Fits term_grammar n m (part an_arrow nothing)
+fit-arrow n m after k = record { written = tree (node no_arrow done) done; stands = ((shut an_arrow after k, tt), tt); closes = k }
+
+pub fit-list : (n m : Nonterminal) → Fits term_grammar n m (part a_type_list nothing)
+fit-list n m after k = record {
+  written = tree (node one_type (leaf (mark Close) (tree (node no_postfix done) done))) done;
+  stands = ((tt, (refl, ((shut a_postfix after k, tt), tt))), tt);
+  closes = refl;
+}
+
+pub fit-rest : (n m : Nonterminal) → Fits term_grammar n m (part a_type_rest nothing)
+fit-rest n m after k = record {
+  written = tree (node last_type (leaf (mark Close) (leaf (mark Ident) (tree (node no_postfix done) done)))) done;
+  stands = ((tt, (refl, (refl, ((shut a_postfix after k, tt), tt)))), tt);
+  closes = refl;
+}
+
+pub begins-applied : (after : List Lexeme) → IsClosing after → Begins term_grammar an_applied_type [] after
+begins-applied after k = record {
+  written = node named_type (leaf (mark Ident) (tree (node no_postfix done) done));
+  more = mark Ident ∷ after;
+  whole = refl;
+  stands = (tt, (refl, ((shut a_postfix after k, tt), tt)));
+}
+
+pub begins-list : (after : List Lexeme) → IsClosing after → Begins term_grammar a_type_list [] after
+begins-list after k = record {
+  written = node one_type (leaf (mark Close) (tree (node no_postfix done) done));
+  more = mark Close ∷ after;
+  whole = refl;
+  stands = (tt, (refl, ((shut a_postfix after k, tt), tt)));
+}
+
+pub begins-rest : (after : List Lexeme) → IsClosing after → Begins term_grammar a_type_rest [] after
+begins-rest after k = record {
+  written = node last_type (leaf (mark Close) (leaf (mark Ident) (tree (node no_postfix done) done)));
+  more = mark Close ∷ mark Ident ∷ after;
+  whole = refl;
+  stands = (tt, (refl, (refl, ((shut a_postfix after k, tt), tt))));
+}
