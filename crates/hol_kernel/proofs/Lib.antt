@@ -18,3 +18,4 @@ pub mod HypothesisLists
 pub mod Sides
 pub mod Sound
 pub mod TermRules
+pub mod Held

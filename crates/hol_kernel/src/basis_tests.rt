@@ -3,6 +3,7 @@ use crate::basis::Basis;
 use crate::error::{KernelError, Rule};
 use crate::kind::Kind;
 use crate::prelude;
+use crate::thm::Thm;
 use hol_terms::{Term, Variable};
 use hol_types::{Name, Ty};
 use std::alloc::Global;
@@ -89,5 +90,26 @@ fn constants_of_two_types_clash(rt: HostRuntime) -> Result<(), Fail> {
         panic!(rt; "no clash");
     };
     assert_eq!(rt; name.as_str(), "c");
+    Ok(())
+}
+
+#[test]
+fn an_axiom_is_taken_by_its_name(rt: HostRuntime) -> Result<(), Fail> {
+    let name = Name::new(rt.alloc(), "EXCLUDED")?;
+    let p = Term::var(
+        rt.alloc(),
+        &Variable::new(&name, &prelude::bool_type(rt.alloc())?)?,
+    )?;
+    let basis = Basis::empty(rt.alloc())?.declare_axiom(rt.alloc(), &name, &p)?;
+    let th = Thm::axiom_of(rt.alloc(), &basis, &name)?;
+    assert!(rt; th.concl().same(&p));
+    Ok(())
+}
+
+#[test]
+fn no_axiom_is_taken_by_another_name(rt: HostRuntime) -> Result<(), Fail> {
+    let name = Name::new(rt.alloc(), "EXCLUDED")?;
+    let made = Thm::axiom_of(rt.alloc(), &Basis::empty(rt.alloc())?, &name);
+    assert!(rt; matches!(made, Err(KernelError::Refused(Rule::AxiomOf))));
     Ok(())
 }

@@ -1,6 +1,7 @@
 //! The kernel: theorems, each of which has a derivation by HOL Light's primitive rules over a legal set of items.
 #![tactic(auto)]
 
+mod axiom;
 mod basis;
 mod declare;
 mod equation;

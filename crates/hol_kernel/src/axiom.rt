@@ -1,0 +1,74 @@
+//! Theorems that a basis says, and theorems over a larger basis.
+ghost use Rattle.std.specs.Prelude.{◌≡◌, IfOk, MatchOption, Some, None, []};
+ghost use Rattle.hol_terms.specs.Nameless.{nameless};
+ghost use Rattle.hol_kernel.specs.Items.{IsSubset};
+ghost use Rattle.hol_kernel.specs.Theorem.{theorem_over};
+ghost use Rattle.hol_kernel.specs.Extends.{IsAxiomOf};
+ghost use Rattle.hol_kernel.specs.Gives.{GivesSome};
+ghost use Rattle.hol_kernel.specs.Clashing.{axiom_at, axiom_in};
+ghost use Rattle.hol_kernel.specs.declared.error.Rule.TheVariants as rule;
+
+use crate::basis::Basis;
+use crate::equation::copy_of;
+use crate::error::{KernelError, Rule};
+use crate::hypotheses::Hypotheses;
+use crate::item::{Item, ItemNode};
+use crate::thm::Thm;
+use hol_terms::Term;
+use hol_types::Name;
+use std::alloc::{AllocError, Global};
+
+impl Thm {
+    /// The axiom of the name among the basis's items (fusion.ml, new_axiom): `|- p`.
+    ///
+    /// Refused by [`Rule::AxiomOf`] where there is none. The only other error is want of memory.
+    pub fn axiom_of(alloc: Global, basis: &Basis, name: &Name) -> Result<Thm, KernelError>
+        ensures { GivesSome rule.AxiomOf (IsAxiomOf basis.now name.now) result }
+    {
+        let Some(p) = find_axiom(basis.items(), name) else {
+            return Err(KernelError::Refused(Rule::AxiomOf));
+        };
+        let concl = copy_of(p)?;
+        let own = basis.copy()?;
+        let hyps = Hypotheses::none(alloc)?;
+        Ok(Thm::made(own, hyps, concl))
+    }
+
+    /// The same sequent over a basis that contains the theorem's.
+    ///
+    /// Answers an error where memory is short, and nowhere else.
+    pub fn widen(&self, basis: &Basis) -> Result<Thm, AllocError>
+        requires within { IsSubset self.now.basis basis.now }
+        ensures { IfOk result (λ th. th ≡ theorem_over basis.now self.now.hyps self.now.concl) }
+    {
+        self.promise();
+        let own = basis.copy()?;
+        let hyps = self.hypotheses().copy()?;
+        let concl = copy_of(self.concl())?;
+        Ok(Thm::made(own, hyps, concl))
+    }
+}
+
+impl Item {
+    // The statement of the axiom of the name, if the item is it.
+    fn axiom_named(&self, name: &Name) -> Option<&Term>
+        ensures { MatchOption result (axiom_at name.now self.now ≡ None) (λ p. axiom_at name.now self.now ≡ Some (nameless [] p.now)) }
+    {
+        match self.node() {
+            ItemNode::Axiom(own, p) => { if name.same(own) { Some(p) } else { None } }
+            _ => None,
+        }
+    }
+}
+
+// The statement of the axiom of the name.
+fn find_axiom<'a>(items: &'a [Item], name: &Name) -> Option<&'a Term>
+    ensures { MatchOption result (axiom_in name.now items.now ≡ None) (λ p. axiom_in name.now items.now ≡ Some (nameless [] p.now)) }
+{
+    for item in items {
+        if let Some(p) = item.axiom_named(name) {
+            return Some(p);
+        }
+    }
+    None
+}
