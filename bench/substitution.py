@@ -1,5 +1,5 @@
 #!/usr/bin/env python3
-"""How many substitutions a second hol_subst does.
+"""How many substitutions a second hol_subst does, and what is asked of shared types.
 
     python3 bench/substitution.py --program PATH [--rounds N]
 
@@ -8,9 +8,11 @@ PATH is the built program, crates/hol_bench/out/hol_bench. Its jobs:
   tower     a variable under so many applications is replaced: the whole term is made anew
   beside    a variable beside so many applications, in which it does not occur: these keep their nodes
   captures  a variable under so many binders, all of whose variables are free in the term that comes in: each binder is renamed
+  size      the sizes of 60 types, whose trees have 2, 4, .. 2 to the 60 leaves over 60 shared nodes
+  order     the orders of these types against a type variable
 
-Each line has the size that the job is given, the nodes of its result (20,001 for more), and how many substitutions it does in a second
-of processor time. The times are medians of the rounds.
+Each line has the size that the job is given, its answer (the nodes of the result, 20,001 for more; of the last two a sum), and how many
+times it is done in a second of processor time. The times are medians of the rounds.
 
 Needs Python 3.8 and Linux, and nothing else.
 """
@@ -29,11 +31,13 @@ JOBS = (
     ("captures", 10, 20000),
     ("captures", 100, 1000),
     ("captures", 1000, 10),
+    ("size", 60, 1000000),
+    ("order", 60, 1000000),
 )
 
 
 def processor_seconds(program, job, size, times):
-    """The processor time of one run, and the nodes of its result."""
+    """The processor time of one run, and its answer."""
     before = resource.getrusage(resource.RUSAGE_CHILDREN)
     done = subprocess.run([program, job, str(size), str(times)], check=True, capture_output=True, text=True)
     after = resource.getrusage(resource.RUSAGE_CHILDREN)
@@ -46,11 +50,11 @@ def main():
     parser.add_argument("--rounds", type=int, default=5)
     given = parser.parse_args()
     program = os.path.abspath(given.program)
-    print(f"{'job':10}{'size':>6}{'nodes':>8}{'a second':>12}")
+    print(f"{'job':10}{'size':>6}{'answer':>11}{'a second':>12}")
     for job, size, times in JOBS:
         runs = [processor_seconds(program, job, size, times) for _ in range(given.rounds)]
         seconds = statistics.median(run[0] for run in runs)
-        print(f"{job:10}{size:6}{runs[0][1]:>8}{times / seconds:12,.0f}")
+        print(f"{job:10}{size:6}{runs[0][1]:>11}{times / seconds:12,.0f}")
 
 
 if __name__ == "__main__":

@@ -2,10 +2,12 @@
 #![tactic(auto)]
 
 mod failure;
+mod sharing;
 mod substitution;
 mod terms;
 
 use crate::failure::Failure;
+use crate::sharing::sharing;
 use crate::substitution::substitution;
 use std::alloc::Global;
 use std::env;
@@ -32,15 +34,18 @@ fn words(rt: &HostRuntime) -> Result<Work, Failure> {
     Ok(Work { job, size, times })
 }
 
-/// Does the work, and answers the size of its last result.
+/// Does the work, and answers its last result: a size, but for `order`.
 fn done(alloc: Global, work: &Work) -> Result<u32, Failure> {
-    substitution(alloc, work.job.as_str(), work.size, work.times)
+    match work.job.as_str() {
+        "size" | "order" => sharing(alloc, work.job.as_str(), work.size, work.times),
+        job => substitution(alloc, job, work.size, work.times),
+    }
 }
 
 fn report(rt: &HostRuntime) -> Result<(), Failure> {
     let work = words(rt)?;
-    let size = done(rt.alloc(), &work)?;
-    println!(rt; "{} {} {}: {size} nodes", work.job, work.size, work.times)?;
+    let answer = done(rt.alloc(), &work)?;
+    println!(rt; "{} {} {}: {answer}", work.job, work.size, work.times)?;
     Ok(())
 }
 
