@@ -1,6 +1,6 @@
 -- Lists of hypotheses in order, and their sets.
-use Rattle.std.specs.Prelude.{◌≡◌, ℕ, ◌≤◌, Bool, true, false, cond, not, ◌||◌, List, [], ◌∷◌, ◌++◌, map, length, drop, refl}
-use Rattle.std.proofs.Common.{ap, sym, ◌∙◌, subst}
+use Rattle.std.specs.Prelude.{◌≡◌, ℕ, ◌≤◌, Bool, true, false, cond, not, ◌||◌, List, [], ◌∷◌, ◌++◌, map, length, ◌-◌, take, drop, refl}
+use Rattle.std.proofs.Common.{ap, sym, ◌∙◌, subst, arith}
 use Rattle.std.specs.declared.cmp.Ordering.{Ordering}
 use Rattle.std.specs.declared.cmp.Ordering.TheVariants.{Less, Equal, Greater}
 use Rattle.std.specs.Ordering.{eq_by_cmp, is_eq, match_ordering}
@@ -10,7 +10,7 @@ use Rattle.std.specs.List.Sorted.{IsStrictlySortedBy}
 use Rattle.std.specs.Set.{sorted_merge}
 use Rattle.std.specs.FinSet as set
 use Rattle.std.specs.Bool.{one_answer}
-use Rattle.std.proofs.lemmas.List.{append-nil, drop_all, nil_from_length}
+use Rattle.std.proofs.lemmas.List.{take_rest, take-append-drop, map-append, append-nil, drop_all, nil_from_length}
 use Rattle.hol_types.specs.Tree.{TypeTree}
 use Rattle.hol_terms.specs.Nameless.{Nameless, free, bound, fixed, app, lam, nameless, free_occurrences}
 use Rattle.hol_terms.specs.Scoped.{binds}
@@ -21,7 +21,7 @@ use Rattle.hol_terms.proofs.Alpha.{alpha_eq_decides}
 use Rattle.hol_terms.specs.Code.{coded_nameless}
 use Rattle.hol_kernel.specs.Order.{coded_total, coded_same}
 use Rattle.hol_kernel.specs.Sequent.{Hyps, nameless_cmp, no_hyps, hyp_of, hyps_of}
-use Rattle.hol_kernel.proofs.SortedSets.{sorted_none, sorted_one, sorted_filter, sorted_merged, set_merged, set_but, any_of_set, union_none_left, union_none_right, remove_none}
+use Rattle.hol_kernel.proofs.SortedSets.{sorted_none, sorted_one, sorted_filter, sorted_merged, set_merged, set_append, set_but, any_of_set, union_none_left, union_none_right, remove_none}
 
 pub hyps_total : IsTotalOrder nameless_cmp
 hyps_total = coded_total coded_nameless
@@ -166,6 +166,24 @@ module _ {X : Type 0} (c : X → X → Ordering) where
 
   pub merge_rest_first : (xs ys : List X) (i j : ℕ) → length ys ≤ j → merge (drop i xs) (drop j ys) ≡ drop i xs ++ drop j ys
   merge_rest_first xs ys i j h = rw (drop_all j ys h) (merge_none (drop i xs))
+
+-- ---- in order
+
+pub short_ordered : (ps : List Named) → length ps ≤ 1 → AreOrdered ps
+short_ordered [] h = sorted_none hyps_total
+short_ordered (p ∷ []) h = sorted_one hyps_total (hyp_of p)
+short_ordered (p ∷ q ∷ ps) h = absurd (omega arith)
+
+halves_set : (ps qs : List Named) → hyps_of (ps ++ qs) ≡ set.union (hyps_of ps) (hyps_of qs)
+halves_set ps qs =
+    ap (λ (ks : List Nameless). set.from_list {R = nameless_cmp} ks) (map-append hyp_of ps qs) ∙ set_append hyps_total hyps_same (map hyp_of ps) (map hyp_of qs)
+
+pub sorted_halves : (ts first second all : List Named) (half : ℕ) → hyps_of first ≡ hyps_of (take half ts) → hyps_of second ≡ hyps_of (take (length ts - half) (drop half ts)) → all ≡ sorted_merge hyp_cmp true first second → hyps_of all ≡ hyps_of ts
+sorted_halves ts first second all half p q e =
+    merged_set first second all e ∙ (λ i. set.union (p i) ((q ∙ ap hyps_of (take_rest ts half)) i)) ∙ sym (halves_set (take half ts) (drop half ts))
+    ∙ ap hyps_of (take-append-drop half ts)
+
+pub ruleset sorts = (short_ordered, sorted_halves, merged_ordered)
 
 pub ruleset unions = (merged_set, merged_ordered, union_left, union_right)
 

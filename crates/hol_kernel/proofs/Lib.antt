@@ -19,3 +19,4 @@ pub mod Sides
 pub mod Sound
 pub mod TermRules
 pub mod Held
+pub mod InstRules

@@ -53,7 +53,7 @@ module _ (basis : Items) (t : Named) (a : TypeTree) (has : named_type t ≡ Some
   test_by true b = refl
   test_by false b = refl
 
-  has_type_test : (b : TypeTree) → has_type basis (nameless [] t) b ≡ (is_typed basis (nameless [] t) && type_eq a b)
+  pub has_type_test : (b : TypeTree) → has_type basis (nameless [] t) b ≡ (is_typed basis (nameless [] t) && type_eq a b)
   has_type_test b =
       ap (λ o. is_type_at o b) (type_over_named basis t a has) ∙ test_by (is_known_named basis t) b
       ∙ ap (λ k. k && type_eq a b) (sym (typed_named basis t a has))

@@ -72,6 +72,17 @@ impl Hypotheses {
         Hypotheses::made(alloc, terms)
     }
 
+    #[tactic(auto, using(crate::proofs::HypothesisLists::sorts))]
+    /// The hypotheses of a list in any order.
+    ///
+    /// Answers an error where memory is short, and nowhere else.
+    pub fn collected(alloc: Global, terms: &[Term]) -> Result<Hypotheses, AllocError>
+        ensures { IfOk result (λ hyps. hyps ≡ hyps_of terms.now) }
+    {
+        let all = in_order(alloc, terms)?;
+        Ok(Hypotheses::made(alloc, all)?)
+    }
+
     /// The same hypotheses.
     ///
     /// Answers an error where memory is short, and nowhere else.
@@ -153,6 +164,23 @@ fn hypothesis_order(p: &Term, q: &Term) -> Ordering
     ensures { result ≡ nameless_cmp (hyp_of p.now) (hyp_of q.now) }
 {
     alpha_order(p, q)
+}
+
+// The terms of a list in order, each once: both halves are put in order, and then merged.
+#[tactic(auto, using(crate::proofs::HypothesisLists::sorts))]
+fn in_order(alloc: Global, terms: &[Term]) -> Result<Vec<Term>, AllocError>
+    ensures set { IfOk result (λ all. hyps_of all.items ≡ hyps_of terms.now) }
+    ensures ordered { IfOk result (λ all. IsStrictlySortedBy nameless_cmp (map hyp_of all.items)) }
+{
+    if terms.len() <= 1 {
+        let mut all = Vec::new(alloc);
+        copy_to(&mut all, terms)?;
+        return Ok(all);
+    }
+    let half = terms.len() / 2;
+    let first = in_order(alloc, &terms[..half])?;
+    let second = in_order(alloc, &terms[half..])?;
+    Ok(merged(alloc, &first, &second)?)
 }
 
 // Two lists in order made one, with each hypothesis of both once.

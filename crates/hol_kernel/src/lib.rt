@@ -7,6 +7,7 @@ mod declare;
 mod equation;
 mod error;
 mod hypotheses;
+mod instances;
 mod item;
 mod item_names;
 mod join;

@@ -1,0 +1,149 @@
+-- What INST_TYPE and INST make of theorems.
+use Rattle.std.specs.Prelude.{◌≡◌, ℕ, Bool, true, false, cond, ◌&&◌, List, [], ◌∷◌, map, Option, Some, None, refl}
+use Rattle.std.proofs.Common.{ap, sym, ◌∙◌, subst, inl, inr}
+use mathlib.Core.Bool.{true≢false}
+use Rattle.std.specs.FinSet as set
+use Rattle.hol_types.specs.Tree.{TypeTree}
+use Rattle.hol_types.specs.Equal.{type_eq}
+use Rattle.hol_types.proofs.OrderLaws.{type_cmp_decides}
+use Rattle.hol_terms.specs.Named.{Named, var, constant, comb, abs, named_type}
+use Rattle.hol_terms.specs.Nameless.{Nameless, free, bound, fixed, app, lam, nameless, nameless_type}
+use Rattle.hol_terms.specs.Alpha.{strip}
+use Rattle.hol_terms.proofs.Typing.{type_outside}
+use Rattle.hol_subst.specs.Pairs.{nameless_pairs, pair_before, IsGoodPair, HasBadPair}
+use Rattle.hol_subst.specs.Substitution.{term_subst, types_inst}
+use Rattle.hol_subst.proofs.Strip.{inst_alpha, subst_alpha}
+use Rattle.hol_subst.proofs.Typing.{subst_type}
+use Rattle.hol_subst.proofs.TypeLaws.{pairs_typed, good_pairs_fit}
+use Rattle.hol_subst.proofs.TypesInst.{typed_instance}
+use Rattle.hol_kernel.specs.Items.{Items}
+use Rattle.hol_kernel.specs.Sequent.{Hyps, nameless_cmp, hyp_of, hyps_of, hyps_image, bool_type}
+use Rattle.hol_kernel.specs.Typing.{is_known, is_typed, is_type_at, are_types_for, are_typed_for}
+use Rattle.hol_kernel.specs.Derivation.{Derives, by_inst_type, by_inst}
+use Rattle.hol_kernel.specs.Rules.{inst_type_of, inst_of, is_pair_at, are_pairs_over}
+use Rattle.hol_kernel.specs.Theorem.{Theorem, theorem_over, IsDerived}
+use Rattle.hol_kernel.proofs.SortedSets.{map_of_set}
+use Rattle.hol_kernel.proofs.HypothesisLists.{hyps_total, hyps_same}
+use Rattle.hol_kernel.proofs.TermRules.{has_type_test}
+
+-- ---- base names left out
+
+strip_strip : (n : Nameless) → strip (strip n) ≡ strip n
+strip_strip (free v) = refl
+strip_strip (bound i) = refl
+strip_strip (fixed c s) = refl
+strip_strip (app f x) = λ i. app (strip_strip f i) (strip_strip x i)
+strip_strip (lam a s b) = ap (lam [] s) (strip_strip b)
+
+-- ---- the images of hypotheses, by a map under which base names do not count
+
+module _ (f : Nameless → Nameless) (minds : (n : Nameless) → strip (f (strip n)) ≡ strip (f n)) where
+  keys : (ps : List Named) → map (λ h. strip (f h)) (map hyp_of ps) ≡ map strip (map (λ p. f (nameless [] p)) ps)
+  keys [] = refl
+  keys (p ∷ ps) = λ i. minds (nameless [] p) i ∷ keys ps i
+
+  stripped : (rs : List Named) → map hyp_of rs ≡ map strip (map (λ r. nameless [] r) rs)
+  stripped [] = refl
+  stripped (r ∷ rs) = ap (λ ns. hyp_of r ∷ ns) (stripped rs)
+
+  pub image_hyps : (hs : Hyps) (ps rs : List Named) → hyps_of ps ≡ hs → map (λ r. nameless [] r) rs ≡ map (λ p. f (nameless [] p)) ps → hyps_of rs ≡ hyps_image f hs
+  image_hyps hs ps rs is e =
+      ap (λ (ks : List Nameless). set.from_list {R = nameless_cmp} ks) (stripped rs ∙ ap (map strip) e ∙ sym (keys ps))
+      ∙ sym (map_of_set hyps_total hyps_same (λ h. strip (f h)) (map hyp_of ps)) ∙ ap (hyps_image f) is
+
+-- ---- derivations
+
+along_nameless : (b own : Items) (h hyps : Hyps) (n : Nameless) (concl : Named) → own ≡ b → hyps ≡ h → nameless [] concl ≡ n → Derives b h n → named_type concl ≡ Some bool_type → IsDerived own hyps concl
+along_nameless b own h hyps n concl p q r d t = record {
+  derives = subst (λ (s : Items). Derives s hyps (nameless [] concl)) (sym p) (subst (λ (hs : Hyps). Derives b hs (nameless [] concl)) (sym q) (subst (λ (u : Nameless). Derives b h u) (sym r) d));
+  typed = t;
+}
+
+-- ---- types for type variables
+
+pub types_hyps : (pairs : List (TypeTree × List ℕ)) (hs : Hyps) (ps rs : List Named) → hyps_of ps ≡ hs → map (λ r. nameless [] r) rs ≡ map (λ p. types_inst pairs (nameless [] p)) ps → hyps_of rs ≡ hyps_image (types_inst pairs) hs
+types_hyps pairs = image_hyps (types_inst pairs) (λ n. inst_alpha pairs (strip n) n (strip_strip n))
+
+pub types_derived : (pairs : List (TypeTree × List ℕ)) (th : Theorem) (t : Named) (own : Items) (hyps : Hyps) (concl : Named) → Derives th.basis th.hyps th.concl → are_types_for th.basis pairs ≡ true → nameless [] t ≡ th.concl → named_type t ≡ Some bool_type → own ≡ th.basis → hyps ≡ hyps_image (types_inst pairs) th.hyps → nameless [] concl ≡ types_inst pairs (nameless [] t) → IsDerived own hyps concl
+types_derived pairs th t own hyps concl d over is typed p q r =
+    along_nameless th.basis own (hyps_image (types_inst pairs) th.hyps) hyps (types_inst pairs th.concl) concl p q (r ∙ ap (types_inst pairs) is)
+    (by_inst_type th.hyps th.concl pairs over d)
+    (typed_instance pairs t concl bool_type r typed)
+
+pub types_given : (pairs : List (TypeTree × List ℕ)) (th made : Theorem) (hyps : Hyps) (t concl : Named) → are_types_for th.basis pairs ≡ true → nameless [] t ≡ th.concl → hyps ≡ hyps_image (types_inst pairs) th.hyps → nameless [] concl ≡ types_inst pairs (nameless [] t) → made ≡ theorem_over th.basis hyps (nameless [] concl) → inst_type_of pairs th ≡ Some made
+types_given pairs th made hyps t concl over is q r e =
+    (λ i. cond (over i) (Some (theorem_over th.basis (hyps_image (types_inst pairs) th.hyps) (types_inst pairs th.concl))) None)
+    ∙ (λ i. Some (theorem_over th.basis (sym q i) (sym (r ∙ ap (types_inst pairs) is) i))) ∙ ap Some (sym e)
+
+-- ---- terms for variables
+
+two : (a b : Bool) → (a && b) ≡ true → (a ≡ true) × (b ≡ true)
+two true b e = (refl, e)
+two false b e = absurd (true≢false (sym e))
+
+-- the pair's test, for a term of the type a
+pub pair_by : (basis : Items) (t : Named) (a : TypeTree) → named_type t ≡ Some a → (v : List ℕ × TypeTree) → is_pair_at basis (nameless [] t) (var v) ≡ (is_typed basis (nameless [] t) && type_eq a v.1)
+pair_by basis t a has v = has_type_test basis t a has v.1
+
+pub pair_yes : (basis : Items) (t u : Named) (a : TypeTree) (v : List ℕ × TypeTree) → named_type t ≡ Some a → u ≡ var v → type_eq a v.1 ≡ true → is_typed basis (nameless [] t) ≡ is_pair_at basis (nameless [] t) u
+pair_yes basis t u a v has is same = sym (ap (is_pair_at basis (nameless [] t)) is ∙ pair_by basis t a has v ∙ ap (λ b. is_typed basis (nameless [] t) && b) same ∙ with_true (is_typed basis (nameless [] t)))
+  where
+    with_true : (b : Bool) → (b && true) ≡ b
+    with_true true = refl
+    with_true false = refl
+
+pub pair_no : (basis : Items) (t u : Named) (a : TypeTree) (v : List ℕ × TypeTree) → named_type t ≡ Some a → u ≡ var v → type_eq a v.1 ≡ false → false ≡ is_pair_at basis (nameless [] t) u
+pair_no basis t u a v has is other = sym (ap (is_pair_at basis (nameless [] t)) is ∙ pair_by basis t a has v ∙ ap (λ b. is_typed basis (nameless [] t) && b) other ∙ with_false (is_typed basis (nameless [] t)))
+  where
+    with_false : (b : Bool) → (b && false) ≡ false
+    with_false true = refl
+    with_false false = refl
+
+has_type_is : (k : Bool) (o : Option TypeTree) (a : TypeTree) → is_type_at (cond k o None) a ≡ true → o ≡ Some a
+has_type_is true (Some s) a e = ap Some ((type_cmp_decides s a).0 e)
+has_type_is true None a e = absurd (true≢false (sym e))
+has_type_is false o a e = absurd (true≢false (sym e))
+
+good_pair : (basis : Items) (t u : Named) → is_pair_at basis (nameless [] t) u ≡ true → IsGoodPair (t, u)
+good_pair basis t (var v) e = (v, refl, sym (type_outside t) ∙ has_type_is (is_known basis (nameless [] t)) (nameless_type [] (nameless [] t)) v.1 e)
+good_pair basis t (constant c s) e = absurd (true≢false (sym e))
+good_pair basis t (comb f x) e = absurd (true≢false (sym e))
+good_pair basis t (abs v b) e = absurd (true≢false (sym e))
+
+pub pairs_good : (basis : Items) (pairs : List (Named × Named)) → are_pairs_over basis pairs ≡ true → HasBadPair pairs → ⊥
+pairs_good basis [] e bad = bad
+pairs_good basis (p ∷ pairs) e (inl bad) = bad (good_pair basis p.0 p.1 (two (is_pair_at basis (nameless [] p.0) p.1) (are_pairs_over basis pairs) e).0)
+pairs_good basis (p ∷ pairs) e (inr bad) = pairs_good basis pairs (two (is_pair_at basis (nameless [] p.0) p.1) (are_pairs_over basis pairs) e).1 bad
+
+pairs_typed_over : (basis : Items) (pairs : List (Named × Named)) → are_pairs_over basis pairs ≡ true → are_typed_for basis (nameless_pairs pairs) ≡ true
+pairs_typed_over basis [] e = refl
+pairs_typed_over basis (p ∷ pairs) e =
+    let h = two (is_pair_at basis (nameless [] p.0) p.1) (are_pairs_over basis pairs) e in
+    by p.1 h.0 (pairs_typed_over basis pairs h.1)
+  where
+    by : (u : Named) → is_pair_at basis (nameless [] p.0) u ≡ true → are_typed_for basis (nameless_pairs pairs) ≡ true → are_typed_for basis (pair_before (nameless [] p.0) u (nameless_pairs pairs)) ≡ true
+    by (var v) f g = λ i. f i && g i
+    by (constant c s) f g = absurd (true≢false (sym f))
+    by (comb k x) f g = absurd (true≢false (sym f))
+    by (abs v b) f g = absurd (true≢false (sym f))
+
+abbrev put : List (Named × Named) → Nameless → Nameless
+put pairs = term_subst (nameless_pairs pairs) 0
+
+pub terms_hyps : (pairs : List (Named × Named)) (hs : Hyps) (ps rs : List Named) → hyps_of ps ≡ hs → map (λ r. nameless [] r) rs ≡ map (λ p. term_subst (nameless_pairs pairs) 0 (nameless [] p)) ps → hyps_of rs ≡ hyps_image (term_subst (nameless_pairs pairs) 0) hs
+terms_hyps pairs = image_hyps (put pairs) (λ n. subst_alpha (nameless_pairs pairs) 0 (strip n) n (strip_strip n))
+
+pub terms_derived : (pairs : List (Named × Named)) (th : Theorem) (t : Named) (own : Items) (hyps : Hyps) (concl : Named) → Derives th.basis th.hyps th.concl → are_pairs_over th.basis pairs ≡ true → nameless [] t ≡ th.concl → named_type t ≡ Some bool_type → own ≡ th.basis → hyps ≡ hyps_image (term_subst (nameless_pairs pairs) 0) th.hyps → nameless [] concl ≡ term_subst (nameless_pairs pairs) 0 (nameless [] t) → IsDerived own hyps concl
+terms_derived pairs th t own hyps concl d over is typed p q r =
+    along_nameless th.basis own (hyps_image (put pairs) th.hyps) hyps (put pairs th.concl) concl p q (r ∙ ap (put pairs) is)
+    (by_inst th.hyps th.concl (nameless_pairs pairs) (pairs_typed_over th.basis pairs over) d)
+    (sym (type_outside concl) ∙ ap (nameless_type []) r
+    ∙ subst_type (nameless_pairs pairs) [] 0 (nameless [] t) (pairs_typed (nameless_pairs pairs) (good_pairs_fit pairs (pairs_good th.basis pairs over)))
+    ∙ type_outside t ∙ typed)
+
+pub terms_given : (pairs : List (Named × Named)) (th made : Theorem) (hyps : Hyps) (t concl : Named) → are_pairs_over th.basis pairs ≡ true → nameless [] t ≡ th.concl → hyps ≡ hyps_image (term_subst (nameless_pairs pairs) 0) th.hyps → nameless [] concl ≡ term_subst (nameless_pairs pairs) 0 (nameless [] t) → made ≡ theorem_over th.basis hyps (nameless [] concl) → inst_of pairs th ≡ Some made
+terms_given pairs th made hyps t concl over is q r e =
+    (λ i. cond (over i) (Some (theorem_over th.basis (hyps_image (put pairs) th.hyps) (put pairs th.concl))) None)
+    ∙ (λ i. Some (theorem_over th.basis (sym q i) (sym (r ∙ ap (put pairs) is) i))) ∙ ap Some (sym e)
+
+pub ruleset pairs_tested = (pair_yes, pair_no)

@@ -1,0 +1,153 @@
+//! The primitive rules of HOL Light (fusion.ml) that substitute: types for type variables, and terms for variables, in all terms of a
+//! theorem.
+ghost use Rattle.std.specs.Prelude.{◌≡◌, IfOk, [], map};
+ghost use Rattle.hol_terms.specs.Nameless.{nameless};
+ghost use Rattle.hol_subst.specs.Substitution.{types_inst, term_subst};
+ghost use Rattle.hol_subst.specs.Pairs.{nameless_pairs, HasBadPair};
+ghost use Rattle.hol_kernel.specs.Typing.{are_types_for};
+ghost use Rattle.hol_kernel.specs.Rules.{inst_type_of, inst_of, is_pair_at, are_pairs_over};
+ghost use Rattle.hol_kernel.specs.Gives.{Gives};
+ghost use Rattle.hol_kernel.specs.declared.error.Rule.TheVariants as rule;
+
+use crate::basis::Basis;
+use crate::error::{KernelError, Rule};
+use crate::hypotheses::Hypotheses;
+use crate::thm::Thm;
+use hol_subst::SubstError;
+use hol_terms::{Term, TermNode};
+use hol_types::{Name, Ty};
+use std::alloc::{AllocError, Global};
+
+impl Thm {
+    /// The rule of instantiation of types (fusion.ml, INST_TYPE): types for type variables, in all hypotheses and the conclusion, by
+    /// pairs of a type and a type variable's name, of which the first of a name counts.
+    ///
+    /// Refused by [`Rule::InstType`] where a pair's type is none over the prelude and the theorem's basis. The only other error is
+    /// want of memory.
+    pub fn inst_type(alloc: Global, pairs: &[(Ty, Name)], a: &Thm) -> Result<Thm, KernelError>
+        ensures sequent { Gives rule.InstType (inst_type_of pairs.now a.now) result }
+        ensures basis { IfOk result (λ th. th.basis ≡ a.now.basis) }
+    {
+        a.promise();
+        if !are_types(a.basis(), pairs) {
+            return Err(KernelError::Refused(Rule::InstType));
+        }
+        let concl = with_types(alloc, pairs, a.concl())?;
+        let terms = all_with_types(alloc, pairs, a.hyps())?;
+        let basis = a.basis().copy()?;
+        let hyps = Hypotheses::collected(alloc, &terms)?;
+        Ok(Thm::made(basis, hyps, concl))
+    }
+
+    /// The rule of instantiation (fusion.ml, INST): terms for variables, in all hypotheses and the conclusion, by pairs of a term and
+    /// a variable, of which the first of a variable counts.
+    ///
+    /// Refused by [`Rule::Inst`] where a pair's second part is no variable of the first part's type, or its first part is not well
+    /// typed over the prelude and the theorem's basis. The only other error is want of memory.
+    pub fn inst(alloc: Global, pairs: &[(Term, Term)], a: &Thm) -> Result<Thm, KernelError>
+        ensures sequent { Gives rule.Inst (inst_of pairs.now a.now) result }
+        ensures basis { IfOk result (λ th. th.basis ≡ a.now.basis) }
+    {
+        a.promise();
+        if !are_pairs(alloc, a.basis(), pairs)? {
+            return Err(KernelError::Refused(Rule::Inst));
+        }
+        let concl = with_terms(alloc, pairs, a.concl())?;
+        let terms = all_with_terms(alloc, pairs, a.hyps())?;
+        let basis = a.basis().copy()?;
+        let hyps = Hypotheses::collected(alloc, &terms)?;
+        Ok(Thm::made(basis, hyps, concl))
+    }
+}
+
+// Whether the type of each pair is one over the basis.
+fn are_types(basis: &Basis, pairs: &[(Ty, Name)]) -> bool
+    ensures { result ≡ are_types_for basis.now pairs.now }
+{
+    for pair in pairs {
+        if !basis.is_type(&pair.0) {
+            return false;
+        }
+    }
+    true
+}
+
+// The term with types for its type variables.
+fn with_types(alloc: Global, pairs: &[(Ty, Name)], term: &Term) -> Result<Term, AllocError>
+    ensures { IfOk result (λ r. nameless [] r ≡ types_inst pairs.now (nameless [] term.now)) }
+{
+    match hol_subst::inst(alloc, pairs, term) {
+        Ok(instance) => Ok(instance),
+        Err(SubstError::Memory) => Err(AllocError),
+        Err(SubstError::BadPair) => unreachable!(),
+    }
+}
+
+// The terms with types for their type variables.
+fn all_with_types(
+    alloc: Global,
+    pairs: &[(Ty, Name)],
+    terms: &[Term],
+) -> Result<Vec<Term>, AllocError>
+    ensures { IfOk result (λ rs. map (λ r. nameless [] r) rs.items ≡ map (λ p. types_inst pairs.now (nameless [] p)) terms.now) }
+{
+    let mut instances = Vec::new(alloc);
+    for term in terms {
+        instances.push(with_types(alloc, pairs, term)?)?;
+    }
+    Ok(instances)
+}
+
+// Whether each pair is one of a term over the basis and a variable of its type.
+fn are_pairs(alloc: Global, basis: &Basis, pairs: &[(Term, Term)]) -> Result<bool, AllocError>
+    ensures { IfOk result (λ all. all ≡ are_pairs_over basis.now pairs.now) }
+{
+    for pair in pairs {
+        if !is_pair(alloc, basis, &pair.0, &pair.1)? {
+            return Ok(false);
+        }
+    }
+    Ok(true)
+}
+
+// Whether `u` is a variable of the type of the term, which is one over the basis.
+#[tactic(auto, using(crate::proofs::InstRules::pairs_tested))]
+fn is_pair(alloc: Global, basis: &Basis, term: &Term, u: &Term) -> Result<bool, AllocError>
+    ensures { IfOk result (λ is. is ≡ is_pair_at basis.now (nameless [] term.now) u.now) }
+{
+    let TermNode::Var(v) = u.node() else {
+        return Ok(false);
+    };
+    if !term.type_of().same(v.ty()) {
+        return Ok(false);
+    }
+    Ok(basis.is_typed(alloc, term)?)
+}
+
+// The term with terms for its variables.
+fn with_terms(alloc: Global, pairs: &[(Term, Term)], term: &Term) -> Result<Term, AllocError>
+    requires { HasBadPair pairs.now → ⊥ }
+    ensures { IfOk result (λ r. nameless [] r ≡ term_subst (nameless_pairs pairs.now) 0 (nameless [] term.now)) }
+{
+    match hol_subst::vsubst(alloc, pairs, term) {
+        Ok(instance) => Ok(instance),
+        Err(SubstError::Memory) => Err(AllocError),
+        Err(SubstError::BadPair) => unreachable!(),
+    }
+}
+
+// The terms with terms for their variables.
+fn all_with_terms(
+    alloc: Global,
+    pairs: &[(Term, Term)],
+    terms: &[Term],
+) -> Result<Vec<Term>, AllocError>
+    requires { HasBadPair pairs.now → ⊥ }
+    ensures { IfOk result (λ rs. map (λ r. nameless [] r) rs.items ≡ map (λ p. term_subst (nameless_pairs pairs.now) 0 (nameless [] p)) terms.now) }
+{
+    let mut instances = Vec::new(alloc);
+    for term in terms {
+        instances.push(with_terms(alloc, pairs, term)?)?;
+    }
+    Ok(instances)
+}
