@@ -8,6 +8,8 @@ mod equation;
 mod error;
 mod hypotheses;
 mod instances;
+#[cfg(test)]
+mod instances_tests;
 mod item;
 mod item_names;
 mod join;
