@@ -57,7 +57,7 @@ one_name items x k only e l h =
 pub name_taken : (items : Items) (x : Item) (k : Key) → has_key x k ≡ true → is_new items k ≡ false → HasNewKeys items x → ⊥
 name_taken items x k own e new = true≢false (sym (is_new_of items k (new k own)) ∙ e)
 
-own_name : (k : Key) → (key_eq k k || false) ≡ true
+pub own_name : (k : Key) → (key_eq k k || false) ≡ true
 own_name k = ap (λ b. b || false) (key_itself k)
 
 -- ---- a type

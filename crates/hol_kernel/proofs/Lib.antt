@@ -20,3 +20,5 @@ pub mod Sound
 pub mod TermRules
 pub mod Held
 pub mod InstRules
+pub mod TermNames
+pub mod Definable

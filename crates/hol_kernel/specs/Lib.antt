@@ -15,3 +15,4 @@ pub mod Rules
 pub mod Extends
 pub mod Clashing
 pub mod Gives
+pub mod Defining

@@ -2,7 +2,7 @@
 ghost use Rattle.std.specs.Prelude.{◌≡◌, IfOk, IfSome, IsErrOf, MatchOption, Ok, Some, None, []};
 ghost use Rattle.hol_types.specs.Equal.{type_eq};
 ghost use Rattle.hol_types.specs.Fun.{fun_type};
-ghost use Rattle.hol_terms.specs.Named.{comb, abs, named_type};
+ghost use Rattle.hol_terms.specs.Named.{constant, comb, abs, named_type};
 ghost use Rattle.hol_terms.specs.declared.term.TermError.TheVariants as term_error;
 ghost use Rattle.hol_terms.specs.Nameless.{nameless};
 ghost use Rattle.hol_kernel.specs.Sequent.{named_equation, bool_type};
@@ -27,6 +27,16 @@ pub fn equation(alloc: Global, ty: &Ty, left: &Term, right: &Term) -> Result<Ter
     let equality = fitting(Term::constant(alloc, &name, &equality_type))?;
     let applied = fitting(Term::comb(alloc, &equality, left))?;
     fitting(Term::comb(alloc, &applied, right))
+}
+
+/// The constant of the name and the type.
+///
+/// Answers an error where memory is short, and nowhere else.
+pub fn constant(alloc: Global, name: &Name, ty: &Ty) -> Result<Term, AllocError>
+    ensures is { IfOk result (λ t. t ≡ constant name.now ty.now) }
+    ensures typed { IfOk result (λ t. named_type t ≡ Some ty.now) }
+{
+    fitting(Term::constant(alloc, name, ty))
 }
 
 /// The application of a function to an argument of a fitting type.

@@ -4,6 +4,9 @@
 mod axiom;
 mod basis;
 mod declare;
+mod define;
+#[cfg(test)]
+mod define_tests;
 mod equation;
 mod error;
 mod hypotheses;
@@ -17,6 +20,7 @@ mod kind;
 mod postulate;
 mod prelude;
 mod rules;
+mod term_tyvars;
 mod thm;
 
 pub use basis::Basis;

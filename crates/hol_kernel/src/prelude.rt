@@ -78,8 +78,10 @@ pub fn equality_type(alloc: Global, ty: &Ty) -> Result<Ty, AllocError>
     Ty::fun(alloc, ty, &property)
 }
 
-// The type variable of this name.
-fn variable(alloc: Global, name: &str) -> Result<Ty, AllocError>
+/// The type variable of this name.
+///
+/// Answers an error where memory is short, and nowhere else.
+pub fn variable(alloc: Global, name: &str) -> Result<Ty, AllocError>
     ensures { IfOk result (λ ty. ty ≡ TyVar name.now) }
 {
     let name = Name::new(alloc, name)?;
