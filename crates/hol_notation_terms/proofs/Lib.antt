@@ -2,3 +2,4 @@ pub mod Picks
 pub mod Certain
 pub mod Some
 pub mod TypeSteps
+pub mod QuotationSteps

@@ -1,12 +1,12 @@
 -- Some way to write each part, for what a text may go on with.
-use Rattle.std.proofs.Common.{List, [], ◌∷◌, refl, codes}
+use Rattle.std.proofs.Common.{ℕ, zero, suc, List, [], ◌∷◌, refl, codes}
 use Rattle.hol_notation_tokens.specs.declared.token.Kind.{Kind}
 use Rattle.hol_notation_tokens.specs.declared.token.Kind.TheVariants.{Ident, Close}
 use Rattle.hol_notation_tokens.specs.Lexeme.{Lexeme}
 use Rattle.hol_notation_grammar.specs.Syntax.{nothing, part, Tree, node, done, leaf, tree, Stands}
 use Rattle.hol_notation_grammar.specs.Reading.{Begins}
 use Rattle.hol_notation_grammar.proofs.Steps.{Fits}
-use Rattle.hol_notation_terms.specs.Grammar.{Nonterminal, term_grammar, IsClosing, an_arrow, an_applied_type, a_type_list, a_type_rest, a_postfix, no_arrow, named_type, one_type, last_type, no_postfix}
+use Rattle.hol_notation_terms.specs.Grammar.{Nonterminal, term_grammar, IsClosing, a_type, an_arrow, an_applied_type, a_type_list, a_type_rest, a_postfix, a_level, a_tail, a_unary, an_arguments, an_annotation, applied_first, no_arrow, named_type, one_type, last_type, no_postfix, level_zero, level_up, no_infix, plain, typed_term, no_argument, no_annotation, identifier_atom}
 use Rattle.hol_notation_terms.proofs.Picks.{shut}
 
 -- a lexeme of a kind
@@ -65,3 +65,22 @@ begins-rest after k = record {
   whole = refl;
   stands = (tt, (refl, (refl, ((shut a_postfix after k, tt), tt))));
 }
+
+-- some type
+abbrev pub some-type : (after : List Lexeme) → IsClosing after → Some-tree a_type after
+some-type after k = (
+  node applied_first (tree (node named_type (leaf (mark Ident) (tree (node no_postfix done) done))) (tree (node no_arrow done) done)),
+  (tt, ((tt, (refl, ((shut a_postfix after k, tt), tt))), ((shut an_arrow after k, tt), tt))),
+)
+
+-- some term without infix, and of each level
+abbrev pub some-unary : (after : List Lexeme) → IsClosing after → Some-tree a_unary after
+some-unary after k = (
+  node plain (tree (node typed_term (tree (node identifier_atom (leaf (mark Ident) done)) (tree (node no_argument done) (tree (node no_annotation done) done)))) done),
+  (tt, ((tt, ((tt, (refl, tt)), ((shut an_arguments after k, tt), ((shut an_annotation after k, tt), tt)))), tt)),
+)
+
+abbrev pub some-level : (h : ℕ) (after : List Lexeme) → IsClosing after → Some-tree (a_level h) after
+some-level zero after k = let u = some-unary after k in (node level_zero (tree u.0 done), (tt, (u.1, tt)))
+some-level (suc h) after k =
+    let l = some-level h after k in (node level_up (tree l.0 (tree (node no_infix done) done)), (tt, (l.1, ((shut (a_tail h) after k, tt), tt))))

@@ -3,6 +3,7 @@ pub mod Code
 pub mod TypeView
 pub mod VariableView
 pub mod TermView
+pub mod QuotationView
 pub mod Falls
 pub mod Grammar
 pub mod Value

@@ -5,6 +5,8 @@ mod operator;
 mod pre_term;
 mod pre_type;
 mod pre_variable;
+mod quotation;
+mod quotation_reader;
 #[cfg(test)]
 mod tests;
 mod type_reader;
@@ -13,4 +15,6 @@ pub use operator::Operator;
 pub use pre_term::{PreTerm, PreTermNode};
 pub use pre_type::{PreType, PreTypeNode};
 pub use pre_variable::PreVariable;
+pub use quotation::{Quotation, TypeQuotation};
+pub use quotation_reader::read_type_quotation;
 pub use type_reader::read_type;

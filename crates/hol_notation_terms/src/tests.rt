@@ -1,5 +1,8 @@
 //! What copies of types and terms say.
-use crate::{Operator, PreTerm, PreTermNode, PreType, PreTypeNode, PreVariable, read_type};
+use crate::{
+    Operator, PreTerm, PreTermNode, PreType, PreTypeNode, PreVariable, Quotation, TypeQuotation,
+    read_type, read_type_quotation,
+};
 use hol_notation_tokens::{SyntaxError, scan};
 use std::alloc::{AllocError, Global};
 use std::test::Fail;
@@ -193,5 +196,65 @@ fn reads_types_of_many_parts(rt: HostRuntime) -> Result<(), Fail> {
     assert!(rt; is_read(rt.alloc(), list.as_str())?);
     let brackets = repeated(rt.alloc(), "", "(A->", 200, "A")?;
     assert_eq!(rt; type_refused_at(rt.alloc(), brackets.as_str()), Some(801));
+    Ok(())
+}
+
+// The place and the structure of the quotation with which the text begins, and after `|` how many words are left.
+fn type_quoted(alloc: Global, text: &str) -> Result<(usize, String), SyntaxError> {
+    let (words, end) = scan(alloc, text)?;
+    let (quotation, rest) = read_type_quotation(alloc, &words, end)?;
+    let mut spelled = String::new(alloc);
+    spell(8, &quotation.ty, &mut spelled)?;
+    for _ in rest {
+        spelled.push_str("|")?;
+    }
+    Ok((quotation.place, spelled))
+}
+
+#[test]
+fn reads_type_quotations(rt: HostRuntime) -> Result<(), Fail> {
+    let (place, spelled) = type_quoted(rt.alloc(), "  `:A->B list` , x")?;
+    assert_eq!(rt; place, 2);
+    assert_eq!(rt; spelled.as_str(), "{A>list[B;]}||");
+    Ok(())
+}
+
+#[test]
+fn refuses_where_no_type_quotation_goes_on(rt: HostRuntime) {
+    let cases = [
+        ("", 0),
+        (":A", 0),
+        ("`A`", 1),
+        ("`:`", 2),
+        ("`:A", 3),
+        ("`:A = B`", 4),
+    ];
+    for (text, wanted) in cases {
+        let place = match type_quoted(rt.alloc(), text) {
+            Err(SyntaxError::Syntax(place)) => Some(place),
+            _ => None,
+        };
+        assert_eq!(rt; place, Some(wanted), "at {text}");
+    }
+}
+
+#[test]
+fn copies_quotations(rt: HostRuntime) -> Result<(), Fail> {
+    let term = term_named(rt.alloc(), "p")?;
+    let copied = Quotation { place: 3, term }.copy()?;
+    assert_eq!(rt; copied.place, 3);
+    match copied.term.node() {
+        PreTermNode::Ident(name) => assert_eq!(rt; name.as_str(), "p"),
+        _ => assert!(rt; false),
+    }
+    Ok(())
+}
+
+#[test]
+fn copies_type_quotations(rt: HostRuntime) -> Result<(), Fail> {
+    let ty = type_named(rt.alloc(), "A")?;
+    let copied = TypeQuotation { place: 3, ty }.copy()?;
+    assert_eq!(rt; copied.place, 3);
+    assert!(rt; is_type_named(&copied.ty, "A"));
     Ok(())
 }
