@@ -3,3 +3,5 @@ pub mod Certain
 pub mod Some
 pub mod TypeSteps
 pub mod QuotationSteps
+pub mod TermSteps
+pub mod Inside

@@ -1,17 +1,13 @@
 -- The production that the next tokens pick.
-use Rattle.std.proofs.Common.{◌≡◌, Bool, true, false, IsTrue, ◌||◌, cond, ℕ, zero, suc, List, [], ◌∷◌, refl, ap, ◌∙◌, sym, subst, Option, Some, None}
+use Rattle.std.proofs.Common.{◌≡◌, Bool, true, false, IsTrue, ◌||◌, cond, ℕ, zero, suc, List, [], ◌∷◌, ◌++◌, refl, ap, ◌∙◌, sym, subst, Option, Some, None}
 use Rattle.std.proofs.lemmas.Bool.{false≢true}
 use Rattle.hol_notation_tokens.specs.declared.token.Kind.{Kind}
-use Rattle.hol_notation_tokens.specs.declared.token.Kind.TheVariants.{Ident, Iff, Implies, Or, And, Arrow, ExistsUnique, Equals, Not, Lambda, ForAll, Exists, Choice, Open, Close, Dot, Colon, Comma}
+use Rattle.hol_notation_tokens.specs.declared.token.Kind.TheVariants.{Ident, Iff, Implies, Or, And, Arrow, ExistsUnique, Equals, Not, Lambda, ForAll, Exists, Choice, Open, Close, CloseList, Dot, Colon, Comma, Semicolon, Backquote}
 use Rattle.hol_notation_tokens.specs.Lexeme.{Lexeme}
 use Rattle.hol_notation_grammar.specs.Terminal.{IsNotNext, SameNext, next_kind, is_binder, is_infix, is_operator}
 use Rattle.hol_notation_grammar.specs.Syntax.{Tree, node, Trees, done, leaf, tree, then, all_then, Stands}
-use Rattle.hol_notation_terms.specs.Grammar.{Nonterminal, Production, parts, term_grammar, infix_at, is_infix_at, opens, closes, IsClosing, a_type, an_arrow, an_applied_type, a_type_list, a_type_rest, a_postfix, a_level, a_tail, a_unary, a_typed, an_arguments, an_annotation, an_atom, an_inside, a_bound, an_after_name, an_after_bound, a_quotation, a_type_quotation, applied_first, no_arrow, to_type, named_type, listed_type, one_type, two_types, more_type, last_type, no_postfix, postfix_name, level_zero, level_up, no_infix, infixed, negation, binding, plain, typed_term, no_argument, argument, no_annotation, annotated, identifier_atom, parenthesised, operator_alone, inner, named_bound, typed_bound, last_typed, name_body, name_more, bound_body, bound_more, quoted, type_quoted}
-
--- whether the next token opens an optional part
-abbrev pub next_opens : Nonterminal → List Lexeme → Bool
-next_opens n [] = false
-next_opens n (x ∷ rest) = opens n x.kind
+use Rattle.hol_notation_terms.specs.Next.{next_opens}
+use Rattle.hol_notation_terms.specs.Grammar.{Nonterminal, Production, parts, term_grammar, infix_at, is_infix_at, opens, closes, closes_type, closing, Closes, a_type, an_arrow, an_applied_type, a_type_list, a_type_rest, a_postfix, a_level, a_tail, a_unary, a_typed, an_arguments, an_annotation, an_atom, an_inside, a_closed, a_bound, a_variable, an_ascription, an_after_name, an_after_bound, a_quotation, a_type_quotation, a_definition, a_parameters, a_right_side, an_equation, applied_first, no_arrow, to_type, named_type, listed_type, one_type, two_types, more_type, last_type, no_postfix, postfix_name, level_zero, level_up, no_infix, infixed, negation, binding, plain, typed_term, no_argument, argument, no_annotation, annotated, identifier_atom, parenthesised, operator_alone, inner, closed_term, named_bound, typed_bound, typed_variable, ascription, last_typed, name_alone, bound_body, bound_more, quoted, type_quoted, defined, named_parameter, typed_parameter, no_parameter, typed_side, plain_side, equals_side, iff_side}
 
 -- by the kind of the next token
 abbrev pub choose_applied : Option Kind → Option (Production an_applied_type)
@@ -45,17 +41,29 @@ choose_atom _ = None
 
 abbrev pub choose_bound : Option Kind → Option (Production a_bound)
 choose_bound (Some Ident) = Some named_bound
-choose_bound (Some Open) = Some typed_bound
-choose_bound _ = None
+choose_bound _ = Some typed_bound
 
 abbrev pub choose_after_name : Option Kind → Option (Production an_after_name)
 choose_after_name (Some Colon) = Some last_typed
-choose_after_name (Some Dot) = Some name_body
-choose_after_name _ = Some name_more
+choose_after_name _ = Some name_alone
 
 abbrev pub choose_after_bound : Option Kind → Option (Production an_after_bound)
 choose_after_bound (Some Dot) = Some bound_body
 choose_after_bound _ = Some bound_more
+
+abbrev pub choose_parameter : (names : List (List ℕ)) → Option Kind → Option (Production (a_parameters names))
+choose_parameter names (Some Ident) = Some named_parameter
+choose_parameter names (Some Open) = Some typed_parameter
+choose_parameter names _ = Some no_parameter
+
+abbrev pub choose_side : Option Kind → Option (Production a_right_side)
+choose_side (Some Colon) = Some typed_side
+choose_side _ = Some plain_side
+
+abbrev pub choose_equation : Option Kind → Option (Production an_equation)
+choose_equation (Some Equals) = Some equals_side
+choose_equation (Some Iff) = Some iff_side
+choose_equation _ = None
 
 abbrev pub closes_next : Option Kind → Bool
 closes_next (Some Close) = true
@@ -85,11 +93,18 @@ pick an_arguments words = cond (next_opens an_arguments words) (Some argument) (
 pick an_annotation words = cond (next_opens an_annotation words) (Some annotated) (Some no_annotation)
 pick an_atom words = choose_atom (next_kind words)
 pick an_inside words = pick_inside words
+pick a_closed words = Some closed_term
+pick a_variable words = Some typed_variable
+pick an_ascription words = Some ascription
 pick a_bound words = choose_bound (next_kind words)
 pick an_after_name words = choose_after_name (next_kind words)
 pick an_after_bound words = choose_after_bound (next_kind words)
 pick a_quotation words = Some quoted
 pick a_type_quotation words = Some type_quoted
+pick a_definition words = Some defined
+pick (a_parameters names) words = choose_parameter names (next_kind words)
+pick a_right_side words = choose_side (next_kind words)
+pick an_equation words = choose_equation (next_kind words)
 
 pub kind-same : (u w : List Lexeme) → SameNext u w → next_kind u ≡ next_kind w
 kind-same [] [] h = refl
@@ -124,11 +139,18 @@ looks an_arguments m u w h = ap (λ (b : Bool). cond b (Some argument) (Some no_
 looks an_annotation m u w h = ap (λ (b : Bool). cond b (Some annotated) (Some no_annotation)) (opens-same an_annotation u w h)
 looks an_atom m u w h = ap choose_atom (kind-same u w h)
 looks an_inside m u w h = absurd m
+looks a_closed m u w h = refl
+looks a_variable m u w h = refl
+looks an_ascription m u w h = refl
 looks a_bound m u w h = ap choose_bound (kind-same u w h)
 looks an_after_name m u w h = ap choose_after_name (kind-same u w h)
 looks an_after_bound m u w h = ap choose_after_bound (kind-same u w h)
 looks a_quotation m u w h = refl
 looks a_type_quotation m u w h = refl
+looks a_definition m u w h = refl
+looks (a_parameters names) m u w h = ap (choose_parameter names) (kind-same u w h)
+looks a_right_side m u w h = ap choose_side (kind-same u w h)
+looks an_equation m u w h = ap choose_equation (kind-same u w h)
 
 not-true : (b : Bool) → (IsTrue b → ⊥) → b ≡ false
 not-true true h = absurd (h refl)
@@ -166,9 +188,12 @@ atom-opens (node parenthesised (leaf x (tree t done))) w s = subst (λ (k : Kind
 typed-opens : (t : Tree term_grammar a_typed) (w : List Lexeme) → Stands t w → IsAtomKind (next_kind (then t w))
 typed-opens (node typed_term (tree a (tree xs (tree n done)))) w s = atom-opens a (then xs (then n w)) s.1.0
 
+variable-opens : (v : Tree term_grammar a_variable) (w : List Lexeme) → Stands v w → next_kind (then v w) ≡ Some Open
+variable-opens (node typed_variable (leaf x ts)) w s = ap (λ (k : Kind). Some k) s.1.0
+
 bound-opens : (b : Tree term_grammar a_bound) (w : List Lexeme) → Stands b w → IsAtomKind (next_kind (then b w))
 bound-opens (node named_bound (leaf x ts)) w s = subst (λ (k : Kind). IsAtomKind (Some k)) (sym s.1.0) tt
-bound-opens (node typed_bound (leaf x ts)) w s = subst (λ (k : Kind). IsAtomKind (Some k)) (sym s.1.0) tt
+bound-opens (node typed_bound (tree v (tree r done))) w s = subst IsAtomKind (sym (variable-opens v (then r w) s.1.0)) tt
 
 -- the next kind opens a term below the infixes
 abbrev IsUnaryKind : Option Kind → Type 0
@@ -218,10 +243,14 @@ atom-argument (x ∷ rest) h = go x.kind h
     go Open h = refl
     go _ h = absurd h
 
-atom-more : (k : Option Kind) → IsAtomKind k → choose_after_name k ≡ Some name_more
+atom-more : (k : Option Kind) → IsAtomKind k → choose_after_name k ≡ Some name_alone
 atom-more (Some Ident) h = refl
 atom-more (Some Open) h = refl
 atom-more _ h = absurd h
+
+after-bound-more : (r : Tree term_grammar an_after_bound) (w : List Lexeme) → Stands r w → choose_after_name (next_kind (then r w)) ≡ Some name_alone
+after-bound-more (node bound_body (leaf x ts)) w s = ap (λ (k : Kind). choose_after_name (Some k)) s.1.0
+after-bound-more (node bound_more (tree b done)) w s = atom-more _ (bound-opens b w s.1.0)
 
 atom-bound_more : (k : Option Kind) → IsAtomKind k → choose_after_bound k ≡ Some bound_more
 atom-bound_more (Some Ident) h = refl
@@ -268,6 +297,40 @@ operator-picked k c h e =
     ∙ ap (λ (b : Bool). cond (is_infix k || b) (Some operator_alone) (Some inner)) e
     ∙ ap (λ (b : Bool). cond b (Some operator_alone) (Some inner)) (or-true (is_infix k))
 
+-- the next kind opens the right side of a definition
+abbrev IsEquationKind : Option Kind → Type 0
+IsEquationKind (Some Equals) = Unit {0}
+IsEquationKind (Some Iff) = Unit {0}
+IsEquationKind _ = ⊥
+
+abbrev IsSideKind : Option Kind → Type 0
+IsSideKind (Some Colon) = Unit {0}
+IsSideKind k = IsEquationKind k
+
+equation-opens : (e : Tree term_grammar an_equation) (w : List Lexeme) → Stands e w → IsEquationKind (next_kind (then e w))
+equation-opens (node equals_side (leaf x ts)) w s = subst (λ (k : Kind). IsEquationKind (Some k)) (sym s.1.0) tt
+equation-opens (node iff_side (leaf x ts)) w s = subst (λ (k : Kind). IsEquationKind (Some k)) (sym s.1.0) tt
+
+equation-plain : (k : Option Kind) → IsEquationKind k → choose_side k ≡ Some plain_side
+equation-plain (Some Equals) h = refl
+equation-plain (Some Iff) h = refl
+equation-plain _ h = absurd h
+
+equation-side : (k : Option Kind) → IsEquationKind k → IsSideKind k
+equation-side (Some Equals) h = tt
+equation-side (Some Iff) h = tt
+equation-side _ h = absurd h
+
+side-opens : (r : Tree term_grammar a_right_side) (w : List Lexeme) → Stands r w → IsSideKind (next_kind (then r w))
+side-opens (node typed_side (leaf x ts)) w s = subst (λ (k : Kind). IsSideKind (Some k)) (sym s.1.0) tt
+side-opens (node plain_side (tree e done)) w s = equation-side _ (equation-opens e w s.1.0)
+
+side-alone : (names : List (List ℕ)) (k : Option Kind) → IsSideKind k → choose_parameter names k ≡ Some no_parameter
+side-alone names (Some Colon) h = refl
+side-alone names (Some Equals) h = refl
+side-alone names (Some Iff) h = refl
+side-alone names _ h = absurd h
+
 -- what is written is picked
 pub picks : {n : Nonterminal} (p : Production n) (ts : Trees term_grammar (parts p)) (rest : List Lexeme) → Stands {G = term_grammar} (node p ts) rest → pick n (all_then ts rest) ≡ Some p
 picks applied_first ts rest s = refl
@@ -296,26 +359,36 @@ picks annotated (leaf x ts) rest s = ap (λ (k : Kind). cond (opens an_annotatio
 picks identifier_atom (leaf x ts) rest s = ap (λ (k : Kind). choose_atom (Some k)) s.1.0
 picks parenthesised (leaf x ts) rest s = ap (λ (k : Kind). choose_atom (Some k)) s.1.0
 picks operator_alone (leaf x (leaf y done)) rest s = operator-picked x.kind (closes_next (Some y.kind)) s.1.0 (ap (λ (k : Kind). closes_next (Some k)) s.1.1.0)
-picks inner (tree t (leaf y done)) rest s = level-inner t (y ∷ rest) s.1.0
+picks inner (tree (node closed_term (tree t (leaf y done))) done) rest s = level-inner t (y ∷ rest) s.1.0.1.0
+picks closed_term ts rest s = refl
 picks named_bound (leaf x ts) rest s = ap (λ (k : Kind). choose_bound (Some k)) s.1.0
-picks typed_bound (leaf x ts) rest s = ap (λ (k : Kind). choose_bound (Some k)) s.1.0
+picks typed_bound (tree v (tree r done)) rest s = ap choose_bound (variable-opens v (then r rest) s.1.0)
+picks typed_variable ts rest s = refl
+picks ascription ts rest s = refl
 picks last_typed (leaf x ts) rest s = ap (λ (k : Kind). choose_after_name (Some k)) s.1.0
-picks name_body (leaf x ts) rest s = ap (λ (k : Kind). choose_after_name (Some k)) s.1.0
-picks name_more (tree b done) rest s = atom-more _ (bound-opens b rest s.1.0)
+picks name_alone (tree r done) rest s = after-bound-more r rest s.1.0
 picks bound_body (leaf x ts) rest s = ap (λ (k : Kind). choose_after_bound (Some k)) s.1.0
 picks bound_more (tree b done) rest s = atom-bound_more _ (bound-opens b rest s.1.0)
 picks quoted ts rest s = refl
 picks type_quoted ts rest s = refl
+picks defined ts rest s = refl
+picks (named_parameter {names}) (leaf x ts) rest s = ap (λ (k : Kind). choose_parameter names (Some k)) s.1.0.0
+picks (typed_parameter {names}) (leaf x ts) rest s = ap (λ (k : Kind). choose_parameter names (Some k)) s.1.0
+picks (no_parameter {names}) (tree r done) rest s = side-alone names _ (side-opens r rest s.1.0)
+picks typed_side (leaf x ts) rest s = ap (λ (k : Kind). choose_side (Some k)) s.1.0
+picks plain_side (tree e done) rest s = equation-plain _ (equation-opens e rest s.1.0)
+picks equals_side (leaf x ts) rest s = ap (λ (k : Kind). choose_equation (Some k)) s.1.0
+picks iff_side (leaf x ts) rest s = ap (λ (k : Kind). choose_equation (Some k)) s.1.0
 
-closed-shut : (n : Nonterminal) (k : Kind) → IsTrue (closes k) → opens n k ≡ false
+closed-shut : (n : Nonterminal) (k : Kind) → IsTrue (closing n k) → opens n k ≡ false
 closed-shut an_arrow k h = go k h
   where
-    go : (k : Kind) → IsTrue (closes k) → opens an_arrow k ≡ false
+    go : (k : Kind) → IsTrue (closes_type k) → opens an_arrow k ≡ false
     go Arrow h = absurd (false≢true h)
     go _ h = refl
 closed-shut a_postfix k h = go k h
   where
-    go : (k : Kind) → IsTrue (closes k) → opens a_postfix k ≡ false
+    go : (k : Kind) → IsTrue (closes_type k) → opens a_postfix k ≡ false
     go Ident h = absurd (false≢true h)
     go _ h = refl
 closed-shut (a_tail n) k h = go n k h
@@ -340,6 +413,6 @@ closed-shut an_annotation k h = go k h
     go _ h = refl
 closed-shut _ k h = refl
 
-pub shut : (n : Nonterminal) (after : List Lexeme) → IsClosing after → IsNotNext (λ x. IsTrue (opens n x.kind)) after
+pub shut : (n : Nonterminal) (after : List Lexeme) → Closes n after → IsNotNext (λ x. IsTrue (opens n x.kind)) after
 shut n [] k = tt
 shut n (x ∷ after) k = λ o. false≢true (sym (closed-shut n x.kind k) ∙ o)

@@ -6,7 +6,7 @@ use Rattle.hol_notation_tokens.specs.Lexeme.{Lexeme}
 use Rattle.hol_notation_grammar.specs.Syntax.{nothing, part, Tree, node, done, leaf, tree, Stands}
 use Rattle.hol_notation_grammar.specs.Reading.{Begins}
 use Rattle.hol_notation_grammar.proofs.Steps.{Fits}
-use Rattle.hol_notation_terms.specs.Grammar.{Nonterminal, term_grammar, IsClosing, a_type, an_arrow, an_applied_type, a_type_list, a_type_rest, a_postfix, a_level, a_tail, a_unary, an_arguments, an_annotation, applied_first, no_arrow, named_type, one_type, last_type, no_postfix, level_zero, level_up, no_infix, plain, typed_term, no_argument, no_annotation, identifier_atom}
+use Rattle.hol_notation_terms.specs.Grammar.{Nonterminal, term_grammar, Closes, closing, a_type, a_term, an_arrow, an_applied_type, a_type_list, a_type_rest, a_postfix, a_level, a_tail, a_unary, an_arguments, an_annotation, applied_first, no_arrow, named_type, one_type, last_type, no_postfix, level_zero, level_up, no_infix, plain, typed_term, no_argument, no_annotation, identifier_atom}
 use Rattle.hol_notation_terms.proofs.Picks.{shut}
 
 -- a lexeme of a kind
@@ -16,33 +16,37 @@ mark k = record { kind = k; text = codes "x"; place = 0 }
 abbrev pub Some-tree : Nonterminal → List Lexeme → Type 0
 Some-tree n after = (t : Tree term_grammar n) × Stands t after
 
-pub some-postfix : (after : List Lexeme) → IsClosing after → Some-tree a_postfix after
+pub some-postfix : (after : List Lexeme) → Closes a_postfix after → Some-tree a_postfix after
 some-postfix after k = (node no_postfix done, (shut a_postfix after k, tt))
 
-pub some-arrow : (after : List Lexeme) → IsClosing after → Some-tree an_arrow after
+pub some-arrow : (after : List Lexeme) → Closes an_arrow after → Some-tree an_arrow after
 some-arrow after k = (node no_arrow done, (shut an_arrow after k, tt))
 
-pub fit-nothing : (n m : Nonterminal) → Fits term_grammar n m nothing
-fit-nothing n m after k = record { written = done; stands = tt; closes = k }
+-- what closes a part closes another
+abbrev pub ClosesToo : Nonterminal → Nonterminal → Type 0
+ClosesToo n m = (after : List Lexeme) → Closes n after → Closes m after
 
-pub fit-arrow : (n m : Nonterminal) → Fits term_grammar n m (part an_arrow nothing)
-fit-arrow n m after k = record { written = tree (node no_arrow done) done; stands = ((shut an_arrow after k, tt), tt); closes = k }
+pub fit-nothing : (n m : Nonterminal) → ClosesToo n m → Fits term_grammar n m nothing
+fit-nothing n m f after k = record { written = done; stands = tt; closes = f after k }
 
-pub fit-list : (n m : Nonterminal) → Fits term_grammar n m (part a_type_list nothing)
-fit-list n m after k = record {
+pub fit-arrow : Fits term_grammar a_type an_applied_type (part an_arrow nothing)
+fit-arrow after k = record { written = tree (node no_arrow done) done; stands = ((shut an_arrow after k, tt), tt); closes = k }
+
+pub fit-list : Fits term_grammar an_applied_type a_type (part a_type_list nothing)
+fit-list after k = record {
   written = tree (node one_type (leaf (mark Close) (tree (node no_postfix done) done))) done;
   stands = ((tt, (refl, ((shut a_postfix after k, tt), tt))), tt);
   closes = refl;
 }
 
-pub fit-rest : (n m : Nonterminal) → Fits term_grammar n m (part a_type_rest nothing)
-fit-rest n m after k = record {
+pub fit-rest : (n : Nonterminal) → ClosesToo n a_postfix → Fits term_grammar n a_type (part a_type_rest nothing)
+fit-rest n f after k = record {
   written = tree (node last_type (leaf (mark Close) (leaf (mark Ident) (tree (node no_postfix done) done)))) done;
-  stands = ((tt, (refl, (refl, ((shut a_postfix after k, tt), tt)))), tt);
+  stands = ((tt, (refl, (refl, ((shut a_postfix after (f after k), tt), tt)))), tt);
   closes = refl;
 }
 
-pub begins-applied : (after : List Lexeme) → IsClosing after → Begins term_grammar an_applied_type [] after
+pub begins-applied : (after : List Lexeme) → Closes a_type after → Begins term_grammar an_applied_type [] after
 begins-applied after k = record {
   written = node named_type (leaf (mark Ident) (tree (node no_postfix done) done));
   more = mark Ident ∷ after;
@@ -50,7 +54,7 @@ begins-applied after k = record {
   stands = (tt, (refl, ((shut a_postfix after k, tt), tt)));
 }
 
-pub begins-list : (after : List Lexeme) → IsClosing after → Begins term_grammar a_type_list [] after
+pub begins-list : (after : List Lexeme) → Closes a_type after → Begins term_grammar a_type_list [] after
 begins-list after k = record {
   written = node one_type (leaf (mark Close) (tree (node no_postfix done) done));
   more = mark Close ∷ after;
@@ -58,7 +62,7 @@ begins-list after k = record {
   stands = (tt, (refl, ((shut a_postfix after k, tt), tt)));
 }
 
-pub begins-rest : (after : List Lexeme) → IsClosing after → Begins term_grammar a_type_rest [] after
+pub begins-rest : (after : List Lexeme) → Closes a_type after → Begins term_grammar a_type_rest [] after
 begins-rest after k = record {
   written = node last_type (leaf (mark Close) (leaf (mark Ident) (tree (node no_postfix done) done)));
   more = mark Close ∷ mark Ident ∷ after;
@@ -67,20 +71,20 @@ begins-rest after k = record {
 }
 
 -- some type
-abbrev pub some-type : (after : List Lexeme) → IsClosing after → Some-tree a_type after
+abbrev pub some-type : (after : List Lexeme) → Closes a_type after → Some-tree a_type after
 some-type after k = (
   node applied_first (tree (node named_type (leaf (mark Ident) (tree (node no_postfix done) done))) (tree (node no_arrow done) done)),
   (tt, ((tt, (refl, ((shut a_postfix after k, tt), tt))), ((shut an_arrow after k, tt), tt))),
 )
 
 -- some term without infix, and of each level
-abbrev pub some-unary : (after : List Lexeme) → IsClosing after → Some-tree a_unary after
+abbrev pub some-unary : (after : List Lexeme) → Closes a_term after → Some-tree a_unary after
 some-unary after k = (
   node plain (tree (node typed_term (tree (node identifier_atom (leaf (mark Ident) done)) (tree (node no_argument done) (tree (node no_annotation done) done)))) done),
   (tt, ((tt, ((tt, (refl, tt)), ((shut an_arguments after k, tt), ((shut an_annotation after k, tt), tt)))), tt)),
 )
 
-abbrev pub some-level : (h : ℕ) (after : List Lexeme) → IsClosing after → Some-tree (a_level h) after
+abbrev pub some-level : (h : ℕ) (after : List Lexeme) → Closes a_term after → Some-tree (a_level h) after
 some-level zero after k = let u = some-unary after k in (node level_zero (tree u.0 done), (tt, (u.1, tt)))
 some-level (suc h) after k =
     let l = some-level h after k in (node level_up (tree l.0 (tree (node no_infix done) done)), (tt, (l.1, ((shut (a_tail h) after k, tt), tt))))

@@ -15,7 +15,7 @@ use Rattle.hol_notation_terms.specs.Text.{TypeText, Ident, Arrow, Apply, no_type
 use Rattle.hol_notation_terms.specs.Grammar.{Nonterminal, term_grammar, opens, a_type, an_arrow, an_applied_type, a_type_list, a_type_rest, a_postfix, applied_first, no_arrow, to_type, named_type, listed_type, one_type, two_types, more_type, last_type, no_postfix, postfix_name}
 use Rattle.hol_notation_terms.specs.Value.{type_value, applied_value, type_list_value, type_rest_value, postfix_value}
 use Rattle.hol_notation_terms.proofs.Picks.{pick, looks, choose_applied, choose_list, choose_rest, shut}
-use Rattle.hol_notation_terms.proofs.Certain.{certain}
+use Rattle.hol_notation_terms.proofs.Certain.{certain, same_type}
 use Rattle.hol_notation_terms.proofs.Some.{mark, fit-nothing, fit-arrow, fit-list, fit-rest, begins-applied, begins-list, begins-rest}
 
 abbrev pub IsFound : {n : Nonterminal} {V : Type 0} → (Tree term_grammar n → V) → List Lexeme → V → List Lexeme → Type 0
@@ -41,17 +41,17 @@ postfix-open _ h = absurd (false≢true h)
 pub type-first : (end : ℕ) (words : List Lexeme) (e : SyntaxError) → Failing an_applied_type end words e → Failing a_type end words e
 type-first end words e h =
     fails-node certain a_type applied_first end words e (looks a_type tt) refl
-    (fails-part certain a_type an_applied_type (part an_arrow nothing) end words e (fit-arrow a_type an_applied_type) h)
+    (fails-part certain a_type an_applied_type (part an_arrow nothing) end words e fit-arrow h)
 
 pub type-second : (end : ℕ) (words rest after : List Lexeme) (e : SyntaxError) (v : TypeText) (x : Lexeme)
     → IsFound applied_value words v rest → Taken (Is (sign ArrowKind)) rest x after → Failing a_type end after e → Failing a_type end words e
 type-second end words rest after e v x f t h =
     fails-node certain a_type applied_first end words e (looks a_type tt) refl
-    (fails-after certain a_type an_applied_type (part an_arrow nothing) end words rest e f.written (fit-arrow a_type an_applied_type) f.stands f.whole
-    (fails-part certain a_type an_arrow nothing end rest e (fit-nothing a_type an_arrow)
+    (fails-after certain a_type an_applied_type (part an_arrow nothing) end words rest e f.written fit-arrow f.stands f.whole
+    (fails-part certain a_type an_arrow nothing end rest e (fit-nothing a_type an_arrow same_type)
     (fails-node certain an_arrow to_type end rest e (looks an_arrow tt) (ap (pick an_arrow) t.whole ∙ ap (λ (k : Kind). cond (opens an_arrow k) (Some to_type) (Some no_arrow)) t.is)
     (fails-behind term_grammar an_arrow (sign ArrowKind) (λ _. part a_type nothing) end rest after e x t.is t.whole
-    (fails-part certain an_arrow a_type nothing end after e (fit-nothing an_arrow a_type) h)))))
+    (fails-part certain an_arrow a_type nothing end after e (fit-nothing an_arrow a_type same_type) h)))))
 
 pub type-arrow : (words rest after later : List Lexeme) (v w : TypeText) (x : Lexeme)
     → IsFound applied_value words v rest → Taken (Is (sign ArrowKind)) rest x after → IsFound type_value after w later → IsFound type_value words (Arrow v w) later
@@ -95,15 +95,15 @@ pub applied-first : (end : ℕ) (words inside : List Lexeme) (e : SyntaxError) (
 applied-first end words inside e x t h =
     fails-node certain an_applied_type listed_type end words e (looks an_applied_type tt) (picks-open x t)
     (fails-behind term_grammar an_applied_type (sign Open) (λ _. part a_type (part a_type_list nothing)) end words inside e x t.is t.whole
-    (fails-part certain an_applied_type a_type (part a_type_list nothing) end inside e (fit-list an_applied_type a_type) h))
+    (fails-part certain an_applied_type a_type (part a_type_list nothing) end inside e fit-list h))
 
 pub applied-list : (end : ℕ) (words inside rest : List Lexeme) (e : SyntaxError) (x : Lexeme) (v : TypeText) → Taken (Is (sign Open)) words x inside → IsFound type_value inside v rest
     → Failing a_type_list end rest e → Failing an_applied_type end words e
 applied-list end words inside rest e x v t f h =
     fails-node certain an_applied_type listed_type end words e (looks an_applied_type tt) (picks-open x t)
     (fails-behind term_grammar an_applied_type (sign Open) (λ _. part a_type (part a_type_list nothing)) end words inside e x t.is t.whole
-    (fails-after certain an_applied_type a_type (part a_type_list nothing) end inside rest e f.written (fit-list an_applied_type a_type) f.stands f.whole
-    (fails-part certain an_applied_type a_type_list nothing end rest e (fit-nothing an_applied_type a_type_list) h)))
+    (fails-after certain an_applied_type a_type (part a_type_list nothing) end inside rest e f.written fit-list f.stands f.whole
+    (fails-part certain an_applied_type a_type_list nothing end rest e (fit-nothing an_applied_type a_type_list same_type) h)))
 
 pub applied-named : (words rest later : List Lexeme) (x : Lexeme) (v w : TypeText) → Taken (Is identifier) words x rest → v ≡ Ident x.text
     → IsFound (λ p. postfix_value p v) rest w later → IsFound applied_value words w later
@@ -145,15 +145,15 @@ pub list-second : (end : ℕ) (words after : List Lexeme) (e : SyntaxError) (x :
 list-second end words after e x t h =
     fails-node certain a_type_list two_types end words e (looks a_type_list tt) (picks-comma x t)
     (fails-behind term_grammar a_type_list (sign Comma) (λ _. part a_type (part a_type_rest nothing)) end words after e x t.is t.whole
-    (fails-part certain a_type_list a_type (part a_type_rest nothing) end after e (fit-rest a_type_list a_type) h))
+    (fails-part certain a_type_list a_type (part a_type_rest nothing) end after e (fit-rest a_type_list same_type) h))
 
 pub list-rest : (end : ℕ) (words after rest : List Lexeme) (e : SyntaxError) (x : Lexeme) (v : TypeText) → Taken (Is (sign Comma)) words x after → IsFound type_value after v rest
     → Failing a_type_rest end rest e → Failing a_type_list end words e
 list-rest end words after rest e x v t f h =
     fails-node certain a_type_list two_types end words e (looks a_type_list tt) (picks-comma x t)
     (fails-behind term_grammar a_type_list (sign Comma) (λ _. part a_type (part a_type_rest nothing)) end words after e x t.is t.whole
-    (fails-after certain a_type_list a_type (part a_type_rest nothing) end after rest e f.written (fit-rest a_type_list a_type) f.stands f.whole
-    (fails-part certain a_type_list a_type_rest nothing end rest e (fit-nothing a_type_list a_type_rest) h)))
+    (fails-after certain a_type_list a_type (part a_type_rest nothing) end after rest e f.written (fit-rest a_type_list same_type) f.stands f.whole
+    (fails-part certain a_type_list a_type_rest nothing end rest e (fit-nothing a_type_list a_type_rest same_type) h)))
 
 pub list-one : (words rest later : List Lexeme) (x : Lexeme) (v w : TypeText) → Taken (Is (sign Close)) words x rest → IsFound (λ p. postfix_value p v) rest w later
     → IsFound (λ l. type_list_value l v) words w later
@@ -202,15 +202,15 @@ pub rest-first : (end : ℕ) (words after : List Lexeme) (e : SyntaxError) (x : 
 rest-first end words after e x t h =
     fails-node certain a_type_rest more_type end words e (looks a_type_rest tt) (picks-more x t)
     (fails-behind term_grammar a_type_rest (sign Comma) (λ _. part a_type (part a_type_rest nothing)) end words after e x t.is t.whole
-    (fails-part certain a_type_rest a_type (part a_type_rest nothing) end after e (fit-rest a_type_rest a_type) h))
+    (fails-part certain a_type_rest a_type (part a_type_rest nothing) end after e (fit-rest a_type_rest same_type) h))
 
 pub rest-second : (end : ℕ) (words after rest : List Lexeme) (e : SyntaxError) (x : Lexeme) (v : TypeText) → Taken (Is (sign Comma)) words x after → IsFound type_value after v rest
     → Failing a_type_rest end rest e → Failing a_type_rest end words e
 rest-second end words after rest e x v t f h =
     fails-node certain a_type_rest more_type end words e (looks a_type_rest tt) (picks-more x t)
     (fails-behind term_grammar a_type_rest (sign Comma) (λ _. part a_type (part a_type_rest nothing)) end words after e x t.is t.whole
-    (fails-after certain a_type_rest a_type (part a_type_rest nothing) end after rest e f.written (fit-rest a_type_rest a_type) f.stands f.whole
-    (fails-part certain a_type_rest a_type_rest nothing end rest e (fit-nothing a_type_rest a_type_rest) h)))
+    (fails-after certain a_type_rest a_type (part a_type_rest nothing) end after rest e f.written (fit-rest a_type_rest same_type) f.stands f.whole
+    (fails-part certain a_type_rest a_type_rest nothing end rest e (fit-nothing a_type_rest a_type_rest same_type) h)))
 
 pub rest-more : (words after rest later : List Lexeme) (x : Lexeme) (v w : TypeText) (ts us : List TypeText) → Taken (Is (sign Comma)) words x after → IsFound type_value after v rest
     → us ≡ ts ++ v ∷ [] → IsFound (λ r. type_rest_value r us) rest w later → IsFound (λ r. type_rest_value r ts) words w later

@@ -4,6 +4,9 @@ pub mod TypeView
 pub mod VariableView
 pub mod TermView
 pub mod QuotationView
+pub mod DefinitionView
 pub mod Falls
 pub mod Grammar
 pub mod Value
+pub mod Next
+pub mod Inside

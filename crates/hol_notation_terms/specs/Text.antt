@@ -1,7 +1,7 @@
 -- Types and terms as they are written, before names are resolved. Names are lists of bytes.
 -- Source: this project, after HOL Light's preterms, where an infix is its constant applied to both sides, and a binder its
 -- constant applied to an abstraction.
-use Rattle.std.specs.Prelude.{ℕ, ◌+◌, List, [], ◌∷◌, Option}
+use Rattle.std.specs.Prelude.{Bool, ℕ, ◌+◌, List, [], ◌∷◌, Option}
 use Rattle.hol_notation_terms.specs.declared.operator.Operator.{Operator}
 
 mutual
@@ -40,6 +40,19 @@ pub record QuotationText : Type 0 where
 pub record TypeQuotationText : Type 0 where
   pub place : ℕ
   pub ty : TypeText
+
+-- what a constant is defined by: the type that is written for it, whether `<=>` stands before it and not `=`, and the term
+pub record RightSideText : Type 0 where
+  pub annotation : Option TypeText
+  pub is_iff : Bool
+  pub term : TermText
+
+-- a definition: the place of its opening backquote, the constant's name, the parameters, and the right side
+pub record DefinitionText : Type 0 where
+  pub place : ℕ
+  pub name : List ℕ
+  pub parameters : List VariableText
+  pub right : RightSideText
 
 -- the number of nodes
 abbrev mutual

@@ -1,12 +1,12 @@
 -- What is written says: the type, the term, the quotation.
-use Rattle.std.specs.Prelude.{ℕ, List, [], ◌∷◌, ◌++◌, Some, None}
+use Rattle.std.specs.Prelude.{true, false, ℕ, List, [], ◌∷◌, ◌++◌, Option, Some, None}
 use Rattle.hol_notation_tokens.specs.declared.token.Kind.{Kind}
 use Rattle.hol_notation_tokens.specs.declared.token.Kind.TheVariants.{Iff as IffKind, Implies as ImpliesKind, Or as OrKind, And as AndKind, Equals as EqualsKind, Not as NotKind, Lambda, ForAll as ForAllKind, Exists as ExistsKind, ExistsUnique as ExistsUniqueKind}
 use Rattle.hol_notation_grammar.specs.Syntax.{Tree, node, done, leaf, tree}
 use Rattle.hol_notation_terms.specs.declared.operator.Operator.{Operator}
 use Rattle.hol_notation_terms.specs.declared.operator.Operator.TheVariants.{Iff, Implies, Or, And, Equals, Not, ForAll, Exists, ExistsUnique, Choice}
-use Rattle.hol_notation_terms.specs.Text.{TypeText, Ident, Arrow, Apply, no_types, more_types, type_texts, VariableText, TermText, Named, Constant, Applied, Abstraction, Typed, QuotationText, TypeQuotationText}
-use Rattle.hol_notation_terms.specs.Grammar.{term_grammar, infix_at, a_type, an_arrow, an_applied_type, a_type_list, a_type_rest, a_postfix, a_level, a_tail, a_unary, a_typed, an_arguments, an_annotation, an_atom, an_inside, a_bound, an_after_name, an_after_bound, a_quotation, a_type_quotation, applied_first, no_arrow, to_type, named_type, listed_type, one_type, two_types, more_type, last_type, no_postfix, postfix_name, level_zero, level_up, no_infix, infixed, negation, binding, plain, typed_term, no_argument, argument, no_annotation, annotated, identifier_atom, parenthesised, operator_alone, inner, named_bound, typed_bound, last_typed, name_body, name_more, bound_body, bound_more, quoted, type_quoted}
+use Rattle.hol_notation_terms.specs.Text.{TypeText, Ident, Arrow, Apply, no_types, more_types, type_texts, VariableText, TermText, Named, Constant, Applied, Abstraction, Typed, QuotationText, TypeQuotationText, RightSideText, DefinitionText}
+use Rattle.hol_notation_terms.specs.Grammar.{term_grammar, infix_at, a_type, an_arrow, an_applied_type, a_type_list, a_type_rest, a_postfix, a_level, a_tail, a_unary, a_typed, an_arguments, an_annotation, an_atom, an_inside, a_closed, a_bound, a_variable, an_ascription, an_after_name, an_after_bound, a_quotation, a_type_quotation, a_definition, a_parameters, a_right_side, an_equation, applied_first, no_arrow, to_type, named_type, listed_type, one_type, two_types, more_type, last_type, no_postfix, postfix_name, level_zero, level_up, no_infix, infixed, negation, binding, plain, typed_term, no_argument, argument, no_annotation, annotated, identifier_atom, parenthesised, operator_alone, inner, closed_term, named_bound, typed_bound, typed_variable, ascription, last_typed, name_alone, bound_body, bound_more, quoted, type_quoted, defined, named_parameter, typed_parameter, no_parameter, typed_side, plain_side, equals_side, iff_side}
 
 abbrev mutual
   pub type_value : Tree term_grammar a_type → TypeText
@@ -57,6 +57,12 @@ bind k v b = Applied (Constant (operator_of k)) (Abstraction v b)
 abbrev pub infix_value : Kind → TermText → TermText → TermText
 infix_value k l r = Applied (Applied (Constant (operator_of k)) l) r
 
+abbrev pub ascription_value : Tree term_grammar an_ascription → TypeText
+ascription_value (node ascription (leaf c (tree ty (leaf e done)))) = type_value ty
+
+abbrev pub variable_value : Tree term_grammar a_variable → VariableText
+variable_value (node typed_variable (leaf o (leaf x (tree a done)))) = record { name = x.text; annotation = Some (ascription_value a) }
+
 abbrev mutual
   pub level_value : {h : ℕ} → Tree term_grammar (a_level h) → TermText
   level_value (node level_zero (tree t done)) = unary_value t
@@ -91,19 +97,20 @@ abbrev mutual
 
   pub inside_value : Tree term_grammar an_inside → TermText
   inside_value (node operator_alone (leaf x (leaf y done))) = Constant (operator_of x.kind)
-  inside_value (node inner (tree t (leaf x done))) = level_value t
+  inside_value (node inner (tree t done)) = closed_value t
+
+  pub closed_value : Tree term_grammar a_closed → TermText
+  closed_value (node closed_term (tree t (leaf x done))) = level_value t
 
   -- with the binder
   pub bound_value : Tree term_grammar a_bound → Kind → TermText
   bound_value (node named_bound (leaf x (tree r done))) k = after_name_value r k x.text
-  bound_value (node typed_bound (leaf o (leaf x (leaf c (tree ty (leaf e (tree r done))))))) k =
-      bind k (record { name = x.text; annotation = Some (type_value ty) }) (after_bound_value r k)
+  bound_value (node typed_bound (tree v (tree r done))) k = bind k (variable_value v) (after_bound_value r k)
 
   -- with the binder and the variable before it
   pub after_name_value : Tree term_grammar an_after_name → Kind → List ℕ → TermText
   after_name_value (node last_typed (leaf c (tree ty (leaf d (tree b done))))) k x = bind k (record { name = x; annotation = Some (type_value ty) }) (level_value b)
-  after_name_value (node name_body (leaf d (tree b done))) k x = bind k (record { name = x; annotation = None }) (level_value b)
-  after_name_value (node name_more (tree b done)) k x = bind k (record { name = x; annotation = None }) (bound_value b k)
+  after_name_value (node name_alone (tree r done)) k x = bind k (record { name = x; annotation = None }) (after_bound_value r k)
 
   -- with the binder
   pub after_bound_value : Tree term_grammar an_after_bound → Kind → TermText
@@ -115,3 +122,21 @@ quotation_value (node quoted (leaf x (tree t (leaf y done)))) = record { place =
 
 abbrev pub type_quotation_value : Tree term_grammar a_type_quotation → TypeQuotationText
 type_quotation_value (node type_quoted (leaf x (leaf c (tree t (leaf y done))))) = record { place = x.place; ty = type_value t }
+
+abbrev pub equation_value : Tree term_grammar an_equation → Option TypeText → RightSideText
+equation_value (node equals_side (leaf x (tree t (leaf y done)))) a = record { annotation = a; is_iff = false; term = level_value t }
+equation_value (node iff_side (leaf x (tree t (leaf y done)))) a = record { annotation = a; is_iff = true; term = level_value t }
+
+abbrev pub right_side_value : Tree term_grammar a_right_side → RightSideText
+right_side_value (node typed_side (leaf x (tree ty (tree e done)))) = equation_value e (Some (type_value ty))
+right_side_value (node plain_side (tree e done)) = equation_value e None
+
+-- with the parameters before it
+abbrev pub parameters_value : {names : List (List ℕ)} → Tree term_grammar (a_parameters names) → List VariableText → List VariableText × RightSideText
+parameters_value (node named_parameter (leaf x (tree p done))) vs = parameters_value p (vs ++ record { name = x.text; annotation = None } ∷ [])
+parameters_value (node typed_parameter (leaf o (leaf x (tree a (tree p done))))) vs = parameters_value p (vs ++ record { name = x.text; annotation = Some (ascription_value a) } ∷ [])
+parameters_value (node no_parameter (tree r done)) vs = (vs, right_side_value r)
+
+abbrev pub definition_value : Tree term_grammar a_definition → DefinitionText
+definition_value (node defined (leaf b (leaf c (tree p done)))) =
+    record { place = b.place; name = c.text; parameters = (parameters_value p []).0; right = (parameters_value p []).1 }

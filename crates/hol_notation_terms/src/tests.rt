@@ -70,7 +70,7 @@ fn copies_terms(rt: HostRuntime) -> Result<(), Fail> {
 }
 
 // Writes the type with its structure shown, down to so many levels.
-fn spell(levels: usize, ty: &PreType, text: &mut String) -> Result<(), AllocError> {
+pub(crate) fn spell(levels: usize, ty: &PreType, text: &mut String) -> Result<(), AllocError> {
     if levels == 0 {
         return text.push_str("..");
     }
@@ -159,7 +159,7 @@ fn refuses_where_no_type_goes_on(rt: HostRuntime) {
 }
 
 // A part again and again, between a beginning and an end.
-fn repeated(
+pub(crate) fn repeated(
     alloc: Global,
     before: &str,
     part: &str,

@@ -1,0 +1,78 @@
+//! Definitions of constants, as they are written between backquotes.
+ghost use Rattle.std.specs.Prelude.{◌≡◌, IfOk, map};
+ghost use Rattle.hol_notation_terms.specs.VariableView.{variable_text};
+ghost use Rattle.hol_notation_terms.specs.DefinitionView.{right_side_text, definition_text};
+
+use crate::pre_term::PreTerm;
+use crate::pre_type::PreType;
+use crate::pre_variable::PreVariable;
+use std::alloc::{AllocError, Global};
+
+/// What a constant that is applied to its parameters is to be equal to.
+#[derive(Drop)]
+pub struct RightSide {
+    /// The type that is written for it.
+    pub annotation: Option<PreType>,
+    /// Whether `<=>` stands before the term. If not, `=` does.
+    pub is_iff: bool,
+    /// The term.
+    pub term: PreTerm,
+}
+
+/// A definition of a constant between backquotes.
+#[derive(Drop)]
+pub struct Definition {
+    /// The place of the opening backquote in the whole text, in bytes from 0.
+    pub place: usize,
+    /// The constant's name, which is no reserved word.
+    pub name: String,
+    /// Its parameters. No two of them, and none and the constant, have the same name.
+    pub parameters: Vec<PreVariable>,
+    /// The right side.
+    pub right: RightSide,
+}
+
+impl RightSide {
+    /// The same right side, sharing the nodes of its type and term.
+    ///
+    /// Answers an error where memory is short (no count is left for one more copy), and nowhere else.
+    pub fn copy(&self) -> Result<RightSide, AllocError>
+        ensures { IfOk result (λ right. right_side_text right ≡ right_side_text self.now) }
+    {
+        let annotation = match &self.annotation {
+            Some(ty) => Some(ty.copy()?),
+            None => None,
+        };
+        Ok(RightSide {
+            annotation,
+            is_iff: self.is_iff,
+            term: self.term.copy()?,
+        })
+    }
+}
+
+impl Definition {
+    /// The same definition, sharing the nodes of its types and its term. Answers an error where memory is short, and
+    /// nowhere else.
+    pub fn copy(&self, alloc: Global) -> Result<Definition, AllocError>
+        ensures { IfOk result (λ definition. definition_text definition ≡ definition_text self.now) }
+    {
+        Ok(Definition {
+            place: self.place,
+            name: String::from_str(alloc, self.name.as_str())?,
+            parameters: copies(alloc, &self.parameters)?,
+            right: self.right.copy()?,
+        })
+    }
+}
+
+/// The same variables.
+fn copies(alloc: Global, variables: &[PreVariable]) -> Result<Vec<PreVariable>, AllocError>
+    ensures { IfOk result (λ copied. map variable_text copied.items ≡ map variable_text variables.now) }
+{
+    let mut copied = Vec::with_capacity(alloc, variables.len())?;
+    for variable in variables {
+        copied.push(variable.copy(alloc)?)?;
+    }
+    Ok(copied)
+}
