@@ -15,7 +15,7 @@ use Rattle.hol_kernel.specs.Items.{Items, Holds, IsWithin}
 use Rattle.hol_kernel.specs.Sequent.{Hyps, no_hyps, named_equation}
 use Rattle.hol_kernel.specs.Signature.{constant_key, term_tyvars}
 use Rattle.hol_kernel.specs.Typing.{is_typed, HasType}
-use Rattle.hol_kernel.specs.Legal.{HasNewKeys, IsDefinable}
+use Rattle.hol_kernel.specs.Legal.{HasNewKeys, IsClosed, IsDefinable}
 use Rattle.hol_kernel.specs.Theorem.{Theorem, IsDerived}
 use Rattle.hol_kernel.specs.Derivation.{by_definition}
 use Rattle.hol_kernel.specs.Extends.{IsDefine}
@@ -53,6 +53,13 @@ none_free (w ∷ ws) = some_kept w [] ws
 none_is : (ws : Variables) → has_none ws ≡ true → ws ≡ []
 none_is [] e = refl
 none_is (w ∷ ws) e = absurd (true≢false (sym e))
+
+-- what the test says
+pub closed_is : (t : Nameless) → is_closed t ≡ true → IsClosed t
+closed_is t e = none_is (free_occurrences t) e
+
+pub is_closed_of : (t : Nameless) → IsClosed t → is_closed t ≡ true
+is_closed_of t e = ap has_none e
 
 -- ---- names among others
 
@@ -108,14 +115,14 @@ module _ (items : Items) (r : Named) (a : TypeTree) (has : named_type r ≡ Some
       let q = both (is_closed (nameless [] r)) (are_among (tyvars a) (term_tyvars (nameless [] r))) p.1 in
       record {
         typed = typed_type items r a has p.0;
-        closed = none_is (free_occurrences (nameless [] r)) q.0;
+        closed = closed_is (nameless [] r) q.0;
         reflected = λ n h. contains_among (tyvars a) n (all_contained (tyvars a) (term_tyvars (nameless [] r)) q.1 n (among_contains (term_tyvars (nameless [] r)) n h));
       }
 
   definable_here : IsDefinable items (nameless [] r) a → is_definable items (nameless [] r) a ≡ true
   definable_here d =
       let known : is_typed items (nameless [] r) ≡ true = ap is_some d.typed in
-      let closed : is_closed (nameless [] r) ≡ true = ap has_none d.closed in
+      let closed : is_closed (nameless [] r) ≡ true = is_closed_of (nameless [] r) d.closed in
       let reflected : are_among (tyvars a) (term_tyvars (nameless [] r)) ≡ true =
       contained_all (tyvars a) (term_tyvars (nameless [] r)) (λ n h. among_contains (tyvars a) n (d.reflected n (contains_among (term_tyvars (nameless [] r)) n h))) in
       λ i. known i && (closed i && reflected i)

@@ -53,7 +53,7 @@ module _ (f : Nameless → Nameless) (minds : (n : Nameless) → strip (f (strip
 
 -- ---- derivations
 
-along_nameless : (b own : Items) (h hyps : Hyps) (n : Nameless) (concl : Named) → own ≡ b → hyps ≡ h → nameless [] concl ≡ n → Derives b h n → named_type concl ≡ Some bool_type → IsDerived own hyps concl
+pub along_nameless : (b own : Items) (h hyps : Hyps) (n : Nameless) (concl : Named) → own ≡ b → hyps ≡ h → nameless [] concl ≡ n → Derives b h n → named_type concl ≡ Some bool_type → IsDerived own hyps concl
 along_nameless b own h hyps n concl p q r d t = record {
   derives = subst (λ (s : Items). Derives s hyps (nameless [] concl)) (sym p) (subst (λ (hs : Hyps). Derives b hs (nameless [] concl)) (sym q) (subst (λ (u : Nameless). Derives b h u) (sym r) d));
   typed = t;

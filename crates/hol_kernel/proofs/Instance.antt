@@ -7,7 +7,7 @@ use Rattle.hol_types.specs.Match.{match_type, IsMatchOf, HasNoMatch}
 use Rattle.hol_types.proofs.MatchLaws.{match_found, match_missing}
 use Rattle.hol_kernel.specs.Signature.{is_instance}
 
-abbrev Pairs : Type 0
+abbrev pub Pairs : Type 0
 Pairs = List (TypeTree × List ℕ)
 
 instance_by : (generic a : TypeTree) (o : Option Pairs) → match_type generic [] a ≡ o → (pairs : Pairs) → type_subst pairs generic ≡ a → is_instance generic a ≡ true

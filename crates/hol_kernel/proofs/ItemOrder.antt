@@ -12,7 +12,7 @@ use Rattle.std.proofs.lemmas.Slice.Eq.{bytes_eq-Decides}
 use Rattle.hol_types.specs.Code.{name_code, type_code}
 use Rattle.hol_types.specs.Order.{name_cmp}
 use Rattle.hol_terms.specs.Code.{nameless_code}
-use Rattle.hol_kernel.specs.Order.{flat, coded_total, coded_same}
+use Rattle.hol_subst.specs.CodeOrder.{flat, coded_total, coded_same}
 use Rattle.hol_kernel.specs.Item.{Item, item_code, declared_type, declared_constant, defined_constant, defined_type, declared_axiom}
 use Rattle.hol_kernel.specs.Items.{item_cmp}
 use Rattle.hol_kernel.specs.Signature.{Key, type_key, constant_key, axiom_key, has_key}

@@ -22,3 +22,7 @@ pub mod Held
 pub mod InstRules
 pub mod TermNames
 pub mod Definable
+pub mod PartTypes
+pub mod Stands
+pub mod WellTyped
+pub mod TypeDefinitions

@@ -28,7 +28,7 @@ base_again (x ∷ xs) = by (base_of xs) (base_again xs)
     by [] e = letter (x == 39) refl
     by (y ∷ ys) e = ap (with_letter x) e
 
-base_is_base : (a : List ℕ) → is_base (base_of a) ≡ true
+pub base_is_base : (a : List ℕ) → is_base (base_of a) ≡ true
 base_is_base a = (bytes_eq-Decides (base_of (base_of a)) (base_of a)).1 (base_again a)
 
 module _ (items : Items) where

@@ -6,7 +6,7 @@ use Rattle.std.proofs.Common.{ap, sym, ◌∙◌}
 use Rattle.hol_types.specs.Tree.{TypeTree, TypeList, TyVar, TyApp, no_types, more_types}
 use Rattle.hol_types.specs.Fun.{fun_type}
 use Rattle.hol_terms.specs.Nameless.{Nameless, free, app, fixed, nameless_type}
-use Rattle.hol_kernel.specs.Order.{coded_total}
+use Rattle.hol_subst.specs.CodeOrder.{coded_total}
 use Rattle.hol_kernel.specs.Item.{item_code}
 use Rattle.hol_kernel.specs.Items.{Items, no_items, in_order_of, in_order}
 use Rattle.hol_kernel.specs.Sequent.{bool_type, equality_type, equation}
@@ -22,10 +22,10 @@ both true b e = (refl, e)
 both false b e = absurd (cc)
 
 -- a term is well typed where its types and constants stand and it has a type
-typed_known : (items : Items) (t : Nameless) (a : TypeTree) → is_known items t ≡ true → nameless_type [] t ≡ Some a → HasType items t a
+pub typed_known : (items : Items) (t : Nameless) (a : TypeTree) → is_known items t ≡ true → nameless_type [] t ≡ Some a → HasType items t a
 typed_known items t a known has = λ i. cond (known i) (has i) None
 
-known_typed : (items : Items) (t : Nameless) (a : TypeTree) → HasType items t a → (is_known items t ≡ true) × (nameless_type [] t ≡ Some a)
+pub known_typed : (items : Items) (t : Nameless) (a : TypeTree) → HasType items t a → (is_known items t ≡ true) × (nameless_type [] t ≡ Some a)
 known_typed items t a typed = by (is_known items t) refl typed
   where
     by : (b : Bool) → is_known items t ≡ b → cond b (nameless_type [] t) None ≡ Some a → (is_known items t ≡ true) × (nameless_type [] t ≡ Some a)

@@ -4,7 +4,7 @@ use Rattle.std.specs.declared.cmp.Ordering.{Ordering}
 use Rattle.std.specs.Coded.{Coded}
 use Rattle.std.specs.FinSet as set
 use Rattle.std.specs.Set.{sorted_merge}
-use Rattle.hol_kernel.specs.Order.{coded_cmp}
+use Rattle.hol_subst.specs.CodeOrder.{coded_cmp}
 use Rattle.hol_kernel.specs.Item.{Item, item_code}
 
 abbrev pub item_cmp : Item → Item → Ordering

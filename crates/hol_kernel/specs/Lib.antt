@@ -1,4 +1,3 @@
-pub mod Order
 pub mod Item
 pub mod ItemView
 pub mod Items

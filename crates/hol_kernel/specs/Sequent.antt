@@ -6,7 +6,7 @@ use Rattle.hol_types.specs.Tree.{TypeTree, TyApp, no_types}
 use Rattle.hol_types.specs.Fun.{fun_type}
 use Rattle.hol_terms.specs.Nameless.{Nameless, fixed, app, nameless}
 use Rattle.hol_terms.specs.Named as named
-use Rattle.hol_kernel.specs.Order.{coded_cmp}
+use Rattle.hol_subst.specs.CodeOrder.{coded_cmp}
 use Rattle.hol_terms.specs.Code.{coded_nameless}
 use Rattle.hol_terms.specs.Alpha.{strip}
 

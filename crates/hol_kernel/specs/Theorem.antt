@@ -1,5 +1,5 @@
 -- Theorems as values, and what every theorem promises.
-use Rattle.std.specs.Prelude.{◌≡◌, [], Some, refl}
+use Rattle.std.specs.Prelude.{◌≡◌, [], true, Some, refl}
 use Rattle.std.specs.Coded.{Coded, code_by, coded×}
 use Rattle.std.specs.FinSet as set
 use Rattle.hol_terms.specs.Nameless.{Nameless, nameless}
@@ -7,6 +7,7 @@ use Rattle.hol_terms.specs.Named.{Named, named_type}
 use Rattle.hol_terms.specs.Code.{coded_nameless}
 use Rattle.hol_kernel.specs.Items.{Items, items_code}
 use Rattle.hol_kernel.specs.Sequent.{Hyps, bool_type}
+use Rattle.hol_kernel.specs.Typing.{HasType}
 use Rattle.hol_kernel.specs.Derivation.{Derives}
 use Rattle.hol_kernel.specs.Legal.{IsLegalSet}
 
@@ -29,6 +30,11 @@ theorem_code =
 pub record IsTheorem (t : Theorem) : Type 0 where
   pub legal : IsLegalSet t.basis
   pub derives : Derives t.basis t.hyps t.concl
+
+-- Each hypothesis and the conclusion is a term of type bool that is well typed over the prelude and the basis.
+pub record IsWellTyped (t : Theorem) : Type 0 where
+  pub hypotheses : (p : Nameless) → set.contains t.hyps p ≡ true → HasType t.basis p bool_type
+  pub conclusion : HasType t.basis t.concl bool_type
 
 -- What a theorem of the program keeps: a derivation over its basis, and a conclusion of type bool.
 pub record IsDerived (basis : Items) (hyps : Hyps) (concl : Named) : Type 0 where

@@ -87,8 +87,8 @@ impl Basis {
         prelude::has_type(constructor, arity) || makes_type(self.items(), constructor, arity)
     }
 
-    #[tactic(auto, using(crate::proofs::Steps::is_type_app))]
     /// Whether each type constructor in the type stands and has as many arguments as its arity says.
+    #[tactic(auto, using(crate::proofs::Steps::is_type_app))]
     pub fn is_type(&self, ty: &Ty) -> bool
         ensures { result ≡ is_type self.now ty.now }
     {
@@ -120,10 +120,10 @@ impl Basis {
         makes_constant(alloc, self.items(), constant, ty)
     }
 
-    #[tactic(auto, using(crate::proofs::Typed::typed_named))]
     /// Whether the term is well typed over the prelude and the items.
     ///
     /// Answers an error where memory is short, and nowhere else.
+    #[tactic(auto, using(crate::proofs::Typed::typed_named))]
     pub fn is_typed(&self, alloc: Global, term: &Term) -> Result<bool, AllocError>
         ensures { IfOk result (λ is. is ≡ is_typed self.now (nameless [] term.now)) }
     {

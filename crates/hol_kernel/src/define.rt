@@ -92,9 +92,11 @@ impl Basis {
     }
 }
 
+/// Whether no variable is free in the term.
+///
+/// Answers an error where memory is short, and nowhere else.
 #[tactic(auto, using(crate::proofs::Definable::none_free))]
-// Whether no variable is free in the term.
-fn is_closed(alloc: Global, term: &Term) -> Result<bool, AllocError>
+pub fn is_closed(alloc: Global, term: &Term) -> Result<bool, AllocError>
     ensures { IfOk result (λ is. is ≡ is_closed (nameless [] term.now)) }
 {
     match term.frees(alloc) {

@@ -13,10 +13,10 @@ use hol_terms::{Term, TermError, TermNode, Variable};
 use hol_types::{Name, Ty, TyNode};
 use std::alloc::{AllocError, Global};
 
-#[tactic(auto, using(crate::proofs::Equations::equations))]
 /// The equation of two terms of the type.
 ///
 /// Answers an error where memory is short, and nowhere else.
+#[tactic(auto, using(crate::proofs::Equations::equations))]
 pub fn equation(alloc: Global, ty: &Ty, left: &Term, right: &Term) -> Result<Term, AllocError>
     requires left { named_type left.now ≡ Some ty.now }
     requires right { named_type right.now ≡ Some ty.now }
@@ -69,8 +69,8 @@ pub struct Sides<'a> {
     pub right: &'a Term,
 }
 
-#[tactic(auto, using(crate::proofs::Sides::sides_found))]
 /// The sides of the term, and `None` where it is no equation.
+#[tactic(auto, using(crate::proofs::Sides::sides_found))]
 pub fn dest_eq(term: &Term) -> Option<Sides<'_>>
     ensures sides { MatchOption result (sides_of (nameless [] term.now) ≡ None) (λ x. sides_of (nameless [] term.now) ≡ Some (record { sides_type = x.ty.now; left = nameless [] x.left.now; right = nameless [] x.right.now })) }
     ensures left { IfSome result (λ x. named_type x.left.now ≡ Some x.ty.now) }
@@ -108,8 +108,8 @@ fn is_property(ty: &Ty, domain: &Ty) -> bool
     own.same(domain) && is_bool(truth)
 }
 
-#[tactic(auto, using(crate::proofs::Sides::bool_types))]
 /// Whether the type is that of truth values.
+#[tactic(auto, using(crate::proofs::Sides::bool_types))]
 pub fn is_bool(ty: &Ty) -> bool
     ensures { result ≡ type_eq ty.now bool_type }
 {
@@ -128,8 +128,8 @@ pub fn copy_of(term: &Term) -> Result<Term, AllocError>
     fitting(term.copy())
 }
 
-// Where the parts of a term fit, want of memory is all that can go wrong.
-fn fitting(made: Result<Term, TermError>) -> Result<Term, AllocError>
+/// The term, where its parts fit: want of memory is all that can go wrong.
+pub fn fitting(made: Result<Term, TermError>) -> Result<Term, AllocError>
     requires types { ¬ (IsErrOf made term_error.TypesDontFit) }
     requires variable { ¬ (IsErrOf made term_error.NotAVariable) }
     ensures { IfOk result (λ term. made ≡ Ok term) }

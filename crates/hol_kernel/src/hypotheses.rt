@@ -72,10 +72,10 @@ impl Hypotheses {
         Hypotheses::made(alloc, terms)
     }
 
-    #[tactic(auto, using(crate::proofs::HypothesisLists::sorts))]
     /// The hypotheses of a list in any order.
     ///
     /// Answers an error where memory is short, and nowhere else.
+    #[tactic(auto, using(crate::proofs::HypothesisLists::sorts))]
     pub fn collected(alloc: Global, terms: &[Term]) -> Result<Hypotheses, AllocError>
         ensures { IfOk result (λ hyps. hyps ≡ hyps_of terms.now) }
     {
@@ -102,10 +102,10 @@ impl Hypotheses {
         &self.terms
     }
 
-    #[tactic(auto, using(crate::proofs::HypothesisLists::unions))]
     /// The hypotheses of both.
     ///
     /// Answers an error where memory is short, and nowhere else.
+    #[tactic(auto, using(crate::proofs::HypothesisLists::unions))]
     pub fn union(&self, alloc: Global, other: &Hypotheses) -> Result<Hypotheses, AllocError>
         ensures { IfOk result (λ hyps. hyps ≡ set.union self.now other.now) }
     {
@@ -120,10 +120,10 @@ impl Hypotheses {
         Ok(Hypotheses::made(alloc, all)?)
     }
 
-    #[tactic(auto, using(crate::proofs::HypothesisLists::removals))]
     /// The hypotheses but the one that is alpha equivalent to the term.
     ///
     /// Answers an error where memory is short, and nowhere else.
+    #[tactic(auto, using(crate::proofs::HypothesisLists::removals))]
     pub fn without(&self, alloc: Global, p: &Term) -> Result<Hypotheses, AllocError>
         ensures { IfOk result (λ hyps. hyps ≡ set.remove self.now (hyp_of p.now)) }
     {
@@ -135,10 +135,10 @@ impl Hypotheses {
         Ok(Hypotheses::made(alloc, rest)?)
     }
 
-    #[tactic(auto, using(crate::proofs::HypothesisLists::free_in_hyps))]
     /// Whether the variable is free in a hypothesis.
     ///
     /// Takes no memory.
+    #[tactic(auto, using(crate::proofs::HypothesisLists::free_in_hyps))]
     pub fn has_free(&self, v: &Variable) -> bool
         ensures { result ≡ is_free_in (set.items self.now) v.now }
     {

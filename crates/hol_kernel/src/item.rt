@@ -99,10 +99,10 @@ impl Item {
         }
     }
 
-    #[tactic(auto, using(hol_terms::proofs::Typing::type_outside))]
     /// Whether the item makes the constant, and the type is an instance of its generic type.
     ///
     /// Answers an error where memory is short, and nowhere else.
+    #[tactic(auto, using(hol_terms::proofs::Typing::type_outside))]
     pub fn makes_constant(
         &self,
         alloc: Global,
@@ -157,8 +157,10 @@ fn is_constant_at(
     is_instance(alloc, generic, ty)
 }
 
-// The constructor over type variables of these names.
-fn new_type(alloc: Global, name: &Name, parameters: &[Name]) -> Result<Ty, AllocError>
+/// The constructor over type variables of these names.
+///
+/// Answers an error where memory is short, and nowhere else.
+pub fn new_type(alloc: Global, name: &Name, parameters: &[Name]) -> Result<Ty, AllocError>
     ensures { IfOk result (λ ty. ty ≡ new_type name.now parameters.now) }
 {
     let mut args = Vec::with_capacity(alloc, parameters.len())?;

@@ -2,11 +2,14 @@
 #![tactic(auto)]
 
 mod axiom;
+mod axioms;
 mod basis;
+mod bijections;
 mod declare;
 mod define;
 #[cfg(test)]
 mod define_tests;
+mod elements;
 mod equation;
 mod error;
 mod hypotheses;
@@ -19,9 +22,15 @@ mod join;
 mod kind;
 mod postulate;
 mod prelude;
+mod propositional;
+mod right_sides;
 mod rules;
+mod statements;
 mod term_tyvars;
 mod thm;
+mod type_define;
+mod type_definition;
+mod words;
 
 pub use basis::Basis;
 pub use error::{KernelError, Rule};
@@ -30,6 +39,7 @@ pub use kind::Kind;
 pub use postulate::Postulate;
 pub use prelude::instances_are_substitutions;
 pub use thm::Thm;
+pub use type_definition::TypeDefinition;
 
 #[cfg(test)]
 mod basis_tests;

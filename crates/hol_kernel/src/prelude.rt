@@ -88,16 +88,20 @@ pub fn variable(alloc: Global, name: &str) -> Result<Ty, AllocError>
     Ty::var(alloc, &name)
 }
 
-// `bool->bool->bool`
-fn connective_type(alloc: Global) -> Result<Ty, AllocError>
+/// `bool->bool->bool`.
+///
+/// Answers an error where memory is short, and nowhere else.
+pub fn connective_type(alloc: Global) -> Result<Ty, AllocError>
     ensures { IfOk result (λ ty. ty ≡ connective_type) }
 {
     let truth = bool_type(alloc)?;
     equality_type(alloc, &truth)
 }
 
-// `(A->bool)->bool`
-fn binder_type(alloc: Global) -> Result<Ty, AllocError>
+/// `(A->bool)->bool`.
+///
+/// Answers an error where memory is short, and nowhere else.
+pub fn binder_type(alloc: Global) -> Result<Ty, AllocError>
     ensures { IfOk result (λ ty. ty ≡ binder_type) }
 {
     let truth = bool_type(alloc)?;
@@ -106,8 +110,10 @@ fn binder_type(alloc: Global) -> Result<Ty, AllocError>
     Ty::fun(alloc, &property, &truth)
 }
 
-// `(A->B)->bool`
-fn function_property_type(alloc: Global) -> Result<Ty, AllocError>
+/// `(A->B)->bool`.
+///
+/// Answers an error where memory is short, and nowhere else.
+pub fn function_property_type(alloc: Global) -> Result<Ty, AllocError>
     ensures { IfOk result (λ ty. ty ≡ function_property_type) }
 {
     let truth = bool_type(alloc)?;
@@ -167,8 +173,10 @@ pub fn has_constant(alloc: Global, constant: &Name, ty: &Ty) -> Result<bool, All
     }
 }
 
-// `(A->bool)->A`
-fn choice_type(alloc: Global) -> Result<Ty, AllocError>
+/// `(A->bool)->A`.
+///
+/// Answers an error where memory is short, and nowhere else.
+pub fn choice_type(alloc: Global) -> Result<Ty, AllocError>
     ensures { IfOk result (λ ty. ty ≡ choice_type) }
 {
     let truth = bool_type(alloc)?;
@@ -177,8 +185,10 @@ fn choice_type(alloc: Global) -> Result<Ty, AllocError>
     Ty::fun(alloc, &property, &a)
 }
 
-// `bool->bool`
-fn negation_type(alloc: Global) -> Result<Ty, AllocError>
+/// `bool->bool`.
+///
+/// Answers an error where memory is short, and nowhere else.
+pub fn negation_type(alloc: Global) -> Result<Ty, AllocError>
     ensures { IfOk result (λ ty. ty ≡ fun_type bool_type bool_type) }
 {
     let truth = bool_type(alloc)?;

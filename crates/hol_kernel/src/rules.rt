@@ -16,10 +16,10 @@ use hol_types::Ty;
 use std::alloc::Global;
 
 impl Thm {
-    #[tactic(auto, using(crate::proofs::TermRules::refls))]
     /// The rule of reflexivity (fusion.ml, REFL): `|- t = t` over the basis.
     ///
     /// Refused by [`Rule::Refl`] where `t` is not well typed over the prelude and the basis. The only other error is want of memory.
+    #[tactic(auto, using(crate::proofs::TermRules::refls))]
     pub fn refl(alloc: Global, basis: &Basis, term: &Term) -> Result<Thm, KernelError>
         ensures sequent { Gives rule.Refl (refl_of basis.now (nameless [] term.now)) result }
         ensures basis { IfOk result (λ th. th.basis ≡ basis.now) }
@@ -33,11 +33,11 @@ impl Thm {
         Ok(Thm::made(basis, hyps, concl))
     }
 
-    #[tactic(auto, using(crate::proofs::TermRules::assumes))]
     /// The rule of assumption (fusion.ml, ASSUME): `{p} |- p` over the basis.
     ///
     /// Refused by [`Rule::Assume`] where `p` is not well typed over the prelude and the basis, or not of type `bool`. The only other
     /// error is want of memory.
+    #[tactic(auto, using(crate::proofs::TermRules::assumes))]
     pub fn assume(alloc: Global, basis: &Basis, p: &Term) -> Result<Thm, KernelError>
         ensures sequent { Gives rule.Assume (assume_of basis.now (nameless [] p.now)) result }
         ensures basis { IfOk result (λ th. th.basis ≡ basis.now) }
@@ -136,12 +136,12 @@ impl Thm {
         Ok(Thm::made(basis, hyps, concl))
     }
 
-    #[tactic(auto, using(crate::proofs::TermRules::betas))]
     /// The rule of beta conversion (fusion.ml, BETA): `(\v. b) v = b` over the basis, for a term that is an abstraction applied to
     /// its own variable.
     ///
     /// Refused by [`Rule::Beta`] where the term is of another form or not well typed over the prelude and the basis. The only other
     /// error is want of memory.
+    #[tactic(auto, using(crate::proofs::TermRules::betas))]
     pub fn beta(alloc: Global, basis: &Basis, redex: &Term) -> Result<Thm, KernelError>
         ensures sequent { Gives rule.Beta (beta_of basis.now redex.now) result }
         ensures basis { IfOk result (λ th. th.basis ≡ basis.now) }

@@ -22,8 +22,8 @@ pub fn term_tyvars(alloc: Global, term: &Term) -> Result<Vec<Name>, AllocError>
     Ok(names)
 }
 
-#[tactic(auto, using(crate::proofs::TermNames::terms))]
 // Puts the names of the term's type variables in their places.
+#[tactic(auto, using(crate::proofs::TermNames::terms))]
 fn add_term(
     alloc: Global,
     term: &Term,

@@ -4,7 +4,7 @@ ghost use Rattle.std.specs.List.Sorted.{IsStrictlySortedBy};
 ghost use Rattle.hol_terms.specs.Named.{named_type};
 ghost use Rattle.hol_terms.specs.Nameless.{nameless};
 ghost use Rattle.hol_kernel.specs.Sequent.{nameless_cmp, hyp_of, hyps_of, bool_type};
-ghost use Rattle.hol_kernel.specs.Theorem.{theorem_over, IsDerived, IsTheorem};
+ghost use Rattle.hol_kernel.specs.Theorem.{theorem_over, IsDerived, IsTheorem, IsWellTyped};
 
 use crate::basis::Basis;
 use crate::equation::copy_of;
@@ -94,5 +94,13 @@ impl Thm {
     {
         let _items = self.basis.items();
         let _concl = &self.concl;
+    }
+
+    /// What the terms of every theorem are: each hypothesis and the conclusion is well typed over the prelude and the basis, of type
+    /// `bool`.
+    pub fn well_typed(&self)
+        ensures { IsWellTyped self.now }
+    {
+        self.promise();
     }
 }

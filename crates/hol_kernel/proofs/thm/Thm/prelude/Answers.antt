@@ -1,0 +1,19 @@
+use Rattle.std.proofs.Common.{◌≡◌, [], ◌∙◌}
+use Rattle.hol_terms.specs.Nameless.{nameless}
+use Rattle.hol_kernel.specs.Items.{no_items}
+use Rattle.hol_kernel.specs.Sequent.{no_hyps}
+use Rattle.hol_kernel.specs.Prelude.{postulated}
+use Rattle.hol_kernel.specs.Derivation.{by_postulate}
+use Rattle.hol_kernel.specs.Theorem.{theorem_over}
+use Rattle.hol_kernel.proofs.PartTypes.{postulated_typed}
+use Rattle.hol_kernel.proofs.TermRules.{along}
+use Rattle.hol_kernel.proofs.thm.Thm.prelude.Goals as goal
+
+pub made-requires : goal.made-requires
+made-requires c =
+    along no_items c.in_ok-basis.basis no_hyps c.in_ok-hyps.hyps (postulated c.args.which) c.in_ok-concl.concl c.in_ok-basis.ensures c.in_ok-hyps.ensures c.in_ok-concl.ensures
+    (by_postulate c.args.which) (postulated_typed c.args.which)
+
+pub returns-clause-theorem : goal.returns-clause-theorem
+returns-clause-theorem c =
+    c.made.ensures ∙ (λ i. theorem_over (c.in_ok-basis.ensures i) (c.in_ok-hyps.ensures i) (nameless [] (c.in_ok-concl.ensures i)))

@@ -1,0 +1,13 @@
+use Rattle.std.proofs.Common.{Some, ap, ◌∙◌}
+use Rattle.hol_types.specs.Tree.{TypeTree}
+use Rattle.hol_types.specs.Fun.{fun_type}
+use Rattle.hol_kernel.specs.Sequent.{bool_type}
+use Rattle.hol_kernel.specs.Prelude.{property_type}
+use Rattle.hol_kernel.proofs.PartTypes.{applies}
+use Rattle.hol_kernel.proofs.words.quantified.Goals as goal
+
+pub application-requires : goal.application-requires
+application-requires c = record {
+  fits = applies c.in_ok-quantifier.quantifier c.in_ok-body.body (property_type c.args.v.now.1) bool_type
+      (c.in_ok-quantifier.ensures.typed ∙ ap (λ (a : TypeTree). Some (fun_type (property_type a) bool_type)) c.ty.ensures) c.in_ok-body.ensures.typed;
+}

@@ -1,0 +1,87 @@
+//! The statements of a type definition about the constants to and from the new type.
+ghost use Rattle.std.specs.Prelude.{◌≡◌, IfOk, Some, []};
+ghost use Rattle.hol_types.specs.Fun.{fun_type};
+ghost use Rattle.hol_terms.specs.Named.{constant, comb, named_type};
+ghost use Rattle.hol_terms.specs.Nameless.{nameless};
+ghost use Rattle.hol_kernel.specs.Sequent.{bool_type, named_equation};
+ghost use Rattle.hol_kernel.specs.Bijections.{abs_rep, rep_abs};
+
+use crate::equation::{application, constant};
+use crate::propositional::equivalence;
+use crate::words::{equal, occurrence, variable};
+use hol_terms::Term;
+use hol_types::{Name, Ty};
+use std::alloc::{AllocError, Global};
+
+/// `abs (rep a) = a`, for a variable `a` of the new type.
+///
+/// Answers an error where memory is short, and nowhere else.
+pub fn abs_rep(
+    alloc: Global,
+    abs: &Name,
+    rep: &Name,
+    old: &Ty,
+    new: &Ty,
+) -> Result<Term, AllocError>
+    ensures is { IfOk result (λ t. nameless [] t ≡ abs_rep abs.now rep.now old.now new.now) }
+    ensures typed { IfOk result (λ t. named_type t ≡ Some bool_type) }
+{
+    let v = variable(alloc, "a", new)?;
+    let a = occurrence(alloc, &v)?;
+    let inner = image(alloc, rep, new, old, &a)?;
+    let outer = image(alloc, abs, old, new, &inner)?;
+    equal(alloc, new, &outer, &a)
+}
+
+/// `P r = (rep (abs r) = r)`, for a variable `r` of the type that the predicate is about.
+///
+/// Answers an error where memory is short, and nowhere else.
+#[tactic(auto, using(crate::proofs::PartTypes::applications))]
+pub fn rep_abs(
+    alloc: Global,
+    abs: &Name,
+    rep: &Name,
+    predicate: &Term,
+    old: &Ty,
+    new: &Ty,
+) -> Result<Term, AllocError>
+    requires { named_type predicate.now ≡ Some (fun_type old.now bool_type) }
+    ensures is { IfOk result (λ t. nameless [] t ≡ rep_abs abs.now rep.now (nameless [] predicate.now) old.now new.now) }
+    ensures typed { IfOk result (λ t. named_type t ≡ Some bool_type) }
+{
+    let v = variable(alloc, "r", old)?;
+    let r = occurrence(alloc, &v)?;
+    let left = application(alloc, predicate, &r)?;
+    let right = returns(alloc, abs, rep, old, new, &r)?;
+    equivalence(alloc, &left, &right)
+}
+
+// `rep (abs r) = r`.
+fn returns(
+    alloc: Global,
+    abs: &Name,
+    rep: &Name,
+    old: &Ty,
+    new: &Ty,
+    r: &Term,
+) -> Result<Term, AllocError>
+    requires { named_type r.now ≡ Some old.now }
+    ensures is { IfOk result (λ t. t ≡ named_equation old.now (comb (constant rep.now (fun_type new.now old.now)) (comb (constant abs.now (fun_type old.now new.now)) r.now)) r.now) }
+    ensures typed { IfOk result (λ t. named_type t ≡ Some bool_type) }
+{
+    let inner = image(alloc, abs, old, new, r)?;
+    let outer = image(alloc, rep, new, old, &inner)?;
+    equal(alloc, old, &outer, r)
+}
+
+// The constant of the name, a function from the one type to the other, at the term.
+#[tactic(auto, using(crate::proofs::PartTypes::applications))]
+fn image(alloc: Global, name: &Name, domain: &Ty, range: &Ty, x: &Term) -> Result<Term, AllocError>
+    requires { named_type x.now ≡ Some domain.now }
+    ensures is { IfOk result (λ t. t ≡ comb (constant name.now (fun_type domain.now range.now)) x.now) }
+    ensures typed { IfOk result (λ t. named_type t ≡ Some range.now) }
+{
+    let ty = Ty::fun(alloc, domain, range)?;
+    let function = constant(alloc, name, &ty)?;
+    application(alloc, &function, x)
+}

@@ -1,0 +1,260 @@
+//! Right sides of the definitions of quantifiers and of properties of functions (bool.ml, nums.ml).
+ghost use Rattle.std.specs.Prelude.{◌≡◌, IfOk, Some, codes};
+ghost use Rattle.hol_types.specs.Fun.{fun_type};
+ghost use Rattle.hol_terms.specs.Named.{var, constant, comb, abs, named_type};
+ghost use Rattle.hol_kernel.specs.Sequent.{bool_type, named_equation};
+ghost use Rattle.hol_kernel.specs.Signature.{var_a, var_b, binder_type, function_property_type};
+ghost use Rattle.hol_kernel.specs.Prelude.{property_type, property, element, of_element, universal, existential, function, value_at, truth, everywhere, implication, conjunction, boolean, somewhere, at_most_once, quantifier, once, injective, surjective};
+
+use crate::elements::{
+    element, for_two, function, of_element, property, property_term, property_type, same_elements,
+    same_values, value_at,
+};
+use crate::equation::{abstraction, application};
+use crate::prelude::{binder_type, variable as type_variable};
+use crate::words::{
+    boolean, boolean_term, connected, constant, equal, occurrence, quantified, truth, variable,
+};
+use hol_terms::{Term, Variable};
+use std::alloc::{AllocError, Global};
+
+/// `\x:A. T`.
+///
+/// Answers an error where memory is short, and nowhere else.
+#[tactic(auto, using(crate::proofs::PartTypes::constantly_true_typed))]
+fn constantly_true(alloc: Global) -> Result<Term, AllocError>
+    ensures is { IfOk result (λ t. t ≡ abs (element (codes "x")) truth) }
+    ensures typed { IfOk result (λ t. named_type t ≡ Some (property_type var_a)) }
+{
+    let x = element(alloc, "x")?;
+    let body = truth(alloc)?;
+    abstraction(alloc, &x, &body)
+}
+
+/// `P = (\x. T)`.
+///
+/// Answers an error where memory is short, and nowhere else.
+fn holds_everywhere(alloc: Global) -> Result<Term, AllocError>
+    ensures is { IfOk result (λ t. t ≡ named_equation (property_type var_a) (var property) (abs (element (codes "x")) truth)) }
+    ensures typed { IfOk result (λ t. named_type t ≡ Some bool_type) }
+{
+    let ty = property_type(alloc)?;
+    let left = property_term(alloc)?;
+    let right = constantly_true(alloc)?;
+    equal(alloc, &ty, &left, &right)
+}
+
+/// `\P:A->bool. P = (\x. T)`.
+///
+/// Answers an error where memory is short, and nowhere else.
+#[tactic(auto, using(crate::proofs::PartTypes::everywhere_typed))]
+pub fn everywhere(alloc: Global) -> Result<Term, AllocError>
+    ensures is { IfOk result (λ t. t ≡ everywhere) }
+    ensures typed { IfOk result (λ t. named_type t ≡ Some binder_type) }
+{
+    let v = property(alloc)?;
+    let body = holds_everywhere(alloc)?;
+    abstraction(alloc, &v, &body)
+}
+
+/// `!x. P x ==> q`.
+///
+/// Answers an error where memory is short, and nowhere else.
+fn each_implies(alloc: Global, q: &Term) -> Result<Term, AllocError>
+    requires body { named_type q.now ≡ Some bool_type }
+    ensures is { IfOk result (λ t. t ≡ universal (element (codes "x")) (implication (of_element (codes "x")) q.now)) }
+    ensures typed { IfOk result (λ t. named_type t ≡ Some bool_type) }
+{
+    let x = element(alloc, "x")?;
+    let p = of_element(alloc, "x")?;
+    let body = connected(alloc, "==>", &p, q)?;
+    quantified(alloc, "!", &x, &body)
+}
+
+/// `!q. (!x. P x ==> q) ==> q`.
+///
+/// Answers an error where memory is short, and nowhere else.
+fn holds_somewhere(alloc: Global) -> Result<Term, AllocError>
+    ensures is { IfOk result (λ t. t ≡ universal (boolean (codes "q")) (implication (universal (element (codes "x")) (implication (of_element (codes "x")) (var (boolean (codes "q"))))) (var (boolean (codes "q"))))) }
+    ensures typed { IfOk result (λ t. named_type t ≡ Some bool_type) }
+{
+    let v = boolean(alloc, "q")?;
+    let q = boolean_term(alloc, "q")?;
+    let each = each_implies(alloc, &q)?;
+    let body = connected(alloc, "==>", &each, &q)?;
+    quantified(alloc, "!", &v, &body)
+}
+
+/// `\P:A->bool. !q. (!x. P x ==> q) ==> q`.
+///
+/// Answers an error where memory is short, and nowhere else.
+#[tactic(auto, using(crate::proofs::PartTypes::somewhere_typed))]
+pub fn somewhere(alloc: Global) -> Result<Term, AllocError>
+    ensures is { IfOk result (λ t. t ≡ somewhere) }
+    ensures typed { IfOk result (λ t. named_type t ≡ Some binder_type) }
+{
+    let v = property(alloc)?;
+    let body = holds_somewhere(alloc)?;
+    abstraction(alloc, &v, &body)
+}
+
+/// `P x /\ P y ==> x = y`.
+///
+/// Answers an error where memory is short, and nowhere else.
+fn equal_where_both_hold(alloc: Global) -> Result<Term, AllocError>
+    ensures is { IfOk result (λ t. t ≡ implication (conjunction (of_element (codes "x")) (of_element (codes "y"))) (named_equation var_a (var (element (codes "x"))) (var (element (codes "y"))))) }
+    ensures typed { IfOk result (λ t. named_type t ≡ Some bool_type) }
+{
+    let first = of_element(alloc, "x")?;
+    let second = of_element(alloc, "y")?;
+    let both = connected(alloc, "/\\", &first, &second)?;
+    let same = same_elements(alloc, "x", "y")?;
+    connected(alloc, "==>", &both, &same)
+}
+
+/// `!x y. P x /\ P y ==> x = y`.
+///
+/// Answers an error where memory is short, and nowhere else.
+fn at_most_once(alloc: Global) -> Result<Term, AllocError>
+    ensures is { IfOk result (λ t. t ≡ at_most_once) }
+    ensures typed { IfOk result (λ t. named_type t ≡ Some bool_type) }
+{
+    let body = equal_where_both_hold(alloc)?;
+    for_two(alloc, "x", "y", &body)
+}
+
+/// The existential quantifier at its generic type.
+///
+/// Answers an error where memory is short, and nowhere else.
+fn exists_sign(alloc: Global) -> Result<Term, AllocError>
+    ensures is { IfOk result (λ t. t ≡ quantifier (codes "?")) }
+    ensures typed { IfOk result (λ t. named_type t ≡ Some binder_type) }
+{
+    let ty = binder_type(alloc)?;
+    constant(alloc, "?", &ty)
+}
+
+/// `(?) P`.
+///
+/// Answers an error where memory is short, and nowhere else.
+#[tactic(auto, using(crate::proofs::PartTypes::applications))]
+fn exists_property(alloc: Global) -> Result<Term, AllocError>
+    ensures is { IfOk result (λ t. t ≡ comb (quantifier (codes "?")) (var property)) }
+    ensures typed { IfOk result (λ t. named_type t ≡ Some bool_type) }
+{
+    let exists = exists_sign(alloc)?;
+    let property = property_term(alloc)?;
+    application(alloc, &exists, &property)
+}
+
+/// `(?) P /\ (!x y. P x /\ P y ==> x = y)`.
+///
+/// Answers an error where memory is short, and nowhere else.
+fn holds_once(alloc: Global) -> Result<Term, AllocError>
+    ensures is { IfOk result (λ t. t ≡ conjunction (comb (quantifier (codes "?")) (var property)) at_most_once) }
+    ensures typed { IfOk result (λ t. named_type t ≡ Some bool_type) }
+{
+    let exists = exists_property(alloc)?;
+    let unique = at_most_once(alloc)?;
+    connected(alloc, "/\\", &exists, &unique)
+}
+
+/// `\P:A->bool. (?) P /\ (!x y. P x /\ P y ==> x = y)`.
+///
+/// Answers an error where memory is short, and nowhere else.
+#[tactic(auto, using(crate::proofs::PartTypes::once_typed))]
+pub fn once(alloc: Global) -> Result<Term, AllocError>
+    ensures is { IfOk result (λ t. t ≡ once) }
+    ensures typed { IfOk result (λ t. named_type t ≡ Some binder_type) }
+{
+    let v = property(alloc)?;
+    let body = holds_once(alloc)?;
+    abstraction(alloc, &v, &body)
+}
+
+/// `f x1 = f x2 ==> x1 = x2`.
+///
+/// Answers an error where memory is short, and nowhere else.
+fn equal_where_values_are(alloc: Global) -> Result<Term, AllocError>
+    ensures is { IfOk result (λ t. t ≡ implication (named_equation var_b (value_at (codes "x1")) (value_at (codes "x2"))) (named_equation var_a (var (element (codes "x1"))) (var (element (codes "x2"))))) }
+    ensures typed { IfOk result (λ t. named_type t ≡ Some bool_type) }
+{
+    let values = same_values(alloc, "x1", "x2")?;
+    let elements = same_elements(alloc, "x1", "x2")?;
+    connected(alloc, "==>", &values, &elements)
+}
+
+/// `!x1 x2. f x1 = f x2 ==> x1 = x2`.
+///
+/// Answers an error where memory is short, and nowhere else.
+fn is_injective(alloc: Global) -> Result<Term, AllocError>
+    ensures is { IfOk result (λ t. t ≡ universal (element (codes "x1")) (universal (element (codes "x2")) (implication (named_equation var_b (value_at (codes "x1")) (value_at (codes "x2"))) (named_equation var_a (var (element (codes "x1"))) (var (element (codes "x2"))))))) }
+    ensures typed { IfOk result (λ t. named_type t ≡ Some bool_type) }
+{
+    let body = equal_where_values_are(alloc)?;
+    for_two(alloc, "x1", "x2", &body)
+}
+
+/// `\f:A->B. !x1 x2. f x1 = f x2 ==> x1 = x2`.
+///
+/// Answers an error where memory is short, and nowhere else.
+#[tactic(auto, using(crate::proofs::PartTypes::injective_typed))]
+pub fn injective(alloc: Global) -> Result<Term, AllocError>
+    ensures is { IfOk result (λ t. t ≡ injective) }
+    ensures typed { IfOk result (λ t. named_type t ≡ Some function_property_type) }
+{
+    let v = function(alloc)?;
+    let body = is_injective(alloc)?;
+    abstraction(alloc, &v, &body)
+}
+
+/// `y:B`.
+///
+/// Answers an error where memory is short, and nowhere else.
+fn target(alloc: Global) -> Result<Variable, AllocError>
+    ensures { IfOk result (λ t. t ≡ (codes "y", var_b)) }
+{
+    let ty = type_variable(alloc, "B")?;
+    variable(alloc, "y", &ty)
+}
+
+/// `y = f x`.
+///
+/// Answers an error where memory is short, and nowhere else.
+fn is_value(alloc: Global) -> Result<Term, AllocError>
+    ensures is { IfOk result (λ t. t ≡ named_equation var_b (var (codes "y", var_b)) (value_at (codes "x"))) }
+    ensures typed { IfOk result (λ t. named_type t ≡ Some bool_type) }
+{
+    let ty = type_variable(alloc, "B")?;
+    let y = target(alloc)?;
+    let left = occurrence(alloc, &y)?;
+    let right = value_at(alloc, "x")?;
+    equal(alloc, &ty, &left, &right)
+}
+
+/// `!y. ?x. y = f x`.
+///
+/// Answers an error where memory is short, and nowhere else.
+fn is_surjective(alloc: Global) -> Result<Term, AllocError>
+    ensures is { IfOk result (λ t. t ≡ universal (codes "y", var_b) (existential (element (codes "x")) (named_equation var_b (var (codes "y", var_b)) (value_at (codes "x"))))) }
+    ensures typed { IfOk result (λ t. named_type t ≡ Some bool_type) }
+{
+    let body = is_value(alloc)?;
+    let x = element(alloc, "x")?;
+    let inner = quantified(alloc, "?", &x, &body)?;
+    let y = target(alloc)?;
+    quantified(alloc, "!", &y, &inner)
+}
+
+/// `\f:A->B. !y. ?x. y = f x`.
+///
+/// Answers an error where memory is short, and nowhere else.
+#[tactic(auto, using(crate::proofs::PartTypes::surjective_typed))]
+pub fn surjective(alloc: Global) -> Result<Term, AllocError>
+    ensures is { IfOk result (λ t. t ≡ surjective) }
+    ensures typed { IfOk result (λ t. named_type t ≡ Some function_property_type) }
+{
+    let v = function(alloc)?;
+    let body = is_surjective(alloc)?;
+    abstraction(alloc, &v, &body)
+}

@@ -1,0 +1,183 @@
+//! Definitions of types.
+ghost use Rattle.std.specs.Prelude.{◌≡◌, IfOk, IfSome, MatchOption, Some, []};
+ghost use Rattle.hol_types.specs.Fun.{fun_type};
+ghost use Rattle.hol_terms.specs.Named.{named_type};
+ghost use Rattle.hol_terms.specs.Nameless.{Nameless, nameless};
+ghost use Rattle.hol_kernel.specs.Item.{defined_type};
+ghost use Rattle.hol_kernel.specs.Items.{Holds, IsSubset};
+ghost use Rattle.hol_kernel.specs.Sequent.{no_hyps, bool_type};
+ghost use Rattle.hol_kernel.specs.Signature.{term_tyvars, new_type};
+ghost use Rattle.hol_kernel.specs.Typing.{HasType};
+ghost use Rattle.hol_kernel.specs.Bijections.{abs_rep, rep_abs};
+ghost use Rattle.hol_kernel.specs.Theorem.{theorem_over};
+ghost use Rattle.hol_kernel.specs.Extends.{IsTypeDefine};
+ghost use Rattle.hol_kernel.specs.Gives.{GivesSome};
+ghost use Rattle.hol_kernel.specs.Defining.{are_new_names, IsMembership};
+ghost use Rattle.hol_kernel.specs.declared.error.Rule.TheVariants as rule;
+
+use crate::basis::Basis;
+use crate::bijections;
+use crate::define::is_closed;
+use crate::equation::copy_of;
+use crate::error::{KernelError, Rule};
+use crate::hypotheses::Hypotheses;
+use crate::item::{Item, ItemNode, new_type};
+use crate::kind::Kind;
+use crate::term_tyvars::term_tyvars;
+use crate::thm::Thm;
+use crate::type_definition::TypeDefinition;
+use hol_terms::{Term, TermNode};
+use hol_types::{Name, Ty};
+use std::alloc::{AllocError, Global};
+
+// The predicate of a theorem `|- P x`, and the type that it is about.
+#[derive(Clone, Copy)]
+struct Predicate<'a> {
+    term: &'a Term,
+    domain: &'a Ty,
+}
+
+// What the theorems of a type definition speak of.
+#[derive(Clone, Copy)]
+struct NewType<'a> {
+    // The type constructor, the constant to the new type and the one from it.
+    name: &'a Name,
+    abs: &'a Name,
+    rep: &'a Name,
+    // The predicate of the members.
+    predicate: Predicate<'a>,
+    // The constructor over the predicate's type variables.
+    ty: &'a Ty,
+}
+
+impl Basis {
+    /// The basis with a type constructor of this name, whose values stand for those that a predicate `P` has, with the constants `abs`
+    /// to the new type and `rep` from it, and what these satisfy, for a theorem `|- P x` (fusion.ml, new_basic_type_definition). The
+    /// parameters of the type are the type variables of `P`, by bytes.
+    ///
+    /// Refused by [`Rule::TypeDefine`] where the theorem has a hypothesis or its conclusion is no application, where a variable is free
+    /// in `P`, where a name is not new in its kind, and where `abs` and `rep` are the same. The only other error is want of memory.
+    pub fn type_define(
+        &self,
+        alloc: Global,
+        name: &Name,
+        abs: &Name,
+        rep: &Name,
+        th: &Thm,
+    ) -> Result<TypeDefinition, KernelError>
+        requires within { IsSubset th.now.basis self.now }
+        ensures { GivesSome rule.TypeDefine (λ made. IsTypeDefine self.now name.now abs.now rep.now th.now made.basis made.abs_rep made.rep_abs) result }
+    {
+        th.promise();
+        if !self.are_new(name, abs, rep) {
+            return Err(KernelError::Refused(Rule::TypeDefine));
+        }
+        let Some(predicate) = predicate_of(th) else {
+            return Err(KernelError::Refused(Rule::TypeDefine));
+        };
+        let closed = is_closed(alloc, predicate.term)?;
+        if !closed {
+            return Err(KernelError::Refused(Rule::TypeDefine));
+        }
+        let parameters = term_tyvars(alloc, predicate.term)?;
+        let ty = new_type(alloc, name, &parameters)?;
+        let item = type_item(alloc, name, abs, rep, predicate.term, parameters)?;
+        let basis = self.extended(alloc, item)?;
+        let new = NewType {
+            name,
+            abs,
+            rep,
+            predicate,
+            ty: &ty,
+        };
+        let abs_rep = basis.abs_rep(alloc, &new)?;
+        let rep_abs = basis.rep_abs(alloc, &new)?;
+        Ok(TypeDefinition {
+            basis,
+            abs_rep,
+            rep_abs,
+        })
+    }
+
+    // Whether the names of a type and of two different constants are new.
+    fn are_new(&self, name: &Name, abs: &Name, rep: &Name) -> bool
+        ensures { result ≡ are_new_names self.now name.now abs.now rep.now }
+    {
+        if !self.is_new(Kind::Type, name) || !self.is_new(Kind::Constant, abs) {
+            return false;
+        }
+        self.is_new(Kind::Constant, rep) && !abs.same(rep)
+    }
+
+    // What the type definition that the basis has says first: `|- abs (rep a) = a`.
+    fn abs_rep(&self, alloc: Global, new: &NewType<'_>) -> Result<Thm, AllocError>
+        requires holds { Holds self.now (defined_type new.now.name.now new.now.abs.now new.now.rep.now (nameless [] new.now.predicate.term.now)) }
+        requires known { HasType self.now (nameless [] new.now.predicate.term.now) (fun_type new.now.predicate.domain.now bool_type) }
+        requires made { new.now.ty.now ≡ new_type new.now.name.now (term_tyvars (nameless [] new.now.predicate.term.now)) }
+        ensures { IfOk result (λ th. th ≡ theorem_over self.now no_hyps (abs_rep new.now.abs.now new.now.rep.now new.now.predicate.domain.now new.now.ty.now)) }
+    {
+        let concl = bijections::abs_rep(alloc, new.abs, new.rep, new.predicate.domain, new.ty)?;
+        let own = self.copy()?;
+        let hyps = Hypotheses::none(alloc)?;
+        Ok(Thm::made(own, hyps, concl))
+    }
+
+    // What the type definition that the basis has says second: `|- P r = (rep (abs r) = r)`.
+    fn rep_abs(&self, alloc: Global, new: &NewType<'_>) -> Result<Thm, AllocError>
+        requires holds { Holds self.now (defined_type new.now.name.now new.now.abs.now new.now.rep.now (nameless [] new.now.predicate.term.now)) }
+        requires known { HasType self.now (nameless [] new.now.predicate.term.now) (fun_type new.now.predicate.domain.now bool_type) }
+        requires typed { named_type new.now.predicate.term.now ≡ Some (fun_type new.now.predicate.domain.now bool_type) }
+        requires made { new.now.ty.now ≡ new_type new.now.name.now (term_tyvars (nameless [] new.now.predicate.term.now)) }
+        ensures { IfOk result (λ th. th ≡ theorem_over self.now no_hyps (rep_abs new.now.abs.now new.now.rep.now (nameless [] new.now.predicate.term.now) new.now.predicate.domain.now new.now.ty.now)) }
+    {
+        let predicate = new.predicate;
+        let concl = bijections::rep_abs(
+            alloc,
+            new.abs,
+            new.rep,
+            predicate.term,
+            predicate.domain,
+            new.ty,
+        )?;
+        let own = self.copy()?;
+        let hyps = Hypotheses::none(alloc)?;
+        Ok(Thm::made(own, hyps, concl))
+    }
+}
+
+// The predicate of a theorem `|- P x` without hypotheses.
+fn predicate_of(th: &Thm) -> Option<Predicate<'_>>
+    ensures found { MatchOption result ((p x : Nameless) → IsMembership th.now p x → ⊥) (λ predicate. (x : Nameless) × IsMembership th.now (nameless [] predicate.term.now) x) }
+    ensures typed { IfSome result (λ predicate. named_type predicate.term.now ≡ Some (fun_type predicate.domain.now bool_type)) }
+{
+    if !th.hyps().is_empty() {
+        return None;
+    }
+    let TermNode::Comb(term, _) = th.concl().node() else {
+        return None;
+    };
+    let (domain, _) = term.type_of().dest_fun()?;
+    Some(Predicate { term, domain })
+}
+
+// The item of a type definition.
+fn type_item(
+    alloc: Global,
+    name: &Name,
+    abs: &Name,
+    rep: &Name,
+    predicate: &Term,
+    parameters: Vec<Name>,
+) -> Result<Item, AllocError>
+    requires { parameters.items ≡ term_tyvars (nameless [] predicate.now) }
+    ensures { IfOk result (λ item. item ≡ defined_type name.now abs.now rep.now (nameless [] predicate.now)) }
+{
+    let node = ItemNode::DefinedType {
+        name: name.copy()?,
+        abs: abs.copy()?,
+        rep: rep.copy()?,
+        predicate: copy_of(predicate)?,
+        parameters,
+    };
+    Item::made(alloc, node)
+}
