@@ -14,3 +14,4 @@ pub mod Naming
 pub mod Named
 pub mod Sizes
 pub mod Readings
+pub mod Resolved

@@ -13,3 +13,6 @@ pub mod RawView
 pub mod Scoped
 pub mod Generate
 pub mod Solved
+pub mod Resolving
+pub mod NamesView
+pub mod DefinitionView

@@ -3,6 +3,8 @@
 
 mod building;
 mod cell;
+mod definition;
+mod elaboration;
 mod fault;
 mod finding;
 mod generate;
@@ -10,10 +12,12 @@ mod graph;
 mod principal;
 mod raw;
 mod reading;
+mod resolving;
 mod shape;
 mod skeleton;
 #[cfg(test)]
 mod tests;
 
-pub use raw::RawTerm;
-pub use reading::{ReadingError, read};
+pub use definition::PreDefinition;
+pub use elaboration::{elaborate, elaborate_definition, elaborate_type};
+pub use reading::ReadingError;

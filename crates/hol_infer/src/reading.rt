@@ -23,6 +23,10 @@ use thiserror::Error;
 /// Why a term has no reading.
 #[derive(Clone, Copy, Debug, PartialEq, Eq, Error)]
 pub enum ReadingError {
+    /// A type that is written has a constructor with another number of arguments than its arity, or arguments for a name that is no
+    /// constructor, or a type variable whose name begins with `?`, as those of types that are left open do.
+    #[error("type constructor's arity")]
+    Arity,
     /// The term has no typing.
     #[error("untypable")]
     Untypable,
@@ -64,6 +68,7 @@ pub fn read(alloc: Global, term: &RawTerm) -> Result<Term, ReadingError>
     requires rigid { HasRigidAnnotations (raw_tree term.now) }
     ensures reading { IfOk result (λ t. IsReading (raw_tree term.now) (nameless [] t)) }
     ensures small { IfOk result (λ t. term_size [] (nameless [] t) ≤ 20000) }
+    ensures no_arity { IfErr result (λ e. e ≡ ReadingError.Arity → ⊥) }
     ensures untypable { IfErr result (λ e. e ≡ ReadingError.Untypable → HasNoTyping (raw_tree term.now)) }
     ensures too_large { IfErr result (λ e. e ≡ ReadingError.TooLarge → HasLargeReading (raw_tree term.now)) }
 {

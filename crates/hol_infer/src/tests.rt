@@ -1,7 +1,8 @@
 //! Worked terms, whose typings are known.
 use crate::fault::Fault;
 use crate::principal::principal;
-use crate::{RawTerm, ReadingError, read};
+use crate::raw::RawTerm;
+use crate::reading::{ReadingError, read};
 use hol_terms::{Term, TermError, Variable};
 use hol_types::{Name, Ty};
 use std::alloc::{AllocError, Global};

@@ -1,0 +1,252 @@
+-- Resolved terms: their indexes and free names are scoped, and their annotations have no open type variables.
+use Rattle.std.proofs.Common.{◌≡◌, ◌≢◌, ℕ, ◌+◌, ◌<◌, ◌≤◌, zero, suc, List, [], ◌∷◌, ◌++◌, length, map, get_or, take, drop, refl, sym, ◌∙◌, ap, subst, arith, add-one, Bool, true, false, not, ◌&&◌, ◌||◌, cond, bytes_eq, codes, Option, Some, None}
+use Rattle.std.specs.Option.{option_map}
+use Rattle.std.proofs.lemmas.List.{take_more, take_all, map-append}
+use Rattle.std.proofs.lemmas.Slice.Eq.{bytes_eq-Decides}
+use Rattle.hol_types.specs.Tree.{TypeTree, TypeList, TyVar, TyApp, no_types, more_types, type_list}
+use Rattle.hol_types.specs.Names.{is_among}
+use Rattle.hol_notation_terms.specs.declared.operator.Operator.{Operator}
+use Rattle.hol_notation_terms.specs.declared.operator.Operator.TheVariants.{Iff, Implies, Or, And, Equals, Not, ForAll, Exists, ExistsUnique, Choice}
+use Rattle.hol_notation_terms.specs.Text.{TypeText, TypeTexts, Ident, Arrow, Apply, no_types as no_texts, more_types as more_texts, type_texts, type_nodes, types_nodes, TermText, Named, Constant, Applied, Abstraction, Typed}
+use Rattle.hol_infer.specs.Typing.{IsOpen}
+use Rattle.hol_infer.specs.Raw.{RawTree, RawBound, RawConstant, RawFree, RawApply, RawAbstraction, RawAnnotated}
+use Rattle.hol_infer.specs.Scoped.{IsFirstAt, IsScoped, HasNoOpenName, HaveNoOpenName, IsRigid, HasRigidAnnotations}
+use Rattle.hol_infer.specs.Resolving.{arity_of, generic_type_of, ident_type, type_of_text, types_of_texts, text_count, has_arities, have_arities, name_index, resolved, identifier, operator_raw, raw_of, begins_with_mark, stands_alone, option_has_arities, term_has_arities, takes, DefinitionText, value_text, without, definition_raw}
+
+-- ---- scopes
+
+index_there : (j : ℕ) (a b : List ℕ) (names : List (List ℕ)) → b ≢ a → IsFirstAt names j a → IsFirstAt (b ∷ names) (j + 1) a
+index_there j a b names ne h = subst (λ (i : ℕ). IsFirstAt (b ∷ names) i a) (sym (add-one j)) (ne, h)
+
+index_first : (names : List (List ℕ)) (a : List ℕ) (i : ℕ) → name_index names a ≡ Some i → IsFirstAt names i a
+index_first [] a i e = absurd (cc)
+index_first (b ∷ names) a i e = by (bytes_eq b a) refl e (index_first names a)
+  where
+    next : (o : Option ℕ) → bytes_eq b a ≡ false → option_map (λ j. j + 1) o ≡ Some i → ((j : ℕ) → o ≡ Some j → IsFirstAt names j a) → IsFirstAt (b ∷ names) i a
+    next None f g r = absurd (cc)
+    next (Some j) f g r =
+        let q : j + 1 ≡ i = cc in
+        let ne : b ≢ a = λ n. (let z : true ≡ false = sym ((bytes_eq-Decides b a).1 n) ∙ f in cc) in
+        subst (λ (k : ℕ). IsFirstAt (b ∷ names) k a) q (index_there j a b names ne (r j refl))
+
+    by : (t : Bool) → bytes_eq b a ≡ t → cond t (Some 0) (option_map (λ j. j + 1) (name_index names a)) ≡ Some i → ((j : ℕ) → name_index names a ≡ Some j → IsFirstAt names j a) → IsFirstAt (b ∷ names) i a
+    by true f g r = let q : 0 ≡ i = cc in subst (λ (k : ℕ). IsFirstAt (b ∷ names) k a) q ((bytes_eq-Decides b a).0 f)
+    by false f g r = next (name_index names a) f g r
+
+turned : (a b : List ℕ) → bytes_eq b a ≡ false → bytes_eq a b ≡ false
+turned a b e = by (bytes_eq a b) refl
+  where
+    by : (t : Bool) → bytes_eq a b ≡ t → bytes_eq a b ≡ false
+    by true f = let z : true ≡ false = sym ((bytes_eq-Decides b a).1 (sym ((bytes_eq-Decides a b).0 f))) ∙ e in absurd (cc)
+    by false f = f
+
+index_none : (names : List (List ℕ)) (a : List ℕ) → name_index names a ≡ None → is_among names a ≡ false
+index_none [] a e = refl
+index_none (b ∷ names) a e = by (bytes_eq b a) refl e (index_none names a)
+  where
+    next : (o : Option ℕ) → option_map (λ j. j + 1) o ≡ None → o ≡ None
+    next None g = refl
+    next (Some j) g = absurd (cc)
+
+    by : (t : Bool) → bytes_eq b a ≡ t → cond t (Some 0) (option_map (λ j. j + 1) (name_index names a)) ≡ None → (name_index names a ≡ None → is_among names a ≡ false) → is_among (b ∷ names) a ≡ false
+    by true f g r = absurd (cc)
+    by false f g r = let h : bytes_eq a b ≡ false = turned a b f in rw (h, r (next (name_index names a) g)) refl
+
+resolved_scoped : (names : List (List ℕ)) (x : List ℕ) (o : Option ℕ) (generic : Option TypeTree) → name_index names x ≡ o → IsScoped names (resolved o generic x)
+resolved_scoped names x (Some i) generic e = (x, index_first names x i e)
+resolved_scoped names x None (Some generic) e = tt
+resolved_scoped names x None None e = index_none names x e
+
+identifier_scoped : (constants : List (List ℕ × TypeTree)) (names : List (List ℕ)) (x : List ℕ) → IsScoped names (identifier constants names x)
+identifier_scoped constants names x = resolved_scoped names x (name_index names x) (generic_type_of constants x) refl
+
+operator_scoped : (constants : List (List ℕ × TypeTree)) (names : List (List ℕ)) (c : Operator) → IsScoped names (operator_raw constants names c)
+operator_scoped constants names Iff = tt
+operator_scoped constants names Implies = identifier_scoped constants names (codes "==>")
+operator_scoped constants names Or = identifier_scoped constants names (codes "\\/")
+operator_scoped constants names And = identifier_scoped constants names (codes "/\\")
+operator_scoped constants names Equals = identifier_scoped constants names (codes "=")
+operator_scoped constants names Not = identifier_scoped constants names (codes "~")
+operator_scoped constants names ForAll = identifier_scoped constants names (codes "!")
+operator_scoped constants names Exists = identifier_scoped constants names (codes "?")
+operator_scoped constants names ExistsUnique = identifier_scoped constants names (codes "?!")
+operator_scoped constants names Choice = identifier_scoped constants names (codes "@")
+
+pub raw_scoped : (arities : List (List ℕ × ℕ)) (constants : List (List ℕ × TypeTree)) (names : List (List ℕ)) (t : TermText) → IsScoped names (raw_of arities constants names t)
+raw_scoped arities constants names (Named x) = identifier_scoped constants names x
+raw_scoped arities constants names (Constant c) = operator_scoped constants names c
+raw_scoped arities constants names (Applied f a) = (raw_scoped arities constants names f, raw_scoped arities constants names a)
+raw_scoped arities constants names (Abstraction v b) = raw_scoped arities constants (v.name ∷ names) b
+raw_scoped arities constants names (Typed t ty) = raw_scoped arities constants names t
+
+-- ---- annotations
+
+-- an open name begins with `?`
+mark_of : (a : List ℕ) → begins_with_mark a ≡ false → IsOpen a → ⊥
+mark_of a h (k, e) = let z : false ≡ true = sym h ∙ ap begins_with_mark e in cc
+
+not_false : (b : Bool) → not b ≡ true → b ≡ false
+not_false true h = absurd (cc)
+not_false false h = refl
+
+and_left : (a b : Bool) → (a && b) ≡ true → a ≡ true
+and_left true b h = refl
+and_left false b h = h
+
+and_right : (a b : Bool) → (a && b) ≡ true → b ≡ true
+and_right true b h = h
+and_right false b h = absurd (cc)
+
+ident_rigid : (o : Option ℕ) (a : List ℕ) → stands_alone o a ≡ true → HasNoOpenName (ident_type o a)
+ident_rigid None a h = mark_of a (not_false (begins_with_mark a) h)
+ident_rigid (Some n) a h = tt
+
+mutual
+  type_rigid : (arities : List (List ℕ × ℕ)) (t : TypeText) → has_arities arities t ≡ true → HasNoOpenName (type_of_text arities t)
+  type_rigid arities (Ident a) h = ident_rigid (arity_of arities a) a h
+  type_rigid arities (Arrow s t) h = (type_rigid arities s (and_left (has_arities arities s) (has_arities arities t) h), (type_rigid arities t (and_right (has_arities arities s) (has_arities arities t) h), tt))
+  type_rigid arities (Apply c ts) h = types_rigid arities ts (and_right (takes (arity_of arities c) (text_count ts)) (have_arities arities ts) h)
+
+  types_rigid : (arities : List (List ℕ × ℕ)) (ts : TypeTexts) → have_arities arities ts ≡ true → HaveNoOpenName (types_of_texts arities ts)
+  types_rigid arities no_texts h = tt
+  types_rigid arities (more_texts t ts) h = (type_rigid arities t (and_left (has_arities arities t) (have_arities arities ts) h), types_rigid arities ts (and_right (has_arities arities t) (have_arities arities ts) h))
+
+option_rigid : (arities : List (List ℕ × ℕ)) (o : Option TypeText) → option_has_arities arities o ≡ true → IsRigid (option_map (type_of_text arities) o)
+option_rigid arities None h = tt
+option_rigid arities (Some t) h = type_rigid arities t h
+
+resolved_rigid : (o : Option ℕ) (generic : Option TypeTree) (x : List ℕ) → HasRigidAnnotations (resolved o generic x)
+resolved_rigid (Some i) generic x = tt
+resolved_rigid None (Some generic) x = tt
+resolved_rigid None None x = tt
+
+identifier_rigid : (constants : List (List ℕ × TypeTree)) (names : List (List ℕ)) (x : List ℕ) → HasRigidAnnotations (identifier constants names x)
+identifier_rigid constants names x = resolved_rigid (name_index names x) (generic_type_of constants x) x
+
+operator_rigid : (constants : List (List ℕ × TypeTree)) (names : List (List ℕ)) (c : Operator) → HasRigidAnnotations (operator_raw constants names c)
+operator_rigid constants names Iff = tt
+operator_rigid constants names Implies = identifier_rigid constants names (codes "==>")
+operator_rigid constants names Or = identifier_rigid constants names (codes "\\/")
+operator_rigid constants names And = identifier_rigid constants names (codes "/\\")
+operator_rigid constants names Equals = identifier_rigid constants names (codes "=")
+operator_rigid constants names Not = identifier_rigid constants names (codes "~")
+operator_rigid constants names ForAll = identifier_rigid constants names (codes "!")
+operator_rigid constants names Exists = identifier_rigid constants names (codes "?")
+operator_rigid constants names ExistsUnique = identifier_rigid constants names (codes "?!")
+operator_rigid constants names Choice = identifier_rigid constants names (codes "@")
+
+pub raw_rigid : (arities : List (List ℕ × ℕ)) (constants : List (List ℕ × TypeTree)) (names : List (List ℕ)) (t : TermText) → term_has_arities arities t ≡ true → HasRigidAnnotations (raw_of arities constants names t)
+raw_rigid arities constants names (Named x) h = identifier_rigid constants names x
+raw_rigid arities constants names (Constant c) h = operator_rigid constants names c
+raw_rigid arities constants names (Applied f a) h = (
+  raw_rigid arities constants names f (and_left (term_has_arities arities f) (term_has_arities arities a) h),
+  raw_rigid arities constants names a (and_right (term_has_arities arities f) (term_has_arities arities a) h),
+)
+raw_rigid arities constants names (Abstraction v b) h = (
+  option_rigid arities v.annotation (and_left (option_has_arities arities v.annotation) (term_has_arities arities b) h),
+  raw_rigid arities constants (v.name ∷ names) b (and_right (option_has_arities arities v.annotation) (term_has_arities arities b) h),
+)
+raw_rigid arities constants names (Typed t ty) h = (
+  type_rigid arities ty (and_right (term_has_arities arities t) (has_arities arities ty) h),
+  raw_rigid arities constants names t (and_left (term_has_arities arities t) (has_arities arities ty) h),
+)
+
+-- ---- definitions
+
+pub definition_scoped : (arities : List (List ℕ × ℕ)) (constants : List (List ℕ × TypeTree)) (d : DefinitionText) → IsScoped [] (definition_raw arities constants d)
+definition_scoped arities constants d = ((operator_scoped constants [] Equals, refl), raw_scoped arities (without d.name constants) [] (value_text d))
+
+pub definition_rigid : (arities : List (List ℕ × ℕ)) (constants : List (List ℕ × TypeTree)) (d : DefinitionText) → term_has_arities arities (value_text d) ≡ true → HasRigidAnnotations (definition_raw arities constants d)
+definition_rigid arities constants d h = ((operator_rigid constants [] Equals, tt), raw_rigid arities (without d.name constants) [] (value_text d) h)
+
+pub definition_built : (arities : List (List ℕ × ℕ)) (constants others : List (List ℕ × TypeTree)) (d : DefinitionText) (value : TermText) (name : List ℕ) (raw left sign right : RawTree) →
+    raw ≡ RawApply left right → left ≡ RawApply sign (RawFree name) → sign ≡ operator_raw constants [] Equals → name ≡ d.name → right ≡ raw_of arities others [] value → others ≡ without d.name constants → value ≡ value_text d →
+    raw ≡ definition_raw arities constants d
+definition_built arities constants others d value name raw left sign right whole first equal named second other same =
+    let l : left ≡ RawApply (operator_raw constants [] Equals) (RawFree d.name) = first ∙ (λ j. RawApply (equal j) (RawFree (named j))) in
+    let r : right ≡ raw_of arities (without d.name constants) [] (value_text d) = second ∙ (λ j. raw_of arities (other j) [] (same j)) in
+    whole ∙ (λ j. RawApply (l j) (r j))
+
+-- ---- the walk over arguments
+
+pub texts_list : (arities : List (List ℕ × ℕ)) (ts : List TypeText) → type_list (map (type_of_text arities) ts) ≡ types_of_texts arities (type_texts ts)
+texts_list arities [] = refl
+texts_list arities (t ∷ ts) = ap (more_types (type_of_text arities t)) (texts_list arities ts)
+
+pub count_length : (ts : List TypeText) → text_count (type_texts ts) ≡ length ts
+count_length [] = refl
+count_length (t ∷ ts) = let r = count_length ts in omega (arith, r)
+
+and_true : (a b : Bool) → a ≡ true → b ≡ true → (a && b) ≡ true
+and_true a b p q = rw (p, q) refl
+
+and_right_false : (a b : Bool) → b ≡ false → (a && b) ≡ false
+and_right_false true b e = e
+and_right_false false b e = refl
+
+pub have_append : (arities : List (List ℕ × ℕ)) (ts : List TypeText) (t : TypeText) → have_arities arities (type_texts ts) ≡ true → has_arities arities t ≡ true → have_arities arities (type_texts (ts ++ t ∷ [])) ≡ true
+have_append arities [] t h k = and_true (has_arities arities t) true k refl
+have_append arities (s ∷ ts) t h k = by (has_arities arities s) h (λ g. have_append arities ts t g k)
+  where
+    by : (b : Bool) → (b && have_arities arities (type_texts ts)) ≡ true → (have_arities arities (type_texts ts) ≡ true → have_arities arities (type_texts (ts ++ t ∷ [])) ≡ true) → (b && have_arities arities (type_texts (ts ++ t ∷ []))) ≡ true
+    by true e r = r e
+    by false e r = absurd (cc)
+
+-- one argument with the fault is enough
+pub have_false : (arities : List (List ℕ × ℕ)) (ts : List TypeText) (i : ℕ) (d : TypeText) → i < length ts → has_arities arities (get_or ts i d) ≡ false → have_arities arities (type_texts ts) ≡ false
+have_false arities [] i d l e = absurd (omega arith)
+have_false arities (t ∷ ts) zero d l e = rw e refl
+have_false arities (t ∷ ts) (suc i) d l e = and_right_false (has_arities arities t) (have_arities arities (type_texts ts)) (have_false arities ts i d (omega arith) e)
+
+-- an argument has fewer nodes than the whole
+text_size : (ts : List TypeText) (i : ℕ) (d : TypeText) → i < length ts → type_nodes (get_or ts i d) ≤ types_nodes (type_texts ts)
+text_size [] i d lt = absurd (omega arith)
+text_size (t ∷ ts) zero d lt = omega arith
+text_size (t ∷ ts) (suc i) d lt = let r = text_size ts i d (omega arith) in omega (arith, r)
+
+pub text_falls : (ty : TypeText) (c : List ℕ) (args items : List TypeText) (i : ℕ) (arg : TypeText) → Apply c (type_texts args) ≡ ty → items ≡ args → i < length items → arg ≡ get_or items i arg → type_nodes arg < type_nodes ty
+text_falls ty c args items i arg e p lt q =
+    let whole : 1 + types_nodes (type_texts args) ≡ type_nodes ty = ap type_nodes e in
+    let same : types_nodes (type_texts items) ≡ types_nodes (type_texts args) = ap (λ (xs : List TypeText). types_nodes (type_texts xs)) p in
+    let here : type_nodes arg ≡ type_nodes (get_or items i arg) = ap type_nodes q in
+    let r = text_size items i arg lt in
+    omega (arith, whole, same, here, r)
+
+-- ---- a constructor with arguments
+
+-- their number is another than the arity
+pub wrong_count : (arities : List (List ℕ × ℕ)) (ty : TypeText) (c a : List ℕ) (args : List TypeText) (n : ℕ) → Apply c (type_texts args) ≡ ty → a ≡ c → n ≡ length args → takes (arity_of arities a) n ≡ false → has_arities arities ty ≡ false
+wrong_count arities ty c a args n e p l f =
+    let g : takes (arity_of arities a) (text_count (type_texts args)) ≡ false = subst (λ (k : ℕ). takes (arity_of arities a) k ≡ false) (l ∙ sym (count_length args)) f in
+    let h : takes (arity_of arities c) (text_count (type_texts args)) ≡ false = subst (λ (x : List ℕ). takes (arity_of arities x) (text_count (type_texts args)) ≡ false) p g in
+    sym (ap (has_arities arities) e) ∙ ap (λ (b : Bool). b && have_arities arities (type_texts args)) h
+
+-- one of them has the fault
+pub wrong_argument : (arities : List (List ℕ × ℕ)) (ty : TypeText) (c : List ℕ) (args items : List TypeText) (i : ℕ) (arg : TypeText) → Apply c (type_texts args) ≡ ty → items ≡ args → i < length items → arg ≡ get_or items i arg → has_arities arities arg ≡ false → has_arities arities ty ≡ false
+wrong_argument arities ty c args items i arg e p lt q h =
+    let here : has_arities arities (get_or items i arg) ≡ false = sym (ap (has_arities arities) q) ∙ h in
+    let inside : have_arities arities (type_texts args) ≡ false = subst (λ (xs : List TypeText). have_arities arities (type_texts xs) ≡ false) p (have_false arities items i arg lt here) in
+    sym (ap (has_arities arities) e) ∙ and_right_false (takes (arity_of arities c) (text_count (type_texts args))) (have_arities arities (type_texts args)) inside
+
+take_next : (items : List TypeText) (i : ℕ) (arg : TypeText) → i < length items → arg ≡ get_or items i arg → take (i + 1) items ≡ take i items ++ arg ∷ []
+take_next items i arg lt q = take_more items i arg lt ∙ ap (λ (x : TypeText). take i items ++ x ∷ []) (sym q)
+
+pub right_step : (arities : List (List ℕ × ℕ)) (items : List TypeText) (i : ℕ) (arg : TypeText) → i < length items → arg ≡ get_or items i arg → have_arities arities (type_texts (take i items)) ≡ true → has_arities arities arg ≡ true → have_arities arities (type_texts (take (i + 1) items)) ≡ true
+right_step arities items i arg lt q h k = ap (λ (xs : List TypeText). have_arities arities (type_texts xs)) (take_next items i arg lt q) ∙ have_append arities (take i items) arg h k
+
+pub types_step : (arities : List (List ℕ × ℕ)) (items : List TypeText) (i : ℕ) (arg : TypeText) (types after : List TypeTree) (t : TypeTree) → i < length items → arg ≡ get_or items i arg → types ≡ map (type_of_text arities) (take i items) → t ≡ type_of_text arities arg → after ≡ types ++ t ∷ [] → after ≡ map (type_of_text arities) (take (i + 1) items)
+types_step arities items i arg types after t lt q e k p =
+    p ∙ (λ j. e j ++ k j ∷ []) ∙ sym (map-append (type_of_text arities) (take i items) (arg ∷ [])) ∙ ap (map (type_of_text arities)) (sym (take_next items i arg lt q))
+
+pub whole_type : (arities : List (List ℕ × ℕ)) (ty : TypeText) (c a : List ℕ) (args items : List TypeText) (types : List TypeTree) (n i : ℕ) (t : TypeTree) →
+    Apply c (type_texts args) ≡ ty → a ≡ c → n ≡ length args → takes (arity_of arities a) n ≡ true → items ≡ args → length items ≤ i → types ≡ map (type_of_text arities) (take i items) → have_arities arities (type_texts (take i items)) ≡ true → t ≡ TyApp a (type_list types) →
+    (t ≡ type_of_text arities ty) × (has_arities arities ty ≡ true)
+whole_type arities ty c a args items types n i t e p l f s k m h r =
+    let all : take i items ≡ args = take_all i items k ∙ s in
+    let ts : type_list types ≡ types_of_texts arities (type_texts args) = ap type_list (m ∙ ap (map (type_of_text arities)) all) ∙ texts_list arities args in
+    let g : takes (arity_of arities a) (text_count (type_texts args)) ≡ true = subst (λ (j : ℕ). takes (arity_of arities a) j ≡ true) (l ∙ sym (count_length args)) f in
+    let count : takes (arity_of arities c) (text_count (type_texts args)) ≡ true = subst (λ (x : List ℕ). takes (arity_of arities x) (text_count (type_texts args)) ≡ true) p g in
+    let inside : have_arities arities (type_texts args) ≡ true = subst (λ (xs : List TypeText). have_arities arities (type_texts xs) ≡ true) all h in (
+      r ∙ (λ j. TyApp (p j) (ts j)) ∙ ap (type_of_text arities) e,
+      sym (ap (has_arities arities) e) ∙ and_true (takes (arity_of arities c) (text_count (type_texts args))) (have_arities arities (type_texts args)) count inside,
+    )

@@ -1,0 +1,298 @@
+//! What the identifiers of types and terms as they are written mean.
+ghost use Rattle.std.specs.Prelude.{◌≡◌, codes, IfOk, IfErr, IsOkUnless, MatchOption, Some, None, true, false};
+ghost use Rattle.hol_types.specs.Fun.{fun_type};
+ghost use Rattle.hol_infer.specs.RawView.{raw_tree};
+ghost use Rattle.hol_infer.specs.NamesView.{scope_names};
+ghost use Rattle.hol_infer.specs.Resolving.{arity_of, generic_type_of, ident_type, begins_with_mark, stands_alone, takes, type_of_text, has_arities, option_has_arities, term_has_arities, name_index, identifier, bool_type, operator_raw, raw_of};
+ghost use Rattle.std.specs.Option.{option_map};
+ghost use Rattle.hol_infer.specs.declared.resolving.ResolveError.TheVariants.{Memory};
+ghost use Rattle.hol_infer.specs.Raw.{RawConstant};
+
+use crate::raw::RawTerm;
+use hol_notation_terms::{Operator, PreTerm, PreTermNode, PreType, PreTypeNode};
+use hol_types::{Name, Ty};
+use std::alloc::{AllocError, AllocFailed, Global};
+
+/// Why identifiers are not resolved.
+#[derive(Clone, Copy, Debug, PartialEq, Eq)]
+pub enum ResolveError {
+    /// A type constructor with another number of arguments than its arity, or arguments given to a name that is no constructor.
+    Arity,
+    /// There is no memory left.
+    Memory,
+}
+
+impl From<AllocError> for ResolveError {
+    ghost from_gives = { λ _ e. e ≡ Memory };
+
+    fn from(_e: AllocError) -> ResolveError {
+        ResolveError::Memory
+    }
+}
+
+impl<T: Drop> From<AllocFailed<T>> for ResolveError {
+    ghost from_gives = { λ _ e. e ≡ Memory };
+
+    fn from(_e: AllocFailed<T>) -> ResolveError {
+        ResolveError::Memory
+    }
+}
+
+/// The names of the variables of the enclosing abstractions, the innermost first.
+#[derive(Clone, Copy)]
+pub enum Names<'a> {
+    /// Under no abstraction.
+    Outermost,
+    /// Under an abstraction over a variable of this name, which stands in that scope.
+    Inside(&'a str, &'a Names<'a>),
+}
+
+impl<'a> Names<'a> {
+    // How many abstractions outwards the innermost variable of the name is.
+    fn index(&self, name: &str) -> Result<Option<usize>, ResolveError>
+        ensures found { IfOk result (λ i. i ≡ name_index (scope_names self.now) name.now) }
+        ensures memory { IsOkUnless result ResolveError.Memory }
+    {
+        match self {
+            Names::Outermost => Ok(None),
+            Names::Inside(inner, outer) => {
+                if *inner == name {
+                    return Ok(Some(0));
+                }
+                match outer.index(name)? {
+                    // More abstractions than a number can count need more memory than there is.
+                    Some(index) => match index.checked_add(1) {
+                        Some(next) => Ok(Some(next)),
+                        None => Err(ResolveError::Memory),
+                    },
+                    None => Ok(None),
+                }
+            }
+        }
+    }
+}
+
+// The arity of the constructor of this name, if it stands.
+fn arity(arities: &[(Name, usize)], name: &str) -> Option<usize>
+    ensures { result ≡ arity_of arities.now name.now }
+{
+    for entry in arities {
+        if entry.0.as_str() == name {
+            return Some(entry.1);
+        }
+    }
+    None
+}
+
+// The generic type of the constant of this name, if it stands.
+fn generic_type<'a>(constants: &'a [(Name, Ty)], name: &str) -> Option<&'a Ty>
+    ensures { MatchOption result (generic_type_of constants.now name.now ≡ None) (λ ty. generic_type_of constants.now name.now ≡ Some ty.now) }
+{
+    for entry in constants {
+        if entry.0.as_str() == name {
+            return Some(&entry.1);
+        }
+    }
+    None
+}
+
+// Whether the name is a constructor of so many arguments.
+fn takes(arities: &[(Name, usize)], name: &str, count: usize) -> bool
+    ensures { result ≡ takes (arity_of arities.now name.now) count }
+{
+    match arity(arities, name) {
+        Some(arity) => arity == count,
+        None => false,
+    }
+}
+
+// Whether the name is one that types that are left open have.
+fn begins_with_mark(name: &str) -> bool
+    ensures { result ≡ begins_with_mark name.now }
+{
+    name.as_bytes().first() == Some(&b'?')
+}
+
+// The type of an identifier without arguments.
+fn ident_type(alloc: Global, arities: &[(Name, usize)], name: &str) -> Result<Ty, ResolveError>
+    ensures ok { IfOk result (λ t. (t ≡ ident_type (arity_of arities.now name.now) name.now) × (stands_alone (arity_of arities.now name.now) name.now ≡ true)) }
+    ensures arity { IfErr result (λ e. e ≡ ResolveError.Arity → stands_alone (arity_of arities.now name.now) name.now ≡ false) }
+{
+    let own_name = Name::new(alloc, name)?;
+    match arity(arities, name) {
+        None => {
+            if begins_with_mark(name) {
+                return Err(ResolveError::Arity);
+            }
+            let ty = Ty::var(alloc, &own_name)?;
+            Ok(ty)
+        }
+        Some(count) => {
+            if count != 0 {
+                return Err(ResolveError::Arity);
+            }
+            let ty = Ty::app(alloc, &own_name, &[])?;
+            Ok(ty)
+        }
+    }
+}
+
+/// The type that is written, among constructors of these arities.
+///
+/// Answers `Arity` exactly where a constructor stands with another number of arguments than its arity, or arguments are given to a
+/// name that is no constructor, and `Memory` where memory is short.
+pub fn resolve_type(
+    alloc: Global,
+    arities: &[(Name, usize)],
+    ty: &PreType,
+) -> Result<Ty, ResolveError>
+    ensures ok { IfOk result (λ t. (t ≡ type_of_text arities.now ty.now) × (has_arities arities.now ty.now ≡ true)) }
+    ensures arity { IfErr result (λ e. e ≡ ResolveError.Arity → has_arities arities.now ty.now ≡ false) }
+{
+    match ty.node() {
+        PreTypeNode::Ident(name) => ident_type(alloc, arities, name.as_str()),
+        PreTypeNode::Arrow(from, to) => {
+            let domain = resolve_type(alloc, arities, from)?;
+            let range = resolve_type(alloc, arities, to)?;
+            let ty = Ty::fun(alloc, &domain, &range)?;
+            Ok(ty)
+        }
+        PreTypeNode::Apply(constructor, args) => {
+            if !takes(arities, constructor.as_str(), args.len()) {
+                return Err(ResolveError::Arity);
+            }
+            let mut types = Vec::with_capacity(alloc, args.len())?;
+            for arg in args {
+                let ty = resolve_type(alloc, arities, arg)?;
+                types.push(ty)?;
+            }
+            let name = Name::new(alloc, constructor.as_str())?;
+            let ty = Ty::app(alloc, &name, &types)?;
+            Ok(ty)
+        }
+    }
+}
+
+// The type that is written for a bound variable, if there is one.
+fn resolve_annotation(
+    alloc: Global,
+    arities: &[(Name, usize)],
+    annotation: &Option<PreType>,
+) -> Result<Option<Ty>, ResolveError>
+    ensures ok { IfOk result (λ o. (o ≡ option_map (type_of_text arities.now) annotation.now) × (option_has_arities arities.now annotation.now ≡ true)) }
+    ensures arity { IfErr result (λ e. e ≡ ResolveError.Arity → option_has_arities arities.now annotation.now ≡ false) }
+{
+    match annotation {
+        Some(ty) => {
+            let own_type = resolve_type(alloc, arities, ty)?;
+            Ok(Some(own_type))
+        }
+        None => Ok(None),
+    }
+}
+
+// What an identifier means.
+fn identifier(
+    alloc: Global,
+    constants: &[(Name, Ty)],
+    names: &Names<'_>,
+    name: &str,
+) -> Result<RawTerm, ResolveError>
+    ensures ok { IfOk result (λ t. raw_tree t ≡ identifier constants.now (scope_names names.now) name.now) }
+    ensures memory { IsOkUnless result ResolveError.Memory }
+{
+    match names.index(name)? {
+        Some(index) => Ok(RawTerm::Bound(index)),
+        None => {
+            let own_name = Name::new(alloc, name)?;
+            match generic_type(constants, name) {
+                Some(generic) => {
+                    let own_type = generic.copy()?;
+                    Ok(RawTerm::Constant(own_name, own_type))
+                }
+                None => Ok(RawTerm::Free(own_name)),
+            }
+        }
+    }
+}
+
+// Equality of truth values.
+fn equivalence(alloc: Global) -> Result<RawTerm, ResolveError>
+    ensures ok { IfOk result (λ t. raw_tree t ≡ RawConstant (codes "=") (fun_type bool_type (fun_type bool_type bool_type))) }
+    ensures memory { IsOkUnless result ResolveError.Memory }
+{
+    let truth_name = Name::new(alloc, "bool")?;
+    let truth = Ty::app(alloc, &truth_name, &[])?;
+    let range = Ty::fun(alloc, &truth, &truth)?;
+    let ty = Ty::fun(alloc, &truth, &range)?;
+    let name = Name::new(alloc, "=")?;
+    Ok(RawTerm::Constant(name, ty))
+}
+
+/// What an operator means.
+pub fn operator(
+    alloc: Global,
+    constants: &[(Name, Ty)],
+    names: &Names<'_>,
+    operator: Operator,
+) -> Result<RawTerm, ResolveError>
+    ensures ok { IfOk result (λ t. raw_tree t ≡ operator_raw constants.now (scope_names names.now) operator) }
+    ensures memory { IsOkUnless result ResolveError.Memory }
+{
+    match operator {
+        Operator::Iff => equivalence(alloc),
+        Operator::Implies => identifier(alloc, constants, names, "==>"),
+        Operator::Or => identifier(alloc, constants, names, "\\/"),
+        Operator::And => identifier(alloc, constants, names, "/\\"),
+        Operator::Equals => identifier(alloc, constants, names, "="),
+        Operator::Not => identifier(alloc, constants, names, "~"),
+        Operator::ForAll => identifier(alloc, constants, names, "!"),
+        Operator::Exists => identifier(alloc, constants, names, "?"),
+        Operator::ExistsUnique => identifier(alloc, constants, names, "?!"),
+        Operator::Choice => identifier(alloc, constants, names, "@"),
+    }
+}
+
+/// The term whose identifiers are resolved, under abstractions over variables of these names.
+///
+/// Answers `Arity` exactly where the type of an annotation has that fault, and `Memory` where memory is short.
+pub fn resolve(
+    alloc: Global,
+    constants: &[(Name, Ty)],
+    arities: &[(Name, usize)],
+    names: &Names<'_>,
+    term: &PreTerm,
+) -> Result<RawTerm, ResolveError>
+    ensures ok { IfOk result (λ t. (raw_tree t ≡ raw_of arities.now constants.now (scope_names names.now) term.now) × (term_has_arities arities.now term.now ≡ true)) }
+    ensures arity { IfErr result (λ e. e ≡ ResolveError.Arity → term_has_arities arities.now term.now ≡ false) }
+{
+    match term.node() {
+        PreTermNode::Ident(name) => {
+            let raw = identifier(alloc, constants, &*names, name.as_str())?;
+            Ok(raw)
+        }
+        PreTermNode::Operator(sign) => {
+            let raw = operator(alloc, constants, &*names, *sign)?;
+            Ok(raw)
+        }
+        PreTermNode::Apply(function, argument) => {
+            let left = resolve(alloc, constants, arities, &*names, function)?;
+            let right = resolve(alloc, constants, arities, &*names, argument)?;
+            let raw = RawTerm::apply(alloc, left, right)?;
+            Ok(raw)
+        }
+        PreTermNode::Abstraction(variable, body) => {
+            let annotation = resolve_annotation(alloc, arities, &variable.annotation)?;
+            let inside = Names::Inside(variable.name.as_str(), &*names);
+            let inner = resolve(alloc, constants, arities, &inside, body)?;
+            let raw = RawTerm::abstraction(alloc, variable.name.as_str(), annotation, inner)?;
+            Ok(raw)
+        }
+        PreTermNode::Typed(inner, ty) => {
+            let inner = resolve(alloc, constants, arities, &*names, inner)?;
+            let ty = resolve_type(alloc, arities, ty)?;
+            let raw = RawTerm::annotated(alloc, inner, ty)?;
+            Ok(raw)
+        }
+    }
+}
