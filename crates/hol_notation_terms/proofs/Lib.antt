@@ -5,3 +5,6 @@ pub mod TypeSteps
 pub mod QuotationSteps
 pub mod TermSteps
 pub mod Inside
+pub mod Fresh
+pub mod DefinitionSteps
+pub mod OneReading

@@ -1,7 +1,15 @@
-//! Types and terms as they are written, and their readers.
+//! Types, terms, quotations and definitions as they are written, and their readers.
+//!
+//! A reader calls itself for each part inside another, and dropping what is read does too. The deepest text that the limits
+//! allow, 1,365 binders one inside another, is read and dropped in less than 3 MB of call stack, as measured on x86-64 in
+//! tests that are built natively; a program's main thread has 8 MB.
 #![tactic(auto)]
 
 mod definition;
+mod definition_reader;
+#[cfg(test)]
+mod definition_tests;
+mod laws;
 mod operator;
 mod pre_term;
 mod pre_type;
@@ -16,6 +24,8 @@ mod tests;
 mod type_reader;
 
 pub use definition::{Definition, RightSide};
+pub use definition_reader::read_definition_quotation;
+pub use laws::one_reading;
 pub use operator::Operator;
 pub use pre_term::{PreTerm, PreTermNode};
 pub use pre_type::{PreType, PreTypeNode};
