@@ -5,6 +5,8 @@ mod building;
 mod cell;
 mod definition;
 mod elaboration;
+#[cfg(test)]
+mod elaboration_tests;
 mod fault;
 mod finding;
 mod generate;
