@@ -1,5 +1,5 @@
 pub mod Types
-pub mod Naming
 pub mod Shapes
-pub mod Texts
 pub mod Fewest
+pub mod Primes
+pub mod Making

@@ -1,8 +1,8 @@
 -- The shapes of applications.
-use Rattle.std.proofs.Common.{◌≡◌, ℕ, List, ◌∷◌, refl, Bool, true, false, Option, Some, None}
+use Rattle.std.proofs.Common.{◌≡◌, ℕ, List, ◌∷◌, refl, Bool, true, false, Some, None}
 use Rattle.hol_types.specs.Tree.{TypeTree}
 use Rattle.hol_terms.specs.Nameless.{Nameless, free, bound, fixed, app, lam}
-use Rattle.hol_print.specs.ShowTerm.{Syntax, Binder, Infix, Negation, Apply, syntax, prefixed, shown_name, symbol, infix_number, is_quantifier}
+use Rattle.hol_print.specs.ShowTerm.{Binder, Infix, Apply, syntax, prefixed, shown_name, symbol, infix_number, is_quantifier}
 
 pub quantified : (env : List (List ℕ)) (f x b d : Nameless) (k c : List ℕ) (s : TypeTree) (a : List ℕ) (t : TypeTree) → f ≡ fixed c s → x ≡ lam a t d → k ≡ c → b ≡ d → is_quantifier c ≡ true → syntax env (app f x) ≡ Binder k (shown_name env a b) (syntax (shown_name env a b ∷ env) b)
 quantified env f x b d k c s a t p q r z e = rw (p, q, r, z, e) refl

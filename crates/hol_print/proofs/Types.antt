@@ -1,11 +1,12 @@
 -- Steps of showing types.
-use Rattle.std.proofs.Common.{◌≡◌, ◌≢◌, ℕ, ◌+◌, ◌<◌, ◌≤◌, zero, suc, List, [], ◌∷◌, ◌++◌, length, get_or, take, drop, refl, ap, sym, ◌∙◌, Bool, true, false, cond, Option, Some, None, unwrap_or, codes, arith, bytes_eq}
-use Rattle.hol_types.specs.Tree.{TypeTree, TypeList, TyVar, TyApp, no_types, more_types, type_list, type_size, types_size}
+use Rattle.std.proofs.Common.{◌≡◌, ◌≢◌, ℕ, ◌+◌, ◌<◌, ◌≤◌, List, [], ◌∷◌, ◌++◌, length, get_or, drop, refl, ap, sym, Bool, true, false, cond, Option, Some, None, unwrap_or, codes, arith, bytes_eq}
+use Rattle.hol_types.specs.Tree.{TypeTree, TypeList, TyVar, TyApp, no_types, more_types, type_list}
 use Rattle.hol_types.specs.Fun.{fun_type, fun_parts, both_of}
 use Rattle.std.proofs.lemmas.Slice.Eq.{bytes_eq-Decides}
 use Rattle.hol_types.specs.Equal.{type_eq}
 use Rattle.hol_types.proofs.OrderLaws.{type_cmp_decides}
 use Rattle.hol_print.specs.ShowType.{in_parentheses, is_function, show_type, show_arguments, show_others}
+use Rattle.hol_print.specs.TypePieces.{type_work, types_work}
 
 abbrev Parts : Type 0
 Parts = Option (TypeTree × TypeTree)
@@ -31,17 +32,17 @@ is_fun_type (TyApp c ts) a b e = by (bytes_eq c (codes "fun")) refl e
 pub function_text : (s a b : TypeTree) → fun_parts s ≡ Some (a, b) → show_type s ≡ in_parentheses (is_function a) (show_type a) ++ codes "->" ++ show_type b
 function_text s a b e = ap show_type (is_fun_type s a b e)
 
-pub other_text : (c : List ℕ) (ts : TypeList) → fun_parts (TyApp c ts) ≡ None → show_type (TyApp c ts) ≡ show_arguments ts ++ c
-other_text c no_types e = refl
-other_text c (more_types s no_types) e = refl
-other_text c (more_types s (more_types t no_types)) e = by (bytes_eq c (codes "fun")) refl e
+pub applied_text : (c : List ℕ) (ts : TypeList) → fun_parts (TyApp c ts) ≡ None → show_type (TyApp c ts) ≡ show_arguments ts ++ c
+applied_text c no_types e = refl
+applied_text c (more_types s no_types) e = refl
+applied_text c (more_types s (more_types t no_types)) e = by (bytes_eq c (codes "fun")) refl e
   where
     by : (v : Bool) → bytes_eq c (codes "fun") ≡ v → cond {A = Parts} v (both_of (more_types s (more_types t no_types))) None ≡ None → show_type (TyApp c (more_types s (more_types t no_types))) ≡ show_arguments (more_types s (more_types t no_types)) ++ c
     by true p q = absurd (cc)
     by false p q = rw p refl
-other_text c (more_types s (more_types t (more_types u us))) e = refl
+applied_text c (more_types s (more_types t (more_types u us))) e = refl
 
-pub ruleset parts = (function_text, other_text)
+pub ruleset parts = (function_text, applied_text)
 
 pub one_argument : (ts : List TypeTree) (s : TypeTree) → 1 ≤ length ts → length ts < 2 → s ≡ get_or ts 0 s → show_arguments (type_list ts) ≡ in_parentheses (is_function s) (show_type s) ++ codes " "
 one_argument [] s h k e = absurd (omega arith)
@@ -55,32 +56,40 @@ many_arguments (a ∷ b ∷ ts) s t h e k = let p : s ≡ a = e in let q : t ≡
 
 pub ruleset arguments = (one_argument, many_arguments)
 
-pub argument_size : (ts : List TypeTree) (i : ℕ) (s : TypeTree) → i < length ts → s ≡ get_or ts i s → type_size s ≤ types_size (type_list ts)
-argument_size [] i s h e = absurd (omega arith)
-argument_size (t ∷ ts) zero s h e = let p : s ≡ t = e in rw p (omega arith)
-argument_size (t ∷ ts) (suc i) s h e = omega (arith, argument_size ts i s (omega arith) e)
+-- the first of the arguments after the second
+pub other_text : (ts : List TypeTree) (t : TypeTree) → 1 ≤ length ts → t ≡ get_or ts 0 t → show_others (type_list ts) ≡ codes "," ++ show_type t ++ show_others (type_list (drop 1 ts))
+other_text [] t h e = absurd (omega arith)
+other_text (a ∷ ts) t h e = let p : t ≡ a = e in rw p refl
 
-taken_size : (ts : List TypeTree) (m : ℕ) → types_size (type_list (take m ts)) ≤ types_size (type_list ts)
-taken_size ts zero = omega arith
-taken_size [] (suc m) = omega arith
-taken_size (t ∷ ts) (suc m) = omega (arith, taken_size ts m)
+pub no_other_text : (ts : List TypeTree) → length ts < 1 → show_others (type_list ts) ≡ []
+no_other_text [] h = refl
+no_other_text (t ∷ ts) h = absurd (omega arith)
 
-dropped_size : (ts : List TypeTree) (n : ℕ) → types_size (type_list (drop n ts)) ≤ types_size (type_list ts)
-dropped_size ts zero = omega arith
-dropped_size [] (suc n) = omega arith
-dropped_size (t ∷ ts) (suc n) = omega (arith, dropped_size ts n)
+-- the work of the arguments
+pub function_work : (s a b : TypeTree) → fun_parts s ≡ Some (a, b) → type_work s ≡ 17 + type_work a + type_work b
+function_work s a b e = omega (arith, ap type_work (is_fun_type s a b e))
 
--- also of m of those from n on
-pub other_size : (ts : List TypeTree) (m n i : ℕ) (s : TypeTree) → i < length (take m (drop n ts)) → s ≡ get_or (take m (drop n ts)) i s → type_size s ≤ types_size (type_list ts)
-other_size ts m n i s h e = omega (arith, argument_size (take m (drop n ts)) i s h e, taken_size (drop n ts) m, dropped_size ts n)
+pub no_work : (ts : List TypeTree) → length ts < 1 → types_work (type_list ts) ≡ 1
+no_work [] h = refl
+no_work (t ∷ ts) h = absurd (omega arith)
 
-pub domain_size : (s a b : TypeTree) → fun_parts s ≡ Some (a, b) → type_size a < type_size s
-domain_size s a b e = omega (arith, ap type_size (is_fun_type s a b e))
+pub first_work : (ts : List TypeTree) (t : TypeTree) → 1 ≤ length ts → t ≡ get_or ts 0 t → types_work (type_list ts) ≡ 4 + type_work t + types_work (type_list (drop 1 ts))
+first_work [] t h e = absurd (omega arith)
+first_work (a ∷ ts) t h e = let p : t ≡ a = e in rw p refl
 
-pub range_size : (s a b : TypeTree) → fun_parts s ≡ Some (a, b) → type_size b < type_size s
-range_size s a b e = omega (arith, ap type_size (is_fun_type s a b e))
+pub one_work : (ts : List TypeTree) (t : TypeTree) → 1 ≤ length ts → length ts < 2 → t ≡ get_or ts 0 t → types_work (type_list ts) ≡ 5 + type_work t
+one_work [] t h k e = absurd (omega arith)
+one_work (a ∷ []) t h k e = let p : t ≡ a = e in rw p (omega arith)
+one_work (a ∷ b ∷ ts) t h k e = absurd (omega arith)
 
-pub ruleset sizes = (argument_size, other_size, domain_size, range_size)
+pub many_work : (ts : List TypeTree) (s t : TypeTree) → 2 ≤ length ts → s ≡ get_or ts 0 s → t ≡ get_or ts 1 t → types_work (type_list ts) ≡ 8 + type_work s + type_work t + types_work (type_list (drop 2 ts))
+many_work [] s t h e k = absurd (omega arith)
+many_work (a ∷ []) s t h e k = absurd (omega arith)
+many_work (a ∷ b ∷ ts) s t h e k = let p : s ≡ a = e in let q : t ≡ b = k in rw (p, q) (omega arith)
+
+pub ruleset works = (function_work, no_work, one_work, many_work)
+
+pub ruleset others = (other_text, no_other_text, no_work, first_work)
 
 -- the type of propositions is the constructor `bool` without arguments
 pub bool_empty : (c : List ℕ) (ts : List TypeTree) → c ≡ codes "bool" → length ts ≡ 0 → type_eq (TyApp c (type_list ts)) (TyApp (codes "bool") no_types) ≡ true

@@ -3,3 +3,7 @@ pub mod ShowTerm
 pub mod BareView
 pub mod ShapeView
 pub mod ShowGoal
+pub mod TypePieces
+pub mod NamesLeft
+pub mod Making
+pub mod TermPieces

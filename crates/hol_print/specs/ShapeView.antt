@@ -1,20 +1,24 @@
 -- How the top of a term is written, as the code sees it. Private contracts cite it.
-use Rattle.std.specs.Prelude.{ℕ, ◌+◌, List, [], ◌∷◌, codes, unwrap_or, slice_get}
-use Rattle.hol_terms.specs.Nameless.{base_of}
+use Rattle.std.specs.Prelude.{ℕ, ◌+◌, List, [], ◌∷◌, unwrap_or, slice_get}
+use Rattle.hol_terms.specs.Nameless.{Nameless, base_of}
 use Rattle.hol_print.specs.declared.shape.Shape.{Shape}
 use Rattle.hol_print.specs.declared.shape.Shape.TheVariants as code
-use Rattle.hol_print.specs.declared.term_text.Site.{Site}
-use Rattle.hol_print.specs.declared.term_text.Site.TheVariants as site
+use Rattle.hol_print.specs.declared.site.Site.{Site}
+use Rattle.hol_print.specs.declared.site.Site.TheVariants as site
 use Rattle.hol_print.specs.BareView.{bare_of, nodes}
 use Rattle.hol_print.specs.ShowType.{in_parentheses}
 use Rattle.hol_print.specs.ShowTerm.{Syntax, Word, Binder, Infix, Negation, Apply, syntax, shown_name, is_operator, Place, Within, After}
+
+-- a binder of symbol k over a variable of base a
+abbrev pub binder_syntax : List (List ℕ) → List ℕ → List ℕ → Nameless → Syntax
+binder_syntax env k a b = Binder k (shown_name env a b) (syntax (shown_name env a b ∷ env) b)
 
 abbrev pub shape_syntax : List (List ℕ) → Shape → Syntax
 shape_syntax env (code.Free name) = Word name.now
 shape_syntax env (code.Bound i) = Word (unwrap_or (slice_get env i) [])
 shape_syntax env (code.Constant c) = Word (in_parentheses (is_operator c.now) c.now)
 shape_syntax env (code.Binder k v b) =
-    Binder k.now (shown_name env (base_of v.now.0) (bare_of b.now)) (syntax (shown_name env (base_of v.now.0) (bare_of b.now) ∷ env) (bare_of b.now))
+    binder_syntax env k.now (base_of v.now.0) (bare_of b.now)
 shape_syntax env (code.Infix n c x y) = Infix n c.now (syntax env (bare_of x.now)) (syntax env (bare_of y.now))
 shape_syntax env (code.Negation x) = Negation (syntax env (bare_of x.now))
 shape_syntax env (code.Apply f x) = Apply (syntax env (bare_of f.now)) (syntax env (bare_of x.now))

@@ -55,7 +55,7 @@ fn variable_text(alloc: Global, v: &Variable) -> Result<String, AllocError>
 {
     let mut text = String::from_str(alloc, v.name().as_str())?;
     text.push_str(":")?;
-    write_type(v.ty(), &mut text)?;
+    write_type(alloc, v.ty(), &mut text)?;
     Ok(text)
 }
 

@@ -2,14 +2,22 @@
 #![tactic(auto)]
 
 mod bare;
+mod binder;
 mod goal_text;
 mod names;
 mod notation;
+mod part;
+mod primed_name;
 mod shape;
 mod shown_goal;
+mod site;
+mod stack;
+mod step;
+mod term_piece;
 mod term_text;
 #[cfg(test)]
 mod tests;
+mod type_piece;
 mod type_text;
 
 pub use goal_text::show_goal;

@@ -20,7 +20,7 @@ pub(crate) enum Shape<'a, 'b> {
     /// A constant's text without parentheses.
     Constant(&'a str),
     /// A binder's symbol, its variable and its body.
-    Binder(&'a str, &'a Variable, &'a Bare<'b>),
+    Binder(&'a str, &'b Variable, &'a Bare<'b>),
     /// How strongly an infix binds, the infix and its operands.
     Infix(u8, &'a str, &'a Bare<'b>, &'a Bare<'b>),
     /// A negation's operand.
@@ -39,7 +39,7 @@ impl<'a, 'b> Shape<'a, 'b> {
             Bare::Free(v) => Shape::Free(v.name()),
             Bare::Bound(i) => Shape::Bound(*i),
             Bare::Constant(c, s) => Shape::Constant(symbol(c, s)),
-            Bare::Lam(v, b) => Shape::Binder("\\", v, &**b),
+            Bare::Lam(v, b) => Shape::Binder("\\", *v, &**b),
             Bare::App(f, x) => applied(f, x),
         }
     }
@@ -54,7 +54,7 @@ fn applied<'a, 'b>(f: &'a Bare<'b>, x: &'a Bare<'b>) -> Shape<'a, 'b>
         Bare::Constant(c, _) => match x {
             Bare::Lam(v, b) => {
                 if is_quantifier(c.as_str()) {
-                    Shape::Binder(c.as_str(), v, &**b)
+                    Shape::Binder(c.as_str(), *v, &**b)
                 } else {
                     prefixed(c.as_str(), f, x)
                 }

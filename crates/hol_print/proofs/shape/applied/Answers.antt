@@ -1,7 +1,6 @@
-use Rattle.std.proofs.Common.{◌≡◌, ap, sym, ◌∙◌, refl, Bool, true, false, inl, inr, Some, None}
-use Rattle.hol_terms.specs.Nameless.{fixed}
+use Rattle.std.proofs.Common.{◌≡◌, ap, sym, ◌∙◌, refl, true, false, inl, inr}
 use Rattle.hol_print.specs.BareView.{bare_of}
-use Rattle.hol_print.specs.ShowTerm.{syntax, prefixed, is_quantifier, infix_number}
+use Rattle.hol_print.specs.ShowTerm.{syntax, prefixed, is_quantifier}
 use Rattle.hol_print.proofs.Shapes.{quantified, unquantified, is_lam, plain, written_infix, no_infix, is_fixed, other_head}
 use Rattle.hol_print.proofs.shape.applied.Goals as goal
 
