@@ -1,2 +1,4 @@
 pub mod Laws
 pub mod Steps
+pub mod Raising
+pub mod Walk

@@ -3,3 +3,4 @@ pub mod Terminal
 pub mod Syntax
 pub mod Reading
 pub mod Class
+pub mod Over
