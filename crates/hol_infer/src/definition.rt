@@ -3,7 +3,7 @@ ghost use Rattle.std.specs.Prelude.{◌≡◌, map, IfOk, IfErr, true, false};
 ghost use Rattle.hol_notation_terms.specs.VariableView.{variable_text};
 ghost use Rattle.hol_infer.specs.RawView.{raw_tree};
 ghost use Rattle.hol_infer.specs.Resolving.{with_annotation, at_bool, abstracted, value_text, without, definition_raw, term_has_arities};
-ghost use Rattle.hol_infer.specs.DefinitionView.{annotation_text, definition_text};
+ghost use Rattle.hol_infer.specs.DefinitionView.{definition_text};
 
 use crate::raw::RawTerm;
 use crate::resolving::{Names, ResolveError, operator, resolve};
@@ -19,7 +19,7 @@ pub struct PreDefinition<'a> {
     /// The variables after it.
     pub variables: &'a [PreVariable],
     /// The type that is written for the right side.
-    pub annotation: Option<&'a PreType>,
+    pub annotation: &'a Option<PreType>,
     /// Whether the sign is `<=>`, by which the right side is of type `bool`.
     pub is_equivalence: bool,
     /// The right side.
@@ -29,10 +29,10 @@ pub struct PreDefinition<'a> {
 // The term with the type that is written for it, if there is one.
 fn with_annotation(
     alloc: Global,
-    annotation: Option<&PreType>,
+    annotation: &Option<PreType>,
     term: PreTerm,
 ) -> Result<PreTerm, AllocError>
-    ensures { IfOk result (λ t. t ≡ with_annotation (annotation_text annotation.entry) term) }
+    ensures { IfOk result (λ t. t ≡ with_annotation annotation.now term) }
 {
     match annotation {
         Some(ty) => PreTerm::new(alloc, PreTermNode::Typed(term, ty.copy()?)),

@@ -1,5 +1,5 @@
 //! Worked terms, whose readings are known from the rules of the notation.
-use crate::{ReadingError, elaborate, elaborate_type};
+use crate::{PreDefinition, ReadingError, elaborate, elaborate_definition, elaborate_type};
 use hol_notation_terms::{Operator, PreTerm, PreTermNode, PreType, PreTypeNode, PreVariable};
 use hol_terms::{Term, TermError, Variable};
 use hol_types::{Name, Ty};
@@ -245,5 +245,27 @@ fn types_that_double_are_too_large(rt: HostRuntime) -> Result<(), Fail> {
         Ok(_) => panic!(rt; "a reading"),
         Err(error) => assert_eq!(rt; error, ReadingError::TooLarge),
     }
+    Ok(())
+}
+
+// `T p <=> p`, in which `T` is defined anew, at another type.
+#[test]
+fn a_defined_name_is_a_free_variable(rt: HostRuntime) -> Result<(), Fail> {
+    let alloc = rt.alloc();
+    let right = ident(alloc, "p")?;
+    let variables = [PreVariable {
+        name: String::from_str(alloc, "p")?,
+        annotation: None,
+    }];
+    let definition = PreDefinition {
+        name: "T",
+        variables: &variables,
+        annotation: &None,
+        is_equivalence: true,
+        right: &right,
+    };
+    let got = elaborate_definition(alloc, &definition, &constants(alloc)?, &arities(alloc)?);
+    let function = Ty::fun(alloc, &truth(alloc)?, &truth(alloc)?)?;
+    assert!(rt; has_frees(alloc, &got.expect(&rt, "a reading"), &[("T", function)])?);
     Ok(())
 }
