@@ -2,7 +2,6 @@
 #![tactic(auto)]
 
 mod base;
-mod filter;
 mod scope;
 mod term;
 #[cfg(test)]

@@ -7,15 +7,14 @@ ghost use Rattle.hol_terms.specs.Scoped.{binds, same_named, add_all, occurs_in};
 ghost use Rattle.hol_terms.specs.Scope.{binders};
 ghost use Rattle.hol_terms.specs.Alpha.{strip, alpha_eq};
 ghost use Rattle.hol_terms.specs.Size.{named_size, term_size};
-ghost use Rattle.hol_terms.specs.Filter.{filter_of};
+ghost use Rattle.hol_terms.specs.Filter.{filter_of, type_filter_of};
 ghost use Rattle.hol_terms.specs.View.{named_of};
 ghost use Rattle.hol_terms.specs.declared.term.TermError.TheVariants.{Memory};
 
 use crate::base::base_name;
-use crate::filter::Filter;
 use crate::scope::{Scope, same_place};
 use crate::variable::Variable;
-use hol_types::{Name, Ty};
+use hol_types::{Name, NameFilter, Ty};
 use std::alloc::{AllocError, AllocFailed, Global};
 use std::marker::Model;
 use std::rc::Rc;
@@ -51,14 +50,16 @@ impl<T: Drop> From<AllocFailed<T>> for TermError {
     }
 }
 
-/// A well typed term. It keeps its type, its size and a filter of its free variables, and copies share their nodes.
+/// A well typed term. It keeps its type, its size and filters of its free variables and of its type variables, and copies share their
+/// nodes.
 #[cycle(term)]
 #[derive(Drop)]
 pub struct Term {
     node: Rc<TermNode>,
     ty: Ty,
     size: u32,
-    filter: Filter,
+    filter: NameFilter,
+    type_filter: NameFilter,
 }
 
 /// The top node of a term.
@@ -79,7 +80,7 @@ impl Model for Term {
     ghost use Rattle.std.specs.Prelude.{◌≡◌, Some, min};
     ghost use Rattle.hol_terms.specs.Named.{Named, named_type, term_nodes};
     ghost use Rattle.hol_terms.specs.Size.{named_size};
-    ghost use Rattle.hol_terms.specs.Filter.{filter_of};
+    ghost use Rattle.hol_terms.specs.Filter.{filter_of, type_filter_of};
     ghost use Rattle.hol_terms.specs.Code.{coded_named};
 
     ghost Value = { Named };
@@ -90,7 +91,7 @@ impl Model for Term {
 
     ghost view = { λ a. named_of a.node.value };
 
-    ghost invariant = { λ a. (named_type (named_of a.node.value) ≡ Some a.ty) × (a.size ≡ min (named_size (named_of a.node.value)) 20001) × (a.filter.bits ≡ filter_of (named_of a.node.value)) };
+    ghost invariant = { λ a. (named_type (named_of a.node.value) ≡ Some a.ty) × (a.size ≡ min (named_size (named_of a.node.value)) 20001) × (a.filter.bits ≡ filter_of (named_of a.node.value)) × (a.type_filter.bits ≡ type_filter_of (named_of a.node.value)) };
 
     ghost size = { term_nodes };
 
@@ -178,11 +179,13 @@ impl Term {
     {
         let size = node.size();
         let filter = node.filter();
+        let type_filter = node.type_filter();
         Ok(Term {
             node: Rc::new(alloc, node)?,
             ty,
             size,
             filter,
+            type_filter,
         })
     }
 
@@ -198,6 +201,7 @@ impl Term {
             ty: self.ty.copy()?,
             size: self.size,
             filter: self.filter,
+            type_filter: self.type_filter,
         })
     }
 
@@ -304,7 +308,22 @@ impl Term {
     pub fn may_have_free(&self, v: &Variable) -> bool
         ensures { IsTrue (occurs_in v.now self.now) → IsTrue result }
     {
-        self.filter.has(v.place())
+        self.filter.meets(v.filter())
+    }
+
+    /// A set that has the names of the free variables, and may have others. Each term keeps it, so this is at once.
+    pub fn filter(&self) -> NameFilter
+        ensures { result.bits ≡ filter_of self.now }
+    {
+        self.filter
+    }
+
+    /// A set that has the names of the variables of the types in the term, and may have others. Each term keeps it, so this is at
+    /// once.
+    pub fn type_filter(&self) -> NameFilter
+        ensures { result.bits ≡ type_filter_of self.now }
+    {
+        self.type_filter
     }
 
     /// The free variables, each once, by first occurrence.
@@ -360,14 +379,26 @@ impl TermNode {
     }
 
     // The filter of the term with this top node. A bound variable's name stays in it: another free variable may have its place.
-    fn filter(&self) -> Filter
+    fn filter(&self) -> NameFilter
         ensures { result.bits ≡ filter_of (named_of self.now) }
     {
         match self {
-            TermNode::Var(v) => Filter::only(v.place()),
-            TermNode::Const(_, _) => Filter::empty(),
+            TermNode::Var(v) => v.filter(),
+            TermNode::Const(_, _) => NameFilter::empty(),
             TermNode::Comb(f, x) => f.filter.union(x.filter),
             TermNode::Abs(_, b) => b.filter,
+        }
+    }
+
+    // The filter of the type variables of the term with this top node.
+    fn type_filter(&self) -> NameFilter
+        ensures { result.bits ≡ type_filter_of (named_of self.now) }
+    {
+        match self {
+            TermNode::Var(v) => v.ty().filter(),
+            TermNode::Const(_, ty) => ty.filter(),
+            TermNode::Comb(f, x) => f.type_filter.union(x.type_filter),
+            TermNode::Abs(v, b) => v.ty().filter().union(b.type_filter),
         }
     }
 }

@@ -1,10 +1,9 @@
 //! Variables: a name and a type.
-ghost use Rattle.std.specs.Prelude.{◌≡◌, ◌<◌, IfOk, ◌++◌, ◌∷◌, []};
+ghost use Rattle.std.specs.Prelude.{◌≡◌, IfOk, ◌++◌, ◌∷◌, []};
 ghost use Rattle.hol_types.specs.Equal.{variable_eq};
-ghost use Rattle.hol_terms.specs.Filter.{name_place};
+ghost use Rattle.hol_types.specs.Filter.{name_bit};
 
-use crate::filter::place_of;
-use hol_types::{Name, Ty};
+use hol_types::{Name, NameFilter, Ty};
 use std::alloc::{AllocError, Global};
 use std::marker::Model;
 
@@ -13,7 +12,7 @@ use std::marker::Model;
 pub struct Variable {
     name: Name,
     ty: Ty,
-    place: u32,
+    filter: NameFilter,
 }
 
 impl Model for Variable {
@@ -21,7 +20,7 @@ impl Model for Variable {
     ghost use Rattle.hol_types.specs.Tree.{TypeTree};
     ghost use Rattle.std.specs.Prelude.{◌≡◌};
     ghost use Rattle.hol_terms.specs.Code.{coded_variable};
-    ghost use Rattle.hol_terms.specs.Filter.{name_place};
+    ghost use Rattle.hol_types.specs.Filter.{name_bit};
 
     ghost Value = { List ℕ × TypeTree };
 
@@ -29,7 +28,7 @@ impl Model for Variable {
 
     ghost view = { λ a. (a.name, a.ty) };
 
-    ghost invariant = { λ a. a.place ≡ name_place 0 a.name };
+    ghost invariant = { λ a. a.filter.bits ≡ name_bit a.name };
 }
 
 impl Variable {
@@ -39,11 +38,10 @@ impl Variable {
     pub fn new(name: &Name, ty: &Ty) -> Result<Variable, AllocError>
         ensures { IfOk result (λ v. v ≡ (name.now, ty.now)) }
     {
-        let place = place_of(name);
         Ok(Variable {
             name: name.copy()?,
             ty: ty.copy()?,
-            place,
+            filter: NameFilter::of_name(name),
         })
     }
 
@@ -70,7 +68,7 @@ impl Variable {
         Ok(Variable {
             name: self.name.copy()?,
             ty: self.ty.copy()?,
-            place: self.place,
+            filter: self.filter,
         })
     }
 
@@ -90,20 +88,18 @@ impl Variable {
         ensures { IfOk result (λ v. v ≡ (self.now.0 ++ 39 ∷ [], self.now.1)) }
     {
         let name = self.name.primed(alloc)?;
-        let place = place_of(&name);
+        let filter = NameFilter::of_name(&name);
         Ok(Variable {
             name,
             ty: self.ty.copy()?,
-            place,
+            filter,
         })
     }
 
-    // The place of its name in filters. Each variable keeps it.
-    #[tactic(auto, using(crate::proofs::Filters::variable_place))]
-    pub(crate) fn place(&self) -> u32
-        ensures place { result ≡ name_place 0 self.now.0 }
-        ensures within { result < 64 }
+    /// A set that has its name, and may have others. Each variable keeps it, so this is at once.
+    pub fn filter(&self) -> NameFilter
+        ensures { result.bits ≡ name_bit self.now.0 }
     {
-        self.place
+        self.filter
     }
 }

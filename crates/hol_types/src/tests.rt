@@ -135,27 +135,37 @@ fn matching_finds_no_pair(rt: HostRuntime) -> Result<(), Fail> {
     Ok(())
 }
 
+#[test]
+fn a_type_may_have_its_variables_alone(rt: HostRuntime) -> Result<(), Fail> {
+    let ty = endofunction(rt.alloc())?;
+    assert!(rt; ty.may_have_var(&Name::new(rt.alloc(), "A")?));
+    assert!(rt; !ty.may_have_var(&Name::new(rt.alloc(), "B")?));
+    Ok(())
+}
+
 // A type whose tree has 2^`levels` leaves, over one node a level.
-fn doubled(alloc: Global, levels: u32) -> Result<Ty, AllocError> {
-    let mut ty = variable(alloc, "A")?;
+fn doubled(alloc: Global, leaf: Ty, levels: u32) -> Result<Ty, AllocError> {
+    let mut ty = leaf;
     for _ in 0..levels {
         ty = Ty::fun(alloc, &ty, &ty)?;
     }
     Ok(ty)
 }
 
-// The next two would not end in the reader's lifetime if a call walked the tree.
+// The next six would not end in the reader's lifetime if a call walked the tree.
 #[test]
 fn a_shared_type_has_its_size_at_once(rt: HostRuntime) -> Result<(), Fail> {
-    assert_eq!(rt; doubled(rt.alloc(), 13)?.size(), 16_383);
-    assert_eq!(rt; doubled(rt.alloc(), 60)?.size(), 20_001);
+    let leaf = variable(rt.alloc(), "A")?;
+    assert_eq!(rt; doubled(rt.alloc(), leaf.copy()?, 13)?.size(), 16_383);
+    assert_eq!(rt; doubled(rt.alloc(), leaf, 60)?.size(), 20_001);
     Ok(())
 }
 
 #[test]
 fn a_shared_type_is_compared_up_to_the_first_difference(rt: HostRuntime) -> Result<(), Fail> {
-    let large = doubled(rt.alloc(), 60)?;
-    let larger = doubled(rt.alloc(), 61)?;
+    let leaf = variable(rt.alloc(), "A")?;
+    let large = doubled(rt.alloc(), leaf.copy()?, 60)?;
+    let larger = doubled(rt.alloc(), leaf, 61)?;
     assert_eq!(rt; large.order(&larger), Ordering::Less);
     assert!(rt; !larger.same(&large));
     Ok(())
@@ -164,8 +174,38 @@ fn a_shared_type_is_compared_up_to_the_first_difference(rt: HostRuntime) -> Resu
 #[test]
 fn a_variable_comes_before_a_shared_type(rt: HostRuntime) -> Result<(), Fail> {
     let small = variable(rt.alloc(), "A")?;
-    let large = doubled(rt.alloc(), 60)?;
+    let large = doubled(rt.alloc(), small.copy()?, 60)?;
     assert_eq!(rt; small.order(&large), Ordering::Less);
     assert!(rt; !small.same(&large));
+    Ok(())
+}
+
+#[test]
+fn a_shared_type_without_the_variable_is_kept(rt: HostRuntime) -> Result<(), Fail> {
+    let pairs = bool_for_a(rt.alloc())?;
+    let leaf = variable(rt.alloc(), "B")?;
+    let ty = doubled(rt.alloc(), leaf, 60)?;
+    assert_eq!(rt; ty.subst(rt.alloc(), &pairs)?.size(), 20_001);
+    Ok(())
+}
+
+#[test]
+fn a_shared_type_without_variables_has_no_names(rt: HostRuntime) -> Result<(), Fail> {
+    let leaf = constant(rt.alloc(), "bool")?;
+    let ty = doubled(rt.alloc(), leaf, 60)?;
+    assert_eq!(rt; ty.tyvars(rt.alloc())?.len(), 0);
+    Ok(())
+}
+
+// The types differ at their last leaf alone.
+#[test]
+fn a_variable_at_the_end_of_shared_types_is_seen(rt: HostRuntime) -> Result<(), Fail> {
+    let leaf = constant(rt.alloc(), "bool")?;
+    let ty = doubled(rt.alloc(), leaf, 60)?;
+    let a = variable(rt.alloc(), "A")?;
+    let b = variable(rt.alloc(), "B")?;
+    let ends_in_a = Ty::fun(rt.alloc(), &ty, &a)?;
+    let ends_in_b = Ty::fun(rt.alloc(), &ty, &b)?;
+    assert!(rt; !ends_in_a.same(&ends_in_b));
     Ok(())
 }

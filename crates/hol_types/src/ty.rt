@@ -10,19 +10,23 @@ ghost use Rattle.hol_types.specs.Order.{type_cmp};
 ghost use Rattle.hol_types.specs.Equal.{type_eq};
 ghost use Rattle.hol_types.specs.Fun.{fun_type, fun_parts};
 ghost use Rattle.hol_types.specs.View.{tree_of};
+ghost use Rattle.hol_types.specs.Filter.{type_filter, pairs_filter};
 
+use crate::filter::NameFilter;
 use crate::name::Name;
 use std::alloc::{AllocError, Global};
 use std::cmp::Ordering;
 use std::marker::Model;
 use std::rc::Rc;
 
-/// A type: a variable, or a constructor with its arguments. It keeps its size, and copies share their nodes.
+/// A type: a variable, or a constructor with its arguments. It keeps its size and a filter of its variables, and copies share their
+/// nodes.
 #[cycle(ty)]
 #[derive(Drop)]
 pub struct Ty {
     node: Rc<TyNode>,
     size: u32,
+    filter: NameFilter,
 }
 
 /// The top node of a type.
@@ -38,6 +42,7 @@ pub enum TyNode {
 impl Model for Ty {
     ghost use Rattle.std.specs.Prelude.{◌≡◌, min};
     ghost use Rattle.hol_types.specs.Tree.{TypeTree, type_size};
+    ghost use Rattle.hol_types.specs.Filter.{type_filter};
     ghost use Rattle.hol_types.specs.Code.{coded_type};
 
     ghost Value = { TypeTree };
@@ -48,7 +53,7 @@ impl Model for Ty {
 
     ghost view = { λ a. tree_of a.node.value };
 
-    ghost invariant = { λ a. a.size ≡ min (type_size (tree_of a.node.value)) 20001 };
+    ghost invariant = { λ a. (a.size ≡ min (type_size (tree_of a.node.value)) 20001) × (a.filter.bits ≡ type_filter (tree_of a.node.value)) };
 
     ghost size = { type_size };
 
@@ -85,9 +90,11 @@ impl Ty {
         ensures { IfOk result (λ ty. ty ≡ tree_of node) }
     {
         let size = node.size();
+        let filter = node.filter();
         Ok(Ty {
             node: Rc::new(alloc, node)?,
             size,
+            filter,
         })
     }
 
@@ -100,6 +107,7 @@ impl Ty {
         Ok(Ty {
             node: self.node.clone()?,
             size: self.size,
+            filter: self.filter,
         })
     }
 
@@ -153,13 +161,54 @@ impl Ty {
         self.size
     }
 
+    /// Whether the type variable may occur: where it does, the answer is `true`. So `false` says that it doesn't, and spares a walk.
+    ///
+    /// Takes no memory and no more time for a larger type: each type keeps 64 bits, of which each variable's name has one.
+    #[tactic(auto, using(crate::proofs::Filters::occurs_filter))]
+    pub fn may_have_var(&self, name: &Name) -> bool
+        ensures { IsTrue (is_among (type_names self.now) name.now) → IsTrue result }
+    {
+        self.filter.meets(NameFilter::of_name(name))
+    }
+
+    /// A set that has the names of its variables, and may have others. Each type keeps it, so this is at once.
+    pub fn filter(&self) -> NameFilter
+        ensures { result.bits ≡ type_filter self.now }
+    {
+        self.filter
+    }
+
     /// The type in which each variable's place is taken by the type of the first pair with its name. A variable with no pair stays.
     ///
+    /// A part in which `may_have_var` excludes each pair's name is kept, with its nodes. The others are walked, and a node that
+    /// stands at many places is walked and made anew at each: so the nodes of this type, as `size` counts them, bound the walk. The
+    /// pairs' types are shared, however large.
+    ///
     /// Answers an error where memory is short, and nowhere else.
-    #[tactic(auto, using(crate::proofs::Steps::subst_list))]
+    #[tactic(auto, using(crate::proofs::Filters::kept_closed))]
     pub fn subst(&self, alloc: Global, pairs: &[(Ty, Name)]) -> Result<Ty, AllocError>
         ensures { IfOk result (λ ty. ty ≡ type_subst pairs.now self.now) }
     {
+        if self.filter.is_empty() {
+            return self.copy();
+        }
+        self.replaced(alloc, pairs, NameFilter::of_pairs(pairs))
+    }
+
+    // The recursion of `subst`, where `names` are those of the pairs.
+    #[tactic(auto, using(crate::proofs::Steps::subst_list, crate::proofs::Filters::kept_type))]
+    fn replaced(
+        &self,
+        alloc: Global,
+        pairs: &[(Ty, Name)],
+        names: NameFilter,
+    ) -> Result<Ty, AllocError>
+        requires { names.bits ≡ pairs_filter pairs.now }
+        ensures { IfOk result (λ ty. ty ≡ type_subst pairs.now self.now) }
+    {
+        if !self.filter.meets(names) {
+            return self.copy();
+        }
         match &*self.node {
             TyNode::Var(name) => match replacement(pairs, name) {
                 Some(ty) => ty.copy(),
@@ -168,7 +217,7 @@ impl Ty {
             TyNode::App(name, args) => {
                 let mut new_args = Vec::with_capacity(alloc, args.len())?;
                 for arg in args {
-                    new_args.push(arg.subst(alloc, pairs)?)?;
+                    new_args.push(arg.replaced(alloc, pairs, names)?)?;
                 }
                 Ty::from_node(alloc, TyNode::App(name.copy()?, new_args))
             }
@@ -177,15 +226,15 @@ impl Ty {
 
     /// Whether the two types are equal.
     ///
-    /// Takes no memory. Types of different sizes are told apart at once. Else shared nodes are compared again at each place where
-    /// they stand, up to the first difference: two types of one size may share all their nodes, and this can't be seen, since
-    /// std's `Rc::ptr_eq` promises nothing.
-    #[tactic(auto, using(crate::proofs::OrderLaws::type_cmp_decides, crate::proofs::OrderLaws::sizes_differ))]
+    /// Takes no memory. Types of different sizes, or that keep different bits of their variables, are told apart at once. Else shared
+    /// nodes are compared again at each place where they stand, up to the first difference: two types of one size may share all their
+    /// nodes, and this can't be seen, since std's `Rc::ptr_eq` promises nothing.
+    #[tactic(auto, using(crate::proofs::OrderLaws::type_cmp_decides, crate::proofs::OrderLaws::sizes_differ, crate::proofs::Filters::filters_differ))]
     pub fn same(&self, other: &Ty) -> bool
         ensures test { result ≡ type_eq self.now other.now }
         ensures equal { IsTrue result ↔ (self.now ≡ other.now) }
     {
-        self.size == other.size && self.order(other).is_eq()
+        self.size == other.size && self.filter.same(other.filter) && self.order(other).is_eq()
     }
 
     /// The order of types: variables before applications, then by the bytes of the name, then by the arguments from the left.
@@ -224,6 +273,8 @@ impl Ty {
 
     /// The names of the type variables, each once, in order of bytes.
     ///
+    /// Parts without variables are passed over. The others are walked at each place where they stand.
+    ///
     /// Answers an error where memory is short, and nowhere else.
     #[tactic(auto, using(crate::proofs::Names::collected))]
     pub fn tyvars(&self, alloc: Global) -> Result<Vec<Name>, AllocError>
@@ -237,10 +288,13 @@ impl Ty {
     }
 
     // Puts the names of the variables in their places.
-    #[tactic(auto, using(crate::proofs::Names::add_step))]
+    #[tactic(auto, using(crate::proofs::Names::add_step, crate::proofs::Filters::no_names))]
     fn add_names(&self, names: &mut Vec<Name>) -> Result<(), AllocError>
         ensures { OnOk result (names.new.items ≡ insert_names names.old.items (type_names self.now)) }
     {
+        if self.filter.is_empty() {
+            return Ok(());
+        }
         match &*self.node {
             TyNode::Var(name) => add_name(names, name),
             TyNode::App(_, args) => {
@@ -254,6 +308,8 @@ impl Ty {
 
     /// The pairs whose substitution gives the target, one for each name of `tyvars` in its order, and `None` exactly where no pairs
     /// give it.
+    ///
+    /// Parts without variables are compared as `same` does. The others are walked at each place where they stand.
     ///
     /// Answers an error where memory is short, and nowhere else.
     #[tactic(auto, using(crate::proofs::MatchLaws::matching))]
@@ -275,10 +331,13 @@ impl Ty {
     }
 
     // Whether the pattern matches the target beside the pairs found so far. Those that it needs more are put at their end.
-    #[tactic(auto, using(crate::proofs::Steps::match_ends))]
+    #[tactic(auto, using(crate::proofs::Steps::match_ends, crate::proofs::Filters::closed_match))]
     fn match_into(&self, target: &Ty, found: &mut Vec<(Ty, Name)>) -> Result<bool, AllocError>
         ensures { IfOk result (λ matched. match_type self.now found.old.items target.now ≡ (if matched then Some found.new.items else None)) }
     {
+        if self.filter.is_empty() {
+            return Ok(self.same(target));
+        }
         match (&*self.node, &*target.node) {
             (TyNode::Var(name), _) => match replacement(found, name) {
                 Some(earlier) => Ok(earlier.same(target)),
@@ -322,6 +381,23 @@ impl TyNode {
                     count = (count + arg.size()).min(LARGEST_SIZE);
                 }
                 count
+            }
+        }
+    }
+
+    // The filter of the type with this top node.
+    #[tactic(auto, using(crate::proofs::Filters::filter_step, crate::proofs::Filters::filter_all))]
+    fn filter(&self) -> NameFilter
+        ensures { result.bits ≡ type_filter (tree_of self.now) }
+    {
+        match self {
+            TyNode::Var(name) => NameFilter::of_name(name),
+            TyNode::App(_, args) => {
+                let mut filter = NameFilter::empty();
+                for arg in args {
+                    filter = filter.union(arg.filter);
+                }
+                filter
             }
         }
     }

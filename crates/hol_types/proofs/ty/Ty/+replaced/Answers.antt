@@ -3,7 +3,7 @@ use Rattle.std.proofs.lemmas.Grind.{common_steps}
 use Rattle.hol_types.specs.Tree.{type_list}
 use Rattle.hol_types.specs.Subst.{types_subst}
 use Rattle.hol_types.proofs.Steps.{subst_all, copied}
-use Rattle.hol_types.proofs.ty.Ty.+subst.Goals as goal
+use Rattle.hol_types.proofs.ty.Ty.+replaced.Goals as goal
 
 pub returns-in_ok-copy-in-App : goal.returns-in_ok-copy-in-App
 returns-in_ok-copy-in-App t c =
