@@ -26,3 +26,5 @@ pub mod PartTypes
 pub mod Stands
 pub mod WellTyped
 pub mod TypeDefinitions
+pub mod Assumptions
+pub mod Subsets

@@ -12,6 +12,11 @@ mod define_tests;
 mod elements;
 mod equation;
 mod error;
+#[cfg(test)]
+mod fixtures;
+mod given;
+#[cfg(test)]
+mod given_tests;
 mod hypotheses;
 mod instances;
 #[cfg(test)]
@@ -26,14 +31,19 @@ mod propositional;
 mod right_sides;
 mod rules;
 mod statements;
+#[cfg(test)]
+mod statements_tests;
 mod term_tyvars;
 mod thm;
 mod type_define;
+#[cfg(test)]
+mod type_define_tests;
 mod type_definition;
 mod words;
 
 pub use basis::Basis;
 pub use error::{KernelError, Rule};
+pub use given::{Given, GivenNode};
 pub use item::{Item, ItemNode};
 pub use kind::Kind;
 pub use postulate::Postulate;
