@@ -1,0 +1,15 @@
+-- How large a number of few digits is.
+use Rattle.std.proofs.Common.{◌≤◌, ◌+◌, ◌*◌, ℕ, zero, suc, arith}
+
+-- the largest number of so many bytes, taken as digits
+abbrev pub cap : ℕ → ℕ
+cap zero = 0
+cap (suc n) = 10 * cap n + 255
+
+pub cap-bound : (n : ℕ) → n ≤ 4 → cap n ≤ 283305
+cap-bound zero h = omega arith
+cap-bound (suc zero) h = omega arith
+cap-bound (suc (suc zero)) h = omega arith
+cap-bound (suc (suc (suc zero))) h = omega arith
+cap-bound (suc (suc (suc (suc zero)))) h = omega arith
+cap-bound (suc (suc (suc (suc (suc n))))) h = omega (arith, h)

@@ -1,0 +1,11 @@
+pub mod Text
+pub mod Code
+pub mod PairView
+pub mod ThmView
+pub mod CallView
+pub mod TacView
+pub mod Falls
+pub mod Number
+pub mod Grammar
+pub mod Value
+pub mod Lead

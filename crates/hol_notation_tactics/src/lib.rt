@@ -1,0 +1,29 @@
+//! Theorem and tactic expressions as they are written, and their readers.
+#![tactic(auto)]
+
+mod argument_reader;
+mod laws;
+mod lead;
+mod number;
+mod pair_reader;
+#[cfg(test)]
+mod reader_tests;
+mod tac_arg;
+mod tac_call;
+mod tac_expr;
+mod tactic_reader;
+mod tactical_reader;
+#[cfg(test)]
+mod tests;
+mod theorem_reader;
+mod thm_expr;
+mod type_pair;
+
+pub use laws::one_reading;
+pub use tac_arg::TacArg;
+pub use tac_call::TacCall;
+pub use tac_expr::{TacExpr, TacExprNode};
+pub use tactic_reader::read_tactic;
+pub use theorem_reader::read_theorem;
+pub use thm_expr::{ThmExpr, ThmExprNode};
+pub use type_pair::TypePair;

@@ -1,0 +1,29 @@
+//! A TAC with its arguments, as they are written.
+ghost use Rattle.std.specs.Prelude.{◌≡◌, IfOk};
+ghost use Rattle.hol_notation_tactics.specs.CallView.{call_text};
+
+use crate::tac_arg::TacArg;
+use std::alloc::{AllocError, Global};
+
+/// A TAC by its name, with the arguments that are written after it.
+#[derive(Drop)]
+pub struct TacCall {
+    /// The name.
+    pub name: String,
+    /// The arguments, in order.
+    pub arguments: Vec<TacArg>,
+}
+
+impl TacCall {
+    /// The same call, sharing the nodes of its arguments. Answers an error where memory is short, and nowhere else.
+    pub fn copy(&self, alloc: Global) -> Result<TacCall, AllocError>
+        ensures { IfOk result (λ call. call_text call ≡ call_text self.now) }
+    {
+        let mut arguments = Vec::with_capacity(alloc, self.arguments.len())?;
+        for argument in &self.arguments {
+            arguments.push(argument.copy(alloc)?)?;
+        }
+        let name = String::from_str(alloc, self.name.as_str())?;
+        Ok(TacCall { name, arguments })
+    }
+}

@@ -1,0 +1,29 @@
+//! What a type variable is instantiated by.
+ghost use Rattle.std.specs.Prelude.{◌≡◌, IfOk};
+ghost use Rattle.hol_notation_tactics.specs.PairView.{pair_text};
+
+use hol_notation_terms::TypeQuotation;
+use std::alloc::AllocError;
+
+/// A type, and the type variable that it is put for.
+#[derive(Drop)]
+pub struct TypePair {
+    /// The type that is put in.
+    pub new_type: TypeQuotation,
+    /// The type variable that it is put for.
+    pub old_type: TypeQuotation,
+}
+
+impl TypePair {
+    /// The same pair, sharing the nodes of its types.
+    ///
+    /// Answers an error where memory is short (no count is left for one more copy), and nowhere else.
+    pub fn copy(&self) -> Result<TypePair, AllocError>
+        ensures { IfOk result (λ pair. pair_text pair ≡ pair_text self.now) }
+    {
+        Ok(TypePair {
+            new_type: self.new_type.copy()?,
+            old_type: self.old_type.copy()?,
+        })
+    }
+}
