@@ -1,0 +1,9 @@
+pub use Rattle.hol_notation_tokens.specs.Token
+pub use Rattle.hol_notation_tokens.specs.Lexeme
+pub mod Text
+pub mod View
+pub mod Grammar
+pub mod Value
+pub mod Reading
+pub mod Errors
+pub mod Words

@@ -1,0 +1,129 @@
+//! The reader of commands, one function for each part of the grammar.
+//!
+//! A reader takes the words that are left and gives what it has read and the words after it. Where no command goes on it
+//! answers `Syntax` with the place of the next word, or with the end where there is none.
+ghost use Rattle.hol_notation_grammar.specs.Reading.{ReadsPart};
+ghost use Rattle.hol_notation_commands.specs.View.{command_text, type_definition_text};
+ghost use Rattle.hol_notation_commands.specs.Value.{command_value, declaration_value, names_value};
+
+use crate::command::Command;
+use crate::number::number_value;
+use crate::type_definition::TypeDefinition;
+use crate::word::{CommandWord, next, read_name};
+use hol_notation_grammar::{Class, expect};
+use hol_notation_tactics::read_tactic;
+use hol_notation_terms::{read_definition_quotation, read_quotation, read_type_quotation};
+use hol_notation_tokens::{SyntaxError, Word};
+use std::alloc::Global;
+
+/// The most arguments that `new_type` gives a type constructor.
+const MAX_ARITY: usize = 16;
+
+/// A command.
+///
+/// Answers `Syntax` exactly at the first word with which no command goes on, and `Memory` where memory is short.
+pub(crate) fn read_words<'a, 't>(
+    alloc: Global,
+    words: &'a [Word<'t>],
+    end: usize,
+) -> Result<(Command, &'a [Word<'t>]), SyntaxError>
+    ensures { ReadsPart command_value command_text end words.now result }
+{
+    let next = next(words, end);
+    match next.word {
+        CommandWord::Goal => {
+            let (name, after) = read_name(alloc, next.rest, end)?;
+            let (quotation, rest) = read_quotation(alloc, after, end)?;
+            Ok((Command::Goal { name, quotation }, rest))
+        }
+        CommandWord::Apply => {
+            let (tactic, rest) = read_tactic(alloc, next.rest, end)?;
+            Ok((Command::Apply(tactic), rest))
+        }
+        CommandWord::Back => Ok((Command::Back, next.rest)),
+        CommandWord::Rotate => {
+            let (number, rest) = expect(next.rest, Class::Number, end)?;
+            Ok((Command::Rotate(number_value(number.text)), rest))
+        }
+        CommandWord::Qed => Ok((Command::Qed, next.rest)),
+        CommandWord::Oops => Ok((Command::Oops, next.rest)),
+        CommandWord::Import => {
+            let (name, rest) = read_name(alloc, next.rest, end)?;
+            Ok((Command::Import(name), rest))
+        }
+        _ => {
+            let (command, rest) = read_declaration(alloc, words, end)?;
+            Ok((command, rest))
+        }
+    }
+}
+
+/// A command that declares something.
+fn read_declaration<'a, 't>(
+    alloc: Global,
+    words: &'a [Word<'t>],
+    end: usize,
+) -> Result<(Command, &'a [Word<'t>]), SyntaxError>
+    ensures { ReadsPart declaration_value command_text end words.now result }
+{
+    let next = next(words, end);
+    match next.word {
+        CommandWord::NewType => {
+            let (name, after) = read_name(alloc, next.rest, end)?;
+            let (number, rest) = expect(after, Class::Number, end)?;
+            let arity = number_value(number.text);
+            if arity <= MAX_ARITY {
+                Ok((Command::NewType { name, arity }, rest))
+            } else {
+                Err(SyntaxError::Syntax(number.place))
+            }
+        }
+        CommandWord::NewConstant => {
+            let (name, after) = read_name(alloc, next.rest, end)?;
+            let (quotation, rest) = read_type_quotation(alloc, after, end)?;
+            Ok((Command::NewConstant { name, quotation }, rest))
+        }
+        CommandWord::NewAxiom => {
+            let (name, after) = read_name(alloc, next.rest, end)?;
+            let (quotation, rest) = read_quotation(alloc, after, end)?;
+            Ok((Command::NewAxiom { name, quotation }, rest))
+        }
+        CommandWord::NewDefinition => {
+            let (name, after) = read_name(alloc, next.rest, end)?;
+            let (definition, rest) = read_definition_quotation(alloc, after, end)?;
+            Ok((Command::NewDefinition { name, definition }, rest))
+        }
+        CommandWord::NewBasicTypeDefinition => {
+            let (definition, rest) = read_names(alloc, next.rest, end)?;
+            Ok((Command::NewBasicTypeDefinition(definition), rest))
+        }
+        _ => Err(SyntaxError::Syntax(next.place)),
+    }
+}
+
+/// The six names of a definition of a type.
+fn read_names<'a, 't>(
+    alloc: Global,
+    words: &'a [Word<'t>],
+    end: usize,
+) -> Result<(TypeDefinition, &'a [Word<'t>]), SyntaxError>
+    ensures { ReadsPart names_value type_definition_text end words.now result }
+{
+    let (ty, after_ty) = read_name(alloc, words, end)?;
+    let (abs, after_abs) = read_name(alloc, after_ty, end)?;
+    let (rep, after_rep) = read_name(alloc, after_abs, end)?;
+    let (abs_rep, after_abs_rep) = read_name(alloc, after_rep, end)?;
+    let (rep_abs, after_rep_abs) = read_name(alloc, after_abs_rep, end)?;
+    let (theorem, rest) = read_name(alloc, after_rep_abs, end)?;
+    Ok((
+        TypeDefinition {
+            ty,
+            abs,
+            rep,
+            abs_rep,
+            rep_abs,
+            theorem,
+        },
+        rest,
+    ))
+}

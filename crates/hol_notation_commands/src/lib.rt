@@ -1,0 +1,19 @@
+//! Commands as they are written, and their reader: from any text to its command, or to the byte where it fails.
+#![tactic(auto)]
+
+mod command;
+mod command_reader;
+#[cfg(test)]
+mod command_tests;
+mod laws;
+mod number;
+mod text_reader;
+#[cfg(test)]
+mod texts_tests;
+mod type_definition;
+mod word;
+
+pub use command::Command;
+pub use laws::one_reading;
+pub use text_reader::read_command;
+pub use type_definition::TypeDefinition;

@@ -1,0 +1,38 @@
+//! Definitions of types.
+ghost use Rattle.std.specs.Prelude.{◌≡◌, IfOk};
+ghost use Rattle.hol_notation_commands.specs.View.{type_definition_text};
+
+use std::alloc::{AllocError, Global};
+
+/// The names that `new_basic_type_definition` is given, in the order in which they are written.
+#[derive(Drop)]
+pub struct TypeDefinition {
+    /// The type.
+    pub ty: String,
+    /// The function to the type.
+    pub abs: String,
+    /// The function from the type.
+    pub rep: String,
+    /// The theorem to make that says `abs (rep a) = a`.
+    pub abs_rep: String,
+    /// The theorem to make that says `P r <=> rep (abs r) = r`.
+    pub rep_abs: String,
+    /// The theorem that says `P x`.
+    pub theorem: String,
+}
+
+impl TypeDefinition {
+    /// The same names. Answers an error where memory is short, and nowhere else.
+    pub fn copy(&self, alloc: Global) -> Result<TypeDefinition, AllocError>
+        ensures { IfOk result (λ definition. type_definition_text definition ≡ type_definition_text self.now) }
+    {
+        Ok(TypeDefinition {
+            ty: String::from_str(alloc, self.ty.as_str())?,
+            abs: String::from_str(alloc, self.abs.as_str())?,
+            rep: String::from_str(alloc, self.rep.as_str())?,
+            abs_rep: String::from_str(alloc, self.abs_rep.as_str())?,
+            rep_abs: String::from_str(alloc, self.rep_abs.as_str())?,
+            theorem: String::from_str(alloc, self.theorem.as_str())?,
+        })
+    }
+}
