@@ -1,5 +1,6 @@
 //! Why nothing was timed.
 
+use hol_kernel::KernelError;
 use hol_subst::SubstError;
 use hol_terms::TermError;
 use std::alloc::{AllocError, AllocFailed};
@@ -31,6 +32,12 @@ impl<T: Drop> From<AllocFailed<T>> for Failure {
 
 impl From<TermError> for Failure {
     fn from(_e: TermError) -> Failure {
+        Failure::Refused
+    }
+}
+
+impl From<KernelError> for Failure {
+    fn from(_e: KernelError) -> Failure {
         Failure::Refused
     }
 }

@@ -2,11 +2,13 @@
 #![tactic(auto)]
 
 mod failure;
+mod rules;
 mod sharing;
 mod substitution;
 mod terms;
 
 use crate::failure::Failure;
+use crate::rules::rules;
 use crate::sharing::sharing;
 use crate::substitution::substitution;
 use std::alloc::Global;
@@ -38,7 +40,10 @@ fn words(rt: &HostRuntime) -> Result<Work, Failure> {
 fn done(alloc: Global, work: &Work) -> Result<u32, Failure> {
     match work.job.as_str() {
         "size" | "order" => sharing(alloc, work.job.as_str(), work.size, work.times),
-        job => substitution(alloc, job, work.size, work.times),
+        "tower" | "beside" | "captures" => {
+            substitution(alloc, work.job.as_str(), work.size, work.times)
+        }
+        job => rules(alloc, job, work.size, work.times),
     }
 }
 

@@ -1,5 +1,5 @@
 -- Where the types and constants of terms stand, those of what the rules make of them stand too.
-use Rattle.std.specs.Prelude.{◌≡◌, ℕ, zero, suc, ◌+◌, ◌-◌, ◌==◌, nat_lt, Bool, true, false, cond, ◌&&◌, ◌||◌, List, [], ◌∷◌, bytes_eq, Option, Some, None, unwrap_or, slice_get, codes, refl}
+use Rattle.std.specs.Prelude.{◌≡◌, ℕ, zero, suc, ◌+◌, ◌-◌, ◌==◌, nat_lt, Bool, true, false, cond, ◌&&◌, ◌||◌, List, [], ◌∷◌, bytes_eq, Option, Some, None, unwrap_or, slice_get, refl}
 use Rattle.std.specs.Option.{option_map, option_and_then}
 use Rattle.std.specs.List.{list_any}
 use Rattle.std.proofs.Common.{ap, sym, ◌∙◌}
@@ -9,7 +9,7 @@ use Rattle.hol_types.specs.Fun.{fun_type}
 use Rattle.hol_types.specs.Equal.{variable_eq}
 use Rattle.hol_types.specs.Subst.{type_lookup, type_for, type_subst, types_subst}
 use Rattle.hol_terms.specs.Named.{applied_type}
-use Rattle.hol_terms.specs.Nameless.{Nameless, free, bound, fixed, app, lam, base_of, nameless_type}
+use Rattle.hol_terms.specs.Nameless.{Nameless, free, bound, fixed, app, lam, nameless_type}
 use Rattle.hol_terms.specs.Alpha.{strip}
 use Rattle.hol_subst.specs.Shift.{shift}
 use Rattle.hol_subst.specs.Closing.{close, open_with, bind}
@@ -26,7 +26,7 @@ use Rattle.hol_kernel.proofs.Instance.{Pairs, subst_of_instance, instance_of_sub
 use Rattle.hol_kernel.proofs.Typed.{base_is_base}
 use Rattle.hol_kernel.proofs.Variables.{known_typed}
 
-both : (a b : Bool) → (a && b) ≡ true → (a ≡ true) × (b ≡ true)
+pub both : (a b : Bool) → (a && b) ≡ true → (a ≡ true) × (b ≡ true)
 both true b e = (refl, e)
 both false b e = absurd (true≢false (sym e))
 
@@ -35,7 +35,7 @@ either true b c d f g e = ap (λ k. k || d) (f refl)
 either false b true d f g e = refl
 either false b false d f g e = g e
 
-some_is : (s t : TypeTree) → Some s ≡ Some t → s ≡ t
+pub some_is : (s t : TypeTree) → Some s ≡ Some t → s ≡ t
 some_is s t e = cc
 
 -- ---- applications

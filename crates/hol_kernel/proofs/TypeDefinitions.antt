@@ -9,14 +9,14 @@ use Rattle.hol_types.specs.Fun.{fun_type}
 use Rattle.hol_terms.specs.Named.{Named, named_type}
 use Rattle.hol_terms.specs.Nameless.{Nameless, app, nameless}
 use Rattle.hol_terms.proofs.Typing.{type_outside}
-use Rattle.hol_kernel.specs.Item.{Item, defined_type}
+use Rattle.hol_kernel.specs.Item.{defined_type}
 use Rattle.hol_kernel.specs.Items.{Items, Holds, IsSubset, IsWithin}
 use Rattle.hol_kernel.specs.Sequent.{Hyps, no_hyps, hyp_of, hyps_of, bool_type}
 use Rattle.hol_kernel.specs.Signature.{Key, type_key, constant_key, key_eq, has_key, term_tyvars, new_type}
 use Rattle.hol_kernel.specs.Typing.{is_known, HasType}
 use Rattle.hol_kernel.specs.Bijections.{abs_rep, rep_abs}
 use Rattle.hol_kernel.specs.Derivation.{Derives, by_abs_rep, by_rep_abs}
-use Rattle.hol_kernel.specs.Legal.{IsNew, HasNewKeys, IsSound, IsClosed}
+use Rattle.hol_kernel.specs.Legal.{IsNew, HasNewKeys, IsSound}
 use Rattle.hol_kernel.specs.Theorem.{Theorem, theorem_over, IsDerived}
 use Rattle.hol_kernel.specs.Extends.{IsTypeDefine}
 use Rattle.hol_kernel.specs.Clashing.{is_new}
@@ -28,13 +28,10 @@ use Rattle.hol_kernel.proofs.HypothesisLists.{hyps_total, hyps_same}
 use Rattle.hol_kernel.proofs.InstRules.{along_nameless}
 use Rattle.hol_kernel.proofs.ItemOrder.{total, only}
 use Rattle.hol_kernel.proofs.Members.{or_right, in_insert_here, in_insert_old, not_in_empty}
+use Rattle.hol_kernel.proofs.Stands.{both}
 use Rattle.hol_kernel.proofs.Variables.{typed_known, known_typed}
 use Rattle.hol_kernel.proofs.Weaken.{HasType-more, Derives-more}
 use Rattle.hol_kernel.proofs.WellTyped.{theorem_typed}
-
-both : (a b : Bool) → (a && b) ≡ true → (a ≡ true) × (b ≡ true)
-both true b e = (refl, e)
-both false b e = absurd (true≢false (sym e))
 
 -- ---- names
 

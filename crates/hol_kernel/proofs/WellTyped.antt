@@ -1,5 +1,5 @@
 -- Each derived sequent is well typed over its items: its hypotheses and its conclusion are of type bool.
-use Rattle.std.specs.Prelude.{◌≡◌, ℕ, ◌+◌, ◌==◌, Bool, true, false, ◌&&◌, ◌||◌, List, [], ◌∷◌, map, length, bytes_eq, codes, Option, Some, None, not, refl}
+use Rattle.std.specs.Prelude.{◌≡◌, ℕ, ◌==◌, true, false, ◌&&◌, ◌||◌, List, [], ◌∷◌, map, length, bytes_eq, codes, Some, not, refl}
 use Rattle.std.specs.Option.{option_map, option_and_then}
 use Rattle.std.specs.List.{list_any}
 use Rattle.std.specs.FinSet as set
@@ -7,11 +7,9 @@ use Rattle.std.specs.Ordering.{eq_by_cmp}
 use Rattle.std.proofs.Common.{ap, sym, ◌∙◌, subst, inl, inr, arith}
 use Rattle.std.proofs.lemmas.Bool.Decides.{nat_tests}
 use Rattle.std.proofs.lemmas.Slice.Eq.{bytes_eq-Decides}
-use mathlib.Core.Bool.{true≢false}
-use Rattle.hol_types.specs.Tree.{TypeTree, TyVar, TyApp, type_list}
+use Rattle.hol_types.specs.Tree.{TypeTree, TyVar, type_list}
 use Rattle.hol_types.specs.Fun.{fun_type, fun_parts}
-use Rattle.hol_terms.specs.Named.{named_type}
-use Rattle.hol_terms.specs.Nameless.{Nameless, free, fixed, app, lam, base_of, nameless, nameless_type}
+use Rattle.hol_terms.specs.Nameless.{Nameless, free, fixed, app, lam, base_of, nameless_type}
 use Rattle.hol_terms.specs.Alpha.{strip}
 use Rattle.hol_terms.proofs.Typing.{type_outside}
 use Rattle.hol_subst.specs.Closing.{bind, open_with}
@@ -21,13 +19,13 @@ use Rattle.hol_subst.proofs.TypeLaws.{pairs_typed, inst_type, bind_type, open_ty
 use Rattle.hol_kernel.specs.Item.{Item, defined_constant, defined_type}
 use Rattle.hol_kernel.specs.Items.{Items, in_order, Holds}
 use Rattle.hol_kernel.specs.Sequent.{Hyps, nameless_cmp, no_hyps, only_hyp, hyps_image, bool_type, equality_type, equation}
-use Rattle.hol_kernel.specs.Signature.{term_tyvars, new_type, has_arity, has_constant, makes_type, makes_constant, bijections, constant_of, is_constant_at, is_instance, is_instance_of, prelude_generic, is_constructor, prelude_types}
-use Rattle.hol_kernel.specs.Typing.{is_type, are_types, is_base, is_known, are_types_for, are_typed_for, HasType}
+use Rattle.hol_kernel.specs.Signature.{term_tyvars, new_type, has_arity, has_constant, makes_type, makes_constant, bijections, constant_of, is_constant_at, is_instance_of, prelude_generic, is_constructor, prelude_types}
+use Rattle.hol_kernel.specs.Typing.{is_type, are_types, is_base, is_known, HasType}
 use Rattle.hol_kernel.specs.NamedTyping.{is_known_named}
 use Rattle.hol_kernel.specs.Prelude.{postulated, statement_of}
 use Rattle.hol_kernel.specs.Bijections.{to_new, from_new, abs_rep, rep_abs}
 use Rattle.hol_kernel.specs.Derivation.{Derives, by_refl, by_trans, by_mk_comb, by_abs, by_beta, by_assume, by_eq_mp, by_deduct_antisym, by_inst_type, by_inst, by_postulate, by_axiom, by_definition, by_abs_rep, by_rep_abs}
-use Rattle.hol_kernel.specs.Theorem.{Theorem, IsTheorem, IsWellTyped}
+use Rattle.hol_kernel.specs.Theorem.{Theorem, IsWellTyped}
 use Rattle.hol_kernel.specs.declared.postulate.Postulate.{Postulate}
 use Rattle.hol_kernel.specs.declared.postulate.Postulate.TheVariants.{TDef, AndDef, ImpDef, ForallDef, ExistsDef, OrDef, FDef, NotDef, ExistsUniqueDef, EtaAx, SelectAx, OneOne, Onto, InfinityAx}
 use Rattle.hol_kernel.proofs.Equations.{applied_fits}
@@ -36,18 +34,11 @@ use Rattle.hol_kernel.proofs.Members.{Among, in_insert_cases, in_union_cases, no
 use Rattle.hol_kernel.proofs.Ordered.{any_of}
 use Rattle.hol_kernel.proofs.PartTypes.{postulated_typed}
 use Rattle.hol_kernel.proofs.Sound.{strip_type}
-use Rattle.hol_kernel.proofs.Stands.{app_parts, instance_itself, fun_stands, fun_parts_stand, type_stands, known_strip, known_bind, known_open, known_inst, typed_pairs_fit, known_subst}
+use Rattle.hol_kernel.proofs.Stands.{both, some_is, app_parts, instance_itself, fun_stands, fun_parts_stand, type_stands, known_strip, known_bind, known_open, known_inst, typed_pairs_fit, known_subst}
 use Rattle.hol_kernel.proofs.Steps.{is_type_app}
 use Rattle.hol_kernel.proofs.Typed.{known_outside}
 use Rattle.hol_kernel.proofs.Variables.{typed_known, known_typed, variable_typed, equation_typed}
 use Rattle.hol_kernel.proofs.Weaken.{ordered_held}
-
-both : (a b : Bool) → (a && b) ≡ true → (a ≡ true) × (b ≡ true)
-both true b e = (refl, e)
-both false b e = absurd (true≢false (sym e))
-
-some_is : (s t : TypeTree) → Some s ≡ Some t → s ≡ t
-some_is s t e = cc
 
 -- ---- what is not the set's does not matter: the parameters of new types
 

@@ -1,15 +1,14 @@
-use Rattle.std.proofs.Common.{◌≡◌, true, [], refl, ap, sym, ◌∙◌, subst, rules}
+use Rattle.std.proofs.Common.{◌≡◌, [], refl, ap, sym, ◌∙◌, subst}
 use Rattle.hol_types.specs.Tree.{TypeTree}
 use Rattle.hol_types.specs.Fun.{fun_type}
 use Rattle.hol_terms.specs.Nameless.{nameless}
 use Rattle.std.specs.FinSet as set
-use Rattle.hol_kernel.specs.Item.{Item, defined_type}
+use Rattle.hol_kernel.specs.Item.{Item}
 use Rattle.hol_kernel.specs.Sequent.{no_hyps, bool_type}
 use Rattle.hol_kernel.specs.Signature.{term_tyvars, new_type}
 use Rattle.hol_kernel.specs.Bijections.{abs_rep, rep_abs}
 use Rattle.hol_kernel.specs.Legal.{HasNewKeys, IsSound}
 use Rattle.hol_kernel.specs.Theorem.{theorem_over}
-use Rattle.hol_kernel.specs.Defining.{are_new_names, is_closed}
 use Rattle.hol_kernel.proofs.TypeDefinitions.{names_new, names_taken, type_sound, predicate_typed, type_defined, type_held, typed_in_more}
 use Rattle.hol_kernel.proofs.basis.Basis.type_define.Goals as goal
 

@@ -1,17 +1,19 @@
 #!/usr/bin/env python3
-"""How many substitutions a second hol_subst does, and what is asked of shared types.
+"""How many rules of the kernel and substitutions are done in a second, and what is asked of shared types.
 
-    python3 bench/substitution.py --program PATH [--rounds N]
+    python3 bench/kernel.py --program PATH [--rounds N]
 
 PATH is the built program, crates/hol_bench/out/hol_bench. Its jobs:
 
+  refl, trans, mk_comb, beta, inst, inst_type
+            a rule over the basis without items, on a term of so many applications, of 5 nodes each
   tower     a variable under so many applications is replaced: the whole term is made anew
   beside    a variable beside so many applications, in which it does not occur: these keep their nodes
   captures  a variable under so many binders, all of whose variables are free in the term that comes in: each binder is renamed
   size      the sizes of 60 types, whose trees have 2, 4, .. 2 to the 60 leaves over 60 shared nodes
   order     the orders of these types against a type variable
 
-Each line has the size that the job is given, its answer (the nodes of the result, 20,001 for more; of the last two a sum), and how many
+Each line has the size that the job is given, its answer (the nodes of the result or the conclusion, 20,001 for more; of the last two a sum), and how many
 times it is done in a second of processor time. The times are medians of the rounds.
 
 Needs Python 3.8 and Linux, and nothing else.
@@ -23,7 +25,9 @@ import resource
 import statistics
 import subprocess
 
-JOBS = (
+RULES = ("refl", "trans", "mk_comb", "beta", "inst", "inst_type")
+HEIGHTS = ((4, 20000), (40, 2000), (400, 200))
+JOBS = tuple((rule, height, times) for rule in RULES for height, times in HEIGHTS) + (
     ("tower", 200, 5000),
     ("tower", 3990, 200),
     ("beside", 200, 200000),
