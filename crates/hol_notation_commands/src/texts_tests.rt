@@ -229,14 +229,14 @@ fn reads_tactics(rt: HostRuntime) {
         "e DISCH_THEN (X_CHOOSE_TAC `x`)",
         "e SUBGOAL_THEN `p` A",
         "e A `x`",
-        "e A T1",
-        "e A (SPEC `x` T1)",
+        "e A L1",
+        "e A (SPEC `x` L1)",
         "e A (`x`, `y`)",
         "e A []",
-        "e A [T1; T2]",
-        "e A [MP T1 T2]",
-        "e A (T1)",
-        "e A (MP (SYM T1) T2)",
+        "e A [L1; L2]",
+        "e A [MP L1 L2]",
+        "e A (L1)",
+        "e A (MP (SYM L1) L2)",
     ];
     for text in cases {
         assert!(rt; read_command(rt.alloc(), text).is_ok(), "at {text}");
@@ -247,9 +247,9 @@ fn reads_tactics(rt: HostRuntime) {
 fn reads_tactics_too(rt: HostRuntime) {
     let cases = [
         "e A (ASSUME `p`)",
-        "e A (INST_TYPE [`:A`, `:B`] T1)",
-        "e A (INST_TYPE [`:A`, `:B`; `:C`, `:D`] T1)",
-        "e A [] [T1] `x`",
+        "e A (INST_TYPE [`:A`, `:B`] L1)",
+        "e A (INST_TYPE [`:A`, `:B`; `:C`, `:D`] L1)",
+        "e A [] [L1] `x`",
         "e A THEN (B ORELSE C)",
     ];
     for text in cases {
@@ -282,7 +282,7 @@ fn refuses_tactics(rt: HostRuntime) {
         ("e SUBGOAL_THEN `p`", 18),
         ("e A (`x`)", 8),
         ("e A (`x`, y)", 10),
-        ("e A [T1;]", 8),
+        ("e A [L1;]", 8),
         ("e A [`x`]", 5),
     ];
     for (text, place) in cases {
@@ -295,15 +295,15 @@ fn refuses_tactics(rt: HostRuntime) {
 fn refuses_tactics_too(rt: HostRuntime) {
     let cases = [
         ("e A [THEN]", 5),
-        ("e A (T1 T2)", 8),
-        ("e A MP T1 T2", 4),
-        ("e A (MP T1)", 10),
-        ("e A (SYM SYM T1)", 9),
+        ("e A (L1 L2)", 8),
+        ("e A MP L1 L2", 4),
+        ("e A (MP L1)", 10),
+        ("e A (SYM SYM L1)", 9),
         ("e A (ASSUME p)", 12),
-        ("e A (INST_TYPE [] T1)", 16),
-        ("e A (INST_TYPE [`:A`] T1)", 20),
+        ("e A (INST_TYPE [] L1)", 16),
+        ("e A (INST_TYPE [`:A`] L1)", 20),
         ("e A (INST_TYPE [`:A`, `:B`])", 27),
-        ("e A (INST_TYPE [`x`, `:B`] T1)", 17),
+        ("e A (INST_TYPE [`x`, `:B`] L1)", 17),
         ("e A 1", 4),
         ("e A ;", 4),
         ("e (A", 4),
