@@ -15,3 +15,5 @@ pub mod Named
 pub mod Sizes
 pub mod Readings
 pub mod Resolved
+pub mod Standing
+pub mod StandingLaws

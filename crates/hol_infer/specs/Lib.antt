@@ -16,3 +16,4 @@ pub mod Solved
 pub mod Resolving
 pub mod NamesView
 pub mod DefinitionView
+pub mod Standing

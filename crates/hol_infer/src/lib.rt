@@ -11,6 +11,7 @@ mod fault;
 mod finding;
 mod generate;
 mod graph;
+mod laws;
 mod principal;
 mod raw;
 mod reading;
@@ -22,4 +23,5 @@ mod tests;
 
 pub use definition::PreDefinition;
 pub use elaboration::{elaborate, elaborate_definition, elaborate_type};
+pub use laws::readings_stand;
 pub use reading::ReadingError;
