@@ -17,3 +17,4 @@ pub mod Readings
 pub mod Resolved
 pub mod Standing
 pub mod StandingLaws
+pub mod Unique

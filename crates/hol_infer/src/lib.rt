@@ -23,5 +23,5 @@ mod tests;
 
 pub use definition::PreDefinition;
 pub use elaboration::{elaborate, elaborate_definition, elaborate_type};
-pub use laws::readings_stand;
+pub use laws::{one_reading, readings_stand};
 pub use reading::ReadingError;
