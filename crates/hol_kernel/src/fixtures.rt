@@ -20,6 +20,11 @@ pub fn constructed(alloc: Global, constructor: &str) -> Result<Ty, AllocError> {
     Ty::app(alloc, &name(alloc, constructor)?, &[])
 }
 
+/// The type variable of this name.
+pub fn type_variable(alloc: Global, text: &str) -> Result<Ty, AllocError> {
+    Ty::var(alloc, &name(alloc, text)?)
+}
+
 /// The type of truth values.
 pub fn boolean(alloc: Global) -> Result<Ty, AllocError> {
     bool_type(alloc)

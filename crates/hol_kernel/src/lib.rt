@@ -30,6 +30,9 @@ mod prelude;
 mod propositional;
 mod right_sides;
 mod rules;
+mod standing;
+#[cfg(test)]
+mod standing_tests;
 mod statements;
 #[cfg(test)]
 mod statements_tests;
@@ -48,6 +51,7 @@ pub use item::{Item, ItemNode};
 pub use kind::Kind;
 pub use postulate::Postulate;
 pub use prelude::instances_are_substitutions;
+pub use standing::{prelude_constants, prelude_types};
 pub use thm::Thm;
 pub use type_definition::TypeDefinition;
 
