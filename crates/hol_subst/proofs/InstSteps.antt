@@ -113,7 +113,7 @@ module _ (pairs : List (TypeTree × List ℕ)) (old new : Variables) where
       ∙ ap (option_map (type_subst pairs)) e
 
   -- nothing is captured in the body either
-  keeps_inside : (v u : Var) (b : Named) → ((w : Var) → occurs_in w b ≡ true → variable_eq v w ≡ false → variable_eq u (image pairs old new w) ≡ false) → KeepsPlaces pairs old new (abs v b) → KeepsPlaces pairs (v ∷ old) (u ∷ new) b
+  pub keeps_inside : (v u : Var) (b : Named) → ((w : Var) → occurs_in w b ≡ true → variable_eq v w ≡ false → variable_eq u (image pairs old new w) ≡ false) → KeepsPlaces pairs old new (abs v b) → KeepsPlaces pairs (v ∷ old) (u ∷ new) b
   keeps_inside v u b apart k w o i = by (variable_eq v w) refl
     where
       by : (d : Bool) → variable_eq v w ≡ d → place (u ∷ new) i (cond d u (image pairs old new w)) ≡ types_inst pairs (cond d (bound i) (place old (i + 1) w))

@@ -12,3 +12,4 @@ pub mod TypeLaws
 pub mod Strip
 pub mod TypesInst
 pub mod InstSteps
+pub mod Kept

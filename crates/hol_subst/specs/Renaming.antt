@@ -1,9 +1,11 @@
 -- What the code says of itself where it instantiates types under binders. The binders that it passed are `old`, the innermost first, and `new`
 -- are those that stand for them. Laws in proofs/ lead from here to nameless terms.
 use Rattle.std.specs.Prelude.{◌≡◌, ℕ, List, [], ◌∷◌, true, cond, Some}
+use Rattle.std.specs.Int.{bit_at}
 use Rattle.hol_types.specs.Tree.{TypeTree}
 use Rattle.hol_types.specs.Subst.{type_subst}
 use Rattle.hol_types.specs.Equal.{variable_eq}
+use Rattle.hol_types.specs.Filter.{name_place}
 use Rattle.hol_terms.specs.Named.{Named, var, named_type}
 use Rattle.hol_terms.specs.Nameless.{place, nameless}
 use Rattle.hol_terms.specs.Scoped.{occurs_in}
@@ -29,6 +31,10 @@ KeepsTypes pairs (l ∷ old) (r ∷ new) = (r.1 ≡ type_subst pairs l.1) × Kee
 -- what stands for a free variable of the term is bound as that variable was: nothing is captured
 abbrev pub KeepsPlaces : List (TypeTree × List ℕ) → List (List ℕ × TypeTree) → List (List ℕ × TypeTree) → Named → Type 0
 KeepsPlaces pairs old new t = (w : List ℕ × TypeTree) → occurs_in w t ≡ true → (i : ℕ) → place new i (image pairs old new w) ≡ types_inst pairs (place old i w)
+
+-- each variable for which another stands, though its type stays, has its bit among those of `renamed`
+pub record HasRenamed (pairs : List (TypeTree × List ℕ)) (old new : List (List ℕ × TypeTree)) (renamed : ℕ) : Type 0 where
+  pub stays : (w : List ℕ × TypeTree) → (bit_at renamed (name_place 0 w.0) ≡ 1 → ⊥) → type_subst pairs w.1 ≡ w.1 → image pairs old new w ≡ w
 
 -- r under the new binders is the instance of t under the old ones
 pub record IsInstance (pairs : List (TypeTree × List ℕ)) (old new : List (List ℕ × TypeTree)) (t r : Named) : Type 0 where

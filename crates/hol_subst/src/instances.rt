@@ -1,5 +1,5 @@
 //! Instantiation of type variables in terms.
-ghost use Rattle.std.specs.Prelude.{◌≡◌, [], map, IfOk, IsOkUnless, IsSome, Some, unwrap_or};
+ghost use Rattle.std.specs.Prelude.{◌≡◌, ◌⊎◌, [], map, IfOk, IsOkUnless, IsSome, Some, unwrap_or};
 ghost use Rattle.hol_types.specs.Tree.{TypeTree};
 ghost use Rattle.hol_terms.specs.Named.{var, comb, abs, named_type};
 ghost use Rattle.hol_terms.specs.Nameless.{nameless, free_occurrences};
@@ -8,12 +8,14 @@ ghost use Rattle.hol_terms.specs.Scoped.{add_all};
 ghost use Rattle.hol_terms.specs.declared.term.TermError.TheVariants.{Memory};
 ghost use Rattle.hol_subst.specs.Substitution.{variable_inst, types_inst};
 ghost use Rattle.hol_subst.specs.Variant.{IsVariant};
-ghost use Rattle.hol_subst.specs.Renaming.{image, images_without, KeepsTypes, IsInstance};
+ghost use Rattle.hol_subst.specs.Renaming.{image, images_without, KeepsTypes, IsInstance, HasRenamed};
+ghost use Rattle.hol_types.specs.Filter.{name_bit, pairs_filter};
+ghost use Rattle.std.specs.Int.RustNames.{bit_or};
 
 use crate::error::SubstError;
 use crate::variants::variant;
 use hol_terms::{Scope, Term, TermError, TermNode, Variable};
-use hol_types::{Name, Ty};
+use hol_types::{Name, NameFilter, Ty};
 use std::alloc::{AllocError, Global};
 
 /// The term with types for its type variables, of which the first pair of a name counts.
@@ -22,29 +24,47 @@ use std::alloc::{AllocError, Global};
 /// Parts that stay as they are are shared with the term.
 ///
 /// Answers `Memory` where memory is short, and no other error.
-#[tactic(auto, using(crate::proofs::InstSteps::instance_outside))]
+#[tactic(auto, using(crate::proofs::InstSteps::instance_outside, crate::proofs::Kept::none_renamed))]
 pub fn inst(alloc: Global, pairs: &[(Ty, Name)], t: &Term) -> Result<Term, SubstError>
     ensures ok { IfOk result (λ r. nameless [] r ≡ types_inst pairs.now (nameless [] t.now)) }
     ensures memory { IsOkUnless result SubstError.Memory }
 {
-    match changed(alloc, pairs, &Scope::Outside, &Scope::Outside, t)? {
+    let names = NameFilter::of_pairs(pairs);
+    let none = NameFilter::empty();
+    match changed(
+        alloc,
+        pairs,
+        names,
+        &Scope::Outside,
+        &Scope::Outside,
+        none,
+        t,
+    )? {
         Some(instance) => Ok(instance),
         None => Ok(t.copy()?),
     }
 }
 
-// The instance of the term under the old binders, where the new ones stand for these; nothing where it is the term itself.
+// The instance of the term under the old binders, where the new ones stand for these; nothing where it is the term itself. The pairs'
+// names are among `names`, and those of the binders that were renamed among `renamed`: a part with none of either is passed over.
 fn changed(
     alloc: Global,
     pairs: &[(Ty, Name)],
+    names: NameFilter,
     old: &Scope,
     new: &Scope,
+    renamed: NameFilter,
     t: &Term,
 ) -> Result<Option<Term>, TermError>
-    requires { KeepsTypes pairs.now (binders old.now) (binders new.now) }
+    requires types { KeepsTypes pairs.now (binders old.now) (binders new.now) }
+    requires names { names.bits ≡ pairs_filter pairs.now }
+    requires renamed { HasRenamed pairs.now (binders old.now) (binders new.now) renamed.bits }
     ensures ok { IfOk result (λ r. IsInstance pairs.now (binders old.now) (binders new.now) t.now (unwrap_or r t.now)) }
     ensures memory { IsOkUnless result TermError.Memory }
 {
+    if !t.type_filter().meets(names) && !t.filter().meets(renamed) {
+        return Ok(None);
+    }
     match t.node() {
         TermNode::Var(v) => {
             let u = image(alloc, pairs, old, new, v)?;
@@ -58,17 +78,29 @@ fn changed(
             Ok(Some(Term::constant(alloc, c, &new_ty)?))
         }
         TermNode::Comb(f, x) => {
-            let g = changed(alloc, pairs, old, new, f)?;
-            let y = changed(alloc, pairs, old, new, x)?;
+            let g = changed(alloc, pairs, names, old, new, renamed, f)?;
+            let y = changed(alloc, pairs, names, old, new, renamed, x)?;
             Ok(changed_application(alloc, t, f, g, x, y)?)
         }
         TermNode::Abs(v, b) => {
             let u = new_binder(alloc, pairs, old, new, v, b)?;
             let inside_old = &Scope::Inside(v, &*old);
             let inside_new = &Scope::Inside(&u, &*new);
-            let c = changed(alloc, pairs, inside_old, inside_new, b)?;
+            let renamed = with_binder(renamed, v, &u);
+            let c = changed(alloc, pairs, names, inside_old, inside_new, renamed, b)?;
             Ok(changed_abstraction(alloc, v, &u, b, c)?)
         }
+    }
+}
+
+// The names of the renamed binders, with that of `v` unless `u`, which stands for it, is the same.
+fn with_binder(renamed: NameFilter, v: &Variable, u: &Variable) -> NameFilter
+    ensures { ((u.now ≡ v.now) × (result.bits ≡ renamed.bits)) ⊎ (result.bits ≡ bit_or renamed.bits (name_bit v.now.0)) }
+{
+    if u.same(v) {
+        renamed
+    } else {
+        renamed.union(v.filter())
     }
 }
 

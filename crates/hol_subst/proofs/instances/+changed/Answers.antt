@@ -1,13 +1,24 @@
-use Rattle.std.proofs.Common.{ap, sym, ◌∙◌}
+use Rattle.std.proofs.Common.{◌≡◌, ap, arith, rules, sym, ◌∙◌}
+use Rattle.std.proofs.lemmas.Grind.{common_steps}
+use lib.Bits.{bit_and}
+use Rattle.hol_types.specs.Filter.{pairs_filter}
+use Rattle.hol_terms.specs.Filter.{filter_of, type_filter_of}
 use Rattle.hol_terms.specs.Scope.{binders}
 use Rattle.hol_terms.specs.View.{named_of}
 use Rattle.hol_subst.proofs.InstSteps.{variable_at, application_at, fits_at, abstraction_at}
+use Rattle.hol_subst.proofs.Kept.{kept_instance, renamed_inside}
 use Rattle.hol_subst.proofs.instances.+changed.Goals as goal
+
+pub returns-then-not-meets-2-clause-ok : goal.returns-then-not-meets-2-clause-ok
+returns-then-not-meets-2-clause-ok t c =
+    let types : bit_and (type_filter_of c.args.t.now) (pairs_filter c.args.pairs.now) ≡ 0 = grind (arith, common_steps) in
+    let free : bit_and (filter_of c.args.t.now) c.args.renamed.bits ≡ 0 = grind (arith, common_steps) in
+    kept_instance c.args.pairs.now (binders c.args.old.now) (binders c.args.new.now) c.args.t.now c.args.renamed.bits c.requires.renamed types free
 
 pub returns-in_ok-changed_variable-in-Var-clause-ok : goal.returns-in_ok-changed_variable-in-Var-clause-ok
 returns-in_ok-changed_variable-in-Var-clause-ok t c =
     variable_at c.args.pairs.now (binders c.args.old.now) (binders c.args.new.now) c.in-Var.v c.in_ok-u-in-Var.u c.args.t.now c.in_ok-changed_variable-in-Var.field-0
-    (sym c.node.ensures ∙ ap named_of c.in-Var.is) c.requires c.in_ok-u-in-Var.ensures c.in_ok-changed_variable-in-Var.ensures.ok
+    (sym c.node.ensures ∙ ap named_of c.in-Var.is) c.requires.types c.in_ok-u-in-Var.ensures c.in_ok-changed_variable-in-Var.ensures.ok
 
 pub changed_application-requires : goal.changed_application-requires
 changed_application-requires t c =
@@ -23,3 +34,15 @@ pub returns-in_ok-changed_abstraction-in-Abs-clause-ok : goal.returns-in_ok-chan
 returns-in_ok-changed_abstraction-in-Abs-clause-ok t c =
     abstraction_at c.args.pairs.now (binders c.args.old.now) (binders c.args.new.now) c.in-Abs.v c.in_ok-u-in-Abs.u c.in-Abs.b c.args.t.now c.in_ok-c-in-Abs.c c.in_ok-changed_abstraction-in-Abs.field-0
     (sym c.node.ensures ∙ ap named_of c.in-Abs.is) c.in_ok-u-in-Abs.ensures.ok c.in_ok-c-in-Abs.ensures.ok c.in_ok-changed_abstraction-in-Abs.ensures.ok
+
+pub changed-requires-in-Abs : goal.changed-requires-in-Abs
+changed-requires-in-Abs t c = (
+  search rules,
+  (
+    search rules,
+    (
+      c.requires.names,
+      renamed_inside c.args.pairs.now (binders c.args.old.now) (binders c.args.new.now) c.args.renamed.bits c.with_binder-renamed.result.bits c.in-Abs.v c.in_ok-u-in-Abs.u c.with_binder-renamed.ensures c.requires.renamed,
+    ),
+  ),
+)
