@@ -10,6 +10,9 @@ PATH is the built program, crates/hol_bench/out/hol_bench. Its jobs:
   tower     a variable under so many applications is replaced: the whole term is made anew
   beside    a variable beside so many applications, in which it does not occur: these keep their nodes
   captures  a variable under so many binders, all of whose variables are free in the term that comes in: each binder is renamed
+  types     a type for the type variable of all of so many applications: the whole term is made anew
+  types_beside
+            a type for a type variable that does not occur in so many applications: these keep their nodes
   size      the sizes of 60 types, whose trees have 2, 4, .. 2 to the 60 leaves over 60 shared nodes
   order     the orders of these types against a type variable
 
@@ -35,6 +38,10 @@ JOBS = tuple((rule, height, times) for rule in RULES for height, times in HEIGHT
     ("captures", 10, 20000),
     ("captures", 100, 1000),
     ("captures", 1000, 10),
+    ("types", 200, 5000),
+    ("types", 3990, 200),
+    ("types_beside", 200, 200000),
+    ("types_beside", 3990, 200000),
     ("size", 60, 1000000),
     ("order", 60, 1000000),
 )
@@ -54,11 +61,11 @@ def main():
     parser.add_argument("--rounds", type=int, default=5)
     given = parser.parse_args()
     program = os.path.abspath(given.program)
-    print(f"{'job':10}{'size':>6}{'answer':>11}{'a second':>12}")
+    print(f"{'job':13}{'size':>6}{'answer':>11}{'a second':>12}")
     for job, size, times in JOBS:
         runs = [processor_seconds(program, job, size, times) for _ in range(given.rounds)]
         seconds = statistics.median(run[0] for run in runs)
-        print(f"{job:10}{size:6}{runs[0][1]:>11}{times / seconds:12,.0f}")
+        print(f"{job:13}{size:6}{runs[0][1]:>11}{times / seconds:12,.0f}")
 
 
 if __name__ == "__main__":

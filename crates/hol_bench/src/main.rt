@@ -40,7 +40,7 @@ fn words(rt: &HostRuntime) -> Result<Work, Failure> {
 fn done(alloc: Global, work: &Work) -> Result<u32, Failure> {
     match work.job.as_str() {
         "size" | "order" => sharing(alloc, work.job.as_str(), work.size, work.times),
-        "tower" | "beside" | "captures" => {
+        "tower" | "beside" | "captures" | "types" | "types_beside" => {
             substitution(alloc, work.job.as_str(), work.size, work.times)
         }
         job => rules(alloc, job, work.size, work.times),

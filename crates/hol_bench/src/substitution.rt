@@ -1,15 +1,17 @@
-//! Substitution: over a whole term, beside a part that it leaves as it is, and through binders that capture.
+//! Substitution of terms and of types: over a whole term, beside a part that it leaves as it is, and through binders that capture.
 
 use crate::failure::Failure;
 use crate::terms::{numbered, pair, tower, type_a, variable};
-use hol_subst::vsubst;
+use hol_subst::{inst, vsubst};
 use hol_terms::Term;
+use hol_types::{Name, Ty};
 use std::alloc::Global;
 
 /// Does a job of substitution so many times, and answers the size of the last result.
 ///
 /// `tower`: x under so many applications. `beside`: x beside so many applications in which it does not occur. `captures`: z under so
-/// many binders, whose variables are all free in the term that comes in.
+/// many binders, whose variables are all free in the term that comes in. `types`: a type for that of x and of all applications to it.
+/// `types_beside`: a type for that of a variable beside so many applications in which it does not occur.
 pub fn substitution(alloc: Global, job: &str, size: u32, times: u32) -> Result<u32, Failure> {
     match job {
         "tower" => replaced(
@@ -33,6 +35,8 @@ pub fn substitution(alloc: Global, job: &str, size: u32, times: u32) -> Result<u
             &captured(alloc, size)?,
             times,
         ),
+        "types" => retyped(alloc, &tower(alloc, "x", size)?, "A", times),
+        "types_beside" => retyped(alloc, &beside_another_type(alloc, size)?, "C", times),
         _ => Err(Failure::Words),
     }
 }
@@ -47,6 +51,28 @@ fn replaced(alloc: Global, t: &Term, name: &str, new: &Term, times: u32) -> Resu
         size = vsubst(alloc, &pairs, t)?.size();
     }
     Ok(size)
+}
+
+// The term with B for a type variable, so many times.
+fn retyped(alloc: Global, t: &Term, name: &str, times: u32) -> Result<u32, Failure> {
+    let b = Ty::var(alloc, &Name::new(alloc, "B")?)?;
+    let mut pairs = Vec::new(alloc);
+    pairs.push((b, Name::new(alloc, name)?))?;
+    let mut size = 0;
+    for _ in 0..times {
+        size = inst(alloc, &pairs, t)?.size();
+    }
+    Ok(size)
+}
+
+// A variable of the type C beside a term in whose types C does not occur.
+fn beside_another_type(alloc: Global, size: u32) -> Result<Term, Failure> {
+    let a = type_a(alloc)?;
+    let c = Ty::var(alloc, &Name::new(alloc, "C")?)?;
+    let unary = Ty::fun(alloc, &a, &a)?;
+    let g = variable(alloc, "g", &Ty::fun(alloc, &c, &unary)?)?;
+    let half = Term::comb(alloc, &g, &variable(alloc, "x", &c)?)?;
+    Ok(Term::comb(alloc, &half, &tower(alloc, "z", size)?)?)
 }
 
 // x beside a term in which it does not occur.
