@@ -7,11 +7,10 @@ ghost use Rattle.hol_notation_commands.specs.View.{command_text, type_definition
 ghost use Rattle.hol_notation_commands.specs.Value.{command_value, declaration_value, names_value};
 
 use crate::command::Command;
-use crate::number::number_value;
 use crate::type_definition::TypeDefinition;
 use crate::word::{CommandWord, next, read_name};
 use hol_notation_grammar::{Class, expect};
-use hol_notation_tactics::read_tactic;
+use hol_notation_tactics::{number_value, read_tactic};
 use hol_notation_terms::{read_definition_quotation, read_quotation, read_type_quotation};
 use hol_notation_tokens::{SyntaxError, Word};
 use std::alloc::Global;

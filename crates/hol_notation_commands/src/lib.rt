@@ -6,7 +6,6 @@ mod command_reader;
 #[cfg(test)]
 mod command_tests;
 mod laws;
-mod number;
 mod text_reader;
 #[cfg(test)]
 mod texts_tests;

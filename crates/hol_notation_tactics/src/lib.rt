@@ -20,6 +20,7 @@ mod thm_expr;
 mod type_pair;
 
 pub use laws::one_reading;
+pub use number::number_value;
 pub use tac_arg::TacArg;
 pub use tac_call::TacCall;
 pub use tac_expr::{TacExpr, TacExprNode};

@@ -2,8 +2,8 @@
 ghost use Rattle.std.specs.Prelude.{◌≡◌};
 ghost use Rattle.hol_notation_tactics.specs.Number.{number_value};
 
-/// The number that a word of digits says; a number has at most four.
-pub(crate) fn number_value(word: &str) -> usize
+/// The number that a word of digits says: as a number it has at most four, and further ones are passed over.
+pub fn number_value(word: &str) -> usize
     ensures { result ≡ number_value word.now }
 {
     let bytes = word.as_bytes();
