@@ -1,89 +1,67 @@
 //! The kinds in their order, and ties at alpha equivalence.
+use crate::written::term;
 use crate::{aconv, alpha_order};
-use hol_terms::{Term, TermError, Variable};
-use hol_types::{Name, Ty};
-use std::alloc::{AllocError, Global};
+use hol_terms::TermError;
+use std::alloc::Global;
 use std::cmp::Ordering;
 use std::test::Fail;
 
-fn variable(alloc: Global, text: &str) -> Result<Variable, AllocError> {
-    let name = Name::new(alloc, text)?;
-    let ty = Ty::var(alloc, &Name::new(alloc, "A")?)?;
-    Variable::new(&name, &ty)
-}
-
-// The free variable of this name and type A.
-fn leaf(alloc: Global, text: &str) -> Result<Term, TermError> {
-    Term::var(alloc, &variable(alloc, text)?)
-}
-
-// The constant of this name and type A.
-fn constant(alloc: Global, text: &str) -> Result<Term, TermError> {
-    let v = variable(alloc, text)?;
-    Term::constant(alloc, v.name(), v.ty())
-}
-
-// The abstraction of the variable of this name in the body.
-fn lambda(alloc: Global, text: &str, body: &Term) -> Result<Term, TermError> {
-    Term::abstraction(alloc, &variable(alloc, text)?, body)
-}
-
-// The abstraction of the variable of this name in itself.
-fn identity(alloc: Global, text: &str) -> Result<Term, TermError> {
-    let body = leaf(alloc, text)?;
-    lambda(alloc, text, &body)
+fn order(alloc: Global, s: &str, t: &str) -> Result<Ordering, TermError> {
+    let s = term(alloc, s)?;
+    let t = term(alloc, t)?;
+    Ok(alpha_order(&s, &t))
 }
 
 #[test]
-fn constants_come_before_bound_variables(rt: HostRuntime) -> Result<(), Fail> {
-    let body = constant(rt.alloc(), "z")?;
-    let s = lambda(rt.alloc(), "x", &body)?;
-    let t = identity(rt.alloc(), "x")?;
-    assert_eq!(rt; alpha_order(&s, &t), Ordering::Less);
+fn kinds_come_in_order(rt: HostRuntime) -> Result<(), Fail> {
+    let cases = [
+        (
+            "constants before bound variables",
+            ".z:A \\x:A",
+            "x:A \\x:A",
+        ),
+        ("bound variables before free ones", "x:A \\x:A", "a:A \\x:A"),
+        (
+            "free variables before applications",
+            "z:A",
+            "x:A \\x:A z:A @",
+        ),
+        (
+            "applications before abstractions",
+            "x:A \\x:A z:A @",
+            "x:A \\x:A",
+        ),
+        ("names by their bytes", "a':A", "b:A"),
+    ];
+    for (what, s, t) in cases {
+        assert_eq!(rt; order(rt.alloc(), s, t)?, Ordering::Less, "{what}");
+        assert_eq!(rt;
+            order(rt.alloc(), t, s)?,
+            Ordering::Greater,
+            "{what}, the other way round"
+        );
+    }
     Ok(())
 }
 
-#[test]
-fn bound_variables_come_before_free_ones(rt: HostRuntime) -> Result<(), Fail> {
-    let body = leaf(rt.alloc(), "a")?;
-    let s = identity(rt.alloc(), "x")?;
-    let t = lambda(rt.alloc(), "x", &body)?;
-    assert_eq!(rt; alpha_order(&s, &t), Ordering::Less);
-    Ok(())
-}
-
-#[test]
-fn free_variables_come_before_applications(rt: HostRuntime) -> Result<(), Fail> {
-    let s = leaf(rt.alloc(), "z")?;
-    let f = identity(rt.alloc(), "x")?;
-    let t = Term::comb(rt.alloc(), &f, &s)?;
-    assert_eq!(rt; alpha_order(&s, &t), Ordering::Less);
-    assert_eq!(rt; alpha_order(&t, &f), Ordering::Less);
-    Ok(())
-}
-
-#[test]
-fn names_come_by_their_bytes(rt: HostRuntime) -> Result<(), Fail> {
-    let s = leaf(rt.alloc(), "b")?;
-    let t = leaf(rt.alloc(), "a'")?;
-    assert_eq!(rt; alpha_order(&s, &t), Ordering::Greater);
-    Ok(())
+fn is_equivalent(alloc: Global, s: &str, t: &str) -> Result<bool, TermError> {
+    let s = term(alloc, s)?;
+    let t = term(alloc, t)?;
+    Ok(aconv(&s, &t))
 }
 
 #[test]
 fn bound_names_do_not_count(rt: HostRuntime) -> Result<(), Fail> {
-    let s = identity(rt.alloc(), "y")?;
-    let t = identity(rt.alloc(), "x")?;
-    assert_eq!(rt; alpha_order(&s, &t), Ordering::Equal);
-    assert!(rt; aconv(&s, &t));
+    assert_eq!(rt;
+        order(rt.alloc(), "y:A \\y:A", "x:A \\x:A")?,
+        Ordering::Equal
+    );
+    assert!(rt; is_equivalent(rt.alloc(), "y:A \\y:A", "x:A \\x:A")?);
     Ok(())
 }
 
 #[test]
 fn a_free_variable_is_no_bound_one(rt: HostRuntime) -> Result<(), Fail> {
-    let body = leaf(rt.alloc(), "y")?;
-    let s = lambda(rt.alloc(), "x", &body)?;
-    let t = lambda(rt.alloc(), "y", &body)?;
-    assert!(rt; !aconv(&s, &t));
+    assert!(rt; !is_equivalent(rt.alloc(), "y:A \\x:A", "y:A \\y:A")?);
     Ok(())
 }

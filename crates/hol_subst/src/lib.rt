@@ -15,9 +15,9 @@ mod pairs;
 mod substitution;
 #[cfg(test)]
 mod substitution_tests;
-#[cfg(test)]
-mod tests;
 mod variants;
+#[cfg(test)]
+mod written;
 
 pub use alpha::{aconv, alpha_order, alpha_order_is_total};
 pub use error::SubstError;

@@ -1,162 +1,67 @@
 //! Names of bound variables are compared with those that HOL Light's vsubst chooses.
+use crate::written::{term, words};
 use crate::{SubstError, vsubst};
-use hol_terms::{Term, TermError, TermNode, Variable};
-use hol_types::{Name, Ty};
 use std::alloc::{AllocError, Global};
 use std::test::Fail;
 
-// The type variable of this name.
-fn type_variable(alloc: Global, text: &str) -> Result<Ty, AllocError> {
-    Ty::var(alloc, &Name::new(alloc, text)?)
-}
-
-// The variable of this name, of the type variable A.
-fn variable(alloc: Global, text: &str) -> Result<Variable, AllocError> {
-    let ty = type_variable(alloc, "A")?;
-    Variable::new(&Name::new(alloc, text)?, &ty)
-}
-
-// The term of that variable.
-fn leaf(alloc: Global, text: &str) -> Result<Term, TermError> {
-    let v = variable(alloc, text)?;
-    Term::var(alloc, &v)
-}
-
-// The abstraction of the variable of this name in the body.
-fn lambda(alloc: Global, text: &str, body: &Term) -> Result<Term, TermError> {
-    let v = variable(alloc, text)?;
-    Term::abstraction(alloc, &v, body)
-}
-
-// The one pair of a term and what it is to stand for.
-fn one_pair(alloc: Global, term: &Term, variable: &Term) -> Result<Vec<(Term, Term)>, TermError> {
+// The words of the term with the new one for the old one.
+fn replaced(alloc: Global, t: &str, new: &str, old: &str) -> Result<String, SubstError> {
+    let t = term(alloc, t)?;
     let mut pairs = Vec::new(alloc);
-    pairs.push((term.copy()?, variable.copy()?))?;
-    Ok(pairs)
+    pairs.push((term(alloc, new)?, term(alloc, old)?))?;
+    let found = vsubst(alloc, &pairs, &t)?;
+    Ok(words(alloc, &found)?)
 }
 
-// Whether the term is an abstraction over a variable of this name.
-fn binds(t: &Term, text: &str) -> bool {
-    match t.node() {
-        TermNode::Abs(v, _) => v.name().as_str() == text,
-        _ => false,
+#[test]
+fn bound_variables_that_would_capture_are_renamed(rt: HostRuntime) -> Result<(), Fail> {
+    let cases = [
+        ("x is captured", "y:A \\x:A", "x:A", " x:A \\x':A"),
+        ("nothing is captured", "y:A \\x:A", "z:A", " z:A \\x:A"),
+        (
+            "the renamed variable is captured",
+            "f:A>A>B x:A @ y:A @ \\x':A \\x:A",
+            "x:A",
+            " f:fun x':A @ x:A @ \\x'':A \\x':A",
+        ),
+    ];
+    for (what, t, new, wanted) in cases {
+        let found = replaced(rt.alloc(), t, new, "y:A")?;
+        assert_eq!(rt; found.as_str(), wanted, "{what}");
     }
-}
-
-// The body of an abstraction, and any other term itself.
-fn body(t: &Term) -> &Term {
-    match t.node() {
-        TermNode::Abs(_, b) => b,
-        _ => t,
-    }
-}
-
-// The type of functions from A to A to B.
-fn binary(alloc: Global) -> Result<Ty, AllocError> {
-    let a = type_variable(alloc, "A")?;
-    let b = type_variable(alloc, "B")?;
-    let unary = Ty::fun(alloc, &a, &b)?;
-    Ty::fun(alloc, &a, &unary)
-}
-
-// f of two variables of these names.
-fn f_of(alloc: Global, left: &str, right: &str) -> Result<Term, TermError> {
-    let f = Variable::new(&Name::new(alloc, "f")?, &binary(alloc)?)?;
-    let f = Term::var(alloc, &f)?;
-    let part = Term::comb(alloc, &f, &leaf(alloc, left)?)?;
-    Term::comb(alloc, &part, &leaf(alloc, right)?)
-}
-
-// (\x. y) with x for y.
-fn captured(alloc: Global) -> Result<Term, SubstError> {
-    let y = leaf(alloc, "y")?;
-    let t = lambda(alloc, "x", &y)?;
-    let pairs = one_pair(alloc, &leaf(alloc, "x")?, &y)?;
-    vsubst(alloc, &pairs, &t)
-}
-
-#[test]
-fn a_bound_variable_is_renamed_at_capture(rt: HostRuntime) -> Result<(), Fail> {
-    let found = captured(rt.alloc())?;
-    assert!(rt; binds(&found, "x'"));
-    assert!(rt; body(&found).same(&leaf(rt.alloc(), "x")?));
     Ok(())
 }
 
-// (\x. y) with z for y.
-fn not_captured(alloc: Global) -> Result<Term, SubstError> {
-    let y = leaf(alloc, "y")?;
-    let t = lambda(alloc, "x", &y)?;
-    let pairs = one_pair(alloc, &leaf(alloc, "z")?, &y)?;
-    vsubst(alloc, &pairs, &t)
-}
-
 #[test]
-fn a_bound_variable_is_kept_elsewhere(rt: HostRuntime) -> Result<(), Fail> {
-    let found = not_captured(rt.alloc())?;
-    assert!(rt; binds(&found, "x"));
-    assert!(rt; body(&found).same(&leaf(rt.alloc(), "z")?));
-    Ok(())
-}
-
-// (\x x'. f x y) with x for y.
-fn captured_twice(alloc: Global) -> Result<Term, SubstError> {
-    let inner = lambda(alloc, "x'", &f_of(alloc, "x", "y")?)?;
-    let t = lambda(alloc, "x", &inner)?;
-    let pairs = one_pair(alloc, &leaf(alloc, "x")?, &leaf(alloc, "y")?)?;
-    vsubst(alloc, &pairs, &t)
-}
-
-#[test]
-fn a_renamed_variable_may_be_captured(rt: HostRuntime) -> Result<(), Fail> {
-    let found = captured_twice(rt.alloc())?;
-    assert!(rt; binds(&found, "x'"));
-    assert!(rt; binds(body(&found), "x''"));
-    assert!(rt; body(body(&found)).same(&f_of(rt.alloc(), "x'", "x")?));
-    Ok(())
-}
-
-// y with the pair of x and (\x. x), whose second part is no variable.
-fn no_variable(alloc: Global) -> Result<Result<Term, SubstError>, TermError> {
-    let x = leaf(alloc, "x")?;
-    let identity = lambda(alloc, "x", &x)?;
-    let pairs = one_pair(alloc, &x, &identity)?;
-    Ok(vsubst(alloc, &pairs, &x))
-}
-
-#[test]
-fn a_pair_of_no_variable_is_refused(rt: HostRuntime) -> Result<(), Fail> {
-    let found = no_variable(rt.alloc())?;
+fn a_pair_of_no_variable_is_refused(rt: HostRuntime) {
+    let found = replaced(rt.alloc(), "x:A", "x:A", "x:A \\x:A");
     assert!(rt; matches!(found, Err(SubstError::BadPair)));
-    Ok(())
 }
 
-// f x y, with as many abstractions over x, x', x'' .. as counted, the outermost over x.
-fn nested(alloc: Global, count: u32) -> Result<Term, TermError> {
-    let mut names = Vec::new(alloc);
-    let mut v = variable(alloc, "x")?;
-    for _ in 0..count {
-        names.push(v.copy()?)?;
-        v = v.primed(alloc)?;
+// The words of a body under so many binders of x with primes at its end: the innermost with the most, and each further one with one less.
+fn nested(alloc: Global, body: &str, count: usize, most: usize) -> Result<String, AllocError> {
+    let mut text = String::from_str(alloc, body)?;
+    for outside in 0..count {
+        add_binder(&mut text, most.saturating_sub(outside))?;
     }
-    let mut t = f_of(alloc, "x", "y")?;
-    for v in names.iter().rev() {
-        t = Term::abstraction(alloc, v, &t)?;
+    Ok(text)
+}
+
+fn add_binder(text: &mut String, primes: usize) -> Result<(), AllocError> {
+    text.push_str(" \\x")?;
+    for _ in 0..primes {
+        text.push_str("'")?;
     }
-    Ok(t)
+    text.push_str(":A")
 }
 
-// That term with x for y, where each abstraction captures.
-fn nested_captures(alloc: Global, count: u32) -> Result<Term, SubstError> {
-    let t = nested(alloc, count)?;
-    let pairs = one_pair(alloc, &leaf(alloc, "x")?, &leaf(alloc, "y")?)?;
-    vsubst(alloc, &pairs, &t)
-}
-
+// The two outermost would capture, the second x' only since the first is renamed so; the others keep their names.
 #[test]
 fn nested_captures_are_renamed_once(rt: HostRuntime) -> Result<(), Fail> {
-    let found = nested_captures(rt.alloc(), 100)?;
-    assert!(rt; binds(&found, "x'"));
-    assert!(rt; found.vfree_in(&variable(rt.alloc(), "x")?));
+    let t = nested(rt.alloc(), "f:A>A>B x:A @ y:A @", 100, 99)?;
+    let mut wanted = nested(rt.alloc(), " f:fun x':A @ x:A @", 98, 99)?;
+    wanted.push_str(" \\x'':A \\x':A")?;
+    let found = replaced(rt.alloc(), t.as_str(), "x:A", "y:A")?;
+    assert_eq!(rt; found.as_str(), wanted.as_str());
     Ok(())
 }
