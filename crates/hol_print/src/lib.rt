@@ -19,6 +19,8 @@ mod term_text;
 mod tests;
 mod type_piece;
 mod type_text;
+#[cfg(test)]
+mod written;
 
 pub use goal_text::show_goal;
 pub use names::shown_names_have_fewest_primes;
