@@ -1,6 +1,6 @@
-//! What is read of definitions.
+//! What is read of definitions, as copies of it say.
 use crate::term_tests::{spell_term, spell_variable};
-use crate::tests::spell;
+use crate::tests::{spell, spell_rest};
 use crate::{Definition, read_definition_quotation};
 use hol_notation_tokens::{SyntaxError, scan};
 use std::alloc::{AllocError, Global};
@@ -25,33 +25,33 @@ fn spell_definition(definition: &Definition, text: &mut String) -> Result<(), Al
     spell_term(8, &definition.right.term, text)
 }
 
-// The parts of the definition with which the text begins, those of a copy if one is asked for, and after them a `|` for
-// each word that is left.
-fn definition_read(alloc: Global, text: &str, copied: bool) -> Result<String, SyntaxError> {
+// The place and the parts of a copy of the definition with which the text begins, and after them a `|` for each word that is left.
+fn definition_read(alloc: Global, text: &str) -> Result<(usize, String), SyntaxError> {
     let (words, end) = scan(alloc, text)?;
     let (read, rest) = read_definition_quotation(alloc, &words, end)?;
-    let definition = if copied { read.copy(alloc)? } else { read };
+    let definition = read.copy(alloc)?;
     let mut spelled = String::new(alloc);
     spell_definition(&definition, &mut spelled)?;
-    for _ in rest {
-        spelled.push_str("|")?;
-    }
-    Ok(spelled)
+    spell_rest(rest, &mut spelled)?;
+    Ok((definition.place, spelled))
 }
 
 #[test]
 fn reads_definitions(rt: HostRuntime) -> Result<(), Fail> {
     let cases = [
-        ("`c = x`", "c = x"),
-        ("`c x y = x` qed", "c x y = x|"),
-        ("`c (x:A) y :A = x`", "c x:A y :A = x"),
-        ("`c x <=> p <=> q`", "c x <=> ((<=> p) q)"),
-        ("`c = p = q`", "c = ((= p) q)"),
-        ("`T x THEN = x`", "T x THEN = x"),
+        (0, "`c = x`", "c = x"),
+        (0, "`c x y = x` qed", "c x y = x|"),
+        (0, "`c (x:A) y :A = x`", "c x:A y :A = x"),
+        (0, "`c (x:A) y :A <=> x`", "c x:A y :A <=> x"),
+        (0, "`c x <=> p <=> q`", "c x <=> ((<=> p) q)"),
+        (0, "`c = p = q`", "c = ((= p) q)"),
+        (0, "`T x THEN = x`", "T x THEN = x"),
+        (2, "  `c = x`", "c = x"),
     ];
-    for (text, wanted) in cases {
-        let read = definition_read(rt.alloc(), text, false)?;
+    for (place, text, wanted) in cases {
+        let (found, read) = definition_read(rt.alloc(), text)?;
         assert_eq!(rt; read.as_str(), wanted, "at {text}");
+        assert_eq!(rt; found, place, "at {text}");
     }
     Ok(())
 }
@@ -73,7 +73,7 @@ fn refuses_where_no_definition_goes_on(rt: HostRuntime) {
         ("`c : = p`", 5),
     ];
     for (text, wanted) in cases {
-        let place = match definition_read(rt.alloc(), text, false) {
+        let place = match definition_read(rt.alloc(), text) {
             Err(SyntaxError::Syntax(place)) => Some(place),
             _ => None,
         };
@@ -81,35 +81,28 @@ fn refuses_where_no_definition_goes_on(rt: HostRuntime) {
     }
 }
 
-#[test]
-fn copies_definitions(rt: HostRuntime) -> Result<(), Fail> {
-    let copied = definition_read(rt.alloc(), "`c (x:A) y :A <=> x`", true)?;
-    assert_eq!(rt; copied.as_str(), "c x:A y :A <=> x");
-    let copied = definition_read(rt.alloc(), "`c = x`", true)?;
-    assert_eq!(rt; copied.as_str(), "c = x");
-    Ok(())
+// `c x0 x1 .. = c`, with so many parameters.
+fn with_parameters(alloc: Global, count: usize) -> Result<String, AllocError> {
+    let mut text = String::from_str(alloc, "`c")?;
+    for n in 0..count {
+        let name = n.to_string(alloc)?;
+        text.push_str(" x")?;
+        text.push_str(name.as_str())?;
+    }
+    text.push_str(" = c`")?;
+    Ok(text)
 }
 
-#[test]
-fn places_definitions(rt: HostRuntime) -> Result<(), Fail> {
-    let (words, end) = scan(rt.alloc(), "  `c = x`")?;
-    let (definition, _rest) = read_definition_quotation(rt.alloc(), &words, end)?;
-    assert_eq!(rt; definition.place, 2);
-    assert_eq!(rt; definition.copy(rt.alloc())?.place, 2);
-    Ok(())
+// How many parameters a definition has that the text is, and how many words are left.
+fn counts(alloc: Global, text: &str) -> Result<(usize, usize), SyntaxError> {
+    let (words, end) = scan(alloc, text)?;
+    let (definition, rest) = read_definition_quotation(alloc, &words, end)?;
+    Ok((definition.parameters.len(), rest.len()))
 }
 
 #[test]
 fn reads_definitions_of_many_parameters(rt: HostRuntime) -> Result<(), Fail> {
-    let mut text = String::from_str(rt.alloc(), "`c")?;
-    for n in 0..4091 {
-        let name = format!(in rt.alloc(); " x{n}")?;
-        text.push_str(name.as_str())?;
-    }
-    text.push_str(" = c`")?;
-    let (words, end) = scan(rt.alloc(), text.as_str())?;
-    let (definition, rest) = read_definition_quotation(rt.alloc(), &words, end)?;
-    assert_eq!(rt; definition.parameters.len(), 4091);
-    assert!(rt; rest.is_empty());
+    let text = with_parameters(rt.alloc(), 4091)?;
+    assert_eq!(rt; counts(rt.alloc(), text.as_str())?, (4091, 0));
     Ok(())
 }

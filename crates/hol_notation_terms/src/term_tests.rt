@@ -1,6 +1,8 @@
-//! What is read of terms.
-use crate::tests::{repeated, spell};
-use crate::{Operator, PreTerm, PreTermNode, PreVariable, read_quotation, read_term};
+//! What is read of terms, as copies of it say.
+use crate::tests::{repeated, spell, spell_rest};
+use crate::{
+    Operator, PreTerm, PreTermNode, PreType, PreTypeNode, PreVariable, read_quotation, read_term,
+};
 use hol_notation_tokens::{SyntaxError, scan};
 use std::alloc::{AllocError, Global};
 use std::test::Fail;
@@ -68,15 +70,13 @@ pub(crate) fn spell_term(
     Ok(())
 }
 
-// The structure of the term with which the text begins, and after it a `|` for each word that is left.
+// The structure of a copy of the term with which the text begins, and after it a `|` for each word that is left.
 fn term_read(alloc: Global, text: &str) -> Result<String, SyntaxError> {
     let (words, end) = scan(alloc, text)?;
     let (term, rest) = read_term(alloc, &words, end)?;
     let mut spelled = String::new(alloc);
-    spell_term(20, &term, &mut spelled)?;
-    for _ in rest {
-        spelled.push_str("|")?;
-    }
+    spell_term(20, &term.copy()?, &mut spelled)?;
+    spell_rest(rest, &mut spelled)?;
     Ok(spelled)
 }
 
@@ -164,60 +164,85 @@ fn refuses_where_no_term_goes_on(rt: HostRuntime) {
     }
 }
 
+// The place and the structure of a copy of the quotation with which the text begins, and after it a `|` for each word that is left.
+fn quoted(alloc: Global, text: &str) -> Result<(usize, String), SyntaxError> {
+    let (words, end) = scan(alloc, text)?;
+    let (read, rest) = read_quotation(alloc, &words, end)?;
+    let quotation = read.copy()?;
+    let mut spelled = String::new(alloc);
+    spell_term(8, &quotation.term, &mut spelled)?;
+    spell_rest(rest, &mut spelled)?;
+    Ok((quotation.place, spelled))
+}
+
 #[test]
 fn reads_quotations(rt: HostRuntime) -> Result<(), Fail> {
-    let (words, end) = scan(rt.alloc(), " `p = q` THEN")?;
-    let (quotation, rest) = read_quotation(rt.alloc(), &words, end)?;
-    let mut spelled = String::new(rt.alloc());
-    spell_term(8, &quotation.term, &mut spelled)?;
-    assert_eq!(rt; spelled.as_str(), "((= p) q)");
-    assert_eq!(rt; quotation.place, 1);
-    assert_eq!(rt; rest.len(), 1);
+    let (place, spelled) = quoted(rt.alloc(), " `p = q` THEN")?;
+    assert_eq!(rt; place, 1);
+    assert_eq!(rt; spelled.as_str(), "((= p) q)|");
     Ok(())
 }
 
-// Whether the text is read as a term whole.
-fn is_read(alloc: Global, text: &str) -> Result<bool, SyntaxError> {
-    let (words, end) = scan(alloc, text)?;
+// The name and the type of a copy of a variable.
+fn copied_variable(alloc: Global) -> Result<String, AllocError> {
+    let name = String::from_str(alloc, "x")?;
+    let ty = PreType::new(alloc, PreTypeNode::Ident(String::from_str(alloc, "A")?))?;
+    let variable = PreVariable {
+        name,
+        annotation: Some(ty),
+    };
+    let mut spelled = String::new(alloc);
+    spell_variable(&variable.copy(alloc)?, &mut spelled)?;
+    Ok(spelled)
+}
+
+#[test]
+fn copies_variables(rt: HostRuntime) -> Result<(), Fail> {
+    assert_eq!(rt; copied_variable(rt.alloc())?.as_str(), "x:A");
+    Ok(())
+}
+
+// Whether the text is read as a term whole, and the term dropped: a part so many times, a middle, and a closing part as many times.
+fn reads_many(
+    alloc: Global,
+    part: &str,
+    count: usize,
+    middle: &str,
+    closing: &str,
+) -> Result<bool, SyntaxError> {
+    let open = repeated(alloc, "", part, count, middle)?;
+    let text = repeated(alloc, open.as_str(), closing, count, "")?;
+    let (words, end) = scan(alloc, text.as_str())?;
     let (_term, rest) = read_term(alloc, &words, end)?;
     Ok(rest.is_empty())
 }
 
-// Reads the text that has a part again and again, and drops the term.
-fn reads_many(alloc: Global, part: &str, count: usize, after: &str) -> Result<bool, SyntaxError> {
-    let text = repeated(alloc, "", part, count, after)?;
-    is_read(alloc, text.as_str())
-}
-
-// Each text has the 4,096 tokens that a text may have, or one or two less.
+// Each of these texts has the 4,096 tokens that a text may have, or one or two less, or the 200 brackets that may be open.
 #[test]
-fn reads_operators_of_many_tokens(rt: HostRuntime) -> Result<(), Fail> {
-    assert!(rt; reads_many(rt.alloc(), "~", 4095, "p")?);
-    assert!(rt; reads_many(rt.alloc(), "p = ", 2047, "p")?);
-    assert!(rt; reads_many(rt.alloc(), "p <=> ", 2047, "p")?);
-    assert!(rt; reads_many(rt.alloc(), "~ ~ p ==> ", 1023, "p")?);
+fn reads_terms_of_many_tokens(rt: HostRuntime) -> Result<(), Fail> {
+    let cases = [
+        ("~", 4095, "p", ""),
+        ("p = ", 2047, "p", ""),
+        ("p <=> ", 2047, "p", ""),
+        ("~ ~ p ==> ", 1023, "p", ""),
+        ("\\x. ", 1365, "x", ""),
+        ("!x. ", 1365, "x", ""),
+        ("p = !x. ", 819, "x", ""),
+        ("f ", 4096, "", ""),
+        ("x", 1, ":A", ""),
+        ("(f ", 200, "x", ")"),
+        ("(~ !x. p = ", 200, "x", ")"),
+    ];
+    for (part, count, middle, closing) in cases {
+        let is_read = reads_many(rt.alloc(), part, count, middle, closing)?;
+        assert!(rt; is_read, "at {part}");
+    }
     Ok(())
 }
 
 #[test]
-fn reads_binders_of_many_tokens(rt: HostRuntime) -> Result<(), Fail> {
-    assert!(rt; reads_many(rt.alloc(), "\\x. ", 1365, "x")?);
-    assert!(rt; reads_many(rt.alloc(), "!x. ", 1365, "x")?);
-    let variables = repeated(rt.alloc(), "!", "x ", 4093, ". x")?;
-    assert!(rt; is_read(rt.alloc(), variables.as_str())?);
-    assert!(rt; reads_many(rt.alloc(), "p = !x. ", 819, "x")?);
-    Ok(())
-}
-
-#[test]
-fn reads_arguments_of_many_tokens(rt: HostRuntime) -> Result<(), Fail> {
-    assert!(rt; reads_many(rt.alloc(), "f ", 4096, "")?);
-    assert!(rt; reads_many(rt.alloc(), "x", 1, ":A")?);
-    let open = repeated(rt.alloc(), "", "(f ", 200, "x")?;
-    let closed = repeated(rt.alloc(), open.as_str(), ")", 200, "")?;
-    assert!(rt; is_read(rt.alloc(), closed.as_str())?);
-    let binders = repeated(rt.alloc(), "", "(~ !x. p = ", 200, "x")?;
-    let closed = repeated(rt.alloc(), binders.as_str(), ")", 200, "")?;
-    assert!(rt; is_read(rt.alloc(), closed.as_str())?);
+fn reads_many_variables_of_one_binder(rt: HostRuntime) -> Result<(), Fail> {
+    let text = repeated(rt.alloc(), "!", "x ", 4093, ". x")?;
+    assert!(rt; reads_many(rt.alloc(), text.as_str(), 1, "", "")?);
     Ok(())
 }

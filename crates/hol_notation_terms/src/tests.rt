@@ -1,73 +1,8 @@
-//! What copies of types and terms say.
-use crate::{
-    Operator, PreTerm, PreTermNode, PreType, PreTypeNode, PreVariable, Quotation, TypeQuotation,
-    read_type, read_type_quotation,
-};
-use hol_notation_tokens::{SyntaxError, scan};
+//! What is read of types, as copies of it say.
+use crate::{PreType, PreTypeNode, read_type, read_type_quotation};
+use hol_notation_tokens::{SyntaxError, Word, scan};
 use std::alloc::{AllocError, Global};
 use std::test::Fail;
-
-fn type_named(alloc: Global, name: &str) -> Result<PreType, AllocError> {
-    PreType::new(alloc, PreTypeNode::Ident(String::from_str(alloc, name)?))
-}
-
-fn term_named(alloc: Global, name: &str) -> Result<PreTerm, AllocError> {
-    PreTerm::new(alloc, PreTermNode::Ident(String::from_str(alloc, name)?))
-}
-
-fn is_type_named(ty: &PreType, wanted: &str) -> bool {
-    match ty.node() {
-        PreTypeNode::Ident(name) => name.as_str() == wanted,
-        _ => false,
-    }
-}
-
-#[test]
-fn copies_types(rt: HostRuntime) -> Result<(), Fail> {
-    let from = type_named(rt.alloc(), "A")?;
-    let to = type_named(rt.alloc(), "B")?;
-    let ty = PreType::new(rt.alloc(), PreTypeNode::Arrow(from, to))?;
-    let copied = ty.copy()?;
-    match copied.node() {
-        PreTypeNode::Arrow(from, to) => {
-            assert!(rt; is_type_named(from, "A") && is_type_named(to, "B"));
-        }
-        _ => assert!(rt; false),
-    }
-    Ok(())
-}
-
-#[test]
-fn copies_variables(rt: HostRuntime) -> Result<(), Fail> {
-    let name = String::from_str(rt.alloc(), "x")?;
-    let annotation = Some(type_named(rt.alloc(), "A")?);
-    let copied = PreVariable { name, annotation }.copy(rt.alloc())?;
-    assert_eq!(rt; copied.name.as_str(), "x");
-    match &copied.annotation {
-        Some(ty) => assert!(rt; is_type_named(ty, "A")),
-        None => assert!(rt; false),
-    }
-    Ok(())
-}
-
-#[test]
-fn copies_terms(rt: HostRuntime) -> Result<(), Fail> {
-    let not = PreTerm::new(rt.alloc(), PreTermNode::Operator(Operator::Not))?;
-    let p = term_named(rt.alloc(), "p")?;
-    let term = PreTerm::new(rt.alloc(), PreTermNode::Apply(not, p))?;
-    let copied = term.copy()?;
-    match copied.node() {
-        PreTermNode::Apply(function, argument) => {
-            assert!(rt; matches!(function.node(), PreTermNode::Operator(Operator::Not)));
-            match argument.node() {
-                PreTermNode::Ident(name) => assert_eq!(rt; name.as_str(), "p"),
-                _ => assert!(rt; false),
-            }
-        }
-        _ => assert!(rt; false),
-    }
-    Ok(())
-}
 
 // Writes the type with its structure shown, down to so many levels.
 pub(crate) fn spell(levels: usize, ty: &PreType, text: &mut String) -> Result<(), AllocError> {
@@ -96,15 +31,21 @@ pub(crate) fn spell(levels: usize, ty: &PreType, text: &mut String) -> Result<()
     Ok(())
 }
 
-// The structure of the type with which the text begins, and after `|` how many words are left.
+// Writes a `|` for each word that is left.
+pub(crate) fn spell_rest(rest: &[Word], text: &mut String) -> Result<(), AllocError> {
+    for _ in rest {
+        text.push_str("|")?;
+    }
+    Ok(())
+}
+
+// The structure of a copy of the type with which the text begins, and after it a `|` for each word that is left.
 fn type_read(alloc: Global, text: &str) -> Result<String, SyntaxError> {
     let (words, end) = scan(alloc, text)?;
     let (ty, rest) = read_type(alloc, &words, end)?;
     let mut spelled = String::new(alloc);
-    spell(8, &ty, &mut spelled)?;
-    for _ in rest {
-        spelled.push_str("|")?;
-    }
+    spell(8, &ty.copy()?, &mut spelled)?;
+    spell_rest(rest, &mut spelled)?;
     Ok(spelled)
 }
 
@@ -183,31 +124,28 @@ fn is_read(alloc: Global, text: &str) -> Result<bool, SyntaxError> {
 
 #[test]
 fn reads_types_of_many_tokens(rt: HostRuntime) -> Result<(), Fail> {
-    let arrows = repeated(rt.alloc(), "A", "->A", 2047, "")?;
-    assert!(rt; is_read(rt.alloc(), arrows.as_str())?);
-    let constructors = repeated(rt.alloc(), "A", " list", 2047, "")?;
-    assert!(rt; is_read(rt.alloc(), constructors.as_str())?);
-    Ok(())
-}
-
-#[test]
-fn reads_types_of_many_parts(rt: HostRuntime) -> Result<(), Fail> {
-    let list = repeated(rt.alloc(), "(A", ",A", 2046, ") p")?;
-    assert!(rt; is_read(rt.alloc(), list.as_str())?);
+    let cases = [
+        ("A", "->A", 2047, ""),
+        ("A", " list", 2047, ""),
+        ("(A", ",A", 2046, ") p"),
+    ];
+    for (before, part, count, after) in cases {
+        let text = repeated(rt.alloc(), before, part, count, after)?;
+        assert!(rt; is_read(rt.alloc(), text.as_str())?, "at {part}");
+    }
     let brackets = repeated(rt.alloc(), "", "(A->", 200, "A")?;
     assert_eq!(rt; type_refused_at(rt.alloc(), brackets.as_str()), Some(801));
     Ok(())
 }
 
-// The place and the structure of the quotation with which the text begins, and after `|` how many words are left.
+// The place and the structure of a copy of the quotation with which the text begins, and after it a `|` for each word that is left.
 fn type_quoted(alloc: Global, text: &str) -> Result<(usize, String), SyntaxError> {
     let (words, end) = scan(alloc, text)?;
-    let (quotation, rest) = read_type_quotation(alloc, &words, end)?;
+    let (read, rest) = read_type_quotation(alloc, &words, end)?;
+    let quotation = read.copy()?;
     let mut spelled = String::new(alloc);
     spell(8, &quotation.ty, &mut spelled)?;
-    for _ in rest {
-        spelled.push_str("|")?;
-    }
+    spell_rest(rest, &mut spelled)?;
     Ok((quotation.place, spelled))
 }
 
@@ -236,25 +174,4 @@ fn refuses_where_no_type_quotation_goes_on(rt: HostRuntime) {
         };
         assert_eq!(rt; place, Some(wanted), "at {text}");
     }
-}
-
-#[test]
-fn copies_quotations(rt: HostRuntime) -> Result<(), Fail> {
-    let term = term_named(rt.alloc(), "p")?;
-    let copied = Quotation { place: 3, term }.copy()?;
-    assert_eq!(rt; copied.place, 3);
-    match copied.term.node() {
-        PreTermNode::Ident(name) => assert_eq!(rt; name.as_str(), "p"),
-        _ => assert!(rt; false),
-    }
-    Ok(())
-}
-
-#[test]
-fn copies_type_quotations(rt: HostRuntime) -> Result<(), Fail> {
-    let ty = type_named(rt.alloc(), "A")?;
-    let copied = TypeQuotation { place: 3, ty }.copy()?;
-    assert_eq!(rt; copied.place, 3);
-    assert!(rt; is_type_named(&copied.ty, "A"));
-    Ok(())
 }
