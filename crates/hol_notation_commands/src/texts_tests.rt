@@ -99,6 +99,77 @@ fn reads_terms_too(rt: HostRuntime) {
     }
 }
 
+// No typing, no goal or no arity that fits is not a matter of syntax, and what is shown otherwise is read as well.
+#[test]
+fn reads_terms_that_are_judged_later(rt: HostRuntime) {
+    let cases = [
+        "g N `(\\x. x x) = y`",
+        "g N `(\\x. y) = z`",
+        "g N `f x = y`",
+        "g N `x:bool bool = y y`",
+        "g N `(p /\\ q) /\\ r`",
+        "g N `~(p:bool = q)`",
+        "g N `(!) (\\x. x)`",
+        "g N `!x y:A. x = y`",
+        "g N `(p <=> q) <=> r`",
+        "g N `p <=> (q <=> r)`",
+    ];
+    for text in cases {
+        assert!(rt; read_command(rt.alloc(), text).is_ok(), "at {text}");
+    }
+}
+
+#[test]
+fn reads_steps_of_proofs(rt: HostRuntime) {
+    let cases = [
+        "g N `p ==> p`",
+        "e DISCH_TAC THEN FIRST_ASSUM ACCEPT_TAC",
+        "g E `?x:A. x = a`",
+        "e EXISTS_TAC `a`",
+        "e EXISTS_TAC `a:A`",
+        "e STOP",
+        "g Z `(p <=> ~p) ==> p`",
+        "e DISCH_TAC THEN ASM_REWRITE_TAC []",
+    ];
+    for text in cases {
+        assert!(rt; read_command(rt.alloc(), text).is_ok(), "at {text}");
+    }
+}
+
+// `x1 = (\g. g x0 x0) /\ x2 = (\g. g x1 x1) ..`, with so many equations: the types double at each.
+fn doubling_equations(alloc: Global, count: u32) -> Result<String, Fail> {
+    let mut text = String::from_str(alloc, "g N `T")?;
+    for number in 0..count {
+        let before = number.to_string(alloc)?;
+        let name = (number + 1).to_string(alloc)?;
+        for part in [
+            " /\\ x",
+            name.as_str(),
+            " = (\\g. g x",
+            before.as_str(),
+            " x",
+            before.as_str(),
+            ")",
+        ] {
+            text.push_str(part)?;
+        }
+    }
+    text.push_str("`")?;
+    Ok(text)
+}
+
+#[test]
+fn reads_terms_whose_types_are_large(rt: HostRuntime) -> Result<(), Fail> {
+    for count in [8, 9] {
+        let text = doubling_equations(rt.alloc(), count)?;
+        assert!(rt;
+            read_command(rt.alloc(), text.as_str()).is_ok(),
+            "at {count} equations"
+        );
+    }
+    Ok(())
+}
+
 #[test]
 fn refuses_terms(rt: HostRuntime) {
     let cases = [
@@ -151,6 +222,8 @@ fn refuses_terms_too(rt: HostRuntime) {
         ("g N `x:(A,)t`", 10),
         ("g N `x:A,B`", 8),
         ("g N `x:1`", 7),
+        ("g N `p /\\ `", 10),
+        ("g N `é`", 5),
     ];
     for (text, place) in cases {
         let refused = refused_at(rt.alloc(), text);
@@ -309,6 +382,7 @@ fn refuses_tactics_too(rt: HostRuntime) {
         ("e (A", 4),
         ("e (A))", 5),
         ("e (A) B", 6),
+        ("e ACCEPT_TAC (SPEC TRUTH)", 19),
     ];
     for (text, place) in cases {
         let refused = refused_at(rt.alloc(), text);
