@@ -1,17 +1,17 @@
 -- Resolved terms: their indexes and free names are scoped, and their annotations have no open type variables.
-use Rattle.std.proofs.Common.{◌≡◌, ◌≢◌, ℕ, ◌+◌, ◌<◌, ◌≤◌, zero, suc, List, [], ◌∷◌, ◌++◌, length, map, get_or, take, drop, refl, sym, ◌∙◌, ap, subst, arith, add-one, Bool, true, false, not, ◌&&◌, ◌||◌, cond, bytes_eq, codes, Option, Some, None}
+use Rattle.std.proofs.Common.{◌≡◌, ◌≢◌, ℕ, ◌+◌, ◌<◌, ◌≤◌, zero, suc, List, [], ◌∷◌, ◌++◌, length, map, get_or, take, refl, sym, ◌∙◌, ap, subst, arith, add-one, Bool, true, false, not, ◌&&◌, cond, bytes_eq, codes, Option, Some, None}
 use Rattle.std.specs.Option.{option_map}
 use Rattle.std.proofs.lemmas.List.{take_more, take_all, map-append}
 use Rattle.std.proofs.lemmas.Slice.Eq.{bytes_eq-Decides}
-use Rattle.hol_types.specs.Tree.{TypeTree, TypeList, TyVar, TyApp, no_types, more_types, type_list}
+use Rattle.hol_types.specs.Tree.{TypeTree, TyApp, more_types, type_list}
 use Rattle.hol_types.specs.Names.{is_among}
 use Rattle.hol_notation_terms.specs.declared.operator.Operator.{Operator}
 use Rattle.hol_notation_terms.specs.declared.operator.Operator.TheVariants.{Iff, Implies, Or, And, Equals, Not, ForAll, Exists, ExistsUnique, Choice}
-use Rattle.hol_notation_terms.specs.Text.{TypeText, TypeTexts, Ident, Arrow, Apply, no_types as no_texts, more_types as more_texts, type_texts, type_nodes, types_nodes, TermText, Named, Constant, Applied, Abstraction, Typed}
+use Rattle.hol_notation_terms.specs.Text.{TypeText, TypeTexts, Ident, Arrow, Apply, no_types as no_texts, more_types as more_texts, type_texts, type_nodes, types_nodes, TermText, DefinitionText, Named, Constant, Applied, Abstraction, Typed}
 use Rattle.hol_infer.specs.Typing.{IsOpen}
-use Rattle.hol_infer.specs.Raw.{RawTree, RawBound, RawConstant, RawFree, RawApply, RawAbstraction, RawAnnotated}
+use Rattle.hol_infer.specs.Raw.{RawTree, RawFree, RawApply}
 use Rattle.hol_infer.specs.Scoped.{IsFirstAt, IsScoped, HasNoOpenName, HaveNoOpenName, IsRigid, HasRigidAnnotations}
-use Rattle.hol_infer.specs.Resolving.{arity_of, generic_type_of, ident_type, type_of_text, types_of_texts, text_count, has_arities, have_arities, name_index, resolved, identifier, operator_raw, raw_of, begins_with_mark, stands_alone, option_has_arities, term_has_arities, takes, DefinitionText, value_text, without, definition_raw}
+use Rattle.hol_infer.specs.Resolving.{arity_of, generic_type_of, ident_type, type_of_text, types_of_texts, text_count, has_arities, have_arities, name_index, resolved, identifier, operator_raw, raw_of, begins_with_mark, stands_alone, option_has_arities, term_has_arities, takes, value_text, without, definition_raw}
 
 -- ---- scopes
 

@@ -15,5 +15,4 @@ pub mod Generate
 pub mod Solved
 pub mod Resolving
 pub mod NamesView
-pub mod DefinitionView
 pub mod Standing

@@ -7,7 +7,7 @@ use Rattle.hol_types.specs.Tree.{TypeTree, TypeList, TyVar, TyApp, no_types, mor
 use Rattle.hol_types.specs.Fun.{fun_type}
 use Rattle.hol_notation_terms.specs.declared.operator.Operator.{Operator}
 use Rattle.hol_notation_terms.specs.declared.operator.Operator.TheVariants.{Iff, Implies, Or, And, Equals, Not, ForAll, Exists, ExistsUnique, Choice}
-use Rattle.hol_notation_terms.specs.Text.{TypeText, TypeTexts, Ident, Arrow, Apply, no_types as no_texts, more_types as more_texts, VariableText, TermText, Named, Constant, Applied, Abstraction, Typed}
+use Rattle.hol_notation_terms.specs.Text.{TypeText, TypeTexts, Ident, Arrow, Apply, no_types as no_texts, more_types as more_texts, VariableText, DefinitionText, TermText, Named, Constant, Applied, Abstraction, Typed}
 use Rattle.hol_infer.specs.Raw.{RawTree, RawBound, RawConstant, RawFree, RawApply, RawAbstraction, RawAnnotated}
 
 -- ---- what stands: the first entry of a name counts
@@ -118,14 +118,6 @@ raw_of arities constants names (Typed t ty) = RawAnnotated (raw_of arities const
 
 -- ---- definitions
 
--- `c v1 .. vn [: ty] = r` as it is written, or the same with `<=>`
-pub record DefinitionText : Type 0 where
-  pub name : List ℕ
-  pub variables : List VariableText
-  pub annotation : Option TypeText
-  pub is_equivalence : Bool
-  pub right : TermText
-
 abbrev pub with_annotation : Option TypeText → TermText → TermText
 with_annotation None r = r
 with_annotation (Some ty) r = Typed r ty
@@ -142,7 +134,7 @@ abstracted (v ∷ vs) r = Abstraction v (abstracted vs r)
 
 -- `\v1 .. vn. r`
 abbrev pub value_text : DefinitionText → TermText
-value_text d = abstracted d.variables (at_bool d.is_equivalence (with_annotation d.annotation d.right))
+value_text d = abstracted d.parameters (at_bool d.right.is_iff (with_annotation d.right.annotation d.right.term))
 
 -- what stands but for the name
 abbrev pub without : List ℕ → List (List ℕ × TypeTree) → List (List ℕ × TypeTree)

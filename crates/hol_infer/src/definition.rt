@@ -3,28 +3,15 @@ ghost use Rattle.std.specs.Prelude.{◌≡◌, map, IfOk, IfErr, true, false};
 ghost use Rattle.hol_notation_terms.specs.VariableView.{variable_text};
 ghost use Rattle.hol_infer.specs.RawView.{raw_tree};
 ghost use Rattle.hol_infer.specs.Resolving.{with_annotation, at_bool, abstracted, value_text, without, definition_raw, term_has_arities};
-ghost use Rattle.hol_infer.specs.DefinitionView.{definition_text};
+ghost use Rattle.hol_notation_terms.specs.DefinitionView.{definition_text};
 
 use crate::raw::RawTerm;
 use crate::resolving::{Names, ResolveError, operator, resolve};
-use hol_notation_terms::{Operator, PreTerm, PreTermNode, PreType, PreTypeNode, PreVariable};
+use hol_notation_terms::{
+    Definition, Operator, PreTerm, PreTermNode, PreType, PreTypeNode, PreVariable,
+};
 use hol_types::{Name, Ty};
 use std::alloc::{AllocError, AllocFailed, Global};
-
-/// `c v1 .. vn = r` as it is written, with or without a type for the right side, or the same with `<=>`.
-#[derive(Clone, Copy)]
-pub struct PreDefinition<'a> {
-    /// The constant's name.
-    pub name: &'a str,
-    /// The variables after it.
-    pub variables: &'a [PreVariable],
-    /// The type that is written for the right side.
-    pub annotation: &'a Option<PreType>,
-    /// Whether the sign is `<=>`, by which the right side is of type `bool`.
-    pub is_equivalence: bool,
-    /// The right side.
-    pub right: &'a PreTerm,
-}
 
 // The term with the type that is written for it, if there is one.
 fn with_annotation(
@@ -70,16 +57,15 @@ fn abstracted(
     }
 }
 
-impl<'a> PreDefinition<'a> {
-    // `\v1 .. vn. r`
-    fn value(&self, alloc: Global) -> Result<PreTerm, AllocError>
-        ensures { IfOk result (λ t. t ≡ value_text (definition_text self.now)) }
-    {
-        let annotated = with_annotation(alloc, self.annotation, self.right.copy()?)?;
-        let right = at_bool(alloc, self.is_equivalence, annotated)?;
-        let value = abstracted(alloc, self.variables, right)?;
-        Ok(value)
-    }
+// `\v1 .. vn. r`
+fn value(alloc: Global, definition: &Definition) -> Result<PreTerm, AllocError>
+    ensures { IfOk result (λ t. t ≡ value_text (definition_text definition.now)) }
+{
+    let right = &definition.right;
+    let annotated = with_annotation(alloc, &right.annotation, right.term.copy()?)?;
+    let body = at_bool(alloc, right.is_iff, annotated)?;
+    let value = abstracted(alloc, &definition.parameters, body)?;
+    Ok(value)
 }
 
 // What stands but for the name.
@@ -106,16 +92,17 @@ pub fn resolve_definition(
     alloc: Global,
     constants: &[(Name, Ty)],
     arities: &[(Name, usize)],
-    definition: &PreDefinition<'_>,
+    definition: &Definition,
 ) -> Result<RawTerm, ResolveError>
     ensures ok { IfOk result (λ t. (raw_tree t ≡ definition_raw arities.now constants.now (definition_text definition.now)) × (term_has_arities arities.now (value_text (definition_text definition.now)) ≡ true)) }
     ensures arity { IfErr result (λ e. e ≡ ResolveError.Arity → term_has_arities arities.now (value_text (definition_text definition.now)) ≡ false) }
 {
-    let value = definition.value(alloc)?;
-    let others = without(alloc, constants, definition.name)?;
+    let value = value(alloc, definition)?;
+    let defined = definition.name.as_str();
+    let others = without(alloc, constants, defined)?;
     let right = resolve(alloc, &others, arities, &Names::Outermost, &value)?;
     let equality = operator(alloc, constants, &Names::Outermost, Operator::Equals)?;
-    let name = Name::new(alloc, definition.name)?;
+    let name = Name::new(alloc, defined)?;
     let left = RawTerm::apply(alloc, equality, RawTerm::Free(name))?;
     let raw = RawTerm::apply(alloc, left, right)?;
     Ok(raw)

@@ -4,14 +4,14 @@ ghost use Rattle.hol_types.specs.Tree.{type_size};
 ghost use Rattle.hol_terms.specs.Nameless.{nameless};
 ghost use Rattle.hol_terms.specs.Size.{term_size};
 ghost use Rattle.hol_infer.specs.Resolving.{type_of_text, has_arities, term_has_arities, raw_of, value_text, definition_raw};
-ghost use Rattle.hol_infer.specs.DefinitionView.{definition_text};
+ghost use Rattle.hol_notation_terms.specs.DefinitionView.{definition_text};
 ghost use Rattle.hol_infer.specs.Typing.{HasNoTyping};
 ghost use Rattle.hol_infer.specs.Reading.{IsReading, HasLargeReading};
 
-use crate::definition::{PreDefinition, resolve_definition};
+use crate::definition::resolve_definition;
 use crate::reading::{ReadingError, read};
 use crate::resolving::{Names, ResolveError, resolve, resolve_type};
-use hol_notation_terms::{PreTerm, PreType};
+use hol_notation_terms::{Definition, PreTerm, PreType};
 use hol_terms::Term;
 use hol_types::{Name, Ty};
 use std::alloc::Global;
@@ -55,7 +55,7 @@ pub fn elaborate(
 /// where `elaborate` would, the nodes being those of the whole equation; and `Memory` where memory is short.
 pub fn elaborate_definition(
     alloc: Global,
-    definition: &PreDefinition<'_>,
+    definition: &Definition,
     constants: &[(Name, Ty)],
     arities: &[(Name, usize)],
 ) -> Result<Term, ReadingError>

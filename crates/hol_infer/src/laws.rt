@@ -3,11 +3,11 @@ ghost use Rattle.std.specs.Prelude.{◌≡◌, ◌≤◌, ℕ, List, [], Bool, t
 ghost use Rattle.hol_types.specs.Tree.{TypeTree};
 ghost use Rattle.hol_terms.specs.Nameless.{Nameless, nameless_type};
 ghost use Rattle.hol_terms.specs.Size.{term_size};
-ghost use Rattle.hol_notation_terms.specs.Text.{TermText};
+ghost use Rattle.hol_notation_terms.specs.Text.{TermText, DefinitionText};
 ghost use Rattle.hol_infer.specs.Raw.{RawTree};
 ghost use Rattle.hol_infer.specs.Typing.{HasNoTyping};
 ghost use Rattle.hol_infer.specs.Reading.{IsReading, HasLargeReading};
-ghost use Rattle.hol_infer.specs.Resolving.{term_has_arities, raw_of, DefinitionText, value_text, definition_raw};
+ghost use Rattle.hol_infer.specs.Resolving.{term_has_arities, raw_of, value_text, definition_raw};
 ghost use Rattle.hol_infer.specs.Standing.{TermStands, AreStanding};
 
 /// A reading is well typed; and the reading of a term or definition among names that stand stands: its type constructors take so many

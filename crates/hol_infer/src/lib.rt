@@ -5,8 +5,6 @@ mod building;
 mod cell;
 mod definition;
 mod elaboration;
-#[cfg(test)]
-mod elaboration_tests;
 mod fault;
 mod finding;
 mod generate;
@@ -18,10 +16,7 @@ mod reading;
 mod resolving;
 mod shape;
 mod skeleton;
-#[cfg(test)]
-mod tests;
 
-pub use definition::PreDefinition;
 pub use elaboration::{elaborate, elaborate_definition, elaborate_type};
 pub use laws::{one_reading, readings_stand};
 pub use reading::ReadingError;

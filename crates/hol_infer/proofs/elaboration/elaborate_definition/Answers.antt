@@ -3,7 +3,7 @@ use Rattle.std.proofs.lemmas.Result.{err_from_is_err_and}
 use Rattle.hol_infer.specs.Raw.{RawTree}
 use Rattle.hol_infer.specs.Scoped.{IsScoped, HasRigidAnnotations}
 use Rattle.hol_infer.specs.Typing.{HasNoTyping}
-use Rattle.hol_infer.specs.DefinitionView.{definition_text}
+use Rattle.hol_notation_terms.specs.DefinitionView.{definition_text}
 use Rattle.hol_infer.proofs.Resolved.{definition_scoped, definition_rigid}
 use Rattle.hol_infer.proofs.elaboration.elaborate_definition.Goals as goal
 

@@ -1,0 +1,6 @@
+//! Tests of the readings of terms, definitions and types. They stand beside the library, which so is proved once, and not once more with
+//! its tests.
+#![tactic(auto)]
+
+#[cfg(test)]
+mod tests;
