@@ -1,133 +1,124 @@
 //! What commands are read as, and their copies.
 use crate::{Command, TypeDefinition, read_command};
-use hol_notation_tactics::TacExprNode;
-use std::alloc::Global;
+use hol_notation_tactics::{TacExpr, TacExprNode};
+use hol_notation_tokens::SyntaxError;
+use std::alloc::{AllocError, Global};
 use std::test::Fail;
 
-fn is_goal(command: &Command) -> bool {
-    match command {
-        Command::Goal { name, quotation } => name.as_str() == "N" && quotation.place == 4,
-        _ => false,
-    }
-}
-
-fn is_axiom(command: &Command) -> bool {
-    match command {
-        Command::NewAxiom { name, quotation } => name.as_str() == "A" && quotation.place == 12,
-        _ => false,
-    }
-}
-
-#[test]
-fn reads_goals_and_axioms(rt: HostRuntime) -> Result<(), Fail> {
-    let command = read_command(rt.alloc(), "g N `x = y`")?;
-    assert!(rt; is_goal(&command));
-    assert!(rt; is_goal(&command.copy(rt.alloc())?));
-    let axiom = read_command(rt.alloc(), "new_axiom A `x = y`")?;
-    assert!(rt; is_axiom(&axiom));
-    assert!(rt; is_axiom(&axiom.copy(rt.alloc())?));
-    Ok(())
-}
-
-fn is_then(command: &Command) -> bool {
-    match command {
-        Command::Apply(tactic) => matches!(tactic.node(), TacExprNode::Then(_, _)),
-        _ => false,
-    }
-}
-
-#[test]
-fn reads_tactics(rt: HostRuntime) -> Result<(), Fail> {
-    let command = read_command(rt.alloc(), "e A THEN B")?;
-    assert!(rt; is_then(&command));
-    assert!(rt; is_then(&command.copy(rt.alloc())?));
-    Ok(())
-}
-
-#[test]
-fn reads_words(rt: HostRuntime) -> Result<(), Fail> {
-    assert!(rt; matches!(read_command(rt.alloc(), "b")?, Command::Back));
-    assert!(rt; matches!(read_command(rt.alloc(), "qed")?, Command::Qed));
-    assert!(rt; matches!(read_command(rt.alloc(), "oops")?, Command::Oops));
-    assert!(rt; matches!(read_command(rt.alloc(), "r 120")?, Command::Rotate(120)));
-    Ok(())
-}
-
-fn is_import(command: &Command) -> bool {
-    match command {
-        Command::Import(name) => name.as_str() == "L",
-        _ => false,
-    }
-}
-
-fn is_type(command: &Command) -> bool {
-    match command {
-        Command::NewType { name, arity } => name.as_str() == "t" && *arity == 16,
-        _ => false,
-    }
-}
-
-#[test]
-fn reads_imports_and_types(rt: HostRuntime) -> Result<(), Fail> {
-    let command = read_command(rt.alloc(), "import L")?;
-    assert!(rt; is_import(&command.copy(rt.alloc())?));
-    let declared = read_command(rt.alloc(), "new_type t 16")?;
-    assert!(rt; is_type(&declared.copy(rt.alloc())?));
-    Ok(())
-}
-
-fn is_constant(command: &Command) -> bool {
-    match command {
-        Command::NewConstant { name, quotation } => name.as_str() == "c" && quotation.place == 15,
-        _ => false,
-    }
-}
-
-fn is_definition(command: &Command) -> bool {
-    match command {
-        Command::NewDefinition { name, definition } => {
-            name.as_str() == "D" && definition.name.as_str() == "c"
+// The words with a space between them.
+fn joined(alloc: Global, words: &[&str]) -> Result<String, AllocError> {
+    let mut text = String::new(alloc);
+    for word in words {
+        if !text.as_str().is_empty() {
+            text.push_str(" ")?;
         }
-        _ => false,
-    }
-}
-
-#[test]
-fn reads_constants(rt: HostRuntime) -> Result<(), Fail> {
-    let declared = read_command(rt.alloc(), "new_constant c `:bool`")?;
-    assert!(rt; is_constant(&declared.copy(rt.alloc())?));
-    let defined = read_command(rt.alloc(), "new_definition D `c x = y`")?;
-    assert!(rt; is_definition(&defined.copy(rt.alloc())?));
-    Ok(())
-}
-
-// The names in order, with a space after each.
-fn names(alloc: Global, definition: &TypeDefinition) -> Result<String, Fail> {
-    let mut text = String::from_str(alloc, definition.ty.as_str())?;
-    for name in [
-        &definition.abs,
-        &definition.rep,
-        &definition.abs_rep,
-        &definition.rep_abs,
-        &definition.theorem,
-    ] {
-        text.push_str(" ")?;
-        text.push_str(name.as_str())?;
+        text.push_str(word)?;
     }
     Ok(text)
 }
 
-#[test]
-fn reads_type_definitions(rt: HostRuntime) -> Result<(), Fail> {
-    let text = "new_basic_type_definition one abs rep ONE1 ONE2 W";
-    let command = read_command(rt.alloc(), text)?.copy(rt.alloc())?;
+fn with_number(alloc: Global, words: &[&str], number: usize) -> Result<String, AllocError> {
+    let mut text = joined(alloc, words)?;
+    let number = number.to_string(alloc)?;
+    text.push_str(" ")?;
+    text.push_str(number.as_str())?;
+    Ok(text)
+}
+
+fn is_then(tactic: &TacExpr) -> bool {
+    matches!(tactic.node(), TacExprNode::Then(_, _))
+}
+
+fn names(alloc: Global, definition: &TypeDefinition) -> Result<String, AllocError> {
+    joined(
+        alloc,
+        &[
+            "new_basic_type_definition",
+            definition.ty.as_str(),
+            definition.abs.as_str(),
+            definition.rep.as_str(),
+            definition.abs_rep.as_str(),
+            definition.rep_abs.as_str(),
+            definition.theorem.as_str(),
+        ],
+    )
+}
+
+// The command's words and numbers; the place of a quotation, and of a definition between backquotes its constant.
+fn said(alloc: Global, command: &Command) -> Result<String, AllocError> {
     match command {
-        Command::NewBasicTypeDefinition(definition) => {
-            let copied = definition.copy(rt.alloc())?;
-            let names = names(rt.alloc(), &copied)?;
-            assert_eq!(rt; names.as_str(), "one abs rep ONE1 ONE2 W");
+        Command::Goal { name, quotation } => {
+            with_number(alloc, &["g", name.as_str()], quotation.place)
         }
-        _ => assert!(rt; false),
+        Command::Apply(tactic) => {
+            joined(
+                alloc,
+                if is_then(tactic) {
+                    &["e", "THEN"]
+                } else {
+                    &["e", ".."]
+                },
+            )
+        }
+        Command::Back => joined(alloc, &["b"]),
+        Command::Rotate(number) => with_number(alloc, &["r"], *number),
+        Command::Qed => joined(alloc, &["qed"]),
+        Command::Oops => joined(alloc, &["oops"]),
+        Command::Import(name) => joined(alloc, &["import", name.as_str()]),
+        _ => declared(alloc, command),
+    }
+}
+
+fn declared(alloc: Global, command: &Command) -> Result<String, AllocError> {
+    match command {
+        Command::NewType { name, arity } => {
+            with_number(alloc, &["new_type", name.as_str()], *arity)
+        }
+        Command::NewConstant { name, quotation } => {
+            with_number(alloc, &["new_constant", name.as_str()], quotation.place)
+        }
+        Command::NewAxiom { name, quotation } => {
+            with_number(alloc, &["new_axiom", name.as_str()], quotation.place)
+        }
+        Command::NewDefinition { name, definition } => joined(
+            alloc,
+            &["new_definition", name.as_str(), definition.name.as_str()],
+        ),
+        Command::NewBasicTypeDefinition(definition) => names(alloc, definition),
+        _ => joined(alloc, &["no declaration"]),
+    }
+}
+
+// What is said by the command that the text is, and by its copy.
+fn read_and_copied(alloc: Global, text: &str) -> Result<(String, String), SyntaxError> {
+    let command = read_command(alloc, text)?;
+    let copied = command.copy(alloc)?;
+    Ok((said(alloc, &command)?, said(alloc, &copied)?))
+}
+
+#[test]
+fn reads_and_copies_commands(rt: HostRuntime) -> Result<(), Fail> {
+    let cases = [
+        ("g N `x = y`", "g N 4"),
+        ("e A THEN B", "e THEN"),
+        ("b", "b"),
+        ("r 120", "r 120"),
+        ("qed", "qed"),
+        ("oops", "oops"),
+        ("import L", "import L"),
+        ("new_type t 16", "new_type t 16"),
+        ("new_constant c `:bool`", "new_constant c 15"),
+        ("new_axiom A `x = y`", "new_axiom A 12"),
+        ("new_definition D `c x = y`", "new_definition D c"),
+        (
+            "new_basic_type_definition one abs rep ONE1 ONE2 W",
+            "new_basic_type_definition one abs rep ONE1 ONE2 W",
+        ),
+    ];
+    for (text, wanted) in cases {
+        let (read, copied) = read_and_copied(rt.alloc(), text)?;
+        assert_eq!(rt; read.as_str(), wanted, "at {text}");
+        assert_eq!(rt; copied.as_str(), wanted, "copied, at {text}");
     }
     Ok(())
 }

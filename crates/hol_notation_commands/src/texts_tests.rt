@@ -4,6 +4,11 @@ use hol_notation_tokens::SyntaxError;
 use std::alloc::Global;
 use std::test::Fail;
 
+// Whether the text is a command.
+fn is_read(alloc: Global, text: &str) -> bool {
+    read_command(alloc, text).is_ok()
+}
+
 // The place where the text is refused as a command, or nothing where it is one.
 fn refused_at(alloc: Global, text: &str) -> Option<usize> {
     match read_command(alloc, text) {
@@ -16,7 +21,7 @@ fn refused_at(alloc: Global, text: &str) -> Option<usize> {
 fn reads_words(rt: HostRuntime) {
     let cases = ["qed", "b", "r 1", "r 9999", "r 0", "oops", "import L"];
     for text in cases {
-        assert!(rt; read_command(rt.alloc(), text).is_ok(), "at {text}");
+        assert!(rt; is_read(rt.alloc(), text), "at {text}");
     }
 }
 
@@ -79,7 +84,7 @@ fn reads_terms(rt: HostRuntime) {
         "g N `f x:A->B = y`",
     ];
     for text in cases {
-        assert!(rt; read_command(rt.alloc(), text).is_ok(), "at {text}");
+        assert!(rt; is_read(rt.alloc(), text), "at {text}");
     }
 }
 
@@ -95,7 +100,7 @@ fn reads_terms_too(rt: HostRuntime) {
         "g N `x:(A,B,C)t u`",
     ];
     for text in cases {
-        assert!(rt; read_command(rt.alloc(), text).is_ok(), "at {text}");
+        assert!(rt; is_read(rt.alloc(), text), "at {text}");
     }
 }
 
@@ -115,7 +120,7 @@ fn reads_terms_that_are_judged_later(rt: HostRuntime) {
         "g N `p <=> (q <=> r)`",
     ];
     for text in cases {
-        assert!(rt; read_command(rt.alloc(), text).is_ok(), "at {text}");
+        assert!(rt; is_read(rt.alloc(), text), "at {text}");
     }
 }
 
@@ -132,7 +137,7 @@ fn reads_steps_of_proofs(rt: HostRuntime) {
         "e DISCH_TAC THEN ASM_REWRITE_TAC []",
     ];
     for text in cases {
-        assert!(rt; read_command(rt.alloc(), text).is_ok(), "at {text}");
+        assert!(rt; is_read(rt.alloc(), text), "at {text}");
     }
 }
 
@@ -162,10 +167,7 @@ fn doubling_equations(alloc: Global, count: u32) -> Result<String, Fail> {
 fn reads_terms_whose_types_are_large(rt: HostRuntime) -> Result<(), Fail> {
     for count in [8, 9] {
         let text = doubling_equations(rt.alloc(), count)?;
-        assert!(rt;
-            read_command(rt.alloc(), text.as_str()).is_ok(),
-            "at {count} equations"
-        );
+        assert!(rt; is_read(rt.alloc(), text.as_str()), "at {count} equations");
     }
     Ok(())
 }
@@ -249,7 +251,7 @@ fn reads_declarations(rt: HostRuntime) {
         "new_basic_type_definition t a r N1 N2 W",
     ];
     for text in cases {
-        assert!(rt; read_command(rt.alloc(), text).is_ok(), "at {text}");
+        assert!(rt; is_read(rt.alloc(), text), "at {text}");
     }
 }
 
@@ -312,7 +314,7 @@ fn reads_tactics(rt: HostRuntime) {
         "e A (MP (SYM L1) L2)",
     ];
     for text in cases {
-        assert!(rt; read_command(rt.alloc(), text).is_ok(), "at {text}");
+        assert!(rt; is_read(rt.alloc(), text), "at {text}");
     }
 }
 
@@ -326,7 +328,7 @@ fn reads_tactics_too(rt: HostRuntime) {
         "e A THEN (B ORELSE C)",
     ];
     for text in cases {
-        assert!(rt; read_command(rt.alloc(), text).is_ok(), "at {text}");
+        assert!(rt; is_read(rt.alloc(), text), "at {text}");
     }
 }
 
@@ -410,7 +412,7 @@ fn repeated(
 fn limits_brackets(rt: HostRuntime) -> Result<(), Fail> {
     let opened = repeated(rt.alloc(), "g N `", "(", 200, "x")?;
     let most = repeated(rt.alloc(), opened.as_str(), ")", 200, "`")?;
-    assert!(rt; read_command(rt.alloc(), most.as_str()).is_ok());
+    assert!(rt; is_read(rt.alloc(), most.as_str()));
     let more = repeated(rt.alloc(), "g N `", "(", 201, "")?;
     assert_eq!(rt; refused_at(rt.alloc(), more.as_str()), Some(205));
     let lists = repeated(rt.alloc(), "e A [", "(", 200, "")?;
@@ -421,7 +423,7 @@ fn limits_brackets(rt: HostRuntime) -> Result<(), Fail> {
 #[test]
 fn limits_tokens(rt: HostRuntime) -> Result<(), Fail> {
     let most = repeated(rt.alloc(), "e", " x", 4095, "")?;
-    assert!(rt; read_command(rt.alloc(), most.as_str()).is_ok());
+    assert!(rt; is_read(rt.alloc(), most.as_str()));
     let more = repeated(rt.alloc(), "e", " x", 4096, "")?;
     assert_eq!(rt; refused_at(rt.alloc(), more.as_str()), Some(8192));
     let cut = repeated(rt.alloc(), "e A `", "~", 4093, "x`")?;
