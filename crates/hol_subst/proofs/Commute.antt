@@ -1,5 +1,5 @@
 -- Substitution under a binder, where the binder's variable may be renamed.
-use Rattle.std.proofs.Common.{◌≡◌, ℕ, ◌+◌, List, [], ◌∷◌, ◌++◌, refl, ap, sym, ◌∙◌, Bool, true, false, cond, ◌||◌, unwrap_or, arith}
+use Rattle.std.proofs.Common.{◌≡◌, ℕ, ◌+◌, List, refl, ap, sym, ◌∙◌, Bool, true, false, cond, ◌||◌, arith}
 use Rattle.hol_types.specs.Tree.{TypeTree}
 use Rattle.hol_types.specs.Equal.{variable_eq}
 use Rattle.hol_terms.specs.Nameless.{Nameless, free, bound, fixed, app, lam, free_occurrences}
@@ -8,8 +8,8 @@ use Rattle.hol_terms.proofs.Same.{variable_eq_decides}
 use Rattle.hol_terms.proofs.Occurs.{binds-append}
 use Rattle.hol_subst.specs.Shift.{shift}
 use Rattle.hol_subst.specs.Closing.{close}
-use Rattle.hol_subst.specs.Substitution.{term_lookup, term_for, term_subst}
-use Rattle.hol_subst.proofs.Closing.{IsClosed, closed_more, shift_closed, shift_whole, close_unchanged, eq_same}
+use Rattle.hol_subst.specs.Substitution.{term_for, term_subst}
+use Rattle.hol_subst.proofs.Closing.{IsClosed, closed_more, shift_whole, close_unchanged, eq_same}
 
 abbrev Var : Type 0
 Var = List ℕ × TypeTree

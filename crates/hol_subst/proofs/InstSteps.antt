@@ -6,7 +6,7 @@ use Rattle.hol_types.specs.Fun.{fun_type}
 use Rattle.hol_types.specs.Subst.{type_subst}
 use Rattle.hol_types.specs.Equal.{variable_eq}
 use Rattle.hol_terms.specs.Named.{Named, var, constant, comb, abs, named_type, applied_type}
-use Rattle.hol_terms.specs.Nameless.{Nameless, free, bound, fixed, app, lam, base_of, place, nameless, free_occurrences}
+use Rattle.hol_terms.specs.Nameless.{Nameless, bound, app, lam, base_of, place, nameless, free_occurrences}
 use Rattle.hol_terms.specs.Scoped.{binds, occurs_in, add_new, add_all}
 use Rattle.hol_terms.proofs.Same.{variable_eq_decides}
 use Rattle.hol_terms.proofs.Occurs.{binds-append, occurs_is}

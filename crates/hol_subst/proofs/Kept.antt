@@ -1,5 +1,5 @@
 -- A term whose types have none of the pairs' variables, and whose free variables stand for themselves, is its own instance.
-use Rattle.std.proofs.Common.{◌≡◌, ℕ, zero, suc, ◌+◌, ◌<◌, arith, List, [], ◌∷◌, refl, ap, sym, ◌∙◌, subst, Bool, true, false, cond, ◌||◌, Option, Some, None, ◌⊎◌, inl, inr}
+use Rattle.std.proofs.Common.{◌≡◌, ℕ, zero, suc, ◌<◌, arith, List, [], ◌∷◌, refl, ap, sym, ◌∙◌, subst, Bool, true, false, cond, ◌||◌, Option, Some, None, ◌⊎◌, inl, inr}
 use Rattle.std.specs.Option.{option_map, option_and_then}
 use Rattle.std.specs.Int.{bit_at}
 use Rattle.std.proofs.lemmas.Nat.Bits.{bit_at_and, bit_at-lt, bit_at-zero, same_from_bits}
@@ -11,12 +11,12 @@ use Rattle.hol_types.specs.Equal.{variable_eq}
 use Rattle.hol_types.specs.Filter.{name_place, name_bit, type_filter, pairs_filter}
 use Rattle.hol_types.proofs.Filters.{Apart, apart_bits, kept_type, or_has_left, or_has_right, own_bit}
 use Rattle.hol_terms.specs.Named.{Named, var, constant, comb, abs, named_type, applied_type}
-use Rattle.hol_terms.specs.Nameless.{Nameless, free, bound, fixed, app, lam, base_of, place, nameless}
+use Rattle.hol_terms.specs.Nameless.{fixed, app, lam, base_of, place, nameless}
 use Rattle.hol_terms.specs.Scoped.{occurs_in}
 use Rattle.hol_terms.specs.Filter.{filter_of, type_filter_of}
 use Rattle.hol_terms.proofs.Same.{variable_eq_decides}
 use Rattle.hol_terms.proofs.Filters.{has_bit}
-use Rattle.hol_subst.specs.Substitution.{variable_inst, types_inst}
+use Rattle.hol_subst.specs.Substitution.{types_inst}
 use Rattle.hol_subst.specs.Renaming.{image, KeepsPlaces, IsInstance, HasRenamed}
 use Rattle.hol_subst.proofs.Closing.{eq_same}
 use Rattle.hol_subst.proofs.InstSteps.{keeps_inside}

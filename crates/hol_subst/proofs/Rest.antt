@@ -1,5 +1,5 @@
 -- Lists of pairs that are built one after another.
-use Rattle.std.proofs.Common.{◌≡◌, ℕ, zero, suc, ◌+◌, ◌<◌, ◌≤◌, List, [], ◌∷◌, ◌++◌, length, drop, get_or, drop-cons, add-one, map, refl, ap, sym, ◌∙◌, Bool, true, false, cond, ◌||◌, subst, Option, Some, None, unwrap_or, inl, inr, ◌⊎◌, arith}
+use Rattle.std.proofs.Common.{◌≡◌, ℕ, zero, suc, ◌+◌, ◌<◌, ◌≤◌, List, [], ◌∷◌, ◌++◌, length, drop, get_or, drop-cons, add-one, refl, ap, sym, ◌∙◌, Bool, true, false, cond, ◌||◌, subst, Option, Some, None, unwrap_or, inl, inr, ◌⊎◌, arith}
 use Rattle.std.proofs.lemmas.List.{append-nil, append_assoc}
 use Rattle.std.specs.Bool.{Decides}
 use Rattle.hol_types.specs.Tree.{TypeTree}
@@ -9,10 +9,10 @@ use Rattle.hol_terms.specs.Named.{Named, var, constant, comb, abs, named_type}
 use Rattle.hol_terms.specs.Nameless.{Nameless, free, nameless}
 use Rattle.hol_terms.specs.Scoped.{occurs_in}
 use Rattle.hol_terms.proofs.Same.{variable_eq_decides}
-use Rattle.hol_subst.specs.Substitution.{term_lookup, term_for}
+use Rattle.hol_subst.specs.Substitution.{term_lookup}
 use Rattle.hol_subst.specs.Pairs.{nameless_pairs, IsGoodPair, HasBadPair, pair_before}
 use Rattle.hol_subst.specs.Capture.{named_pairs, Fit, has_pair, IsRest}
-use Rattle.hol_subst.proofs.Closing.{eq_flip, or_false}
+use Rattle.hol_subst.proofs.Closing.{or_false}
 
 abbrev Var : Type 0
 Var = List ℕ × TypeTree

@@ -1,9 +1,9 @@
 -- Shifting, closing, opening and substitution of terms that are taken up to bound names.
-use Rattle.std.proofs.Common.{◌≡◌, ℕ, ◌+◌, ◌-◌, List, [], ◌∷◌, map, refl, ap, sym, ◌∙◌, Bool, true, false, cond, nat_lt, ◌==◌, Option, Some, None, unwrap_or}
+use Rattle.std.proofs.Common.{◌≡◌, ℕ, ◌+◌, ◌-◌, List, [], ◌∷◌, map, refl, ap, sym, ◌∙◌, Bool, true, false, cond, nat_lt, ◌==◌, Some, unwrap_or}
 use Rattle.hol_types.specs.Tree.{TypeTree}
 use Rattle.hol_types.specs.Subst.{type_subst}
 use Rattle.hol_types.specs.Equal.{variable_eq}
-use Rattle.hol_terms.specs.Nameless.{Nameless, free, bound, fixed, app, lam, base_of, free_occurrences}
+use Rattle.hol_terms.specs.Nameless.{Nameless, free, bound, fixed, app, lam, free_occurrences}
 use Rattle.hol_terms.specs.Alpha.{strip}
 use Rattle.hol_subst.specs.Shift.{shift}
 use Rattle.hol_subst.specs.Closing.{close, open_with, bind}

@@ -1,18 +1,18 @@
 -- What a bound variable must not be called, and that a name is found.
-use Rattle.std.proofs.Common.{◌≡◌, ℕ, ◌+◌, ◌<◌, ◌≤◌, List, [], ◌∷◌, ◌++◌, zero, suc, length, max, refl, ap, sym, ◌∙◌, Bool, true, false, cond, not, ◌&&◌, ◌||◌, Some, unwrap_or, arith}
+use Rattle.std.proofs.Common.{◌≡◌, ℕ, ◌≤◌, List, [], ◌∷◌, ◌++◌, zero, suc, length, max, refl, ap, sym, ◌∙◌, Bool, true, false, cond, not, ◌&&◌, ◌||◌, Some, unwrap_or, arith}
 use Rattle.hol_types.specs.Tree.{TypeTree}
 use Rattle.hol_types.specs.Equal.{variable_eq}
 use Rattle.hol_terms.specs.Named.{Named, var, abs}
-use Rattle.hol_terms.specs.Nameless.{Nameless, free, lam, base_of, with_letter, nameless, free_occurrences}
+use Rattle.hol_terms.specs.Nameless.{free, lam, base_of, with_letter, nameless, free_occurrences}
 use Rattle.hol_terms.specs.Scoped.{binds, occurs_in}
 use Rattle.hol_terms.proofs.Same.{variable_eq_decides}
 use Rattle.hol_terms.proofs.Occurs.{occurs_is}
-use Rattle.hol_subst.specs.Closing.{close, bind}
+use Rattle.hol_subst.specs.Closing.{close}
 use Rattle.hol_subst.specs.Substitution.{term_lookup, term_for, term_subst}
 use Rattle.hol_subst.specs.Variant.{with_primes}
-use Rattle.hol_subst.specs.Capture.{named_pairs, Fit, has_pair, comes_in, is_taken, IsRest, IsRenaming}
+use Rattle.hol_subst.specs.Capture.{named_pairs, has_pair, comes_in, is_taken, IsRest, IsRenaming}
 use Rattle.hol_subst.proofs.Closing.{IsClosed, closed_named, nameless_abs, eq_same, eq_flip, or_false}
-use Rattle.hol_subst.proofs.Commute.{IsFreeIn, AllClosed, Renames, commute}
+use Rattle.hol_subst.proofs.Commute.{AllClosed, Renames, commute}
 use Rattle.hol_subst.proofs.Longest.{longest, binds_short, IsPrimed}
 
 abbrev Var : Type 0

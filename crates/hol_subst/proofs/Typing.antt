@@ -1,16 +1,12 @@
 -- Closing, opening and substitution keep types.
-use Rattle.std.proofs.Common.{◌≡◌, ℕ, zero, suc, ◌+◌, ◌-◌, ◌<◌, ◌≤◌, List, [], ◌∷◌, ◌++◌, length, map, refl, ap, sym, ◌∙◌, Bool, true, false, cond, nat_lt, ◌==◌, Option, Some, None, slice_get, arith}
+use Rattle.std.proofs.Common.{◌≡◌, ℕ, zero, suc, ◌+◌, ◌<◌, List, [], ◌∷◌, length, refl, ap, ◌∙◌, Option, Some, None, slice_get, arith}
 use Rattle.std.specs.Option.{option_map, option_and_then}
 use Rattle.hol_types.specs.Tree.{TypeTree}
 use Rattle.hol_types.specs.Fun.{fun_type}
-use Rattle.hol_types.specs.Equal.{variable_eq}
 use Rattle.hol_terms.specs.Named.{applied_type}
 use Rattle.hol_terms.specs.Nameless.{Nameless, free, bound, fixed, app, lam, nameless_type}
-use Rattle.hol_terms.proofs.Same.{variable_eq_decides}
-use Rattle.hol_subst.specs.Shift.{shift}
-use Rattle.hol_subst.specs.Closing.{close, open_with, bind}
-use Rattle.hol_subst.specs.Substitution.{term_lookup, term_for, term_subst}
-use Rattle.hol_subst.proofs.Closing.{IsClosed, closed_more, shift_closed, shift_whole, below, not_below, below_is, not_below_is}
+use Rattle.hol_subst.specs.Substitution.{term_for, term_subst}
+use Rattle.hol_subst.proofs.Closing.{IsClosed, closed_more, shift_whole}
 
 -- a term that has a type under binders has no index that reaches out of them
 get_below : (env : List TypeTree) (i : ℕ) (s : TypeTree) → slice_get env i ≡ Some s → i < length env

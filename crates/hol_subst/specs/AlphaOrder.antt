@@ -1,9 +1,8 @@
 -- The order of terms: constants, then bound variables, free variables, applications and abstractions; within a kind the parts from the left.
 -- Source: lexicographic order of finite trees in de Bruijn's form. HOL Light's fusion.ml has alphaorder for the same use, by OCaml's compare.
-use Rattle.std.specs.Prelude.{ℕ, List}
 use Rattle.std.specs.Ordering.{nat_cmp, ordering_then}
 use Rattle.std.specs.declared.cmp.Ordering.{Ordering}
-use Rattle.std.specs.declared.cmp.Ordering.TheVariants.{Less, Equal, Greater}
+use Rattle.std.specs.declared.cmp.Ordering.TheVariants.{Less, Greater}
 use Rattle.hol_types.specs.Order.{name_cmp, type_cmp}
 use Rattle.hol_terms.specs.Nameless.{Nameless, free, bound, fixed, app, lam}
 use Rattle.hol_terms.specs.Alpha.{strip}
