@@ -11,7 +11,7 @@ use Rattle.hol_terms.specs.Nameless.{Nameless, free, bound, fixed, app, lam, wit
 use Rattle.hol_infer.specs.Raw.{RawTree, RawBound, RawConstant, RawFree, RawApply, RawAbstraction, RawAnnotated}
 use Rattle.hol_infer.specs.Typing.{IsTyping, IsPrincipal, Meets, instantiate_types}
 use Rattle.hol_infer.specs.Reading.{IsReading}
-use Rattle.hol_infer.specs.Standing.{types_count, stands, all_stand, TermStands, OptionStands, RawStands}
+use Rattle.hol_infer.specs.Standing.{types_count, stands, all_stand, TermStands}
 use Rattle.hol_infer.proofs.Named.{typing_type}
 
 -- ---- types with a variable in the place of each part whose constructor takes another number of arguments
@@ -120,6 +120,19 @@ base_again (x ∷ xs) = by (base_of xs) (base_again xs)
 
 base_stands : (y x : List ℕ) → y ≡ base_of x → base_of y ≡ y
 base_stands y x e = ap base_of e ∙ base_again x ∙ sym e
+
+-- of a term whose identifiers are resolved: its annotations, and its constants with their generic types and the instances of these
+abbrev pub OptionStands : (List ℕ → ℕ → Bool) → Option TypeTree → Type 0
+OptionStands takes None = Unit {0}
+OptionStands takes (Some a) = stands takes a ≡ true
+
+abbrev pub RawStands : (List ℕ → ℕ → Bool) → (List ℕ → TypeTree → Bool) → RawTree → Type 0
+RawStands takes has (RawBound i) = Unit {0}
+RawStands takes has (RawConstant c generic) = (stands takes generic ≡ true) × ((pairs : List (TypeTree × List ℕ)) → has c (type_subst pairs generic) ≡ true)
+RawStands takes has (RawFree x) = Unit {0}
+RawStands takes has (RawApply f a) = RawStands takes has f × RawStands takes has a
+RawStands takes has (RawAbstraction x annotation body) = OptionStands takes annotation × RawStands takes has body
+RawStands takes has (RawAnnotated e a) = RawStands takes has e × (stands takes a ≡ true)
 
 abbrev trimmed_term : (List ℕ → ℕ → Bool) → Nameless → Nameless
 trimmed_term takes (free v) = free (v.0, trimmed takes v.1)

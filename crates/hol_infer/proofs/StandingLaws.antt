@@ -10,8 +10,8 @@ use Rattle.hol_notation_terms.specs.declared.operator.Operator.TheVariants.{Iff,
 use Rattle.hol_notation_terms.specs.Text.{TypeText, TypeTexts, Ident, Arrow, Apply, no_types as no_texts, more_types as more_texts, DefinitionText, TermText, Named, Constant, Applied, Abstraction, Typed}
 use Rattle.hol_infer.specs.Reading.{IsReading}
 use Rattle.hol_infer.specs.Resolving.{arity_of, generic_type_of, ident_type, type_of_text, types_of_texts, text_count, stands_alone, takes as takes_count, has_arities, have_arities, option_has_arities, term_has_arities, name_index, resolved, identifier, operator_raw, raw_of, value_text, without, definition_raw}
-use Rattle.hol_infer.specs.Standing.{types_count, stands, all_stand, TermStands, OptionStands, RawStands, AreStanding}
-use Rattle.hol_infer.proofs.Standing.{and_left, and_right, and_both, principal_stands}
+use Rattle.hol_infer.specs.Standing.{types_count, stands, all_stand, TermStands, AreStanding}
+use Rattle.hol_infer.proofs.Standing.{and_left, and_right, and_both, OptionStands, RawStands, principal_stands}
 
 count_texts : (arities : List (List ℕ × ℕ)) (ts : TypeTexts) → types_count (types_of_texts arities ts) ≡ text_count ts
 count_texts arities no_texts = refl

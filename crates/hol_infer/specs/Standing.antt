@@ -1,12 +1,11 @@
 -- Terms over what stands: each type constructor takes so many arguments as `takes` says, each constant has a type that `has` says, and
 -- each bound variable has a base name.
 -- Source: fusion.ml, mk_type and mk_const.
-use Rattle.std.specs.Prelude.{◌≡◌, ℕ, zero, suc, Bool, true, ◌&&◌, List, codes, Option, Some, None}
+use Rattle.std.specs.Prelude.{◌≡◌, ℕ, zero, suc, Bool, true, ◌&&◌, List, codes, Some}
 use Rattle.hol_types.specs.Tree.{TypeTree, TypeList, TyVar, TyApp, no_types, more_types}
 use Rattle.hol_types.specs.Fun.{fun_type}
 use Rattle.hol_types.specs.Subst.{type_subst}
 use Rattle.hol_terms.specs.Nameless.{Nameless, free, bound, fixed, app, lam, base_of}
-use Rattle.hol_infer.specs.Raw.{RawTree, RawBound, RawConstant, RawFree, RawApply, RawAbstraction, RawAnnotated}
 use Rattle.hol_infer.specs.Resolving.{arity_of, generic_type_of, bool_type}
 
 abbrev pub types_count : TypeList → ℕ
@@ -28,19 +27,6 @@ TermStands takes has (bound i) = Unit {0}
 TermStands takes has (fixed c s) = (stands takes s ≡ true) × (has c s ≡ true)
 TermStands takes has (app f x) = TermStands takes has f × TermStands takes has x
 TermStands takes has (lam a s b) = (base_of a ≡ a) × (stands takes s ≡ true) × TermStands takes has b
-
--- of a term whose identifiers are resolved: its annotations, and its constants with their generic types and the instances of these
-abbrev pub OptionStands : (List ℕ → ℕ → Bool) → Option TypeTree → Type 0
-OptionStands takes None = Unit {0}
-OptionStands takes (Some a) = stands takes a ≡ true
-
-abbrev pub RawStands : (List ℕ → ℕ → Bool) → (List ℕ → TypeTree → Bool) → RawTree → Type 0
-RawStands takes has (RawBound i) = Unit {0}
-RawStands takes has (RawConstant c generic) = (stands takes generic ≡ true) × ((pairs : List (TypeTree × List ℕ)) → has c (type_subst pairs generic) ≡ true)
-RawStands takes has (RawFree x) = Unit {0}
-RawStands takes has (RawApply f a) = RawStands takes has f × RawStands takes has a
-RawStands takes has (RawAbstraction x annotation body) = OptionStands takes annotation × RawStands takes has body
-RawStands takes has (RawAnnotated e a) = RawStands takes has e × (stands takes a ≡ true)
 
 -- The two lists that a reading is among stand: a constructor of the first takes so many arguments, a constant of the second has each
 -- instance of its generic type; and functions, truth values and their equality stand.
