@@ -1,10 +1,33 @@
 //! What texts are read as, and where they are refused. What is wanted is taken from the grammar by hand.
 use crate::{
-    TacArg, TacCall, TacExpr, TacExprNode, ThmExpr, ThmExprNode, read_tactic, read_theorem,
+    TacArg, TacCall, TacExpr, TacExprNode, ThmExpr, ThmExprNode, TypePair, read_tactic,
+    read_theorem,
 };
 use hol_notation_tokens::{SyntaxError, scan};
 use std::alloc::{AllocError, Global};
 use std::test::Fail;
+
+fn spell_number(
+    alloc: Global,
+    before: &str,
+    number: usize,
+    after: &str,
+    text: &mut String,
+) -> Result<(), AllocError> {
+    let digits = number.to_string(alloc)?;
+    text.push_str(before)?;
+    text.push_str(digits.as_str())?;
+    text.push_str(after)
+}
+
+// Writes the places of each pair of types.
+fn spell_pairs(alloc: Global, pairs: &[TypePair], text: &mut String) -> Result<(), AllocError> {
+    for pair in pairs {
+        spell_number(alloc, "", pair.new_type.place, "-", text)?;
+        spell_number(alloc, "", pair.old_type.place, ";", text)?;
+    }
+    Ok(())
+}
 
 // Writes the theorem expression with its structure shown, down to so many levels; a quotation is its place.
 fn spell_theorem(
@@ -18,10 +41,10 @@ fn spell_theorem(
     }
     match theorem.node() {
         ThmExprNode::Name(name) => text.push_str(name.as_str())?,
-        ThmExprNode::Assume(p) => text.push_str(format!(in alloc; "ASSUME{}", p.place)?.as_str())?,
-        ThmExprNode::Refl(t) => text.push_str(format!(in alloc; "REFL{}", t.place)?.as_str())?,
+        ThmExprNode::Assume(p) => spell_number(alloc, "ASSUME", p.place, "", text)?,
+        ThmExprNode::Refl(t) => spell_number(alloc, "REFL", t.place, "", text)?,
         ThmExprNode::Spec(t, part) => {
-            text.push_str(format!(in alloc; "SPEC{}/", t.place)?.as_str())?;
+            spell_number(alloc, "SPEC", t.place, "/", text)?;
             spell_theorem(alloc, levels - 1, part, text)?;
         }
         ThmExprNode::Sym(part) => {
@@ -45,10 +68,7 @@ fn spell_theorem(
         }
         ThmExprNode::InstType(pairs, part) => {
             text.push_str("INST{")?;
-            for pair in pairs {
-                let places = format!(in alloc; "{}-{};", pair.new_type.place, pair.old_type.place)?;
-                text.push_str(places.as_str())?;
-            }
+            spell_pairs(alloc, pairs, text)?;
             spell_theorem(alloc, levels - 1, part, text)?;
             text.push_str("}")?;
         }
@@ -59,10 +79,11 @@ fn spell_theorem(
 fn spell_argument(alloc: Global, argument: &TacArg, text: &mut String) -> Result<(), AllocError> {
     text.push_str(" ")?;
     match argument {
-        TacArg::Term(t) => text.push_str(format!(in alloc; "{}", t.place)?.as_str())?,
+        TacArg::Term(t) => spell_number(alloc, "", t.place, "", text)?,
         TacArg::Theorem(theorem) => spell_theorem(alloc, 8, theorem, text)?,
         TacArg::Pair(t, x) => {
-            text.push_str(format!(in alloc; "{}-{}", t.place, x.place)?.as_str())?;
+            spell_number(alloc, "", t.place, "-", text)?;
+            spell_number(alloc, "", x.place, "", text)?;
         }
         TacArg::Theorems(theorems) => {
             text.push_str("[")?;
@@ -153,7 +174,7 @@ fn spell(
         TacExprNode::Every(tactics) => spell_tactics(alloc, levels - 1, "EVERY", tactics, text)?,
         TacExprNode::First(tactics) => spell_tactics(alloc, levels - 1, "FIRST", tactics, text)?,
         TacExprNode::Replicate(count, tactic) => {
-            text.push_str(format!(in alloc; "{count}*")?.as_str())?;
+            spell_number(alloc, "", *count, "*", text)?;
             spell(alloc, levels - 1, tactic, text)?;
         }
         TacExprNode::DischThen(call) => {
@@ -169,7 +190,7 @@ fn spell(
             spell_call(alloc, call, text)?;
         }
         TacExprNode::SubgoalThen(p, call) => {
-            text.push_str(format!(in alloc; "SUBGOAL{}/", p.place)?.as_str())?;
+            spell_number(alloc, "SUBGOAL", p.place, "/", text)?;
             spell_call(alloc, call, text)?;
         }
     }
@@ -377,21 +398,17 @@ fn is_read(alloc: Global, text: &str) -> Result<bool, SyntaxError> {
 
 #[test]
 fn reads_tactics_of_many_tokens(rt: HostRuntime) -> Result<(), Fail> {
-    let thens = repeated(rt.alloc(), "A", " THEN A", 2047, "")?;
-    assert!(rt; is_read(rt.alloc(), thens.as_str())?);
-    let others = repeated(rt.alloc(), "A", " ORELSE A", 2047, "")?;
-    assert!(rt; is_read(rt.alloc(), others.as_str())?);
-    let arguments = repeated(rt.alloc(), "A", " B", 4095, "")?;
-    assert!(rt; is_read(rt.alloc(), arguments.as_str())?);
-    Ok(())
-}
-
-#[test]
-fn reads_long_lists(rt: HostRuntime) -> Result<(), Fail> {
-    let tactics = repeated(rt.alloc(), "EVERY [A", "; A", 2046, "]")?;
-    assert!(rt; is_read(rt.alloc(), tactics.as_str())?);
-    let theorems = repeated(rt.alloc(), "A [B", "; B", 2046, "]")?;
-    assert!(rt; is_read(rt.alloc(), theorems.as_str())?);
+    let cases = [
+        ("A", " THEN A", 2047, ""),
+        ("A", " ORELSE A", 2047, ""),
+        ("A", " B", 4095, ""),
+        ("EVERY [A", "; A", 2046, "]"),
+        ("A [B", "; B", 2046, "]"),
+    ];
+    for (before, part, count, after) in cases {
+        let text = repeated(rt.alloc(), before, part, count, after)?;
+        assert!(rt; is_read(rt.alloc(), text.as_str())?, "at {before}{part}");
+    }
     Ok(())
 }
 
