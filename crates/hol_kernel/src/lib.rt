@@ -7,20 +7,12 @@ mod basis;
 mod bijections;
 mod declare;
 mod define;
-#[cfg(test)]
-mod define_tests;
 mod elements;
 mod equation;
 mod error;
-#[cfg(test)]
-mod fixtures;
 mod given;
-#[cfg(test)]
-mod given_tests;
 mod hypotheses;
 mod instances;
-#[cfg(test)]
-mod instances_tests;
 mod item;
 mod item_names;
 mod join;
@@ -31,16 +23,10 @@ mod propositional;
 mod right_sides;
 mod rules;
 mod standing;
-#[cfg(test)]
-mod standing_tests;
 mod statements;
-#[cfg(test)]
-mod statements_tests;
 mod term_tyvars;
 mod thm;
 mod type_define;
-#[cfg(test)]
-mod type_define_tests;
 mod type_definition;
 mod words;
 
@@ -54,8 +40,3 @@ pub use prelude::instances_are_substitutions;
 pub use standing::{prelude_constants, prelude_types};
 pub use thm::Thm;
 pub use type_definition::TypeDefinition;
-
-#[cfg(test)]
-mod basis_tests;
-#[cfg(test)]
-mod tests;

@@ -2,6 +2,18 @@
 #![tactic(auto)]
 
 #[cfg(test)]
+mod basis_tests;
+#[cfg(test)]
+mod define_tests;
+#[cfg(test)]
 mod fixtures;
 #[cfg(test)]
+mod given_tests;
+#[cfg(test)]
+mod instances_tests;
+#[cfg(test)]
+mod prelude_tests;
+#[cfg(test)]
 mod rules_tests;
+#[cfg(test)]
+mod type_define_tests;
