@@ -1,4 +1,3 @@
-pub mod Shown
 pub mod Typed
 pub mod Outcomes
 pub mod Principal

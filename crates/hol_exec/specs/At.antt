@@ -1,11 +1,16 @@
 -- The outcomes that a state may get.
 use Rattle.std.specs.Prelude.{◌≡◌, ◌⊎◌, ℕ}
-use Rattle.hol_notation.specs.Command.{CommandText}
+use Rattle.hol_notation_commands.specs.Text.{CommandText}
+use Rattle.hol_notation_commands.specs.Reading.{ReadText, Reads, Breaks}
 use Rattle.hol_exec.specs.StateValue.{StateValue}
 use Rattle.hol_exec.specs.ReadsValue.{reads_of}
 use Rattle.hol_exec.specs.OutcomeValue.{OutcomeValue}
-use Rattle.hol_exec.specs.Local.{local, direct}
+use Rattle.hol_exec.specs.Local.{IsLocal, direct}
 
--- the outcome is that of a command from what it reads of the state, or that of a text that is no command
+-- the outcome of what a text reads as, at a state
+abbrev pub IsOutcome : StateValue → ReadText → OutcomeValue → Type 0
+IsOutcome s (Reads command) outcome = IsLocal command (reads_of command s) outcome
+IsOutcome s (Breaks place) outcome = outcome ≡ direct place
+
 abbrev pub IsOutcomeAt : StateValue → OutcomeValue → Type 0
-IsOutcomeAt s outcome = ((command : CommandText) × (outcome ≡ local command (reads_of command s))) ⊎ ((place : ℕ) × (outcome ≡ direct place))
+IsOutcomeAt s outcome = (read : ReadText) × IsOutcome s read outcome

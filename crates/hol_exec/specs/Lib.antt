@@ -4,7 +4,8 @@ pub mod ReportView
 pub mod Goal
 pub mod Reading
 pub mod ReadingView
-pub mod Typing
+pub mod Running
+pub mod Cited
 pub mod Tac
 pub mod StateValue
 pub mod Codes
@@ -14,5 +15,4 @@ pub mod OutcomeValue
 pub mod OutcomeView
 pub mod Local
 pub mod At
-pub mod Show
 pub mod ReportOf

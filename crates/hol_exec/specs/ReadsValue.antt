@@ -4,8 +4,10 @@ use Rattle.std.specs.Prelude.{ℕ, List, [], ◌∷◌, Bool, length, Option, So
 use Rattle.hol_terms.specs.Nameless.{Nameless}
 use Rattle.hol_kernel.specs.Items.{Items}
 use Rattle.hol_kernel.specs.Theorem.{Theorem}
-use Rattle.hol_notation.specs.Command.{CommandText, OpenGoal, RunTac, Finish}
+use Rattle.hol_notation_tactics.specs.Text.{TacText, Call}
+use Rattle.hol_notation_commands.specs.Text.{CommandText, Goal, Apply, Qed}
 use Rattle.hol_exec.specs.Goal.{GoalValue}
+use Rattle.hol_exec.specs.Cited.{cited_by}
 use Rattle.hol_exec.specs.StateValue.{EntryValue, ProofValue, StateValue, theorem_in}
 
 -- what `qed` reads of the open proof
@@ -22,11 +24,15 @@ pub record ReadsValue : Type 0 where
   pub goal : Option GoalValue
   pub closing : Option ClosingValue
 
+abbrev pub tactic_names : TacText → List (List ℕ)
+tactic_names (Call call) = cited_by call.arguments
+tactic_names _ = []
+
 -- The names of theorems that a command's outcome may depend on: the ones that it cites or makes.
 abbrev pub theorem_names : CommandText → List (List ℕ)
-theorem_names (OpenGoal name quotation) = name ∷ []
-theorem_names (RunTac name) = []
-theorem_names Finish = []
+theorem_names (Goal name quotation) = name ∷ []
+theorem_names (Apply tactic) = tactic_names tactic
+theorem_names _ = []
 
 abbrev pub named_theorems : List EntryValue → List (List ℕ) → List (List ℕ × Option Theorem)
 named_theorems entries [] = []
@@ -45,14 +51,12 @@ closing_of None = None
 closing_of (Some p) = Some (record { name = p.name; statement = p.statement; basis = p.newest.basis; open_goals = length p.newest.goals })
 
 abbrev pub goal_for : CommandText → Option ProofValue → Option GoalValue
-goal_for (OpenGoal name quotation) proof = None
-goal_for (RunTac name) proof = first_goal proof
-goal_for Finish proof = None
+goal_for (Apply tactic) proof = first_goal proof
+goal_for _ proof = None
 
 abbrev pub closing_for : CommandText → Option ProofValue → Option ClosingValue
-closing_for (OpenGoal name quotation) proof = None
-closing_for (RunTac name) proof = None
-closing_for Finish proof = closing_of proof
+closing_for Qed proof = closing_of proof
+closing_for _ proof = None
 
 abbrev pub reads_of : CommandText → StateValue → ReadsValue
 reads_of command state = record {

@@ -2,16 +2,19 @@
 -- Source: this project.
 use Rattle.std.specs.Prelude.{ℕ, List, codes}
 use Rattle.hol_exec.specs.declared.refusal.RefusalKind.{RefusalKind}
-use Rattle.hol_exec.specs.declared.refusal.RefusalKind.TheVariants.{Syntax, InProof, NoProofOpen, UnknownTac, Untypable, Arity, NameTaken, NoGoalOpen, Refused, GoalsRemain}
+use Rattle.hol_exec.specs.declared.refusal.RefusalKind.TheVariants.{Syntax, InProof, NoProofOpen, UnknownTheorem, UnknownTac, Untypable, NotBool, Arity, NameTaken, TooLarge, NoGoalOpen, Refused, GoalsRemain}
 
 abbrev pub kind_number : RefusalKind → ℕ
 kind_number Syntax = 1
 kind_number InProof = 2
 kind_number NoProofOpen = 3
+kind_number UnknownTheorem = 5
 kind_number UnknownTac = 6
 kind_number Untypable = 7
+kind_number NotBool = 8
 kind_number Arity = 9
 kind_number NameTaken = 10
+kind_number TooLarge = 13
 kind_number NoGoalOpen = 16
 kind_number Refused = 17
 kind_number GoalsRemain = 19
@@ -20,10 +23,13 @@ abbrev pub kind_text : RefusalKind → List ℕ
 kind_text Syntax = codes "syntax"
 kind_text InProof = codes "in a proof"
 kind_text NoProofOpen = codes "no proof open"
+kind_text UnknownTheorem = codes "unknown theorem"
 kind_text UnknownTac = codes "unknown TAC or wrong arguments"
 kind_text Untypable = codes "untypable"
+kind_text NotBool = codes "not bool"
 kind_text Arity = codes "type constructor's arity"
 kind_text NameTaken = codes "name taken"
+kind_text TooLarge = codes "too large"
 kind_text NoGoalOpen = codes "no goal open"
 kind_text Refused = codes "refused"
 kind_text GoalsRemain = codes "goals remain"

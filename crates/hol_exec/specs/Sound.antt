@@ -1,26 +1,24 @@
--- What is true of every open proof of this language: its statement is an equation of two variables of one type, which stands
--- over the proof's basis, and where no goal is open the two are the same variable: reflexivity proves the statement.
-use Rattle.std.specs.Prelude.{◌≡◌, ◌⊎◌, ℕ, List, [], ◌∷◌, true}
-use Rattle.hol_types.specs.Tree.{TypeTree}
-use Rattle.hol_terms.specs.Nameless.{Nameless, free}
+-- What is true of every open proof of this language: its statement is a well typed term of type bool over the proof's basis, and
+-- where no goal is open it is an equation of terms that differ in bound names at most: reflexivity proves it.
+use Rattle.std.specs.Prelude.{◌≡◌, ◌⊎◌, ℕ, List, [], ◌∷◌, true, Some}
+use Rattle.hol_terms.specs.Nameless.{Nameless}
+use Rattle.hol_terms.specs.Alpha.{alpha_eq}
 use Rattle.hol_kernel.specs.Items.{Items}
-use Rattle.hol_kernel.specs.Sequent.{equation}
-use Rattle.hol_kernel.specs.Typing.{is_type}
+use Rattle.hol_kernel.specs.Sequent.{bool_type}
+use Rattle.hol_kernel.specs.Typing.{HasType}
+use Rattle.hol_exec.specs.Tac.{sides}
 use Rattle.hol_exec.specs.StateValue.{ProofValue}
 use Rattle.hol_exec.specs.ReadsValue.{ClosingValue}
 
-pub record IsStatement (basis : Items) (t : Nameless) : Type 0 where
-  pub ty : TypeTree
-  pub left : List ℕ
-  pub right : List ℕ
-  pub is : t ≡ equation ty (free (left, ty)) (free (right, ty))
-  pub stands : is_type basis ty ≡ true
+abbrev pub IsStatement : Items → Nameless → Type 0
+IsStatement basis t = HasType basis t bool_type
 
 pub record IsReflexive (basis : Items) (t : Nameless) : Type 0 where
-  pub ty : TypeTree
-  pub name : List ℕ
-  pub is : t ≡ equation ty (free (name, ty)) (free (name, ty))
-  pub stands : is_type basis ty ≡ true
+  pub left : Nameless
+  pub right : Nameless
+  pub equates : sides t ≡ Some (left, right)
+  pub same : alpha_eq left right ≡ true
+  pub stands : IsStatement basis t
 
 pub record IsSoundProof (p : ProofValue) : Type 0 where
   pub statement : IsStatement p.newest.basis p.statement

@@ -1,7 +1,8 @@
 -- The functions on goals whose names end in `_TAC` (HOL Light Reference Manual): the known names, and what each leaves of a goal.
-use Rattle.std.specs.Prelude.{ℕ, List, [], codes, cond, bytes_eq, Option, Some, None}
+use Rattle.std.specs.Prelude.{ℕ, List, [], ◌∷◌, codes, cond, bytes_eq, Option, Some, None}
 use Rattle.hol_terms.specs.Nameless.{Nameless, fixed, app}
 use Rattle.hol_terms.specs.Alpha.{alpha_eq}
+use Rattle.hol_notation_tactics.specs.Text.{ArgumentText, CallText}
 use Rattle.hol_exec.specs.Goal.{GoalValue}
 use Rattle.hol_exec.specs.declared.tac.TacCode.{TacCode}
 use Rattle.hol_exec.specs.declared.tac.TacCode.TheVariants.{ReflTac}
@@ -9,6 +10,11 @@ use Rattle.hol_exec.specs.declared.tac.TacCode.TheVariants.{ReflTac}
 -- the TAC of a name
 abbrev pub tac_named : List ℕ → Option TacCode
 tac_named name = cond (bytes_eq name (codes "REFL_TAC")) (Some ReflTac) None
+
+-- the TAC that is called, where its name is known and its arguments are of its kind: REFL_TAC takes none
+abbrev pub tac_called : List ℕ → List ArgumentText → Option TacCode
+tac_called name [] = tac_named name
+tac_called name (a ∷ arguments) = None
 
 -- the sides of an equation
 abbrev pub sides : Nameless → Option (Nameless × Nameless)

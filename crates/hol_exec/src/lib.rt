@@ -16,7 +16,6 @@ mod refusal;
 mod report;
 mod reporting;
 mod run;
-mod show;
 mod state;
 mod tac;
 #[cfg(test)]

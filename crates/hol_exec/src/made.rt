@@ -1,10 +1,8 @@
 //! Terms that only want of memory can refuse.
-ghost use Rattle.std.specs.Prelude.{◌≡◌, IfOk, Ok, Some, [], IsOkUnless, IsSome};
+ghost use Rattle.std.specs.Prelude.{◌≡◌, IfOk, Ok, IsOkUnless, IsSome};
 ghost use Rattle.hol_terms.specs.Named.{comb, named_type};
-ghost use Rattle.hol_terms.specs.Nameless.{nameless};
-ghost use Rattle.hol_exec.specs.Show.{free_variables};
 
-use hol_terms::{Term, TermError, Variable};
+use hol_terms::{Term, TermError};
 use std::alloc::{AllocError, Global};
 
 /// The term, where only want of memory can have refused it.
@@ -28,15 +26,5 @@ pub fn applied(alloc: Global, f: &Term, x: &Term) -> Result<Term, AllocError>
         Err(TermError::Memory) => Err(AllocError),
         Err(TermError::TypesDontFit) => unreachable!(),
         Err(TermError::NotAVariable) => unreachable!(),
-    }
-}
-
-/// The free variables, each once, by first occurrence.
-pub fn frees(alloc: Global, t: &Term) -> Result<Vec<Variable>, AllocError>
-    ensures { IfOk result (λ vs. vs.items ≡ free_variables (nameless [] t.now)) }
-{
-    match t.frees(alloc) {
-        Ok(found) => Ok(found),
-        Err(_memory) => Err(AllocError),
     }
 }

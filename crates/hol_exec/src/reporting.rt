@@ -2,16 +2,15 @@
 ghost use Rattle.std.specs.Prelude.{◌≡◌, IfOk, map, string_bytes};
 ghost use Rattle.hol_exec.specs.StateValue.{ProofValue};
 ghost use Rattle.hol_exec.specs.OutcomeView.{outcome_value};
-ghost use Rattle.hol_exec.specs.ReportOf.{report_of, open_goals, entry_text};
+ghost use Rattle.hol_exec.specs.ReportOf.{report_of, open_goals, entry_text, shown_goal};
 ghost use Rattle.hol_exec.specs.ReportView.{report_value, shown_goal_text};
-ghost use Rattle.hol_exec.specs.Show.{shown_goal};
 
 use crate::entry::Entry;
 use crate::goal::Goal;
 use crate::outcome::Outcome;
 use crate::report::{Report, ShownGoal};
-use crate::show;
 use crate::state::State;
+use hol_print::{show_goal, show_term};
 use std::alloc::{AllocError, Global};
 
 /// The report on an outcome, the state being that after it.
@@ -36,9 +35,20 @@ fn shown_goals(alloc: Global, goals: &[Goal]) -> Result<Vec<ShownGoal>, AllocErr
 {
     let mut shown = Vec::with_capacity(alloc, goals.len())?;
     for goal in goals {
-        shown.push(show::shown_goal(alloc, goal)?)?;
+        shown.push(shown_goal(alloc, goal)?)?;
     }
     Ok(shown)
+}
+
+fn shown_goal(alloc: Global, goal: &Goal) -> Result<ShownGoal, AllocError>
+    ensures { IfOk result (λ shown. shown_goal_text shown ≡ shown_goal goal.now) }
+{
+    let shown = show_goal(alloc, goal.assumptions(), goal.conclusion())?;
+    Ok(ShownGoal {
+        assumptions: shown.asl,
+        free_variables: shown.free,
+        conclusion: shown.goal,
+    })
 }
 
 fn entry_text(alloc: Global, entry: &Entry) -> Result<String, AllocError>
@@ -47,7 +57,7 @@ fn entry_text(alloc: Global, entry: &Entry) -> Result<String, AllocError>
     let mut text = String::from_str(alloc, "thm ")?;
     text.push_str(entry.name())?;
     text.push_str(" |- ")?;
-    let conclusion = show::term_text(alloc, entry.theorem().concl())?;
+    let conclusion = show_term(alloc, entry.theorem().concl())?;
     text.push_str(conclusion.as_str())?;
     Ok(text)
 }

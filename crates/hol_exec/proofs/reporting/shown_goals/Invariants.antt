@@ -1,6 +1,6 @@
 use Rattle.std.proofs.Common.{◌≡◌, map, take}
 use Rattle.hol_exec.specs.ReportView.{shown_goal_text}
-use Rattle.hol_exec.specs.Show.{shown_goal}
+use Rattle.hol_exec.specs.ReportOf.{shown_goal}
 use Rattle.hol_exec.proofs.reporting.shown_goals.Given as goal
 
 abbrev pub invariant-loop-goal : goal.invariant-loop-goal
