@@ -1,3 +1,5 @@
-pub mod Typed
+pub mod Closed
+pub mod Runs
+pub mod Stands
+pub mod Unique
 pub mod Outcomes
-pub mod Principal

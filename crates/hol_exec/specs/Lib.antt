@@ -5,6 +5,7 @@ pub mod Goal
 pub mod Reading
 pub mod ReadingView
 pub mod Running
+pub mod ReadError
 pub mod Cited
 pub mod Tac
 pub mod StateValue

@@ -1,9 +1,11 @@
 //! What the end of a proof reads of it.
-ghost use Rattle.std.specs.Prelude.{◌≡◌, [], IfOk, string_bytes, Some};
+ghost use Rattle.std.specs.Prelude.{◌≡◌, [], IfOk, IfSome, IsSome, string_bytes, Some};
 ghost use Rattle.hol_terms.specs.Nameless.{nameless};
 ghost use Rattle.hol_exec.specs.ReadsValue.{ClosingValue, closing_of};
 ghost use Rattle.hol_exec.specs.Sound.{IsSoundClosing};
 ghost use Rattle.hol_exec.specs.Local.{proved};
+ghost use Rattle.hol_kernel.specs.Sequent.{equation};
+ghost use Rattle.hol_kernel.specs.Typing.{type_over};
 
 use crate::equation::sides;
 use crate::made::made;
@@ -85,15 +87,18 @@ impl Closing {
     }
 
     /// The theorem of the statement, without hypotheses, on the proof's basis.
+    #[tactic(auto, using(crate::proofs::Closed::joined))]
     pub fn theorem(&self, alloc: Global) -> Result<Thm, AllocError>
         requires { self.now.open_goals ≡ 0 }
         ensures { IfOk result (λ th. th ≡ proved self.now.basis self.now.statement) }
     {
         self.promise();
-        let Some((left, _right)) = sides(self.statement()) else {
+        let Some((left, right)) = sides(self.statement()) else {
             unreachable!()
         };
-        match Thm::refl(alloc, self.basis(), left) {
+        let first = reflexive(alloc, self.basis(), left)?;
+        let second = reflexive(alloc, self.basis(), right)?;
+        match Thm::trans(alloc, &first, &second) {
             Ok(theorem) => Ok(theorem),
             Err(KernelError::Memory) => Err(AllocError),
             Err(KernelError::Refused(_)) => unreachable!(),
@@ -106,5 +111,18 @@ impl Closing {
         ensures { IsSoundClosing self.now }
     {
         let _ = &self.name;
+    }
+}
+
+// `t = t` for a term that is well typed over the basis.
+fn reflexive(alloc: Global, basis: &Basis, t: &Term) -> Result<Thm, AllocError>
+    requires { IsSome (type_over basis.now (nameless [] t.now)) }
+    ensures { IfOk result (λ th. IfSome (type_over basis.now (nameless [] t.now)) (λ a. th ≡ proved basis.now (equation a (nameless [] t.now) (nameless [] t.now)))) }
+{
+    match Thm::refl(alloc, basis, t) {
+        Ok(theorem) => Ok(theorem),
+        Err(KernelError::Memory) => Err(AllocError),
+        Err(KernelError::Refused(_)) => unreachable!(),
+        Err(KernelError::Clash(_)) => unreachable!(),
     }
 }

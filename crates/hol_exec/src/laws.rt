@@ -1,16 +1,19 @@
-//! Laws of readings.
-ghost use Rattle.std.specs.Prelude.{◌≡◌, ◌↔◌};
-ghost use Rattle.hol_terms.specs.Nameless.{Nameless};
-ghost use Rattle.hol_notation.specs.Command.{TermText};
-ghost use Rattle.hol_exec.specs.Reading.{reading_of, WrongArity, NoTyping, Statement};
-ghost use Rattle.hol_exec.specs.Typing.{HasWrongArity, IsTyping, IsPrincipal};
+//! Laws of what texts read as, and of outcomes.
+ghost use Rattle.std.specs.Prelude.{◌≡◌, ℕ, List};
+ghost use Rattle.hol_notation_commands.specs.Reading.{ReadText};
+ghost use Rattle.hol_exec.specs.Running.{IsRead};
+ghost use Rattle.hol_exec.specs.StateValue.{StateValue};
+ghost use Rattle.hol_exec.specs.OutcomeValue.{OutcomeValue};
+ghost use Rattle.hol_exec.specs.At.{IsOutcome};
 
-/// The statement that an equation reads as is its principal typing: a typing of which each other one is an instance. Where it
-/// reads as untypable there is no typing. It reads as of a wrong arity exactly where an annotation breaks an arity.
-///
-/// Source: the principal type of Milner (1978), which HOL Light's `preterm.ml` infers.
-pub fn readings_are_principal()
-    ensures principal { (t : TermText) (p : Nameless) → reading_of t ≡ Statement p → IsPrincipal t p }
-    ensures untypable { (t : TermText) → reading_of t ≡ NoTyping → (p : Nameless) → IsTyping t p → ⊥ }
-    ensures wrong_arity { (t : TermText) → (reading_of t ≡ WrongArity) ↔ HasWrongArity t }
+/// A text reads as one command that runs, or is refused at one place.
+#[tactic(auto, using(crate::proofs::Unique::one_text))]
+pub fn one_text()
+    ensures { (text : List ℕ) (a b : ReadText) → IsRead text a → IsRead text b → a ≡ b }
+{}
+
+/// What a text reads as has one outcome at a state.
+#[tactic(auto, using(crate::proofs::Unique::one_outcome))]
+pub fn one_outcome()
+    ensures { (s : StateValue) (read : ReadText) (a b : OutcomeValue) → IsOutcome s read a → IsOutcome s read b → a ≡ b }
 {}

@@ -1,14 +1,17 @@
 //! What a command reads of a state.
 ghost use Rattle.std.specs.Prelude.{◌≡◌, IfOk, map, string_bytes, option_copied, Some, is_some};
-ghost use Rattle.hol_notation.specs.View.{command_text};
-ghost use Rattle.hol_exec.specs.ReadsValue.{ReadsValue, named_theorems, theorem_names, goal_for, closing_for, reads_of, first_goal};
-ghost use Rattle.hol_exec.specs.Local.{is_taken};
+ghost use Rattle.hol_notation_commands.specs.View.{command_text};
+ghost use Rattle.hol_exec.specs.ReadsValue.{ReadsValue, named_theorems, tactic_names, theorem_names, goal_for, closing_for, reads_of, first_goal};
+ghost use Rattle.hol_exec.specs.StateValue.{theorem_in};
+ghost use Rattle.hol_exec.specs.Local.{is_taken, first_unknown};
 
+use crate::cited::cited_names;
 use crate::closing::Closing;
 use crate::goal::Goal;
 use crate::state::State;
 use hol_kernel::Thm;
-use hol_notation::Command;
+use hol_notation_commands::Command;
+use hol_notation_tactics::{TacExpr, TacExprNode};
 use std::alloc::{AllocError, Global};
 use std::marker::Model;
 
@@ -38,7 +41,8 @@ impl Reads {
     pub fn of(alloc: Global, command: &Command, state: &State) -> Result<Reads, AllocError>
         ensures { IfOk result (λ r. r ≡ reads_of (command_text command.now) state.now) }
     {
-        let theorems = named_theorems(alloc, command, state)?;
+        let names = theorem_names(alloc, command)?;
+        let theorems = named_theorems(alloc, &names, state)?;
         let in_proof = state.proof().is_some();
         let goal = goal_for(alloc, command, state)?;
         let closing = closing_for(alloc, command, state)?;
@@ -48,6 +52,18 @@ impl Reads {
             goal,
             closing,
         })
+    }
+
+    /// The first name that has no theorem, of those that the command cites or makes.
+    pub fn first_unknown(&self) -> Option<&str>
+        ensures { option_copied result ≡ first_unknown self.now.theorems }
+    {
+        for pair in &self.theorems {
+            if pair.1.is_none() {
+                return Some(pair.0.as_str());
+            }
+        }
+        None
     }
 
     /// Whether one of the names that the command makes has a theorem already.
@@ -84,29 +100,63 @@ impl Reads {
     }
 }
 
-// The names of theorems that the outcome may depend on, each with its theorem, if there is one.
+// The names of theorems that the command cites or makes.
+fn theorem_names(alloc: Global, command: &Command) -> Result<Vec<String>, AllocError>
+    ensures { IfOk result (λ names. map string_bytes names.items ≡ theorem_names (command_text command.now)) }
+{
+    match command {
+        Command::Goal { name, quotation: _ } => {
+            let mut names = Vec::new(alloc);
+            names.push(String::from_str(alloc, name.as_str())?)?;
+            Ok(names)
+        }
+        Command::Apply(tactic) => tactic_names(alloc, tactic),
+        _ => Ok(Vec::new(alloc)),
+    }
+}
+
+fn tactic_names(alloc: Global, tactic: &TacExpr) -> Result<Vec<String>, AllocError>
+    ensures { IfOk result (λ names. map string_bytes names.items ≡ tactic_names tactic.now) }
+{
+    match tactic.node() {
+        TacExprNode::Call(call) => cited_names(alloc, &call.arguments),
+        _ => Ok(Vec::new(alloc)),
+    }
+}
+
+// The names, each with its theorem, if there is one.
 fn named_theorems(
     alloc: Global,
-    command: &Command,
+    names: &[String],
     state: &State,
 ) -> Result<Vec<(String, Option<Thm>)>, AllocError>
-    ensures { IfOk result (λ pairs. map (λ p. (string_bytes p.0, p.1)) pairs.items ≡ named_theorems state.now.entries (theorem_names (command_text command.now))) }
+    ensures { IfOk result (λ pairs. map (λ p. (string_bytes p.0, p.1)) pairs.items ≡ named_theorems state.now.entries (map string_bytes names.now)) }
 {
-    let mut pairs = Vec::new(alloc);
-    if let Command::OpenGoal(name, _) = command {
-        let theorem = match state.thm(name.as_str()) {
-            Some(theorem) => Some(theorem.copy()?),
-            None => None,
-        };
-        pairs.push((String::from_str(alloc, name.as_str())?, theorem))?;
+    let mut pairs = Vec::with_capacity(alloc, names.len())?;
+    for name in names {
+        pairs.push(named_theorem(alloc, name.as_str(), state)?)?;
     }
     Ok(pairs)
+}
+
+fn named_theorem(
+    alloc: Global,
+    name: &str,
+    state: &State,
+) -> Result<(String, Option<Thm>), AllocError>
+    ensures { IfOk result (λ p. (string_bytes p.0, p.1) ≡ (name.now, theorem_in state.now.entries name.now)) }
+{
+    let theorem = match state.thm(name) {
+        Some(theorem) => Some(theorem.copy()?),
+        None => None,
+    };
+    Ok((String::from_str(alloc, name)?, theorem))
 }
 
 fn goal_for(alloc: Global, command: &Command, state: &State) -> Result<Option<Goal>, AllocError>
     ensures { IfOk result (λ goal. goal ≡ goal_for (command_text command.now) state.now.proof) }
 {
-    let Command::RunTac(_) = command else {
+    let Command::Apply(_) = command else {
         return Ok(None);
     };
     let Some(proof) = state.proof() else {
@@ -125,7 +175,7 @@ fn closing_for(
 ) -> Result<Option<Closing>, AllocError>
     ensures { IfOk result (λ closing. closing ≡ closing_for (command_text command.now) state.now.proof) }
 {
-    let Command::Finish = command else {
+    let Command::Qed = command else {
         return Ok(None);
     };
     let Some(proof) = state.proof() else {

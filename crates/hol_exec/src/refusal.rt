@@ -9,14 +9,20 @@ pub enum RefusalKind {
     InProof,
     /// The command needs an open proof.
     NoProofOpen,
-    /// No TAC of that name is known.
+    /// A theorem that is cited has no entry.
+    UnknownTheorem,
+    /// No TAC of that name is known, or its arguments are not of its kind.
     UnknownTac,
     /// The term has no typing.
     Untypable,
+    /// The term is of another type than `bool`.
+    NotBool,
     /// A type constructor has another number of arguments than its arity.
     Arity,
     /// The name of what the command makes stands already.
     NameTaken,
+    /// The term that is read has over 20,000 nodes.
+    TooLarge,
     /// A TAC needs an open goal.
     NoGoalOpen,
     /// The TAC doesn't fit the goal.
@@ -37,10 +43,13 @@ impl RefusalKind {
             RefusalKind::Syntax => 1,
             RefusalKind::InProof => 2,
             RefusalKind::NoProofOpen => 3,
+            RefusalKind::UnknownTheorem => 5,
             RefusalKind::UnknownTac => 6,
             RefusalKind::Untypable => 7,
+            RefusalKind::NotBool => 8,
             RefusalKind::Arity => 9,
             RefusalKind::NameTaken => 10,
+            RefusalKind::TooLarge => 13,
             RefusalKind::NoGoalOpen => 16,
             RefusalKind::Refused => 17,
             RefusalKind::GoalsRemain => 19,
@@ -55,10 +64,13 @@ impl RefusalKind {
             RefusalKind::Syntax => "syntax",
             RefusalKind::InProof => "in a proof",
             RefusalKind::NoProofOpen => "no proof open",
+            RefusalKind::UnknownTheorem => "unknown theorem",
             RefusalKind::UnknownTac => "unknown TAC or wrong arguments",
             RefusalKind::Untypable => "untypable",
+            RefusalKind::NotBool => "not bool",
             RefusalKind::Arity => "type constructor's arity",
             RefusalKind::NameTaken => "name taken",
+            RefusalKind::TooLarge => "too large",
             RefusalKind::NoGoalOpen => "no goal open",
             RefusalKind::Refused => "refused",
             RefusalKind::GoalsRemain => "goals remain",

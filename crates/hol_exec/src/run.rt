@@ -1,30 +1,40 @@
 //! The outcome of a command from what it reads.
-ghost use Rattle.std.specs.Prelude.{◌≡◌, IfOk, string_bytes, decimal, option_copied, []};
+ghost use Rattle.std.specs.Prelude.{◌≡◌, IfOk, true, string_bytes, decimal, []};
 ghost use Rattle.hol_terms.specs.Nameless.{nameless};
-ghost use Rattle.hol_notation.specs.View.{command_text, quotation_text};
-ghost use Rattle.hol_exec.specs.Local.{local, direct, theorem_key, finishes, runs_named, runs_on};
+ghost use Rattle.hol_notation_terms.specs.QuotationView.{quotation_text};
+ghost use Rattle.hol_notation_tactics.specs.CallView.{call_text};
+ghost use Rattle.hol_notation_commands.specs.View.{command_text};
+ghost use Rattle.hol_exec.specs.Running.{is_running};
+ghost use Rattle.hol_exec.specs.Local.{IsLocal, IsOpening, direct, opens, is_taken, theorem_key, runs_call, finishes};
 ghost use Rattle.hol_exec.specs.OutcomeValue.{Refuses};
 ghost use Rattle.hol_exec.specs.OutcomeView.{outcome_value};
-ghost use Rattle.hol_notation.specs.Command.{OpenGoal, RunTac, Finish};
 
 use crate::entry::Entry;
 use crate::outcome::Outcome;
-use crate::reading::{Reading, read_equation};
+use crate::reading::{Reading, read_statement};
 use crate::reads::Reads;
 use crate::refusal::RefusalKind;
-use crate::tac::{goals_left, tac_named};
+use crate::tac::{goals_left, tac_called};
 use hol_kernel::Basis;
-use hol_notation::{Command, Quotation};
+use hol_notation_commands::Command;
+use hol_notation_tactics::{TacCall, TacExprNode};
+use hol_notation_terms::Quotation;
+use hol_terms::Term;
 use std::alloc::{AllocError, Global};
 
-/// The outcome of a command: a function of the command and of what it reads.
+/// The outcome of a command that runs: it is determined by the command and by what it reads.
 pub fn run_local(alloc: Global, command: &Command, reads: &Reads) -> Result<Outcome, AllocError>
-    ensures { IfOk result (λ outcome. outcome_value outcome ≡ local (command_text command.now) reads.now) }
+    requires { is_running (command_text command.now) ≡ true }
+    ensures { IfOk result (λ outcome. IsLocal (command_text command.now) reads.now (outcome_value outcome)) }
 {
     match command {
-        Command::OpenGoal(name, quotation) => open_goal(alloc, name.as_str(), quotation, reads),
-        Command::RunTac(name) => run_tac(alloc, name.as_str(), reads),
-        Command::Finish => finish(alloc, reads),
+        Command::Goal { name, quotation } => open_goal(alloc, name.as_str(), quotation, reads),
+        Command::Apply(tactic) => match tactic.node() {
+            TacExprNode::Call(call) => run_call(alloc, call, reads),
+            _ => unreachable!(),
+        },
+        Command::Qed => finish(alloc, reads),
+        _ => unreachable!(),
     }
 }
 
@@ -64,39 +74,55 @@ fn name_taken(alloc: Global, name: &str) -> Result<Outcome, AllocError>
     Ok(Outcome::Refuses(RefusalKind::NameTaken, key))
 }
 
-// `g`: in a proof; arity; untypable; name taken.
+// `g`: in a proof; arity; untypable; too large; not bool; name taken.
 fn open_goal(
     alloc: Global,
     name: &str,
     quotation: &Quotation,
     reads: &Reads,
 ) -> Result<Outcome, AllocError>
-    ensures { IfOk result (λ outcome. outcome_value outcome ≡ local (OpenGoal name.now (quotation_text quotation.now)) reads.now) }
+    ensures { IfOk result (λ outcome. IsOpening reads.now.in_proof name.now (quotation_text quotation.now) (is_taken reads.now.theorems) (outcome_value outcome)) }
 {
     if reads.in_proof() {
         return Ok(refused(alloc, RefusalKind::InProof));
     }
-    match read_equation(alloc, &quotation.equation)? {
+    match read_statement(alloc, &quotation.term)? {
         Reading::WrongArity => Ok(refused_at(alloc, RefusalKind::Arity, quotation.place)?),
         Reading::NoTyping => Ok(refused_at(alloc, RefusalKind::Untypable, quotation.place)?),
-        Reading::Statement(statement) => {
-            if reads.is_taken() {
-                return Ok(name_taken(alloc, name)?);
-            }
-            let name = String::from_str(alloc, name)?;
-            Ok(Outcome::Opens(name, statement, Basis::empty(alloc)?))
-        }
+        Reading::LargeReading => Ok(refused(alloc, RefusalKind::TooLarge)),
+        Reading::NotBool => Ok(refused_at(alloc, RefusalKind::NotBool, quotation.place)?),
+        Reading::Statement(statement) => Ok(open_statement(alloc, name, statement, reads)?),
     }
 }
 
-// `e`: no proof open; unknown TAC; no goal open; refused.
-fn run_tac(alloc: Global, name: &str, reads: &Reads) -> Result<Outcome, AllocError>
-    ensures { IfOk result (λ outcome. outcome_value outcome ≡ local (RunTac name.now) reads.now) }
+// A goal that reads as a statement: name taken.
+fn open_statement(
+    alloc: Global,
+    name: &str,
+    statement: Term,
+    reads: &Reads,
+) -> Result<Outcome, AllocError>
+    ensures { IfOk result (λ outcome. outcome_value outcome ≡ opens name.now (is_taken reads.now.theorems) (nameless [] statement)) }
+{
+    if reads.is_taken() {
+        return Ok(name_taken(alloc, name)?);
+    }
+    let name = String::from_str(alloc, name)?;
+    Ok(Outcome::Opens(name, statement, Basis::empty(alloc)?))
+}
+
+// `e` with a call: no proof open; unknown theorem; unknown TAC or wrong arguments; no goal open; refused.
+fn run_call(alloc: Global, call: &TacCall, reads: &Reads) -> Result<Outcome, AllocError>
+    ensures { IfOk result (λ outcome. outcome_value outcome ≡ runs_call (call_text call.now) reads.now) }
 {
     if !reads.in_proof() {
         return Ok(refused(alloc, RefusalKind::NoProofOpen));
     }
-    let Some(code) = tac_named(name) else {
+    if let Some(unknown) = reads.first_unknown() {
+        return Ok(refused_for(alloc, RefusalKind::UnknownTheorem, unknown)?);
+    }
+    let name = call.name.as_str();
+    let Some(code) = tac_called(name, &call.arguments) else {
         return Ok(refused_for(alloc, RefusalKind::UnknownTac, name)?);
     };
     let Some(goal) = reads.goal() else {
@@ -110,7 +136,7 @@ fn run_tac(alloc: Global, name: &str, reads: &Reads) -> Result<Outcome, AllocErr
 
 // `qed`: no proof open; goals remain.
 fn finish(alloc: Global, reads: &Reads) -> Result<Outcome, AllocError>
-    ensures { IfOk result (λ outcome. outcome_value outcome ≡ local Finish reads.now) }
+    ensures { IfOk result (λ outcome. outcome_value outcome ≡ finishes reads.now.closing) }
 {
     let Some(closing) = reads.closing() else {
         return Ok(refused(alloc, RefusalKind::NoProofOpen));

@@ -1,9 +1,11 @@
 //! The known TACs, and what each leaves of a goal.
-ghost use Rattle.std.specs.Prelude.{◌≡◌, option_map};
-ghost use Rattle.hol_exec.specs.Tac.{tac_named, goals_left, refl_tac};
+ghost use Rattle.std.specs.Prelude.{◌≡◌, map, option_map};
+ghost use Rattle.hol_notation_tactics.specs.CallView.{argument_text};
+ghost use Rattle.hol_exec.specs.Tac.{tac_named, tac_called, goals_left, refl_tac};
 
 use crate::equation::sides;
 use crate::goal::Goal;
+use hol_notation_tactics::TacArg;
 use std::alloc::Global;
 
 /// The known TACs, by the names of the HOL Light Reference Manual.
@@ -13,8 +15,19 @@ pub enum TacCode {
     ReflTac,
 }
 
-/// The TAC of a name.
-pub fn tac_named(name: &str) -> Option<TacCode>
+/// The TAC of a name, where it may be called with these arguments: REFL_TAC takes none.
+pub fn tac_called(name: &str, arguments: &[TacArg]) -> Option<TacCode>
+    ensures { result ≡ tac_called name.now (map argument_text arguments.now) }
+{
+    if arguments.is_empty() {
+        tac_named(name)
+    } else {
+        None
+    }
+}
+
+// The TAC of a name.
+fn tac_named(name: &str) -> Option<TacCode>
     ensures { result ≡ tac_named name.now }
 {
     if name == "REFL_TAC" {

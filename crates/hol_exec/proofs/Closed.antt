@@ -1,0 +1,119 @@
+-- A statement that is an equation of terms equal up to bound names is what TRANS gives of the reflexivity of its sides.
+use Rattle.std.specs.Prelude.{◌≡◌, Bool, true, false, cond, ◌&&◌, List, [], bytes_eq, codes, Option, Some, None, IsSome, refl}
+use Rattle.std.specs.FinSet as set
+use Rattle.std.proofs.Common.{ap, sym, ◌∙◌}
+use Rattle.std.proofs.lemmas.Bool.{and_parts}
+use Rattle.std.proofs.lemmas.Slice.Eq.{bytes_eq-Decides}
+use Rattle.hol_types.specs.Tree.{TypeTree}
+use Rattle.hol_types.specs.Fun.{fun_type}
+use Rattle.hol_types.specs.Equal.{type_eq}
+use Rattle.hol_types.proofs.OrderLaws.{type_cmp_decides}
+use Rattle.hol_terms.specs.Nameless.{Nameless, free, bound, fixed, app, lam, nameless_type}
+use Rattle.hol_terms.specs.Alpha.{strip, alpha_eq}
+use Rattle.hol_terms.proofs.Alpha.{alpha_eq_decides}
+use Rattle.hol_kernel.specs.Items.{Items}
+use Rattle.hol_kernel.specs.Sequent.{no_hyps, bool_type, equality_type, equation}
+use Rattle.hol_kernel.specs.Rules.{sides_of, trans_sides, trans_of}
+use Rattle.hol_kernel.specs.Theorem.{Theorem, theorem_over}
+use Rattle.hol_kernel.specs.Typing.{is_known, type_over, HasType}
+use Rattle.hol_kernel.proofs.HypothesisLists.{hyps_total, hyps_same}
+use Rattle.hol_kernel.proofs.SortedSets.{union_none_left}
+use Rattle.hol_kernel.proofs.Sound.{strip_type}
+use Rattle.hol_kernel.proofs.Stands.{app_parts, some_is}
+use Rattle.hol_kernel.proofs.Variables.{typed_known, known_typed}
+use Rattle.hol_exec.specs.Tac.{sides}
+use Rattle.hol_exec.specs.Local.{proved}
+use Rattle.hol_exec.specs.Sound.{IsReflexive}
+
+-- ---- the sides of a term
+
+-- what a term with sides is
+record IsEquality (t l r : Nameless) : Type 0 where
+  ty : TypeTree
+  is : t ≡ app (app (fixed (codes "=") ty) l) r
+
+taken : (c : List ℕ) (s : TypeTree) (l r m n : Nameless) → cond (bytes_eq c (codes "=")) (Some (l, r)) None ≡ Some (m, n) → IsEquality (app (app (fixed c s) l) r) m n
+taken c s l r m n e = by (bytes_eq c (codes "=")) refl e
+  where
+    by : (b : Bool) → bytes_eq c (codes "=") ≡ b → cond b (Some (l, r)) None ≡ Some (m, n) → IsEquality (app (app (fixed c s) l) r) m n
+    by true f g =
+        let left : l ≡ m = cc in
+        let right : r ≡ n = cc in
+        record { ty = s; is = λ i. app (app (fixed ((bytes_eq-Decides c (codes "=")).0 f i) s) (left i)) (right i) }
+    by false f g = absurd (cc)
+
+equality_is : (t l r : Nameless) → sides t ≡ Some (l, r) → IsEquality t l r
+equality_is (free v) l r e = absurd (cc)
+equality_is (bound i) l r e = absurd (cc)
+equality_is (fixed c s) l r e = absurd (cc)
+equality_is (lam a s b) l r e = absurd (cc)
+equality_is (app (free v) y) l r e = absurd (cc)
+equality_is (app (bound i) y) l r e = absurd (cc)
+equality_is (app (fixed c s) y) l r e = absurd (cc)
+equality_is (app (lam a s b) y) l r e = absurd (cc)
+equality_is (app (app (free v) x) y) l r e = absurd (cc)
+equality_is (app (app (bound i) x) y) l r e = absurd (cc)
+equality_is (app (app (fixed c s) x) y) l r e = taken c s x y l r e
+equality_is (app (app (app f g) x) y) l r e = absurd (cc)
+equality_is (app (app (lam a s b) x) y) l r e = absurd (cc)
+
+-- ---- the types of the sides
+
+-- the term equates two terms of one type that are well typed over the basis
+record AreSides (basis : Items) (t l r : Nameless) : Type 0 where
+  ty : TypeTree
+  is : t ≡ equation ty l r
+  left : HasType basis l ty
+  right : HasType basis r ty
+
+same_type : (l r : Nameless) (a b : TypeTree) → alpha_eq l r ≡ true → nameless_type [] l ≡ Some a → nameless_type [] r ≡ Some b → a ≡ b
+same_type l r a b e p q =
+    some_is a b (sym p ∙ sym (strip_type [] l) ∙ ap (nameless_type []) ((alpha_eq_decides l r).0 e) ∙ strip_type [] r ∙ q)
+
+are_sides : (basis : Items) (t l r : Nameless) → IsReflexive basis t → sides t ≡ Some (l, r) → AreSides basis t l r
+are_sides basis t l r h e =
+    let q : IsEquality t l r = equality_is t l r e in
+    let same : alpha_eq l r ≡ true = (let s : Some (h.left, h.right) ≡ Some (l, r) = sym h.equates ∙ e in let m : h.left ≡ l = cc in let n : h.right ≡ r = cc in rw (← m, ← n) h.same) in
+    let typed : HasType basis (app (app (fixed (codes "=") q.ty) l) r) bool_type = rw (← q.is) h.stands in
+    let parts = known_typed basis (app (app (fixed (codes "=") q.ty) l) r) bool_type typed in
+    let known = and_parts (is_known basis (fixed (codes "=") q.ty) && is_known basis l) (is_known basis r) parts.0 in
+    let known_left = and_parts (is_known basis (fixed (codes "=") q.ty)) (is_known basis l) known.0 in
+    let outer = app_parts [] (app (fixed (codes "=") q.ty) l) r bool_type parts.1 in
+    let inner = app_parts [] (fixed (codes "=") q.ty) l (fun_type outer.0 bool_type) outer.1.0 in
+    let one : inner.0 ≡ outer.0 = same_type l r inner.0 outer.0 same inner.1.1 outer.1.1 in
+    let at : q.ty ≡ fun_type inner.0 (fun_type outer.0 bool_type) = some_is q.ty (fun_type inner.0 (fun_type outer.0 bool_type)) inner.1.0 in
+    record {
+      ty = inner.0;
+      is = q.is ∙ ap (λ s. app (app (fixed (codes "=") s) l) r) (at ∙ ap (λ b. fun_type inner.0 (fun_type b bool_type)) (sym one));
+      left = typed_known basis l inner.0 known_left.1 inner.1.1;
+      right = typed_known basis r inner.0 known.1 (outer.1.1 ∙ ap Some (sym one));
+    }
+
+-- ---- the theorem
+
+type_same : (a : TypeTree) → type_eq a a ≡ true
+type_same a = (type_cmp_decides a a).1 refl
+
+equation_sides : (a : TypeTree) (l r : Nameless) → sides_of (equation a l r) ≡ Some (record { sides_type = a; left = l; right = r })
+equation_sides a l r = rw (type_same (equality_type a)) refl
+
+-- what a reflexive statement says of the sides that are found in it
+pub record Joins (basis : Items) (t l r : Nameless) : Type 0 where
+  pub ty : TypeTree
+  pub left : type_over basis l ≡ Some ty
+  pub right : type_over basis r ≡ Some ty
+  pub gives : trans_of (proved basis (equation ty l l)) (proved basis (equation ty r r)) ≡ Some (proved basis t)
+
+pub joins : (basis : Items) (t l r : Nameless) → IsReflexive basis t → sides t ≡ Some (l, r) → Joins basis t l r
+joins basis t l r h e =
+    let s : AreSides basis t l r = are_sides basis t l r h e in
+    let same : alpha_eq l r ≡ true = (let q : Some (h.left, h.right) ≡ Some (l, r) = sym h.equates ∙ e in let m : h.left ≡ l = cc in let n : h.right ≡ r = cc in rw (← m, ← n) h.same) in
+    record {
+      ty = s.ty;
+      left = s.left;
+      right = s.right;
+      gives =
+          (λ i. trans_sides basis (set.union no_hyps no_hyps) (equation_sides s.ty l l i) (equation_sides s.ty r r i))
+          ∙ (λ i. cond (same i) (Some (theorem_over basis (union_none_left hyps_total hyps_same no_hyps i) (equation s.ty l r))) None)
+          ∙ (λ i. Some (theorem_over basis no_hyps (sym s.is i)));
+    }
