@@ -37,7 +37,7 @@ opens_reading name q taken (Statement s) n p b z e = let f = opens_by name taken
 
 opening_sound : (in_proof : Bool) (name : List ℕ) (q : QuotationText) (taken : Bool) (n : List ℕ) (p : Nameless) (b : Items) → IsOpening in_proof name q taken (Opens n p b) → IsStatement b p
 opening_sound true name q taken n p b h = absurd (cc)
-opening_sound false name q taken n p b h = opens_reading name q taken h.0 n p b h.1.0 h.1.1
+opening_sound false name q taken n p b h = opens_reading name q taken h.0 n p b h.1 h.2
 
 -- a call opens no proof
 call_opens_none : (call : CallText) (reads : ReadsValue) (n : List ℕ) (p : Nameless) (b : Items) → Opens n p b ≡ runs_call call reads → ⊥
@@ -169,7 +169,7 @@ applied_closes (SubgoalThen x c) s p is h goals e = absurd e
 
 opening_leaves_none : (in_proof : Bool) (name : List ℕ) (q : QuotationText) (taken : Bool) (goals : List GoalValue) → IsOpening in_proof name q taken (Leaves goals) → ⊥
 opening_leaves_none true name q taken goals h = absurd (cc)
-opening_leaves_none false name q taken goals h = by h.0 h.1.1
+opening_leaves_none false name q taken goals h = by h.0 h.2
   where
     stated : (w : Bool) (s : Nameless) → Leaves goals ≡ opens name w s → ⊥
     stated true s e = absurd (cc)

@@ -1,8 +1,8 @@
 -- What a quotation reads as is well typed over the prelude.
-use Rattle.std.specs.Prelude.{◌≡◌, ℕ, Bool, true, false, cond, ◌&&◌, ◌||◌, ◌==◌, List, [], ◌∷◌, bytes_eq, codes, Option, Some, None, refl, suc}
+use Rattle.std.specs.Prelude.{◌≡◌, ℕ, Bool, true, false, cond, ◌&&◌, ◌||◌, ◌==◌, List, [], ◌∷◌, bytes_eq, codes, Option, Some, None, refl, zero, suc}
 use Rattle.std.specs.List.{list_any, list_all}
 use Rattle.std.proofs.Common.{ap, sym, ◌∙◌}
-use Rattle.std.proofs.lemmas.Bool.{and_parts}
+use Rattle.std.proofs.lemmas.Bool.{and_parts, eq-eqb}
 use Rattle.std.proofs.lemmas.Slice.Eq.{bytes_eq-Decides}
 use Rattle.hol_types.specs.Tree.{TypeTree, TypeList, TyVar, TyApp, no_types, more_types}
 use Rattle.hol_types.specs.Fun.{fun_type}
@@ -18,12 +18,12 @@ use Rattle.hol_notation_terms.specs.Text.{TermText}
 use Rattle.hol_infer.specs.Resolving.{arity_of, generic_type_of}
 use Rattle.hol_infer.specs.Standing.{stands, all_stand, TermStands, AreStanding, types_count as count}
 use Rattle.hol_infer.proofs.StandingLaws.{reading_stands}
-use Rattle.hol_exec.specs.Reading.{IsTerm, IsReadAs, Statement}
+use Rattle.hol_exec.specs.Reading.{IsReadAs, Statement}
 
-takes : List ℕ → ℕ → Bool
+abbrev takes : List ℕ → ℕ → Bool
 takes c n = has_arity no_items c n
 
-has : List ℕ → TypeTree → Bool
+abbrev has : List ℕ → TypeTree → Bool
 has c a = has_constant no_items c a
 
 -- ---- the prelude stands
@@ -43,27 +43,29 @@ generics_same (p ∷ more) c = λ i. cond (same_bytes p.0 c i) (Some p.1) (gener
 
 all_of : (P : List ℕ × TypeTree → Bool) (constants : List (List ℕ × TypeTree)) (c : List ℕ) (generic : TypeTree) → list_all P constants ≡ true → generic_type_of constants c ≡ Some generic → (name : List ℕ) × (P (name, generic) ≡ true)
 all_of P [] c generic all e = absurd (cc)
-all_of P (p ∷ more) c generic all e = by (bytes_eq p.0 c) refl
+all_of P (p ∷ more) c generic all e = by (bytes_eq p.0 c) e (all_of P more c generic (and_parts (P p) (list_all P more) all).1)
   where
-    by : (b : Bool) → bytes_eq p.0 c ≡ b → (name : List ℕ) × (P (name, generic) ≡ true)
-    by true f = let g : Some p.1 ≡ Some generic = rw f at e in let h : p.1 ≡ generic = cc in (p.0, ap (λ a. P (p.0, a)) (sym h) ∙ (and_parts (P p) (list_all P more) all).0)
-    by false f = all_of P more c generic (and_parts (P p) (list_all P more) all).1 (rw f at e)
+    by : (b : Bool) → cond b (Some p.1) (generic_type_of more c) ≡ Some generic → (generic_type_of more c ≡ Some generic → (name : List ℕ) × (P (name, generic) ≡ true)) → (name : List ℕ) × (P (name, generic) ≡ true)
+    by true f others = let h : p.1 ≡ generic = cc in (p.0, ap (λ a. P (p.0, a)) (sym h) ∙ (and_parts (P p) (list_all P more) all).0)
+    by false f others = others f
+
+or_true : (b : Bool) → (b || true) ≡ true
+or_true true = refl
+or_true false = refl
+
+eqb_same : (n : ℕ) → (n == n) ≡ true
+eqb_same n = eq-eqb n n refl
 
 any_of : (arities : List (List ℕ × ℕ)) (c : List ℕ) (n : ℕ) → arity_of arities c ≡ Some n → list_any (is_constructor c n) arities ≡ true
 any_of [] c n e = absurd (cc)
-any_of (p ∷ more) c n e = by (bytes_eq p.0 c) refl
+any_of (p ∷ more) c n e = by (bytes_eq p.0 c) refl e (any_of more c n)
   where
-    by : (b : Bool) → bytes_eq p.0 c ≡ b → (is_constructor c n p || list_any (is_constructor c n) more) ≡ true
-    by true f =
-        let g : Some p.1 ≡ Some n = rw f at e in
+    by : (b : Bool) → bytes_eq p.0 c ≡ b → cond b (Some p.1) (arity_of more c) ≡ Some n → (arity_of more c ≡ Some n → list_any (is_constructor c n) more ≡ true) → (is_constructor c n p || list_any (is_constructor c n) more) ≡ true
+    by true f g others =
         let h : p.1 ≡ n = cc in
-        let here : is_constructor c n p ≡ true = (λ i. (sym (same_bytes p.0 c) ∙ f) i && (n == h i)) ∙ eqb-refl n in
+        let here : is_constructor c n p ≡ true = (λ i. (sym (same_bytes p.0 c) ∙ f) i && (n == h i)) ∙ eqb_same n in
         ap (λ b. b || list_any (is_constructor c n) more) here
-    by false f = ap (λ b. is_constructor c n p || b) (any_of more c n (rw f at e)) ∙ or_true (is_constructor c n p)
-
-    or_true : (b : Bool) → (b || true) ≡ true
-    or_true true = refl
-    or_true false = refl
+    by false f g others = ap (λ b. is_constructor c n p || b) (others g) ∙ or_true (is_constructor c n p)
 
 has_instance : (c : List ℕ) (generic : TypeTree) (pairs : List (TypeTree × List ℕ)) → generic_type_of prelude_constants c ≡ Some generic → has c (type_subst pairs generic) ≡ true
 has_instance c generic pairs e =
@@ -102,7 +104,7 @@ known (free v) h = sym (type_same v.1) ∙ h
 known (bound i) h = refl
 known (fixed c s) h = λ i. (sym (type_same s) ∙ h.0) i && h.1 i
 known (app f x) h = λ i. known f h.0 i && known x h.1 i
-known (lam a s b) h = λ i. (bytes_eq-Decides (base_of a) a).1 h.0 i && ((sym (type_same s) ∙ h.1.0) i && known b h.1.1 i)
+known (lam a s b) h = λ i. (bytes_eq-Decides (base_of a) a).1 h.0 i && ((sym (type_same s) ∙ h.1) i && known b h.2 i)
 
 pub statement_typed : (t : TermText) (p : Nameless) → IsReadAs t (Statement p) → HasType no_items p bool_type
 statement_typed t p h =

@@ -11,8 +11,8 @@ use Rattle.hol_notation_commands.specs.Reading.{ReadText, Reads, Breaks, IsComma
 use Rattle.hol_notation_commands.proofs.OneReading.{one-reading as one_command}
 use Rattle.hol_infer.specs.Resolving.{term_has_arities}
 use Rattle.hol_infer.proofs.Unique.{one_reading as one_term, reading_typable, reading_not_large, large_typable}
-use Rattle.hol_exec.specs.Running.{is_running, IsIdle, IsRead}
-use Rattle.hol_exec.specs.Reading.{resolved, IsTerm, IsNotBool, ReadingValue, WrongArity, NoTyping, LargeReading, NotBool, Statement, IsReadAs}
+use Rattle.hol_exec.specs.Running.{runs, IsIdle, IsReadToRun}
+use Rattle.hol_exec.specs.Reading.{over_prelude, IsSmallReading, IsNotBool, ReadingValue, WrongArity, NoTyping, LargeReading, NotBool, Statement, IsReadAs}
 use Rattle.hol_exec.specs.StateValue.{StateValue}
 use Rattle.hol_exec.specs.ReadsValue.{ReadsValue, reads_of}
 use Rattle.hol_exec.specs.OutcomeValue.{OutcomeValue}
@@ -24,15 +24,15 @@ use Rattle.hol_exec.specs.At.{IsOutcome}
 same_command : (text : List ℕ) (c d : CommandText) → IsCommandText text c → IsCommandText text d → c ≡ d
 same_command text c d p q = let e : Reads c ≡ Reads d = one_command text (Reads c) (Reads d) p q in cc
 
-runs_or_not : (c d : CommandText) → c ≡ d → is_running c ≡ true → is_running d ≡ false → ⊥
-runs_or_not c d e p q = let f : true ≡ false = sym p ∙ ap is_running e ∙ q in absurd (cc)
+runs_or_not : (text : List ℕ) (c d : CommandText) → c ≡ d → runs text c ≡ true → runs text d ≡ false → ⊥
+runs_or_not text c d e p q = let f : true ≡ false = sym p ∙ ap (runs text) e ∙ q in absurd (cc)
 
-pub one_text : (text : List ℕ) (a b : ReadText) → IsRead text a → IsRead text b → a ≡ b
+pub one_text : (text : List ℕ) (a b : ReadText) → IsReadToRun text a → IsReadToRun text b → a ≡ b
 one_text text (Reads c) (Reads d) p q = one_command text (Reads c) (Reads d) p.0 q.0
 one_text text (Reads c) (Breaks j) p (inl q) = one_command text (Reads c) (Breaks j) p.0 q
-one_text text (Reads c) (Breaks j) p (inr q) = absurd (runs_or_not c q.command (same_command text c q.command p.0 q.read) p.1 q.idle)
+one_text text (Reads c) (Breaks j) p (inr q) = absurd (runs_or_not text c q.command (same_command text c q.command p.0 q.read) p.1 q.idle)
 one_text text (Breaks i) (Reads d) (inl p) q = one_command text (Breaks i) (Reads d) p q.0
-one_text text (Breaks i) (Reads d) (inr p) q = absurd (runs_or_not d p.command (same_command text d p.command q.0 p.read) q.1 p.idle)
+one_text text (Breaks i) (Reads d) (inr p) q = absurd (runs_or_not text d p.command (same_command text d p.command q.0 p.read) q.1 p.idle)
 one_text text (Breaks i) (Breaks j) (inl p) (inl q) = one_command text (Breaks i) (Breaks j) p q
 one_text text (Breaks i) (Breaks j) (inl p) (inr q) = let e : Breaks i ≡ Reads q.command = one_command text (Breaks i) (Reads q.command) p q.read in absurd (cc)
 one_text text (Breaks i) (Breaks j) (inr p) (inl q) = let e : Breaks j ≡ Reads p.command = one_command text (Breaks j) (Reads p.command) q p.read in absurd (cc)
@@ -43,8 +43,8 @@ one_text text (Breaks i) (Breaks j) (inr p) (inr q) = ap Breaks (p.first ∙ sym
 both_ways : (b : Bool) → b ≡ true → b ≡ false → ⊥
 both_ways b p q = let e : true ≡ false = sym p ∙ q in absurd (cc)
 
-same_term : (t : TermText) (p q : Nameless) → IsTerm t p → IsTerm t q → p ≡ q
-same_term t p q a b = one_term (resolved t) p q a.reading b.reading
+same_term : (t : TermText) (p q : Nameless) → IsSmallReading t p → IsSmallReading t q → p ≡ q
+same_term t p q a b = one_term (over_prelude t) p q a.reading b.reading
 
 pub one_reading : (t : TermText) (a b : ReadingValue) → IsReadAs t a → IsReadAs t b → a ≡ b
 one_reading t WrongArity WrongArity p q = refl
@@ -54,22 +54,22 @@ one_reading t WrongArity NotBool p q = absurd (both_ways _ q.reads.arities p)
 one_reading t WrongArity (Statement s) p q = absurd (both_ways _ q.0.arities p)
 one_reading t NoTyping WrongArity p q = absurd (both_ways _ p.0 q)
 one_reading t NoTyping NoTyping p q = refl
-one_reading t NoTyping LargeReading p q = absurd (large_typable (resolved t) p.1 q.1)
-one_reading t NoTyping NotBool p q = absurd (reading_typable (resolved t) q.term q.reads.reading p.1)
-one_reading t NoTyping (Statement s) p q = absurd (reading_typable (resolved t) s q.0.reading p.1)
+one_reading t NoTyping LargeReading p q = absurd (large_typable (over_prelude t) p.1 q.1)
+one_reading t NoTyping NotBool p q = absurd (reading_typable (over_prelude t) q.term q.reads.reading p.1)
+one_reading t NoTyping (Statement s) p q = absurd (reading_typable (over_prelude t) s q.0.reading p.1)
 one_reading t LargeReading WrongArity p q = absurd (both_ways _ p.0 q)
-one_reading t LargeReading NoTyping p q = absurd (large_typable (resolved t) q.1 p.1)
+one_reading t LargeReading NoTyping p q = absurd (large_typable (over_prelude t) q.1 p.1)
 one_reading t LargeReading LargeReading p q = refl
-one_reading t LargeReading NotBool p q = absurd (reading_not_large (resolved t) q.term q.reads.reading q.reads.small p.1)
-one_reading t LargeReading (Statement s) p q = absurd (reading_not_large (resolved t) s q.0.reading q.0.small p.1)
+one_reading t LargeReading NotBool p q = absurd (reading_not_large (over_prelude t) q.term q.reads.reading q.reads.small p.1)
+one_reading t LargeReading (Statement s) p q = absurd (reading_not_large (over_prelude t) s q.0.reading q.0.small p.1)
 one_reading t NotBool WrongArity p q = absurd (both_ways _ p.reads.arities q)
-one_reading t NotBool NoTyping p q = absurd (reading_typable (resolved t) p.term p.reads.reading q.1)
-one_reading t NotBool LargeReading p q = absurd (reading_not_large (resolved t) p.term p.reads.reading p.reads.small q.1)
+one_reading t NotBool NoTyping p q = absurd (reading_typable (over_prelude t) p.term p.reads.reading q.1)
+one_reading t NotBool LargeReading p q = absurd (reading_not_large (over_prelude t) p.term p.reads.reading p.reads.small q.1)
 one_reading t NotBool NotBool p q = refl
 one_reading t NotBool (Statement s) p q = absurd (p.other (ap (nameless_type []) (same_term t p.term s p.reads q.0) ∙ q.1))
 one_reading t (Statement s) WrongArity p q = absurd (both_ways _ p.0.arities q)
-one_reading t (Statement s) NoTyping p q = absurd (reading_typable (resolved t) s p.0.reading q.1)
-one_reading t (Statement s) LargeReading p q = absurd (reading_not_large (resolved t) s p.0.reading p.0.small q.1)
+one_reading t (Statement s) NoTyping p q = absurd (reading_typable (over_prelude t) s p.0.reading q.1)
+one_reading t (Statement s) LargeReading p q = absurd (reading_not_large (over_prelude t) s p.0.reading p.0.small q.1)
 one_reading t (Statement s) NotBool p q = absurd (q.other (ap (nameless_type []) (same_term t q.term s q.reads p.0) ∙ p.1))
 one_reading t (Statement s) (Statement u) p q = ap Statement (same_term t s u p.0 q.0)
 
@@ -78,7 +78,7 @@ one_reading t (Statement s) (Statement u) p q = ap Statement (same_term t s u p.
 one_opening : (in_proof : Bool) (name : List ℕ) (quotation : QuotationText) (taken : Bool) (a b : OutcomeValue) → IsOpening in_proof name quotation taken a → IsOpening in_proof name quotation taken b → a ≡ b
 one_opening true name quotation taken a b p q = p ∙ sym q
 one_opening false name quotation taken a b p q =
-    p.1.1 ∙ ap (opens_read name quotation.place taken) (one_reading quotation.term p.0 q.0 p.1.0 q.1.0) ∙ sym q.1.1
+    p.2 ∙ ap (opens_read name quotation.place taken) (one_reading quotation.term p.0 q.0 p.1 q.1) ∙ sym q.2
 
 one_applied : (tactic : TacText) (reads : ReadsValue) (a b : OutcomeValue) → IsApplied tactic reads a → IsApplied tactic reads b → a ≡ b
 one_applied (Call call) reads a b p q = p ∙ sym q

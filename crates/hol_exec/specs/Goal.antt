@@ -1,4 +1,5 @@
--- A goal: its assumptions, the newest first, and its conclusion. HOL Light's goals are such pairs; here the terms are nameless.
+-- A goal: its assumptions, the newest first, and its conclusion. HOL Light's goals have labelled theorems as
+-- assumptions; here they are terms alone, and nameless.
 use Rattle.std.specs.Prelude.{List}
 use Rattle.hol_terms.specs.Nameless.{Nameless}
 

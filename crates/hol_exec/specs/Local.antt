@@ -1,6 +1,6 @@
 -- The outcome of a command from what it reads, with its refusals in their order.
 -- Source: this project; `g` and `e` are after HOL Light's tactics.ml.
-use Rattle.std.specs.Prelude.{◌≡◌, ⊥, ℕ, List, [], ◌∷◌, ◌++◌, codes, Bool, true, false, cond, decimal, nat_eq, Option, Some, None}
+use Rattle.std.specs.Prelude.{◌≡◌, ℕ, List, [], ◌∷◌, ◌++◌, codes, Bool, true, false, cond, decimal, nat_eq, Option, Some, None}
 use Rattle.hol_terms.specs.Nameless.{Nameless}
 use Rattle.hol_kernel.specs.Items.{Items, no_items}
 use Rattle.hol_kernel.specs.Sequent.{no_hyps}

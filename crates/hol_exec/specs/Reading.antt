@@ -13,13 +13,13 @@ use Rattle.hol_infer.specs.Typing.{HasNoTyping}
 use Rattle.hol_infer.specs.Reading.{IsReading, HasLargeReading}
 
 -- the term with its identifiers resolved, where the prelude alone stands: no command of this language makes a type or constant
-abbrev pub resolved : TermText → RawTree
-resolved t = raw_of prelude_types prelude_constants [] t
+abbrev pub over_prelude : TermText → RawTree
+over_prelude t = raw_of prelude_types prelude_constants [] t
 
--- The reading of a term: the typing of which every other is an instance, of at most 20,000 nodes.
-pub record IsTerm (t : TermText) (p : Nameless) : Type 0 where
+-- The reading of a term, which is well typed over the prelude by a law of readings: the typing of which every other is an instance, of at most 20,000 nodes.
+pub record IsSmallReading (t : TermText) (p : Nameless) : Type 0 where
   pub arities : term_has_arities prelude_types t ≡ true
-  pub reading : IsReading (resolved t) p
+  pub reading : IsReading (over_prelude t) p
   pub small : term_size [] p ≤ 20000
 
 pub data ReadingValue : Type 0 where
@@ -29,15 +29,15 @@ pub data ReadingValue : Type 0 where
   NotBool : ReadingValue
   Statement : Nameless → ReadingValue
 
--- a reading of another type than bool
+-- A reading of another type than bool. A quotation that leaves its type open, as `x` does, is one too: HOL Light would take it at bool.
 pub record IsNotBool (t : TermText) : Type 0 where
   pub term : Nameless
-  pub reads : IsTerm t term
+  pub reads : IsSmallReading t term
   pub other : nameless_type [] term ≢ Some bool_type
 
 abbrev pub IsReadAs : TermText → ReadingValue → Type 0
 IsReadAs t WrongArity = term_has_arities prelude_types t ≡ false
-IsReadAs t NoTyping = (term_has_arities prelude_types t ≡ true) × HasNoTyping (resolved t)
-IsReadAs t LargeReading = (term_has_arities prelude_types t ≡ true) × HasLargeReading (resolved t)
+IsReadAs t NoTyping = (term_has_arities prelude_types t ≡ true) × HasNoTyping (over_prelude t)
+IsReadAs t LargeReading = (term_has_arities prelude_types t ≡ true) × HasLargeReading (over_prelude t)
 IsReadAs t NotBool = IsNotBool t
-IsReadAs t (Statement p) = IsTerm t p × (nameless_type [] p ≡ Some bool_type)
+IsReadAs t (Statement p) = IsSmallReading t p × (nameless_type [] p ≡ Some bool_type)

@@ -4,8 +4,8 @@ use Rattle.std.specs.Prelude.{ℕ, List, [], ◌∷◌, Bool, length, Option, So
 use Rattle.hol_terms.specs.Nameless.{Nameless}
 use Rattle.hol_kernel.specs.Items.{Items}
 use Rattle.hol_kernel.specs.Theorem.{Theorem}
-use Rattle.hol_notation_tactics.specs.Text.{TacText, Call}
-use Rattle.hol_notation_commands.specs.Text.{CommandText, Goal, Apply, Qed}
+use Rattle.hol_notation_tactics.specs.Text.{TacText, Call, Then, ThenL, OrElse, Repeat, Try, Changed, Every, First, Replicate, DischThen, PopAssum, FirstAssum, SubgoalThen}
+use Rattle.hol_notation_commands.specs.Text.{CommandText, Goal, Apply, Back, Rotate, Qed, Oops, Import, NewType, NewConstant, NewAxiom, NewDefinition, NewBasicTypeDefinition}
 use Rattle.hol_exec.specs.Goal.{GoalValue}
 use Rattle.hol_exec.specs.Cited.{cited_by}
 use Rattle.hol_exec.specs.StateValue.{EntryValue, ProofValue, StateValue, theorem_in}
@@ -24,15 +24,37 @@ pub record ReadsValue : Type 0 where
   pub goal : Option GoalValue
   pub closing : Option ClosingValue
 
+-- tacticals don't run yet, so their outcome depends on nothing
 abbrev pub tactic_names : TacText → List (List ℕ)
 tactic_names (Call call) = cited_by call.arguments
-tactic_names _ = []
+tactic_names (Then t u) = []
+tactic_names (ThenL t us) = []
+tactic_names (OrElse t u) = []
+tactic_names (Repeat t) = []
+tactic_names (Try t) = []
+tactic_names (Changed t) = []
+tactic_names (Every ts) = []
+tactic_names (First ts) = []
+tactic_names (Replicate n t) = []
+tactic_names (DischThen call) = []
+tactic_names (PopAssum call) = []
+tactic_names (FirstAssum call) = []
+tactic_names (SubgoalThen p call) = []
 
 -- The names of theorems that a command's outcome may depend on: the ones that it cites or makes.
 abbrev pub theorem_names : CommandText → List (List ℕ)
 theorem_names (Goal name quotation) = name ∷ []
 theorem_names (Apply tactic) = tactic_names tactic
-theorem_names _ = []
+theorem_names Back = []
+theorem_names (Rotate n) = []
+theorem_names Qed = []
+theorem_names Oops = []
+theorem_names (Import name) = []
+theorem_names (NewType name arity) = []
+theorem_names (NewConstant name quotation) = []
+theorem_names (NewAxiom name quotation) = []
+theorem_names (NewDefinition name definition) = []
+theorem_names (NewBasicTypeDefinition definition) = []
 
 abbrev pub named_theorems : List EntryValue → List (List ℕ) → List (List ℕ × Option Theorem)
 named_theorems entries [] = []

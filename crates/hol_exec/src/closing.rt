@@ -87,7 +87,6 @@ impl Closing {
     }
 
     /// The theorem of the statement, without hypotheses, on the proof's basis.
-    #[tactic(auto, using(crate::proofs::Closed::joined))]
     pub fn theorem(&self, alloc: Global) -> Result<Thm, AllocError>
         requires { self.now.open_goals ≡ 0 }
         ensures { IfOk result (λ th. th ≡ proved self.now.basis self.now.statement) }

@@ -50,7 +50,7 @@ pub fn read_statement(alloc: Global, written: &PreTerm) -> Result<Reading, Alloc
 }
 
 // Whether the term is of type `bool`.
-#[tactic(auto, using(crate::proofs::Typed::named_nameless_type))]
+#[tactic(auto, using(hol_terms::proofs::Typing::type_outside))]
 fn is_bool(alloc: Global, term: &Term) -> Result<bool, AllocError>
     ensures { IfOk result (λ b. b ≡ is_type_at (nameless_type [] (nameless [] term.now)) bool_type) }
 {

@@ -144,7 +144,7 @@ fn named_theorem(
     name: &str,
     state: &State,
 ) -> Result<(String, Option<Thm>), AllocError>
-    ensures { IfOk result (λ p. (string_bytes p.0, p.1) ≡ (name.now, theorem_in state.now.entries name.now)) }
+    ensures { IfOk result (λ p. (string_bytes p.0 ≡ name.now) × (p.1 ≡ theorem_in state.now.entries name.now)) }
 {
     let theorem = match state.thm(name) {
         Some(theorem) => Some(theorem.copy()?),

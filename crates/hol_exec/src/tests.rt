@@ -1,7 +1,9 @@
 //! Each call that takes memory is seen to have an answer, which no clause can promise.
-ghost use Rattle.std.specs.Prelude.{◌≡◌, IfOk};
-ghost use Rattle.hol_notation.specs.View.{command_text};
-ghost use Rattle.hol_exec.specs.Local.{local};
+ghost use Rattle.std.specs.Prelude.{◌≡◌, IfOk, true};
+ghost use Rattle.hol_notation_commands.specs.View.{command_text};
+ghost use Rattle.hol_exec.specs.Running.{is_running};
+ghost use Rattle.hol_exec.specs.Local.{IsLocal};
+ghost use Rattle.hol_exec.specs.At.{IsOutcomeAt};
 ghost use Rattle.hol_exec.specs.OutcomeView.{outcome_value};
 ghost use Rattle.hol_exec.specs.ReadsValue.{reads_of};
 
@@ -12,22 +14,26 @@ use crate::refusal::RefusalKind;
 use crate::report::Report;
 use crate::reporting::report_of;
 use crate::run::{direct, run_local};
+use crate::running::read_running;
 use crate::state::State;
-use hol_notation::{Command, read_command};
+use hol_notation_commands::Command;
+use hol_notation_tokens::SyntaxError;
 use std::alloc::{AllocError, Global};
 use std::test::Fail;
 
+// The outcome of a command that runs.
+#[tactic(auto, using(crate::proofs::Outcomes::local_is_at))]
 fn outcome_of(alloc: Global, command: &Command, state: &State) -> Result<Outcome, AllocError>
-    ensures { IfOk result (λ outcome. outcome_value outcome ≡ local (command_text command.now) (reads_of (command_text command.now) state.now)) }
+    requires { is_running (command_text command.now) ≡ true }
+    ensures { IfOk result (λ outcome. IsOutcomeAt state.now (outcome_value outcome)) }
 {
     let reads = Reads::of(alloc, command, state)?;
     Ok(run_local(alloc, command, &reads)?)
 }
 
-// Carries the command out, and gives its outcome.
-#[tactic(auto, using(crate::proofs::Outcomes::local_is_at))]
+// Carries the text's command out, and gives its outcome.
 fn carry_out(alloc: Global, text: &str, state: &mut State) -> Result<Outcome, Fail> {
-    let command = read_command(alloc, text)?;
+    let command = read_running(alloc, text)?;
     let outcome = outcome_of(alloc, &command, state)?;
     apply(alloc, state, &outcome)?;
     Ok(outcome)
@@ -48,35 +54,86 @@ fn is_refusal(report: &Report, kind: RefusalKind, about: &str) -> bool {
     matches!(report, Report::Refusal { no, arg } if *no == kind && arg.as_str() == about)
 }
 
+// Whether the report shows one goal without assumptions, of this text.
+fn shows(report: &Report, goal: &str) -> bool {
+    let Report::Goals(goals) = report else {
+        return false;
+    };
+    match goals.as_slice() {
+        [one] => one.assumptions.is_empty() && one.conclusion.as_str() == goal,
+        _ => false,
+    }
+}
+
+// Whether the text of one entry was made.
+fn is_made(report: &Report, entry: &str) -> bool {
+    let Report::Made(texts) = report else {
+        return false;
+    };
+    match texts.as_slice() {
+        [one] => one.as_str() == entry,
+        _ => false,
+    }
+}
+
 #[test]
-fn a_goal_is_shown_with_its_free_variables(rt: HostRuntime) -> Result<(), Fail> {
-    let report = report_on(rt.alloc(), &["g M `g = f:A->B`"])?;
+fn goals_are_shown_as_they_read(rt: HostRuntime) -> Result<(), Fail> {
+    let cases: [(&str, &str); 12] = [
+        ("g N `g = f:A->B`", "g = f"),
+        ("g F `f x = y`", "f x = y"),
+        ("g N `(p /\\ q) /\\ r`", "(p /\\ q) /\\ r"),
+        ("g N `p /\\ (q /\\ r)`", "p /\\ q /\\ r"),
+        ("g N `~(p:bool = q)`", "~(p <=> q)"),
+        ("g N `(!) (\\x. x)`", "!x. x"),
+        ("g N `!x y:A. x = y`", "!x y. x = y"),
+        ("g N `(p <=> q) <=> r`", "(p <=> q) <=> r"),
+        ("g N `p <=> (q <=> r)`", "p <=> q <=> r"),
+        ("g N `T`", "T"),
+        ("g N `?!x:A. x = x`", "?!x. x = x"),
+        ("g N `(\\x. x:A) = f`", "(\\x. x) = f"),
+    ];
+    for (text, goal) in cases {
+        let report = report_on(rt.alloc(), &[text])?;
+        assert!(rt; shows(&report, goal), "{text}");
+    }
+    Ok(())
+}
+
+#[test]
+fn open_types_are_named_as_they_occur(rt: HostRuntime) -> Result<(), Fail> {
+    let report = report_on(rt.alloc(), &["g F `f x = y`"])?;
     let Report::Goals(goals) = &report else {
         panic!(rt; "no goals");
     };
     let [goal] = goals.as_slice() else {
         panic!(rt; "not one goal");
     };
-    let [f, g] = goal.free_variables.as_slice() else {
-        panic!(rt; "not two variables");
+    let [f, x, y] = goal.free_variables.as_slice() else {
+        panic!(rt; "not three variables");
     };
-    assert_eq!(rt; f.as_str(), "f:A->B");
-    assert_eq!(rt; g.as_str(), "g:A->B");
-    assert_eq!(rt; goal.conclusion.as_str(), "g = f");
-    assert_eq!(rt; goal.assumptions.len(), 0);
+    assert_eq!(rt; f.as_str(), "f:?1->?0");
+    assert_eq!(rt; x.as_str(), "x:?1");
+    assert_eq!(rt; y.as_str(), "y:?0");
     Ok(())
 }
 
 #[test]
 fn a_finished_proof_makes_its_theorem(rt: HostRuntime) -> Result<(), Fail> {
-    let report = report_on(rt.alloc(), &["g N `x = x:bool`", "e REFL_TAC", "qed"])?;
-    let Report::Made(texts) = &report else {
-        panic!(rt; "nothing made");
-    };
-    let [text] = texts.as_slice() else {
-        panic!(rt; "not one entry");
-    };
-    assert_eq!(rt; text.as_str(), "thm N |- x <=> x");
+    let cases: [(&str, &str); 3] = [
+        ("g N `x = x:bool`", "thm N |- x <=> x"),
+        (
+            "g N `(\\x:A. x) = (\\y. y)`",
+            "thm N |- (\\x. x) = (\\y. y)",
+        ),
+        (
+            "g N `(!x:A. P x) <=> !y. P y`",
+            "thm N |- (!x. P x) <=> (!y. P y)",
+        ),
+    ];
+    for (goal, entry) in cases {
+        let report = report_on(rt.alloc(), &[goal, "e REFL_TAC", "qed"])?;
+        assert!(rt; is_made(&report, entry), "{entry}");
+    }
     Ok(())
 }
 
@@ -93,21 +150,78 @@ fn a_theorem_stands_under_its_name_alone(rt: HostRuntime) -> Result<(), Fail> {
 }
 
 #[test]
-fn commands_are_refused_in_their_order(rt: HostRuntime) -> Result<(), Fail> {
+fn goals_are_refused_in_their_order(rt: HostRuntime) -> Result<(), Fail> {
     let cases: [(&[&str], RefusalKind, &str); 10] = [
-        (&["e REFL_TAC"], RefusalKind::NoProofOpen, ""),
-        (&["qed"], RefusalKind::NoProofOpen, ""),
         (
             &["g N `x = x`", "g N `x:A = x:B`"],
             RefusalKind::InProof,
             "",
         ),
         (&["g N `x:A = x:B`"], RefusalKind::Untypable, "4"),
+        (&["g N `x x`"], RefusalKind::Untypable, "4"),
         (&["g N  `x:fun = x:A`"], RefusalKind::Arity, "5"),
+        (&["g N `x:bool bool = y y`"], RefusalKind::Arity, "4"),
+        (&["g N `x`"], RefusalKind::NotBool, "4"),
+        (&["g N `f = g:A->B`", "g N `x:A`"], RefusalKind::InProof, ""),
+        (
+            &["g N `x = x`", "e REFL_TAC", "qed", "g N `x = y`"],
+            RefusalKind::NameTaken,
+            "thm:N",
+        ),
+        (
+            &["g N `x = x`", "e REFL_TAC", "qed", "g N `x:A`"],
+            RefusalKind::NotBool,
+            "4",
+        ),
+        (
+            &["g N `x = x`", "e REFL_TAC", "qed", "g N `x x`"],
+            RefusalKind::Untypable,
+            "4",
+        ),
+    ];
+    for (texts, kind, about) in cases {
+        let report = report_on(rt.alloc(), texts)?;
+        assert!(rt; is_refusal(&report, kind, about), "{about}");
+    }
+    Ok(())
+}
+
+#[test]
+fn steps_are_refused_in_their_order(rt: HostRuntime) -> Result<(), Fail> {
+    let cases: [(&[&str], RefusalKind, &str); 11] = [
+        (&["e REFL_TAC"], RefusalKind::NoProofOpen, ""),
+        (&["e REFL_TAC NOPE"], RefusalKind::NoProofOpen, ""),
+        (&["qed"], RefusalKind::NoProofOpen, ""),
         (
             &["g N `x = y`", "e FOO_TAC"],
             RefusalKind::UnknownTac,
             "FOO_TAC",
+        ),
+        (
+            &["g N `x = y`", "e FOO_TAC NOPE"],
+            RefusalKind::UnknownTheorem,
+            "NOPE",
+        ),
+        (
+            &["g N `x = y`", "e REFL_TAC [SYM A; MP B C]"],
+            RefusalKind::UnknownTheorem,
+            "A",
+        ),
+        (
+            &["g N `x = y`", "e REFL_TAC `x x`"],
+            RefusalKind::UnknownTac,
+            "REFL_TAC",
+        ),
+        (
+            &[
+                "g N `x = x`",
+                "e REFL_TAC",
+                "qed",
+                "g M `x = x`",
+                "e REFL_TAC N",
+            ],
+            RefusalKind::UnknownTac,
+            "REFL_TAC",
         ),
         (
             &["g N `x = y`", "e REFL_TAC"],
@@ -120,15 +234,36 @@ fn commands_are_refused_in_their_order(rt: HostRuntime) -> Result<(), Fail> {
             "",
         ),
         (&["g N `x = y`", "qed"], RefusalKind::GoalsRemain, ""),
-        (
-            &["g N `x = x`", "e REFL_TAC", "qed", "g N `x = y`"],
-            RefusalKind::NameTaken,
-            "thm:N",
-        ),
     ];
     for (texts, kind, about) in cases {
         let report = report_on(rt.alloc(), texts)?;
         assert!(rt; is_refusal(&report, kind, about), "{about}");
+    }
+    Ok(())
+}
+
+#[test]
+fn what_does_not_run_is_refused_at_its_place(rt: HostRuntime) -> Result<(), Fail> {
+    let cases: [(&str, usize); 12] = [
+        ("b", 0),
+        ("  r 2", 2),
+        (" oops", 1),
+        ("import M", 0),
+        ("new_type N 2", 0),
+        ("new_axiom N `T`", 0),
+        ("e REFL_TAC THEN REFL_TAC", 0),
+        (" e (REFL_TAC)", 1),
+        ("e(REFL_TAC)", 0),
+        ("g N `p /\\ `", 10),
+        ("", 0),
+        ("new_type N 17", 11),
+    ];
+    for (text, at) in cases {
+        let place = match read_running(rt.alloc(), text) {
+            Err(SyntaxError::Syntax(place)) => Some(place),
+            _ => None,
+        };
+        assert_eq!(rt; place, Some(at), "{text}");
     }
     Ok(())
 }

@@ -62,7 +62,7 @@ fn run(class: Class, bytes: &[u8]) -> usize
 }
 
 /// The place of the first byte from here on that is no white space.
-pub(crate) fn skip(text: &[u8], place: usize) -> usize
+pub fn skip(text: &[u8], place: usize) -> usize
     requires { place ≤ length text.now }
     ensures value { result ≡ skip text.now place }
     ensures bound { result ≤ length text.now }

@@ -6,7 +6,7 @@ mod error;
 mod lexer;
 mod token;
 
-pub use bytes::is_identifier;
+pub use bytes::{is_identifier, skip};
 pub use error::SyntaxError;
 pub use lexer::{Word, lex, one_lexing, scan};
 pub use token::{Kind, MAX_OPEN, MAX_TOKENS, Token};
