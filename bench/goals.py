@@ -1,0 +1,80 @@
+#!/usr/bin/env python3
+"""How many goals a second hol-serve types and shows, and how long the hardest within the limits take.
+
+    python3 bench/goals.py --program PATH [--seconds S]
+
+PATH is the built program, crates/hol_serve/out/hol_serve. A job is one command `g N` with a quotation. The command is inserted once (which
+reads its text), and then reported on again and again: each report types the quotation, opens the proof and shows its goal, or says why
+the quotation is refused. The clock runs from the first report to the last reply; a job goes on until it has taken S seconds (1 by default),
+and has one report at least. A reply that isn't of the expected kind ends the run with status 1.
+
+The jobs:
+
+  small        a goal of a few names and binders
+  doubling     a conjunction of equations whose types double from each to the next: 8 of them (18,208 nodes, accepted), 9 (36,622 nodes, too
+               large), and 400 applications that double so
+  nesting      an application to 4,000 arguments, and 4,000 times `~`
+  names        1,000 free names in 500 equations
+  binders      2,000 variables of one quantifier
+
+Needs Python 3.8 and Linux, and nothing else.
+"""
+
+import argparse
+import os
+
+from bench import Session, expect, is_done, new_theory, request
+
+
+def doubling(count):
+    return " /\\\\ ".join("x%d = (\\\\g. g x%d x%d)" % (k + 1, k, k) for k in range(count)).replace("\\\\", "\\")
+
+
+def doubling_applications(count):
+    return " /\\ ".join("x%d x%d x%d" % (k + 1, k, k) for k in range(count))
+
+
+def names(count):
+    return " /\\ ".join("x%d = y%d" % (k, k) for k in range(count // 2))
+
+
+JOBS = [
+    ("a small goal", "!x y:A. f x y = g y x ==> (?z. f x z = y)", b'"goals"'),
+    ("8 equations that double, 18,208 nodes", doubling(8), b'"goals"'),
+    ("9 equations that double: too large", doubling(9), b'"refusal":13'),
+    ("400 applications that double: too large", doubling_applications(400), b'"refusal":13'),
+    ("4,000 arguments", "f" + " x" * 4000 + " = T", b'"goals"'),
+    ("4,000 times ~", "~" * 4000 + " p", b'"goals"'),
+    ("1,000 free names", names(1000), b'"goals"'),
+    ("2,000 variables of a quantifier", "!" + " ".join("x%d" % k for k in range(2000)) + ". T", b'"goals"'),
+]
+
+
+def measure(program, label, quotation, expected, seconds):
+    """The seconds that a report takes, over as many as fit."""
+    session = Session(program)
+    replies, _ = session.send([new_theory(), request(op="insert", theory="A", at=0, text="g N `%s`" % quotation)])
+    expect(replies, is_done, "what sets up " + label)
+    count, done, taken = 1, 0, 0.0
+    while taken < seconds:
+        replies, took = session.send([request(op="report", theory="A", at=0)] * count)
+        expect(replies, lambda reply: expected in reply, label)
+        done, taken, count = done + count, taken + took, count * 2
+    session.close()
+    return taken / done
+
+
+def main():
+    parser = argparse.ArgumentParser(description="How many goals a second a built hol-serve types and shows.")
+    parser.add_argument("--program", required=True, help="the built program")
+    parser.add_argument("--seconds", type=float, default=1.0, help="how long each job goes on (1)")
+    words = parser.parse_args()
+    program = os.path.abspath(words.program)
+    print("%-42s %13s %14s" % ("job", "a report", "a second"))
+    for label, quotation, expected in JOBS:
+        took = measure(program, label, quotation, expected, words.seconds)
+        print("%-42s %11.6f s %14.1f" % (label, took, 1 / took))
+
+
+if __name__ == "__main__":
+    main()
