@@ -1,6 +1,6 @@
 -- What the outcomes that a state may get say of it: an opened proof's statement is well typed, of type bool, and a step closes the
 -- goal only where reflexivity proves the statement.
-use Rattle.std.proofs.Common.{◌≡◌, ℕ, List, [], ◌∷◌, refl, ap, sym, ◌∙◌, Bool, true, false, cond, inl, inr, length, nat_eq}
+use Rattle.std.proofs.Common.{◌≡◌, ℕ, List, [], ◌∷◌, refl, ap, sym, ◌∙◌, Bool, true, false, cond, inl, inr, nat_eq}
 use Rattle.std.specs.Prelude.{◌⊎◌, Option, Some, None, IfSome}
 use Rattle.hol_terms.specs.Nameless.{Nameless}
 use Rattle.hol_terms.specs.Alpha.{alpha_eq}
@@ -18,7 +18,7 @@ use Rattle.hol_exec.specs.StateValue.{ProofValue, StateValue}
 use Rattle.hol_exec.specs.ReadsValue.{ReadsValue, ClosingValue, reads_of, first_of, closing_of}
 use Rattle.hol_exec.specs.OutcomeValue.{OutcomeValue, Opens, Leaves, Proves, Refuses}
 use Rattle.hol_exec.specs.Local.{is_taken, first_unknown, opens, opens_read, IsOpening, runs, runs_on, runs_called, runs_citing, runs_call, finishes, IsApplied, IsLocal}
-use Rattle.hol_exec.specs.At.{IsOutcome, IsOutcomeAt}
+use Rattle.hol_exec.specs.At.{IsOutcomeAt}
 use Rattle.hol_exec.specs.Sound.{IsStatement, IsReflexive, IsSoundProof}
 use Rattle.hol_exec.proofs.Stands.{statement_typed}
 

@@ -1,12 +1,12 @@
 -- A text that is a command without a body is refused at its first word.
-use Rattle.std.specs.Prelude.{◌≡◌, ◌⊎◌, ◌≤◌, ◌+◌, ℕ, List, length, drop, Bool, not, true, false, refl}
+use Rattle.std.specs.Prelude.{◌≡◌, ◌≤◌, ◌+◌, ℕ, List, length, not, true, false, refl}
 use Rattle.std.proofs.Common.{ap, arith, inl, inr}
 use Rattle.std.proofs.lemmas.List.{drop_all}
 use Rattle.hol_notation_tokens.specs.Token.{skip}
 use Rattle.std.proofs.lemmas.Bool.{and_parts}
 use Rattle.hol_notation_commands.specs.Text.{CommandText, Goal, Apply, Back, Rotate, Qed, Oops, Import, NewType, NewConstant, NewAxiom, NewDefinition, NewBasicTypeDefinition}
-use Rattle.hol_notation_commands.specs.Reading.{Reads, Breaks, IsCommandText, IsBreak}
-use Rattle.hol_exec.specs.Running.{is_running, runs, is_call, is_bracketed, begins_with_bracket, first_word, IsIdle, IsReadToRun}
+use Rattle.hol_notation_commands.specs.Reading.{Breaks, IsCommandText, IsBreak}
+use Rattle.hol_exec.specs.Running.{is_running, runs, is_call, is_bracketed, begins_with_bracket, first_word, IsReadToRun}
 
 pub idle_text : (text : List ℕ) (command : CommandText) (place : ℕ) → IsCommandText text command → runs text command ≡ false → place ≡ first_word text → IsReadToRun text (Breaks place)
 idle_text text command place read idle first = inr (record { command = command; read = read; idle = idle; first = first })

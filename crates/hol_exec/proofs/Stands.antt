@@ -1,17 +1,16 @@
 -- What a quotation reads as is well typed over the prelude.
-use Rattle.std.specs.Prelude.{◌≡◌, ℕ, Bool, true, false, cond, ◌&&◌, ◌||◌, ◌==◌, List, [], ◌∷◌, bytes_eq, codes, Option, Some, None, refl, zero, suc}
+use Rattle.std.specs.Prelude.{◌≡◌, ℕ, Bool, true, false, cond, ◌&&◌, ◌||◌, ◌==◌, List, [], ◌∷◌, bytes_eq, codes, Option, Some, refl, suc}
 use Rattle.std.specs.List.{list_any, list_all}
 use Rattle.std.proofs.Common.{ap, sym, ◌∙◌}
 use Rattle.std.proofs.lemmas.Bool.{and_parts, eq-eqb}
 use Rattle.std.proofs.lemmas.Slice.Eq.{bytes_eq-Decides}
 use Rattle.hol_types.specs.Tree.{TypeTree, TypeList, TyVar, TyApp, no_types, more_types}
-use Rattle.hol_types.specs.Fun.{fun_type}
 use Rattle.hol_types.specs.Subst.{type_subst}
-use Rattle.hol_terms.specs.Nameless.{Nameless, free, bound, fixed, app, lam, base_of, nameless_type}
+use Rattle.hol_terms.specs.Nameless.{Nameless, free, bound, fixed, app, lam, base_of}
 use Rattle.hol_kernel.specs.Items.{no_items, in_order}
 use Rattle.hol_kernel.specs.Sequent.{bool_type, equality_type}
-use Rattle.hol_kernel.specs.Signature.{prelude_types, prelude_constants, is_constructor, makes_type, makes_constant, has_arity, generic_in, prelude_generic, is_instance, is_instance_of, has_constant}
-use Rattle.hol_kernel.specs.Typing.{types_count, is_type, are_types, is_base, is_known, HasType}
+use Rattle.hol_kernel.specs.Signature.{prelude_types, prelude_constants, is_constructor, makes_type, makes_constant, has_arity, generic_in, is_instance_of, has_constant}
+use Rattle.hol_kernel.specs.Typing.{types_count, is_type, are_types, is_known, HasType}
 use Rattle.hol_kernel.proofs.Instance.{instance_of_subst}
 use Rattle.hol_kernel.proofs.Variables.{typed_known}
 use Rattle.hol_notation_terms.specs.Text.{TermText}

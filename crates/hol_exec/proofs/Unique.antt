@@ -1,18 +1,15 @@
 -- A text reads as one thing, and has one outcome at a state.
-use Rattle.std.specs.Prelude.{◌≡◌, ◌≢◌, ◌⊎◌, ℕ, List, [], Bool, true, false, Option, Some, None, refl}
+use Rattle.std.specs.Prelude.{◌≡◌, ℕ, List, [], Bool, true, false, refl}
 use Rattle.std.proofs.Common.{ap, sym, ◌∙◌, inl, inr}
 use Rattle.hol_terms.specs.Nameless.{Nameless, nameless_type}
-use Rattle.hol_kernel.specs.Sequent.{bool_type}
-use Rattle.hol_kernel.specs.Signature.{prelude_types}
 use Rattle.hol_notation_terms.specs.Text.{TermText, QuotationText}
 use Rattle.hol_notation_tactics.specs.Text.{TacText, Call, Then, ThenL, OrElse, Repeat, Try, Changed, Every, First, Replicate, DischThen, PopAssum, FirstAssum, SubgoalThen}
 use Rattle.hol_notation_commands.specs.Text.{CommandText, Goal, Apply, Back, Rotate, Qed, Oops, Import, NewType, NewConstant, NewAxiom, NewDefinition, NewBasicTypeDefinition}
 use Rattle.hol_notation_commands.specs.Reading.{ReadText, Reads, Breaks, IsCommandText}
 use Rattle.hol_notation_commands.proofs.OneReading.{one-reading as one_command}
-use Rattle.hol_infer.specs.Resolving.{term_has_arities}
 use Rattle.hol_infer.proofs.Unique.{one_reading as one_term, reading_typable, reading_not_large, large_typable}
-use Rattle.hol_exec.specs.Running.{runs, IsIdle, IsReadToRun}
-use Rattle.hol_exec.specs.Reading.{over_prelude, IsSmallReading, IsNotBool, ReadingValue, WrongArity, NoTyping, LargeReading, NotBool, Statement, IsReadAs}
+use Rattle.hol_exec.specs.Running.{runs, IsReadToRun}
+use Rattle.hol_exec.specs.Reading.{over_prelude, IsSmallReading, ReadingValue, WrongArity, NoTyping, LargeReading, NotBool, Statement, IsReadAs}
 use Rattle.hol_exec.specs.StateValue.{StateValue}
 use Rattle.hol_exec.specs.ReadsValue.{ReadsValue, reads_of}
 use Rattle.hol_exec.specs.OutcomeValue.{OutcomeValue}

@@ -1,6 +1,5 @@
 -- The outcomes that a state may get.
-use Rattle.std.specs.Prelude.{◌≡◌, ◌⊎◌, ℕ}
-use Rattle.hol_notation_commands.specs.Text.{CommandText}
+use Rattle.std.specs.Prelude.{◌≡◌}
 use Rattle.hol_notation_commands.specs.Reading.{ReadText, Reads, Breaks}
 use Rattle.hol_exec.specs.StateValue.{StateValue}
 use Rattle.hol_exec.specs.ReadsValue.{reads_of}

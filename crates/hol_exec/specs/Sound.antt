@@ -1,6 +1,6 @@
 -- What is true of every open proof of this language: its statement is a well typed term of type bool over the proof's basis, and
 -- where no goal is open it is an equation of terms that differ in bound names at most: reflexivity proves it.
-use Rattle.std.specs.Prelude.{◌≡◌, ◌⊎◌, ℕ, List, [], ◌∷◌, true, Some}
+use Rattle.std.specs.Prelude.{◌≡◌, ◌⊎◌, [], ◌∷◌, true, Some}
 use Rattle.hol_terms.specs.Nameless.{Nameless}
 use Rattle.hol_terms.specs.Alpha.{alpha_eq}
 use Rattle.hol_kernel.specs.Items.{Items}

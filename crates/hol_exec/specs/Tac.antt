@@ -2,7 +2,7 @@
 use Rattle.std.specs.Prelude.{ℕ, List, [], ◌∷◌, codes, cond, bytes_eq, Option, Some, None}
 use Rattle.hol_terms.specs.Nameless.{Nameless, fixed, app}
 use Rattle.hol_terms.specs.Alpha.{alpha_eq}
-use Rattle.hol_notation_tactics.specs.Text.{ArgumentText, CallText}
+use Rattle.hol_notation_tactics.specs.Text.{ArgumentText}
 use Rattle.hol_exec.specs.Goal.{GoalValue}
 use Rattle.hol_exec.specs.declared.tac.TacCode.{TacCode}
 use Rattle.hol_exec.specs.declared.tac.TacCode.TheVariants.{ReflTac}

@@ -8,4 +8,4 @@ abbrev pub invariant-loop-name : goal.invariant-loop-name
 invariant-loop-name l =
     named_theorems l.state.entries (map (λ (name : String Global). string_bytes name) l.names)
     ≡ map (λ (p : String Global × Option Theorem). (string_bytes p.0, p.1)) l.pairs.items
-      ++ named_theorems l.state.entries (map (λ (name : String Global). string_bytes name) (drop l.name-index l.names))
+    ++ named_theorems l.state.entries (map (λ (name : String Global). string_bytes name) (drop l.name-index l.names))

@@ -16,7 +16,7 @@ reflexive-requires-2 c =
 
 pub trans-requires : goal.trans-requires
 trans-requires c = record {
-  one_basis = one_basis _ _ _ _ _ _ _ _ (c.promise.ensures c.requires) (ap sides (sym c.statement.ensures) ∙ c.in-Some.ensures) c.basis.ensures c.basis-2.ensures c.in_ok-first.ensures c.in_ok-second.ensures
+  one_basis = one_basis _ _ _ _ _ _ _ _ (c.promise.ensures c.requires) (ap sides (sym c.statement.ensures) ∙ c.in-Some.ensures) c.basis.ensures c.basis-2.ensures c.in_ok-first.ensures c.in_ok-second.ensures;
 }
 
 pub returns-in-Ok : goal.returns-in-Ok
