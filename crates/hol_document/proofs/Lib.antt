@@ -2,3 +2,4 @@ pub mod Running
 pub mod Sorting
 pub mod Proved
 pub mod Unique
+pub mod Bases

@@ -1,30 +1,37 @@
 -- The states that running leads to hold proved theorems alone.
-use Rattle.std.proofs.Common.{◌≡◌, ℕ, List, [], ◌∷◌, ◌++◌, length, drop, map, refl, ap, sym, ◌∙◌, arith, inl, inr, true, false, Bool, nat_eq, append_assoc, append-nil}
+use Rattle.std.proofs.Common.{◌≡◌, ℕ, List, [], ◌∷◌, ◌++◌, length, take, drop, map, refl, ap, sym, ◌∙◌, arith, inl, inr, true, false, Bool, cond, nat_eq, append_assoc, append-nil}
 use Rattle.std.proofs.lemmas.Bool.Decides.{nat_tests}
 use Rattle.std.specs.Prelude.{◌⊎◌, Option, Some, None, IfSome, Ok}
 use Rattle.std.proofs.lemmas.List.Elements.{Contains-append_left, Contains-append_right}
-use Rattle.hol_terms.specs.Nameless.{Nameless, free}
+use Rattle.hol_terms.specs.Nameless.{Nameless}
 use Rattle.hol_kernel.specs.Items.{Items, no_items}
-use Rattle.hol_kernel.specs.Sequent.{no_hyps}
+use Rattle.hol_kernel.specs.Sequent.{equation}
 use Rattle.hol_kernel.specs.Legal.{IsLegalSet}
-use Rattle.hol_kernel.specs.Typing.{HasType}
-use Rattle.hol_kernel.specs.Derivation.{Derives, by_refl}
+use Rattle.hol_kernel.specs.Derivation.{by_refl}
 use Rattle.hol_kernel.specs.Theorem.{IsTheorem}
-use Rattle.hol_notation.specs.Command.{CommandText, OpenGoal, RunTac, Finish, QuotationText}
-use Rattle.hol_notation.specs.Reading.{ReadText, Reads, Breaks}
+use Rattle.hol_kernel.proofs.Sound.{trans_sound}
+use Rattle.hol_notation_terms.specs.Text.{QuotationText}
+use Rattle.hol_notation_tactics.specs.Text.{CallText, TacText, Call, Then, ThenL, OrElse, Repeat, Try, Changed, Every, First, Replicate, DischThen, PopAssum, FirstAssum, SubgoalThen}
+use Rattle.hol_notation_commands.specs.Text.{CommandText, Goal, Apply, Back, Rotate, Qed, Oops, Import, NewType, NewConstant, NewAxiom, NewDefinition, NewBasicTypeDefinition}
+use Rattle.hol_notation_commands.specs.Reading.{ReadText, Reads, Breaks}
+use Rattle.hol_exec.specs.declared.refusal.RefusalKind.{RefusalKind}
+use Rattle.hol_exec.specs.declared.tac.TacCode.{TacCode}
+use Rattle.hol_exec.specs.Running.{IsReadToRun}
 use Rattle.hol_exec.specs.Goal.{GoalValue}
-use Rattle.hol_exec.specs.Reading.{ReadingValue, WrongArity, NoTyping, Statement, reading_of}
-use Rattle.hol_exec.specs.Tac.{tac_named, goals_left}
+use Rattle.hol_exec.specs.Reading.{ReadingValue, WrongArity, NoTyping, LargeReading, NotBool, Statement, IsReadAs}
+use Rattle.hol_exec.specs.Tac.{tac_called, goals_left}
 use Rattle.hol_exec.specs.StateValue.{EntryValue, ProofValue, StateValue, start}
 use Rattle.hol_exec.specs.ReadsValue.{ReadsValue, ClosingValue, reads_of, closing_of}
 use Rattle.hol_exec.specs.OutcomeValue.{OutcomeValue, Opens, Leaves, Proves, Refuses, opened, stepped, stepped_in, after}
-use Rattle.hol_exec.specs.Local.{proved, is_taken, opens_read, runs, runs_on, runs_named, finishes, local}
+use Rattle.hol_exec.specs.Local.{proved, is_taken, first_unknown, opens_read, IsOpening, runs, runs_on, runs_called, runs_citing, runs_call, finishes, IsApplied, IsLocal}
+use Rattle.hol_exec.specs.At.{IsOutcome}
 use Rattle.hol_exec.specs.Sound.{IsReflexive, IsSoundProof}
 use Rattle.hol_exec.specs.ReportValue.{HasMade}
 use Rattle.hol_exec.specs.ReportOf.{entry_text, report_of}
-use Rattle.hol_exec.proofs.Outcomes.{opens_sound, leaves_sound, Closes}
-use Rattle.hol_document.specs.Afresh.{next, last_state, report_at}
+use Rattle.hol_exec.proofs.Closed.{joins}
+use Rattle.hol_exec.proofs.Outcomes.{opens_at, leaves_at, Closes}
 use Rattle.hol_document.specs.Documents.{TheoryText, find_theory}
+use Rattle.hol_document.specs.Afresh.{IsOutcomeOf, Leads}
 use Rattle.hol_document.specs.Asked.{IsReport, ReportedIn, Reported}
 use Rattle.hol_document.specs.Shown.{IsGoalOf, IsProved, AllProved, ShowsProved, ShowsProvedIn}
 
@@ -33,106 +40,203 @@ use Rattle.hol_document.specs.Shown.{IsGoalOf, IsProved, AllProved, ShowsProved,
 no_items_legal : IsLegalSet no_items
 no_items_legal = ([], tt, refl)
 
-reflexive_derives : (basis : Items) (t : Nameless) → IsReflexive basis t → Derives basis no_hyps t
-reflexive_derives basis t h =
-    let typed : HasType basis (free (h.name, h.ty)) h.ty = rw h.stands refl in
-    rw h.is (by_refl (free (h.name, h.ty)) h.ty typed)
-
 reflexive_theorem : (basis : Items) (t : Nameless) → basis ≡ no_items → IsReflexive basis t → IsTheorem (proved basis t)
-reflexive_theorem basis t e h = record { legal = rw e no_items_legal; derives = reflexive_derives basis t h }
+reflexive_theorem basis t e h =
+    let j = joins basis t h.left h.right h h.equates in
+    record {
+      legal = rw e no_items_legal;
+      derives = trans_sound (proved basis (equation j.ty h.left h.left)) (proved basis (equation j.ty h.right h.right)) (proved basis t) refl (by_refl h.left j.ty j.left) (by_refl h.right j.ty j.right) j.gives;
+    }
 
 -- ---- more commands
 
-goal_more : (rs : List ReadText) (r : ReadText) (name : List ℕ) (t : Nameless) → IsGoalOf rs name t → IsGoalOf (rs ++ r ∷ []) name t
-goal_more rs r name t h = record { quotation = h.quotation; given = Contains-append_left rs (r ∷ []) _ h.given; reads = h.reads }
+goal_more : (texts : List (List ℕ)) (text : List ℕ) (name : List ℕ) (t : Nameless) → IsGoalOf texts name t → IsGoalOf (texts ++ text ∷ []) name t
+goal_more texts text name t h = record { text = h.text; given = Contains-append_left texts (text ∷ []) _ h.given; quotation = h.quotation; says = h.says; reads = h.reads }
 
-all_more : (rs : List ReadText) (r : ReadText) (es : List EntryValue) → AllProved rs es → AllProved (rs ++ r ∷ []) es
-all_more rs r [] h = tt
-all_more rs r (e ∷ es) h =
-    (record { derived = h.0.derived; without_hypotheses = h.0.without_hypotheses; goal = goal_more rs r e.name e.theorem.concl h.0.goal }, all_more rs r es h.1)
+all_more : (texts : List (List ℕ)) (text : List ℕ) (es : List EntryValue) → AllProved texts es → AllProved (texts ++ text ∷ []) es
+all_more texts text [] h = tt
+all_more texts text (e ∷ es) h =
+    (record { derived = h.0.derived; without_hypotheses = h.0.without_hypotheses; goal = goal_more texts text e.name e.theorem.concl h.0.goal }, all_more texts text es h.1)
 
-all_append : (rs : List ReadText) (es fs : List EntryValue) → AllProved rs es → AllProved rs fs → AllProved rs (es ++ fs)
-all_append rs [] fs h k = k
-all_append rs (e ∷ es) fs h k = (h.0, all_append rs es fs h.1 k)
+all_append : (texts : List (List ℕ)) (es fs : List EntryValue) → AllProved texts es → AllProved texts fs → AllProved texts (es ++ fs)
+all_append texts [] fs h k = k
+all_append texts (e ∷ es) fs h k = (h.0, all_append texts es fs h.1 k)
 
 -- what is true of an open proof after the commands, and of a state
-record IsProofAfter (rs : List ReadText) (p : ProofValue) : Type 0 where
+record IsProofAfter (texts : List (List ℕ)) (p : ProofValue) : Type 0 where
   sound : IsSoundProof p
   basis : p.newest.basis ≡ no_items
-  goal : IsGoalOf rs p.name p.statement
+  goal : IsGoalOf texts p.name p.statement
 
-record IsStateAfter (rs : List ReadText) (s : StateValue) : Type 0 where
-  entries : AllProved rs s.entries
-  proof : IfSome s.proof (IsProofAfter rs)
+record IsStateAfter (texts : List (List ℕ)) (s : StateValue) : Type 0 where
+  entries : AllProved texts s.entries
+  proof : IfSome s.proof (IsProofAfter texts)
 
-proof_more : (rs : List ReadText) (r : ReadText) (p : ProofValue) → IsProofAfter rs p → IsProofAfter (rs ++ r ∷ []) p
-proof_more rs r p h = record { sound = h.sound; basis = h.basis; goal = goal_more rs r p.name p.statement h.goal }
+proof_more : (texts : List (List ℕ)) (text : List ℕ) (p : ProofValue) → IsProofAfter texts p → IsProofAfter (texts ++ text ∷ []) p
+proof_more texts text p h = record { sound = h.sound; basis = h.basis; goal = goal_more texts text p.name p.statement h.goal }
 
-some_more : (rs : List ReadText) (r : ReadText) (o : Option ProofValue) → IfSome o (IsProofAfter rs) → IfSome o (IsProofAfter (rs ++ r ∷ []))
-some_more rs r None h = tt
-some_more rs r (Some p) h = proof_more rs r p h
+some_more : (texts : List (List ℕ)) (text : List ℕ) (o : Option ProofValue) → IfSome o (IsProofAfter texts) → IfSome o (IsProofAfter (texts ++ text ∷ []))
+some_more texts text None h = tt
+some_more texts text (Some p) h = proof_more texts text p h
 
-state_more : (rs : List ReadText) (r : ReadText) (s : StateValue) → IsStateAfter rs s → IsStateAfter (rs ++ r ∷ []) s
-state_more rs r s h = record { entries = all_more rs r s.entries h.entries; proof = some_more rs r s.proof h.proof }
+state_more : (texts : List (List ℕ)) (text : List ℕ) (s : StateValue) → IsStateAfter texts s → IsStateAfter (texts ++ text ∷ []) s
+state_more texts text s h = record { entries = all_more texts text s.entries h.entries; proof = some_more texts text s.proof h.proof }
+
+sound_of : (texts : List (List ℕ)) (o : Option ProofValue) → IfSome o (IsProofAfter texts) → IfSome o IsSoundProof
+sound_of texts None h = tt
+sound_of texts (Some p) h = h.sound
+
+-- ---- what each command's outcome may be
+
+-- a call leaves goals, or is refused
+abbrev IsStep : OutcomeValue → Type 0
+IsStep (Opens n p b) = ⊥
+IsStep (Leaves goals) = Unit {0}
+IsStep (Proves es) = ⊥
+IsStep (Refuses kind arg) = Unit {0}
+
+step_or_refused : (w : Bool) (o : OutcomeValue) (kind : RefusalKind) (arg : List ℕ) → IsStep o → IsStep (cond w o (Refuses kind arg))
+step_or_refused true o kind arg h = h
+step_or_refused false o kind arg h = tt
+
+call_steps : (call : CallText) (reads : ReadsValue) → IsStep (runs_call call reads)
+call_steps call reads = step_or_refused reads.in_proof _ _ _ (citing (first_unknown reads.theorems))
+  where
+    ran : (o : Option (List GoalValue)) → IsStep (runs call.name o)
+    ran None = tt
+    ran (Some goals) = tt
+
+    on : (code : TacCode) (o : Option GoalValue) → IsStep (runs_on call.name code o)
+    on code None = tt
+    on code (Some goal) = ran (goals_left code goal)
+
+    called : (o : Option TacCode) → IsStep (runs_called call.name o reads.goal)
+    called None = tt
+    called (Some code) = on code reads.goal
+
+    citing : (o : Option (List ℕ)) → IsStep (runs_citing o call reads.goal)
+    citing (Some unknown) = tt
+    citing None = called (tac_called call.name call.arguments)
+
+applied_steps : (tactic : TacText) (reads : ReadsValue) (o : OutcomeValue) → IsApplied tactic reads o → IsStep o
+applied_steps (Call call) reads o h = rw h (call_steps call reads)
+applied_steps (Then t u) reads o h = absurd h
+applied_steps (ThenL t us) reads o h = absurd h
+applied_steps (OrElse t u) reads o h = absurd h
+applied_steps (Repeat t) reads o h = absurd h
+applied_steps (Try t) reads o h = absurd h
+applied_steps (Changed t) reads o h = absurd h
+applied_steps (Every ts) reads o h = absurd h
+applied_steps (First ts) reads o h = absurd h
+applied_steps (Replicate n t) reads o h = absurd h
+applied_steps (DischThen c) reads o h = absurd h
+applied_steps (PopAssum c) reads o h = absurd h
+applied_steps (FirstAssum c) reads o h = absurd h
+applied_steps (SubgoalThen p c) reads o h = absurd h
+
+-- `qed` makes entries, or is refused
+abbrev IsEnd : OutcomeValue → Type 0
+IsEnd (Opens n p b) = ⊥
+IsEnd (Leaves goals) = ⊥
+IsEnd (Proves es) = Unit {0}
+IsEnd (Refuses kind arg) = Unit {0}
+
+made_or_refused : (w : Bool) (es : List EntryValue) (kind : RefusalKind) (arg : List ℕ) → IsEnd (cond w (Proves es) (Refuses kind arg))
+made_or_refused true es kind arg = tt
+made_or_refused false es kind arg = tt
+
+finish_ends : (o : Option ClosingValue) → IsEnd (finishes o)
+finish_ends None = tt
+finish_ends (Some c) = made_or_refused (nat_eq c.open_goals 0) _ _ _
+
+finished_ends : (o : OutcomeValue) (c : Option ClosingValue) → o ≡ finishes c → IsEnd o
+finished_ends o c h = rw h (finish_ends c)
 
 -- ---- an opened proof is that of a `g` that reads as its statement
 
-record IsOpening (command : CommandText) (n : List ℕ) (p : Nameless) (b : Items) : Type 0 where
+record IsOpened (command : CommandText) (n : List ℕ) (p : Nameless) (b : Items) : Type 0 where
   quotation : QuotationText
-  is : command ≡ OpenGoal n quotation
-  reads : reading_of quotation.term ≡ Statement p
+  is : command ≡ Goal n quotation
+  reads : IsReadAs quotation.term (Statement p)
   basis : b ≡ no_items
 
-opening_by : (name : List ℕ) (q : QuotationText) (taken : Bool) (r : ReadingValue) (n : List ℕ) (p : Nameless) (b : Items) → reading_of q.term ≡ r → Opens n p b ≡ opens_read name q.place taken r → IsOpening (OpenGoal name q) n p b
-opening_by name q taken WrongArity n p b z e = absurd (cc)
-opening_by name q taken NoTyping n p b z e = absurd (cc)
-opening_by name q true (Statement t) n p b z e = absurd (cc)
-opening_by name q false (Statement t) n p b z e =
+opened_by : (name : List ℕ) (q : QuotationText) (taken : Bool) (r : ReadingValue) (n : List ℕ) (p : Nameless) (b : Items) → IsReadAs q.term r → Opens n p b ≡ opens_read name q.place taken r → IsOpened (Goal name q) n p b
+opened_by name q taken WrongArity n p b h e = absurd (cc)
+opened_by name q taken NoTyping n p b h e = absurd (cc)
+opened_by name q taken LargeReading n p b h e = absurd (cc)
+opened_by name q taken NotBool n p b h e = absurd (cc)
+opened_by name q true (Statement t) n p b h e = absurd (cc)
+opened_by name q false (Statement t) n p b h e =
     let names : name ≡ n = cc in
     let statements : t ≡ p = cc in
     let bases : b ≡ no_items = cc in
-    record { quotation = q; is = ap (λ m. OpenGoal m q) names; reads = z ∙ ap Statement statements; basis = bases }
+    record { quotation = q; is = ap (λ m. Goal m q) names; reads = rw (← statements) h; basis = bases }
 
-opening : (command : CommandText) (reads : ReadsValue) (n : List ℕ) (p : Nameless) (b : Items) → Opens n p b ≡ local command reads → IsOpening command n p b
-opening (OpenGoal name q) reads n p b e = by reads.in_proof refl
+opened_from : (in_proof : Bool) (name : List ℕ) (q : QuotationText) (taken : Bool) (n : List ℕ) (p : Nameless) (b : Items) → IsOpening in_proof name q taken (Opens n p b) → IsOpened (Goal name q) n p b
+opened_from true name q taken n p b h = absurd (cc)
+opened_from false name q taken n p b h = opened_by name q taken h.0 n p b h.1 h.2
+
+opening : (command : CommandText) (reads : ReadsValue) (n : List ℕ) (p : Nameless) (b : Items) → IsLocal command reads (Opens n p b) → IsOpened command n p b
+opening (Goal name q) reads n p b h = opened_from reads.in_proof name q (is_taken reads.theorems) n p b h
+opening (Apply tactic) reads n p b h = absurd (applied_steps tactic reads (Opens n p b) h)
+opening Qed reads n p b h = absurd (finished_ends (Opens n p b) reads.closing h)
+opening Back reads n p b h = absurd h
+opening (Rotate k) reads n p b h = absurd h
+opening Oops reads n p b h = absurd h
+opening (Import name) reads n p b h = absurd h
+opening (NewType name k) reads n p b h = absurd h
+opening (NewConstant name q) reads n p b h = absurd h
+opening (NewAxiom name q) reads n p b h = absurd h
+opening (NewDefinition name d) reads n p b h = absurd h
+opening (NewBasicTypeDefinition d) reads n p b h = absurd h
+
+-- ---- only `qed` makes entries
+
+proving_from : (in_proof : Bool) (name : List ℕ) (q : QuotationText) (taken : Bool) (es : List EntryValue) → IsOpening in_proof name q taken (Proves es) → ⊥
+proving_from true name q taken es h = cc
+proving_from false name q taken es h = read h.0 taken h.2
   where
-    by : (w : Bool) → reads.in_proof ≡ w → IsOpening (OpenGoal name q) n p b
-    by true z = let g : Opens n p b ≡ Refuses _ _ = rw z at e in absurd (cc)
-    by false z = opening_by name q (is_taken reads.theorems) (reading_of q.term) n p b refl (rw z at e)
-opening (RunTac name) reads n p b e = by reads.in_proof refl
-  where
-    ran : (o : Option (List GoalValue)) → Opens n p b ≡ runs name o → IsOpening (RunTac name) n p b
-    ran None f = absurd (cc)
-    ran (Some goals) f = absurd (cc)
+    read : (r : ReadingValue) (w : Bool) → Proves es ≡ opens_read name q.place w r → ⊥
+    read WrongArity w f = cc
+    read NoTyping w f = cc
+    read LargeReading w f = cc
+    read NotBool w f = cc
+    read (Statement t) true f = cc
+    read (Statement t) false f = cc
 
-    on : (o : Option GoalValue) → (code : _) → Opens n p b ≡ runs_on name code o → IsOpening (RunTac name) n p b
-    on None code f = absurd (cc)
-    on (Some goal) code f = ran (goals_left code goal) f
+proving : (command : CommandText) (s : StateValue) (es : List EntryValue) → IsLocal command (reads_of command s) (Proves es) → Proves es ≡ finishes (closing_of s.proof)
+proving (Goal name q) s es h = absurd (proving_from (reads_of (Goal name q) s).in_proof name q (is_taken (reads_of (Goal name q) s).theorems) es h)
+proving (Apply tactic) s es h = absurd (applied_steps tactic (reads_of (Apply tactic) s) (Proves es) h)
+proving Qed s es h = h
+proving Back s es h = absurd h
+proving (Rotate k) s es h = absurd h
+proving Oops s es h = absurd h
+proving (Import name) s es h = absurd h
+proving (NewType name k) s es h = absurd h
+proving (NewConstant name q) s es h = absurd h
+proving (NewAxiom name q) s es h = absurd h
+proving (NewDefinition name d) s es h = absurd h
+proving (NewBasicTypeDefinition d) s es h = absurd h
 
-    named : (o : _) → Opens n p b ≡ runs_named name o reads.goal → IsOpening (RunTac name) n p b
-    named None f = absurd (cc)
-    named (Some code) f = on reads.goal code f
+proving_at : (s : StateValue) (read : ReadText) (es : List EntryValue) → IsOutcome s read (Proves es) → Proves es ≡ finishes (closing_of s.proof)
+proving_at s (Reads command) es h = proving command s es h
+proving_at s (Breaks place) es h = absurd (cc)
 
-    by : (w : Bool) → reads.in_proof ≡ w → IsOpening (RunTac name) n p b
-    by true z = named (tac_named name) (rw z at e)
-    by false z = let g : Opens n p b ≡ Refuses _ _ = rw z at e in absurd (cc)
-opening Finish reads n p b e = closed reads.closing e
-  where
-    by : (c : ClosingValue) (w : Bool) → nat_eq c.open_goals 0 ≡ w → Opens n p b ≡ finishes (Some c) → IsOpening Finish n p b
-    by c true z f = let g : Opens n p b ≡ Proves _ = rw z at f in absurd (cc)
-    by c false z f = let g : Opens n p b ≡ Refuses _ _ = rw z at f in absurd (cc)
+-- ---- the goal of an opened proof
 
-    closed : (o : Option ClosingValue) → Opens n p b ≡ finishes o → IsOpening Finish n p b
-    closed None f = absurd (cc)
-    closed (Some c) f = by c (nat_eq c.open_goals 0) refl f
+opened_goal : (texts : List (List ℕ)) (text : List ℕ) (s : StateValue) (read : ReadText) (n : List ℕ) (p : Nameless) (b : Items) → IsReadToRun text read → IsOutcome s read (Opens n p b) → IsGoalOf (texts ++ text ∷ []) n p × (b ≡ no_items)
+opened_goal texts text s (Reads command) n p b k h =
+    let o = opening command (reads_of command s) n p b h in
+    (record { text = text; given = Contains-append_right texts (text ∷ []) _ (0, omega arith, refl); quotation = o.quotation; says = rw o.is at k.0; reads = o.reads }, o.basis)
+opened_goal texts text s (Breaks place) n p b k h = absurd (cc)
 
-opened_after : (rs : List ReadText) (command : CommandText) (reads : ReadsValue) (n : List ℕ) (p : Nameless) (b : Items) → Opens n p b ≡ local command reads → IsProofAfter (rs ++ Reads command ∷ []) (opened n p b)
-opened_after rs command reads n p b e =
-    let o = opening command reads n p b e in
+opened_after : (texts : List (List ℕ)) (text : List ℕ) (s : StateValue) (n : List ℕ) (p : Nameless) (b : Items) → IsOutcomeOf s text (Opens n p b) → IsProofAfter (texts ++ text ∷ []) (opened n p b)
+opened_after texts text s n p b h =
+    let goal = opened_goal texts text s h.read n p b h.reads h.gets in
     record {
-      sound = record { statement = opens_sound command reads n p b e; goals = inl refl };
-      basis = o.basis;
-      goal = record { quotation = o.quotation; given = Contains-append_right rs (Reads command ∷ []) _ (0, omega arith, ap Reads o.is); reads = o.reads };
+      sound = record { statement = opens_at s (Opens n p b) (h.read, h.gets) n p b refl; goals = inl refl };
+      basis = goal.1;
+      goal = goal.0;
     }
 
 -- ---- a step that closes the goal
@@ -144,20 +248,24 @@ left_after_first p h = by h.goals
     by (inl one) = rw one refl
     by (inr none) = rw none.0 refl
 
-stepped_after : (rs : List ReadText) (p : ProofValue) (goals : List GoalValue) → IsProofAfter rs p → Closes goals p → IsProofAfter rs (stepped goals p)
-stepped_after rs p goals h k =
+stepped_after : (texts : List (List ℕ)) (p : ProofValue) (goals : List GoalValue) → IsProofAfter texts p → Closes goals p → IsProofAfter texts (stepped goals p)
+stepped_after texts p goals h k =
     let none : goals ++ drop 1 p.newest.goals ≡ [] = rw (k.0, left_after_first p h.sound) refl in
     record { sound = record { statement = h.sound.statement; goals = inr (none, k.1) }; basis = h.basis; goal = h.goal }
+
+leaves_after : (texts : List (List ℕ)) (o : Option ProofValue) (goals : List GoalValue) → IfSome o (IsProofAfter texts) → IfSome o (Closes goals) → IfSome (stepped_in goals o) (IsProofAfter texts)
+leaves_after texts None goals h k = tt
+leaves_after texts (Some p) goals h k = stepped_after texts p goals h k
 
 -- ---- a finished proof
 
 nothing_left : (g : GoalValue) → [] ≡ g ∷ [] → ⊥
 nothing_left g e = cc
 
-finished_entry : (rs : List ReadText) (p : ProofValue) → IsProofAfter rs p → p.newest.goals ≡ [] → IsProved rs (record { name = p.name; theorem = proved p.newest.basis p.statement })
-finished_entry rs p h none = by h.sound.goals
+finished_entry : (texts : List (List ℕ)) (p : ProofValue) → IsProofAfter texts p → p.newest.goals ≡ [] → IsProved texts (record { name = p.name; theorem = proved p.newest.basis p.statement })
+finished_entry texts p h none = by h.sound.goals
   where
-    by : ((p.newest.goals ≡ record { assumptions = []; conclusion = p.statement } ∷ []) ⊎ ((p.newest.goals ≡ []) × IsReflexive p.newest.basis p.statement)) → IsProved rs (record { name = p.name; theorem = proved p.newest.basis p.statement })
+    by : ((p.newest.goals ≡ record { assumptions = []; conclusion = p.statement } ∷ []) ⊎ ((p.newest.goals ≡ []) × IsReflexive p.newest.basis p.statement)) → IsProved texts (record { name = p.name; theorem = proved p.newest.basis p.statement })
     by (inl one) = absurd (nothing_left (record { assumptions = []; conclusion = p.statement }) (sym none ∙ one))
     by (inr h2) = record { derived = reflexive_theorem p.newest.basis p.statement h.basis h2.1; without_hypotheses = refl; goal = h.goal }
 
@@ -165,92 +273,54 @@ no_goals : (gs : List GoalValue) → nat_eq (length gs) 0 ≡ true → gs ≡ []
 no_goals [] e = refl
 no_goals (g ∷ gs) e = absurd (grind (arith, nat_tests))
 
-proves_after : (rs : List ReadText) (o : Option ProofValue) (es : List EntryValue) → IfSome o (IsProofAfter rs) → Proves es ≡ finishes (closing_of o) → AllProved rs es
-proves_after rs None es h e = absurd (cc)
-proves_after rs (Some p) es h e = by (nat_eq (length p.newest.goals) 0) refl
+proves_after : (texts : List (List ℕ)) (o : Option ProofValue) (es : List EntryValue) → IfSome o (IsProofAfter texts) → Proves es ≡ finishes (closing_of o) → AllProved texts es
+proves_after texts None es h e = absurd (cc)
+proves_after texts (Some p) es h e = by (nat_eq (length p.newest.goals) 0) refl
   where
-    by : (w : Bool) → nat_eq (length p.newest.goals) 0 ≡ w → AllProved rs es
+    by : (w : Bool) → nat_eq (length p.newest.goals) 0 ≡ w → AllProved texts es
     by true z =
         let g : Proves es ≡ Proves (record { name = p.name; theorem = proved p.newest.basis p.statement } ∷ []) = rw z at e in
         let f : es ≡ record { name = p.name; theorem = proved p.newest.basis p.statement } ∷ [] = cc in
-        rw f (finished_entry rs p h (no_goals p.newest.goals z), tt)
+        rw f (finished_entry texts p h (no_goals p.newest.goals z), tt)
     by false z = let g : Proves es ≡ Refuses _ _ = rw z at e in absurd (cc)
-
--- only `qed` makes entries
-proving : (command : CommandText) (s : StateValue) (es : List EntryValue) → Proves es ≡ local command (reads_of command s) → Proves es ≡ finishes (closing_of s.proof)
-proving (OpenGoal name q) s es e = by (reads_of (OpenGoal name q) s).in_proof refl
-  where
-    read : (w : Bool) (r : ReadingValue) → Proves es ≡ opens_read name q.place w r → Proves es ≡ finishes (closing_of s.proof)
-    read w WrongArity f = absurd (cc)
-    read w NoTyping f = absurd (cc)
-    read true (Statement t) f = absurd (cc)
-    read false (Statement t) f = absurd (cc)
-
-    by : (w : Bool) → (reads_of (OpenGoal name q) s).in_proof ≡ w → Proves es ≡ finishes (closing_of s.proof)
-    by true z = let g : Proves es ≡ Refuses _ _ = rw z at e in absurd (cc)
-    by false z = read (is_taken (reads_of (OpenGoal name q) s).theorems) (reading_of q.term) (rw z at e)
-proving (RunTac name) s es e = by (reads_of (RunTac name) s).in_proof refl
-  where
-    ran : (o : Option (List GoalValue)) → Proves es ≡ runs name o → Proves es ≡ finishes (closing_of s.proof)
-    ran None f = absurd (cc)
-    ran (Some goals) f = absurd (cc)
-
-    on : (o : Option GoalValue) → (code : _) → Proves es ≡ runs_on name code o → Proves es ≡ finishes (closing_of s.proof)
-    on None code f = absurd (cc)
-    on (Some goal) code f = ran (goals_left code goal) f
-
-    named : (o : _) → Proves es ≡ runs_named name o (reads_of (RunTac name) s).goal → Proves es ≡ finishes (closing_of s.proof)
-    named None f = absurd (cc)
-    named (Some code) f = on (reads_of (RunTac name) s).goal code f
-
-    by : (w : Bool) → (reads_of (RunTac name) s).in_proof ≡ w → Proves es ≡ finishes (closing_of s.proof)
-    by true z = named (tac_named name) (rw z at e)
-    by false z = let g : Proves es ≡ Refuses _ _ = rw z at e in absurd (cc)
-proving Finish s es e = e
 
 -- ---- the next state
 
-leaves_after : (rs : List ReadText) (command : CommandText) (s : StateValue) (goals : List GoalValue) → IfSome s.proof (IsProofAfter rs) → Leaves goals ≡ local command (reads_of command s) → IfSome (stepped_in goals s.proof) (IsProofAfter rs)
-leaves_after rs command s goals h e = by s.proof refl h
-  where
-    by : (o : Option ProofValue) → s.proof ≡ o → IfSome o (IsProofAfter rs) → IfSome (stepped_in goals o) (IsProofAfter rs)
-    by None z k = tt
-    by (Some p) z k = stepped_after rs p goals k (leaves_sound command s p z k.sound goals e)
+next_after : (texts : List (List ℕ)) (text : List ℕ) (s : StateValue) → IsStateAfter texts s → (o : OutcomeValue) → IsOutcomeOf s text o → IsStateAfter (texts ++ text ∷ []) (after s o)
+next_after texts text s h (Opens n p b) k = record { entries = all_more texts text s.entries h.entries; proof = opened_after texts text s n p b k }
+next_after texts text s h (Leaves goals) k =
+    let closes : IfSome s.proof (Closes goals) = leaves_at s (Leaves goals) (k.read, k.gets) (sound_of texts s.proof h.proof) goals refl in
+    state_more texts text (after s (Leaves goals)) (record { entries = h.entries; proof = leaves_after texts s.proof goals h.proof closes })
+next_after texts text s h (Proves es) k =
+    let made : AllProved texts es = proves_after texts s.proof es h.proof (proving_at s k.read es k.gets) in
+    state_more texts text (after s (Proves es)) (record { entries = all_append texts s.entries es h.entries made; proof = tt })
+next_after texts text s h (Refuses kind arg) k = state_more texts text s h
 
-after_local : (rs : List ReadText) (command : CommandText) (s : StateValue) → IsStateAfter rs s → (o : OutcomeValue) → o ≡ local command (reads_of command s) → IsStateAfter (rs ++ Reads command ∷ []) (after s o)
-after_local rs command s h (Opens n p b) e = record { entries = all_more rs (Reads command) s.entries h.entries; proof = opened_after rs command (reads_of command s) n p b e }
-after_local rs command s h (Leaves goals) e = state_more rs (Reads command) (after s (Leaves goals)) (record { entries = h.entries; proof = leaves_after rs command s goals h.proof e })
-after_local rs command s h (Proves es) e = state_more rs (Reads command) (after s (Proves es)) (record { entries = all_append rs s.entries es h.entries (proves_after rs s.proof es h.proof (proving command s es e)); proof = tt })
-after_local rs command s h (Refuses kind arg) e = state_more rs (Reads command) s h
-
-next_after : (rs : List ReadText) (r : ReadText) (s : StateValue) → IsStateAfter rs s → IsStateAfter (rs ++ r ∷ []) (next [] s r)
-next_after rs (Reads command) s h = after_local rs command s h (local command (reads_of command s)) refl
-next_after rs (Breaks place) s h = state_more rs (Breaks place) s h
-
-run_after : (before rs : List ReadText) (s : StateValue) → IsStateAfter before s → IsStateAfter (before ++ rs) (last_state [] s rs)
-run_after before [] s h = rw append-nil h
-run_after before (r ∷ rs) s h = rw (← append_assoc before (r ∷ []) rs) (run_after (before ++ r ∷ []) rs (next [] s r) (next_after before r s h))
+run_after : (before texts : List (List ℕ)) (s last : StateValue) → IsStateAfter before s → Leads s texts last → IsStateAfter (before ++ texts) last
+run_after before [] s last h k = rw (append-nil, k) h
+run_after before (text ∷ texts) s last h k = rw (← append_assoc before (text ∷ []) texts) (run_after (before ++ text ∷ []) texts (after s k.0) last (next_after before text s h k.0 k.1) k.2)
 
 started : IsStateAfter [] start
 started = record { entries = tt; proof = tt }
 
 -- ---- reports
 
-shown_by : (rs : List ReadText) (s : StateValue) → IsStateAfter rs s → (r : ReadText) (texts : List (List ℕ)) → report_at [] s r ≡ HasMade texts → (es : List EntryValue) × (texts ≡ map entry_text es) × AllProved rs es
-shown_by rs s h (Breaks place) texts e = absurd (cc)
-shown_by rs s h (Reads command) texts e = by (local command (reads_of command s)) refl e
-  where
-    by : (o : OutcomeValue) → o ≡ local command (reads_of command s) → report_of o (after s o) ≡ HasMade texts → (es : List EntryValue) × (texts ≡ map entry_text es) × AllProved rs es
-    by (Opens n p b) z f = absurd (cc)
-    by (Leaves goals) z f = absurd (cc)
-    by (Proves es) z f = let g : map entry_text es ≡ texts = cc in (es, sym g, proves_after rs s.proof es h.proof (proving command s es z))
-    by (Refuses kind arg) z f = absurd (cc)
+record Shows (shown : List (List ℕ)) (texts : List (List ℕ)) : Type 0 where
+  entries : List EntryValue
+  are : shown ≡ map entry_text entries
+  proved : AllProved texts entries
+
+shown_by : (texts : List (List ℕ)) (s : StateValue) → IsStateAfter texts s → (read : ReadText) (o : OutcomeValue) → IsOutcome s read o → (shown : List (List ℕ)) → HasMade shown ≡ report_of o (after s o) → Shows shown texts
+shown_by texts s h read (Opens n p b) k shown e = absurd (cc)
+shown_by texts s h read (Leaves goals) k shown e = absurd (cc)
+shown_by texts s h read (Proves es) k shown e = let g : shown ≡ map entry_text es = cc in record { entries = es; are = g; proved = proves_after texts s.proof es h.proof (proving_at s read es k) }
+shown_by texts s h read (Refuses kind arg) k shown e = absurd (cc)
 
 pub shown_theorems : (commands : List (List ℕ)) (at : ℕ) (texts : List (List ℕ)) → IsReport commands at (HasMade texts) → ShowsProved commands at texts
 shown_theorems commands at texts h =
-    let state : IsStateAfter h.before.readings h.state = rw (h.before.leads []) at (run_after [] h.before.readings start started) in
-    let found = shown_by h.before.readings h.state state h.command texts (h.says []) in
-    record { readings = h.before.readings; read = h.before.read; entries = found.0; shown = found.1; proved = found.2 }
+    let state : IsStateAfter (take at commands) h.state = run_after [] (take at commands) start h.state started h.before in
+    let found = shown_by (take at commands) h.state state h.here.read h.outcome h.here.gets texts h.says in
+    record { entries = found.entries; shown = found.are; proved = found.proved }
 
 pub asked_theorems : (theories : List TheoryText) (name : List ℕ) (at : ℕ) (texts : List (List ℕ)) → Reported theories name at (Ok (HasMade texts)) → ShowsProvedIn theories (find_theory name theories) at texts
 asked_theorems theories name at texts h = by (find_theory name theories) h

@@ -1,37 +1,48 @@
 -- A report is the only one.
-use Rattle.std.proofs.Common.{◌≡◌, ℕ, List, [], ◌∷◌, take, ap, sym, ◌∙◌, refl}
-use Rattle.std.specs.Prelude.{Option, Some, None, Ok, slice_index_or}
-use Rattle.hol_notation.specs.Reading.{ReadText}
-use Rattle.hol_notation.proofs.OneReading.{one-reading}
+use Rattle.std.proofs.Common.{◌≡◌, ℕ, ◌<◌, ◌≤◌, List, [], ◌∷◌, take, length, ap, sym, ◌∙◌, arith}
+use Rattle.std.specs.Prelude.{Option, Some, None, Result, Ok, Err, slice_index_or}
 use Rattle.hol_exec.specs.StateValue.{StateValue, start}
+use Rattle.hol_exec.specs.OutcomeValue.{OutcomeValue, after}
 use Rattle.hol_exec.specs.ReportValue.{ReportValue}
-use Rattle.hol_document.specs.Afresh.{last_state, report_at}
+use Rattle.hol_exec.specs.ReportOf.{report_of}
+use Rattle.hol_exec.proofs.Unique.{one_outcome, one_text}
+use Rattle.hol_document.specs.declared.error.Refusal.{Refusal}
 use Rattle.hol_document.specs.Documents.{TheoryText, find_theory}
-use Rattle.hol_document.specs.Asked.{AreRead, LeadsTo, IsReport, ReportedIn, Reported}
+use Rattle.hol_document.specs.Afresh.{IsOutcomeOf, Leads, LeadTo}
+use Rattle.hol_document.specs.Asked.{IsReport, ReportedOf, ReportedIn, Reported}
 
-one_list : (texts : List (List ℕ)) (a b : List ReadText) → AreRead texts a → AreRead texts b → a ≡ b
-one_list [] [] [] h k = refl
-one_list [] [] (s ∷ b) h k = absurd k
-one_list [] (r ∷ a) b h k = absurd h
-one_list (t ∷ texts) [] b h k = absurd h
-one_list (t ∷ texts) (r ∷ a) [] h k = absurd k
-one_list (t ∷ texts) (r ∷ a) (s ∷ b) h k =
-    let heads : r ≡ s = one-reading t r s h.0 k.0 in
-    let tails : a ≡ b = one_list texts a b h.1 k.1 in
-    cc
+outcome_of_one : (s : StateValue) (text : List ℕ) (a b : OutcomeValue) → IsOutcomeOf s text a → IsOutcomeOf s text b → a ≡ b
+outcome_of_one s text a b h k =
+    let read : h.read ≡ k.read = one_text text h.read k.read h.reads k.reads in
+    one_outcome s k.read a b (rw read at h.gets) k.gets
 
-one_state : (texts : List (List ℕ)) (s u : StateValue) → LeadsTo texts s → LeadsTo texts u → s ≡ u
-one_state texts s u h k = sym (h.leads []) ∙ (ap (λ rs. last_state [] start rs) (one_list texts h.readings k.readings h.read k.read) ∙ k.leads [])
+leads_to_one : (s : StateValue) (texts : List (List ℕ)) (a b : StateValue) → Leads s texts a → Leads s texts b → a ≡ b
+leads_to_one s [] a b h k = h ∙ sym k
+leads_to_one s (text ∷ texts) a b h k =
+    let same : h.0 ≡ k.0 = outcome_of_one s text h.0 k.0 h.1 k.1 in
+    leads_to_one (after s k.0) texts a b (rw same at h.2) k.2
 
-pub one_report : (commands : List (List ℕ)) (at : ℕ) (r q : ReportValue) → IsReport commands at r → IsReport commands at q → r ≡ q
+pub one_state : (texts : List (List ℕ)) (a b : StateValue) → LeadTo texts a → LeadTo texts b → a ≡ b
+one_state texts a b h k = leads_to_one start texts a b h k
+
+one_report : (commands : List (List ℕ)) (at : ℕ) (r q : ReportValue) → IsReport commands at r → IsReport commands at q → r ≡ q
 one_report commands at r q h k =
     let states : h.state ≡ k.state = one_state (take at commands) h.state k.state h.before k.before in
-    let read : h.command ≡ k.command = one-reading (slice_index_or commands at []) h.command k.command h.read k.read in
-    sym (h.says []) ∙ (ap (λ s. report_at [] s h.command) states ∙ (ap (λ c. report_at [] k.state c) read ∙ k.says []))
+    let outcomes : h.outcome ≡ k.outcome = outcome_of_one k.state (slice_index_or commands at []) h.outcome k.outcome (rw states at h.here) k.here in
+    h.says ∙ (ap (λ o. report_of o (after h.state o)) outcomes ∙ (ap (λ s. report_of k.outcome (after s k.outcome)) states ∙ sym k.says))
 
-pub one_answer : (theories : List TheoryText) (name : List ℕ) (at : ℕ) (r q : ReportValue) → Reported theories name at (Ok r) → Reported theories name at (Ok q) → r ≡ q
+apart : (n at : ℕ) → at < n → n ≤ at → ⊥
+apart n at h k = omega (arith, h, k)
+
+one_answer_of : (commands : List (List ℕ)) (at : ℕ) (r q : Result ReportValue Refusal) → ReportedOf commands at r → ReportedOf commands at q → r ≡ q
+one_answer_of commands at (Ok r) (Ok q) h k = ap Ok (one_report commands at r q h.1 k.1)
+one_answer_of commands at (Ok r) (Err f) h k = absurd (apart (length commands) at h.0 k.1)
+one_answer_of commands at (Err e) (Ok q) h k = absurd (apart (length commands) at k.0 h.1)
+one_answer_of commands at (Err e) (Err f) h k = ap Err (h.0 ∙ sym k.0)
+
+pub one_answer : (theories : List TheoryText) (name : List ℕ) (at : ℕ) (r q : Result ReportValue Refusal) → Reported theories name at r → Reported theories name at q → r ≡ q
 one_answer theories name at r q h k = by (find_theory name theories) h k
   where
-    by : (o : Option ℕ) → ReportedIn theories o at (Ok r) → ReportedIn theories o at (Ok q) → r ≡ q
-    by None f g = absurd (cc)
-    by (Some i) f g = one_report _ at r q f.1 g.1
+    by : (o : Option ℕ) → ReportedIn theories o at r → ReportedIn theories o at q → r ≡ q
+    by None f g = f ∙ sym g
+    by (Some i) f g = one_answer_of _ at r q f g

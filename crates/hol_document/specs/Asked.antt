@@ -1,39 +1,27 @@
 -- What is answered to a question about the documents: what running them afresh says.
 -- Source: this project.
-use Rattle.std.specs.Prelude.{◌≡◌, ℕ, List, [], ◌∷◌, ◌≤◌, ◌<◌, ⊤, length, take, Option, Some, None, Result, Ok, Err, slice_index_or}
-use Rattle.hol_notation.specs.Reading.{ReadText, IsRead}
+use Rattle.std.specs.Prelude.{◌≡◌, ℕ, List, [], ◌≤◌, ◌<◌, ⊤, length, take, Option, Some, None, Result, Ok, Err, slice_index_or}
 use Rattle.hol_kernel.specs.Theorem.{Theorem}
+use Rattle.hol_exec.specs.OutcomeValue.{OutcomeValue, after}
 use Rattle.hol_exec.specs.ReportValue.{ReportValue}
-use Rattle.hol_exec.specs.StateValue.{StateValue, start, theorem_in}
+use Rattle.hol_exec.specs.ReportOf.{report_of}
+use Rattle.hol_exec.specs.StateValue.{StateValue, theorem_in}
 use Rattle.hol_document.specs.declared.error.Refusal.{Refusal}
 use Rattle.hol_document.specs.declared.error.Refusal.TheVariants.{UnknownTheory, PositionOutOfRange}
 use Rattle.hol_document.specs.declared.error.DocsError.{DocsError}
 use Rattle.hol_document.specs.Documents.{TheoryText, find_theory, no_theory}
-use Rattle.hol_document.specs.Afresh.{ReadTheory, ends_of, last_state, report_at}
+use Rattle.hol_document.specs.Afresh.{IsOutcomeOf, LeadTo}
 use Rattle.hol_document.specs.ItemTexts.{AreItemTexts}
-
--- each text with what it reads as
-abbrev pub AreRead : List (List ℕ) → List ReadText → Type 0
-AreRead [] [] = Unit {0}
-AreRead [] (r ∷ readings) = ⊥
-AreRead (t ∷ texts) [] = ⊥
-AreRead (t ∷ texts) (r ∷ readings) = IsRead t r × AreRead texts readings
-
--- The commands read so, and whatever theories stand earlier, running them afresh leads to the state.
-pub record LeadsTo (commands : List (List ℕ)) (state : StateValue) : Type 0 where
-  pub readings : List ReadText
-  pub read : AreRead commands readings
-  pub leads : (earlier : List ReadTheory) → last_state (ends_of earlier) start readings ≡ state
 
 -- ---- the report on the command at a place of a theory, or the first refusal that fits
 
--- The commands before the place lead to a state, and the command there, read so, is reported on so.
+-- The commands before the place lead to a state, and the report is that on the outcome which the command there has at it.
 pub record IsReport (commands : List (List ℕ)) (at : ℕ) (report : ReportValue) : Type 0 where
   pub state : StateValue
-  pub before : LeadsTo (take at commands) state
-  pub command : ReadText
-  pub read : IsRead (slice_index_or commands at []) command
-  pub says : (earlier : List ReadTheory) → report_at (ends_of earlier) state command ≡ report
+  pub before : LeadTo (take at commands) state
+  pub outcome : OutcomeValue
+  pub here : IsOutcomeOf state (slice_index_or commands at []) outcome
+  pub says : report ≡ report_of outcome (after state outcome)
 
 abbrev pub ReportedOf : List (List ℕ) → ℕ → Result ReportValue Refusal → Type 0
 ReportedOf commands at (Err refusal) = (refusal ≡ PositionOutOfRange) × (length commands ≤ at)
@@ -57,7 +45,7 @@ BasisTexts (Some th) (Some texts) = AreItemTexts th.basis texts
 -- The commands lead to a state, and the theorem of this name there has this basis.
 pub record IsBasis (commands : List (List ℕ)) (name : List ℕ) (answer : Option (List (List ℕ))) : Type 0 where
   pub state : StateValue
-  pub run : LeadsTo commands state
+  pub run : LeadTo commands state
   pub texts : BasisTexts (theorem_in state.entries name) answer
 
 abbrev pub BasisIn : List TheoryText → Option ℕ → List ℕ → Result (Option (List (List ℕ))) Refusal → Type 0

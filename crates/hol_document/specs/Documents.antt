@@ -2,7 +2,7 @@
 -- Source: this project.
 use Rattle.std.specs.Prelude.{ℕ, List, [], ◌&&◌, length, Bool, not, nat_lt, nat_le, if◌then◌else◌, Option, Some, None, Result, Ok, Err, is_some, position, slice_set, slice_index_or, bytes_eq}
 use Rattle.std.specs.List.{insert}
-use Rattle.hol_notation.specs.Token.{is_identifier}
+use Rattle.hol_notation_tokens.specs.Token.{is_identifier}
 use Rattle.hol_document.specs.declared.error.Refusal.{Refusal}
 use Rattle.hol_document.specs.declared.error.Refusal.TheVariants.{UnknownTheory, TheoryNameTaken, BadTheoryName, PositionOutOfRange, TooMany}
 

@@ -1,13 +1,11 @@
 //! Running a theory afresh.
-ghost use Rattle.std.specs.Prelude.{◌≡◌, ◌<◌, [], IfOk, OnOk, length, map, string_bytes};
+ghost use Rattle.std.specs.Prelude.{◌≡◌, ◌<◌, IfOk, length, map, string_bytes};
 ghost use Rattle.std.specs.Option.{option_map};
-ghost use Rattle.hol_notation.specs.Reading.{IsRead};
-ghost use Rattle.hol_exec.specs.At.{IsOutcomeAt};
+ghost use Rattle.hol_exec.specs.OutcomeValue.{after};
 ghost use Rattle.hol_exec.specs.OutcomeView.{outcome_value};
 ghost use Rattle.hol_exec.specs.ReportView.{report_value};
-ghost use Rattle.hol_document.specs.Afresh.{outcome_at, next};
-ghost use Rattle.hol_document.specs.Asked.{IsReport, IsBasis, LeadsTo};
-ghost use Rattle.hol_document.specs.ReadingView.{read_text};
+ghost use Rattle.hol_document.specs.Afresh.{IsOutcomeOf, LeadTo};
+ghost use Rattle.hol_document.specs.Asked.{IsReport, IsBasis};
 
 use crate::items::item_texts;
 use crate::line::{Line, Reading};
@@ -15,10 +13,10 @@ use hol_exec::{Outcome, Reads, Report, State, apply, direct, report_of, run_loca
 use std::alloc::{AllocError, Global};
 
 // The outcome of a text at a state.
-fn outcome_of(alloc: Global, reading: &Reading, state: &State) -> Result<Outcome, AllocError>
-    ensures { IfOk result (λ outcome. outcome_value outcome ≡ outcome_at [] state.now (read_text reading.now)) }
+fn outcome_of(alloc: Global, line: &Line, state: &State) -> Result<Outcome, AllocError>
+    ensures { IfOk result (λ outcome. IsOutcomeOf state.now line.now (outcome_value outcome)) }
 {
-    match reading {
+    match line.reading() {
         Reading::Command(command) => {
             let reads = Reads::of(alloc, command, state)?;
             Ok(run_local(alloc, command, &reads)?)
@@ -28,22 +26,22 @@ fn outcome_of(alloc: Global, reading: &Reading, state: &State) -> Result<Outcome
 }
 
 // Runs a text, and gives its outcome.
-fn run(alloc: Global, reading: &Reading, state: &mut State) -> Result<Outcome, AllocError>
-    ensures outcome { IfOk result (λ outcome. outcome_value outcome ≡ outcome_at [] state.old (read_text reading.now)) }
-    ensures state { OnOk result (state.new ≡ next [] state.old (read_text reading.now)) }
+fn run(alloc: Global, line: &Line, state: &mut State) -> Result<Outcome, AllocError>
+    ensures outcome { IfOk result (λ outcome. IsOutcomeOf state.old line.now (outcome_value outcome)) }
+    ensures state { IfOk result (λ outcome. state.new ≡ after state.old (outcome_value outcome)) }
 {
-    let outcome = outcome_of(alloc, reading, state)?;
+    let outcome = outcome_of(alloc, line, state)?;
     apply(alloc, state, &outcome)?;
     Ok(outcome)
 }
 
 // The state after the texts.
 fn state_after(alloc: Global, lines: &[Line]) -> Result<State, AllocError>
-    ensures { IfOk result (LeadsTo lines.now) }
+    ensures { IfOk result (LeadTo lines.now) }
 {
     let mut state = State::new(alloc);
     for line in lines {
-        run(alloc, line.reading(), &mut state)?;
+        run(alloc, line, &mut state)?;
     }
     Ok(state)
 }
@@ -54,7 +52,7 @@ pub fn report(alloc: Global, lines: &[Line], at: usize) -> Result<Report, AllocE
     ensures { IfOk result (λ report. IsReport lines.now at (report_value report)) }
 {
     let mut state = state_after(alloc, &lines[..at])?;
-    let outcome = run(alloc, lines[at].reading(), &mut state)?;
+    let outcome = run(alloc, &lines[at], &mut state)?;
     Ok(report_of(alloc, &outcome, &state)?)
 }
 

@@ -8,7 +8,7 @@ use crate::line::Line;
 use crate::theory::Theory;
 use crate::{afresh, items};
 use hol_exec::Report;
-use hol_notation::is_identifier;
+use hol_notation_tokens::is_identifier;
 use std::alloc::Global;
 use std::marker::Model;
 

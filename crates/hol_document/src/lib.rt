@@ -7,8 +7,10 @@ mod error;
 mod items;
 mod laws;
 mod line;
+#[cfg(test)]
+mod tests;
 mod theory;
 
 pub use docs::{COMMAND_LIMIT, Docs, THEORY_LIMIT};
 pub use error::{DocsError, Refusal};
-pub use laws::{reports_are_unique, shown_theorems_are_proved};
+pub use laws::{bases_are_unique, reports_are_unique, shown_theorems_are_proved};

@@ -1,17 +1,19 @@
 //! A command's text.
 ghost use Rattle.std.specs.Prelude.{◌≡◌, IfOk, string_bytes};
-ghost use Rattle.hol_notation.specs.Reading.{IsRead};
+ghost use Rattle.hol_exec.specs.Running.{IsReadToRun};
 
-use hol_notation::{Command, SyntaxError, read_command};
+use hol_exec::read_running;
+use hol_notation_commands::Command;
+use hol_notation_tokens::SyntaxError;
 use std::alloc::{AllocError, Global};
 use std::marker::Model;
 
 /// What a text reads as.
 #[derive(Drop)]
 pub enum Reading {
-    /// A command.
+    /// A command that runs.
     Command(Command),
-    /// No command: the place where none goes on.
+    /// No command that runs: the place where the text is refused.
     Fault(usize),
 }
 
@@ -24,14 +26,14 @@ pub struct Line {
 
 impl Model for Line {
     ghost use Rattle.std.specs.Prelude.{ℕ, List, string_bytes};
-    ghost use Rattle.hol_notation.specs.Reading.{IsRead};
+    ghost use Rattle.hol_exec.specs.Running.{IsReadToRun};
     ghost use Rattle.hol_document.specs.ReadingView.{read_text};
 
     ghost Value = { List ℕ };
 
     ghost view = { λ l. string_bytes l.text };
 
-    ghost invariant = { λ l. IsRead (string_bytes l.text) (read_text l.reading) };
+    ghost invariant = { λ l. IsReadToRun (string_bytes l.text) (read_text l.reading) };
 }
 
 impl Line {
@@ -41,7 +43,7 @@ impl Line {
     pub fn new(alloc: Global, text: &str) -> Result<Line, AllocError>
         ensures { IfOk result (λ line. line ≡ text.now) }
     {
-        let reading = match read_command(alloc, text) {
+        let reading = match read_running(alloc, text) {
             Ok(command) => Reading::Command(command),
             Err(SyntaxError::Syntax(place)) => Reading::Fault(place),
             Err(SyntaxError::Memory) => return Err(AllocError),
@@ -52,7 +54,7 @@ impl Line {
 
     /// What the text reads as.
     pub fn reading(&self) -> &Reading
-        ensures { IsRead self.now (read_text result.now) }
+        ensures { IsReadToRun self.now (read_text result.now) }
     {
         &self.reading
     }
