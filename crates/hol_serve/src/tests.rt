@@ -4,6 +4,8 @@ mod documents;
 mod faults;
 mod json;
 mod lines;
+mod notation;
 mod refusals;
+mod shown;
 mod support;
 mod words;

@@ -4,6 +4,7 @@ use crate::lines::Watched;
 use crate::serving::run;
 use hol_document::Docs;
 use std::alloc::Global;
+use std::fmt::Write;
 use std::process::Abort;
 use std::test::Fail;
 
@@ -48,4 +49,28 @@ pub fn expect_replies<R: Abort + AllocGlobal>(rt: &R, text: &str, want: &str) ->
     let replies = String::from_utf8(replies_to(rt.alloc(), text.as_bytes())?)?;
     assert_eq!(rt; replies.as_str(), want);
     Ok(())
+}
+
+/// The reply to a report on the last of these commands, which stand in a theory of their own. They are written as in a JSON
+/// string.
+pub fn reply_to_last(alloc: Global, commands: &[&str]) -> Result<String, Fail> {
+    let mut lines = String::from_str(alloc, "{\"op\":\"new_theory\",\"name\":\"A\",\"at\":0}\n")?;
+    for (at, command) in commands.iter().enumerate() {
+        write!(
+            lines,
+            "{{\"op\":\"insert\",\"theory\":\"A\",\"at\":{at},\"text\":\"{command}\"}}\n"
+        )?;
+    }
+    let last = commands.len().saturating_sub(1);
+    write!(
+        lines,
+        "{{\"op\":\"report\",\"theory\":\"A\",\"at\":{last}}}\n"
+    )?;
+    let replies = String::from_utf8(replies_to(alloc, lines.as_bytes())?)?;
+    Ok(String::from_str(alloc, replies.lines().last().unwrap_or(""))?)
+}
+
+/// The reply to a report on this command, which stands in a theory of its own.
+pub fn reply_to_command(alloc: Global, command: &str) -> Result<String, Fail> {
+    reply_to_last(alloc, &[command])
 }
