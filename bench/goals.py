@@ -13,7 +13,7 @@ The jobs:
   small        a goal of a few names and binders
   doubling     a conjunction of equations whose types double from each to the next: 8 of them (18,208 nodes, accepted), 9 (36,622 nodes, too
                large), and 400 applications that double so
-  nesting      an application to 4,000 arguments, and 4,000 times `~`
+  nesting      an application to 3,000 arguments, and 3,000 times `~`; with 4,000 both are too large
   names        1,000 free names in 500 equations
   binders      2,000 variables of one quantifier
 
@@ -43,8 +43,10 @@ JOBS = [
     ("8 equations that double, 18,208 nodes", doubling(8), b'"goals"'),
     ("9 equations that double: too large", doubling(9), b'"refusal":13'),
     ("400 applications that double: too large", doubling_applications(400), b'"refusal":13'),
-    ("4,000 arguments", "f" + " x" * 4000 + " = T", b'"goals"'),
-    ("4,000 times ~", "~" * 4000 + " p", b'"goals"'),
+    ("3,000 arguments", "f" + " x" * 3000 + " = T", b'"goals"'),
+    ("4,000 arguments: too large", "f" + " x" * 4000 + " = T", b'"refusal":13'),
+    ("3,000 times ~", "~" * 3000 + " p", b'"goals"'),
+    ("4,000 times ~: too large", "~" * 4000 + " p", b'"refusal":13'),
     ("1,000 free names", names(1000), b'"goals"'),
     ("2,000 variables of a quantifier", "!" + " ".join("x%d" % k for k in range(2000)) + ". T", b'"goals"'),
 ]
