@@ -1,11 +1,9 @@
 -- What a legal set says of the items that it holds.
 use Rattle.std.specs.Prelude.{◌≡◌, ℕ, Bool, true, false, cond, List, [], ◌∷◌, bytes_eq, Option, Some, None, refl}
 use Rattle.std.proofs.Common.{ap, sym, ◌∙◌, subst, inl, inr}
-use mathlib.Core.Bool.{true≢false}
 use Rattle.std.specs.FinSet as set
 use Rattle.std.proofs.lemmas.Slice.Eq.{bytes_eq-Decides}
 use Rattle.hol_types.specs.Tree.{TypeTree}
-use Rattle.hol_types.specs.Fun.{fun_type}
 use Rattle.hol_terms.specs.Named.{Named, named_type}
 use Rattle.hol_terms.specs.Nameless.{Nameless, nameless, nameless_type}
 use Rattle.hol_terms.proofs.Typing.{type_outside}
@@ -15,12 +13,12 @@ use Rattle.hol_kernel.specs.Sequent.{Hyps, no_hyps, bool_type}
 use Rattle.hol_kernel.specs.Typing.{is_known, HasType}
 use Rattle.hol_kernel.specs.Legal.{IsSound, IsLegal, IsLegalSet}
 use Rattle.hol_kernel.specs.Derivation.{Derives, by_axiom}
-use Rattle.hol_kernel.specs.Theorem.{Theorem, theorem_over, IsDerived, IsTheorem}
+use Rattle.hol_kernel.specs.Theorem.{Theorem, IsDerived}
 use Rattle.hol_kernel.specs.Extends.{IsAxiomOf}
 use Rattle.hol_kernel.specs.Clashing.{axiom_at, first_of_two, axiom_in}
 use Rattle.hol_kernel.proofs.Members.{Among, in_insert_old, in_insert_cases, not_in_empty}
 use Rattle.hol_kernel.proofs.ItemOrder.{total, only}
-use Rattle.hol_kernel.proofs.Weaken.{held, ordered_held, IsSound-more, HasType-more, Derives-more}
+use Rattle.hol_kernel.proofs.Weaken.{held, ordered_held, IsSound-more, Derives-more}
 
 -- ---- each item meets its condition over the whole set
 

@@ -1,4 +1,4 @@
-use Rattle.std.proofs.Common.{◌≡◌, [], refl, ap, sym, ◌∙◌}
+use Rattle.std.proofs.Common.{[], refl, ap, sym, ◌∙◌}
 use Rattle.hol_terms.specs.Nameless.{nameless}
 use Rattle.hol_kernel.specs.Item.{declared_axiom}
 use Rattle.hol_kernel.specs.Items.{Holds}

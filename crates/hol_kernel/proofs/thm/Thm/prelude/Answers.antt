@@ -1,4 +1,4 @@
-use Rattle.std.proofs.Common.{◌≡◌, [], ◌∙◌}
+use Rattle.std.proofs.Common.{[], ◌∙◌}
 use Rattle.hol_terms.specs.Nameless.{nameless}
 use Rattle.hol_kernel.specs.Items.{no_items}
 use Rattle.hol_kernel.specs.Sequent.{no_hyps}
