@@ -117,6 +117,58 @@ fn open_types_are_named_as_they_occur(rt: HostRuntime) -> Result<(), Fail> {
     Ok(())
 }
 
+// The text of the one open goal.
+fn shown(report: &Report) -> Option<&str> {
+    let Report::Goals(goals) = report else {
+        return None;
+    };
+    match goals.as_slice() {
+        [one] => Some(one.conclusion.as_str()),
+        _ => None,
+    }
+}
+
+// Whether two states have one open goal each, with the same conclusion.
+fn have_one_goal(left: &State, right: &State) -> bool {
+    match (left.goals(), right.goals()) {
+        ([one], [other]) => one.conclusion().same(other.conclusion()),
+        _ => false,
+    }
+}
+
+// The state after a goal is opened, and the state after the text of that goal is.
+fn opened_twice(alloc: Global, text: &str) -> Result<(State, State), Fail> {
+    let mut first = State::new(alloc);
+    let outcome = carry_out(alloc, text, &mut first)?;
+    let report = report_of(alloc, &outcome, &first)?;
+    let again = format!(in alloc; "g N `{}`", shown(&report).unwrap_or(""))?;
+    let mut second = State::new(alloc);
+    carry_out(alloc, again.as_str(), &mut second)?;
+    Ok((first, second))
+}
+
+// Where the types are those that inference finds, the text of a goal reads as the goal.
+#[test]
+fn the_text_of_a_goal_reads_as_the_goal(rt: HostRuntime) -> Result<(), Fail> {
+    let texts = [
+        "g N `p /\\ (q \\/ ~r) ==> (s <=> t)`",
+        "g N `(p ==> q) ==> r`",
+        "g N `f x = g (y z)`",
+        "g N `!x. ?x. x`",
+        "g N `!x. ?y. x /\\ (\\x. y x = x) p`",
+        "g N `(\\x x'. f x' x) = (\\x x. f x x)`",
+        "g N `(\\p. ~p) = (~)`",
+        "g N `(!) = (\\p. p = (\\x. T))`",
+        "g N `P (@x. P x) ==> (?!y. Q y)`",
+        "g N `ONE_ONE f /\\ ~(ONTO (\\x. f (f x)))`",
+    ];
+    for text in texts {
+        let (first, second) = opened_twice(rt.alloc(), text)?;
+        assert!(rt; have_one_goal(&first, &second), "{text}");
+    }
+    Ok(())
+}
+
 #[test]
 fn a_finished_proof_makes_its_theorem(rt: HostRuntime) -> Result<(), Fail> {
     let cases: [(&str, &str); 3] = [
