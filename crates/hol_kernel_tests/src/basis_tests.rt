@@ -1,7 +1,7 @@
 //! Declarations, and what stands over a basis.
 use crate::fixtures::{
     Made, boolean, constant, constructed, empty, functions, is_refused, name, of_no_type, proves,
-    type_variable, variable,
+    truth, type_variable, variable,
 };
 use hol_kernel::{Basis, Item, Kind, Rule, Thm};
 use hol_terms::Term;
@@ -133,14 +133,16 @@ fn an_axiom_is_of_type_bool(rt: HostRuntime) {
     assert!(rt; is_refused(&made, Rule::DeclareAxiom));
 }
 
+// The axiom `p`, where it was declared.
+fn declared_axiom(alloc: Global) -> Made<Thm> {
+    let basis = with_axiom(alloc, truth(alloc, "p"))?.ok()?;
+    axiom(alloc, Some(basis))
+}
+
 #[test]
 fn an_axiom_is_taken_by_its_name(rt: HostRuntime) {
-    let alloc = rt.alloc();
-    let Some(Ok(basis)) = with_axiom(alloc, variable(alloc, "p", boolean(alloc))) else {
-        panic!(rt; "no basis");
-    };
-    let made = axiom(alloc, Some(basis));
-    assert!(rt; proves(made, variable(alloc, "p", boolean(alloc))));
+    let made = declared_axiom(rt.alloc());
+    assert!(rt; proves(made, truth(rt.alloc(), "p")));
 }
 
 #[test]

@@ -1,9 +1,9 @@
 //! Definitions of types, given and refused.
-ghost use Rattle.std.specs.Prelude.{◌≡◌};
+ghost use Rattle.std.specs.Prelude.{◌≡◌, IfSome};
 
 use crate::fixtures::{
-    Made, applied, boolean, constant, constructed, equal, functions, identity, is_refused, name,
-    proves, truth, variable,
+    Made, applied, boolean, constant, constructed, empty, equal, functions, identity, is_refused,
+    name, proves, truth, variable,
 };
 use hol_kernel::{Basis, Rule, Thm, TypeDefinition};
 use hol_terms::Term;
@@ -25,34 +25,47 @@ fn new_names(alloc: Global, abs: &str, rep: &str) -> Option<Names> {
     Some(Names { ty, abs, rep })
 }
 
-// The definition by the theorem over its basis, without what it promises.
+// The definition of `one` by the theorem over its basis, without what it promises.
 #[tactic(auto, using(hol_kernel::proofs::Subsets::within))]
-fn defined_by(alloc: Global, names: &Names, basis: &Basis, th: &Thm) -> Made<TypeDefinition>
+fn defined_by(alloc: Global, abs: &str, rep: &str, basis: &Basis, th: &Thm) -> Made<TypeDefinition>
     requires { th.now.basis ≡ basis.now }
 {
+    let names = new_names(alloc, abs, rep)?;
     Some(basis.type_define(alloc, &names.ty, &names.abs, &names.rep, th))
 }
 
-// The definition of `one` over no items, by the reflexivity of the term.
-fn defined(alloc: Global, names: Option<Names>, p: Option<Term>) -> Made<TypeDefinition> {
-    let names = names?;
+// The reflexivity of the term over the basis, and its assumption.
+fn reflexive(alloc: Global, basis: &Basis, p: Option<Term>) -> Option<Thm>
+    ensures { IfSome result (λ th. th.basis ≡ basis.now) }
+{
     let p = p?;
-    let basis = Basis::empty(alloc).ok()?;
-    match Thm::refl(alloc, &basis, &p) {
-        Ok(th) => defined_by(alloc, &names, &basis, &th),
+    match Thm::refl(alloc, basis, &p) {
+        Ok(th) => Some(th),
         Err(_) => None,
     }
 }
 
-// The same by its assumption.
-fn supposed(alloc: Global, names: Option<Names>, p: Option<Term>) -> Made<TypeDefinition> {
-    let names = names?;
+fn assumed(alloc: Global, basis: &Basis, p: Option<Term>) -> Option<Thm>
+    ensures { IfSome result (λ th. th.basis ≡ basis.now) }
+{
     let p = p?;
-    let basis = Basis::empty(alloc).ok()?;
-    match Thm::assume(alloc, &basis, &p) {
-        Ok(th) => defined_by(alloc, &names, &basis, &th),
+    match Thm::assume(alloc, basis, &p) {
+        Ok(th) => Some(th),
         Err(_) => None,
     }
+}
+
+// The definition of `one` over no items, by the reflexivity of the term, and by its assumption.
+fn defined(alloc: Global, abs: &str, rep: &str, p: Option<Term>) -> Made<TypeDefinition> {
+    let basis = empty(alloc)?;
+    let th = reflexive(alloc, &basis, p)?;
+    defined_by(alloc, abs, rep, &basis, &th)
+}
+
+fn supposed(alloc: Global, p: Option<Term>) -> Made<TypeDefinition> {
+    let basis = empty(alloc)?;
+    let th = assumed(alloc, &basis, p)?;
+    defined_by(alloc, "abs", "rep", &basis, &th)
 }
 
 // `\x:bool. x`.
@@ -101,7 +114,7 @@ fn member_and_return(alloc: Global) -> Option<Term> {
 
 // The definition of `one` as what equals the identity of truth values.
 fn one(alloc: Global) -> Option<TypeDefinition> {
-    defined(alloc, new_names(alloc, "abs", "rep"), member(alloc))?.ok()
+    defined(alloc, "abs", "rep", member(alloc))?.ok()
 }
 
 #[test]
@@ -137,27 +150,27 @@ fn a_type_definition_is_an_item(rt: HostRuntime) {
 fn a_theorem_with_hypotheses_defines_no_type(rt: HostRuntime) {
     let alloc = rt.alloc();
     let p = equal(alloc, member(alloc), member(alloc));
-    let made = supposed(alloc, new_names(alloc, "abs", "rep"), p);
+    let made = supposed(alloc, p);
     assert!(rt; is_refused(&made, Rule::TypeDefine));
 }
 
 #[test]
 fn an_open_predicate_defines_no_type(rt: HostRuntime) {
     let alloc = rt.alloc();
-    let made = defined(alloc, new_names(alloc, "abs", "rep"), truth(alloc, "x"));
+    let made = defined(alloc, "abs", "rep", truth(alloc, "x"));
     assert!(rt; is_refused(&made, Rule::TypeDefine));
 }
 
 #[test]
 fn the_constants_have_two_names(rt: HostRuntime) {
     let alloc = rt.alloc();
-    let made = defined(alloc, new_names(alloc, "abs", "abs"), member(alloc));
+    let made = defined(alloc, "abs", "abs", member(alloc));
     assert!(rt; is_refused(&made, Rule::TypeDefine));
 }
 
 #[test]
 fn the_names_of_the_constants_are_new(rt: HostRuntime) {
     let alloc = rt.alloc();
-    let made = defined(alloc, new_names(alloc, "abs", "T"), member(alloc));
+    let made = defined(alloc, "abs", "T", member(alloc));
     assert!(rt; is_refused(&made, Rule::TypeDefine));
 }
