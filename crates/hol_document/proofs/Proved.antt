@@ -1,8 +1,7 @@
 -- The states that running leads to hold proved theorems alone.
-use Rattle.std.proofs.Common.{◌≡◌, ℕ, List, [], ◌∷◌, ◌++◌, length, take, drop, map, refl, ap, sym, ◌∙◌, arith, inl, inr, true, false, Bool, cond, nat_eq, append_assoc, append-nil}
+use Rattle.std.proofs.Common.{◌≡◌, ℕ, List, [], ◌∷◌, ◌++◌, length, take, drop, map, refl, ap, sym, ◌∙◌, subst, arith, inl, inr, true, false, Bool, cond, nat_eq, append_assoc, append-nil}
 use Rattle.std.proofs.lemmas.Bool.Decides.{nat_tests}
-use Rattle.std.specs.Prelude.{◌⊎◌, Option, Some, None, IfSome, Ok}
-use Rattle.std.proofs.lemmas.List.Elements.{Contains-append_left, Contains-append_right}
+use Rattle.std.specs.Prelude.{◌⊎◌, Option, Some, None, IfSome, Ok, slice_index_or}
 use Rattle.hol_terms.specs.Nameless.{Nameless}
 use Rattle.hol_kernel.specs.Items.{Items, no_items}
 use Rattle.hol_kernel.specs.Sequent.{equation}
@@ -13,7 +12,7 @@ use Rattle.hol_kernel.proofs.Sound.{trans_sound}
 use Rattle.hol_notation_terms.specs.Text.{QuotationText}
 use Rattle.hol_notation_tactics.specs.Text.{CallText, TacText, Call, Then, ThenL, OrElse, Repeat, Try, Changed, Every, First, Replicate, DischThen, PopAssum, FirstAssum, SubgoalThen}
 use Rattle.hol_notation_commands.specs.Text.{CommandText, Goal, Apply, Back, Rotate, Qed, Oops, Import, NewType, NewConstant, NewAxiom, NewDefinition, NewBasicTypeDefinition}
-use Rattle.hol_notation_commands.specs.Reading.{ReadText, Reads, Breaks}
+use Rattle.hol_notation_commands.specs.Reading.{ReadText, Reads, Breaks, IsCommandText}
 use Rattle.hol_exec.specs.declared.refusal.RefusalKind.{RefusalKind}
 use Rattle.hol_exec.specs.declared.tac.TacCode.{TacCode}
 use Rattle.hol_exec.specs.Running.{IsReadToRun}
@@ -31,9 +30,9 @@ use Rattle.hol_exec.specs.ReportOf.{entry_text, report_of}
 use Rattle.hol_exec.proofs.Closed.{joins}
 use Rattle.hol_exec.proofs.Outcomes.{opens_at, leaves_at, Closes}
 use Rattle.hol_document.specs.Documents.{TheoryText, find_theory}
-use Rattle.hol_document.specs.Afresh.{IsOutcomeOf, Leads}
-use Rattle.hol_document.specs.Asked.{IsReport, ReportedIn, Reported}
-use Rattle.hol_document.specs.Shown.{IsGoalOf, IsProved, AllProved, ShowsProved, ShowsProvedIn}
+use Rattle.hol_document.specs.Afresh.{IsOutcomeOf, Leads, LeadTo}
+use Rattle.hol_document.specs.Asked.{IsReport, ReportedIn, Reported, BasisIn, BasisOf}
+use Rattle.hol_document.specs.Shown.{IsGoalOf, IsProved, AllProved, ShowsProved, ShowsProvedIn, TellsOfProvedIn}
 
 -- ---- reflexivity gives theorems
 
@@ -51,12 +50,23 @@ reflexive_theorem basis t e h =
 -- ---- more commands
 
 goal_more : (texts : List (List ℕ)) (text : List ℕ) (name : List ℕ) (t : Nameless) → IsGoalOf texts name t → IsGoalOf (texts ++ text ∷ []) name t
-goal_more texts text name t h = record { text = h.text; given = Contains-append_left texts (text ∷ []) _ h.given; quotation = h.quotation; says = h.says; reads = h.reads }
+goal_more texts text name t h = record {
+  before = h.before;
+  text = h.text;
+  later = h.later ++ text ∷ [];
+  are = ap (λ commands. commands ++ text ∷ []) h.are ∙ append_assoc h.before (h.text ∷ h.later) (text ∷ []);
+  state = h.state;
+  leads = h.leads;
+  opens = h.opens;
+  quotation = h.quotation;
+  says = h.says;
+  reads = h.reads;
+}
 
 all_more : (texts : List (List ℕ)) (text : List ℕ) (es : List EntryValue) → AllProved texts es → AllProved (texts ++ text ∷ []) es
 all_more texts text [] h = tt
 all_more texts text (e ∷ es) h =
-    (record { derived = h.0.derived; without_hypotheses = h.0.without_hypotheses; goal = goal_more texts text e.name e.theorem.concl h.0.goal }, all_more texts text es h.1)
+    (record { derived = h.0.derived; on_prelude = h.0.on_prelude; without_hypotheses = h.0.without_hypotheses; goal = goal_more texts text e.name e.theorem.concl h.0.goal }, all_more texts text es h.1)
 
 all_append : (texts : List (List ℕ)) (es fs : List EntryValue) → AllProved texts es → AllProved texts fs → AllProved texts (es ++ fs)
 all_append texts [] fs h k = k
@@ -69,6 +79,7 @@ record IsProofAfter (texts : List (List ℕ)) (p : ProofValue) : Type 0 where
   goal : IsGoalOf texts p.name p.statement
 
 record IsStateAfter (texts : List (List ℕ)) (s : StateValue) : Type 0 where
+  leads : LeadTo texts s
   entries : AllProved texts s.entries
   proof : IfSome s.proof (IsProofAfter texts)
 
@@ -79,8 +90,13 @@ some_more : (texts : List (List ℕ)) (text : List ℕ) (o : Option ProofValue) 
 some_more texts text None h = tt
 some_more texts text (Some p) h = proof_more texts text p h
 
-state_more : (texts : List (List ℕ)) (text : List ℕ) (s : StateValue) → IsStateAfter texts s → IsStateAfter (texts ++ text ∷ []) s
-state_more texts text s h = record { entries = all_more texts text s.entries h.entries; proof = some_more texts text s.proof h.proof }
+-- one more command leads to the state after its outcome
+leads_more : (texts : List (List ℕ)) (text : List ℕ) (from s : StateValue) (o : OutcomeValue) → Leads from texts s → IsOutcomeOf s text o → Leads from (texts ++ text ∷ []) (after s o)
+leads_more [] text from s o h k = (o, rw h at k, ap (λ (z : StateValue). after z o) h)
+leads_more (t ∷ texts) text from s o h k = (h.0, h.1, leads_more texts text (after from h.0) s o h.2 k)
+
+state_more : (texts : List (List ℕ)) (text : List ℕ) (s : StateValue) → LeadTo (texts ++ text ∷ []) s → AllProved texts s.entries → IfSome s.proof (IsProofAfter texts) → IsStateAfter (texts ++ text ∷ []) s
+state_more texts text s leads entries proof = record { leads = leads; entries = all_more texts text s.entries entries; proof = some_more texts text s.proof proof }
 
 sound_of : (texts : List (List ℕ)) (o : Option ProofValue) → IfSome o (IsProofAfter texts) → IfSome o IsSoundProof
 sound_of texts None h = tt
@@ -224,15 +240,40 @@ proving_at s (Breaks place) es h = absurd (cc)
 
 -- ---- the goal of an opened proof
 
-opened_goal : (texts : List (List ℕ)) (text : List ℕ) (s : StateValue) (read : ReadText) (n : List ℕ) (p : Nameless) (b : Items) → IsReadToRun text read → IsOutcome s read (Opens n p b) → IsGoalOf (texts ++ text ∷ []) n p × (b ≡ no_items)
-opened_goal texts text s (Reads command) n p b k h =
-    let o = opening command (reads_of command s) n p b h in
-    (record { text = text; given = Contains-append_right texts (text ∷ []) _ (0, omega arith, refl); quotation = o.quotation; says = rw o.is at k.0; reads = o.reads }, o.basis)
-opened_goal texts text s (Breaks place) n p b k h = absurd (cc)
+-- what a text that opens a proof says
+record SaysGoal (text : List ℕ) (n : List ℕ) (p : Nameless) (b : Items) : Type 0 where
+  quotation : QuotationText
+  says : IsCommandText text (Goal n quotation)
+  reads : IsReadAs quotation.term (Statement p)
+  basis : b ≡ no_items
 
-opened_after : (texts : List (List ℕ)) (text : List ℕ) (s : StateValue) (n : List ℕ) (p : Nameless) (b : Items) → IsOutcomeOf s text (Opens n p b) → IsProofAfter (texts ++ text ∷ []) (opened n p b)
-opened_after texts text s n p b h =
-    let goal = opened_goal texts text s h.read n p b h.reads h.gets in
+opening_text : (text : List ℕ) (s : StateValue) (read : ReadText) (n : List ℕ) (p : Nameless) (b : Items) → IsReadToRun text read → IsOutcome s read (Opens n p b) → SaysGoal text n p b
+opening_text text s (Reads command) n p b k h =
+    let o = opening command (reads_of command s) n p b h in
+    record { quotation = o.quotation; says = rw o.is at k.0; reads = o.reads; basis = o.basis }
+opening_text text s (Breaks place) n p b k h = absurd (cc)
+
+opened_goal : (texts : List (List ℕ)) (text : List ℕ) (s : StateValue) → LeadTo texts s → (n : List ℕ) (p : Nameless) (b : Items) → IsOutcomeOf s text (Opens n p b) → IsGoalOf (texts ++ text ∷ []) n p × (b ≡ no_items)
+opened_goal texts text s leads n p b h =
+    let o : SaysGoal text n p b = opening_text text s h.read n p b h.reads h.gets in (
+      record {
+        before = texts;
+        text = text;
+        later = [];
+        are = refl;
+        state = s;
+        leads = leads;
+        opens = subst (λ (c : Items). IsOutcomeOf s text (Opens n p c)) o.basis h;
+        quotation = o.quotation;
+        says = o.says;
+        reads = o.reads;
+      },
+      o.basis,
+    )
+
+opened_after : (texts : List (List ℕ)) (text : List ℕ) (s : StateValue) → LeadTo texts s → (n : List ℕ) (p : Nameless) (b : Items) → IsOutcomeOf s text (Opens n p b) → IsProofAfter (texts ++ text ∷ []) (opened n p b)
+opened_after texts text s leads n p b h =
+    let goal = opened_goal texts text s leads n p b h in
     record {
       sound = record { statement = opens_at s (Opens n p b) (h.read, h.gets) n p b refl; goals = inl refl };
       basis = goal.1;
@@ -267,7 +308,7 @@ finished_entry texts p h none = by h.sound.goals
   where
     by : ((p.newest.goals ≡ record { assumptions = []; conclusion = p.statement } ∷ []) ⊎ ((p.newest.goals ≡ []) × IsReflexive p.newest.basis p.statement)) → IsProved texts (record { name = p.name; theorem = proved p.newest.basis p.statement })
     by (inl one) = absurd (nothing_left (record { assumptions = []; conclusion = p.statement }) (sym none ∙ one))
-    by (inr h2) = record { derived = reflexive_theorem p.newest.basis p.statement h.basis h2.1; without_hypotheses = refl; goal = h.goal }
+    by (inr h2) = record { derived = reflexive_theorem p.newest.basis p.statement h.basis h2.1; on_prelude = h.basis; without_hypotheses = refl; goal = h.goal }
 
 no_goals : (gs : List GoalValue) → nat_eq (length gs) 0 ≡ true → gs ≡ []
 no_goals [] e = refl
@@ -287,40 +328,48 @@ proves_after texts (Some p) es h e = by (nat_eq (length p.newest.goals) 0) refl
 -- ---- the next state
 
 next_after : (texts : List (List ℕ)) (text : List ℕ) (s : StateValue) → IsStateAfter texts s → (o : OutcomeValue) → IsOutcomeOf s text o → IsStateAfter (texts ++ text ∷ []) (after s o)
-next_after texts text s h (Opens n p b) k = record { entries = all_more texts text s.entries h.entries; proof = opened_after texts text s n p b k }
+next_after texts text s h (Opens n p b) k = record {
+  leads = leads_more texts text start s (Opens n p b) h.leads k;
+  entries = all_more texts text s.entries h.entries;
+  proof = opened_after texts text s h.leads n p b k;
+}
 next_after texts text s h (Leaves goals) k =
     let closes : IfSome s.proof (Closes goals) = leaves_at s (Leaves goals) (k.read, k.gets) (sound_of texts s.proof h.proof) goals refl in
-    state_more texts text (after s (Leaves goals)) (record { entries = h.entries; proof = leaves_after texts s.proof goals h.proof closes })
+    state_more texts text (after s (Leaves goals)) (leads_more texts text start s (Leaves goals) h.leads k) h.entries (leaves_after texts s.proof goals h.proof closes)
 next_after texts text s h (Proves es) k =
     let made : AllProved texts es = proves_after texts s.proof es h.proof (proving_at s k.read es k.gets) in
-    state_more texts text (after s (Proves es)) (record { entries = all_append texts s.entries es h.entries made; proof = tt })
-next_after texts text s h (Refuses kind arg) k = state_more texts text s h
+    state_more texts text (after s (Proves es)) (leads_more texts text start s (Proves es) h.leads k) (all_append texts s.entries es h.entries made) tt
+next_after texts text s h (Refuses kind arg) k = state_more texts text s (leads_more texts text start s (Refuses kind arg) h.leads k) h.entries h.proof
 
 run_after : (before texts : List (List ℕ)) (s last : StateValue) → IsStateAfter before s → Leads s texts last → IsStateAfter (before ++ texts) last
 run_after before [] s last h k = rw (append-nil, k) h
 run_after before (text ∷ texts) s last h k = rw (← append_assoc before (text ∷ []) texts) (run_after (before ++ text ∷ []) texts (after s k.0) last (next_after before text s h k.0 k.1) k.2)
 
 started : IsStateAfter [] start
-started = record { entries = tt; proof = tt }
+started = record { leads = refl; entries = tt; proof = tt }
+
+-- the entries of a state to which commands lead
+pub entries_proved : (commands : List (List ℕ)) (s : StateValue) → LeadTo commands s → AllProved commands s.entries
+entries_proved commands s h = let state : IsStateAfter commands s = run_after [] commands start s started h in state.entries
+
+-- the entries that a command makes at it
+pub made_proved : (before : List (List ℕ)) (s : StateValue) (text : List ℕ) (es : List EntryValue) → LeadTo before s → IsOutcomeOf s text (Proves es) → AllProved before es
+made_proved before s text es h k =
+    let state : IsStateAfter before s = run_after [] before start s started h in
+    proves_after before s.proof es state.proof (proving_at s k.read es k.gets)
 
 -- ---- reports
 
-record Shows (shown : List (List ℕ)) (texts : List (List ℕ)) : Type 0 where
-  entries : List EntryValue
-  are : shown ≡ map entry_text entries
-  proved : AllProved texts entries
-
-shown_by : (texts : List (List ℕ)) (s : StateValue) → IsStateAfter texts s → (read : ReadText) (o : OutcomeValue) → IsOutcome s read o → (shown : List (List ℕ)) → HasMade shown ≡ report_of o (after s o) → Shows shown texts
-shown_by texts s h read (Opens n p b) k shown e = absurd (cc)
-shown_by texts s h read (Leaves goals) k shown e = absurd (cc)
-shown_by texts s h read (Proves es) k shown e = let g : shown ≡ map entry_text es = cc in record { entries = es; are = g; proved = proves_after texts s.proof es h.proof (proving_at s read es k) }
-shown_by texts s h read (Refuses kind arg) k shown e = absurd (cc)
+shown_by : (commands : List (List ℕ)) (at : ℕ) (s : StateValue) → LeadTo (take at commands) s → (o : OutcomeValue) → IsOutcomeOf s (slice_index_or commands at []) o → (shown : List (List ℕ)) → HasMade shown ≡ report_of o (after s o) → ShowsProved commands at shown
+shown_by commands at s h (Opens n p b) k shown e = absurd (cc)
+shown_by commands at s h (Leaves goals) k shown e = absurd (cc)
+shown_by commands at s h (Proves es) k shown e =
+    let g : shown ≡ map entry_text es = cc in
+    record { state = s; before = h; entries = es; made = k; shown = g; proved = made_proved (take at commands) s (slice_index_or commands at []) es h k }
+shown_by commands at s h (Refuses kind arg) k shown e = absurd (cc)
 
 pub shown_theorems : (commands : List (List ℕ)) (at : ℕ) (texts : List (List ℕ)) → IsReport commands at (HasMade texts) → ShowsProved commands at texts
-shown_theorems commands at texts h =
-    let state : IsStateAfter (take at commands) h.state = run_after [] (take at commands) start h.state started h.before in
-    let found = shown_by (take at commands) h.state state h.here.read h.outcome h.here.gets texts h.says in
-    record { entries = found.entries; shown = found.are; proved = found.proved }
+shown_theorems commands at texts h = shown_by commands at h.state h.before h.outcome h.here texts h.says
 
 pub asked_theorems : (theories : List TheoryText) (name : List ℕ) (at : ℕ) (texts : List (List ℕ)) → Reported theories name at (Ok (HasMade texts)) → ShowsProvedIn theories (find_theory name theories) at texts
 asked_theorems theories name at texts h = by (find_theory name theories) h
@@ -328,3 +377,12 @@ asked_theorems theories name at texts h = by (find_theory name theories) h
     by : (o : Option ℕ) → ReportedIn theories o at (Ok (HasMade texts)) → ShowsProvedIn theories o at texts
     by None k = absurd (cc)
     by (Some i) k = shown_theorems _ at texts k.1
+
+-- ---- answers to questions for a basis
+
+pub told_theorems : (theories : List TheoryText) (theory name : List ℕ) (answer : Option (List (List ℕ))) → BasisOf theories theory name (Ok answer) → TellsOfProvedIn theories (find_theory theory theories) name answer
+told_theorems theories theory name answer h = by (find_theory theory theories) h
+  where
+    by : (o : Option ℕ) → BasisIn theories o name (Ok answer) → TellsOfProvedIn theories o name answer
+    by None k = absurd (cc)
+    by (Some i) k = record { state = k.state; run = k.run; texts = k.texts; proved = entries_proved _ k.state k.run }

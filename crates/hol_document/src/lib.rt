@@ -13,4 +13,7 @@ mod theory;
 
 pub use docs::{COMMAND_LIMIT, Docs, THEORY_LIMIT};
 pub use error::{DocsError, Refusal};
-pub use laws::{bases_are_unique, reports_are_unique, shown_theorems_are_proved};
+pub use laws::{
+    bases_are_unique, reports_are_unique, shown_theorems_are_proved, states_are_unique,
+    theorems_are_proved,
+};

@@ -7,3 +7,4 @@ pub mod Literals
 pub mod Floats
 pub mod Machines
 pub mod Promises
+pub mod Once
