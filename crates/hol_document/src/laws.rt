@@ -17,7 +17,7 @@ pub fn theorems_are_proved()
     ensures made { (before : List (List ℕ)) (s : StateValue) (text : List ℕ) (entries : List EntryValue) → LeadTo before s → IsOutcomeOf s text (Proves entries) → AllProved before entries }
 {}
 
-/// Commands lead to one state.
+/// Commands lead to one state at most.
 #[tactic(auto, using(crate::proofs::Unique::one_state))]
 pub fn states_are_unique()
     ensures { (commands : List (List ℕ)) (s t : StateValue) → LeadTo commands s → LeadTo commands t → s ≡ t }
@@ -30,13 +30,13 @@ pub fn shown_theorems_are_proved()
     ensures bases { (theories : List TheoryText) (theory name : List ℕ) (answer : Option (List (List ℕ))) → BasisOf theories theory name (Ok answer) → TellsOfProvedIn theories (find_theory theory theories) name answer }
 {}
 
-/// The documents have one answer to the question for a report.
+/// The documents have at most one answer to the question for a report.
 #[tactic(auto, using(crate::proofs::Unique::one_answer))]
 pub fn reports_are_unique()
     ensures { (theories : List TheoryText) (name : List ℕ) (at : ℕ) (r q : Result ReportValue Refusal) → Reported theories name at r → Reported theories name at q → r ≡ q }
 {}
 
-/// The documents have one answer to the question for a basis.
+/// The documents have at most one answer to the question for a basis.
 #[tactic(auto, using(crate::proofs::Bases::one_basis_answer))]
 pub fn bases_are_unique()
     ensures { (theories : List TheoryText) (theory name : List ℕ) (r q : Result (Option (List (List ℕ))) Refusal) → BasisOf theories theory name r → BasisOf theories theory name q → r ≡ q }

@@ -112,7 +112,8 @@ impl Proof {
         &newest.basis
     }
 
-    /// The statement is an equation of two variables, and the same one twice where no goal is open.
+    /// The statement is a well typed term of type `bool`, and where no goal is open it is an equation of terms that differ in bound names
+    /// at most.
     pub fn promise(&self)
         ensures { IsSoundProof self.now }
     {

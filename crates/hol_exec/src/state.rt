@@ -70,7 +70,8 @@ impl State {
         }
     }
 
-    /// The statement of the open proof is an equation of two variables, and the same one twice where no goal is open.
+    /// The statement of the open proof is a well typed term of type `bool`, and where no goal is open it is an equation of terms that differ
+    /// in bound names at most.
     pub fn promise(&self)
         ensures { IfSome self.now.proof IsSoundProof }
     {

@@ -21,8 +21,8 @@ use std::alloc::Global;
 /// An identifier is the innermost bound variable of that name, else the constant that stands, else a free variable. The reading is
 /// the typing of which every other is an instance; the types that it leaves open are the type variables `?0`, `?1` and so on, as
 /// they occur. Answers `Arity`, `Untypable` or `TooLarge`, tested in this order, exactly where a type constructor stands with
-/// another number of arguments than its arity (or a name that is no constructor with arguments), there is no typing, or the reading
-/// has over 20,000 nodes; and `Memory` where memory is short.
+/// another number of arguments than its arity (or a name that is no constructor with arguments, or a type variable whose name begins with
+/// `?`, as those of open types do), there is no typing, or the reading has over 20,000 nodes; and `Memory` where memory is short.
 #[tactic(auto, using(crate::proofs::Resolved::raw_scoped, crate::proofs::Resolved::raw_rigid))]
 pub fn elaborate(
     alloc: Global,
@@ -79,7 +79,8 @@ pub fn elaborate_definition(
 /// The type that is written, among type constructors of these arities. A name that is no constructor is a type variable.
 ///
 /// Answers `Arity` or `TooLarge`, tested in this order, exactly where a type constructor stands with another number of arguments
-/// than its arity (or a name that is no constructor with arguments), or the type has over 20,000 nodes; and `Memory` where memory
+/// than its arity (or a name that is no constructor with arguments, or a type variable whose name begins with `?`), or the type has over
+/// 20,000 nodes; and `Memory` where memory
 /// is short.
 pub fn elaborate_type(
     alloc: Global,

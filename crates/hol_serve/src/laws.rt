@@ -16,7 +16,7 @@ pub fn runs_show_proved_theorems()
         → AnswersInPart MayAnswer old lines written new → AnswersInPart AnswersProved old lines written new }
 {}
 
-/// The machine answers a line in one way, but for want of memory.
+/// The machine answers a line in one way at most, but for want of memory.
 pub fn one_answer_or_memory()
     ensures { (old : Documents) (line : List ℕ) (a b : ReplyValue) (m n : Documents) → Machine old line a m → Machine old line b n
         → (a ≡ Refused Memory) ⊎ ((b ≡ Refused Memory) ⊎ ((a ≡ b) × (m ≡ n))) }
