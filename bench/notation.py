@@ -22,21 +22,12 @@ Needs Python 3.8 and Linux, and nothing else.
 
 import argparse
 import os
-import resource
 import statistics
-import subprocess
+
+from kernel import processor_seconds
 
 KINDS = ("brackets", "arguments", "binders", "variables", "right", "prefix", "then", "types")
 SIZES = ((100, 20000), (1000, 2000), (4000, 500))
-
-
-def processor_seconds(program, kind, size, times):
-    """The processor time of one run, and the tokens of its text."""
-    before = resource.getrusage(resource.RUSAGE_CHILDREN)
-    done = subprocess.run([program, kind, str(size), str(times)], check=True, capture_output=True, text=True)
-    after = resource.getrusage(resource.RUSAGE_CHILDREN)
-    seconds = after.ru_utime + after.ru_stime - before.ru_utime - before.ru_stime
-    return seconds, int(done.stdout.split(":")[1].split()[0])
 
 
 def main():
@@ -50,7 +41,7 @@ def main():
         for size, times in SIZES:
             runs = [processor_seconds(program, kind, size, times) for _ in range(given.rounds)]
             seconds = statistics.median(run[0] for run in runs)
-            tokens = runs[0][1]
+            tokens = int(runs[0][1])
             print(f"{kind:10}{size:6}{tokens:8}{tokens * times / seconds:17,.0f}")
 
 

@@ -16,7 +16,8 @@ use Rattle.hol_infer.specs.Reading.{IsReading, HasLargeReading}
 abbrev pub over_prelude : TermText → RawTree
 over_prelude t = raw_of prelude_types prelude_constants [] t
 
--- The reading of a term, which is well typed over the prelude by a law of readings: the typing of which every other is an instance, of at most 20,000 nodes.
+-- The reading of a term: the typing of which every other is an instance, of at most 20,000 nodes. It is well typed over the prelude, as the
+-- law `readings_stand` of hol_infer says.
 pub record IsSmallReading (t : TermText) (p : Nameless) : Type 0 where
   pub arities : term_has_arities prelude_types t ≡ true
   pub reading : IsReading (over_prelude t) p
@@ -29,7 +30,7 @@ pub data ReadingValue : Type 0 where
   NotBool : ReadingValue
   Statement : Nameless → ReadingValue
 
--- A reading of another type than bool. A quotation that leaves its type open, as `x` does, is one too: HOL Light would take it at bool.
+-- A reading of another type than bool. That of a quotation that leaves its type open, as `x` does, is one too.
 pub record IsNotBool (t : TermText) : Type 0 where
   pub term : Nameless
   pub reads : IsSmallReading t term
