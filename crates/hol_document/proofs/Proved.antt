@@ -4,7 +4,7 @@ use Rattle.std.proofs.lemmas.Bool.Decides.{nat_tests}
 use Rattle.std.specs.Prelude.{◌⊎◌, Option, Some, None, IfSome, Ok, slice_index_or}
 use Rattle.hol_terms.specs.Nameless.{Nameless}
 use Rattle.hol_kernel.specs.Items.{Items, no_items}
-use Rattle.hol_kernel.specs.Sequent.{equation}
+use Rattle.hol_formulas.specs.Equation.{equation}
 use Rattle.hol_kernel.specs.Legal.{IsLegalSet}
 use Rattle.hol_kernel.specs.Derivation.{by_refl}
 use Rattle.hol_kernel.specs.Theorem.{IsTheorem}

@@ -17,8 +17,10 @@ use Rattle.hol_kernel.specs.declared.error.KernelError.{KernelError}
 use Rattle.hol_kernel.specs.declared.error.KernelError.TheVariants.{Refused}
 use Rattle.hol_kernel.specs.Gives.{Gives}
 use Rattle.hol_kernel.specs.Items.{Items}
-use Rattle.hol_kernel.specs.Sequent.{no_hyps, bool_type, equality_type, equation}
-use Rattle.hol_kernel.specs.Rules.{sides_of, trans_sides, trans_of}
+use Rattle.hol_kernel.specs.Sequent.{no_hyps}
+use Rattle.hol_formulas.specs.Equation.{bool_type, equality_type, equation}
+use Rattle.hol_kernel.specs.Rules.{trans_sides, trans_of}
+use Rattle.hol_formulas.specs.Equation.{sides_of}
 use Rattle.hol_kernel.specs.Theorem.{Theorem, theorem_over}
 use Rattle.hol_kernel.specs.Typing.{is_known, type_over, HasType}
 use Rattle.hol_kernel.proofs.HypothesisLists.{hyps_total, hyps_same}

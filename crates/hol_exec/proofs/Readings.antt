@@ -5,8 +5,8 @@ use Rattle.hol_types.specs.Tree.{TypeTree}
 use Rattle.hol_types.proofs.OrderLaws.{type_cmp_decides}
 use Rattle.hol_terms.specs.Nameless.{Nameless}
 use Rattle.hol_terms.specs.Size.{term_size}
-use Rattle.hol_kernel.specs.Sequent.{bool_type}
-use Rattle.hol_kernel.specs.Signature.{prelude_types, prelude_constants}
+use Rattle.hol_formulas.specs.Equation.{bool_type}
+use Rattle.hol_formulas.specs.Constants.{prelude_types, prelude_constants}
 use Rattle.hol_kernel.specs.Typing.{is_type_at}
 use Rattle.hol_notation_terms.specs.Text.{TermText}
 use Rattle.hol_infer.specs.Resolving.{raw_of, term_has_arities}

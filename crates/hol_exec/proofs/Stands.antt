@@ -8,10 +8,11 @@ use Rattle.hol_types.specs.Tree.{TypeTree, TypeList, TyVar, TyApp, no_types, mor
 use Rattle.hol_types.specs.Subst.{type_subst}
 use Rattle.hol_terms.specs.Nameless.{Nameless, free, bound, fixed, app, lam, base_of}
 use Rattle.hol_kernel.specs.Items.{no_items, in_order}
-use Rattle.hol_kernel.specs.Sequent.{bool_type, equality_type}
-use Rattle.hol_kernel.specs.Signature.{prelude_types, prelude_constants, is_constructor, makes_type, makes_constant, has_arity, generic_in, is_instance_of, has_constant}
+use Rattle.hol_formulas.specs.Equation.{bool_type, equality_type}
+use Rattle.hol_kernel.specs.Signature.{makes_type, makes_constant, has_arity, has_constant}
+use Rattle.hol_formulas.specs.Constants.{prelude_types, prelude_constants, is_constructor, generic_in, is_instance_of}
 use Rattle.hol_kernel.specs.Typing.{types_count, is_type, are_types, is_known, HasType}
-use Rattle.hol_kernel.proofs.Instance.{instance_of_subst}
+use Rattle.hol_formulas.proofs.Instance.{instance_of_subst}
 use Rattle.hol_kernel.proofs.Variables.{typed_known}
 use Rattle.hol_notation_terms.specs.Text.{TermText}
 use Rattle.hol_infer.specs.Resolving.{arity_of, generic_type_of}

@@ -4,8 +4,8 @@
 use Rattle.std.specs.Prelude.{◌≡◌, ◌≢◌, ◌≤◌, [], true, false, Some}
 use Rattle.hol_terms.specs.Nameless.{Nameless, nameless_type}
 use Rattle.hol_terms.specs.Size.{term_size}
-use Rattle.hol_kernel.specs.Sequent.{bool_type}
-use Rattle.hol_kernel.specs.Signature.{prelude_types, prelude_constants}
+use Rattle.hol_formulas.specs.Equation.{bool_type}
+use Rattle.hol_formulas.specs.Constants.{prelude_types, prelude_constants}
 use Rattle.hol_notation_terms.specs.Text.{TermText}
 use Rattle.hol_infer.specs.Raw.{RawTree}
 use Rattle.hol_infer.specs.Resolving.{raw_of, term_has_arities}

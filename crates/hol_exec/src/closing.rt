@@ -4,7 +4,7 @@ ghost use Rattle.hol_terms.specs.Nameless.{nameless};
 ghost use Rattle.hol_exec.specs.ReadsValue.{ClosingValue, closing_of};
 ghost use Rattle.hol_exec.specs.Sound.{IsSoundClosing};
 ghost use Rattle.hol_exec.specs.Local.{proved};
-ghost use Rattle.hol_kernel.specs.Sequent.{equation};
+ghost use Rattle.hol_formulas.specs.Equation.{equation};
 ghost use Rattle.hol_kernel.specs.Typing.{type_over};
 
 use crate::equation::sides;

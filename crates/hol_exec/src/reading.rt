@@ -1,7 +1,7 @@
 //! What a quotation reads as where a statement is wanted.
 ghost use Rattle.std.specs.Prelude.{◌≡◌, IfOk, []};
 ghost use Rattle.hol_terms.specs.Nameless.{nameless, nameless_type};
-ghost use Rattle.hol_kernel.specs.Sequent.{bool_type};
+ghost use Rattle.hol_formulas.specs.Equation.{bool_type};
 ghost use Rattle.hol_kernel.specs.Typing.{is_type_at};
 ghost use Rattle.hol_exec.specs.Reading.{IsReadAs};
 ghost use Rattle.hol_exec.specs.ReadingView.{reading_value};

@@ -7,7 +7,7 @@ use Rattle.hol_types.proofs.OrderLaws.{type_cmp_decides}
 use Rattle.hol_terms.specs.Named.{Named, named_type}
 use Rattle.hol_terms.specs.Nameless.{nameless}
 use Rattle.hol_terms.proofs.Typing.{type_outside}
-use Rattle.hol_kernel.specs.Sequent.{bool_type}
+use Rattle.hol_formulas.specs.Equation.{bool_type}
 use Rattle.hol_kernel.specs.Typing.{is_type_at}
 use Rattle.hol_kernel.specs.Given.{assumed, assumption_of}
 

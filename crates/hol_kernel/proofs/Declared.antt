@@ -9,7 +9,7 @@ use Rattle.hol_types.proofs.OrderLaws.{type_cmp_decides}
 use Rattle.hol_terms.specs.Nameless.{Nameless}
 use Rattle.hol_kernel.specs.Item.{Item, declared_type, declared_constant, declared_axiom}
 use Rattle.hol_kernel.specs.Items.{Items, in_order}
-use Rattle.hol_kernel.specs.Sequent.{bool_type}
+use Rattle.hol_formulas.specs.Equation.{bool_type}
 use Rattle.hol_kernel.specs.Signature.{Key, type_key, constant_key, axiom_key, key_eq, has_key, prelude_has}
 use Rattle.hol_kernel.specs.Typing.{is_type, is_type_at, has_type, type_over, HasType}
 use Rattle.hol_kernel.specs.Legal.{IsNew, HasNewKeys}

@@ -12,7 +12,8 @@ use Rattle.hol_terms.specs.Nameless.{Nameless, nameless, free_occurrences}
 use Rattle.hol_terms.specs.Scoped.{binds, add_all}
 use Rattle.hol_kernel.specs.Item.{defined_constant}
 use Rattle.hol_kernel.specs.Items.{Items, Holds, IsWithin}
-use Rattle.hol_kernel.specs.Sequent.{Hyps, no_hyps, named_equation}
+use Rattle.hol_kernel.specs.Sequent.{Hyps, no_hyps}
+use Rattle.hol_formulas.specs.Equation.{named_equation}
 use Rattle.hol_kernel.specs.Signature.{constant_key, term_tyvars}
 use Rattle.hol_kernel.specs.Typing.{is_typed, HasType}
 use Rattle.hol_kernel.specs.Legal.{HasNewKeys, IsClosed, IsDefinable}
@@ -26,7 +27,7 @@ use Rattle.hol_kernel.proofs.ItemOrder.{total, only}
 use Rattle.hol_kernel.proofs.Weaken.{HasType-more}
 use Rattle.hol_kernel.proofs.Held.{named_of_typed}
 use Rattle.hol_kernel.proofs.Typed.{typed_type}
-use Rattle.hol_kernel.proofs.Equations.{equation_right}
+use Rattle.hol_formulas.proofs.Equations.{equation_right}
 use Rattle.hol_kernel.proofs.Declared.{one_name, name_taken, own_name}
 use Rattle.hol_kernel.proofs.TermRules.{along}
 

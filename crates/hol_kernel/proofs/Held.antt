@@ -9,7 +9,8 @@ use Rattle.hol_terms.specs.Nameless.{Nameless, nameless, nameless_type}
 use Rattle.hol_terms.proofs.Typing.{type_outside}
 use Rattle.hol_kernel.specs.Item.{Item, declared_type, declared_constant, defined_constant, defined_type, declared_axiom}
 use Rattle.hol_kernel.specs.Items.{Items, in_order, Holds, IsWithin, IsSubset, item_set}
-use Rattle.hol_kernel.specs.Sequent.{Hyps, no_hyps, bool_type}
+use Rattle.hol_kernel.specs.Sequent.{Hyps, no_hyps}
+use Rattle.hol_formulas.specs.Equation.{bool_type}
 use Rattle.hol_kernel.specs.Typing.{is_known, HasType}
 use Rattle.hol_kernel.specs.Legal.{IsSound, IsLegal, IsLegalSet}
 use Rattle.hol_kernel.specs.Derivation.{Derives, by_axiom}

@@ -17,7 +17,8 @@ use Rattle.hol_subst.proofs.Typing.{subst_type}
 use Rattle.hol_subst.proofs.TypeLaws.{pairs_typed, good_pairs_fit}
 use Rattle.hol_subst.proofs.TypesInst.{typed_instance}
 use Rattle.hol_kernel.specs.Items.{Items}
-use Rattle.hol_kernel.specs.Sequent.{Hyps, nameless_cmp, hyp_of, hyps_of, hyps_image, bool_type}
+use Rattle.hol_kernel.specs.Sequent.{Hyps, nameless_cmp, hyp_of, hyps_of, hyps_image}
+use Rattle.hol_formulas.specs.Equation.{bool_type}
 use Rattle.hol_kernel.specs.Typing.{is_known, is_typed, is_type_at, are_types_for, are_typed_for}
 use Rattle.hol_kernel.specs.Derivation.{Derives, by_inst_type, by_inst}
 use Rattle.hol_kernel.specs.Rules.{inst_type_of, inst_of, is_pair_at, are_pairs_over}

@@ -1,9 +1,7 @@
-pub mod Instance
 pub mod Sets
 pub mod Steps
 pub mod Typed
 pub mod Stored
-pub mod Equations
 pub mod Variables
 pub mod SortedSets
 pub mod Members
@@ -15,14 +13,12 @@ pub mod Clashes
 pub mod Merging
 pub mod Declared
 pub mod HypothesisLists
-pub mod Sides
 pub mod Sound
 pub mod TermRules
 pub mod Held
 pub mod InstRules
 pub mod TermNames
 pub mod Definable
-pub mod PartTypes
 pub mod Stands
 pub mod WellTyped
 pub mod TypeDefinitions

@@ -15,11 +15,13 @@ use Rattle.hol_terms.specs.Alpha.{strip, alpha_eq}
 use Rattle.hol_terms.proofs.Alpha.{alpha_eq_decides}
 use Rattle.hol_terms.proofs.Typing.{type_outside}
 use Rattle.hol_kernel.specs.Items.{Items}
-use Rattle.hol_kernel.specs.Sequent.{Hyps, equality_type, equation}
+use Rattle.hol_kernel.specs.Sequent.{Hyps}
+use Rattle.hol_formulas.specs.Equation.{equality_type, equation}
 use Rattle.hol_kernel.specs.Derivation.{Derives, by_trans, by_eq_mp, by_mk_comb, by_deduct_antisym}
 use Rattle.hol_kernel.specs.Theorem.{Theorem, theorem_over}
-use Rattle.hol_kernel.specs.Rules.{Sides, sides_at, sides_of, trans_sides, trans_of, eq_mp_sides, eq_mp_of, comb_parts, comb_sides, mk_comb_of, deduct_antisym_of}
-use Rattle.hol_kernel.proofs.Sides.{fun_parts_is}
+use Rattle.hol_kernel.specs.Rules.{trans_sides, trans_of, eq_mp_sides, eq_mp_of, comb_parts, comb_sides, mk_comb_of, deduct_antisym_of}
+use Rattle.hol_formulas.specs.Equation.{Sides, sides_at, sides_of}
+use Rattle.hol_formulas.proofs.TakingApart.{fun_parts_is}
 
 -- ---- what tests say
 

@@ -19,10 +19,11 @@ use Rattle.hol_subst.proofs.TypesInst.{applied_is}
 use Rattle.hol_subst.proofs.TypeLaws.{PairsFit}
 use Rattle.hol_kernel.specs.Item.{Item}
 use Rattle.hol_kernel.specs.Items.{Items, in_order}
-use Rattle.hol_kernel.specs.Signature.{has_arity, has_constant, makes_constant, item_constants, is_constant_at, is_instance, is_instance_of, prelude_generic}
+use Rattle.hol_kernel.specs.Signature.{has_arity, has_constant, makes_constant, item_constants}
+use Rattle.hol_formulas.specs.Constants.{is_constant_at, is_instance, is_instance_of, prelude_generic}
 use Rattle.hol_kernel.specs.Typing.{types_count, is_type, are_types, is_base, is_known, has_type, are_types_for, are_typed_for}
 use Rattle.hol_kernel.proofs.Declared.{has_type_is}
-use Rattle.hol_kernel.proofs.Instance.{Pairs, subst_of_instance, instance_of_subst}
+use Rattle.hol_formulas.proofs.Instance.{Pairs, subst_of_instance, instance_of_subst}
 use Rattle.hol_kernel.proofs.Typed.{base_is_base}
 use Rattle.hol_kernel.proofs.Variables.{known_typed}
 

@@ -16,15 +16,17 @@ use Rattle.hol_subst.proofs.Closing.{nameless_abs, open_close, close_binds}
 use Rattle.hol_terms.specs.Nameless.{Nameless, free, app, nameless}
 use Rattle.hol_kernel.specs.Items.{Items}
 use Rattle.hol_kernel.specs.NamedTyping.{is_known_named}
-use Rattle.hol_kernel.specs.Sequent.{Hyps, no_hyps, only_hyp, bool_type, equation, named_equation}
+use Rattle.hol_kernel.specs.Sequent.{Hyps, no_hyps, only_hyp}
+use Rattle.hol_formulas.specs.Equation.{bool_type, equation, named_equation}
 use Rattle.hol_kernel.specs.Typing.{is_type, is_typed, is_type_at, has_type, type_over, HasType}
 use Rattle.hol_kernel.specs.Derivation.{Derives, by_refl, by_assume, by_beta, by_abs}
 use Rattle.hol_kernel.specs.Theorem.{Theorem, theorem_over, IsDerived}
-use Rattle.hol_kernel.specs.Rules.{Sides, sides_of, reflexive, refl_of, assume_of, reduced, beta_of, abs_sides, abs_of}
+use Rattle.hol_kernel.specs.Rules.{reflexive, refl_of, assume_of, reduced, beta_of, abs_sides, abs_of}
+use Rattle.hol_formulas.specs.Equation.{Sides, sides_of}
 use Rattle.hol_kernel.proofs.Typed.{typed_type, typed_named, type_over_named}
-use Rattle.hol_kernel.proofs.Equations.{equation_right}
+use Rattle.hol_formulas.proofs.Equations.{equation_right}
 use Rattle.hol_kernel.proofs.Sound.{sides_is}
-use Rattle.hol_kernel.proofs.Sides.{IsApplied, applied_parts}
+use Rattle.hol_formulas.proofs.TakingApart.{IsApplied, applied_parts}
 
 -- a derivation along equations of its parts
 pub along : (b b' : Items) (h h' : Hyps) (c c' : Named) → b' ≡ b → h' ≡ h → c' ≡ c → Derives b h (nameless [] c) → named_type c ≡ Some bool_type → IsDerived b' h' c'

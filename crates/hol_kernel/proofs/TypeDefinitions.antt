@@ -11,7 +11,8 @@ use Rattle.hol_terms.specs.Nameless.{Nameless, app, nameless}
 use Rattle.hol_terms.proofs.Typing.{type_outside}
 use Rattle.hol_kernel.specs.Item.{defined_type}
 use Rattle.hol_kernel.specs.Items.{Items, Holds, IsSubset, IsWithin}
-use Rattle.hol_kernel.specs.Sequent.{Hyps, no_hyps, hyp_of, hyps_of, bool_type}
+use Rattle.hol_kernel.specs.Sequent.{Hyps, no_hyps, hyp_of, hyps_of}
+use Rattle.hol_formulas.specs.Equation.{bool_type}
 use Rattle.hol_kernel.specs.Signature.{Key, type_key, constant_key, key_eq, has_key, term_tyvars, new_type}
 use Rattle.hol_kernel.specs.Typing.{is_known, HasType}
 use Rattle.hol_kernel.specs.Bijections.{abs_rep, rep_abs}

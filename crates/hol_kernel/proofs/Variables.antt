@@ -9,12 +9,13 @@ use Rattle.hol_terms.specs.Nameless.{Nameless, free, app, fixed, nameless_type}
 use Rattle.hol_subst.specs.CodeOrder.{coded_total}
 use Rattle.hol_kernel.specs.Item.{item_code}
 use Rattle.hol_kernel.specs.Items.{Items, no_items, in_order_of, in_order}
-use Rattle.hol_kernel.specs.Sequent.{bool_type, equality_type, equation}
-use Rattle.hol_kernel.specs.Signature.{has_arity, has_constant, is_constructor, makes_type, makes_constant, prelude_types}
+use Rattle.hol_formulas.specs.Equation.{bool_type, equality_type, equation}
+use Rattle.hol_kernel.specs.Signature.{has_arity, has_constant, makes_type, makes_constant}
+use Rattle.hol_formulas.specs.Constants.{is_constructor, prelude_types}
 use Rattle.hol_kernel.specs.Typing.{types_count, is_type, are_types, is_known, HasType}
 use Rattle.hol_kernel.specs.Rules.{reflexive, refl_of}
-use Rattle.hol_kernel.proofs.Instance.{instance_of_subst}
-use Rattle.hol_kernel.proofs.Equations.{applied_fits}
+use Rattle.hol_formulas.proofs.Instance.{instance_of_subst}
+use Rattle.hol_formulas.proofs.Equations.{applied_fits}
 use Rattle.hol_kernel.proofs.Sets.{items_empty}
 
 both : (a b : Bool) → (a && b) ≡ true → (a ≡ true) × (b ≡ true)

@@ -7,8 +7,10 @@ use Rattle.hol_types.specs.Tree.{TypeTree, TypeList, TyVar, TyApp, no_types, mor
 use Rattle.hol_terms.specs.Nameless.{Nameless, free, bound, fixed, app, lam, base_of, nameless_type}
 use Rattle.hol_kernel.specs.Item.{Item, declared_type, declared_constant, defined_constant, defined_type, declared_axiom}
 use Rattle.hol_kernel.specs.Items.{Items, in_order, Holds, IsWithin}
-use Rattle.hol_kernel.specs.Sequent.{Hyps, bool_type}
-use Rattle.hol_kernel.specs.Signature.{has_arity, makes_type, makes_constant, has_constant, is_instance_of, prelude_generic, is_constructor, prelude_types}
+use Rattle.hol_kernel.specs.Sequent.{Hyps}
+use Rattle.hol_formulas.specs.Equation.{bool_type}
+use Rattle.hol_kernel.specs.Signature.{has_arity, makes_type, makes_constant, has_constant}
+use Rattle.hol_formulas.specs.Constants.{is_instance_of, prelude_generic, is_constructor, prelude_types}
 use Rattle.hol_kernel.specs.Typing.{types_count, is_type, are_types, is_base, is_known, is_type_at, has_type, type_over, HasType}
 use Rattle.hol_kernel.specs.Derivation.{Derives, by_refl, by_trans, by_mk_comb, by_abs, by_beta, by_assume, by_eq_mp, by_deduct_antisym, by_inst_type, by_inst, by_postulate, by_axiom, by_definition, by_abs_rep, by_rep_abs}
 use Rattle.hol_kernel.specs.Legal.{IsSound}

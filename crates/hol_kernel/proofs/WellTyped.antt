@@ -18,21 +18,23 @@ use Rattle.hol_subst.proofs.Typing.{typed_closed, subst_type, mapped_part}
 use Rattle.hol_subst.proofs.TypeLaws.{pairs_typed, inst_type, bind_type, open_type}
 use Rattle.hol_kernel.specs.Item.{Item, defined_constant, defined_type}
 use Rattle.hol_kernel.specs.Items.{Items, in_order, Holds}
-use Rattle.hol_kernel.specs.Sequent.{Hyps, nameless_cmp, no_hyps, only_hyp, hyps_image, bool_type, equality_type, equation}
-use Rattle.hol_kernel.specs.Signature.{term_tyvars, new_type, has_arity, has_constant, makes_type, makes_constant, bijections, constant_of, is_constant_at, is_instance_of, prelude_generic, is_constructor, prelude_types}
+use Rattle.hol_kernel.specs.Sequent.{Hyps, nameless_cmp, no_hyps, only_hyp, hyps_image}
+use Rattle.hol_formulas.specs.Equation.{bool_type, equality_type, equation}
+use Rattle.hol_kernel.specs.Signature.{term_tyvars, new_type, has_arity, has_constant, makes_type, makes_constant, bijections, constant_of}
+use Rattle.hol_formulas.specs.Constants.{is_constant_at, is_instance_of, prelude_generic, is_constructor, prelude_types}
 use Rattle.hol_kernel.specs.Typing.{is_type, are_types, is_base, is_known, HasType}
 use Rattle.hol_kernel.specs.NamedTyping.{is_known_named}
-use Rattle.hol_kernel.specs.Prelude.{postulated, statement_of}
+use Rattle.hol_formulas.specs.Prelude.{postulated, statement_of}
 use Rattle.hol_kernel.specs.Bijections.{to_new, from_new, abs_rep, rep_abs}
 use Rattle.hol_kernel.specs.Derivation.{Derives, by_refl, by_trans, by_mk_comb, by_abs, by_beta, by_assume, by_eq_mp, by_deduct_antisym, by_inst_type, by_inst, by_postulate, by_axiom, by_definition, by_abs_rep, by_rep_abs}
 use Rattle.hol_kernel.specs.Theorem.{Theorem, IsWellTyped}
-use Rattle.hol_kernel.specs.declared.postulate.Postulate.{Postulate}
-use Rattle.hol_kernel.specs.declared.postulate.Postulate.TheVariants.{TDef, AndDef, ImpDef, ForallDef, ExistsDef, OrDef, FDef, NotDef, ExistsUniqueDef, EtaAx, SelectAx, OneOne, Onto, InfinityAx}
-use Rattle.hol_kernel.proofs.Equations.{applied_fits}
+use Rattle.hol_formulas.specs.declared.postulate.Postulate.{Postulate}
+use Rattle.hol_formulas.specs.declared.postulate.Postulate.TheVariants.{TDef, AndDef, ImpDef, ForallDef, ExistsDef, OrDef, FDef, NotDef, ExistsUniqueDef, EtaAx, SelectAx, OneOne, Onto, InfinityAx}
+use Rattle.hol_formulas.proofs.Equations.{applied_fits}
 use Rattle.hol_kernel.proofs.HypothesisLists.{hyps_total, hyps_same}
 use Rattle.hol_kernel.proofs.Members.{Among, in_insert_cases, in_union_cases, not_in_empty, or_right, from_list_among, among_from_list, from_list-items}
 use Rattle.hol_kernel.proofs.Ordered.{any_of}
-use Rattle.hol_kernel.proofs.PartTypes.{postulated_typed}
+use Rattle.hol_formulas.proofs.PartTypes.{postulated_typed}
 use Rattle.hol_kernel.proofs.Sound.{strip_type}
 use Rattle.hol_kernel.proofs.Stands.{both, some_is, app_parts, instance_itself, fun_stands, fun_parts_stand, type_stands, known_strip, known_bind, known_open, known_inst, typed_pairs_fit, known_subst}
 use Rattle.hol_kernel.proofs.Steps.{is_type_app}

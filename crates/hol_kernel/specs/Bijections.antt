@@ -3,7 +3,7 @@ use Rattle.std.specs.Prelude.{ℕ, List, codes}
 use Rattle.hol_types.specs.Tree.{TypeTree}
 use Rattle.hol_types.specs.Fun.{fun_type}
 use Rattle.hol_terms.specs.Nameless.{Nameless, free, fixed, app}
-use Rattle.hol_kernel.specs.Sequent.{bool_type, equation}
+use Rattle.hol_formulas.specs.Equation.{bool_type, equation}
 
 -- the constant abs to the new type, and the constant rep from it
 abbrev pub to_new : List ℕ → TypeTree → TypeTree → Nameless

@@ -13,12 +13,13 @@ use Rattle.hol_subst.specs.Closing.{bind, open_with}
 use Rattle.hol_subst.specs.Variant.{is_free_in}
 use Rattle.hol_kernel.specs.Item.{declared_axiom, defined_constant, defined_type}
 use Rattle.hol_kernel.specs.Items.{Items, Holds}
-use Rattle.hol_kernel.specs.Sequent.{Hyps, no_hyps, only_hyp, hyps_image, bool_type, equation}
+use Rattle.hol_kernel.specs.Sequent.{Hyps, no_hyps, only_hyp, hyps_image}
+use Rattle.hol_formulas.specs.Equation.{bool_type, equation}
 use Rattle.hol_kernel.specs.Signature.{term_tyvars, new_type}
 use Rattle.hol_kernel.specs.Typing.{HasType, IsType, AreTypes, AreTyped}
-use Rattle.hol_kernel.specs.Prelude.{statement_of}
+use Rattle.hol_formulas.specs.Prelude.{statement_of}
 use Rattle.hol_kernel.specs.Bijections.{abs_rep, rep_abs}
-use Rattle.hol_kernel.specs.declared.postulate.Postulate.{Postulate}
+use Rattle.hol_formulas.specs.declared.postulate.Postulate.{Postulate}
 
 -- `Derives items hyps concl` is the type of the finite trees over the prelude and the items whose root is the sequent of hyps and concl.
 pub data Derives (items : Items) : Hyps → Nameless → Type 0 where

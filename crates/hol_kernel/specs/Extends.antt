@@ -7,7 +7,8 @@ use Rattle.hol_types.specs.Fun.{fun_type}
 use Rattle.hol_terms.specs.Nameless.{Nameless, fixed, app}
 use Rattle.hol_kernel.specs.Item.{Item, declared_type, declared_constant, defined_constant, defined_type, declared_axiom}
 use Rattle.hol_kernel.specs.Items.{Items, Holds}
-use Rattle.hol_kernel.specs.Sequent.{no_hyps, bool_type, equation}
+use Rattle.hol_kernel.specs.Sequent.{no_hyps}
+use Rattle.hol_formulas.specs.Equation.{bool_type, equation}
 use Rattle.hol_kernel.specs.Signature.{Key, has_key, term_tyvars, new_type}
 use Rattle.hol_kernel.specs.Typing.{HasType}
 use Rattle.hol_kernel.specs.Legal.{HasNewKeys, IsSound, IsClosed, IsDefinable}

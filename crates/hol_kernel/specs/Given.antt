@@ -7,7 +7,7 @@ use Rattle.hol_terms.specs.Named.{named_type}
 use Rattle.hol_terms.specs.Nameless.{Nameless, nameless, nameless_type}
 use Rattle.hol_terms.specs.Code.{coded_nameless}
 use Rattle.hol_kernel.specs.Items.{Items, IsSubset}
-use Rattle.hol_kernel.specs.Sequent.{bool_type}
+use Rattle.hol_formulas.specs.Equation.{bool_type}
 use Rattle.hol_kernel.specs.Typing.{is_type_at}
 use Rattle.hol_kernel.specs.Theorem.{Theorem, theorem_over, theorem_code}
 use Rattle.hol_kernel.specs.Rules.{assume_of}

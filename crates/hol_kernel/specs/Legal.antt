@@ -8,7 +8,8 @@ use Rattle.hol_types.specs.Names.{tyvars}
 use Rattle.hol_terms.specs.Nameless.{Nameless, app, free_occurrences}
 use Rattle.hol_kernel.specs.Item.{Item, declared_type, declared_constant, defined_constant, defined_type, declared_axiom}
 use Rattle.hol_kernel.specs.Items.{Items, item_cmp, Holds, item_set}
-use Rattle.hol_kernel.specs.Sequent.{no_hyps, bool_type}
+use Rattle.hol_kernel.specs.Sequent.{no_hyps}
+use Rattle.hol_formulas.specs.Equation.{bool_type}
 use Rattle.hol_kernel.specs.Signature.{Key, has_key, prelude_has, term_tyvars}
 use Rattle.hol_kernel.specs.Typing.{is_type, HasType}
 use Rattle.hol_kernel.specs.Derivation.{Derives}

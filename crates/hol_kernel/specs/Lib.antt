@@ -5,7 +5,6 @@ pub mod Sequent
 pub mod Signature
 pub mod Typing
 pub mod NamedTyping
-pub mod Prelude
 pub mod Bijections
 pub mod Derivation
 pub mod Legal

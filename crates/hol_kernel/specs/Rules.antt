@@ -14,28 +14,13 @@ use Rattle.hol_subst.specs.Closing.{bind}
 use Rattle.hol_subst.specs.Variant.{is_free_in}
 use Rattle.hol_subst.specs.Pairs.{nameless_pairs}
 use Rattle.hol_kernel.specs.Items.{Items}
-use Rattle.hol_kernel.specs.Sequent.{Hyps, no_hyps, only_hyp, hyps_image, bool_type, equality_type, equation}
+use Rattle.hol_kernel.specs.Sequent.{Hyps, no_hyps, only_hyp, hyps_image}
+use Rattle.hol_formulas.specs.Equation.{bool_type, equality_type, equation, Sides, sides_of}
 use Rattle.hol_kernel.specs.Typing.{is_type, type_over, has_type, are_types_for}
-use Rattle.hol_kernel.specs.Prelude.{statement_of}
+use Rattle.hol_formulas.specs.Prelude.{statement_of}
 use Rattle.hol_kernel.specs.Theorem.{Theorem, theorem_over}
 use Rattle.hol_kernel.specs.Items.{no_items}
-use Rattle.hol_kernel.specs.declared.postulate.Postulate.{Postulate}
-
--- ---- the sides of an equation
-
--- an equation's two sides and their type
-pub record Sides : Type 0 where
-  pub sides_type : TypeTree
-  pub left : Nameless
-  pub right : Nameless
-
--- the sides l and r of a constant c of type s applied to both, where c is (=) and a the type of its first argument
-abbrev pub sides_at : List ℕ → TypeTree → Nameless → Nameless → TypeTree × TypeTree → Option Sides
-sides_at c s l r p = cond (bytes_eq c (codes "=") && type_eq s (equality_type p.0)) (Some (record { sides_type = p.0; left = l; right = r })) None
-
-abbrev pub sides_of : Nameless → Option Sides
-sides_of (app (app (fixed c s) l) r) = option_and_then (sides_at c s l r) (fun_parts s)
-sides_of t = None
+use Rattle.hol_formulas.specs.declared.postulate.Postulate.{Postulate}
 
 -- ---- rules on terms handed in
 

@@ -1,10 +1,8 @@
 -- Sequents: a finite set of hypotheses, taken up to the names of bound variables, and a conclusion (fusion.ml: the values of type thm).
-use Rattle.std.specs.Prelude.{List, [], map, codes}
+use Rattle.std.specs.Prelude.{List, [], map}
 use Rattle.std.specs.declared.cmp.Ordering.{Ordering}
 use Rattle.std.specs.FinSet as set
-use Rattle.hol_types.specs.Tree.{TypeTree, TyApp, no_types}
-use Rattle.hol_types.specs.Fun.{fun_type}
-use Rattle.hol_terms.specs.Nameless.{Nameless, fixed, app, nameless}
+use Rattle.hol_terms.specs.Nameless.{Nameless, nameless}
 use Rattle.hol_terms.specs.Named as named
 use Rattle.hol_subst.specs.CodeOrder.{coded_cmp}
 use Rattle.hol_terms.specs.Code.{coded_nameless}
@@ -35,19 +33,3 @@ hyp_of p = strip (nameless [] p)
 -- the hypotheses that a list of named terms stands for
 abbrev pub hyps_of : List named.Named → Hyps
 hyps_of ps = set.from_list (map hyp_of ps)
-
--- the type of truth values
-abbrev pub bool_type : TypeTree
-bool_type = TyApp (codes "bool") no_types
-
--- the type of (=) between terms of the type a
-abbrev pub equality_type : TypeTree → TypeTree
-equality_type a = fun_type a (fun_type a bool_type)
-
--- (=) l r
-abbrev pub equation : TypeTree → Nameless → Nameless → Nameless
-equation a l r = app (app (fixed (codes "=") (equality_type a)) l) r
-
--- its named form
-abbrev pub named_equation : TypeTree → named.Named → named.Named → named.Named
-named_equation a l r = named.comb (named.comb (named.constant (codes "=") (equality_type a)) l) r

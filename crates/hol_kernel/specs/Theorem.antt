@@ -6,7 +6,8 @@ use Rattle.hol_terms.specs.Nameless.{Nameless, nameless}
 use Rattle.hol_terms.specs.Named.{Named, named_type}
 use Rattle.hol_terms.specs.Code.{coded_nameless}
 use Rattle.hol_kernel.specs.Items.{Items, items_code}
-use Rattle.hol_kernel.specs.Sequent.{Hyps, bool_type}
+use Rattle.hol_kernel.specs.Sequent.{Hyps}
+use Rattle.hol_formulas.specs.Equation.{bool_type}
 use Rattle.hol_kernel.specs.Typing.{HasType}
 use Rattle.hol_kernel.specs.Derivation.{Derives}
 use Rattle.hol_kernel.specs.Legal.{IsLegalSet}

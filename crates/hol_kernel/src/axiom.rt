@@ -9,7 +9,7 @@ ghost use Rattle.hol_kernel.specs.Clashing.{axiom_at, axiom_in};
 ghost use Rattle.hol_kernel.specs.declared.error.Rule.TheVariants as rule;
 
 use crate::basis::Basis;
-use crate::equation::copy_of;
+use hol_formulas::copy_of;
 use crate::error::{KernelError, Rule};
 use crate::hypotheses::Hypotheses;
 use crate::item::{Item, ItemNode};

@@ -10,7 +10,6 @@ ghost use Rattle.hol_kernel.specs.NamedTyping.{is_known_named};
 ghost use Rattle.hol_kernel.specs.Legal.{IsLegalSet, IsStorable};
 
 use crate::item::Item;
-use crate::prelude;
 use hol_terms::{Term, TermNode};
 use hol_types::{Name, Ty, TyNode};
 use std::alloc::{AllocError, Global};
@@ -84,7 +83,7 @@ impl Basis {
     pub fn has_arity(&self, constructor: &Name, arity: usize) -> bool
         ensures { result ≡ has_arity self.now constructor.now arity }
     {
-        prelude::has_type(constructor, arity) || makes_type(self.items(), constructor, arity)
+        hol_formulas::has_type(constructor, arity) || makes_type(self.items(), constructor, arity)
     }
 
     /// Whether each type constructor in the type stands and has as many arguments as its arity says.
@@ -114,7 +113,7 @@ impl Basis {
     pub fn has_constant(&self, alloc: Global, constant: &Name, ty: &Ty) -> Result<bool, AllocError>
         ensures { IfOk result (λ has. has ≡ has_constant self.now constant.now ty.now) }
     {
-        if prelude::has_constant(alloc, constant, ty)? {
+        if hol_formulas::has_constant(alloc, constant, ty)? {
             return Ok(true);
         }
         makes_constant(alloc, self.items(), constant, ty)

@@ -3,12 +3,12 @@ ghost use Rattle.std.specs.Prelude.{◌≡◌, IfOk, Some, []};
 ghost use Rattle.hol_types.specs.Fun.{fun_type};
 ghost use Rattle.hol_terms.specs.Named.{constant, comb, named_type};
 ghost use Rattle.hol_terms.specs.Nameless.{nameless};
-ghost use Rattle.hol_kernel.specs.Sequent.{bool_type, named_equation};
+ghost use Rattle.hol_formulas.specs.Equation.{bool_type, named_equation};
 ghost use Rattle.hol_kernel.specs.Bijections.{abs_rep, rep_abs};
 
-use crate::equation::{application, constant};
-use crate::propositional::equivalence;
-use crate::words::{equal, occurrence, variable};
+use hol_formulas::{application, constant};
+use hol_formulas::equivalence;
+use hol_formulas::{equal, occurrence, variable};
 use hol_terms::Term;
 use hol_types::{Name, Ty};
 use std::alloc::{AllocError, Global};
@@ -36,7 +36,7 @@ pub fn abs_rep(
 /// `P r = (rep (abs r) = r)`, for a variable `r` of the type that the predicate is about.
 ///
 /// Answers an error where memory is short, and nowhere else.
-#[tactic(auto, using(crate::proofs::PartTypes::applications))]
+#[tactic(auto, using(hol_formulas::proofs::PartTypes::applications))]
 pub fn rep_abs(
     alloc: Global,
     abs: &Name,
@@ -75,7 +75,7 @@ fn returns(
 }
 
 // The constant of the name, a function from the one type to the other, at the term.
-#[tactic(auto, using(crate::proofs::PartTypes::applications))]
+#[tactic(auto, using(hol_formulas::proofs::PartTypes::applications))]
 fn image(alloc: Global, name: &Name, domain: &Ty, range: &Ty, x: &Term) -> Result<Term, AllocError>
     requires { named_type x.now ≡ Some domain.now }
     ensures is { IfOk result (λ t. t ≡ comb (constant name.now (fun_type domain.now range.now)) x.now) }

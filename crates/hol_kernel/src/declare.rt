@@ -3,7 +3,7 @@ ghost use Rattle.std.specs.Prelude.{◌≡◌, ◌&&◌, not, [], IfOk, Ok, Err,
 ghost use Rattle.std.specs.List.{list_any};
 ghost use Rattle.hol_terms.specs.Nameless.{nameless};
 ghost use Rattle.hol_kernel.specs.Signature.{has_key, prelude_has};
-ghost use Rattle.hol_kernel.specs.Sequent.{bool_type};
+ghost use Rattle.hol_formulas.specs.Equation.{bool_type};
 ghost use Rattle.hol_kernel.specs.Typing.{has_type};
 ghost use Rattle.hol_kernel.specs.Extends.{IsDeclareType, IsDeclareConst, IsDeclareAxiom};
 ghost use Rattle.hol_kernel.specs.Gives.{GivesSome};
@@ -11,7 +11,7 @@ ghost use Rattle.hol_kernel.specs.Clashing.{key_at, is_new};
 ghost use Rattle.hol_kernel.specs.declared.error.Rule.TheVariants as rule;
 
 use crate::basis::Basis;
-use crate::equation::copy_of;
+use hol_formulas::copy_of;
 use crate::error::{KernelError, Rule};
 use crate::item::{Item, ItemNode};
 use crate::kind::Kind;
@@ -86,7 +86,7 @@ impl Basis {
         if !typed {
             return Ok(false);
         }
-        let truth = prelude::bool_type(alloc)?;
+        let truth = hol_formulas::bool_type(alloc)?;
         Ok(p.type_of().same(&truth))
     }
 }

@@ -5,7 +5,8 @@ ghost use Rattle.hol_terms.specs.Named.{named_type};
 ghost use Rattle.hol_terms.specs.Nameless.{nameless, fixed};
 ghost use Rattle.hol_kernel.specs.Item.{defined_constant};
 ghost use Rattle.hol_kernel.specs.Items.{Holds};
-ghost use Rattle.hol_kernel.specs.Sequent.{no_hyps, equation};
+ghost use Rattle.hol_kernel.specs.Sequent.{no_hyps};
+ghost use Rattle.hol_formulas.specs.Equation.{equation};
 ghost use Rattle.hol_kernel.specs.Signature.{term_tyvars};
 ghost use Rattle.hol_kernel.specs.Typing.{HasType};
 ghost use Rattle.hol_kernel.specs.Theorem.{theorem_over};
@@ -15,7 +16,7 @@ ghost use Rattle.hol_kernel.specs.Defining.{is_closed, are_among, is_definable};
 ghost use Rattle.hol_kernel.specs.declared.error.Rule.TheVariants as rule;
 
 use crate::basis::Basis;
-use crate::equation::{constant, copy_of, equation};
+use hol_formulas::{constant, copy_of, equation};
 use crate::error::{KernelError, Rule};
 use crate::hypotheses::Hypotheses;
 use crate::item::{Item, ItemNode};

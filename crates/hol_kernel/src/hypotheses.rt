@@ -10,7 +10,7 @@ ghost use Rattle.hol_subst.specs.Variant.{is_free_in};
 ghost use Rattle.hol_terms.specs.Alpha.{alpha_eq};
 ghost use Rattle.hol_kernel.specs.Sequent.{nameless_cmp, no_hyps, hyp_of, hyps_of};
 
-use crate::equation::copy_of;
+use hol_formulas::copy_of;
 use hol_subst::alpha_order;
 use hol_terms::{Term, Variable};
 use std::alloc::{AllocError, Global};

@@ -2,10 +2,11 @@
 ghost use Rattle.std.specs.Prelude.{◌≡◌, ◌||◌, IfOk};
 ghost use Rattle.std.specs.List.{list_any};
 ghost use Rattle.hol_types.specs.Fun.{fun_type};
-ghost use Rattle.hol_kernel.specs.Signature.{makes_type, makes_constant, is_constant_at, new_type, is_constructor};
+ghost use Rattle.hol_kernel.specs.Signature.{makes_type, makes_constant, new_type};
+ghost use Rattle.hol_formulas.specs.Constants.{is_constant_at, is_constructor};
 ghost use Rattle.hol_kernel.specs.ItemView.{item_of, HasParameters};
 
-use crate::prelude::is_instance;
+use hol_formulas::is_instance;
 use hol_terms::Term;
 use hol_types::{Name, Ty};
 use std::alloc::{AllocError, Global};

@@ -2,13 +2,10 @@
 #![tactic(auto)]
 
 mod axiom;
-mod axioms;
 mod basis;
 mod bijections;
 mod declare;
 mod define;
-mod elements;
-mod equation;
 mod error;
 mod given;
 mod hypotheses;
@@ -17,26 +14,20 @@ mod item;
 mod item_names;
 mod join;
 mod kind;
-mod postulate;
 mod prelude;
-mod propositional;
-mod right_sides;
 mod rules;
-mod standing;
 mod statements;
 mod term_tyvars;
 mod thm;
 mod type_define;
 mod type_definition;
-mod words;
 
 pub use basis::Basis;
 pub use error::{KernelError, Rule};
 pub use given::{Given, GivenNode};
 pub use item::{Item, ItemNode};
 pub use kind::Kind;
-pub use postulate::Postulate;
-pub use prelude::instances_are_substitutions;
-pub use standing::{prelude_constants, prelude_types};
+
+pub use hol_formulas::{Postulate, instances_are_substitutions, prelude_constants, prelude_types};
 pub use thm::Thm;
 pub use type_definition::TypeDefinition;

@@ -6,10 +6,10 @@ ghost use Rattle.hol_kernel.specs.Gives.{Gives};
 ghost use Rattle.hol_kernel.specs.declared.error.Rule.TheVariants as rule;
 
 use crate::basis::Basis;
-use crate::equation::{abstraction, application, copy_of, dest_eq, equation, is_bool};
+use hol_formulas::{abstraction, application, copy_of, dest_eq, equation, is_bool};
 use crate::error::{KernelError, Rule};
 use crate::hypotheses::Hypotheses;
-use crate::prelude::bool_type;
+use hol_formulas::bool_type;
 use crate::thm::Thm;
 use hol_terms::{Term, TermNode};
 use hol_types::Ty;

@@ -3,11 +3,12 @@ ghost use Rattle.std.specs.Prelude.{◌≡◌, IfOk, [], map};
 ghost use Rattle.std.specs.List.Sorted.{IsStrictlySortedBy};
 ghost use Rattle.hol_terms.specs.Named.{named_type};
 ghost use Rattle.hol_terms.specs.Nameless.{nameless};
-ghost use Rattle.hol_kernel.specs.Sequent.{nameless_cmp, hyp_of, hyps_of, bool_type};
+ghost use Rattle.hol_kernel.specs.Sequent.{nameless_cmp, hyp_of, hyps_of};
+ghost use Rattle.hol_formulas.specs.Equation.{bool_type};
 ghost use Rattle.hol_kernel.specs.Theorem.{theorem_over, IsDerived, IsTheorem, IsWellTyped};
 
 use crate::basis::Basis;
-use crate::equation::copy_of;
+use hol_formulas::copy_of;
 use crate::hypotheses::Hypotheses;
 use hol_terms::Term;
 use std::alloc::AllocError;

@@ -2,7 +2,7 @@ use Rattle.std.proofs.Common.{◌≡◌, [], refl, ap, sym, ◌∙◌, subst}
 use Rattle.std.specs.FinSet as set
 use Rattle.hol_terms.specs.Nameless.{nameless}
 use Rattle.hol_kernel.specs.Item.{Item, declared_axiom}
-use Rattle.hol_kernel.specs.Sequent.{bool_type}
+use Rattle.hol_formulas.specs.Equation.{bool_type}
 use Rattle.hol_kernel.specs.Legal.{HasNewKeys, IsSound}
 use Rattle.hol_kernel.proofs.Declared.{axiom_new, axiom_taken, no_formula, has_type_is}
 use Rattle.hol_kernel.proofs.basis.Basis.declare_axiom.Goals as goal

@@ -1,7 +1,7 @@
 use Rattle.std.proofs.Common.{◌≡◌, [], ap, ◌∙◌}
 use Rattle.hol_terms.specs.Named.{Named, constant}
 use Rattle.hol_terms.specs.Nameless.{nameless}
-use Rattle.hol_kernel.specs.Sequent.{named_equation}
+use Rattle.hol_formulas.specs.Equation.{named_equation}
 use Rattle.hol_kernel.specs.Theorem.{theorem_over}
 use Rattle.hol_kernel.proofs.Definable.{definition_derived}
 use Rattle.hol_kernel.proofs.basis.Basis.definition.Goals as goal

@@ -1,7 +1,7 @@
 use Rattle.std.proofs.Common.{[], ap, sym, ◌∙◌}
 use Rattle.hol_types.specs.Equal.{type_eq}
 use Rattle.hol_terms.specs.Nameless.{nameless}
-use Rattle.hol_kernel.specs.Sequent.{bool_type}
+use Rattle.hol_formulas.specs.Equation.{bool_type}
 use Rattle.hol_kernel.proofs.Typed.{typed_is, untyped_is}
 use Rattle.hol_kernel.proofs.basis.Basis.is_formula.Goals as goal
 

@@ -4,7 +4,8 @@ use Rattle.hol_types.specs.Fun.{fun_type}
 use Rattle.hol_terms.specs.Nameless.{nameless}
 use Rattle.std.specs.FinSet as set
 use Rattle.hol_kernel.specs.Item.{Item}
-use Rattle.hol_kernel.specs.Sequent.{no_hyps, bool_type}
+use Rattle.hol_kernel.specs.Sequent.{no_hyps}
+use Rattle.hol_formulas.specs.Equation.{bool_type}
 use Rattle.hol_kernel.specs.Signature.{term_tyvars, new_type}
 use Rattle.hol_kernel.specs.Bijections.{abs_rep, rep_abs}
 use Rattle.hol_kernel.specs.Legal.{HasNewKeys, IsSound}

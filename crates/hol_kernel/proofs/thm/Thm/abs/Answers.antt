@@ -4,7 +4,7 @@ use Rattle.hol_types.specs.Fun.{fun_type}
 use Rattle.hol_terms.specs.Named.{abs, var}
 use Rattle.hol_terms.specs.Nameless.{nameless}
 use Rattle.hol_subst.specs.Variant.{is_free_in}
-use Rattle.hol_kernel.specs.Sequent.{named_equation}
+use Rattle.hol_formulas.specs.Equation.{named_equation}
 use Rattle.hol_kernel.specs.Typing.{is_type}
 use Rattle.hol_kernel.specs.Theorem.{theorem_over}
 use Rattle.hol_kernel.specs.Rules.{abs_of}

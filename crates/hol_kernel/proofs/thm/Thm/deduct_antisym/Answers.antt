@@ -1,6 +1,6 @@
 use Rattle.std.proofs.Common.{◌≡◌, [], subst, rules}
 use Rattle.hol_terms.specs.Nameless.{nameless}
-use Rattle.hol_kernel.specs.Sequent.{bool_type, named_equation}
+use Rattle.hol_formulas.specs.Equation.{bool_type, named_equation}
 use Rattle.hol_kernel.specs.Theorem.{theorem_over}
 use Rattle.hol_kernel.specs.Rules.{deduct_antisym_of}
 use Rattle.hol_kernel.proofs.Sound.{deduct_antisym_sound, Derived}

@@ -1,7 +1,7 @@
 use Rattle.std.proofs.Common.{◌≡◌, [], Some, ap, ◌∙◌, rules}
 use Rattle.hol_terms.specs.Named.{named_type}
 use Rattle.hol_terms.specs.Nameless.{nameless}
-use Rattle.hol_kernel.specs.Sequent.{bool_type}
+use Rattle.hol_formulas.specs.Equation.{bool_type}
 use Rattle.hol_kernel.specs.Theorem.{theorem_over}
 use Rattle.hol_kernel.specs.Rules.{eq_mp_of}
 use Rattle.hol_kernel.proofs.Sound.{eq_mp_sound, alpha_type}

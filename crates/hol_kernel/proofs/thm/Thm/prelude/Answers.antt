@@ -2,10 +2,10 @@ use Rattle.std.proofs.Common.{[], ◌∙◌}
 use Rattle.hol_terms.specs.Nameless.{nameless}
 use Rattle.hol_kernel.specs.Items.{no_items}
 use Rattle.hol_kernel.specs.Sequent.{no_hyps}
-use Rattle.hol_kernel.specs.Prelude.{postulated}
+use Rattle.hol_formulas.specs.Prelude.{postulated}
 use Rattle.hol_kernel.specs.Derivation.{by_postulate}
 use Rattle.hol_kernel.specs.Theorem.{theorem_over}
-use Rattle.hol_kernel.proofs.PartTypes.{postulated_typed}
+use Rattle.hol_formulas.proofs.PartTypes.{postulated_typed}
 use Rattle.hol_kernel.proofs.TermRules.{along}
 use Rattle.hol_kernel.proofs.thm.Thm.prelude.Goals as goal
 

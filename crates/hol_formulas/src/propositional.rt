@@ -2,11 +2,11 @@
 ghost use Rattle.std.specs.Prelude.{◌≡◌, IfOk, Some, codes};
 ghost use Rattle.hol_types.specs.Fun.{fun_type};
 ghost use Rattle.hol_terms.specs.Named.{var, constant, comb, abs, named_type};
-ghost use Rattle.hol_kernel.specs.Sequent.{bool_type};
-ghost use Rattle.hol_kernel.specs.Signature.{connective_type};
-ghost use Rattle.hol_kernel.specs.Prelude.{identity, equivalence, paired, both, of_two, conjunction, implication, either, universal, boolean, falsity};
+ghost use Rattle.hol_formulas.specs.Equation.{bool_type};
+ghost use Rattle.hol_formulas.specs.Constants.{connective_type};
+ghost use Rattle.hol_formulas.specs.Prelude.{identity, equivalence, paired, both, of_two, conjunction, implication, either, universal, boolean, falsity};
 
-use crate::equation::abstraction;
+use crate::eq::abstraction;
 use crate::prelude::{bool_type, connective_type};
 use crate::words::{
     applied_to_two, boolean, boolean_term, connected, equal, falsity, occurrence, of_two,

@@ -6,10 +6,10 @@ use Rattle.hol_types.specs.Tree.{TypeTree, TyApp, no_types}
 use Rattle.hol_types.specs.Fun.{fun_type}
 use Rattle.hol_terms.specs.Named.{Named, var, constant, comb, abs}
 use Rattle.hol_terms.specs.Nameless.{Nameless, nameless}
-use Rattle.hol_kernel.specs.Sequent.{bool_type, named_equation}
-use Rattle.hol_kernel.specs.Signature.{var_a, var_b, connective_type, binder_type, choice_type, function_property_type}
-use Rattle.hol_kernel.specs.declared.postulate.Postulate.{Postulate}
-use Rattle.hol_kernel.specs.declared.postulate.Postulate.TheVariants.{TDef, AndDef, ImpDef, ForallDef, ExistsDef, OrDef, FDef, NotDef, ExistsUniqueDef, EtaAx, SelectAx, OneOne, Onto, InfinityAx}
+use Rattle.hol_formulas.specs.Equation.{bool_type, named_equation}
+use Rattle.hol_formulas.specs.Constants.{var_a, var_b, connective_type, binder_type, choice_type, function_property_type}
+use Rattle.hol_formulas.specs.declared.postulate.Postulate.{Postulate}
+use Rattle.hol_formulas.specs.declared.postulate.Postulate.TheVariants.{TDef, AndDef, ImpDef, ForallDef, ExistsDef, OrDef, FDef, NotDef, ExistsUniqueDef, EtaAx, SelectAx, OneOne, Onto, InfinityAx}
 
 -- ---- types
 

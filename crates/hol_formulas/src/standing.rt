@@ -1,8 +1,8 @@
 //! The types and constants of the prelude, as lists.
 ghost use Rattle.std.specs.Prelude.{◌≡◌, [], ◌∷◌, ◌++◌, IfOk, OnOk, codes};
 ghost use Rattle.hol_types.specs.Fun.{fun_type};
-ghost use Rattle.hol_kernel.specs.Sequent.{bool_type, equality_type};
-ghost use Rattle.hol_kernel.specs.Signature.{prelude_types, prelude_constants, var_a, connective_type, binder_type, choice_type, function_property_type};
+ghost use Rattle.hol_formulas.specs.Equation.{bool_type, equality_type};
+ghost use Rattle.hol_formulas.specs.Constants.{prelude_types, prelude_constants, var_a, connective_type, binder_type, choice_type, function_property_type};
 
 use crate::prelude::{
     binder_type, bool_type, choice_type, connective_type, equality_type, function_property_type,

@@ -5,8 +5,8 @@ ghost use Rattle.hol_types.specs.Fun.{fun_type};
 ghost use Rattle.hol_terms.specs.Named.{constant, comb, abs, named_type};
 ghost use Rattle.hol_terms.specs.declared.term.TermError.TheVariants as term_error;
 ghost use Rattle.hol_terms.specs.Nameless.{nameless};
-ghost use Rattle.hol_kernel.specs.Sequent.{named_equation, bool_type};
-ghost use Rattle.hol_kernel.specs.Rules.{sides_of};
+ghost use Rattle.hol_formulas.specs.Equation.{named_equation, bool_type};
+ghost use Rattle.hol_formulas.specs.Equation.{sides_of};
 
 use crate::prelude::equality_type;
 use hol_terms::{Term, TermError, TermNode, Variable};
@@ -70,7 +70,7 @@ pub struct Sides<'a> {
 }
 
 /// The sides of the term, and `None` where it is no equation.
-#[tactic(auto, using(crate::proofs::Sides::sides_found))]
+#[tactic(auto, using(crate::proofs::TakingApart::sides_found))]
 pub fn dest_eq(term: &Term) -> Option<Sides<'_>>
     ensures sides { MatchOption result (sides_of (nameless [] term.now) ≡ None) (λ x. sides_of (nameless [] term.now) ≡ Some (record { sides_type = x.ty.now; left = nameless [] x.left.now; right = nameless [] x.right.now })) }
     ensures left { IfSome result (λ x. named_type x.left.now ≡ Some x.ty.now) }
@@ -98,7 +98,7 @@ pub fn dest_eq(term: &Term) -> Option<Sides<'_>>
 }
 
 // Whether the type is that of functions from the domain to truth values.
-#[tactic(auto, using(crate::proofs::Sides::function_types))]
+#[tactic(auto, using(crate::proofs::TakingApart::function_types))]
 fn is_property(ty: &Ty, domain: &Ty) -> bool
     ensures { result ≡ type_eq ty.now (fun_type domain.now bool_type) }
 {
@@ -109,7 +109,7 @@ fn is_property(ty: &Ty, domain: &Ty) -> bool
 }
 
 /// Whether the type is that of truth values.
-#[tactic(auto, using(crate::proofs::Sides::bool_types))]
+#[tactic(auto, using(crate::proofs::TakingApart::bool_types))]
 pub fn is_bool(ty: &Ty) -> bool
     ensures { result ≡ type_eq ty.now bool_type }
 {

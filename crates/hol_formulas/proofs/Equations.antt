@@ -6,7 +6,7 @@ use Rattle.hol_types.specs.Equal.{type_eq}
 use Rattle.hol_types.specs.Fun.{fun_type}
 use Rattle.hol_types.proofs.OrderLaws.{type_cmp_decides}
 use Rattle.hol_terms.specs.Named.{Named, constant, comb, named_type, applied_type}
-use Rattle.hol_kernel.specs.Sequent.{bool_type, equality_type, named_equation}
+use Rattle.hol_formulas.specs.Equation.{bool_type, equality_type, named_equation}
 
 pub type_eq_itself : (a : TypeTree) → type_eq a a ≡ true
 type_eq_itself a = (type_cmp_decides a a).1 refl

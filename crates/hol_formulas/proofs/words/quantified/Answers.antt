@@ -1,10 +1,10 @@
 use Rattle.std.proofs.Common.{Some, ap, ◌∙◌}
 use Rattle.hol_types.specs.Tree.{TypeTree}
 use Rattle.hol_types.specs.Fun.{fun_type}
-use Rattle.hol_kernel.specs.Sequent.{bool_type}
-use Rattle.hol_kernel.specs.Prelude.{property_type}
-use Rattle.hol_kernel.proofs.PartTypes.{applies}
-use Rattle.hol_kernel.proofs.words.quantified.Goals as goal
+use Rattle.hol_formulas.specs.Equation.{bool_type}
+use Rattle.hol_formulas.specs.Prelude.{property_type}
+use Rattle.hol_formulas.proofs.PartTypes.{applies}
+use Rattle.hol_formulas.proofs.words.quantified.Goals as goal
 
 pub application-requires : goal.application-requires
 application-requires c = record {

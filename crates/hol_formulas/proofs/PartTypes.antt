@@ -4,12 +4,12 @@ use Rattle.std.proofs.Common.{ap, sym, ◌∙◌}
 use Rattle.hol_types.specs.Tree.{TypeTree}
 use Rattle.hol_types.specs.Fun.{fun_type}
 use Rattle.hol_terms.specs.Named.{Named, var, comb, abs, named_type}
-use Rattle.hol_kernel.specs.Sequent.{bool_type, named_equation}
-use Rattle.hol_kernel.specs.Signature.{connective_type, binder_type, function_property_type, var_a, var_b}
-use Rattle.hol_kernel.specs.Prelude.{truth, falsity, boolean, element, property_type, implication, identity, paired, everywhere, somewhere, once, injective, surjective, postulated}
-use Rattle.hol_kernel.specs.declared.postulate.Postulate.{Postulate}
-use Rattle.hol_kernel.specs.declared.postulate.Postulate.TheVariants.{TDef, AndDef, ImpDef, ForallDef, ExistsDef, OrDef, FDef, NotDef, ExistsUniqueDef, EtaAx, SelectAx, OneOne, Onto, InfinityAx}
-use Rattle.hol_kernel.proofs.Equations.{applied_fits, equation_right}
+use Rattle.hol_formulas.specs.Equation.{bool_type, named_equation}
+use Rattle.hol_formulas.specs.Constants.{connective_type, binder_type, function_property_type, var_a, var_b}
+use Rattle.hol_formulas.specs.Prelude.{truth, falsity, boolean, element, property_type, implication, identity, paired, everywhere, somewhere, once, injective, surjective, postulated}
+use Rattle.hol_formulas.specs.declared.postulate.Postulate.{Postulate}
+use Rattle.hol_formulas.specs.declared.postulate.Postulate.TheVariants.{TDef, AndDef, ImpDef, ForallDef, ExistsDef, OrDef, FDef, NotDef, ExistsUniqueDef, EtaAx, SelectAx, OneOne, Onto, InfinityAx}
+use Rattle.hol_formulas.proofs.Equations.{applied_fits, equation_right}
 
 pub applied_typed : (f x : Named) (a b : TypeTree) → named_type f ≡ Some (fun_type a b) → named_type x ≡ Some a → named_type (comb f x) ≡ Some b
 applied_typed f x a b e g = rw (e, g) (applied_fits a b)

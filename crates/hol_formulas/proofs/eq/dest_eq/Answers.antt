@@ -2,9 +2,9 @@ use Rattle.std.proofs.Common.{◌≡◌, [], Some, true, ap, sym, ◌∙◌, cod
 use Rattle.hol_types.specs.Fun.{fun_parts}
 use Rattle.hol_terms.specs.Named.{Named, constant, comb, named_type}
 use Rattle.hol_terms.specs.Nameless.{nameless}
-use Rattle.hol_kernel.specs.Rules.{sides_of}
-use Rattle.hol_kernel.proofs.Sides.{IsEquation, equation_parts, sides_yes}
-use Rattle.hol_kernel.proofs.equation.dest_eq.Goals as goal
+use Rattle.hol_formulas.specs.Equation.{sides_of}
+use Rattle.hol_formulas.proofs.TakingApart.{IsEquation, equation_parts, sides_yes}
+use Rattle.hol_formulas.proofs.eq.dest_eq.Goals as goal
 
 -- the term taken apart
 term_is : (c : goal.Else-not-is_property) → c.args.term.now ≡ comb (comb (constant c.in-Const.name c.in-Const.ty) c.in-Comb-node.left) c.in-Comb.right

@@ -2,11 +2,11 @@
 ghost use Rattle.std.specs.Prelude.{◌≡◌, IfOk, Some, codes};
 ghost use Rattle.hol_types.specs.Fun.{fun_type};
 ghost use Rattle.hol_terms.specs.Named.{var, constant, comb, abs, named_type};
-ghost use Rattle.hol_kernel.specs.Sequent.{bool_type, named_equation};
-ghost use Rattle.hol_kernel.specs.Signature.{var_a, var_b};
-ghost use Rattle.hol_kernel.specs.Prelude.{property_type, property, element, of_element, universal, function, value_at};
+ghost use Rattle.hol_formulas.specs.Equation.{bool_type, named_equation};
+ghost use Rattle.hol_formulas.specs.Constants.{var_a, var_b};
+ghost use Rattle.hol_formulas.specs.Prelude.{property_type, property, element, of_element, universal, function, value_at};
 
-use crate::equation::application;
+use crate::eq::application;
 use crate::prelude::{bool_type, variable as type_variable};
 use crate::words::{equal, occurrence, quantified, variable};
 use hol_terms::{Term, Variable};

@@ -16,9 +16,9 @@ use Rattle.hol_types.specs.Fun.{fun_type, fun_parts, both_of}
 use Rattle.hol_types.proofs.OrderLaws.{type_cmp_decides, name_equal, name_same}
 use Rattle.hol_terms.specs.Named.{Named, constant, comb, named_type, applied_type}
 use Rattle.hol_terms.specs.Nameless.{Nameless, fixed, app}
-use Rattle.hol_kernel.specs.Sequent.{bool_type, equality_type}
-use Rattle.hol_kernel.proofs.Equations.{type_eq_itself}
-use Rattle.hol_kernel.specs.Rules.{Sides, sides_at, sides_of}
+use Rattle.hol_formulas.specs.Equation.{bool_type, equality_type}
+use Rattle.hol_formulas.proofs.Equations.{type_eq_itself}
+use Rattle.hol_formulas.specs.Equation.{Sides, sides_at, sides_of}
 
 -- ---- types of functions
 

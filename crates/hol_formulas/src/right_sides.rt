@@ -2,15 +2,15 @@
 ghost use Rattle.std.specs.Prelude.{◌≡◌, IfOk, Some, codes};
 ghost use Rattle.hol_types.specs.Fun.{fun_type};
 ghost use Rattle.hol_terms.specs.Named.{var, constant, comb, abs, named_type};
-ghost use Rattle.hol_kernel.specs.Sequent.{bool_type, named_equation};
-ghost use Rattle.hol_kernel.specs.Signature.{var_a, var_b, binder_type, function_property_type};
-ghost use Rattle.hol_kernel.specs.Prelude.{property_type, property, element, of_element, universal, existential, function, value_at, truth, everywhere, implication, conjunction, boolean, somewhere, at_most_once, quantifier, once, injective, surjective};
+ghost use Rattle.hol_formulas.specs.Equation.{bool_type, named_equation};
+ghost use Rattle.hol_formulas.specs.Constants.{var_a, var_b, binder_type, function_property_type};
+ghost use Rattle.hol_formulas.specs.Prelude.{property_type, property, element, of_element, universal, existential, function, value_at, truth, everywhere, implication, conjunction, boolean, somewhere, at_most_once, quantifier, once, injective, surjective};
 
 use crate::elements::{
     element, for_two, function, of_element, property, property_term, property_type, same_elements,
     same_values, value_at,
 };
-use crate::equation::{abstraction, application};
+use crate::eq::{abstraction, application};
 use crate::prelude::{binder_type, variable as type_variable};
 use crate::words::{
     boolean, boolean_term, connected, constant, equal, occurrence, quantified, truth, variable,

@@ -2,11 +2,11 @@
 ghost use Rattle.std.specs.Prelude.{◌≡◌, IfOk, Some, codes};
 ghost use Rattle.hol_types.specs.Fun.{fun_type};
 ghost use Rattle.hol_terms.specs.Named.{var, constant, comb, abs, named_type};
-ghost use Rattle.hol_kernel.specs.Sequent.{bool_type, named_equation};
-ghost use Rattle.hol_kernel.specs.Signature.{connective_type};
-ghost use Rattle.hol_kernel.specs.Prelude.{truth, falsity, boolean, connective, connected, quantified, defining, property_type};
+ghost use Rattle.hol_formulas.specs.Equation.{bool_type, named_equation};
+ghost use Rattle.hol_formulas.specs.Constants.{connective_type};
+ghost use Rattle.hol_formulas.specs.Prelude.{truth, falsity, boolean, connective, connected, quantified, defining, property_type};
 
-use crate::equation::{abstraction, application, constant as constant_of, equation, fitting};
+use crate::eq::{abstraction, application, constant as constant_of, equation, fitting};
 use crate::prelude::{bool_type, connective_type};
 use hol_terms::{Term, Variable};
 use hol_types::{Name, Ty};

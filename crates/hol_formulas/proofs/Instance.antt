@@ -5,7 +5,7 @@ use Rattle.hol_types.specs.Tree.{TypeTree}
 use Rattle.hol_types.specs.Subst.{type_subst}
 use Rattle.hol_types.specs.Match.{match_type, IsMatchOf, HasNoMatch}
 use Rattle.hol_types.proofs.MatchLaws.{match_found, match_missing}
-use Rattle.hol_kernel.specs.Signature.{is_instance}
+use Rattle.hol_formulas.specs.Constants.{is_instance}
 
 abbrev pub Pairs : Type 0
 Pairs = List (TypeTree × List ℕ)

@@ -2,12 +2,12 @@
 ghost use Rattle.std.specs.Prelude.{◌≡◌, IfOk, Some, codes};
 ghost use Rattle.hol_types.specs.Fun.{fun_type};
 ghost use Rattle.hol_terms.specs.Named.{var, constant, comb, abs, named_type};
-ghost use Rattle.hol_kernel.specs.Sequent.{bool_type};
-ghost use Rattle.hol_kernel.specs.Signature.{var_a, var_b, choice_type};
-ghost use Rattle.hol_kernel.specs.Prelude.{ind_type, property, element, of_element, implication, negation_sign, function_property, eta, chosen, infinite};
+ghost use Rattle.hol_formulas.specs.Equation.{bool_type};
+ghost use Rattle.hol_formulas.specs.Constants.{var_a, var_b, choice_type};
+ghost use Rattle.hol_formulas.specs.Prelude.{ind_type, property, element, of_element, implication, negation_sign, function_property, eta, chosen, infinite};
 
 use crate::elements::{element, element_term, function_type, of_element, property, property_term};
-use crate::equation::{abstraction, application};
+use crate::eq::{abstraction, application};
 use crate::prelude::{bool_type, choice_type, negation_type};
 use crate::words::{connected, constant, equal, occurrence, quantified, variable};
 use hol_terms::{Term, Variable};

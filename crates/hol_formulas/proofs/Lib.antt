@@ -1,0 +1,4 @@
+pub mod Instance
+pub mod Equations
+pub mod TakingApart
+pub mod PartTypes
