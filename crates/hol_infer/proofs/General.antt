@@ -101,4 +101,4 @@ general_of raw g term shapes of solved = record {
 }
 
 pub untypable_of : (raw : RawTree) (g : Graph) (term : SlotTree) → IsGraphOf raw g term → ((types : ℕ → TypeTree) → IsSolution g.cells.items g.pending.items types → ⊥) → HasNoTyping raw
-untypable_of raw g term of none p t = (let x = of.complete p t in none x.1 x.2.solution)
+untypable_of raw g term of none = record { none = λ p t. (let x = of.complete p t in none x.1 x.2.solution) }

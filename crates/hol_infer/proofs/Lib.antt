@@ -18,3 +18,4 @@ pub mod Resolved
 pub mod Standing
 pub mod StandingLaws
 pub mod Unique
+pub mod Marks

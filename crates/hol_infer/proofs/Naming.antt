@@ -10,7 +10,7 @@ use Rattle.hol_types.specs.Subst.{type_lookup, type_subst, types_subst}
 use Rattle.hol_types.specs.Names.{type_names, types_names}
 use Rattle.hol_terms.specs.Nameless.{Nameless, free, fixed, app, lam, base_of}
 use Rattle.hol_infer.specs.Typing.{open_name, IsOpen, instantiate_types}
-use Rattle.hol_infer.specs.Reading.{term_tyvars, ComeInOrder}
+use Rattle.hol_infer.specs.Reading.{occurring_tyvars, ComeInOrder}
 use Rattle.hol_infer.specs.Shape.{ShapeTree, ShapeList, Hole, Fixed, Built, no_shapes, more_shapes, fill, fills, shape_holes, shapes_holes}
 use Rattle.hol_infer.specs.SlotTree.{SlotTree, SlotBound, SlotConstant, SlotFree, SlotApply, SlotAbstraction, typed}
 use Rattle.hol_infer.specs.Found.{shape_at, types_at, HasRigidNames, HaveRigidNames}
@@ -270,15 +270,15 @@ both_in_order order final ks ls xs ys p q g =
     (in_order_append (length order) (length (add_holes order ks)) (length (add_holes (add_holes order ks) ls)) xs ys (p g1) (q g2))
 
 pub term_in_order : (shapes : List ShapeTree) (order final : List ℕ) (term : SlotTree) → ((i : ℕ) → HasRigidNames (shape_at shapes i)) → Grows (add_holes order (term_holes shapes term)) final →
-    ComeInOrder (length order) (term_tyvars (typed (types_at shapes (open_type final)) term)) (length (add_holes order (term_holes shapes term)))
+    ComeInOrder (length order) (occurring_tyvars (typed (types_at shapes (open_type final)) term)) (length (add_holes order (term_holes shapes term)))
 term_in_order shapes order final (SlotBound i) r g = refl
 term_in_order shapes order final (SlotConstant c s) r g = shape_in_order order final (shape_at shapes s) (r s) g
 term_in_order shapes order final (SlotFree x s) r g = shape_in_order order final (shape_at shapes s) (r s) g
 term_in_order shapes order final (SlotApply f a) r g =
-    both_in_order order final (term_holes shapes f) (term_holes shapes a) (term_tyvars (typed (types_at shapes (open_type final)) f)) (term_tyvars (typed (types_at shapes (open_type final)) a))
+    both_in_order order final (term_holes shapes f) (term_holes shapes a) (occurring_tyvars (typed (types_at shapes (open_type final)) f)) (occurring_tyvars (typed (types_at shapes (open_type final)) a))
     (term_in_order shapes order final f r) (term_in_order shapes (add_holes order (term_holes shapes f)) final a r) g
 term_in_order shapes order final (SlotAbstraction x s b) r g =
-    both_in_order order final (shape_holes (shape_at shapes s)) (term_holes shapes b) (type_names (fill (open_type final) (shape_at shapes s))) (term_tyvars (typed (types_at shapes (open_type final)) b))
+    both_in_order order final (shape_holes (shape_at shapes s)) (term_holes shapes b) (type_names (fill (open_type final) (shape_at shapes s))) (occurring_tyvars (typed (types_at shapes (open_type final)) b))
     (shape_in_order order final (shape_at shapes s) (r s)) (term_in_order shapes (add_holes order (shape_holes (shape_at shapes s))) final b r) g
 
 -- ---- each open slot of the term is in the order

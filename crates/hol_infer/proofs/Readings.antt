@@ -6,7 +6,7 @@ use Rattle.hol_terms.specs.Nameless.{Nameless}
 use Rattle.hol_terms.specs.Size.{term_size}
 use Rattle.hol_infer.specs.Raw.{RawTree, RawBound, RawConstant, RawFree, RawApply, RawAbstraction, RawAnnotated}
 use Rattle.hol_infer.specs.Typing.{open_name, IsPrincipal}
-use Rattle.hol_infer.specs.Reading.{IsReading, HasLargeReading, ComeInOrder, term_tyvars}
+use Rattle.hol_infer.specs.Reading.{IsReading, HasLargeReading, ComeInOrder, occurring_tyvars}
 use Rattle.hol_infer.specs.Shape.{ShapeTree, ShapeList, Hole, Fixed, Built, no_shapes, more_shapes}
 use Rattle.hol_infer.specs.SlotTree.{SlotTree, SlotBound, SlotConstant, SlotFree, SlotApply, SlotAbstraction, typed, AreSlotsIn}
 use Rattle.hol_infer.specs.Scoped.{IsFirstAt, IsScoped, HasRigidAnnotations, IsRigid, HasNoOpenName, HaveNoOpenName}
@@ -40,7 +40,7 @@ reading_of raw shapes term order small general e =
       principal = principal_by raw shapes term order small general (subst (λ (xs : List ℕ). AreTermHolesIn shapes xs term) (sym e) (term_covered shapes [] (add_holes [] (term_holes shapes term)) term whole));
       in_order = (
         length (add_holes [] (term_holes shapes term)),
-        subst (λ (xs : List ℕ). ComeInOrder 0 (term_tyvars (typed (types_at shapes (open_type xs)) term)) (length (add_holes [] (term_holes shapes term)))) (sym e)
+        subst (λ (xs : List ℕ). ComeInOrder 0 (occurring_tyvars (typed (types_at shapes (open_type xs)) term)) (length (add_holes [] (term_holes shapes term)))) (sym e)
             (term_in_order shapes [] (add_holes [] (term_holes shapes term)) term general.rigid whole),
       );
     }

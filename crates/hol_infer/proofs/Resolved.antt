@@ -1,5 +1,5 @@
 -- Resolved terms: their indexes and free names are scoped, and their annotations have no open type variables.
-use Rattle.std.proofs.Common.{◌≡◌, ◌≢◌, ℕ, ◌+◌, ◌<◌, ◌≤◌, zero, suc, List, [], ◌∷◌, ◌++◌, length, map, get_or, take, refl, sym, ◌∙◌, ap, subst, arith, add-one, Bool, true, false, not, ◌&&◌, cond, bytes_eq, codes, Option, Some, None}
+use Rattle.std.proofs.Common.{◌≡◌, ◌≢◌, ℕ, ◌+◌, ◌<◌, ◌≤◌, zero, suc, List, [], ◌∷◌, ◌++◌, length, map, get_or, take, refl, sym, ◌∙◌, ap, subst, arith, add-one, Bool, true, false, ◌&&◌, cond, bytes_eq, codes, Option, Some, None}
 use Rattle.std.specs.Option.{option_map}
 use Rattle.std.proofs.lemmas.List.{take_more, take_all, map-append}
 use Rattle.std.proofs.lemmas.Slice.Eq.{bytes_eq-Decides}
@@ -7,11 +7,11 @@ use Rattle.hol_types.specs.Tree.{TypeTree, TyApp, more_types, type_list}
 use Rattle.hol_types.specs.Names.{is_among}
 use Rattle.hol_notation_terms.specs.declared.operator.Operator.{Operator}
 use Rattle.hol_notation_terms.specs.declared.operator.Operator.TheVariants.{Iff, Implies, Or, And, Equals, Not, ForAll, Exists, ExistsUnique, Choice}
-use Rattle.hol_notation_terms.specs.Text.{TypeText, TypeTexts, Ident, Arrow, Apply, no_types as no_texts, more_types as more_texts, type_texts, type_nodes, types_nodes, TermText, DefinitionText, Named, Constant, Applied, Abstraction, Typed}
-use Rattle.hol_infer.specs.Typing.{IsOpen}
+use Rattle.hol_notation_terms.specs.Text.{TypeText, TypeTexts, Ident, Arrow, Apply, no_types as no_texts, more_types as more_texts, type_texts, type_nodes, types_nodes, TermText, VariableText, RightSideText, DefinitionText, Named, Constant, Applied, Abstraction, Typed}
 use Rattle.hol_infer.specs.Raw.{RawTree, RawFree, RawApply}
 use Rattle.hol_infer.specs.Scoped.{IsFirstAt, IsScoped, HasNoOpenName, HaveNoOpenName, IsRigid, HasRigidAnnotations}
-use Rattle.hol_infer.specs.Resolving.{arity_of, generic_type_of, ident_type, type_of_text, types_of_texts, text_count, has_arities, have_arities, name_index, resolved, identifier, operator_raw, raw_of, begins_with_mark, stands_alone, option_has_arities, term_has_arities, takes, value_text, without, definition_raw}
+use Rattle.hol_infer.specs.Resolving.{arity_of, generic_type_of, ident_type, type_of_text, types_of_texts, text_count, has_arities, have_arities, bool_type, name_index, resolved, identifier, resolved_sign, sign, operator_raw, raw_of, takes, annotated, at_bool, value_raw, without, definition_raw}
+use Rattle.hol_infer.proofs.Marks.{written_rigid}
 
 -- ---- scopes
 
@@ -60,17 +60,25 @@ resolved_scoped names x None None e = index_none names x e
 identifier_scoped : (constants : List (List ℕ × TypeTree)) (names : List (List ℕ)) (x : List ℕ) → IsScoped names (identifier constants names x)
 identifier_scoped constants names x = resolved_scoped names x (name_index names x) (generic_type_of constants x) refl
 
+sign_scoped : (constants : List (List ℕ × TypeTree)) (names : List (List ℕ)) (x : List ℕ) → IsScoped names (sign constants names x)
+sign_scoped constants names x = by (generic_type_of constants x) (name_index names x) refl
+  where
+    by : (generic : Option TypeTree) (o : Option ℕ) → name_index names x ≡ o → IsScoped names (resolved_sign generic o x)
+    by (Some generic) o e = tt
+    by None (Some i) e = (x, index_first names x i e)
+    by None None e = index_none names x e
+
 operator_scoped : (constants : List (List ℕ × TypeTree)) (names : List (List ℕ)) (c : Operator) → IsScoped names (operator_raw constants names c)
 operator_scoped constants names Iff = tt
-operator_scoped constants names Implies = identifier_scoped constants names (codes "==>")
-operator_scoped constants names Or = identifier_scoped constants names (codes "\\/")
-operator_scoped constants names And = identifier_scoped constants names (codes "/\\")
-operator_scoped constants names Equals = identifier_scoped constants names (codes "=")
-operator_scoped constants names Not = identifier_scoped constants names (codes "~")
-operator_scoped constants names ForAll = identifier_scoped constants names (codes "!")
-operator_scoped constants names Exists = identifier_scoped constants names (codes "?")
-operator_scoped constants names ExistsUnique = identifier_scoped constants names (codes "?!")
-operator_scoped constants names Choice = identifier_scoped constants names (codes "@")
+operator_scoped constants names Implies = sign_scoped constants names (codes "==>")
+operator_scoped constants names Or = sign_scoped constants names (codes "\\/")
+operator_scoped constants names And = sign_scoped constants names (codes "/\\")
+operator_scoped constants names Equals = sign_scoped constants names (codes "=")
+operator_scoped constants names Not = sign_scoped constants names (codes "~")
+operator_scoped constants names ForAll = sign_scoped constants names (codes "!")
+operator_scoped constants names Exists = sign_scoped constants names (codes "?")
+operator_scoped constants names ExistsUnique = sign_scoped constants names (codes "?!")
+operator_scoped constants names Choice = sign_scoped constants names (codes "@")
 
 pub raw_scoped : (arities : List (List ℕ × ℕ)) (constants : List (List ℕ × TypeTree)) (names : List (List ℕ)) (t : TermText) → IsScoped names (raw_of arities constants names t)
 raw_scoped arities constants names (Named x) = identifier_scoped constants names x
@@ -81,39 +89,23 @@ raw_scoped arities constants names (Typed t ty) = raw_scoped arities constants n
 
 -- ---- annotations
 
--- an open name begins with `?`
-mark_of : (a : List ℕ) → begins_with_mark a ≡ false → IsOpen a → ⊥
-mark_of a h (k, e) = let z : false ≡ true = sym h ∙ ap begins_with_mark e in cc
-
-not_false : (b : Bool) → not b ≡ true → b ≡ false
-not_false true h = absurd (cc)
-not_false false h = refl
-
-and_left : (a b : Bool) → (a && b) ≡ true → a ≡ true
-and_left true b h = refl
-and_left false b h = h
-
-and_right : (a b : Bool) → (a && b) ≡ true → b ≡ true
-and_right true b h = h
-and_right false b h = absurd (cc)
-
-ident_rigid : (o : Option ℕ) (a : List ℕ) → stands_alone o a ≡ true → HasNoOpenName (ident_type o a)
-ident_rigid None a h = mark_of a (not_false (begins_with_mark a) h)
-ident_rigid (Some n) a h = tt
+ident_rigid : (o : Option ℕ) (a : List ℕ) → HasNoOpenName (ident_type o a)
+ident_rigid None a = written_rigid a
+ident_rigid (Some n) a = tt
 
 mutual
-  type_rigid : (arities : List (List ℕ × ℕ)) (t : TypeText) → has_arities arities t ≡ true → HasNoOpenName (type_of_text arities t)
-  type_rigid arities (Ident a) h = ident_rigid (arity_of arities a) a h
-  type_rigid arities (Arrow s t) h = (type_rigid arities s (and_left (has_arities arities s) (has_arities arities t) h), (type_rigid arities t (and_right (has_arities arities s) (has_arities arities t) h), tt))
-  type_rigid arities (Apply c ts) h = types_rigid arities ts (and_right (takes (arity_of arities c) (text_count ts)) (have_arities arities ts) h)
+  type_rigid : (arities : List (List ℕ × ℕ)) (t : TypeText) → HasNoOpenName (type_of_text arities t)
+  type_rigid arities (Ident a) = ident_rigid (arity_of arities a) a
+  type_rigid arities (Arrow s t) = (type_rigid arities s, (type_rigid arities t, tt))
+  type_rigid arities (Apply c ts) = types_rigid arities ts
 
-  types_rigid : (arities : List (List ℕ × ℕ)) (ts : TypeTexts) → have_arities arities ts ≡ true → HaveNoOpenName (types_of_texts arities ts)
-  types_rigid arities no_texts h = tt
-  types_rigid arities (more_texts t ts) h = (type_rigid arities t (and_left (has_arities arities t) (have_arities arities ts) h), types_rigid arities ts (and_right (has_arities arities t) (have_arities arities ts) h))
+  types_rigid : (arities : List (List ℕ × ℕ)) (ts : TypeTexts) → HaveNoOpenName (types_of_texts arities ts)
+  types_rigid arities no_texts = tt
+  types_rigid arities (more_texts t ts) = (type_rigid arities t, types_rigid arities ts)
 
-option_rigid : (arities : List (List ℕ × ℕ)) (o : Option TypeText) → option_has_arities arities o ≡ true → IsRigid (option_map (type_of_text arities) o)
-option_rigid arities None h = tt
-option_rigid arities (Some t) h = type_rigid arities t h
+option_rigid : (arities : List (List ℕ × ℕ)) (o : Option TypeText) → IsRigid (option_map (type_of_text arities) o)
+option_rigid arities None = tt
+option_rigid arities (Some t) = type_rigid arities t
 
 resolved_rigid : (o : Option ℕ) (generic : Option TypeTree) (x : List ℕ) → HasRigidAnnotations (resolved o generic x)
 resolved_rigid (Some i) generic x = tt
@@ -123,48 +115,78 @@ resolved_rigid None None x = tt
 identifier_rigid : (constants : List (List ℕ × TypeTree)) (names : List (List ℕ)) (x : List ℕ) → HasRigidAnnotations (identifier constants names x)
 identifier_rigid constants names x = resolved_rigid (name_index names x) (generic_type_of constants x) x
 
+sign_rigid : (constants : List (List ℕ × TypeTree)) (names : List (List ℕ)) (x : List ℕ) → HasRigidAnnotations (sign constants names x)
+sign_rigid constants names x = by (generic_type_of constants x) (name_index names x)
+  where
+    by : (generic : Option TypeTree) (o : Option ℕ) → HasRigidAnnotations (resolved_sign generic o x)
+    by (Some generic) o = tt
+    by None (Some i) = tt
+    by None None = tt
+
 operator_rigid : (constants : List (List ℕ × TypeTree)) (names : List (List ℕ)) (c : Operator) → HasRigidAnnotations (operator_raw constants names c)
 operator_rigid constants names Iff = tt
-operator_rigid constants names Implies = identifier_rigid constants names (codes "==>")
-operator_rigid constants names Or = identifier_rigid constants names (codes "\\/")
-operator_rigid constants names And = identifier_rigid constants names (codes "/\\")
-operator_rigid constants names Equals = identifier_rigid constants names (codes "=")
-operator_rigid constants names Not = identifier_rigid constants names (codes "~")
-operator_rigid constants names ForAll = identifier_rigid constants names (codes "!")
-operator_rigid constants names Exists = identifier_rigid constants names (codes "?")
-operator_rigid constants names ExistsUnique = identifier_rigid constants names (codes "?!")
-operator_rigid constants names Choice = identifier_rigid constants names (codes "@")
+operator_rigid constants names Implies = sign_rigid constants names (codes "==>")
+operator_rigid constants names Or = sign_rigid constants names (codes "\\/")
+operator_rigid constants names And = sign_rigid constants names (codes "/\\")
+operator_rigid constants names Equals = sign_rigid constants names (codes "=")
+operator_rigid constants names Not = sign_rigid constants names (codes "~")
+operator_rigid constants names ForAll = sign_rigid constants names (codes "!")
+operator_rigid constants names Exists = sign_rigid constants names (codes "?")
+operator_rigid constants names ExistsUnique = sign_rigid constants names (codes "?!")
+operator_rigid constants names Choice = sign_rigid constants names (codes "@")
 
-pub raw_rigid : (arities : List (List ℕ × ℕ)) (constants : List (List ℕ × TypeTree)) (names : List (List ℕ)) (t : TermText) → term_has_arities arities t ≡ true → HasRigidAnnotations (raw_of arities constants names t)
-raw_rigid arities constants names (Named x) h = identifier_rigid constants names x
-raw_rigid arities constants names (Constant c) h = operator_rigid constants names c
-raw_rigid arities constants names (Applied f a) h = (
-  raw_rigid arities constants names f (and_left (term_has_arities arities f) (term_has_arities arities a) h),
-  raw_rigid arities constants names a (and_right (term_has_arities arities f) (term_has_arities arities a) h),
-)
-raw_rigid arities constants names (Abstraction v b) h = (
-  option_rigid arities v.annotation (and_left (option_has_arities arities v.annotation) (term_has_arities arities b) h),
-  raw_rigid arities constants (v.name ∷ names) b (and_right (option_has_arities arities v.annotation) (term_has_arities arities b) h),
-)
-raw_rigid arities constants names (Typed t ty) h = (
-  type_rigid arities ty (and_right (term_has_arities arities t) (has_arities arities ty) h),
-  raw_rigid arities constants names t (and_left (term_has_arities arities t) (has_arities arities ty) h),
-)
+pub raw_rigid : (arities : List (List ℕ × ℕ)) (constants : List (List ℕ × TypeTree)) (names : List (List ℕ)) (t : TermText) → HasRigidAnnotations (raw_of arities constants names t)
+raw_rigid arities constants names (Named x) = identifier_rigid constants names x
+raw_rigid arities constants names (Constant c) = operator_rigid constants names c
+raw_rigid arities constants names (Applied f a) = (raw_rigid arities constants names f, raw_rigid arities constants names a)
+raw_rigid arities constants names (Abstraction v b) = (option_rigid arities v.annotation, raw_rigid arities constants (v.name ∷ names) b)
+raw_rigid arities constants names (Typed t ty) = (type_rigid arities ty, raw_rigid arities constants names t)
 
 -- ---- definitions
 
+bool_rigid : HasNoOpenName bool_type
+bool_rigid = tt
+
+annotated_scoped : (names : List (List ℕ)) (o : Option TypeTree) (r : RawTree) → IsScoped names r → IsScoped names (annotated o r)
+annotated_scoped names None r h = h
+annotated_scoped names (Some ty) r h = h
+
+at_bool_scoped : (names : List (List ℕ)) (b : Bool) (r : RawTree) → IsScoped names r → IsScoped names (at_bool b r)
+at_bool_scoped names false r h = h
+at_bool_scoped names true r h = h
+
+annotated_rigid : (o : Option TypeTree) (r : RawTree) → IsRigid o → HasRigidAnnotations r → HasRigidAnnotations (annotated o r)
+annotated_rigid None r p h = h
+annotated_rigid (Some ty) r p h = (p, h)
+
+at_bool_rigid : (b : Bool) (r : RawTree) → HasRigidAnnotations r → HasRigidAnnotations (at_bool b r)
+at_bool_rigid false r h = h
+at_bool_rigid true r h = (bool_rigid, h)
+
+value_scoped : (arities : List (List ℕ × ℕ)) (constants : List (List ℕ × TypeTree)) (names : List (List ℕ)) (vs : List VariableText) (r : RightSideText) → IsScoped names (value_raw arities constants names vs r)
+value_scoped arities constants names [] r =
+    at_bool_scoped names r.is_iff (annotated (option_map (type_of_text arities) r.annotation) (raw_of arities constants names r.term))
+    (annotated_scoped names (option_map (type_of_text arities) r.annotation) (raw_of arities constants names r.term) (raw_scoped arities constants names r.term))
+value_scoped arities constants names (v ∷ vs) r = value_scoped arities constants (v.name ∷ names) vs r
+
+value_rigid : (arities : List (List ℕ × ℕ)) (constants : List (List ℕ × TypeTree)) (names : List (List ℕ)) (vs : List VariableText) (r : RightSideText) → HasRigidAnnotations (value_raw arities constants names vs r)
+value_rigid arities constants names [] r =
+    at_bool_rigid r.is_iff (annotated (option_map (type_of_text arities) r.annotation) (raw_of arities constants names r.term))
+    (annotated_rigid (option_map (type_of_text arities) r.annotation) (raw_of arities constants names r.term) (option_rigid arities r.annotation) (raw_rigid arities constants names r.term))
+value_rigid arities constants names (v ∷ vs) r = (option_rigid arities v.annotation, value_rigid arities constants (v.name ∷ names) vs r)
+
 pub definition_scoped : (arities : List (List ℕ × ℕ)) (constants : List (List ℕ × TypeTree)) (d : DefinitionText) → IsScoped [] (definition_raw arities constants d)
-definition_scoped arities constants d = ((operator_scoped constants [] Equals, refl), raw_scoped arities (without d.name constants) [] (value_text d))
+definition_scoped arities constants d = ((operator_scoped constants [] Equals, refl), value_scoped arities (without d.name constants) [] d.parameters d.right)
 
-pub definition_rigid : (arities : List (List ℕ × ℕ)) (constants : List (List ℕ × TypeTree)) (d : DefinitionText) → term_has_arities arities (value_text d) ≡ true → HasRigidAnnotations (definition_raw arities constants d)
-definition_rigid arities constants d h = ((operator_rigid constants [] Equals, tt), raw_rigid arities (without d.name constants) [] (value_text d) h)
+pub definition_rigid : (arities : List (List ℕ × ℕ)) (constants : List (List ℕ × TypeTree)) (d : DefinitionText) → HasRigidAnnotations (definition_raw arities constants d)
+definition_rigid arities constants d = ((operator_rigid constants [] Equals, tt), value_rigid arities (without d.name constants) [] d.parameters d.right)
 
-pub definition_built : (arities : List (List ℕ × ℕ)) (constants others : List (List ℕ × TypeTree)) (d : DefinitionText) (value : TermText) (name : List ℕ) (raw left sign right : RawTree) →
-    raw ≡ RawApply left right → left ≡ RawApply sign (RawFree name) → sign ≡ operator_raw constants [] Equals → name ≡ d.name → right ≡ raw_of arities others [] value → others ≡ without d.name constants → value ≡ value_text d →
+pub definition_built : (arities : List (List ℕ × ℕ)) (constants others : List (List ℕ × TypeTree)) (d : DefinitionText) (name : List ℕ) (raw left sign right : RawTree) →
+    raw ≡ RawApply left right → left ≡ RawApply sign (RawFree name) → sign ≡ operator_raw constants [] Equals → name ≡ d.name → right ≡ value_raw arities others [] d.parameters d.right → others ≡ without d.name constants →
     raw ≡ definition_raw arities constants d
-definition_built arities constants others d value name raw left sign right whole first equal named second other same =
+definition_built arities constants others d name raw left sign right whole first equal named second other =
     let l : left ≡ RawApply (operator_raw constants [] Equals) (RawFree d.name) = first ∙ (λ j. RawApply (equal j) (RawFree (named j))) in
-    let r : right ≡ raw_of arities (without d.name constants) [] (value_text d) = second ∙ (λ j. raw_of arities (other j) [] (same j)) in
+    let r : right ≡ value_raw arities (without d.name constants) [] d.parameters d.right = second ∙ (λ j. value_raw arities (other j) [] d.parameters d.right) in
     whole ∙ (λ j. RawApply (l j) (r j))
 
 -- ---- the walk over arguments

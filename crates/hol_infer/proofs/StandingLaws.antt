@@ -7,9 +7,10 @@ use Rattle.hol_types.specs.Tree.{TypeTree}
 use Rattle.hol_terms.specs.Nameless.{Nameless}
 use Rattle.hol_notation_terms.specs.declared.operator.Operator.{Operator}
 use Rattle.hol_notation_terms.specs.declared.operator.Operator.TheVariants.{Iff, Implies, Or, And, Equals, Not, ForAll, Exists, ExistsUnique, Choice}
-use Rattle.hol_notation_terms.specs.Text.{TypeText, TypeTexts, Ident, Arrow, Apply, no_types as no_texts, more_types as more_texts, DefinitionText, TermText, Named, Constant, Applied, Abstraction, Typed}
+use Rattle.hol_notation_terms.specs.Text.{TypeText, TypeTexts, Ident, Arrow, Apply, no_types as no_texts, more_types as more_texts, VariableText, RightSideText, DefinitionText, TermText, Named, Constant, Applied, Abstraction, Typed}
+use Rattle.hol_infer.specs.Raw.{RawTree}
 use Rattle.hol_infer.specs.Reading.{IsReading}
-use Rattle.hol_infer.specs.Resolving.{arity_of, generic_type_of, ident_type, type_of_text, types_of_texts, text_count, stands_alone, takes as takes_count, has_arities, have_arities, option_has_arities, term_has_arities, name_index, resolved, identifier, operator_raw, raw_of, value_text, without, definition_raw}
+use Rattle.hol_infer.specs.Resolving.{arity_of, generic_type_of, ident_type, type_of_text, types_of_texts, text_count, stands_alone, takes as takes_count, has_arities, have_arities, option_has_arities, term_has_arities, name_index, resolved, identifier, resolved_sign, sign, operator_raw, raw_of, annotated, at_bool, value_raw, value_has_arities, definition_has_arities, without, definition_raw}
 use Rattle.hol_infer.specs.Standing.{types_count, stands, all_stand, TermStands, AreStanding}
 use Rattle.hol_infer.proofs.Standing.{and_left, and_right, and_both, OptionStands, RawStands, principal_stands}
 
@@ -48,7 +49,7 @@ without_found c constants x g e = by (bytes_eq c x) refl
     by false f = sym (kept c x constants f) ∙ e
 
 module _ (takes : List ℕ → ℕ → Bool) (has : List ℕ → TypeTree → Bool) (arities : List (List ℕ × ℕ)) where
-  ident_stands : (constants : List (List ℕ × TypeTree)) → AreStanding takes has arities constants → (a : List ℕ) (o : Option ℕ) → arity_of arities a ≡ o → stands_alone o a ≡ true → stands takes (ident_type o a) ≡ true
+  ident_stands : (constants : List (List ℕ × TypeTree)) → AreStanding takes has arities constants → (a : List ℕ) (o : Option ℕ) → arity_of arities a ≡ o → stands_alone o ≡ true → stands takes (ident_type o a) ≡ true
   ident_stands constants s a None e h = refl
   ident_stands constants s a (Some n) e h = and_both (takes a 0) true (subst (λ (k : ℕ). takes a k ≡ true) (eqb-true n 0 h) (s.constructors a n e)) refl
 
@@ -86,17 +87,25 @@ module _ (takes : List ℕ → ℕ → Bool) (has : List ℕ → TypeTree → Bo
   identifier_stands : (constants : List (List ℕ × TypeTree)) → AreStanding takes has arities constants → (names : List (List ℕ)) (x : List ℕ) → RawStands takes has (identifier constants names x)
   identifier_stands constants s names x = resolved_stands constants s x (name_index names x) (generic_type_of constants x) refl
 
+  sign_stands : (constants : List (List ℕ × TypeTree)) → AreStanding takes has arities constants → (names : List (List ℕ)) (x : List ℕ) → RawStands takes has (sign constants names x)
+  sign_stands constants s names x = by (generic_type_of constants x) (name_index names x) refl
+    where
+      by : (o : Option TypeTree) (i : Option ℕ) → generic_type_of constants x ≡ o → RawStands takes has (resolved_sign o i x)
+      by (Some g) i e = s.generics x g e
+      by None (Some i) e = tt
+      by None None e = tt
+
   operator_stands : (constants : List (List ℕ × TypeTree)) → AreStanding takes has arities constants → (names : List (List ℕ)) (c : Operator) → RawStands takes has (operator_raw constants names c)
   operator_stands constants s names Iff = (rw (s.functions, s.truth) refl, λ pairs. s.equality)
-  operator_stands constants s names Implies = identifier_stands constants s names (codes "==>")
-  operator_stands constants s names Or = identifier_stands constants s names (codes "\\/")
-  operator_stands constants s names And = identifier_stands constants s names (codes "/\\")
-  operator_stands constants s names Equals = identifier_stands constants s names (codes "=")
-  operator_stands constants s names Not = identifier_stands constants s names (codes "~")
-  operator_stands constants s names ForAll = identifier_stands constants s names (codes "!")
-  operator_stands constants s names Exists = identifier_stands constants s names (codes "?")
-  operator_stands constants s names ExistsUnique = identifier_stands constants s names (codes "?!")
-  operator_stands constants s names Choice = identifier_stands constants s names (codes "@")
+  operator_stands constants s names Implies = sign_stands constants s names (codes "==>")
+  operator_stands constants s names Or = sign_stands constants s names (codes "\\/")
+  operator_stands constants s names And = sign_stands constants s names (codes "/\\")
+  operator_stands constants s names Equals = sign_stands constants s names (codes "=")
+  operator_stands constants s names Not = sign_stands constants s names (codes "~")
+  operator_stands constants s names ForAll = sign_stands constants s names (codes "!")
+  operator_stands constants s names Exists = sign_stands constants s names (codes "?")
+  operator_stands constants s names ExistsUnique = sign_stands constants s names (codes "?!")
+  operator_stands constants s names Choice = sign_stands constants s names (codes "@")
 
   raw_stands : (constants : List (List ℕ × TypeTree)) → AreStanding takes has arities constants → (names : List (List ℕ)) (t : TermText) → term_has_arities arities t ≡ true → RawStands takes has (raw_of arities constants names t)
   raw_stands constants s names (Named x) h = identifier_stands constants s names x
@@ -107,6 +116,23 @@ module _ (takes : List ℕ → ℕ → Bool) (has : List ℕ → TypeTree → Bo
       (option_stands constants s v.annotation (and_left (option_has_arities arities v.annotation) (term_has_arities arities b) h), raw_stands constants s (v.name ∷ names) b (and_right (option_has_arities arities v.annotation) (term_has_arities arities b) h))
   raw_stands constants s names (Typed t ty) h =
       (raw_stands constants s names t (and_left (term_has_arities arities t) (has_arities arities ty) h), type_stands constants s ty (and_right (term_has_arities arities t) (has_arities arities ty) h))
+
+  annotated_stands : (o : Option TypeTree) (r : RawTree) → OptionStands takes o → RawStands takes has r → RawStands takes has (annotated o r)
+  annotated_stands None r p h = h
+  annotated_stands (Some ty) r p h = (h, p)
+
+  at_bool_stands : (constants : List (List ℕ × TypeTree)) → AreStanding takes has arities constants → (b : Bool) (r : RawTree) → RawStands takes has r → RawStands takes has (at_bool b r)
+  at_bool_stands constants s false r h = h
+  at_bool_stands constants s true r h = (h, rw s.truth refl)
+
+  value_stands : (constants : List (List ℕ × TypeTree)) → AreStanding takes has arities constants → (names : List (List ℕ)) (vs : List VariableText) (r : RightSideText) → value_has_arities arities vs r ≡ true → RawStands takes has (value_raw arities constants names vs r)
+  value_stands constants s names [] r h =
+      at_bool_stands constants s r.is_iff (annotated (option_map (type_of_text arities) r.annotation) (raw_of arities constants names r.term))
+      (annotated_stands (option_map (type_of_text arities) r.annotation) (raw_of arities constants names r.term)
+          (option_stands constants s r.annotation (and_right (term_has_arities arities r.term) (option_has_arities arities r.annotation) h))
+          (raw_stands constants s names r.term (and_left (term_has_arities arities r.term) (option_has_arities arities r.annotation) h)))
+  value_stands constants s names (v ∷ vs) r h =
+      (option_stands constants s v.annotation (and_left (option_has_arities arities v.annotation) (value_has_arities arities vs r) h), value_stands constants s (v.name ∷ names) vs r (and_right (option_has_arities arities v.annotation) (value_has_arities arities vs r) h))
 
 without_standing : (takes : List ℕ → ℕ → Bool) (has : List ℕ → TypeTree → Bool) (arities : List (List ℕ × ℕ)) (constants : List (List ℕ × TypeTree)) (c : List ℕ) → AreStanding takes has arities constants → AreStanding takes has arities (without c constants)
 without_standing takes has arities constants c s = record {
@@ -122,8 +148,8 @@ pub reading_stands : (takes : List ℕ → ℕ → Bool) (has : List ℕ → Typ
 reading_stands takes has arities constants t p s h r = principal_stands takes has (raw_of arities constants [] t) p s.functions (raw_stands takes has arities constants s [] t h) r.principal
 
 pub definition_stands : (takes : List ℕ → ℕ → Bool) (has : List ℕ → TypeTree → Bool) (arities : List (List ℕ × ℕ)) (constants : List (List ℕ × TypeTree)) (d : DefinitionText) (p : Nameless) →
-    AreStanding takes has arities constants → term_has_arities arities (value_text d) ≡ true → IsReading (definition_raw arities constants d) p → TermStands takes has p
+    AreStanding takes has arities constants → definition_has_arities arities d ≡ true → IsReading (definition_raw arities constants d) p → TermStands takes has p
 definition_stands takes has arities constants d p s h r =
     principal_stands takes has (definition_raw arities constants d) p s.functions
-    ((operator_stands takes has arities constants s [] Equals, tt), raw_stands takes has arities (without d.name constants) (without_standing takes has arities constants d.name s) [] (value_text d) h)
+    ((operator_stands takes has arities constants s [] Equals, tt), value_stands takes has arities (without d.name constants) (without_standing takes has arities constants d.name s) [] d.parameters d.right h)
     r.principal

@@ -13,7 +13,7 @@ use Rattle.hol_terms.specs.Nameless.{Nameless, free, bound, fixed, app, lam}
 use Rattle.hol_terms.specs.Size.{term_size}
 use Rattle.hol_infer.specs.Raw.{RawTree}
 use Rattle.hol_infer.specs.Typing.{open_name, IsOpen, HasNoTyping, instantiate_types}
-use Rattle.hol_infer.specs.Reading.{term_tyvars, ComeInOrder, IsReading, HasLargeReading}
+use Rattle.hol_infer.specs.Reading.{occurring_tyvars, ComeInOrder, IsReading, HasLargeReading}
 use Rattle.hol_infer.proofs.Sizes.{principal_sizes}
 
 -- pairs for open names leave the other names
@@ -59,15 +59,15 @@ module _ (there back : List (TypeTree × List ℕ)) (there_open : All (λ pair. 
   free_comes : (u v : List ℕ × TypeTree) → free u ≡ free v → u ≡ v
   free_comes u v e = cc
 
-  term_related : (p : Nameless) → instantiate_types back (instantiate_types there p) ≡ p → AreRelated (term_tyvars p) (term_tyvars (instantiate_types there p))
+  term_related : (p : Nameless) → instantiate_types back (instantiate_types there p) ≡ p → AreRelated (occurring_tyvars p) (occurring_tyvars (instantiate_types there p))
   term_related (free v) e = type_related v.1 (ap (λ (w : List ℕ × TypeTree). w.1) (free_comes (v.0, type_subst back (type_subst there v.1)) v e))
   term_related (bound i) e = tt
   term_related (fixed c s) e = type_related s (cc)
   term_related (app f x) e =
-      related_append (term_tyvars f) (term_tyvars (instantiate_types there f)) (term_tyvars x) (term_tyvars (instantiate_types there x))
+      related_append (occurring_tyvars f) (occurring_tyvars (instantiate_types there f)) (occurring_tyvars x) (occurring_tyvars (instantiate_types there x))
       (term_related f (cc)) (term_related x (cc))
   term_related (lam a s b) e =
-      related_append (type_names s) (type_names (type_subst there s)) (term_tyvars b) (term_tyvars (instantiate_types there b))
+      related_append (type_names s) (type_names (type_subst there s)) (occurring_tyvars b) (occurring_tyvars (instantiate_types there b))
       (type_related s (cc)) (term_related b (cc))
 
   -- ---- names that both pairs leave
@@ -155,29 +155,29 @@ module _ (there back : List (TypeTree × List ℕ)) (there_open : All (λ pair. 
     types_stay no_types h = refl
     types_stay (more_types t ts) h = λ i. more_types (type_stays t (stay_front (type_names t) (types_names ts) h) i) (types_stay ts (stay_rest (type_names t) (types_names ts) h) i)
 
-  term_stays : (p : Nameless) → AllStay (term_tyvars p) → instantiate_types there p ≡ p
+  term_stays : (p : Nameless) → AllStay (occurring_tyvars p) → instantiate_types there p ≡ p
   term_stays (free v) h = ap (λ (t : TypeTree). free (v.0, t)) (type_stays v.1 h)
   term_stays (bound i) h = refl
   term_stays (fixed c s) h = ap (fixed c) (type_stays s h)
-  term_stays (app f x) h = λ i. app (term_stays f (stay_front (term_tyvars f) (term_tyvars x) h) i) (term_stays x (stay_rest (term_tyvars f) (term_tyvars x) h) i)
-  term_stays (lam a s b) h = λ i. lam a (type_stays s (stay_front (type_names s) (term_tyvars b) h) i) (term_stays b (stay_rest (type_names s) (term_tyvars b) h) i)
+  term_stays (app f x) h = λ i. app (term_stays f (stay_front (occurring_tyvars f) (occurring_tyvars x) h) i) (term_stays x (stay_rest (occurring_tyvars f) (occurring_tyvars x) h) i)
+  term_stays (lam a s b) h = λ i. lam a (type_stays s (stay_front (type_names s) (occurring_tyvars b) h) i) (term_stays b (stay_rest (type_names s) (occurring_tyvars b) h) i)
 
   -- a term whose open names come in order, and come back, and come in order there, stays
-  whole_stays : (p : Nameless) (last final : ℕ) → instantiate_types back (instantiate_types there p) ≡ p → ComeInOrder 0 (term_tyvars p) last → ComeInOrder 0 (term_tyvars (instantiate_types there p)) final → instantiate_types there p ≡ p
-  whole_stays p last final e c d = term_stays p (names_stay 0 0 last final (term_tyvars p) (term_tyvars (instantiate_types there p)) (λ k l. absurd (omega arith)) (λ k l. absurd (omega arith)) (term_related p e) c d)
+  whole_stays : (p : Nameless) (last final : ℕ) → instantiate_types back (instantiate_types there p) ≡ p → ComeInOrder 0 (occurring_tyvars p) last → ComeInOrder 0 (occurring_tyvars (instantiate_types there p)) final → instantiate_types there p ≡ p
+  whole_stays p last final e c d = term_stays p (names_stay 0 0 last final (occurring_tyvars p) (occurring_tyvars (instantiate_types there p)) (λ k l. absurd (omega arith)) (λ k l. absurd (omega arith)) (term_related p e) c d)
 
 pub one_reading : (raw : RawTree) (p q : Nameless) → IsReading raw p → IsReading raw q → p ≡ q
 one_reading raw p q of_p of_q =
     let there = of_p.principal.most_general q of_q.principal.typing in
     let back = of_q.principal.most_general p of_p.principal.typing in
     let returns : instantiate_types back.pairs (instantiate_types there.pairs p) ≡ p = ap (instantiate_types back.pairs) there.gives ∙ back.gives in
-    let ordered : ComeInOrder 0 (term_tyvars (instantiate_types there.pairs p)) of_q.in_order.0 = subst (λ (r : Nameless). ComeInOrder 0 (term_tyvars r) of_q.in_order.0) (sym there.gives) of_q.in_order.1 in
+    let ordered : ComeInOrder 0 (occurring_tyvars (instantiate_types there.pairs p)) of_q.in_order.0 = subst (λ (r : Nameless). ComeInOrder 0 (occurring_tyvars r) of_q.in_order.0) (sym there.gives) of_q.in_order.1 in
     sym (whole_stays there.pairs back.pairs there.are_open back.are_open p of_p.in_order.0 of_q.in_order.0 returns of_p.in_order.1 ordered) ∙ there.gives
 
 -- ---- each fault excludes a reading, and the others
 
 pub reading_typable : (raw : RawTree) (p : Nameless) → IsReading raw p → HasNoTyping raw → ⊥
-reading_typable raw p r none = none p r.principal.typing
+reading_typable raw p r none = none.none p r.principal.typing
 
 pub reading_not_large : (raw : RawTree) (p : Nameless) → IsReading raw p → term_size [] p ≤ 20000 → HasLargeReading raw → ⊥
 reading_not_large raw p r small (q, principal, large) =
@@ -185,4 +185,4 @@ reading_not_large raw p r small (q, principal, large) =
     omega (arith, same, small, large)
 
 pub large_typable : (raw : RawTree) → HasNoTyping raw → HasLargeReading raw → ⊥
-large_typable raw none (q, principal, large) = none q principal.typing
+large_typable raw none (q, principal, large) = none.none q principal.typing

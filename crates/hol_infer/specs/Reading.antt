@@ -8,13 +8,13 @@ use Rattle.hol_terms.specs.Size.{term_size}
 use Rattle.hol_infer.specs.Raw.{RawTree}
 use Rattle.hol_infer.specs.Typing.{open_name, IsOpen, IsPrincipal}
 
--- the type variables as they occur
-abbrev pub term_tyvars : Nameless → List (List ℕ)
-term_tyvars (free v) = type_names v.1
-term_tyvars (bound i) = []
-term_tyvars (fixed c s) = type_names s
-term_tyvars (app f x) = term_tyvars f ++ term_tyvars x
-term_tyvars (lam a s b) = type_names s ++ term_tyvars b
+-- the type variables as they occur, each as often as it does
+abbrev pub occurring_tyvars : Nameless → List (List ℕ)
+occurring_tyvars (free v) = type_names v.1
+occurring_tyvars (bound i) = []
+occurring_tyvars (fixed c s) = type_names s
+occurring_tyvars (app f x) = occurring_tyvars f ++ occurring_tyvars x
+occurring_tyvars (lam a s b) = type_names s ++ occurring_tyvars b
 
 -- Where `?0` up to the n-th have occurred, each name that comes is no open one, or one of these, or the next. In the end there are m.
 abbrev pub ComeInOrder : ℕ → List (List ℕ) → ℕ → Type 0
@@ -26,7 +26,7 @@ ComeInOrder n (a ∷ names) m =
 
 pub record IsReading (raw : RawTree) (p : Nameless) : Type 0 where
   pub principal : IsPrincipal raw p
-  pub in_order : (m : ℕ) × ComeInOrder 0 (term_tyvars p) m
+  pub in_order : (m : ℕ) × ComeInOrder 0 (occurring_tyvars p) m
 
 -- Some most general typing has over 20,000 nodes. By `principal_sizes` all of them have the same number.
 abbrev pub HasLargeReading : RawTree → Type 0

@@ -1,13 +1,13 @@
 -- What the identifiers of a type and of a term as they are written mean.
 -- Source: HOL Light's parser.ml and preterm.ml. An identifier is the innermost bound variable of that name, else the constant that
 -- stands, else a free variable. An identifier in a type is a type constructor that stands, else a type variable.
-use Rattle.std.specs.Prelude.{ℕ, ◌+◌, List, [], ◌∷◌, cond, ◌==◌, ◌&&◌, Bool, true, false, not, bytes_eq, codes, Option, Some, None}
+use Rattle.std.specs.Prelude.{ℕ, ◌+◌, List, [], ◌∷◌, cond, ◌==◌, ◌&&◌, Bool, true, false, bytes_eq, codes, Option, Some, None}
 use Rattle.std.specs.Option.{option_map}
 use Rattle.hol_types.specs.Tree.{TypeTree, TypeList, TyVar, TyApp, no_types, more_types}
 use Rattle.hol_types.specs.Fun.{fun_type}
 use Rattle.hol_notation_terms.specs.declared.operator.Operator.{Operator}
 use Rattle.hol_notation_terms.specs.declared.operator.Operator.TheVariants.{Iff, Implies, Or, And, Equals, Not, ForAll, Exists, ExistsUnique, Choice}
-use Rattle.hol_notation_terms.specs.Text.{TypeText, TypeTexts, Ident, Arrow, Apply, no_types as no_texts, more_types as more_texts, VariableText, DefinitionText, TermText, Named, Constant, Applied, Abstraction, Typed}
+use Rattle.hol_notation_terms.specs.Text.{TypeText, TypeTexts, Ident, Arrow, Apply, no_types as no_texts, more_types as more_texts, VariableText, RightSideText, DefinitionText, TermText, Named, Constant, Applied, Abstraction, Typed}
 use Rattle.hol_infer.specs.Raw.{RawTree, RawBound, RawConstant, RawFree, RawApply, RawAbstraction, RawAnnotated}
 
 -- ---- what stands: the first entry of a name counts
@@ -22,8 +22,17 @@ generic_type_of (p ∷ constants) a = cond (bytes_eq p.0 a) (Some p.1) (generic_
 
 -- ---- types
 
+abbrev pub begins_with_mark : List ℕ → Bool
+begins_with_mark [] = false
+begins_with_mark (x ∷ xs) = x == 63
+
+-- The type variable of a name that is written. Types that are left open are `?0`, `?1` and so on: a name that begins with `?`, which no
+-- identifier of the notation does, gets one `?` more, so that it is none of them.
+abbrev pub written_variable : List ℕ → List ℕ
+written_variable a = cond (begins_with_mark a) (63 ∷ a) a
+
 abbrev pub ident_type : Option ℕ → List ℕ → TypeTree
-ident_type None a = TyVar a
+ident_type None a = TyVar (written_variable a)
 ident_type (Some n) a = TyApp a no_types
 
 abbrev mutual
@@ -40,15 +49,10 @@ abbrev pub text_count : TypeTexts → ℕ
 text_count no_texts = 0
 text_count (more_texts t ts) = 1 + text_count ts
 
--- The names that begin with `?` are those of types that are left open, which nobody writes: the notation has no such identifier.
-abbrev pub begins_with_mark : List ℕ → Bool
-begins_with_mark [] = false
-begins_with_mark (x ∷ xs) = x == 63
-
 -- an identifier without arguments is a type variable or a constructor of none
-abbrev pub stands_alone : Option ℕ → List ℕ → Bool
-stands_alone None a = not (begins_with_mark a)
-stands_alone (Some n) a = n == 0
+abbrev pub stands_alone : Option ℕ → Bool
+stands_alone None = true
+stands_alone (Some n) = n == 0
 
 -- arguments are given to a constructor of so many
 abbrev pub takes : Option ℕ → ℕ → Bool
@@ -57,7 +61,7 @@ takes (Some n) count = n == count
 
 abbrev mutual
   pub has_arities : List (List ℕ × ℕ) → TypeText → Bool
-  has_arities arities (Ident a) = stands_alone (arity_of arities a) a
+  has_arities arities (Ident a) = stands_alone (arity_of arities a)
   has_arities arities (Arrow s t) = has_arities arities s && has_arities arities t
   has_arities arities (Apply c ts) = takes (arity_of arities c) (text_count ts) && have_arities arities ts
 
@@ -96,18 +100,27 @@ identifier constants names x = resolved (name_index names x) (generic_type_of co
 abbrev pub bool_type : TypeTree
 bool_type = TyApp (codes "bool") no_types
 
--- `<=>` is `=` at bool, and each other operator is the identifier that is written so
+abbrev pub resolved_sign : Option TypeTree → Option ℕ → List ℕ → RawTree
+resolved_sign (Some generic) i x = RawConstant x generic
+resolved_sign None (Some i) x = RawBound i
+resolved_sign None None x = RawFree x
+
+-- a sign of the notation, which no identifier is: the constant of its name where that stands
+abbrev pub sign : List (List ℕ × TypeTree) → List (List ℕ) → List ℕ → RawTree
+sign constants names x = resolved_sign (generic_type_of constants x) (name_index names x) x
+
+-- `<=>` is `=` at bool, and each other operator is the sign that it is written as
 abbrev pub operator_raw : List (List ℕ × TypeTree) → List (List ℕ) → Operator → RawTree
 operator_raw constants names Iff = RawConstant (codes "=") (fun_type bool_type (fun_type bool_type bool_type))
-operator_raw constants names Implies = identifier constants names (codes "==>")
-operator_raw constants names Or = identifier constants names (codes "\\/")
-operator_raw constants names And = identifier constants names (codes "/\\")
-operator_raw constants names Equals = identifier constants names (codes "=")
-operator_raw constants names Not = identifier constants names (codes "~")
-operator_raw constants names ForAll = identifier constants names (codes "!")
-operator_raw constants names Exists = identifier constants names (codes "?")
-operator_raw constants names ExistsUnique = identifier constants names (codes "?!")
-operator_raw constants names Choice = identifier constants names (codes "@")
+operator_raw constants names Implies = sign constants names (codes "==>")
+operator_raw constants names Or = sign constants names (codes "\\/")
+operator_raw constants names And = sign constants names (codes "/\\")
+operator_raw constants names Equals = sign constants names (codes "=")
+operator_raw constants names Not = sign constants names (codes "~")
+operator_raw constants names ForAll = sign constants names (codes "!")
+operator_raw constants names Exists = sign constants names (codes "?")
+operator_raw constants names ExistsUnique = sign constants names (codes "?!")
+operator_raw constants names Choice = sign constants names (codes "@")
 
 abbrev pub raw_of : List (List ℕ × ℕ) → List (List ℕ × TypeTree) → List (List ℕ) → TermText → RawTree
 raw_of arities constants names (Named x) = identifier constants names x
@@ -118,23 +131,33 @@ raw_of arities constants names (Typed t ty) = RawAnnotated (raw_of arities const
 
 -- ---- definitions
 
-abbrev pub with_annotation : Option TypeText → TermText → TermText
-with_annotation None r = r
-with_annotation (Some ty) r = Typed r ty
+abbrev pub annotated : Option TypeTree → RawTree → RawTree
+annotated None r = r
+annotated (Some ty) r = RawAnnotated r ty
 
 -- with `<=>` the right side is of type bool
-abbrev pub at_bool : Bool → TermText → TermText
+abbrev pub at_bool : Bool → RawTree → RawTree
 at_bool false r = r
-at_bool true r = Typed r (Ident (codes "bool"))
+at_bool true r = RawAnnotated r bool_type
 
--- under abstractions over the variables, the first outermost
-abbrev pub abstracted : List VariableText → TermText → TermText
-abstracted [] r = r
-abstracted (v ∷ vs) r = Abstraction v (abstracted vs r)
+abbrev pub right_raw : List (List ℕ × ℕ) → List (List ℕ × TypeTree) → List (List ℕ) → RightSideText → RawTree
+right_raw arities constants names r = at_bool r.is_iff (annotated (option_map (type_of_text arities) r.annotation) (raw_of arities constants names r.term))
 
--- `\v1 .. vn. r`
-abbrev pub value_text : DefinitionText → TermText
-value_text d = abstracted d.parameters (at_bool d.right.is_iff (with_annotation d.right.annotation d.right.term))
+-- `\v1 .. vn. r`, the first variable outermost
+abbrev pub value_raw : List (List ℕ × ℕ) → List (List ℕ × TypeTree) → List (List ℕ) → List VariableText → RightSideText → RawTree
+value_raw arities constants names [] r = right_raw arities constants names r
+value_raw arities constants names (v ∷ vs) r = RawAbstraction v.name (option_map (type_of_text arities) v.annotation) (value_raw arities constants (v.name ∷ names) vs r)
+
+abbrev pub right_has_arities : List (List ℕ × ℕ) → RightSideText → Bool
+right_has_arities arities r = term_has_arities arities r.term && option_has_arities arities r.annotation
+
+abbrev pub value_has_arities : List (List ℕ × ℕ) → List VariableText → RightSideText → Bool
+value_has_arities arities [] r = right_has_arities arities r
+value_has_arities arities (v ∷ vs) r = option_has_arities arities v.annotation && value_has_arities arities vs r
+
+-- in each type that is written in the definition
+abbrev pub definition_has_arities : List (List ℕ × ℕ) → DefinitionText → Bool
+definition_has_arities arities d = value_has_arities arities d.parameters d.right
 
 -- what stands but for the name
 abbrev pub without : List ℕ → List (List ℕ × TypeTree) → List (List ℕ × TypeTree)
@@ -144,4 +167,4 @@ without c (p ∷ constants) = cond (bytes_eq p.0 c) (without c constants) (p ∷
 -- `c = \v1 .. vn. r`, in which c is a free variable whatever stands
 abbrev pub definition_raw : List (List ℕ × ℕ) → List (List ℕ × TypeTree) → DefinitionText → RawTree
 definition_raw arities constants d =
-    RawApply (RawApply (operator_raw constants [] Equals) (RawFree d.name)) (raw_of arities (without d.name constants) [] (value_text d))
+    RawApply (RawApply (operator_raw constants [] Equals) (RawFree d.name)) (value_raw arities (without d.name constants) [] d.parameters d.right)

@@ -41,8 +41,8 @@ IsTyping type_of env (RawAnnotated e a) p t = (t ≡ a) × IsTyping type_of env 
 abbrev pub IsTypingOf : RawTree → Nameless → Type 0
 IsTypingOf raw p = (type_of : List ℕ → TypeTree) × ((t : TypeTree) × IsTyping type_of [] raw p t)
 
-abbrev pub HasNoTyping : RawTree → Type 0
-HasNoTyping raw = (p : Nameless) → IsTypingOf raw p → ⊥
+pub record HasNoTyping (raw : RawTree) : Type 0 where
+  pub none : (p : Nameless) → IsTypingOf raw p → ⊥
 
 -- ---- instances
 

@@ -1,71 +1,80 @@
 //! Definitions as they are written.
 ghost use Rattle.std.specs.Prelude.{◌≡◌, map, IfOk, IfErr, true, false};
 ghost use Rattle.hol_notation_terms.specs.VariableView.{variable_text};
+ghost use Rattle.hol_notation_terms.specs.DefinitionView.{right_side_text, definition_text};
+ghost use Rattle.hol_infer.specs.NamesView.{scope_names};
 ghost use Rattle.hol_infer.specs.RawView.{raw_tree};
-ghost use Rattle.hol_infer.specs.Resolving.{with_annotation, at_bool, abstracted, value_text, without, definition_raw, term_has_arities};
-ghost use Rattle.hol_notation_terms.specs.DefinitionView.{definition_text};
+ghost use Rattle.hol_infer.specs.Resolving.{annotated, at_bool, right_raw, value_raw, right_has_arities, value_has_arities, definition_has_arities, without, definition_raw};
 
 use crate::raw::RawTerm;
-use crate::resolving::{Names, ResolveError, operator, resolve};
-use hol_notation_terms::{
-    Definition, Operator, PreTerm, PreTermNode, PreType, PreTypeNode, PreVariable,
-};
+use crate::resolving::{Names, ResolveError, operator, resolve, resolve_annotation, truth_type};
+use hol_notation_terms::{Definition, Operator, PreVariable, RightSide};
 use hol_types::{Name, Ty};
-use std::alloc::{AllocError, AllocFailed, Global};
+use std::alloc::{AllocError, Global};
 
 // The term with the type that is written for it, if there is one.
-fn with_annotation(
+fn annotated(
     alloc: Global,
-    annotation: &Option<PreType>,
-    term: PreTerm,
-) -> Result<PreTerm, AllocError>
-    ensures { IfOk result (λ t. t ≡ with_annotation annotation.now term) }
+    annotation: Option<Ty>,
+    term: RawTerm,
+) -> Result<RawTerm, AllocError>
+    ensures { IfOk result (λ t. raw_tree t ≡ annotated annotation (raw_tree term)) }
 {
     match annotation {
-        Some(ty) => PreTerm::new(alloc, PreTermNode::Typed(term, ty.copy()?)),
+        Some(ty) => RawTerm::annotated(alloc, term, ty),
         None => Ok(term),
     }
 }
 
 // The term, of type `bool` where the sign is `<=>`.
-fn at_bool(alloc: Global, is_equivalence: bool, term: PreTerm) -> Result<PreTerm, AllocError>
-    ensures { IfOk result (λ t. t ≡ at_bool is_equivalence term) }
+fn at_bool(alloc: Global, is_iff: bool, term: RawTerm) -> Result<RawTerm, AllocError>
+    ensures { IfOk result (λ t. raw_tree t ≡ at_bool is_iff (raw_tree term)) }
 {
-    if !is_equivalence {
+    if !is_iff {
         return Ok(term);
     }
-    let name = String::from_str(alloc, "bool")?;
-    let truth = PreType::new(alloc, PreTypeNode::Ident(name))?;
-    PreTerm::new(alloc, PreTermNode::Typed(term, truth))
+    let truth = truth_type(alloc)?;
+    RawTerm::annotated(alloc, term, truth)
 }
 
-// The abstractions over the variables in the body, the first outermost.
-fn abstracted(
+// The right side, under abstractions over variables of these names.
+fn resolve_right(
     alloc: Global,
+    constants: &[(Name, Ty)],
+    arities: &[(Name, usize)],
+    names: &Names<'_>,
+    right: &RightSide,
+) -> Result<RawTerm, ResolveError>
+    ensures ok { IfOk result (λ t. (raw_tree t ≡ right_raw arities.now constants.now (scope_names names.now) (right_side_text right.now)) × (right_has_arities arities.now (right_side_text right.now) ≡ true)) }
+    ensures arity { IfErr result (λ e. e ≡ ResolveError.Arity → right_has_arities arities.now (right_side_text right.now) ≡ false) }
+{
+    let term = resolve(alloc, constants, arities, &*names, &right.term)?;
+    let annotation = resolve_annotation(alloc, arities, &right.annotation)?;
+    let typed = annotated(alloc, annotation, term)?;
+    Ok(at_bool(alloc, right.is_iff, typed)?)
+}
+
+// `\v1 .. vn. r`, the first variable outermost, under abstractions over variables of these names.
+fn resolve_value(
+    alloc: Global,
+    constants: &[(Name, Ty)],
+    arities: &[(Name, usize)],
+    names: &Names<'_>,
     variables: &[PreVariable],
-    body: PreTerm,
-) -> Result<PreTerm, AllocError>
-    ensures { IfOk result (λ t. t ≡ abstracted (map variable_text variables.now) body) }
+    right: &RightSide,
+) -> Result<RawTerm, ResolveError>
+    ensures ok { IfOk result (λ t. (raw_tree t ≡ value_raw arities.now constants.now (scope_names names.now) (map variable_text variables.now) (right_side_text right.now)) × (value_has_arities arities.now (map variable_text variables.now) (right_side_text right.now) ≡ true)) }
+    ensures arity { IfErr result (λ e. e ≡ ResolveError.Arity → value_has_arities arities.now (map variable_text variables.now) (right_side_text right.now) ≡ false) }
 {
     match variables.split_first() {
-        None => Ok(body),
+        None => resolve_right(alloc, constants, arities, &*names, right),
         Some((variable, rest)) => {
-            let inner = abstracted(alloc, rest, body)?;
-            let own_variable = variable.copy(alloc)?;
-            PreTerm::new(alloc, PreTermNode::Abstraction(own_variable, inner))
+            let annotation = resolve_annotation(alloc, arities, &variable.annotation)?;
+            let inside = Names::Inside(variable.name.as_str(), &*names);
+            let inner = resolve_value(alloc, constants, arities, &inside, rest, right)?;
+            Ok(RawTerm::abstraction(alloc, variable.name.as_str(), annotation, inner)?)
         }
     }
-}
-
-// `\v1 .. vn. r`
-fn value(alloc: Global, definition: &Definition) -> Result<PreTerm, AllocError>
-    ensures { IfOk result (λ t. t ≡ value_text (definition_text definition.now)) }
-{
-    let right = &definition.right;
-    let annotated = with_annotation(alloc, &right.annotation, right.term.copy()?)?;
-    let body = at_bool(alloc, right.is_iff, annotated)?;
-    let value = abstracted(alloc, &definition.parameters, body)?;
-    Ok(value)
 }
 
 // What stands but for the name.
@@ -87,23 +96,28 @@ fn without(
 
 /// `c = \v1 .. vn. r`, its identifiers resolved: c is a free variable whatever stands.
 ///
-/// Answers `Arity` exactly where the type of an annotation has that fault, and `Memory` where memory is short.
+/// Answers `Arity` only where a type that is written has that fault.
 pub fn resolve_definition(
     alloc: Global,
     constants: &[(Name, Ty)],
     arities: &[(Name, usize)],
     definition: &Definition,
 ) -> Result<RawTerm, ResolveError>
-    ensures ok { IfOk result (λ t. (raw_tree t ≡ definition_raw arities.now constants.now (definition_text definition.now)) × (term_has_arities arities.now (value_text (definition_text definition.now)) ≡ true)) }
-    ensures arity { IfErr result (λ e. e ≡ ResolveError.Arity → term_has_arities arities.now (value_text (definition_text definition.now)) ≡ false) }
+    ensures ok { IfOk result (λ t. (raw_tree t ≡ definition_raw arities.now constants.now (definition_text definition.now)) × (definition_has_arities arities.now (definition_text definition.now) ≡ true)) }
+    ensures arity { IfErr result (λ e. e ≡ ResolveError.Arity → definition_has_arities arities.now (definition_text definition.now) ≡ false) }
 {
-    let value = value(alloc, definition)?;
     let defined = definition.name.as_str();
     let others = without(alloc, constants, defined)?;
-    let right = resolve(alloc, &others, arities, &Names::Outermost, &value)?;
+    let value = resolve_value(
+        alloc,
+        &others,
+        arities,
+        &Names::Outermost,
+        &definition.parameters,
+        &definition.right,
+    )?;
     let equality = operator(alloc, constants, &Names::Outermost, Operator::Equals)?;
     let name = Name::new(alloc, defined)?;
     let left = RawTerm::apply(alloc, equality, RawTerm::Free(name))?;
-    let raw = RawTerm::apply(alloc, left, right)?;
-    Ok(raw)
+    Ok(RawTerm::apply(alloc, left, value)?)
 }

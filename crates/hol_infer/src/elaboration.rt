@@ -3,7 +3,7 @@ ghost use Rattle.std.specs.Prelude.{◌≡◌, ◌≤◌, ◌<◌, [], IfOk, IfE
 ghost use Rattle.hol_types.specs.Tree.{type_size};
 ghost use Rattle.hol_terms.specs.Nameless.{nameless};
 ghost use Rattle.hol_terms.specs.Size.{term_size};
-ghost use Rattle.hol_infer.specs.Resolving.{type_of_text, has_arities, term_has_arities, raw_of, value_text, definition_raw};
+ghost use Rattle.hol_infer.specs.Resolving.{type_of_text, has_arities, term_has_arities, raw_of, definition_has_arities, definition_raw};
 ghost use Rattle.hol_notation_terms.specs.DefinitionView.{definition_text};
 ghost use Rattle.hol_infer.specs.Typing.{HasNoTyping};
 ghost use Rattle.hol_infer.specs.Reading.{IsReading, HasLargeReading};
@@ -21,8 +21,8 @@ use std::alloc::Global;
 /// An identifier is the innermost bound variable of that name, else the constant that stands, else a free variable. The reading is
 /// the typing of which every other is an instance; the types that it leaves open are the type variables `?0`, `?1` and so on, as
 /// they occur. Answers `Arity`, `Untypable` or `TooLarge`, tested in this order, exactly where a type constructor stands with
-/// another number of arguments than its arity (or a name that is no constructor with arguments, or a type variable whose name begins with
-/// `?`, as those of open types do), there is no typing, or the reading has over 20,000 nodes; and `Memory` where memory is short.
+/// another number of arguments than its arity (or a name that is no constructor with arguments), there is no typing, or the reading has
+/// over 20,000 nodes.
 #[tactic(auto, using(crate::proofs::Resolved::raw_scoped, crate::proofs::Resolved::raw_rigid))]
 pub fn elaborate(
     alloc: Global,
@@ -38,10 +38,7 @@ pub fn elaborate(
     ensures too_large { IfErr result (λ e. e ≡ ReadingError.TooLarge → (term_has_arities arities.now term.now ≡ true) × HasLargeReading (raw_of arities.now constants.now [] term.now)) }
 {
     match resolve(alloc, constants, arities, &Names::Outermost, term) {
-        Ok(raw) => {
-            let reading = read(alloc, &raw)?;
-            Ok(reading)
-        }
+        Ok(raw) => read(alloc, &raw),
         Err(ResolveError::Arity) => Err(ReadingError::Arity),
         Err(ResolveError::Memory) => Err(ReadingError::Memory),
     }
@@ -52,25 +49,22 @@ pub fn elaborate(
 ///
 /// Its identifiers mean what they mean to `elaborate`, but c is a free variable, whatever constant stands. A type that is written before
 /// the sign is that of r, and with `<=>` r is of type `bool`. Answers `Arity`, `Untypable` or `TooLarge`, tested in this order, exactly
-/// where `elaborate` would, the nodes being those of the whole equation; and `Memory` where memory is short.
+/// where `elaborate` would, the nodes being those of the whole equation.
 pub fn elaborate_definition(
     alloc: Global,
     definition: &Definition,
     constants: &[(Name, Ty)],
     arities: &[(Name, usize)],
 ) -> Result<Term, ReadingError>
-    ensures arities { IfOk result (λ t. term_has_arities arities.now (value_text (definition_text definition.now)) ≡ true) }
+    ensures arities { IfOk result (λ t. definition_has_arities arities.now (definition_text definition.now) ≡ true) }
     ensures reading { IfOk result (λ t. IsReading (definition_raw arities.now constants.now (definition_text definition.now)) (nameless [] t)) }
     ensures small { IfOk result (λ t. term_size [] (nameless [] t) ≤ 20000) }
-    ensures arity { IfErr result (λ e. e ≡ ReadingError.Arity → term_has_arities arities.now (value_text (definition_text definition.now)) ≡ false) }
-    ensures untypable { IfErr result (λ e. e ≡ ReadingError.Untypable → (term_has_arities arities.now (value_text (definition_text definition.now)) ≡ true) × HasNoTyping (definition_raw arities.now constants.now (definition_text definition.now))) }
-    ensures too_large { IfErr result (λ e. e ≡ ReadingError.TooLarge → (term_has_arities arities.now (value_text (definition_text definition.now)) ≡ true) × HasLargeReading (definition_raw arities.now constants.now (definition_text definition.now))) }
+    ensures arity { IfErr result (λ e. e ≡ ReadingError.Arity → definition_has_arities arities.now (definition_text definition.now) ≡ false) }
+    ensures untypable { IfErr result (λ e. e ≡ ReadingError.Untypable → (definition_has_arities arities.now (definition_text definition.now) ≡ true) × HasNoTyping (definition_raw arities.now constants.now (definition_text definition.now))) }
+    ensures too_large { IfErr result (λ e. e ≡ ReadingError.TooLarge → (definition_has_arities arities.now (definition_text definition.now) ≡ true) × HasLargeReading (definition_raw arities.now constants.now (definition_text definition.now))) }
 {
     match resolve_definition(alloc, constants, arities, definition) {
-        Ok(raw_equation) => {
-            let equation = read(alloc, &raw_equation)?;
-            Ok(equation)
-        }
+        Ok(equation) => read(alloc, &equation),
         Err(ResolveError::Arity) => Err(ReadingError::Arity),
         Err(ResolveError::Memory) => Err(ReadingError::Memory),
     }
@@ -79,9 +73,7 @@ pub fn elaborate_definition(
 /// The type that is written, among type constructors of these arities. A name that is no constructor is a type variable.
 ///
 /// Answers `Arity` or `TooLarge`, tested in this order, exactly where a type constructor stands with another number of arguments
-/// than its arity (or a name that is no constructor with arguments, or a type variable whose name begins with `?`), or the type has over
-/// 20,000 nodes; and `Memory` where memory
-/// is short.
+/// than its arity (or a name that is no constructor with arguments), or the type has over 20,000 nodes.
 pub fn elaborate_type(
     alloc: Global,
     ty: &PreType,

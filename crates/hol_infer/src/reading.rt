@@ -24,7 +24,7 @@ use thiserror::Error;
 #[derive(Clone, Copy, Debug, PartialEq, Eq, Error)]
 pub enum ReadingError {
     /// A type that is written has a constructor with another number of arguments than its arity, or arguments for a name that is no
-    /// constructor, or a type variable whose name begins with `?`, as those of types that are left open do.
+    /// constructor.
     #[error("type constructor's arity")]
     Arity,
     /// The term has no typing.

@@ -3,7 +3,7 @@ ghost use Rattle.std.specs.Prelude.{◌≡◌, codes, IfOk, IfErr, IsOkUnless, M
 ghost use Rattle.hol_types.specs.Fun.{fun_type};
 ghost use Rattle.hol_infer.specs.RawView.{raw_tree};
 ghost use Rattle.hol_infer.specs.NamesView.{scope_names};
-ghost use Rattle.hol_infer.specs.Resolving.{arity_of, generic_type_of, ident_type, begins_with_mark, stands_alone, takes, type_of_text, has_arities, option_has_arities, term_has_arities, name_index, identifier, bool_type, operator_raw, raw_of};
+ghost use Rattle.hol_infer.specs.Resolving.{arity_of, generic_type_of, ident_type, begins_with_mark, written_variable, stands_alone, takes, type_of_text, has_arities, option_has_arities, term_has_arities, name_index, identifier, sign, bool_type, operator_raw, raw_of};
 ghost use Rattle.std.specs.Option.{option_map};
 ghost use Rattle.hol_infer.specs.declared.resolving.ResolveError.TheVariants.{Memory};
 ghost use Rattle.hol_infer.specs.Raw.{RawConstant};
@@ -113,26 +113,29 @@ fn begins_with_mark(name: &str) -> bool
     name.as_bytes().first() == Some(&b'?')
 }
 
+// The name of the type variable that is written so.
+fn written_variable(alloc: Global, name: &str) -> Result<Name, AllocError>
+    ensures { IfOk result (λ variable. variable ≡ written_variable name.now) }
+{
+    if !begins_with_mark(name) {
+        return Name::new(alloc, name);
+    }
+    let marked = format!(in alloc; "?{name}")?;
+    Name::new(alloc, marked.as_str())
+}
+
 // The type of an identifier without arguments.
 fn ident_type(alloc: Global, arities: &[(Name, usize)], name: &str) -> Result<Ty, ResolveError>
-    ensures ok { IfOk result (λ t. (t ≡ ident_type (arity_of arities.now name.now) name.now) × (stands_alone (arity_of arities.now name.now) name.now ≡ true)) }
-    ensures arity { IfErr result (λ e. e ≡ ResolveError.Arity → stands_alone (arity_of arities.now name.now) name.now ≡ false) }
+    ensures ok { IfOk result (λ t. (t ≡ ident_type (arity_of arities.now name.now) name.now) × (stands_alone (arity_of arities.now name.now) ≡ true)) }
+    ensures arity { IfErr result (λ e. e ≡ ResolveError.Arity → stands_alone (arity_of arities.now name.now) ≡ false) }
 {
-    let own_name = Name::new(alloc, name)?;
     match arity(arities, name) {
-        None => {
-            if begins_with_mark(name) {
-                return Err(ResolveError::Arity);
-            }
-            let ty = Ty::var(alloc, &own_name)?;
-            Ok(ty)
-        }
+        None => Ok(Ty::var(alloc, &written_variable(alloc, name)?)?),
         Some(count) => {
             if count != 0 {
                 return Err(ResolveError::Arity);
             }
-            let ty = Ty::app(alloc, &own_name, &[])?;
-            Ok(ty)
+            Ok(Ty::app(alloc, &Name::new(alloc, name)?, &[])?)
         }
     }
 }
@@ -174,7 +177,7 @@ pub fn resolve_type(
 }
 
 // The type that is written for a bound variable, if there is one.
-fn resolve_annotation(
+pub(crate) fn resolve_annotation(
     alloc: Global,
     arities: &[(Name, usize)],
     annotation: &Option<PreType>,
@@ -216,17 +219,42 @@ fn identifier(
     }
 }
 
+// What a sign of the notation means.
+fn sign(
+    alloc: Global,
+    constants: &[(Name, Ty)],
+    names: &Names<'_>,
+    name: &str,
+) -> Result<RawTerm, ResolveError>
+    ensures ok { IfOk result (λ t. raw_tree t ≡ sign constants.now (scope_names names.now) name.now) }
+    ensures memory { IsOkUnless result ResolveError.Memory }
+{
+    match generic_type(constants, name) {
+        Some(generic) => Ok(RawTerm::Constant(Name::new(alloc, name)?, generic.copy()?)),
+        None => match names.index(name)? {
+            Some(index) => Ok(RawTerm::Bound(index)),
+            None => Ok(RawTerm::Free(Name::new(alloc, name)?)),
+        },
+    }
+}
+
+/// `bool`
+pub(crate) fn truth_type(alloc: Global) -> Result<Ty, AllocError>
+    ensures { IfOk result (λ ty. ty ≡ bool_type) }
+{
+    let name = Name::new(alloc, "bool")?;
+    Ty::app(alloc, &name, &[])
+}
+
 // Equality of truth values.
 fn equivalence(alloc: Global) -> Result<RawTerm, ResolveError>
     ensures ok { IfOk result (λ t. raw_tree t ≡ RawConstant (codes "=") (fun_type bool_type (fun_type bool_type bool_type))) }
     ensures memory { IsOkUnless result ResolveError.Memory }
 {
-    let truth_name = Name::new(alloc, "bool")?;
-    let truth = Ty::app(alloc, &truth_name, &[])?;
+    let truth = truth_type(alloc)?;
     let range = Ty::fun(alloc, &truth, &truth)?;
     let ty = Ty::fun(alloc, &truth, &range)?;
-    let name = Name::new(alloc, "=")?;
-    Ok(RawTerm::Constant(name, ty))
+    Ok(RawTerm::Constant(Name::new(alloc, "=")?, ty))
 }
 
 /// What an operator means.
@@ -241,15 +269,15 @@ pub fn operator(
 {
     match operator {
         Operator::Iff => equivalence(alloc),
-        Operator::Implies => identifier(alloc, constants, names, "==>"),
-        Operator::Or => identifier(alloc, constants, names, "\\/"),
-        Operator::And => identifier(alloc, constants, names, "/\\"),
-        Operator::Equals => identifier(alloc, constants, names, "="),
-        Operator::Not => identifier(alloc, constants, names, "~"),
-        Operator::ForAll => identifier(alloc, constants, names, "!"),
-        Operator::Exists => identifier(alloc, constants, names, "?"),
-        Operator::ExistsUnique => identifier(alloc, constants, names, "?!"),
-        Operator::Choice => identifier(alloc, constants, names, "@"),
+        Operator::Implies => sign(alloc, constants, names, "==>"),
+        Operator::Or => sign(alloc, constants, names, "\\/"),
+        Operator::And => sign(alloc, constants, names, "/\\"),
+        Operator::Equals => sign(alloc, constants, names, "="),
+        Operator::Not => sign(alloc, constants, names, "~"),
+        Operator::ForAll => sign(alloc, constants, names, "!"),
+        Operator::Exists => sign(alloc, constants, names, "?"),
+        Operator::ExistsUnique => sign(alloc, constants, names, "?!"),
+        Operator::Choice => sign(alloc, constants, names, "@"),
     }
 }
 
