@@ -1,4 +1,5 @@
 pub mod Instance
-pub mod Equations
+pub mod EquationTypes
+pub mod TypeTests
 pub mod TakingApart
 pub mod PartTypes

@@ -1,100 +1,22 @@
--- Equations taken apart.
-use Rattle.std.specs.Prelude.{◌≡◌, ℕ, Bool, true, false, cond, ◌&&◌, List, [], ◌∷◌, length, ◌==◌, bytes_eq, codes, Option, Some, None, refl}
-use Rattle.std.specs.Option.{option_and_then}
-use Rattle.std.specs.Bool.{one_answer}
-use Rattle.std.specs.Ordering.{ordering_then, is_eq}
-use Rattle.std.specs.declared.cmp.Ordering.{Ordering}
-use Rattle.std.specs.declared.cmp.Ordering.TheVariants.{Less, Equal, Greater}
-use Rattle.std.specs.Cmp.{Equal-is}
-use borrow.Author.Tests.{eqb-true}
-use Rattle.std.proofs.Common.{ap, sym, ◌∙◌, arith}
+-- Equations and formulas taken apart.
+use Rattle.std.specs.Prelude.{◌≡◌, ℕ, Bool, true, false, cond, ◌&&◌, List, [], bytes_eq, codes, Option, Some, None, refl}
+use Rattle.std.specs.Option.{option_and_then, option_map}
+use Rattle.std.proofs.Common.{ap, sym, ◌∙◌}
 use Rattle.std.proofs.lemmas.Slice.Eq.{bytes_eq-Decides}
-use Rattle.hol_types.specs.Tree.{TypeTree, TypeList, TyVar, TyApp, no_types, more_types, type_list}
+use Rattle.hol_types.specs.Tree.{TypeTree}
 use Rattle.hol_types.specs.Equal.{type_eq}
-use Rattle.hol_types.specs.Order.{name_cmp, type_cmp, types_cmp}
-use Rattle.hol_types.specs.Fun.{fun_type, fun_parts, both_of}
-use Rattle.hol_types.proofs.OrderLaws.{type_cmp_decides, name_equal, name_same}
-use Rattle.hol_terms.specs.Named.{Named, constant, comb, named_type, applied_type}
-use Rattle.hol_terms.specs.Nameless.{Nameless, fixed, app}
-use Rattle.hol_formulas.specs.Equation.{bool_type, equality_type}
-use Rattle.hol_formulas.proofs.Equations.{type_eq_itself}
-use Rattle.hol_formulas.specs.Equation.{Sides, sides_at, sides_of}
-
--- ---- types of functions
-
-both_is : (ts : TypeList) (p : TypeTree × TypeTree) → both_of ts ≡ Some p → ts ≡ more_types p.0 (more_types p.1 no_types)
-both_is no_types p e = absurd (cc)
-both_is (more_types s no_types) p e = absurd (cc)
-both_is (more_types s (more_types t no_types)) p e = let f : (s, t) ≡ p = cc in λ i. more_types (f i).0 (more_types (f i).1 no_types)
-both_is (more_types s (more_types t (more_types u us))) p e = absurd (cc)
-
-pub fun_parts_is : (t : TypeTree) (p : TypeTree × TypeTree) → fun_parts t ≡ Some p → t ≡ fun_type p.0 p.1
-fun_parts_is (TyVar a) p e = absurd (cc)
-fun_parts_is (TyApp c ts) p e = by (bytes_eq c (codes "fun")) refl e
-  where
-    by : (b : Bool) → bytes_eq c (codes "fun") ≡ b → cond b (both_of ts) None ≡ Some p → TyApp c ts ≡ fun_type p.0 p.1
-    by true f g = λ i. TyApp ((bytes_eq-Decides c (codes "fun")).0 f i) (both_is ts p g i)
-    by false f g = absurd (cc)
-
-then_test : (r s : Ordering) → is_eq (ordering_then r (ordering_then s Equal)) ≡ (is_eq r && is_eq s)
-then_test Less s = refl
-then_test Equal Less = refl
-then_test Equal Equal = refl
-then_test Equal Greater = refl
-then_test Greater s = refl
-
-fun_types_test : (a b d r : TypeTree) → type_eq (fun_type a b) (fun_type d r) ≡ (type_eq a d && type_eq b r)
-fun_types_test a b d r = then_test (type_cmp a d) (type_cmp b r)
-
-pub parts_test : (t d r : TypeTree) (p : TypeTree × TypeTree) → fun_parts t ≡ Some p → type_eq t (fun_type d r) ≡ (type_eq p.0 d && type_eq p.1 r)
-parts_test t d r p e = ap (λ s. type_eq s (fun_type d r)) (fun_parts_is t p e) ∙ fun_types_test p.0 p.1 d r
-
-pub no_parts_test : (t d r : TypeTree) → fun_parts t ≡ None → type_eq t (fun_type d r) ≡ false
-no_parts_test t d r e = by (type_eq t (fun_type d r)) refl
-  where
-    by : (b : Bool) → type_eq t (fun_type d r) ≡ b → b ≡ false
-    by true f = let g : fun_parts t ≡ Some (d, r) = ap fun_parts ((type_cmp_decides t (fun_type d r)).0 f) in absurd (cc)
-    by false f = refl
-
-pub ruleset function_types = (parts_test, no_parts_test)
-
--- ---- truth values
-
-pub bool_test_var : (a : List ℕ) → type_eq (TyVar a) bool_type ≡ false
-bool_test_var a = refl
-
-no_arguments : (ts : List TypeTree) → is_eq (types_cmp (type_list ts) no_types) ≡ (length ts == 0)
-no_arguments [] = refl
-no_arguments (t ∷ ts) = by (length (t ∷ ts) == 0) refl
-  where
-    by : (b : Bool) → (length (t ∷ ts) == 0) ≡ b → false ≡ b
-    by true e = absurd (omega (arith, eqb-true (length (t ∷ ts)) 0 e))
-    by false e = refl
-
-then_is : (r s : Ordering) → is_eq (ordering_then r s) ≡ (is_eq r && is_eq s)
-then_is Less s = refl
-then_is Equal s = refl
-then_is Greater s = refl
-
-name_test : (a b : List ℕ) → is_eq (name_cmp a b) ≡ bytes_eq a b
-name_test a b =
-    one_answer (is_eq (name_cmp a b)) (bytes_eq a b)
-    (λ e. name_equal a b ((Equal-is (name_cmp a b)).0 e), λ e. ap (λ c. is_eq (name_cmp a c)) (sym e) ∙ ap is_eq (name_same a)) (bytes_eq-Decides a b)
-
-pub bool_test_app : (c : List ℕ) (ts : List TypeTree) → type_eq (TyApp c (type_list ts)) bool_type ≡ (bytes_eq c (codes "bool") && (length ts == 0))
-bool_test_app c ts =
-    then_is (name_cmp c (codes "bool")) (types_cmp (type_list ts) no_types)
-    ∙ (λ i. name_test c (codes "bool") i && no_arguments ts i)
-
-pub ruleset bool_types = (bool_test_var, bool_test_app)
+use Rattle.hol_types.specs.Fun.{fun_type, fun_parts}
+use Rattle.hol_terms.specs.Named.{Named, var, constant, comb, abs, named_type, applied_type}
+use Rattle.hol_terms.specs.Nameless.{Nameless, fixed, app, nameless}
+use Rattle.hol_formulas.specs.Equation.{bool_type, equality_type, Sides, sides_at, dest_eq}
+use Rattle.hol_formulas.specs.Formula.{connective_type, negation_type, quantifier_type, is_constant}
+use Rattle.hol_formulas.proofs.EquationTypes.{type_eq_itself}
+use Rattle.hol_formulas.proofs.TypeTests.{same_type, fun_parts_is, parts_test}
 
 -- ---- applications
 
 some_same : (s t : TypeTree) → Some s ≡ Some t → s ≡ t
 some_same s t e = cc
-
-same_type : (s t : TypeTree) → type_eq s t ≡ true → s ≡ t
-same_type s t e = (type_cmp_decides s t).0 e
 
 applied_is : (s t b : TypeTree) → applied_type s t ≡ Some b → s ≡ fun_type t b
 applied_is s t b e = by (fun_parts s) refl e
@@ -145,15 +67,15 @@ module _ (c : List ℕ) (s : TypeTree) (l r : Nameless) where
   abbrev found : TypeTree → Sides
   found a = record { sides_type = a; left = l; right = r }
 
-  pub sides_yes : (p : TypeTree × TypeTree) → fun_parts s ≡ Some p → bytes_eq c (codes "=") ≡ true → type_eq p.1 (fun_type p.0 bool_type) ≡ true → sides_of (app (app (fixed c s) l) r) ≡ Some (found p.0)
+  pub sides_yes : (p : TypeTree × TypeTree) → fun_parts s ≡ Some p → bytes_eq c (codes "=") ≡ true → type_eq p.1 (fun_type p.0 bool_type) ≡ true → dest_eq (app (app (fixed c s) l) r) ≡ Some (found p.0)
   sides_yes p e f g =
       ap (option_and_then (sides_at c s l r)) e
       ∙ (λ i. cond (f i && (parts_test s p.0 (fun_type p.0 bool_type) p e ∙ (λ j. type_eq_itself p.0 j && g j)) i) (Some (found p.0)) None)
 
-  pub sides_no_name : (p : TypeTree × TypeTree) → fun_parts s ≡ Some p → bytes_eq c (codes "=") ≡ false → sides_of (app (app (fixed c s) l) r) ≡ None
+  pub sides_no_name : (p : TypeTree × TypeTree) → fun_parts s ≡ Some p → bytes_eq c (codes "=") ≡ false → dest_eq (app (app (fixed c s) l) r) ≡ None
   sides_no_name p e f = ap (option_and_then (sides_at c s l r)) e ∙ (λ i. cond (f i && type_eq s (equality_type p.0)) (Some (found p.0)) None)
 
-  pub sides_no_type : (p : TypeTree × TypeTree) → fun_parts s ≡ Some p → type_eq p.1 (fun_type p.0 bool_type) ≡ false → sides_of (app (app (fixed c s) l) r) ≡ None
+  pub sides_no_type : (p : TypeTree × TypeTree) → fun_parts s ≡ Some p → type_eq p.1 (fun_type p.0 bool_type) ≡ false → dest_eq (app (app (fixed c s) l) r) ≡ None
   sides_no_type p e g =
       ap (option_and_then (sides_at c s l r)) e
       ∙ by (bytes_eq c (codes "="))
@@ -165,7 +87,58 @@ module _ (c : List ℕ) (s : TypeTree) (l r : Nameless) where
       by true = ap (λ k. cond k (Some (found p.0)) None) at
       by false = refl
 
-  pub sides_no_parts : fun_parts s ≡ None → sides_of (app (app (fixed c s) l) r) ≡ None
+  pub sides_no_parts : fun_parts s ≡ None → dest_eq (app (app (fixed c s) l) r) ≡ None
   sides_no_parts e = ap (option_and_then (sides_at c s l r)) e
 
 pub ruleset sides_found = (sides_yes, sides_no_name, sides_no_type, sides_no_parts)
+
+-- ---- the operands of connectives and quantifiers
+
+both_true : (a b : Bool) → (a && b) ≡ true → b ≡ true
+both_true true b e = e
+both_true false b e = absurd (cc)
+
+-- a constant that is tested at a type has it
+pub constant_typed : (c : List ℕ) (s : TypeTree) (f : Named) → is_constant c s (nameless [] f) ≡ true → named_type f ≡ Some s
+constant_typed c s (var v) e = absurd (cc)
+constant_typed c s (constant d t) e = ap Some (same_type t s (both_true (bytes_eq d c) (type_eq t s) e))
+constant_typed c s (comb f x) e = absurd (cc)
+constant_typed c s (abs v b) e = absurd (cc)
+
+argument_of : (f x : Named) (a b r : TypeTree) → named_type f ≡ Some (fun_type a b) → named_type (comb f x) ≡ Some r → (named_type x ≡ Some a) × (r ≡ b)
+argument_of f x a b r is e =
+    let parts = applied_parts f x r e in
+    let same : fun_type a b ≡ fun_type parts.domain r = some_same (fun_type a b) (fun_type parts.domain r) (sym is ∙ parts.function) in
+    let first : a ≡ parts.domain = cc in
+    let second : b ≡ r = cc in
+    (parts.argument ∙ ap Some (sym first), sym second)
+
+pub operand_typed : (c : List ℕ) (f x : Named) (r : TypeTree) → is_constant c negation_type (nameless [] f) ≡ true → named_type (comb f x) ≡ Some r → named_type x ≡ Some bool_type
+operand_typed c f x r is e = (argument_of f x bool_type bool_type r (constant_typed c negation_type f is) e).0
+
+module _ (c : List ℕ) (f x y : Named) (r : TypeTree) (is : is_constant c connective_type (nameless [] f) ≡ true) (e : named_type (comb (comb f x) y) ≡ Some r) where
+  inner_typed : (named_type x ≡ Some bool_type) × (named_type (comb f x) ≡ Some negation_type)
+  inner_typed =
+      let parts = applied_parts (comb f x) y r e in
+      let inner = argument_of f x bool_type negation_type (fun_type parts.domain r) (constant_typed c connective_type f is) parts.function in
+      (inner.0, parts.function ∙ ap Some inner.1)
+
+  pub first_typed : named_type x ≡ Some bool_type
+  first_typed = inner_typed.0
+
+  pub second_typed : named_type y ≡ Some bool_type
+  second_typed = (argument_of (comb f x) y bool_type bool_type r inner_typed.1 e).0
+
+pub ruleset operands_found = (operand_typed, first_typed, second_typed)
+
+-- the body of an abstraction of a type of functions
+abs_body : (v : List ℕ × TypeTree) (b : Named) (a r : TypeTree) → named_type (abs v b) ≡ Some (fun_type a r) → named_type b ≡ Some r
+abs_body v b a r e = by (named_type b) refl e
+  where
+    by : (o : Option TypeTree) → named_type b ≡ o → option_map (λ t. fun_type v.1 t) o ≡ Some (fun_type a r) → named_type b ≡ Some r
+    by None f g = absurd (cc)
+    by (Some t) f g = let same : t ≡ r = cc in f ∙ ap Some same
+
+pub body_typed : (c : List ℕ) (f : Named) (v : List ℕ × TypeTree) (b : Named) (r : TypeTree) → is_constant c (quantifier_type v.1) (nameless [] f) ≡ true → named_type (comb f (abs v b)) ≡ Some r → named_type b ≡ Some bool_type
+body_typed c f v b r is e =
+    abs_body v b v.1 bool_type (argument_of f (abs v b) (fun_type v.1 bool_type) bool_type r (constant_typed c (quantifier_type v.1) f is) e).0

@@ -4,6 +4,7 @@ use Rattle.hol_types.specs.Tree.{TypeTree, TyVar}
 use Rattle.hol_types.specs.Fun.{fun_type}
 use Rattle.hol_types.specs.Match.{match_type}
 use Rattle.hol_formulas.specs.Equation.{bool_type, equality_type}
+use Rattle.hol_formulas.specs.Formula.{negation_type, connective_type, quantifier_type}
 
 -- ---- the prelude
 
@@ -16,13 +17,9 @@ var_a = TyVar (codes "A")
 abbrev pub var_b : TypeTree
 var_b = TyVar (codes "B")
 
--- bool->bool->bool
-abbrev pub connective_type : TypeTree
-connective_type = fun_type bool_type (fun_type bool_type bool_type)
-
 -- (A->bool)->bool
 abbrev pub binder_type : TypeTree
-binder_type = fun_type (fun_type var_a bool_type) bool_type
+binder_type = quantifier_type var_a
 
 -- (A->bool)->A
 abbrev pub choice_type : TypeTree
@@ -42,7 +39,7 @@ prelude_constants =
     ∷ (codes "/\\", connective_type)
     ∷ (codes "\\/", connective_type)
     ∷ (codes "==>", connective_type)
-    ∷ (codes "~", fun_type bool_type bool_type)
+    ∷ (codes "~", negation_type)
     ∷ (codes "!", binder_type)
     ∷ (codes "?", binder_type)
     ∷ (codes "?!", binder_type)

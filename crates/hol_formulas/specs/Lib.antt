@@ -1,3 +1,5 @@
 pub mod Equation
+pub mod Formula
+pub mod Making
 pub mod Constants
 pub mod Prelude

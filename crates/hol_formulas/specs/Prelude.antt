@@ -6,8 +6,10 @@ use Rattle.hol_types.specs.Tree.{TypeTree, TyApp, no_types}
 use Rattle.hol_types.specs.Fun.{fun_type}
 use Rattle.hol_terms.specs.Named.{Named, var, constant, comb, abs}
 use Rattle.hol_terms.specs.Nameless.{Nameless, nameless}
-use Rattle.hol_formulas.specs.Equation.{bool_type, named_equation}
-use Rattle.hol_formulas.specs.Constants.{var_a, var_b, connective_type, binder_type, choice_type, function_property_type}
+use Rattle.hol_formulas.specs.Equation.{bool_type, mk_eq}
+use Rattle.hol_formulas.specs.Formula.{connective_type, negation_type}
+use Rattle.hol_formulas.specs.Making.{mk_truth, mk_falsity, mk_conj, mk_imp, mk_iff, mk_neg, mk_forall, mk_exists}
+use Rattle.hol_formulas.specs.Constants.{var_a, var_b, binder_type, choice_type, function_property_type}
 use Rattle.hol_formulas.specs.declared.postulate.Postulate.{Postulate}
 use Rattle.hol_formulas.specs.declared.postulate.Postulate.TheVariants.{TDef, AndDef, ImpDef, ForallDef, ExistsDef, OrDef, FDef, NotDef, ExistsUniqueDef, EtaAx, SelectAx, OneOne, Onto, InfinityAx}
 
@@ -22,48 +24,9 @@ property_type a = fun_type a bool_type
 
 -- ---- terms
 
-abbrev pub truth : Named
-truth = constant (codes "T") bool_type
-
-abbrev pub falsity : Named
-falsity = constant (codes "F") bool_type
-
-abbrev pub connective : List ℕ → Named
-connective c = constant c connective_type
-
-abbrev pub connected : List ℕ → Named → Named → Named
-connected c p q = comb (comb (connective c) p) q
-
--- p /\ q
-abbrev pub conjunction : Named → Named → Named
-conjunction p q = connected (codes "/\\") p q
-
--- p ==> q
-abbrev pub implication : Named → Named → Named
-implication p q = connected (codes "==>") p q
-
-abbrev pub negation_sign : Named
-negation_sign = constant (codes "~") (fun_type bool_type bool_type)
-
 -- a quantifier at its generic type
 abbrev pub quantifier : List ℕ → Named
 quantifier c = constant c binder_type
-
--- the quantifier c over the variable v
-abbrev pub quantified : List ℕ → List ℕ × TypeTree → Named → Named
-quantified c v p = comb (constant c (fun_type (property_type v.1) bool_type)) (abs v p)
-
--- !v. p
-abbrev pub universal : List ℕ × TypeTree → Named → Named
-universal v p = quantified (codes "!") v p
-
--- ?v. p
-abbrev pub existential : List ℕ × TypeTree → Named → Named
-existential v p = quantified (codes "?") v p
-
--- p <=> q
-abbrev pub equivalence : Named → Named → Named
-equivalence p q = named_equation bool_type p q
 
 -- ONE_ONE and ONTO at the type of functions from a to b
 abbrev pub function_property : List ℕ → TypeTree → TypeTree → Named
@@ -105,9 +68,9 @@ paired p q = abs (codes "f", connective_type) (comb (comb (var (codes "f", conne
 
 -- (\f. f p q) = (\f. f T T)
 abbrev pub both : Named → Named → Named
-both p q = named_equation (fun_type connective_type bool_type) (paired p q) (paired truth truth)
+both p q = mk_eq (fun_type connective_type bool_type) (paired p q) (paired mk_truth mk_truth)
 
--- \p q. .., of two truth values
+-- \p q. .., of two mk_truth values
 abbrev pub of_two : (Named → Named → Named) → Named
 of_two f = abs (boolean (codes "p")) (abs (boolean (codes "q")) (f (var (boolean (codes "p"))) (var (boolean (codes "q")))))
 
@@ -115,74 +78,74 @@ of_two f = abs (boolean (codes "p")) (abs (boolean (codes "q")) (f (var (boolean
 abbrev pub either : Named → Named → Named
 either p q =
     let r = var (boolean (codes "r")) in
-    universal (boolean (codes "r")) (implication (implication p r) (implication (implication q r) r))
+    mk_forall (boolean (codes "r")) (mk_imp (mk_imp p r) (mk_imp (mk_imp q r) r))
 
 -- \P:A->bool. P = (\x. T)
 abbrev pub everywhere : Named
-everywhere = abs property (named_equation (property_type var_a) (var property) (abs (element (codes "x")) truth))
+everywhere = abs property (mk_eq (property_type var_a) (var property) (abs (element (codes "x")) mk_truth))
 
 -- \P:A->bool. !q. (!x. P x ==> q) ==> q
 abbrev pub somewhere : Named
 somewhere =
     let q = var (boolean (codes "q")) in
-    abs property (universal (boolean (codes "q")) (implication (universal (element (codes "x")) (implication (of_element (codes "x")) q)) q))
+    abs property (mk_forall (boolean (codes "q")) (mk_imp (mk_forall (element (codes "x")) (mk_imp (of_element (codes "x")) q)) q))
 
 -- !x y. P x /\ P y ==> x = y
 abbrev pub at_most_once : Named
 at_most_once =
-    universal (element (codes "x")) (universal (element (codes "y"))
-    (implication (conjunction (of_element (codes "x")) (of_element (codes "y"))) (named_equation var_a (var (element (codes "x"))) (var (element (codes "y"))))))
+    mk_forall (element (codes "x")) (mk_forall (element (codes "y"))
+    (mk_imp (mk_conj (of_element (codes "x")) (of_element (codes "y"))) (mk_eq var_a (var (element (codes "x"))) (var (element (codes "y"))))))
 
 -- \P:A->bool. (?) P /\ (!x y. P x /\ P y ==> x = y)
 abbrev pub once : Named
-once = abs property (conjunction (comb (quantifier (codes "?")) (var property)) at_most_once)
+once = abs property (mk_conj (comb (quantifier (codes "?")) (var property)) at_most_once)
 
 -- \f:A->B. !x1 x2. f x1 = f x2 ==> x1 = x2
 abbrev pub injective : Named
 injective =
-    abs function (universal (element (codes "x1")) (universal (element (codes "x2"))
-    (implication (named_equation var_b (value_at (codes "x1")) (value_at (codes "x2"))) (named_equation var_a (var (element (codes "x1"))) (var (element (codes "x2")))))))
+    abs function (mk_forall (element (codes "x1")) (mk_forall (element (codes "x2"))
+    (mk_imp (mk_eq var_b (value_at (codes "x1")) (value_at (codes "x2"))) (mk_eq var_a (var (element (codes "x1"))) (var (element (codes "x2")))))))
 
 -- \f:A->B. !y. ?x. y = f x
 abbrev pub surjective : Named
 surjective =
-    abs function (universal (codes "y", var_b) (existential (element (codes "x")) (named_equation var_b (var (codes "y", var_b)) (value_at (codes "x")))))
+    abs function (mk_forall (codes "y", var_b) (mk_exists (element (codes "x")) (mk_eq var_b (var (codes "y", var_b)) (value_at (codes "x")))))
 
 -- ---- statements
 
 -- (c) = r, for a constant c of the type a
 abbrev pub defining : List ℕ → TypeTree → Named → Named
-defining c a r = named_equation a (constant c a) r
+defining c a r = mk_eq a (constant c a) r
 
 -- !t:A->B. (\x. t x) = t
 abbrev pub eta : Named
 eta =
     let t : List ℕ × TypeTree = (codes "t", fun_type var_a var_b) in
-    universal t (named_equation (fun_type var_a var_b) (abs (element (codes "x")) (comb (var t) (var (element (codes "x"))))) (var t))
+    mk_forall t (mk_eq (fun_type var_a var_b) (abs (element (codes "x")) (comb (var t) (var (element (codes "x"))))) (var t))
 
 -- !P x. P x ==> P ((@) P)
 abbrev pub chosen : Named
 chosen =
-    universal property (universal (element (codes "x"))
-    (implication (of_element (codes "x")) (comb (var property) (comb (constant (codes "@") choice_type) (var property)))))
+    mk_forall property (mk_forall (element (codes "x"))
+    (mk_imp (of_element (codes "x")) (comb (var property) (comb (constant (codes "@") choice_type) (var property)))))
 
 -- ?f:ind->ind. ONE_ONE f /\ ~ONTO f
 abbrev pub infinite : Named
 infinite =
     let f : List ℕ × TypeTree = (codes "f", fun_type ind_type ind_type) in
-    existential f
-    (conjunction (comb (function_property (codes "ONE_ONE") ind_type ind_type) (var f))
-    (comb negation_sign (comb (function_property (codes "ONTO") ind_type ind_type) (var f))))
+    mk_exists f
+    (mk_conj (comb (function_property (codes "ONE_ONE") ind_type ind_type) (var f))
+    (mk_neg (comb (function_property (codes "ONTO") ind_type ind_type) (var f))))
 
 abbrev pub postulated : Postulate → Named
-postulated TDef = defining (codes "T") bool_type (named_equation (fun_type bool_type bool_type) identity identity)
+postulated TDef = defining (codes "T") bool_type (mk_eq (negation_type) identity identity)
 postulated AndDef = defining (codes "/\\") connective_type (of_two both)
-postulated ImpDef = defining (codes "==>") connective_type (of_two (λ p q. equivalence (conjunction p q) p))
+postulated ImpDef = defining (codes "==>") connective_type (of_two (λ p q. mk_iff (mk_conj p q) p))
 postulated ForallDef = defining (codes "!") binder_type everywhere
 postulated ExistsDef = defining (codes "?") binder_type somewhere
 postulated OrDef = defining (codes "\\/") connective_type (of_two either)
-postulated FDef = defining (codes "F") bool_type (universal (boolean (codes "p")) (var (boolean (codes "p"))))
-postulated NotDef = defining (codes "~") (fun_type bool_type bool_type) (abs (boolean (codes "p")) (implication (var (boolean (codes "p"))) falsity))
+postulated FDef = defining (codes "F") bool_type (mk_forall (boolean (codes "p")) (var (boolean (codes "p"))))
+postulated NotDef = defining (codes "~") (negation_type) (abs (boolean (codes "p")) (mk_imp (var (boolean (codes "p"))) mk_falsity))
 postulated ExistsUniqueDef = defining (codes "?!") binder_type once
 postulated EtaAx = eta
 postulated SelectAx = chosen

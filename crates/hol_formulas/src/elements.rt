@@ -1,21 +1,21 @@
 //! Elements of a type, their properties and functions of them, as the prelude names them.
-ghost use Rattle.std.specs.Prelude.{◌≡◌, IfOk, Some, codes};
+ghost use Rattle.std.specs.Prelude.{◌≡◌, IfOk, Some};
 ghost use Rattle.hol_types.specs.Fun.{fun_type};
-ghost use Rattle.hol_terms.specs.Named.{var, constant, comb, abs, named_type};
-ghost use Rattle.hol_formulas.specs.Equation.{bool_type, named_equation};
+ghost use Rattle.hol_terms.specs.Named.{var, named_type};
+ghost use Rattle.hol_formulas.specs.Equation.{bool_type, mk_eq};
+ghost use Rattle.hol_formulas.specs.Making.{mk_forall};
 ghost use Rattle.hol_formulas.specs.Constants.{var_a, var_b};
-ghost use Rattle.hol_formulas.specs.Prelude.{property_type, property, element, of_element, universal, function, value_at};
+ghost use Rattle.hol_formulas.specs.Prelude.{property_type, boolean, element, property, of_element, function, value_at};
 
-use crate::eq::application;
-use crate::prelude::{bool_type, variable as type_variable};
-use crate::words::{equal, occurrence, quantified, variable};
+use crate::equations::mk_eq;
+use crate::quantifiers::mk_forall;
+use crate::terms::{application, occurrence, variable};
+use crate::types::{bool_type, type_variable};
 use hol_terms::{Term, Variable};
 use hol_types::Ty;
 use std::alloc::{AllocError, Global};
 
 /// `A->bool`.
-///
-/// Answers an error where memory is short, and nowhere else.
 pub fn property_type(alloc: Global) -> Result<Ty, AllocError>
     ensures { IfOk result (λ t. t ≡ property_type var_a) }
 {
@@ -25,8 +25,6 @@ pub fn property_type(alloc: Global) -> Result<Ty, AllocError>
 }
 
 /// `P:A->bool`.
-///
-/// Answers an error where memory is short, and nowhere else.
 pub fn property(alloc: Global) -> Result<Variable, AllocError>
     ensures { IfOk result (λ t. t ≡ property) }
 {
@@ -35,8 +33,6 @@ pub fn property(alloc: Global) -> Result<Variable, AllocError>
 }
 
 /// `P:A->bool`, as a term.
-///
-/// Answers an error where memory is short, and nowhere else.
 pub fn property_term(alloc: Global) -> Result<Term, AllocError>
     ensures is { IfOk result (λ t. t ≡ var property) }
     ensures typed { IfOk result (λ t. named_type t ≡ Some (property_type var_a)) }
@@ -46,8 +42,6 @@ pub fn property_term(alloc: Global) -> Result<Term, AllocError>
 }
 
 /// The variable of the name that ranges over `A`.
-///
-/// Answers an error where memory is short, and nowhere else.
 pub fn element(alloc: Global, name: &str) -> Result<Variable, AllocError>
     ensures { IfOk result (λ t. t ≡ element name.now) }
 {
@@ -56,8 +50,6 @@ pub fn element(alloc: Global, name: &str) -> Result<Variable, AllocError>
 }
 
 /// The variable of the name that ranges over `A`, as a term.
-///
-/// Answers an error where memory is short, and nowhere else.
 pub fn element_term(alloc: Global, name: &str) -> Result<Term, AllocError>
     ensures is { IfOk result (λ t. t ≡ var (element name.now)) }
     ensures typed { IfOk result (λ t. named_type t ≡ Some var_a) }
@@ -67,8 +59,6 @@ pub fn element_term(alloc: Global, name: &str) -> Result<Term, AllocError>
 }
 
 /// `P x`, for the element of the name.
-///
-/// Answers an error where memory is short, and nowhere else.
 #[tactic(auto, using(crate::proofs::PartTypes::applications))]
 pub fn of_element(alloc: Global, name: &str) -> Result<Term, AllocError>
     ensures is { IfOk result (λ t. t ≡ of_element name.now) }
@@ -80,35 +70,29 @@ pub fn of_element(alloc: Global, name: &str) -> Result<Term, AllocError>
 }
 
 /// The equation of the elements of two names.
-///
-/// Answers an error where memory is short, and nowhere else.
 pub fn same_elements(alloc: Global, left: &str, right: &str) -> Result<Term, AllocError>
-    ensures is { IfOk result (λ t. t ≡ named_equation var_a (var (element left.now)) (var (element right.now))) }
+    ensures is { IfOk result (λ t. t ≡ mk_eq var_a (var (element left.now)) (var (element right.now))) }
     ensures typed { IfOk result (λ t. named_type t ≡ Some bool_type) }
 {
     let ty = type_variable(alloc, "A")?;
     let left = element_term(alloc, left)?;
     let right = element_term(alloc, right)?;
-    equal(alloc, &ty, &left, &right)
+    mk_eq(alloc, &ty, &left, &right)
 }
 
 /// What holds of all elements of two names.
-///
-/// Answers an error where memory is short, and nowhere else.
 pub fn for_two(alloc: Global, first: &str, second: &str, p: &Term) -> Result<Term, AllocError>
     requires body { named_type p.now ≡ Some bool_type }
-    ensures is { IfOk result (λ t. t ≡ universal (element first.now) (universal (element second.now) p.now)) }
+    ensures is { IfOk result (λ t. t ≡ mk_forall (element first.now) (mk_forall (element second.now) p.now)) }
     ensures typed { IfOk result (λ t. named_type t ≡ Some bool_type) }
 {
     let x = element(alloc, first)?;
     let y = element(alloc, second)?;
-    let inner = quantified(alloc, "!", &y, p)?;
-    quantified(alloc, "!", &x, &inner)
+    let inner = mk_forall(alloc, &y, p)?;
+    mk_forall(alloc, &x, &inner)
 }
 
 /// `A->B`.
-///
-/// Answers an error where memory is short, and nowhere else.
 pub fn function_type(alloc: Global) -> Result<Ty, AllocError>
     ensures { IfOk result (λ t. t ≡ fun_type var_a var_b) }
 {
@@ -118,8 +102,6 @@ pub fn function_type(alloc: Global) -> Result<Ty, AllocError>
 }
 
 /// `f:A->B`.
-///
-/// Answers an error where memory is short, and nowhere else.
 pub fn function(alloc: Global) -> Result<Variable, AllocError>
     ensures { IfOk result (λ t. t ≡ function) }
 {
@@ -128,8 +110,6 @@ pub fn function(alloc: Global) -> Result<Variable, AllocError>
 }
 
 /// `f:A->B`, as a term.
-///
-/// Answers an error where memory is short, and nowhere else.
 pub fn function_term(alloc: Global) -> Result<Term, AllocError>
     ensures is { IfOk result (λ t. t ≡ var function) }
     ensures typed { IfOk result (λ t. named_type t ≡ Some (fun_type var_a var_b)) }
@@ -139,8 +119,6 @@ pub fn function_term(alloc: Global) -> Result<Term, AllocError>
 }
 
 /// `f x`, for the element of the name.
-///
-/// Answers an error where memory is short, and nowhere else.
 #[tactic(auto, using(crate::proofs::PartTypes::applications))]
 pub fn value_at(alloc: Global, name: &str) -> Result<Term, AllocError>
     ensures is { IfOk result (λ t. t ≡ value_at name.now) }
@@ -152,14 +130,29 @@ pub fn value_at(alloc: Global, name: &str) -> Result<Term, AllocError>
 }
 
 /// The equation of the values of `f` at the elements of two names.
-///
-/// Answers an error where memory is short, and nowhere else.
 pub fn same_values(alloc: Global, left: &str, right: &str) -> Result<Term, AllocError>
-    ensures is { IfOk result (λ t. t ≡ named_equation var_b (value_at left.now) (value_at right.now)) }
+    ensures is { IfOk result (λ t. t ≡ mk_eq var_b (value_at left.now) (value_at right.now)) }
     ensures typed { IfOk result (λ t. named_type t ≡ Some bool_type) }
 {
     let ty = type_variable(alloc, "B")?;
     let left = value_at(alloc, left)?;
     let right = value_at(alloc, right)?;
-    equal(alloc, &ty, &left, &right)
+    mk_eq(alloc, &ty, &left, &right)
+}
+
+/// The variable of the name that ranges over truth values.
+pub fn boolean(alloc: Global, name: &str) -> Result<Variable, AllocError>
+    ensures { IfOk result (λ v. v ≡ boolean name.now) }
+{
+    let ty = bool_type(alloc)?;
+    variable(alloc, name, &ty)
+}
+
+/// The variable of the name that ranges over truth values, as a term.
+pub fn boolean_term(alloc: Global, name: &str) -> Result<Term, AllocError>
+    ensures is { IfOk result (λ t. t ≡ var (boolean name.now)) }
+    ensures typed { IfOk result (λ t. named_type t ≡ Some bool_type) }
+{
+    let v = boolean(alloc, name)?;
+    occurrence(alloc, &v)
 }

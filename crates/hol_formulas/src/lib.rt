@@ -1,25 +1,33 @@
 //! Formulas of HOL Light's core: `bool`, equations, connectives and quantifiers, made and taken apart; and the prelude's statements.
+//!
+//! Calls that answer a `Result` answer its memory error where memory is short, and nowhere else.
 #![tactic(auto)]
 
 mod axioms;
+mod connectives;
 mod elements;
-mod eq;
+mod equations;
 mod postulate;
 mod prelude;
 mod propositional;
+mod quantifiers;
 mod right_sides;
 mod standing;
 mod statements;
-mod words;
+mod terms;
+mod types;
 
-pub use eq::{
-    Sides, abstraction, application, constant, copy_of, dest_eq, equation, fitting, is_bool,
+pub use connectives::{
+    dest_conj, dest_disj, dest_imp, dest_neg, is_conj, is_disj, is_falsity, is_imp, is_neg,
+    is_truth, mk_conj, mk_disj, mk_falsity, mk_imp, mk_neg, mk_truth,
 };
+pub use equations::{Sides, dest_eq, is_eq, mk_eq, mk_iff};
 pub use postulate::Postulate;
-pub use prelude::{
-    bool_type, has_constant, has_type, instances_are_substitutions, is_instance,
-};
-pub use propositional::equivalence;
+pub use prelude::{has_constant, has_type, instances_are_substitutions, is_instance};
+pub use quantifiers::{dest_exists, dest_forall, is_exists, is_forall, mk_exists, mk_forall};
 pub use standing::{prelude_constants, prelude_types};
 pub use statements::statement;
-pub use words::{equal, occurrence, variable};
+pub use terms::{abstraction, application, constant, copy_of, fitting, occurrence, variable};
+pub use types::{
+    bool_type, connective_type, equality_type, is_bool, negation_type, quantifier_type,
+};

@@ -1,12 +1,14 @@
 //! The types and constants that stand in every basis.
-ghost use Rattle.std.specs.Prelude.{◌≡◌, ℕ, List, ◌↔◌, IsTrue, IfOk};
+ghost use Rattle.std.specs.Prelude.{◌≡◌, ◌↔◌, ℕ, List, IfOk, IsTrue};
 ghost use Rattle.std.specs.List.{list_any};
-ghost use Rattle.hol_types.specs.Tree.{TypeTree, TyVar};
-ghost use Rattle.hol_types.specs.Fun.{fun_type};
+ghost use Rattle.hol_types.specs.Tree.{TypeTree};
 ghost use Rattle.hol_types.specs.Subst.{type_subst};
-ghost use Rattle.hol_formulas.specs.Equation.{bool_type, equality_type};
-ghost use Rattle.hol_formulas.specs.Constants.{prelude_types, prelude_constants, is_constructor, is_constant_at, is_instance, connective_type, binder_type, function_property_type, choice_type, prelude_generic, is_instance_of};
+ghost use Rattle.hol_terms.specs.Named.{constant};
+ghost use Rattle.hol_formulas.specs.Constants.{binder_type, choice_type, function_property_type, prelude_types, is_constructor, is_instance, prelude_generic, is_instance_of};
 
+use crate::types::{
+    bool_type, connective_type, equality_type, negation_type, quantifier_type, type_variable,
+};
 use hol_types::{Name, Ty};
 use std::alloc::{AllocError, Global};
 
@@ -22,75 +24,26 @@ pub fn has_type(constructor: &Name, arity: usize) -> bool
     }
 }
 
-/// The type of truth values.
-///
-/// Answers an error where memory is short, and nowhere else.
-pub fn bool_type(alloc: Global) -> Result<Ty, AllocError>
-    ensures { IfOk result (λ ty. ty ≡ bool_type) }
-{
-    let name = Name::new(alloc, "bool")?;
-    Ty::app(alloc, &name, &[])
-}
-
-/// The type of `=` at a type.
-///
-/// Answers an error where memory is short, and nowhere else.
-pub fn equality_type(alloc: Global, ty: &Ty) -> Result<Ty, AllocError>
-    ensures { IfOk result (λ equality. equality ≡ equality_type ty.now) }
-{
-    let truth = bool_type(alloc)?;
-    let property = Ty::fun(alloc, ty, &truth)?;
-    Ty::fun(alloc, ty, &property)
-}
-
-/// The type variable of this name.
-///
-/// Answers an error where memory is short, and nowhere else.
-pub fn variable(alloc: Global, name: &str) -> Result<Ty, AllocError>
-    ensures { IfOk result (λ ty. ty ≡ TyVar name.now) }
-{
-    let name = Name::new(alloc, name)?;
-    Ty::var(alloc, &name)
-}
-
-/// `bool->bool->bool`.
-///
-/// Answers an error where memory is short, and nowhere else.
-pub fn connective_type(alloc: Global) -> Result<Ty, AllocError>
-    ensures { IfOk result (λ ty. ty ≡ connective_type) }
-{
-    let truth = bool_type(alloc)?;
-    equality_type(alloc, &truth)
-}
-
 /// `(A->bool)->bool`.
-///
-/// Answers an error where memory is short, and nowhere else.
-pub fn binder_type(alloc: Global) -> Result<Ty, AllocError>
+pub(crate) fn binder_type(alloc: Global) -> Result<Ty, AllocError>
     ensures { IfOk result (λ ty. ty ≡ binder_type) }
 {
-    let truth = bool_type(alloc)?;
-    let a = variable(alloc, "A")?;
-    let property = Ty::fun(alloc, &a, &truth)?;
-    Ty::fun(alloc, &property, &truth)
+    let a = type_variable(alloc, "A")?;
+    quantifier_type(alloc, &a)
 }
 
 /// `(A->B)->bool`.
-///
-/// Answers an error where memory is short, and nowhere else.
 pub fn function_property_type(alloc: Global) -> Result<Ty, AllocError>
     ensures { IfOk result (λ ty. ty ≡ function_property_type) }
 {
     let truth = bool_type(alloc)?;
-    let a = variable(alloc, "A")?;
-    let b = variable(alloc, "B")?;
+    let a = type_variable(alloc, "A")?;
+    let b = type_variable(alloc, "B")?;
     let function = Ty::fun(alloc, &a, &b)?;
     Ty::fun(alloc, &function, &truth)
 }
 
 /// Whether some substitution for the type variables of `generic` gives `ty`.
-///
-/// Answers an error where memory is short, and nowhere else.
 pub fn is_instance(alloc: Global, generic: &Ty, ty: &Ty) -> Result<bool, AllocError>
     ensures { IfOk result (λ is. is ≡ is_instance generic.now ty.now) }
 {
@@ -99,14 +52,12 @@ pub fn is_instance(alloc: Global, generic: &Ty, ty: &Ty) -> Result<bool, AllocEr
 }
 
 /// The generic type of a constant of the prelude, where there is one of this name.
-///
-/// Answers an error where memory is short, and nowhere else.
 fn generic_type(alloc: Global, constant: &Name) -> Result<Option<Ty>, AllocError>
     ensures { IfOk result (λ generic. generic ≡ prelude_generic constant.now) }
 {
     let generic = match constant.as_str() {
         "=" => {
-            let a = variable(alloc, "A")?;
+            let a = type_variable(alloc, "A")?;
             equality_type(alloc, &a)?
         }
         "@" => choice_type(alloc)?,
@@ -127,8 +78,6 @@ fn generic_type(alloc: Global, constant: &Name) -> Result<Option<Ty>, AllocError
 }
 
 /// Whether the prelude has the constant, and the type is an instance of its generic type.
-///
-/// Answers an error where memory is short, and nowhere else.
 pub fn has_constant(alloc: Global, constant: &Name, ty: &Ty) -> Result<bool, AllocError>
     ensures { IfOk result (λ has. has ≡ is_instance_of (prelude_generic constant.now) ty.now) }
 {
@@ -139,25 +88,13 @@ pub fn has_constant(alloc: Global, constant: &Name, ty: &Ty) -> Result<bool, All
 }
 
 /// `(A->bool)->A`.
-///
-/// Answers an error where memory is short, and nowhere else.
 pub fn choice_type(alloc: Global) -> Result<Ty, AllocError>
     ensures { IfOk result (λ ty. ty ≡ choice_type) }
 {
     let truth = bool_type(alloc)?;
-    let a = variable(alloc, "A")?;
+    let a = type_variable(alloc, "A")?;
     let property = Ty::fun(alloc, &a, &truth)?;
     Ty::fun(alloc, &property, &a)
-}
-
-/// `bool->bool`.
-///
-/// Answers an error where memory is short, and nowhere else.
-pub fn negation_type(alloc: Global) -> Result<Ty, AllocError>
-    ensures { IfOk result (λ ty. ty ≡ fun_type bool_type bool_type) }
-{
-    let truth = bool_type(alloc)?;
-    Ty::fun(alloc, &truth, &truth)
 }
 
 /// The law of instances: a type is an instance of another exactly where some substitution for type variables gives it.

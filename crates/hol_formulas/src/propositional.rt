@@ -1,28 +1,27 @@
 //! Right sides of the definitions of connectives (bool.ml).
 ghost use Rattle.std.specs.Prelude.{◌≡◌, IfOk, Some, codes};
 ghost use Rattle.hol_types.specs.Fun.{fun_type};
-ghost use Rattle.hol_terms.specs.Named.{var, constant, comb, abs, named_type};
+ghost use Rattle.hol_terms.specs.Named.{var, abs, named_type};
 ghost use Rattle.hol_formulas.specs.Equation.{bool_type};
-ghost use Rattle.hol_formulas.specs.Constants.{connective_type};
-ghost use Rattle.hol_formulas.specs.Prelude.{identity, equivalence, paired, both, of_two, conjunction, implication, either, universal, boolean, falsity};
+ghost use Rattle.hol_formulas.specs.Formula.{negation_type, connective_type};
+ghost use Rattle.hol_formulas.specs.Making.{mk_falsity, mk_conj, mk_imp, mk_iff, mk_forall};
+ghost use Rattle.hol_formulas.specs.Prelude.{boolean, identity, paired, both, of_two, either};
 
-use crate::eq::abstraction;
-use crate::prelude::{bool_type, connective_type};
-use crate::words::{
-    applied_to_two, boolean, boolean_term, connected, equal, falsity, occurrence, of_two,
-    quantified, truth, variable,
-};
+use crate::connectives::{applied_to_two, mk_conj, mk_falsity, mk_imp, mk_truth};
+use crate::elements::{boolean, boolean_term};
+use crate::equations::mk_eq;
+use crate::quantifiers::mk_forall;
+use crate::terms::{abstraction, occurrence, variable};
+use crate::types::{bool_type, connective_type};
 use hol_terms::Term;
 use hol_types::Ty;
 use std::alloc::{AllocError, Global};
 
 /// `\p:bool. p`.
-///
-/// Answers an error where memory is short, and nowhere else.
 #[tactic(auto, using(crate::proofs::PartTypes::identity_typed))]
 pub fn identity(alloc: Global) -> Result<Term, AllocError>
     ensures is { IfOk result (λ t. t ≡ identity) }
-    ensures typed { IfOk result (λ t. named_type t ≡ Some (fun_type bool_type bool_type)) }
+    ensures typed { IfOk result (λ t. named_type t ≡ Some (negation_type)) }
 {
     let p = boolean(alloc, "p")?;
     let body = occurrence(alloc, &p)?;
@@ -30,21 +29,17 @@ pub fn identity(alloc: Global) -> Result<Term, AllocError>
 }
 
 /// The equation of two terms of type `bool`.
-///
-/// Answers an error where memory is short, and nowhere else.
-pub fn equivalence(alloc: Global, p: &Term, q: &Term) -> Result<Term, AllocError>
+pub fn mk_iff(alloc: Global, p: &Term, q: &Term) -> Result<Term, AllocError>
     requires first { named_type p.now ≡ Some bool_type }
     requires second { named_type q.now ≡ Some bool_type }
-    ensures is { IfOk result (λ t. t ≡ equivalence p.now q.now) }
+    ensures is { IfOk result (λ t. t ≡ mk_iff p.now q.now) }
     ensures typed { IfOk result (λ t. named_type t ≡ Some bool_type) }
 {
     let ty = bool_type(alloc)?;
-    equal(alloc, &ty, p, q)
+    mk_eq(alloc, &ty, p, q)
 }
 
 /// `\f:bool->bool->bool. f p q`.
-///
-/// Answers an error where memory is short, and nowhere else.
 #[tactic(auto, using(crate::proofs::PartTypes::paired_typed))]
 fn paired(alloc: Global, p: &Term, q: &Term) -> Result<Term, AllocError>
     requires first { named_type p.now ≡ Some bool_type }
@@ -60,8 +55,6 @@ fn paired(alloc: Global, p: &Term, q: &Term) -> Result<Term, AllocError>
 }
 
 /// `(bool->bool->bool)->bool`.
-///
-/// Answers an error where memory is short, and nowhere else.
 fn paired_type(alloc: Global) -> Result<Ty, AllocError>
     ensures { IfOk result (λ t. t ≡ fun_type connective_type bool_type) }
 {
@@ -71,8 +64,6 @@ fn paired_type(alloc: Global) -> Result<Ty, AllocError>
 }
 
 /// `(\f. f p q) = (\f. f T T)`.
-///
-/// Answers an error where memory is short, and nowhere else.
 fn both(alloc: Global, p: &Term, q: &Term) -> Result<Term, AllocError>
     requires first { named_type p.now ≡ Some bool_type }
     requires second { named_type q.now ≡ Some bool_type }
@@ -80,15 +71,13 @@ fn both(alloc: Global, p: &Term, q: &Term) -> Result<Term, AllocError>
     ensures typed { IfOk result (λ t. named_type t ≡ Some bool_type) }
 {
     let left = paired(alloc, p, q)?;
-    let truth = truth(alloc)?;
+    let truth = mk_truth(alloc)?;
     let right = paired(alloc, &truth, &truth)?;
     let ty = paired_type(alloc)?;
-    equal(alloc, &ty, &left, &right)
+    mk_eq(alloc, &ty, &left, &right)
 }
 
 /// `\p q. (\f:bool->bool->bool. f p q) = (\f. f T T)`.
-///
-/// Answers an error where memory is short, and nowhere else.
 pub fn conjunction(alloc: Global) -> Result<Term, AllocError>
     ensures is { IfOk result (λ t. t ≡ of_two both) }
     ensures typed { IfOk result (λ t. named_type t ≡ Some connective_type) }
@@ -100,38 +89,32 @@ pub fn conjunction(alloc: Global) -> Result<Term, AllocError>
 }
 
 /// `\p q. p /\ q <=> p`.
-///
-/// Answers an error where memory is short, and nowhere else.
 pub fn implication(alloc: Global) -> Result<Term, AllocError>
-    ensures is { IfOk result (λ t. t ≡ of_two (λ p q. equivalence (conjunction p q) p)) }
+    ensures is { IfOk result (λ t. t ≡ of_two (λ p q. mk_iff (mk_conj p q) p)) }
     ensures typed { IfOk result (λ t. named_type t ≡ Some connective_type) }
 {
     let p = boolean_term(alloc, "p")?;
     let q = boolean_term(alloc, "q")?;
-    let left = connected(alloc, "/\\", &p, &q)?;
-    let body = equivalence(alloc, &left, &p)?;
+    let left = mk_conj(alloc, &p, &q)?;
+    let body = mk_iff(alloc, &left, &p)?;
     of_two(alloc, &body)
 }
 
 /// `(p ==> r) ==> (q ==> r) ==> r`.
-///
-/// Answers an error where memory is short, and nowhere else.
 fn by_cases(alloc: Global, p: &Term, q: &Term, r: &Term) -> Result<Term, AllocError>
     requires first { named_type p.now ≡ Some bool_type }
     requires second { named_type q.now ≡ Some bool_type }
     requires third { named_type r.now ≡ Some bool_type }
-    ensures is { IfOk result (λ t. t ≡ implication (implication p.now r.now) (implication (implication q.now r.now) r.now)) }
+    ensures is { IfOk result (λ t. t ≡ mk_imp (mk_imp p.now r.now) (mk_imp (mk_imp q.now r.now) r.now)) }
     ensures typed { IfOk result (λ t. named_type t ≡ Some bool_type) }
 {
-    let first = connected(alloc, "==>", p, r)?;
-    let second = connected(alloc, "==>", q, r)?;
-    let rest = connected(alloc, "==>", &second, r)?;
-    connected(alloc, "==>", &first, &rest)
+    let first = mk_imp(alloc, p, r)?;
+    let second = mk_imp(alloc, q, r)?;
+    let rest = mk_imp(alloc, &second, r)?;
+    mk_imp(alloc, &first, &rest)
 }
 
 /// `!r. (p ==> r) ==> (q ==> r) ==> r`.
-///
-/// Answers an error where memory is short, and nowhere else.
 fn either(alloc: Global, p: &Term, q: &Term) -> Result<Term, AllocError>
     requires first { named_type p.now ≡ Some bool_type }
     requires second { named_type q.now ≡ Some bool_type }
@@ -141,12 +124,10 @@ fn either(alloc: Global, p: &Term, q: &Term) -> Result<Term, AllocError>
     let v = boolean(alloc, "r")?;
     let r = boolean_term(alloc, "r")?;
     let body = by_cases(alloc, p, q, &r)?;
-    quantified(alloc, "!", &v, &body)
+    mk_forall(alloc, &v, &body)
 }
 
 /// `\p q. !r. (p ==> r) ==> (q ==> r) ==> r`.
-///
-/// Answers an error where memory is short, and nowhere else.
 pub fn disjunction(alloc: Global) -> Result<Term, AllocError>
     ensures is { IfOk result (λ t. t ≡ of_two either) }
     ensures typed { IfOk result (λ t. named_type t ≡ Some connective_type) }
@@ -158,28 +139,37 @@ pub fn disjunction(alloc: Global) -> Result<Term, AllocError>
 }
 
 /// `!p:bool. p`.
-///
-/// Answers an error where memory is short, and nowhere else.
 pub fn everything(alloc: Global) -> Result<Term, AllocError>
-    ensures is { IfOk result (λ t. t ≡ universal (boolean (codes "p")) (var (boolean (codes "p")))) }
+    ensures is { IfOk result (λ t. t ≡ mk_forall (boolean (codes "p")) (var (boolean (codes "p")))) }
     ensures typed { IfOk result (λ t. named_type t ≡ Some bool_type) }
 {
     let v = boolean(alloc, "p")?;
     let p = boolean_term(alloc, "p")?;
-    quantified(alloc, "!", &v, &p)
+    mk_forall(alloc, &v, &p)
 }
 
 /// `\p. p ==> F`.
-///
-/// Answers an error where memory is short, and nowhere else.
 #[tactic(auto, using(crate::proofs::PartTypes::negation_typed))]
 pub fn negation(alloc: Global) -> Result<Term, AllocError>
-    ensures is { IfOk result (λ t. t ≡ abs (boolean (codes "p")) (implication (var (boolean (codes "p"))) falsity)) }
-    ensures typed { IfOk result (λ t. named_type t ≡ Some (fun_type bool_type bool_type)) }
+    ensures is { IfOk result (λ t. t ≡ abs (boolean (codes "p")) (mk_imp (var (boolean (codes "p"))) mk_falsity)) }
+    ensures typed { IfOk result (λ t. named_type t ≡ Some (negation_type)) }
 {
     let v = boolean(alloc, "p")?;
     let p = boolean_term(alloc, "p")?;
-    let falsity = falsity(alloc)?;
-    let body = connected(alloc, "==>", &p, &falsity)?;
+    let falsity = mk_falsity(alloc)?;
+    let body = mk_imp(alloc, &p, &falsity)?;
     abstraction(alloc, &v, &body)
+}
+
+/// The function of the truth values `p` and `q` to the term.
+#[tactic(auto, using(crate::proofs::PartTypes::two_typed))]
+pub fn of_two(alloc: Global, body: &Term) -> Result<Term, AllocError>
+    requires { named_type body.now ≡ Some bool_type }
+    ensures is { IfOk result (λ t. t ≡ abs (boolean (codes "p")) (abs (boolean (codes "q")) body.now)) }
+    ensures typed { IfOk result (λ t. named_type t ≡ Some connective_type) }
+{
+    let p = boolean(alloc, "p")?;
+    let q = boolean(alloc, "q")?;
+    let inner = abstraction(alloc, &q, body)?;
+    abstraction(alloc, &p, &inner)
 }

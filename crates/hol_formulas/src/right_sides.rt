@@ -1,52 +1,47 @@
 //! Right sides of the definitions of quantifiers and of properties of functions (bool.ml, nums.ml).
 ghost use Rattle.std.specs.Prelude.{◌≡◌, IfOk, Some, codes};
-ghost use Rattle.hol_types.specs.Fun.{fun_type};
-ghost use Rattle.hol_terms.specs.Named.{var, constant, comb, abs, named_type};
-ghost use Rattle.hol_formulas.specs.Equation.{bool_type, named_equation};
+ghost use Rattle.hol_terms.specs.Named.{var, comb, abs, named_type};
+ghost use Rattle.hol_formulas.specs.Equation.{bool_type, mk_eq};
+ghost use Rattle.hol_formulas.specs.Making.{mk_truth, mk_conj, mk_imp, mk_forall, mk_exists};
 ghost use Rattle.hol_formulas.specs.Constants.{var_a, var_b, binder_type, function_property_type};
-ghost use Rattle.hol_formulas.specs.Prelude.{property_type, property, element, of_element, universal, existential, function, value_at, truth, everywhere, implication, conjunction, boolean, somewhere, at_most_once, quantifier, once, injective, surjective};
+ghost use Rattle.hol_formulas.specs.Prelude.{property_type, quantifier, boolean, element, property, of_element, value_at, everywhere, somewhere, at_most_once, once, injective, surjective};
 
+use crate::connectives::{mk_conj, mk_imp, mk_truth};
 use crate::elements::{
-    element, for_two, function, of_element, property, property_term, property_type, same_elements,
-    same_values, value_at,
+    boolean, boolean_term, element, for_two, function, of_element, property, property_term,
+    property_type, same_elements, same_values, value_at,
 };
-use crate::eq::{abstraction, application};
-use crate::prelude::{binder_type, variable as type_variable};
-use crate::words::{
-    boolean, boolean_term, connected, constant, equal, occurrence, quantified, truth, variable,
-};
+use crate::equations::mk_eq;
+use crate::prelude::binder_type;
+use crate::quantifiers::{mk_exists, mk_forall};
+use crate::terms::{abstraction, application, constant_named, occurrence, variable};
+use crate::types::type_variable;
 use hol_terms::{Term, Variable};
 use std::alloc::{AllocError, Global};
 
 /// `\x:A. T`.
-///
-/// Answers an error where memory is short, and nowhere else.
 #[tactic(auto, using(crate::proofs::PartTypes::constantly_true_typed))]
 fn constantly_true(alloc: Global) -> Result<Term, AllocError>
-    ensures is { IfOk result (λ t. t ≡ abs (element (codes "x")) truth) }
+    ensures is { IfOk result (λ t. t ≡ abs (element (codes "x")) mk_truth) }
     ensures typed { IfOk result (λ t. named_type t ≡ Some (property_type var_a)) }
 {
     let x = element(alloc, "x")?;
-    let body = truth(alloc)?;
+    let body = mk_truth(alloc)?;
     abstraction(alloc, &x, &body)
 }
 
 /// `P = (\x. T)`.
-///
-/// Answers an error where memory is short, and nowhere else.
 fn holds_everywhere(alloc: Global) -> Result<Term, AllocError>
-    ensures is { IfOk result (λ t. t ≡ named_equation (property_type var_a) (var property) (abs (element (codes "x")) truth)) }
+    ensures is { IfOk result (λ t. t ≡ mk_eq (property_type var_a) (var property) (abs (element (codes "x")) mk_truth)) }
     ensures typed { IfOk result (λ t. named_type t ≡ Some bool_type) }
 {
     let ty = property_type(alloc)?;
     let left = property_term(alloc)?;
     let right = constantly_true(alloc)?;
-    equal(alloc, &ty, &left, &right)
+    mk_eq(alloc, &ty, &left, &right)
 }
 
 /// `\P:A->bool. P = (\x. T)`.
-///
-/// Answers an error where memory is short, and nowhere else.
 #[tactic(auto, using(crate::proofs::PartTypes::everywhere_typed))]
 pub fn everywhere(alloc: Global) -> Result<Term, AllocError>
     ensures is { IfOk result (λ t. t ≡ everywhere) }
@@ -58,36 +53,30 @@ pub fn everywhere(alloc: Global) -> Result<Term, AllocError>
 }
 
 /// `!x. P x ==> q`.
-///
-/// Answers an error where memory is short, and nowhere else.
 fn each_implies(alloc: Global, q: &Term) -> Result<Term, AllocError>
     requires body { named_type q.now ≡ Some bool_type }
-    ensures is { IfOk result (λ t. t ≡ universal (element (codes "x")) (implication (of_element (codes "x")) q.now)) }
+    ensures is { IfOk result (λ t. t ≡ mk_forall (element (codes "x")) (mk_imp (of_element (codes "x")) q.now)) }
     ensures typed { IfOk result (λ t. named_type t ≡ Some bool_type) }
 {
     let x = element(alloc, "x")?;
     let p = of_element(alloc, "x")?;
-    let body = connected(alloc, "==>", &p, q)?;
-    quantified(alloc, "!", &x, &body)
+    let body = mk_imp(alloc, &p, q)?;
+    mk_forall(alloc, &x, &body)
 }
 
 /// `!q. (!x. P x ==> q) ==> q`.
-///
-/// Answers an error where memory is short, and nowhere else.
 fn holds_somewhere(alloc: Global) -> Result<Term, AllocError>
-    ensures is { IfOk result (λ t. t ≡ universal (boolean (codes "q")) (implication (universal (element (codes "x")) (implication (of_element (codes "x")) (var (boolean (codes "q"))))) (var (boolean (codes "q"))))) }
+    ensures is { IfOk result (λ t. t ≡ mk_forall (boolean (codes "q")) (mk_imp (mk_forall (element (codes "x")) (mk_imp (of_element (codes "x")) (var (boolean (codes "q"))))) (var (boolean (codes "q"))))) }
     ensures typed { IfOk result (λ t. named_type t ≡ Some bool_type) }
 {
     let v = boolean(alloc, "q")?;
     let q = boolean_term(alloc, "q")?;
     let each = each_implies(alloc, &q)?;
-    let body = connected(alloc, "==>", &each, &q)?;
-    quantified(alloc, "!", &v, &body)
+    let body = mk_imp(alloc, &each, &q)?;
+    mk_forall(alloc, &v, &body)
 }
 
 /// `\P:A->bool. !q. (!x. P x ==> q) ==> q`.
-///
-/// Answers an error where memory is short, and nowhere else.
 #[tactic(auto, using(crate::proofs::PartTypes::somewhere_typed))]
 pub fn somewhere(alloc: Global) -> Result<Term, AllocError>
     ensures is { IfOk result (λ t. t ≡ somewhere) }
@@ -99,22 +88,18 @@ pub fn somewhere(alloc: Global) -> Result<Term, AllocError>
 }
 
 /// `P x /\ P y ==> x = y`.
-///
-/// Answers an error where memory is short, and nowhere else.
 fn equal_where_both_hold(alloc: Global) -> Result<Term, AllocError>
-    ensures is { IfOk result (λ t. t ≡ implication (conjunction (of_element (codes "x")) (of_element (codes "y"))) (named_equation var_a (var (element (codes "x"))) (var (element (codes "y"))))) }
+    ensures is { IfOk result (λ t. t ≡ mk_imp (mk_conj (of_element (codes "x")) (of_element (codes "y"))) (mk_eq var_a (var (element (codes "x"))) (var (element (codes "y"))))) }
     ensures typed { IfOk result (λ t. named_type t ≡ Some bool_type) }
 {
     let first = of_element(alloc, "x")?;
     let second = of_element(alloc, "y")?;
-    let both = connected(alloc, "/\\", &first, &second)?;
+    let both = mk_conj(alloc, &first, &second)?;
     let same = same_elements(alloc, "x", "y")?;
-    connected(alloc, "==>", &both, &same)
+    mk_imp(alloc, &both, &same)
 }
 
 /// `!x y. P x /\ P y ==> x = y`.
-///
-/// Answers an error where memory is short, and nowhere else.
 fn at_most_once(alloc: Global) -> Result<Term, AllocError>
     ensures is { IfOk result (λ t. t ≡ at_most_once) }
     ensures typed { IfOk result (λ t. named_type t ≡ Some bool_type) }
@@ -124,19 +109,15 @@ fn at_most_once(alloc: Global) -> Result<Term, AllocError>
 }
 
 /// The existential quantifier at its generic type.
-///
-/// Answers an error where memory is short, and nowhere else.
 fn exists_sign(alloc: Global) -> Result<Term, AllocError>
     ensures is { IfOk result (λ t. t ≡ quantifier (codes "?")) }
     ensures typed { IfOk result (λ t. named_type t ≡ Some binder_type) }
 {
     let ty = binder_type(alloc)?;
-    constant(alloc, "?", &ty)
+    constant_named(alloc, "?", &ty)
 }
 
 /// `(?) P`.
-///
-/// Answers an error where memory is short, and nowhere else.
 #[tactic(auto, using(crate::proofs::PartTypes::applications))]
 fn exists_property(alloc: Global) -> Result<Term, AllocError>
     ensures is { IfOk result (λ t. t ≡ comb (quantifier (codes "?")) (var property)) }
@@ -148,20 +129,16 @@ fn exists_property(alloc: Global) -> Result<Term, AllocError>
 }
 
 /// `(?) P /\ (!x y. P x /\ P y ==> x = y)`.
-///
-/// Answers an error where memory is short, and nowhere else.
 fn holds_once(alloc: Global) -> Result<Term, AllocError>
-    ensures is { IfOk result (λ t. t ≡ conjunction (comb (quantifier (codes "?")) (var property)) at_most_once) }
+    ensures is { IfOk result (λ t. t ≡ mk_conj (comb (quantifier (codes "?")) (var property)) at_most_once) }
     ensures typed { IfOk result (λ t. named_type t ≡ Some bool_type) }
 {
     let exists = exists_property(alloc)?;
     let unique = at_most_once(alloc)?;
-    connected(alloc, "/\\", &exists, &unique)
+    mk_conj(alloc, &exists, &unique)
 }
 
 /// `\P:A->bool. (?) P /\ (!x y. P x /\ P y ==> x = y)`.
-///
-/// Answers an error where memory is short, and nowhere else.
 #[tactic(auto, using(crate::proofs::PartTypes::once_typed))]
 pub fn once(alloc: Global) -> Result<Term, AllocError>
     ensures is { IfOk result (λ t. t ≡ once) }
@@ -173,22 +150,18 @@ pub fn once(alloc: Global) -> Result<Term, AllocError>
 }
 
 /// `f x1 = f x2 ==> x1 = x2`.
-///
-/// Answers an error where memory is short, and nowhere else.
 fn equal_where_values_are(alloc: Global) -> Result<Term, AllocError>
-    ensures is { IfOk result (λ t. t ≡ implication (named_equation var_b (value_at (codes "x1")) (value_at (codes "x2"))) (named_equation var_a (var (element (codes "x1"))) (var (element (codes "x2"))))) }
+    ensures is { IfOk result (λ t. t ≡ mk_imp (mk_eq var_b (value_at (codes "x1")) (value_at (codes "x2"))) (mk_eq var_a (var (element (codes "x1"))) (var (element (codes "x2"))))) }
     ensures typed { IfOk result (λ t. named_type t ≡ Some bool_type) }
 {
     let values = same_values(alloc, "x1", "x2")?;
     let elements = same_elements(alloc, "x1", "x2")?;
-    connected(alloc, "==>", &values, &elements)
+    mk_imp(alloc, &values, &elements)
 }
 
 /// `!x1 x2. f x1 = f x2 ==> x1 = x2`.
-///
-/// Answers an error where memory is short, and nowhere else.
 fn is_injective(alloc: Global) -> Result<Term, AllocError>
-    ensures is { IfOk result (λ t. t ≡ universal (element (codes "x1")) (universal (element (codes "x2")) (implication (named_equation var_b (value_at (codes "x1")) (value_at (codes "x2"))) (named_equation var_a (var (element (codes "x1"))) (var (element (codes "x2"))))))) }
+    ensures is { IfOk result (λ t. t ≡ mk_forall (element (codes "x1")) (mk_forall (element (codes "x2")) (mk_imp (mk_eq var_b (value_at (codes "x1")) (value_at (codes "x2"))) (mk_eq var_a (var (element (codes "x1"))) (var (element (codes "x2"))))))) }
     ensures typed { IfOk result (λ t. named_type t ≡ Some bool_type) }
 {
     let body = equal_where_values_are(alloc)?;
@@ -196,8 +169,6 @@ fn is_injective(alloc: Global) -> Result<Term, AllocError>
 }
 
 /// `\f:A->B. !x1 x2. f x1 = f x2 ==> x1 = x2`.
-///
-/// Answers an error where memory is short, and nowhere else.
 #[tactic(auto, using(crate::proofs::PartTypes::injective_typed))]
 pub fn injective(alloc: Global) -> Result<Term, AllocError>
     ensures is { IfOk result (λ t. t ≡ injective) }
@@ -209,8 +180,6 @@ pub fn injective(alloc: Global) -> Result<Term, AllocError>
 }
 
 /// `y:B`.
-///
-/// Answers an error where memory is short, and nowhere else.
 fn target(alloc: Global) -> Result<Variable, AllocError>
     ensures { IfOk result (λ t. t ≡ (codes "y", var_b)) }
 {
@@ -219,36 +188,30 @@ fn target(alloc: Global) -> Result<Variable, AllocError>
 }
 
 /// `y = f x`.
-///
-/// Answers an error where memory is short, and nowhere else.
 fn is_value(alloc: Global) -> Result<Term, AllocError>
-    ensures is { IfOk result (λ t. t ≡ named_equation var_b (var (codes "y", var_b)) (value_at (codes "x"))) }
+    ensures is { IfOk result (λ t. t ≡ mk_eq var_b (var (codes "y", var_b)) (value_at (codes "x"))) }
     ensures typed { IfOk result (λ t. named_type t ≡ Some bool_type) }
 {
     let ty = type_variable(alloc, "B")?;
     let y = target(alloc)?;
     let left = occurrence(alloc, &y)?;
     let right = value_at(alloc, "x")?;
-    equal(alloc, &ty, &left, &right)
+    mk_eq(alloc, &ty, &left, &right)
 }
 
 /// `!y. ?x. y = f x`.
-///
-/// Answers an error where memory is short, and nowhere else.
 fn is_surjective(alloc: Global) -> Result<Term, AllocError>
-    ensures is { IfOk result (λ t. t ≡ universal (codes "y", var_b) (existential (element (codes "x")) (named_equation var_b (var (codes "y", var_b)) (value_at (codes "x"))))) }
+    ensures is { IfOk result (λ t. t ≡ mk_forall (codes "y", var_b) (mk_exists (element (codes "x")) (mk_eq var_b (var (codes "y", var_b)) (value_at (codes "x"))))) }
     ensures typed { IfOk result (λ t. named_type t ≡ Some bool_type) }
 {
     let body = is_value(alloc)?;
     let x = element(alloc, "x")?;
-    let inner = quantified(alloc, "?", &x, &body)?;
+    let inner = mk_exists(alloc, &x, &body)?;
     let y = target(alloc)?;
-    quantified(alloc, "!", &y, &inner)
+    mk_forall(alloc, &y, &inner)
 }
 
 /// `\f:A->B. !y. ?x. y = f x`.
-///
-/// Answers an error where memory is short, and nowhere else.
 #[tactic(auto, using(crate::proofs::PartTypes::surjective_typed))]
 pub fn surjective(alloc: Global) -> Result<Term, AllocError>
     ensures is { IfOk result (λ t. t ≡ surjective) }

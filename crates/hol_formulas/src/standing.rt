@@ -1,19 +1,15 @@
 //! The types and constants of the prelude, as lists.
-ghost use Rattle.std.specs.Prelude.{◌≡◌, [], ◌∷◌, ◌++◌, IfOk, OnOk, codes};
-ghost use Rattle.hol_types.specs.Fun.{fun_type};
+ghost use Rattle.std.specs.Prelude.{◌≡◌, IfOk, OnOk, codes, ◌∷◌, ◌++◌, []};
 ghost use Rattle.hol_formulas.specs.Equation.{bool_type, equality_type};
-ghost use Rattle.hol_formulas.specs.Constants.{prelude_types, prelude_constants, var_a, connective_type, binder_type, choice_type, function_property_type};
+ghost use Rattle.hol_formulas.specs.Formula.{negation_type, connective_type};
+ghost use Rattle.hol_formulas.specs.Constants.{var_a, binder_type, choice_type, function_property_type, prelude_types, prelude_constants};
 
-use crate::prelude::{
-    binder_type, bool_type, choice_type, connective_type, equality_type, function_property_type,
-    negation_type, variable,
-};
+use crate::prelude::{binder_type, choice_type, function_property_type};
+use crate::types::{bool_type, connective_type, equality_type, negation_type, type_variable};
 use hol_types::{Name, Ty};
 use std::alloc::{AllocError, Global};
 
 /// Each type constructor of the prelude with its arity.
-///
-/// Answers an error where memory is short, and nowhere else.
 pub fn prelude_types(alloc: Global) -> Result<Vec<(Name, usize)>, AllocError>
     ensures { IfOk result (λ types. types.items ≡ prelude_types) }
 {
@@ -25,8 +21,6 @@ pub fn prelude_types(alloc: Global) -> Result<Vec<(Name, usize)>, AllocError>
 }
 
 /// Each constant of the prelude with its generic type.
-///
-/// Answers an error where memory is short, and nowhere else.
 pub fn prelude_constants(alloc: Global) -> Result<Vec<(Name, Ty)>, AllocError>
     ensures { IfOk result (λ constants. constants.items ≡ prelude_constants) }
 {
@@ -56,7 +50,7 @@ fn add(
 fn add_first(alloc: Global, constants: &mut Vec<(Name, Ty)>) -> Result<(), AllocError>
     ensures { OnOk result (constants.new.items ≡ constants.old.items ++ (codes "=", equality_type var_a) ∷ (codes "@", choice_type) ∷ (codes "T", bool_type) ∷ (codes "F", bool_type) ∷ []) }
 {
-    let equality = equality_type(alloc, &variable(alloc, "A")?)?;
+    let equality = equality_type(alloc, &type_variable(alloc, "A")?)?;
     let truth = bool_type(alloc)?;
     add(alloc, constants, "=", &equality)?;
     add(alloc, constants, "@", &choice_type(alloc)?)?;
@@ -66,7 +60,7 @@ fn add_first(alloc: Global, constants: &mut Vec<(Name, Ty)>) -> Result<(), Alloc
 
 // Adds the connectives and negation.
 fn add_connectives(alloc: Global, constants: &mut Vec<(Name, Ty)>) -> Result<(), AllocError>
-    ensures { OnOk result (constants.new.items ≡ constants.old.items ++ (codes "/\\", connective_type) ∷ (codes "\\/", connective_type) ∷ (codes "==>", connective_type) ∷ (codes "~", fun_type bool_type bool_type) ∷ []) }
+    ensures { OnOk result (constants.new.items ≡ constants.old.items ++ (codes "/\\", connective_type) ∷ (codes "\\/", connective_type) ∷ (codes "==>", connective_type) ∷ (codes "~", negation_type) ∷ []) }
 {
     let connective = connective_type(alloc)?;
     add(alloc, constants, "/\\", &connective)?;

@@ -1,37 +1,34 @@
 //! The statements of the definitions and axioms of the prelude.
-ghost use Rattle.std.specs.Prelude.{◌≡◌, IfOk, Some, codes};
-ghost use Rattle.hol_types.specs.Fun.{fun_type};
+ghost use Rattle.std.specs.Prelude.{◌≡◌, IfOk, Some};
 ghost use Rattle.hol_terms.specs.Named.{named_type};
-ghost use Rattle.hol_formulas.specs.Equation.{bool_type, named_equation};
-ghost use Rattle.hol_formulas.specs.Prelude.{identity, postulated};
+ghost use Rattle.hol_formulas.specs.Equation.{bool_type, mk_eq};
+ghost use Rattle.hol_formulas.specs.Formula.{negation_type};
+ghost use Rattle.hol_formulas.specs.Prelude.{identity, defining, postulated};
 ghost use Rattle.hol_formulas.specs.declared.postulate.Postulate.TheVariants as postulate;
 
 use crate::axioms::{chosen, eta, infinite};
+use crate::equations::mk_eq;
 use crate::postulate::Postulate;
-use crate::prelude::{
-    binder_type, bool_type, connective_type, function_property_type, negation_type,
-};
+use crate::prelude::{binder_type, function_property_type};
 use crate::propositional::{conjunction, disjunction, everything, identity, implication, negation};
 use crate::right_sides::{everywhere, injective, once, somewhere, surjective};
-use crate::words::{defining, equal};
+use crate::terms::constant_named;
+use crate::types::{bool_type, connective_type, negation_type};
 use hol_terms::Term;
+use hol_types::Ty;
 use std::alloc::{AllocError, Global};
 
 /// `(\p:bool. p) = (\p. p)`.
-///
-/// Answers an error where memory is short, and nowhere else.
 fn truth_right(alloc: Global) -> Result<Term, AllocError>
-    ensures is { IfOk result (λ t. t ≡ named_equation (fun_type bool_type bool_type) identity identity) }
+    ensures is { IfOk result (λ t. t ≡ mk_eq (negation_type) identity identity) }
     ensures typed { IfOk result (λ t. named_type t ≡ Some bool_type) }
 {
     let ty = negation_type(alloc)?;
     let side = identity(alloc)?;
-    equal(alloc, &ty, &side, &side)
+    mk_eq(alloc, &ty, &side, &side)
 }
 
 /// The definition of truth.
-///
-/// Answers an error where memory is short, and nowhere else.
 fn truth_definition(alloc: Global) -> Result<Term, AllocError>
     ensures { IfOk result (λ t. t ≡ postulated postulate.TDef) }
 {
@@ -41,8 +38,6 @@ fn truth_definition(alloc: Global) -> Result<Term, AllocError>
 }
 
 /// The definition of conjunction.
-///
-/// Answers an error where memory is short, and nowhere else.
 fn conjunction_definition(alloc: Global) -> Result<Term, AllocError>
     ensures { IfOk result (λ t. t ≡ postulated postulate.AndDef) }
 {
@@ -52,8 +47,6 @@ fn conjunction_definition(alloc: Global) -> Result<Term, AllocError>
 }
 
 /// The definition of implication.
-///
-/// Answers an error where memory is short, and nowhere else.
 fn implication_definition(alloc: Global) -> Result<Term, AllocError>
     ensures { IfOk result (λ t. t ≡ postulated postulate.ImpDef) }
 {
@@ -63,8 +56,6 @@ fn implication_definition(alloc: Global) -> Result<Term, AllocError>
 }
 
 /// The definition of the universal quantifier.
-///
-/// Answers an error where memory is short, and nowhere else.
 fn universal_definition(alloc: Global) -> Result<Term, AllocError>
     ensures { IfOk result (λ t. t ≡ postulated postulate.ForallDef) }
 {
@@ -74,8 +65,6 @@ fn universal_definition(alloc: Global) -> Result<Term, AllocError>
 }
 
 /// The definition of the existential quantifier.
-///
-/// Answers an error where memory is short, and nowhere else.
 fn existential_definition(alloc: Global) -> Result<Term, AllocError>
     ensures { IfOk result (λ t. t ≡ postulated postulate.ExistsDef) }
 {
@@ -85,8 +74,6 @@ fn existential_definition(alloc: Global) -> Result<Term, AllocError>
 }
 
 /// The definition of disjunction.
-///
-/// Answers an error where memory is short, and nowhere else.
 fn disjunction_definition(alloc: Global) -> Result<Term, AllocError>
     ensures { IfOk result (λ t. t ≡ postulated postulate.OrDef) }
 {
@@ -96,8 +83,6 @@ fn disjunction_definition(alloc: Global) -> Result<Term, AllocError>
 }
 
 /// The definition of falsity.
-///
-/// Answers an error where memory is short, and nowhere else.
 fn falsity_definition(alloc: Global) -> Result<Term, AllocError>
     ensures { IfOk result (λ t. t ≡ postulated postulate.FDef) }
 {
@@ -107,8 +92,6 @@ fn falsity_definition(alloc: Global) -> Result<Term, AllocError>
 }
 
 /// The definition of negation.
-///
-/// Answers an error where memory is short, and nowhere else.
 fn negation_definition(alloc: Global) -> Result<Term, AllocError>
     ensures { IfOk result (λ t. t ≡ postulated postulate.NotDef) }
 {
@@ -118,8 +101,6 @@ fn negation_definition(alloc: Global) -> Result<Term, AllocError>
 }
 
 /// The definition of unique existence.
-///
-/// Answers an error where memory is short, and nowhere else.
 fn unique_existence_definition(alloc: Global) -> Result<Term, AllocError>
     ensures { IfOk result (λ t. t ≡ postulated postulate.ExistsUniqueDef) }
 {
@@ -129,8 +110,6 @@ fn unique_existence_definition(alloc: Global) -> Result<Term, AllocError>
 }
 
 /// The definition of injectivity.
-///
-/// Answers an error where memory is short, and nowhere else.
 fn injectivity_definition(alloc: Global) -> Result<Term, AllocError>
     ensures { IfOk result (λ t. t ≡ postulated postulate.OneOne) }
 {
@@ -140,8 +119,6 @@ fn injectivity_definition(alloc: Global) -> Result<Term, AllocError>
 }
 
 /// The definition of surjectivity.
-///
-/// Answers an error where memory is short, and nowhere else.
 fn surjectivity_definition(alloc: Global) -> Result<Term, AllocError>
     ensures { IfOk result (λ t. t ≡ postulated postulate.Onto) }
 {
@@ -150,9 +127,16 @@ fn surjectivity_definition(alloc: Global) -> Result<Term, AllocError>
     defining(alloc, "ONTO", &ty, &right)
 }
 
+// The definition of the constant of the name and the type as the term.
+fn defining(alloc: Global, name: &str, ty: &Ty, right: &Term) -> Result<Term, AllocError>
+    requires { named_type right.now ≡ Some ty.now }
+    ensures { IfOk result (λ t. t ≡ defining name.now ty.now right.now) }
+{
+    let left = constant_named(alloc, name, ty)?;
+    mk_eq(alloc, ty, &left, right)
+}
+
 /// The statement of a definition or an axiom of the prelude.
-///
-/// Answers an error where memory is short, and nowhere else.
 pub fn statement(alloc: Global, which: Postulate) -> Result<Term, AllocError>
     ensures { IfOk result (λ t. t ≡ postulated which) }
 {

@@ -13,7 +13,7 @@ use Rattle.hol_terms.specs.Scoped.{binds, add_all}
 use Rattle.hol_kernel.specs.Item.{defined_constant}
 use Rattle.hol_kernel.specs.Items.{Items, Holds, IsWithin}
 use Rattle.hol_kernel.specs.Sequent.{Hyps, no_hyps}
-use Rattle.hol_formulas.specs.Equation.{named_equation}
+use Rattle.hol_formulas.specs.Equation.{mk_eq}
 use Rattle.hol_kernel.specs.Signature.{constant_key, term_tyvars}
 use Rattle.hol_kernel.specs.Typing.{is_typed, HasType}
 use Rattle.hol_kernel.specs.Legal.{HasNewKeys, IsClosed, IsDefinable}
@@ -27,7 +27,7 @@ use Rattle.hol_kernel.proofs.ItemOrder.{total, only}
 use Rattle.hol_kernel.proofs.Weaken.{HasType-more}
 use Rattle.hol_kernel.proofs.Held.{named_of_typed}
 use Rattle.hol_kernel.proofs.Typed.{typed_type}
-use Rattle.hol_formulas.proofs.Equations.{equation_right}
+use Rattle.hol_formulas.proofs.EquationTypes.{equation_right}
 use Rattle.hol_kernel.proofs.Declared.{one_name, name_taken, own_name}
 use Rattle.hol_kernel.proofs.TermRules.{along}
 
@@ -157,6 +157,6 @@ module _ (items more : Items) (c : List ℕ) (r : Nameless) (is : more ≡ set.i
 
 -- ---- the theorem
 
-pub definition_derived : (basis : Items) (c : List ℕ) (r : Named) (a : TypeTree) → Holds basis (defined_constant c (nameless [] r)) → HasType basis (nameless [] r) a → named_type r ≡ Some a → (own : Items) (hyps : Hyps) (concl : Named) → own ≡ basis → hyps ≡ no_hyps → concl ≡ named_equation a (constant c a) r → IsDerived own hyps concl
+pub definition_derived : (basis : Items) (c : List ℕ) (r : Named) (a : TypeTree) → Holds basis (defined_constant c (nameless [] r)) → HasType basis (nameless [] r) a → named_type r ≡ Some a → (own : Items) (hyps : Hyps) (concl : Named) → own ≡ basis → hyps ≡ no_hyps → concl ≡ mk_eq a (constant c a) r → IsDerived own hyps concl
 definition_derived basis c r a h known has own hyps concl p q s =
-    along basis own no_hyps hyps (named_equation a (constant c a) r) concl p q s (by_definition c (nameless [] r) a h known) (equation_right a (constant c a) r refl has)
+    along basis own no_hyps hyps (mk_eq a (constant c a) r) concl p q s (by_definition c (nameless [] r) a h known) (equation_right a (constant c a) r refl has)

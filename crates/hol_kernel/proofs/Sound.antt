@@ -20,7 +20,7 @@ use Rattle.hol_formulas.specs.Equation.{equality_type, equation}
 use Rattle.hol_kernel.specs.Derivation.{Derives, by_trans, by_eq_mp, by_mk_comb, by_deduct_antisym}
 use Rattle.hol_kernel.specs.Theorem.{Theorem, theorem_over}
 use Rattle.hol_kernel.specs.Rules.{trans_sides, trans_of, eq_mp_sides, eq_mp_of, comb_parts, comb_sides, mk_comb_of, deduct_antisym_of}
-use Rattle.hol_formulas.specs.Equation.{Sides, sides_at, sides_of}
+use Rattle.hol_formulas.specs.Equation.{Sides, sides_at, dest_eq}
 use Rattle.hol_formulas.proofs.TakingApart.{fun_parts_is}
 
 -- ---- what tests say
@@ -65,7 +65,7 @@ sides_is_by : (c : List ℕ) (s : TypeTree) (l r : Nameless) (x : Sides) (o : Op
 sides_is_by c s l r x (Some p) e = sides_is_at c s l r x p e
 sides_is_by c s l r x None e = absurd (cc)
 
-pub sides_is : (t : Nameless) (x : Sides) → sides_of t ≡ Some x → t ≡ equation x.sides_type x.left x.right
+pub sides_is : (t : Nameless) (x : Sides) → dest_eq t ≡ Some x → t ≡ equation x.sides_type x.left x.right
 sides_is (app (app (fixed c s) l) r) x e = sides_is_by c s l r x (fun_parts s) e
 sides_is t x e = absurd (cc)
 
@@ -74,7 +74,7 @@ sides_is t x e = absurd (cc)
 abbrev pub Derived : Theorem → Type 0
 Derived t = Derives t.basis t.hyps t.concl
 
-by_sides : (items : Items) (hs : Hyps) (t : Nameless) (x : Sides) → sides_of t ≡ Some x → Derives items hs t → Derives items hs (equation x.sides_type x.left x.right)
+by_sides : (items : Items) (hs : Hyps) (t : Nameless) (x : Sides) → dest_eq t ≡ Some x → Derives items hs t → Derives items hs (equation x.sides_type x.left x.right)
 by_sides items hs t x e d = subst (λ (u : Nameless). Derives items hs u) (sides_is t x e) d
 
 -- the second theorem over the basis of the first
@@ -83,9 +83,9 @@ over_first a b one e = subst (λ (s : Items). Derives s b.hyps b.concl) (sym one
 
 pub trans_sound : (a b t : Theorem) → a.basis ≡ b.basis → Derived a → Derived b → trans_of a b ≡ Some t → Derived t
 trans_sound a b t one d e is =
-    go (sides_of a.concl) (sides_of b.concl) refl refl is
+    go (dest_eq a.concl) (dest_eq b.concl) refl refl is
   where
-    go : (p q : Option Sides) → sides_of a.concl ≡ p → sides_of b.concl ≡ q → trans_sides a.basis (set.union a.hyps b.hyps) p q ≡ Some t → Derived t
+    go : (p q : Option Sides) → dest_eq a.concl ≡ p → dest_eq b.concl ≡ q → trans_sides a.basis (set.union a.hyps b.hyps) p q ≡ Some t → Derived t
     go (Some x) (Some y) p q is =
         let v = test (alpha_eq x.right y.left) (theorem_over a.basis (set.union a.hyps b.hyps) (equation x.sides_type x.left y.right)) t is in
         subst Derived v.1
@@ -96,9 +96,9 @@ trans_sound a b t one d e is =
 
 pub eq_mp_sound : (a b t : Theorem) → a.basis ≡ b.basis → Derived a → Derived b → eq_mp_of a b ≡ Some t → Derived t
 eq_mp_sound a b t one d e is =
-    go (sides_of a.concl) refl is
+    go (dest_eq a.concl) refl is
   where
-    go : (p : Option Sides) → sides_of a.concl ≡ p → eq_mp_sides a.basis (set.union a.hyps b.hyps) p b.concl ≡ Some t → Derived t
+    go : (p : Option Sides) → dest_eq a.concl ≡ p → eq_mp_sides a.basis (set.union a.hyps b.hyps) p b.concl ≡ Some t → Derived t
     go (Some x) p is =
         let v = test (alpha_eq x.left b.concl) (theorem_over a.basis (set.union a.hyps b.hyps) x.right) t is in
         subst Derived v.1
@@ -107,9 +107,9 @@ eq_mp_sound a b t one d e is =
 
 pub mk_comb_sound : (a b t : Theorem) → a.basis ≡ b.basis → Derived a → Derived b → mk_comb_of a b ≡ Some t → Derived t
 mk_comb_sound a b t one d e is =
-    go (sides_of a.concl) (sides_of b.concl) refl refl is
+    go (dest_eq a.concl) (dest_eq b.concl) refl refl is
   where
-    typed : (x y : Sides) (f : Option (TypeTree × TypeTree)) → fun_parts x.sides_type ≡ f → sides_of a.concl ≡ Some x → sides_of b.concl ≡ Some y → comb_parts a.basis (set.union a.hyps b.hyps) x y f ≡ Some t → Derived t
+    typed : (x y : Sides) (f : Option (TypeTree × TypeTree)) → fun_parts x.sides_type ≡ f → dest_eq a.concl ≡ Some x → dest_eq b.concl ≡ Some y → comb_parts a.basis (set.union a.hyps b.hyps) x y f ≡ Some t → Derived t
     typed x y (Some s) f p q is =
         let v = test (type_eq s.0 y.sides_type) (theorem_over a.basis (set.union a.hyps b.hyps) (equation s.1 (app x.left y.left) (app x.right y.right))) t is in
         subst Derived v.1
@@ -119,7 +119,7 @@ mk_comb_sound a b t one d e is =
         (by_sides a.basis b.hyps b.concl y q (over_first a b one e))))
     typed x y None f p q is = absurd (cc)
 
-    go : (p q : Option Sides) → sides_of a.concl ≡ p → sides_of b.concl ≡ q → comb_sides a.basis (set.union a.hyps b.hyps) p q ≡ Some t → Derived t
+    go : (p q : Option Sides) → dest_eq a.concl ≡ p → dest_eq b.concl ≡ q → comb_sides a.basis (set.union a.hyps b.hyps) p q ≡ Some t → Derived t
     go (Some x) (Some y) p q is = typed x y (fun_parts x.sides_type) refl p q is
     go (Some x) None p q is = absurd (cc)
     go None q p' q' is = absurd (cc)

@@ -17,14 +17,14 @@ use Rattle.hol_terms.specs.Nameless.{Nameless, free, app, nameless}
 use Rattle.hol_kernel.specs.Items.{Items}
 use Rattle.hol_kernel.specs.NamedTyping.{is_known_named}
 use Rattle.hol_kernel.specs.Sequent.{Hyps, no_hyps, only_hyp}
-use Rattle.hol_formulas.specs.Equation.{bool_type, equation, named_equation}
+use Rattle.hol_formulas.specs.Equation.{bool_type, equation, mk_eq}
 use Rattle.hol_kernel.specs.Typing.{is_type, is_typed, is_type_at, has_type, type_over, HasType}
 use Rattle.hol_kernel.specs.Derivation.{Derives, by_refl, by_assume, by_beta, by_abs}
 use Rattle.hol_kernel.specs.Theorem.{Theorem, theorem_over, IsDerived}
 use Rattle.hol_kernel.specs.Rules.{reflexive, refl_of, assume_of, reduced, beta_of, abs_sides, abs_of}
-use Rattle.hol_formulas.specs.Equation.{Sides, sides_of}
+use Rattle.hol_formulas.specs.Equation.{Sides, dest_eq}
 use Rattle.hol_kernel.proofs.Typed.{typed_type, typed_named, type_over_named}
-use Rattle.hol_formulas.proofs.Equations.{equation_right}
+use Rattle.hol_formulas.proofs.EquationTypes.{equation_right}
 use Rattle.hol_kernel.proofs.Sound.{sides_is}
 use Rattle.hol_formulas.proofs.TakingApart.{IsApplied, applied_parts}
 
@@ -36,15 +36,15 @@ along b b' h h' c c' p q r d t = record {
   typed = ap named_type r ∙ t;
 }
 
-pub equation_has_type : (c l r : Named) (a : TypeTree) → c ≡ named_equation a l r → named_type l ≡ Some a → named_type r ≡ Some a → named_type c ≡ Some bool_type
+pub equation_has_type : (c l r : Named) (a : TypeTree) → c ≡ mk_eq a l r → named_type l ≡ Some a → named_type r ≡ Some a → named_type c ≡ Some bool_type
 equation_has_type c l r a e f g = ap named_type e ∙ equation_right a l r f g
 
 module _ (basis : Items) (t : Named) (a : TypeTree) (has : named_type t ≡ Some a) where
   -- ---- reflexivity
 
-  pub refl_derived : (own : Items) (hyps : Hyps) (concl : Named) → own ≡ basis → hyps ≡ no_hyps → concl ≡ named_equation a t t → is_typed basis (nameless [] t) ≡ true → IsDerived own hyps concl
+  pub refl_derived : (own : Items) (hyps : Hyps) (concl : Named) → own ≡ basis → hyps ≡ no_hyps → concl ≡ mk_eq a t t → is_typed basis (nameless [] t) ≡ true → IsDerived own hyps concl
   refl_derived own hyps concl p q r typed =
-      along basis own no_hyps hyps (named_equation a t t) concl p q r (by_refl (nameless [] t) a (typed_type basis t a has typed)) (equation_right a t t has has)
+      along basis own no_hyps hyps (mk_eq a t t) concl p q r (by_refl (nameless [] t) a (typed_type basis t a has typed)) (equation_right a t t has has)
 
   pub refl_yes : is_typed basis (nameless [] t) ≡ true → refl_of basis (nameless [] t) ≡ Some (reflexive basis (nameless [] t) a)
   refl_yes typed = ap (option_map (reflexive basis (nameless [] t))) (typed_type basis t a has typed)
@@ -137,9 +137,9 @@ module _ (basis : Items) (t : Named) (v w : List ℕ × TypeTree) (b : Named) (a
   pub beta_gives : beta_of basis t ≡ Some (converted basis t b a)
   beta_gives = ap (beta_of basis) is ∙ beta_yes basis v w b a e redex_typed ∙ ap (λ (u : Named). Some (converted basis u b a)) (sym is)
 
-  pub beta_derived : (own : Items) (hyps : Hyps) (concl : Named) → own ≡ basis → hyps ≡ no_hyps → concl ≡ named_equation a t b → named_type b ≡ Some a → IsDerived own hyps concl
+  pub beta_derived : (own : Items) (hyps : Hyps) (concl : Named) → own ≡ basis → hyps ≡ no_hyps → concl ≡ mk_eq a t b → named_type b ≡ Some a → IsDerived own hyps concl
   beta_derived own hyps concl p q r f =
-      along basis own no_hyps hyps (named_equation a t b) concl p q r
+      along basis own no_hyps hyps (mk_eq a t b) concl p q r
       (subst (λ (u : Named). Derives basis no_hyps (equation a (nameless [] u) (nameless [] b))) (sym is) (beta_derives basis v w b a e redex_typed)) (equation_right a t b has f)
 
 -- ---- typing
@@ -161,18 +161,18 @@ body_type t v b x a is has = by (named_type b) refl parts.function
 
 -- ---- abstraction
 
-pub abs_concl : (v : List ℕ × TypeTree) (a : TypeTree) (l r : Named) → nameless [] (named_equation (fun_type v.1 a) (abs v l) (abs v r)) ≡ equation (fun_type v.1 a) (bind v (nameless [] l)) (bind v (nameless [] r))
+pub abs_concl : (v : List ℕ × TypeTree) (a : TypeTree) (l r : Named) → nameless [] (mk_eq (fun_type v.1 a) (abs v l) (abs v r)) ≡ equation (fun_type v.1 a) (bind v (nameless [] l)) (bind v (nameless [] r))
 abs_concl v a l r = λ i. equation (fun_type v.1 a) (nameless_abs v l i) (nameless_abs v r i)
 
-pub abs_gives : (v : List ℕ × TypeTree) (a : Theorem) (x : Sides) → sides_of a.concl ≡ Some x → is_type a.basis v.1 ≡ true → is_free_in (set.items a.hyps) v ≡ false → abs_of (var v) a ≡ Some (theorem_over a.basis a.hyps (equation (fun_type v.1 x.sides_type) (bind v x.left) (bind v x.right)))
+pub abs_gives : (v : List ℕ × TypeTree) (a : Theorem) (x : Sides) → dest_eq a.concl ≡ Some x → is_type a.basis v.1 ≡ true → is_free_in (set.items a.hyps) v ≡ false → abs_of (var v) a ≡ Some (theorem_over a.basis a.hyps (equation (fun_type v.1 x.sides_type) (bind v x.left) (bind v x.right)))
 abs_gives v a x e f g =
     ap (abs_sides v a.basis a.hyps) e
     ∙ (λ i. cond (f i && not (g i)) (Some (theorem_over a.basis a.hyps (equation (fun_type v.1 x.sides_type) (bind v x.left) (bind v x.right)))) None)
 
-pub abs_derived : (v : List ℕ × TypeTree) (th : Theorem) (a : TypeTree) (l r : Named) → Derives th.basis th.hyps th.concl → sides_of th.concl ≡ Some (record { sides_type = a; left = nameless [] l; right = nameless [] r }) → is_type th.basis v.1 ≡ true → is_free_in (set.items th.hyps) v ≡ false → named_type l ≡ Some a → named_type r ≡ Some a → (own : Items) (hyps : Hyps) (concl : Named) → own ≡ th.basis → hyps ≡ th.hyps → concl ≡ named_equation (fun_type v.1 a) (abs v l) (abs v r) → IsDerived own hyps concl
+pub abs_derived : (v : List ℕ × TypeTree) (th : Theorem) (a : TypeTree) (l r : Named) → Derives th.basis th.hyps th.concl → dest_eq th.concl ≡ Some (record { sides_type = a; left = nameless [] l; right = nameless [] r }) → is_type th.basis v.1 ≡ true → is_free_in (set.items th.hyps) v ≡ false → named_type l ≡ Some a → named_type r ≡ Some a → (own : Items) (hyps : Hyps) (concl : Named) → own ≡ th.basis → hyps ≡ th.hyps → concl ≡ mk_eq (fun_type v.1 a) (abs v l) (abs v r) → IsDerived own hyps concl
 abs_derived v th a l r d e f g m n own hyps concl p q s =
     let from : Derives th.basis th.hyps (equation a (nameless [] l) (nameless [] r)) = subst (λ (u : Nameless). Derives th.basis th.hyps u) (sides_is th.concl (record { sides_type = a; left = nameless [] l; right = nameless [] r }) e) d in
-    along th.basis own th.hyps hyps (named_equation (fun_type v.1 a) (abs v l) (abs v r)) concl p q s
+    along th.basis own th.hyps hyps (mk_eq (fun_type v.1 a) (abs v l) (abs v r)) concl p q s
     (subst (λ (u : Nameless). Derives th.basis th.hyps u) (sym (abs_concl v a l r))
     (by_abs th.hyps a v (nameless [] l) (nameless [] r) f g from))
     (equation_right (fun_type v.1 a) (abs v l) (abs v r) (abs_type v l a m) (abs_type v r a n))

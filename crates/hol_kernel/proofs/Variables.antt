@@ -15,7 +15,7 @@ use Rattle.hol_formulas.specs.Constants.{is_constructor, prelude_types}
 use Rattle.hol_kernel.specs.Typing.{types_count, is_type, are_types, is_known, HasType}
 use Rattle.hol_kernel.specs.Rules.{reflexive, refl_of}
 use Rattle.hol_formulas.proofs.Instance.{instance_of_subst}
-use Rattle.hol_formulas.proofs.Equations.{applied_fits}
+use Rattle.hol_formulas.proofs.EquationTypes.{applied_fits}
 use Rattle.hol_kernel.proofs.Sets.{items_empty}
 
 both : (a b : Bool) → (a && b) ≡ true → (a ≡ true) × (b ≡ true)

@@ -30,7 +30,7 @@ use Rattle.hol_kernel.specs.Derivation.{Derives, by_refl, by_trans, by_mk_comb, 
 use Rattle.hol_kernel.specs.Theorem.{Theorem, IsWellTyped}
 use Rattle.hol_formulas.specs.declared.postulate.Postulate.{Postulate}
 use Rattle.hol_formulas.specs.declared.postulate.Postulate.TheVariants.{TDef, AndDef, ImpDef, ForallDef, ExistsDef, OrDef, FDef, NotDef, ExistsUniqueDef, EtaAx, SelectAx, OneOne, Onto, InfinityAx}
-use Rattle.hol_formulas.proofs.Equations.{applied_fits}
+use Rattle.hol_formulas.proofs.EquationTypes.{applied_fits}
 use Rattle.hol_kernel.proofs.HypothesisLists.{hyps_total, hyps_same}
 use Rattle.hol_kernel.proofs.Members.{Among, in_insert_cases, in_union_cases, not_in_empty, or_right, from_list_among, among_from_list, from_list-items}
 use Rattle.hol_kernel.proofs.Ordered.{any_of}

@@ -15,7 +15,7 @@ use Rattle.hol_subst.specs.Variant.{is_free_in}
 use Rattle.hol_subst.specs.Pairs.{nameless_pairs}
 use Rattle.hol_kernel.specs.Items.{Items}
 use Rattle.hol_kernel.specs.Sequent.{Hyps, no_hyps, only_hyp, hyps_image}
-use Rattle.hol_formulas.specs.Equation.{bool_type, equality_type, equation, Sides, sides_of}
+use Rattle.hol_formulas.specs.Equation.{bool_type, equality_type, equation, Sides, dest_eq}
 use Rattle.hol_kernel.specs.Typing.{is_type, type_over, has_type, are_types_for}
 use Rattle.hol_formulas.specs.Prelude.{statement_of}
 use Rattle.hol_kernel.specs.Theorem.{Theorem, theorem_over}
@@ -52,7 +52,7 @@ trans_sides basis hs (Some x) None = None
 trans_sides basis hs None y = None
 
 abbrev pub trans_of : Theorem → Theorem → Option Theorem
-trans_of a b = trans_sides a.basis (set.union a.hyps b.hyps) (sides_of a.concl) (sides_of b.concl)
+trans_of a b = trans_sides a.basis (set.union a.hyps b.hyps) (dest_eq a.concl) (dest_eq b.concl)
 
 -- MK_COMB: from f = g and x = y, where the type of x is that of f's argument, f x = g y
 abbrev pub comb_parts : Items → Hyps → Sides → Sides → Option (TypeTree × TypeTree) → Option Theorem
@@ -65,7 +65,7 @@ comb_sides basis hs (Some x) None = None
 comb_sides basis hs None y = None
 
 abbrev pub mk_comb_of : Theorem → Theorem → Option Theorem
-mk_comb_of a b = comb_sides a.basis (set.union a.hyps b.hyps) (sides_of a.concl) (sides_of b.concl)
+mk_comb_of a b = comb_sides a.basis (set.union a.hyps b.hyps) (dest_eq a.concl) (dest_eq b.concl)
 
 -- ABS: from l = r, for a variable v of a type of the basis that is free in no hypothesis, (\v. l) = (\v. r)
 abbrev pub abs_sides : List ℕ × TypeTree → Items → Hyps → Option Sides → Option Theorem
@@ -74,7 +74,7 @@ abs_sides v basis hs (Some x) =
 abs_sides v basis hs None = None
 
 abbrev pub abs_of : Named → Theorem → Option Theorem
-abs_of (var v) a = abs_sides v a.basis a.hyps (sides_of a.concl)
+abs_of (var v) a = abs_sides v a.basis a.hyps (dest_eq a.concl)
 abs_of (constant c s) a = None
 abs_of (comb f x) a = None
 abs_of (abs v b) a = None
@@ -85,7 +85,7 @@ eq_mp_sides basis hs (Some x) m = cond (alpha_eq x.left m) (Some (theorem_over b
 eq_mp_sides basis hs None m = None
 
 abbrev pub eq_mp_of : Theorem → Theorem → Option Theorem
-eq_mp_of a b = eq_mp_sides a.basis (set.union a.hyps b.hyps) (sides_of a.concl) b.concl
+eq_mp_of a b = eq_mp_sides a.basis (set.union a.hyps b.hyps) (dest_eq a.concl) b.concl
 
 -- DEDUCT_ANTISYM_RULE: from A |- p and B |- q, (A - q) u (B - p) |- p = q
 abbrev pub deduct_antisym_of : Theorem → Theorem → Theorem

@@ -9,11 +9,11 @@ ghost use Rattle.hol_kernel.specs.Clashing.{axiom_at, axiom_in};
 ghost use Rattle.hol_kernel.specs.declared.error.Rule.TheVariants as rule;
 
 use crate::basis::Basis;
-use hol_formulas::copy_of;
 use crate::error::{KernelError, Rule};
 use crate::hypotheses::Hypotheses;
 use crate::item::{Item, ItemNode};
 use crate::thm::Thm;
+use hol_formulas::copy_of;
 use hol_terms::Term;
 use hol_types::Name;
 use std::alloc::{AllocError, Global};

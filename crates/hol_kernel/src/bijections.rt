@@ -3,12 +3,10 @@ ghost use Rattle.std.specs.Prelude.{◌≡◌, IfOk, Some, []};
 ghost use Rattle.hol_types.specs.Fun.{fun_type};
 ghost use Rattle.hol_terms.specs.Named.{constant, comb, named_type};
 ghost use Rattle.hol_terms.specs.Nameless.{nameless};
-ghost use Rattle.hol_formulas.specs.Equation.{bool_type, named_equation};
+ghost use Rattle.hol_formulas.specs.Equation.{bool_type, mk_eq};
 ghost use Rattle.hol_kernel.specs.Bijections.{abs_rep, rep_abs};
 
-use hol_formulas::{application, constant};
-use hol_formulas::equivalence;
-use hol_formulas::{equal, occurrence, variable};
+use hol_formulas::{application, constant, mk_eq, mk_iff, occurrence, variable};
 use hol_terms::Term;
 use hol_types::{Name, Ty};
 use std::alloc::{AllocError, Global};
@@ -30,7 +28,7 @@ pub fn abs_rep(
     let a = occurrence(alloc, &v)?;
     let inner = image(alloc, rep, new, old, &a)?;
     let outer = image(alloc, abs, old, new, &inner)?;
-    equal(alloc, new, &outer, &a)
+    mk_eq(alloc, new, &outer, &a)
 }
 
 /// `P r = (rep (abs r) = r)`, for a variable `r` of the type that the predicate is about.
@@ -53,7 +51,7 @@ pub fn rep_abs(
     let r = occurrence(alloc, &v)?;
     let left = application(alloc, predicate, &r)?;
     let right = returns(alloc, abs, rep, old, new, &r)?;
-    equivalence(alloc, &left, &right)
+    mk_iff(alloc, &left, &right)
 }
 
 // `rep (abs r) = r`.
@@ -66,12 +64,12 @@ fn returns(
     r: &Term,
 ) -> Result<Term, AllocError>
     requires { named_type r.now ≡ Some old.now }
-    ensures is { IfOk result (λ t. t ≡ named_equation old.now (comb (constant rep.now (fun_type new.now old.now)) (comb (constant abs.now (fun_type old.now new.now)) r.now)) r.now) }
+    ensures is { IfOk result (λ t. t ≡ mk_eq old.now (comb (constant rep.now (fun_type new.now old.now)) (comb (constant abs.now (fun_type old.now new.now)) r.now)) r.now) }
     ensures typed { IfOk result (λ t. named_type t ≡ Some bool_type) }
 {
     let inner = image(alloc, abs, old, new, r)?;
     let outer = image(alloc, rep, new, old, &inner)?;
-    equal(alloc, old, &outer, r)
+    mk_eq(alloc, old, &outer, r)
 }
 
 // The constant of the name, a function from the one type to the other, at the term.

@@ -11,11 +11,11 @@ ghost use Rattle.hol_kernel.specs.Clashing.{key_at, is_new};
 ghost use Rattle.hol_kernel.specs.declared.error.Rule.TheVariants as rule;
 
 use crate::basis::Basis;
-use hol_formulas::copy_of;
 use crate::error::{KernelError, Rule};
 use crate::item::{Item, ItemNode};
 use crate::kind::Kind;
 use crate::prelude;
+use hol_formulas::copy_of;
 use hol_terms::Term;
 use hol_types::{Name, Ty};
 use std::alloc::{AllocError, Global};

@@ -16,13 +16,13 @@ ghost use Rattle.hol_kernel.specs.Defining.{is_closed, are_among, is_definable};
 ghost use Rattle.hol_kernel.specs.declared.error.Rule.TheVariants as rule;
 
 use crate::basis::Basis;
-use hol_formulas::{constant, copy_of, equation};
 use crate::error::{KernelError, Rule};
 use crate::hypotheses::Hypotheses;
 use crate::item::{Item, ItemNode};
 use crate::kind::Kind;
 use crate::term_tyvars::term_tyvars;
 use crate::thm::Thm;
+use hol_formulas::{constant, copy_of, mk_eq};
 use hol_terms::Term;
 use hol_types::{Name, Ty};
 use std::alloc::{AllocError, Global};
@@ -86,7 +86,7 @@ impl Basis {
         ensures { IfOk result (λ th. th ≡ theorem_over self.now no_hyps (equation ty.now (fixed name.now ty.now) (nameless [] right.now))) }
     {
         let left = constant(alloc, name, ty)?;
-        let concl = equation(alloc, ty, &left, right)?;
+        let concl = mk_eq(alloc, ty, &left, right)?;
         let own = self.copy()?;
         let hyps = Hypotheses::none(alloc)?;
         Ok(Thm::made(own, hyps, concl))

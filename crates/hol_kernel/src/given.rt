@@ -6,9 +6,9 @@ ghost use Rattle.hol_kernel.specs.Gives.{Gives};
 ghost use Rattle.hol_kernel.specs.declared.error.Rule.TheVariants as rule;
 
 use crate::basis::Basis;
-use hol_formulas::{copy_of, is_bool};
 use crate::error::{KernelError, Rule};
 use crate::thm::Thm;
+use hol_formulas::{copy_of, is_bool};
 use hol_terms::Term;
 use std::alloc::{AllocError, Global};
 use std::marker::Model;

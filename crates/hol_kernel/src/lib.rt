@@ -25,9 +25,8 @@ mod type_definition;
 pub use basis::Basis;
 pub use error::{KernelError, Rule};
 pub use given::{Given, GivenNode};
+pub use hol_formulas::{Postulate, instances_are_substitutions, prelude_constants, prelude_types};
 pub use item::{Item, ItemNode};
 pub use kind::Kind;
-
-pub use hol_formulas::{Postulate, instances_are_substitutions, prelude_constants, prelude_types};
 pub use thm::Thm;
 pub use type_definition::TypeDefinition;

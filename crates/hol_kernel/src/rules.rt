@@ -6,11 +6,10 @@ ghost use Rattle.hol_kernel.specs.Gives.{Gives};
 ghost use Rattle.hol_kernel.specs.declared.error.Rule.TheVariants as rule;
 
 use crate::basis::Basis;
-use hol_formulas::{abstraction, application, copy_of, dest_eq, equation, is_bool};
 use crate::error::{KernelError, Rule};
 use crate::hypotheses::Hypotheses;
-use hol_formulas::bool_type;
 use crate::thm::Thm;
+use hol_formulas::{abstraction, application, bool_type, copy_of, dest_eq, is_bool, mk_eq};
 use hol_terms::{Term, TermNode};
 use hol_types::Ty;
 use std::alloc::Global;
@@ -27,7 +26,7 @@ impl Thm {
         if !basis.is_typed(alloc, term)? {
             return Err(KernelError::Refused(Rule::Refl));
         }
-        let concl = equation(alloc, term.type_of(), term, term)?;
+        let concl = mk_eq(alloc, term.type_of(), term, term)?;
         let basis = basis.copy()?;
         let hyps = Hypotheses::none(alloc)?;
         Ok(Thm::made(basis, hyps, concl))
@@ -71,7 +70,7 @@ impl Thm {
         if !x.right.alpha_equivalent(y.left) {
             return Err(KernelError::Refused(Rule::Trans));
         }
-        let concl = equation(alloc, x.ty, x.left, y.right)?;
+        let concl = mk_eq(alloc, x.ty, x.left, y.right)?;
         let basis = a.basis().copy()?;
         let hyps = a.hypotheses().union(alloc, b.hypotheses())?;
         Ok(Thm::made(basis, hyps, concl))
@@ -102,7 +101,7 @@ impl Thm {
         }
         let left = application(alloc, x.left, y.left)?;
         let right = application(alloc, x.right, y.right)?;
-        let concl = equation(alloc, range, &left, &right)?;
+        let concl = mk_eq(alloc, range, &left, &right)?;
         let basis = a.basis().copy()?;
         let hyps = a.hypotheses().union(alloc, b.hypotheses())?;
         Ok(Thm::made(basis, hyps, concl))
@@ -130,7 +129,7 @@ impl Thm {
         let left = abstraction(alloc, variable, x.left)?;
         let right = abstraction(alloc, variable, x.right)?;
         let ty = Ty::fun(alloc, variable.ty(), x.ty)?;
-        let concl = equation(alloc, &ty, &left, &right)?;
+        let concl = mk_eq(alloc, &ty, &left, &right)?;
         let basis = a.basis().copy()?;
         let hyps = a.hypotheses().copy()?;
         Ok(Thm::made(basis, hyps, concl))
@@ -158,7 +157,7 @@ impl Thm {
         if !basis.is_typed(alloc, redex)? {
             return Err(KernelError::Refused(Rule::Beta));
         }
-        let concl = equation(alloc, redex.type_of(), redex, body)?;
+        let concl = mk_eq(alloc, redex.type_of(), redex, body)?;
         let basis = basis.copy()?;
         let hyps = Hypotheses::none(alloc)?;
         Ok(Thm::made(basis, hyps, concl))
@@ -200,7 +199,7 @@ impl Thm {
         let first = a.hypotheses().without(alloc, b.concl())?;
         let second = b.hypotheses().without(alloc, a.concl())?;
         let truth = bool_type(alloc)?;
-        let concl = equation(alloc, &truth, a.concl(), b.concl())?;
+        let concl = mk_eq(alloc, &truth, a.concl(), b.concl())?;
         let basis = a.basis().copy()?;
         let hyps = first.union(alloc, &second)?;
         Ok(Thm::made(basis, hyps, concl))

@@ -8,8 +8,8 @@ ghost use Rattle.hol_formulas.specs.Equation.{bool_type};
 ghost use Rattle.hol_kernel.specs.Theorem.{theorem_over, IsDerived, IsTheorem, IsWellTyped};
 
 use crate::basis::Basis;
-use hol_formulas::copy_of;
 use crate::hypotheses::Hypotheses;
+use hol_formulas::copy_of;
 use hol_terms::Term;
 use std::alloc::AllocError;
 use std::marker::Model;

@@ -4,7 +4,7 @@ use Rattle.hol_types.specs.Fun.{fun_type}
 use Rattle.hol_terms.specs.Named.{abs, var}
 use Rattle.hol_terms.specs.Nameless.{nameless}
 use Rattle.hol_subst.specs.Variant.{is_free_in}
-use Rattle.hol_formulas.specs.Equation.{named_equation}
+use Rattle.hol_formulas.specs.Equation.{mk_eq}
 use Rattle.hol_kernel.specs.Typing.{is_type}
 use Rattle.hol_kernel.specs.Theorem.{theorem_over}
 use Rattle.hol_kernel.specs.Rules.{abs_of}
@@ -15,7 +15,7 @@ pub made-requires : goal.made-requires
 made-requires c =
     let typed : is_type c.args.a.now.basis c.in-Var.variable.1 ≡ true = search rules in
     let fresh : is_free_in (set.items c.args.a.now.hyps) c.in-Var.variable ≡ false = search rules in
-    let concl : c.in_ok-concl.concl ≡ named_equation (fun_type c.in-Var.variable.1 c.in-Some.x.ty.now) (abs c.in-Var.variable c.in-Some.x.left.now) (abs c.in-Var.variable c.in-Some.x.right.now) = search rules in
+    let concl : c.in_ok-concl.concl ≡ mk_eq (fun_type c.in-Var.variable.1 c.in-Some.x.ty.now) (abs c.in-Var.variable c.in-Some.x.left.now) (abs c.in-Var.variable c.in-Some.x.right.now) = search rules in
     abs_derived c.in-Var.variable c.args.a.now c.in-Some.x.ty.now c.in-Some.x.left.now c.in-Some.x.right.now c.promise.ensures.derives (search rules) typed fresh c.in-Some.ensures.left c.in-Some.ensures.right
     c.in_ok-basis.basis c.in_ok-hyps.hyps c.in_ok-concl.concl (search rules) (search rules) concl
 
@@ -23,7 +23,7 @@ pub returns-clause-sequent : goal.returns-clause-sequent
 returns-clause-sequent c =
     let typed : is_type c.args.a.now.basis c.in-Var.variable.1 ≡ true = search rules in
     let fresh : is_free_in (set.items c.args.a.now.hyps) c.in-Var.variable ≡ false = search rules in
-    let concl : c.in_ok-concl.concl ≡ named_equation (fun_type c.in-Var.variable.1 c.in-Some.x.ty.now) (abs c.in-Var.variable c.in-Some.x.left.now) (abs c.in-Var.variable c.in-Some.x.right.now) = search rules in
+    let concl : c.in_ok-concl.concl ≡ mk_eq (fun_type c.in-Var.variable.1 c.in-Some.x.ty.now) (abs c.in-Var.variable c.in-Some.x.left.now) (abs c.in-Var.variable c.in-Some.x.right.now) = search rules in
     let is : c.args.v.now ≡ var c.in-Var.variable = search rules in
     let made : c.made.result ≡ theorem_over c.args.a.now.basis c.args.a.now.hyps (nameless [] c.in_ok-concl.concl) = search rules in
     ap (λ v. abs_of v c.args.a.now) is

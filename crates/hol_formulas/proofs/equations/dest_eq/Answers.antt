@@ -2,18 +2,18 @@ use Rattle.std.proofs.Common.{◌≡◌, [], Some, true, ap, sym, ◌∙◌, cod
 use Rattle.hol_types.specs.Fun.{fun_parts}
 use Rattle.hol_terms.specs.Named.{Named, constant, comb, named_type}
 use Rattle.hol_terms.specs.Nameless.{nameless}
-use Rattle.hol_formulas.specs.Equation.{sides_of}
+use Rattle.hol_formulas.specs.Equation.{dest_eq}
 use Rattle.hol_formulas.proofs.TakingApart.{IsEquation, equation_parts, sides_yes}
-use Rattle.hol_formulas.proofs.eq.dest_eq.Goals as goal
+use Rattle.hol_formulas.proofs.equations.dest_eq.Goals as goal
 
 -- the term taken apart
-term_is : (c : goal.Else-not-is_property) → c.args.term.now ≡ comb (comb (constant c.in-Const.name c.in-Const.ty) c.in-Comb-node.left) c.in-Comb.right
+term_is : (c : goal.Else-not-is_property_type) → c.args.term.now ≡ comb (comb (constant c.in-Const.name c.in-Const.ty) c.in-Comb-node.left) c.in-Comb.right
 term_is c = search rules
 
-parts_are : (c : goal.Else-not-is_property) → fun_parts c.in-Const.ty ≡ Some (c.in_ok-domain.domain.now, c.in_ok-domain.property.now)
+parts_are : (c : goal.Else-not-is_property_type) → fun_parts c.in-Const.ty ≡ Some (c.in_ok-domain.domain.now, c.in_ok-domain.property.now)
 parts_are c = search rules
 
-is_equation : (c : goal.Else-not-is_property) → IsEquation c.in-Comb-node.left c.in-Comb.right c.in_ok-domain.domain.now c.type_of-ty.result.now
+is_equation : (c : goal.Else-not-is_property_type) → IsEquation c.in-Comb-node.left c.in-Comb.right c.in_ok-domain.domain.now c.type_of-ty.result.now
 is_equation c =
     equation_parts c.in-Const.name c.in-Const.ty c.in-Comb-node.left c.in-Comb.right c.type_of-ty.result.now (c.in_ok-domain.domain.now, c.in_ok-domain.property.now)
     (ap named_type (sym (term_is c)) ∙ c.type_of-ty.ensures) (parts_are c) (search rules)
@@ -21,7 +21,7 @@ is_equation c =
 pub returns-clause-sides : goal.returns-clause-sides
 returns-clause-sides c =
     let name : bytes_eq c.in-Const.name (codes "=") ≡ true = search rules in
-    ap (λ (t : Named). sides_of (nameless [] t)) (term_is c)
+    ap (λ (t : Named). dest_eq (nameless [] t)) (term_is c)
     ∙ sides_yes c.in-Const.name c.in-Const.ty (nameless [] c.in-Comb-node.left) (nameless [] c.in-Comb.right) (c.in_ok-domain.domain.now, c.in_ok-domain.property.now) (parts_are c) name (search rules)
 
 pub returns-clause-left : goal.returns-clause-left

@@ -1,0 +1,83 @@
+//! Equations (basics.ml, mk_eq, dest_eq, is_eq; bool.ml, mk_iff).
+ghost use Rattle.std.specs.Prelude.{◌≡◌, IfOk, IfSome, MatchOption, Some, None, []};
+ghost use Rattle.hol_terms.specs.Named.{named_type};
+ghost use Rattle.hol_terms.specs.Nameless.{nameless};
+ghost use Rattle.hol_formulas.specs.Equation.{bool_type, mk_eq, dest_eq, is_eq};
+ghost use Rattle.hol_formulas.specs.Making.{mk_iff};
+
+use crate::terms::{application, constant_named};
+use crate::types::{bool_type, equality_type, is_property_type};
+use hol_terms::{Term, TermNode};
+use hol_types::Ty;
+use std::alloc::{AllocError, Global};
+
+/// `left = right`, for two terms of the type.
+#[tactic(auto, using(crate::proofs::PartTypes::applications))]
+pub fn mk_eq(alloc: Global, ty: &Ty, left: &Term, right: &Term) -> Result<Term, AllocError>
+    requires left { named_type left.now ≡ Some ty.now }
+    requires right { named_type right.now ≡ Some ty.now }
+    ensures is { IfOk result (λ t. t ≡ mk_eq ty.now left.now right.now) }
+    ensures typed { IfOk result (λ t. named_type t ≡ Some bool_type) }
+{
+    let sign_type = equality_type(alloc, ty)?;
+    let sign = constant_named(alloc, "=", &sign_type)?;
+    let applied = application(alloc, &sign, left)?;
+    application(alloc, &applied, right)
+}
+
+/// `p <=> q`: the equation of two terms of type `bool`.
+pub fn mk_iff(alloc: Global, p: &Term, q: &Term) -> Result<Term, AllocError>
+    requires first { named_type p.now ≡ Some bool_type }
+    requires second { named_type q.now ≡ Some bool_type }
+    ensures is { IfOk result (λ t. t ≡ mk_iff p.now q.now) }
+    ensures typed { IfOk result (λ t. named_type t ≡ Some bool_type) }
+{
+    let ty = bool_type(alloc)?;
+    mk_eq(alloc, &ty, p, q)
+}
+
+/// The sides of an equation and their type.
+#[derive(Clone, Copy)]
+pub struct Sides<'a> {
+    /// The type of both sides.
+    pub ty: &'a Ty,
+    /// The left side.
+    pub left: &'a Term,
+    /// The right side.
+    pub right: &'a Term,
+}
+
+/// The sides of the term, and `None` where it is no equation.
+#[tactic(auto, using(crate::proofs::TakingApart::sides_found))]
+pub fn dest_eq(term: &Term) -> Option<Sides<'_>>
+    ensures sides { MatchOption result (dest_eq (nameless [] term.now) ≡ None) (λ x. dest_eq (nameless [] term.now) ≡ Some (record { sides_type = x.ty.now; left = nameless [] x.left.now; right = nameless [] x.right.now })) }
+    ensures left { IfSome result (λ x. named_type x.left.now ≡ Some x.ty.now) }
+    ensures right { IfSome result (λ x. named_type x.right.now ≡ Some x.ty.now) }
+{
+    let _ty = term.type_of();
+    let TermNode::Comb(applied, right) = term.node() else {
+        return None;
+    };
+    let TermNode::Comb(equality, left) = applied.node() else {
+        return None;
+    };
+    let TermNode::Const(name, ty) = equality.node() else {
+        return None;
+    };
+    let (domain, property) = ty.dest_fun()?;
+    if name.as_str() != "=" || !is_property_type(property, domain) {
+        return None;
+    }
+    Some(Sides {
+        ty: domain,
+        left,
+        right,
+    })
+}
+
+/// Whether the term is an equation.
+pub fn is_eq(term: &Term) -> bool
+    ensures { result ≡ is_eq (nameless [] term.now) }
+{
+    dest_eq(term).is_some()
+}
