@@ -1,5 +1,5 @@
 -- Substitution under a binder, where the binder's variable may be renamed.
-use Rattle.std.proofs.Common.{◌≡◌, ℕ, ◌+◌, List, refl, ap, sym, ◌∙◌, Bool, true, false, cond, ◌||◌, arith}
+use Rattle.std.proofs.Common.{◌≡◌, ℕ, ◌+◌, List, [], refl, ap, sym, ◌∙◌, Bool, true, false, cond, ◌||◌, arith}
 use Rattle.hol_types.specs.Tree.{TypeTree}
 use Rattle.hol_types.specs.Equal.{variable_eq}
 use Rattle.hol_terms.specs.Nameless.{Nameless, free, bound, fixed, app, lam, free_occurrences}
@@ -80,3 +80,11 @@ subst_agree ps qs k (app f x) h = λ i. app
     (subst_agree ps qs k f (λ w g. h w (free_left w f x g)) i)
     (subst_agree ps qs k x (λ w g. h w (free_right w f x g)) i)
 subst_agree ps qs k (lam a s b) h = ap (lam a s) (subst_agree ps qs (k + 1) b h)
+
+-- without pairs nothing is substituted
+pub subst_nothing : (k : ℕ) (n : Nameless) → term_subst [] k n ≡ n
+subst_nothing k (free v) = refl
+subst_nothing k (bound i) = refl
+subst_nothing k (fixed c s) = refl
+subst_nothing k (app f x) = λ i. app (subst_nothing k f i) (subst_nothing k x i)
+subst_nothing k (lam a s b) = ap (lam a s) (subst_nothing (k + 1) b)

@@ -10,12 +10,14 @@ use Rattle.hol_terms.specs.Nameless.{Nameless, bound, app, lam, base_of, place, 
 use Rattle.hol_terms.specs.Scoped.{binds, occurs_in, add_new, add_all}
 use Rattle.hol_terms.proofs.Same.{variable_eq_decides}
 use Rattle.hol_terms.proofs.Occurs.{binds-append, occurs_is}
+use Rattle.hol_terms.proofs.Primes.{base_with_primes, fewest_other}
 use Rattle.hol_terms.proofs.Typing.{comb_type, abs_type}
 use Rattle.hol_subst.specs.Variant.{is_free_in, IsVariant}
 use Rattle.hol_subst.specs.Substitution.{variable_inst, types_inst}
+use Rattle.hol_subst.specs.Substituted.{Captures, IsBinder, put, IsInst}
 use Rattle.hol_subst.specs.Renaming.{image, images_without, KeepsTypes, KeepsPlaces, IsInstance}
 use Rattle.hol_subst.proofs.Closing.{eq_same, eq_flip, or_false}
-use Rattle.hol_subst.proofs.Taken.{base_with_primes}
+use Rattle.hol_subst.proofs.Binders.{substituted_agree}
 use Rattle.hol_subst.proofs.TypesInst.{applied_inst, or_left, or_right}
 
 abbrev Var : Type 0
@@ -74,6 +76,84 @@ module _ (pairs : List (TypeTree × List ℕ)) (old new : Variables) (v u : Var)
   pub apart_in : (b : Named) → is_free_in (map (λ t. nameless [] t) (images_without pairs old new v (add_all [] (free_occurrences (nameless [] b))))) u ≡ false → (w : Var) → occurs_in w b ≡ true → variable_eq v w ≡ false → variable_eq u (image pairs old new w) ≡ false
   apart_in b e w o d = apart_from (add_all [] (free_occurrences (nameless [] b))) e w (all_there [] (free_occurrences (nameless [] b)) w (sym (occurs_is w b) ∙ o)) d
 
+-- each variable of a list without repetitions is one of the list's or was there
+was_there : (vs : Variables) (x w : Var) → binds (add_new vs x) w ≡ true → (binds vs w || variable_eq x w) ≡ true
+was_there vs x w h = by (binds vs x) h
+  where
+    one : (a b : Bool) → (a || (b || false)) ≡ true → (a || b) ≡ true
+    one true b e = refl
+    one false true e = refl
+    one false false e = e
+
+    by : (t : Bool) → binds (cond t vs (vs ++ x ∷ [])) w ≡ true → (binds vs w || variable_eq x w) ≡ true
+    by true e = or_left (binds vs w) (variable_eq x w) e
+    by false e = one (binds vs w) (variable_eq x w) (sym (binds-append vs (x ∷ []) w) ∙ e)
+
+all_from : (vs ws : Variables) (w : Var) → binds (add_all vs ws) w ≡ true → (binds vs w || binds ws w) ≡ true
+all_from vs [] w h = or_left (binds vs w) false h
+all_from vs (x ∷ ws) w h = by (binds vs w) (variable_eq x w) (was_there vs x w) (all_from (add_new vs x) ws w h)
+  where
+    by : (a b : Bool) → (binds (add_new vs x) w ≡ true → (a || b) ≡ true) → (binds (add_new vs x) w || binds ws w) ≡ true → (a || (b || binds ws w)) ≡ true
+    by true b f e = refl
+    by false true f e = refl
+    by false false f e = rest (binds (add_new vs x) w) refl e
+      where
+        rest : (t : Bool) → binds (add_new vs x) w ≡ t → (t || binds ws w) ≡ true → binds ws w ≡ true
+        rest true p q = let z : false ≡ true = f p in absurd (cc)
+        rest false p q = q
+
+module _ (pairs : List (TypeTree × List ℕ)) (old new : Variables) (v : Var) where
+  -- what is free in what stands for one of the other variables
+  record IsImageOf (ws : Variables) (u : Var) : Type 0 where
+    of : Var
+    in_list : binds ws of ≡ true
+    differs : variable_eq v of ≡ false
+    is : variable_eq (image pairs old new of) u ≡ true
+
+  image_found : (ws : Variables) (u : Var) → is_free_in (map (λ t. nameless [] t) (images_without pairs old new v ws)) u ≡ true → IsImageOf ws u
+  image_found [] u e = absurd (cc)
+  image_found (x ∷ ws) u e = by (variable_eq x v) refl e (image_found ws u)
+    where
+      later : IsImageOf ws u → IsImageOf (x ∷ ws) u
+      later i = record { of = i.of; in_list = or_right (variable_eq x i.of) (binds ws i.of) i.in_list; differs = i.differs; is = i.is }
+
+      here : (is_free_in (map (λ t. nameless [] t) (images_without pairs old new v ws)) u ≡ true → IsImageOf ws u) → (a b : Bool) → variable_eq x v ≡ false → variable_eq (image pairs old new x) u ≡ a → is_free_in (map (λ t. nameless [] t) (images_without pairs old new v ws)) u ≡ b → ((a || false) || b) ≡ true → IsImageOf (x ∷ ws) u
+      here r true b d p q f = record { of = x; in_list = or_left (variable_eq x x) (binds ws x) (eq_same x); differs = eq_flip v x ∙ d; is = p }
+      here r false true d p q f = later (r q)
+      here r false false d p q f = absurd (cc)
+
+      by : (t : Bool) → variable_eq x v ≡ t → is_free_in (map (λ t. nameless [] t) (cond t (images_without pairs old new v ws) (var (image pairs old new x) ∷ images_without pairs old new v ws))) u ≡ true → (is_free_in (map (λ t. nameless [] t) (images_without pairs old new v ws)) u ≡ true → IsImageOf ws u) → IsImageOf (x ∷ ws) u
+      by true d f r = later (r f)
+      by false d f r = here r (variable_eq (image pairs old new x) u) (is_free_in (map (λ t. nameless [] t) (images_without pairs old new v ws)) u) d refl refl f
+
+  avoided_captured : (b : Named) (u : Var) → is_free_in (map (λ t. nameless [] t) (images_without pairs old new v (add_all [] (free_occurrences (nameless [] b))))) u ≡ true → Captures (λ x. var (image pairs old new x)) v b u
+  avoided_captured b u e = by (image_found (add_all [] (free_occurrences (nameless [] b))) u e)
+    where
+      by : IsImageOf (add_all [] (free_occurrences (nameless [] b))) u → Captures (λ x. var (image pairs old new x)) v b u
+      by i = record { other = i.of; in_body = occurs_is i.of b ∙ all_from [] (free_occurrences (nameless [] b)) i.of i.in_list; differs = i.differs; comes = i.is }
+
+  captured_avoided : (b : Named) (u : Var) → Captures (λ x. var (image pairs old new x)) v b u → is_free_in (map (λ t. nameless [] t) (images_without pairs old new v (add_all [] (free_occurrences (nameless [] b))))) u ≡ true
+  captured_avoided b u c = by (is_free_in (map (λ t. nameless [] t) (images_without pairs old new v (add_all [] (free_occurrences (nameless [] b))))) u) refl
+    where
+      by : (t : Bool) → is_free_in (map (λ t. nameless [] t) (images_without pairs old new v (add_all [] (free_occurrences (nameless [] b))))) u ≡ t → t ≡ true
+      by true e = refl
+      by false e =
+          let z : true ≡ false = sym c.comes ∙ eq_flip (image pairs old new c.other) u ∙ apart_in pairs old new v u b e c.other c.in_body c.differs in
+          absurd (cc)
+
+  -- so the binder is a variant over these
+  variant_binder : (u : Var) (b : Named) → IsVariant (map (λ t. nameless [] t) (images_without pairs old new v (add_all [] (free_occurrences (nameless [] b))))) (variable_inst pairs v) u → IsBinder (λ x. var (image pairs old new x)) v (type_subst pairs v.1) b u
+  variant_binder u b h = record {
+    type_is = h.same_type;
+    name = fewest_other
+        (λ a. is_free_in (map (λ t. nameless [] t) (images_without pairs old new v (add_all [] (free_occurrences (nameless [] b))))) (a, type_subst pairs v.1) ≡ true)
+        (λ a. Captures (λ x. var (image pairs old new x)) v b (a, type_subst pairs v.1))
+        v.0 u.0
+        (λ a e. avoided_captured b (a, type_subst pairs v.1) e)
+        (λ a c. captured_avoided b (a, type_subst pairs v.1) c)
+        h.name;
+  }
+
 -- ---- types
 pub image_type : (pairs : List (TypeTree × List ℕ)) (old new : Variables) (v : Var) → KeepsTypes pairs old new → (image pairs old new v).1 ≡ type_subst pairs v.1
 image_type pairs [] new v h = refl
@@ -90,10 +170,11 @@ module _ (pairs : List (TypeTree × List ℕ)) (old new : Variables) where
   instance_var v h = record {
     types = λ s e. ap Some (image_type pairs old new v h) ∙ ap (option_map (type_subst pairs)) e;
     terms = λ k. k v (eq_same v) 0;
+    names = refl;
   }
 
   pub instance_constant : (c : List ℕ) (s : TypeTree) → IsInstance pairs old new (constant c s) (constant c (type_subst pairs s))
-  instance_constant c s = record { types = λ t e. ap (option_map (type_subst pairs)) e; terms = λ k. refl }
+  instance_constant c s = record { types = λ t e. ap (option_map (type_subst pairs)) e; terms = λ k. refl; names = refl }
 
   comb_types : (f x g y : Named) → IsInstance pairs old new f g → IsInstance pairs old new x y → (o q : Option TypeTree) → named_type f ≡ o → named_type x ≡ q → (s : TypeTree) → option_and_then (λ r. option_and_then (λ t. applied_type r t) q) o ≡ Some s → named_type (comb g y) ≡ Some (type_subst pairs s)
   comb_types f x g y m n None q a b s e = absurd (cc)
@@ -104,6 +185,7 @@ module _ (pairs : List (TypeTree × List ℕ)) (old new : Variables) where
   instance_comb f x g y m n = record {
     types = comb_types f x g y m n (named_type f) (named_type x) refl refl;
     terms = λ k i. app (m.terms (λ w o. k w (or_left (occurs_in w f) (occurs_in w x) o)) i) (n.terms (λ w o. k w (or_right (occurs_in w f) (occurs_in w x) o)) i);
+    names = (g, y, refl, m.names, n.names);
   }
 
   abs_types : (v u : Var) (b c : Named) → u.1 ≡ type_subst pairs v.1 → IsInstance pairs (v ∷ old) (u ∷ new) b c → (o : Option TypeTree) → named_type b ≡ o → (s : TypeTree) → option_map (λ t. fun_type v.1 t) o ≡ Some s → named_type (abs u c) ≡ Some (type_subst pairs s)
@@ -120,22 +202,44 @@ module _ (pairs : List (TypeTree × List ℕ)) (old new : Variables) where
       by true e = rw (eq_same u) refl
       by false e = rw (apart w o e) (k w (rw e o) (i + 1))
 
-  pub instance_abs : (v u : Var) (b c : Named) → u.1 ≡ type_subst pairs v.1 → base_of u.0 ≡ base_of v.0 → ((w : Var) → occurs_in w b ≡ true → variable_eq v w ≡ false → variable_eq u (image pairs old new w) ≡ false) → IsInstance pairs (v ∷ old) (u ∷ new) b c → IsInstance pairs old new (abs v b) (abs u c)
-  instance_abs v u b c p q apart m = record {
-    types = abs_types v u b c p m (named_type b) refl;
-    terms = λ k i. lam (q i) (p i) (m.terms (keeps_inside v u b apart k) i);
+  -- what stands for the variables under one binder more
+  pub image_put : (v u w : Var) → var (image pairs (v ∷ old) (u ∷ new) w) ≡ put v u (λ x. var (image pairs old new x)) w
+  image_put v u w = by (variable_eq v w)
+    where
+      by : (d : Bool) → var (cond d u (image pairs old new w)) ≡ cond d (var u) (var (image pairs old new w))
+      by true = refl
+      by false = refl
+
+  pub instance_abs : (v u : Var) (b c : Named) → base_of u.0 ≡ base_of v.0 → IsBinder (λ x. var (image pairs old new x)) v (type_subst pairs v.1) b u → IsInstance pairs (v ∷ old) (u ∷ new) b c → IsInstance pairs old new (abs v b) (abs u c)
+  instance_abs v u b c q i m = record {
+    types = abs_types v u b c i.type_is m (named_type b) refl;
+    terms = λ k j. lam (q j) (i.type_is j) (m.terms (keeps_inside v u b apart k) j);
+    names = (u, c, refl, i, substituted_agree (λ w. var (image pairs (v ∷ old) (u ∷ new) w)) (put v u (λ w. var (image pairs old new w))) (λ s. type_subst pairs s) b c (λ w o. image_put v u w) m.names);
   }
+    where
+      own : (u.0, type_subst pairs v.1) ≡ u
+      own j = (u.0, sym i.type_is j)
+
+      apart : (w : Var) → occurs_in w b ≡ true → variable_eq v w ≡ false → variable_eq u (image pairs old new w) ≡ false
+      apart w o d = by (variable_eq u (image pairs old new w)) refl
+        where
+          by : (t : Bool) → variable_eq u (image pairs old new w) ≡ t → variable_eq u (image pairs old new w) ≡ false
+          by true e =
+              let comes : variable_eq (image pairs old new w) u ≡ true = eq_flip (image pairs old new w) u ∙ e in
+              let captured : Captures (λ x. var (image pairs old new x)) v b u = record { other = w; in_body = o; differs = d; comes = comes } in
+              absurd (i.name.fresh (subst (λ (x : Var). Captures (λ y. var (image pairs old new y)) v b x) (sym own) captured))
+          by false e = e
 
 -- outside all binders nothing can be captured
 pub instance_outside : (pairs : List (TypeTree × List ℕ)) (t r : Named) → IsInstance pairs [] [] t r → nameless [] r ≡ types_inst pairs (nameless [] t)
 instance_outside pairs t r m = m.terms (λ w o i. refl)
 
+pub names_outside : (pairs : List (TypeTree × List ℕ)) (t r : Named) → IsInstance pairs [] [] t r → IsInst pairs t r
+names_outside pairs t r m = m.names
+
 -- ---- base names
 pub variant_base : (avoid : Avoided) (v u : Var) → IsVariant avoid v u → base_of u.0 ≡ base_of v.0
-variant_base avoid v u h = ap (λ w. base_of w.0) h.is ∙ base_with_primes h.primes v.0
-
-pub variant_type : (avoid : Avoided) (v u : Var) → IsVariant avoid v u → u.1 ≡ v.1
-variant_type avoid v u h = ap (λ w. w.1) h.is
+variant_base avoid v u h = ap base_of h.name.is ∙ base_with_primes h.name.primes v.0
 
 -- ---- the same for what the code has at its ends: an option, which is none where nothing changed
 module _ (pairs : List (TypeTree × List ℕ)) (old new : Variables) where
@@ -161,7 +265,7 @@ module _ (pairs : List (TypeTree × List ℕ)) (old new : Variables) where
       → IsInstance pairs old new (abs v b) (unwrap_or o (abs v b))
   abstraction_part v u b c o h m q =
       let avoid : List Nameless = map (λ t. nameless [] t) (images_without pairs old new v (add_all [] (free_occurrences (nameless [] b)))) in
-      let whole : IsInstance pairs old new (abs v b) (abs u (unwrap_or c b)) = instance_abs pairs old new v u b (unwrap_or c b) (variant_type avoid (variable_inst pairs v) u h) (variant_base avoid (variable_inst pairs v) u h) (apart_in pairs old new v u b h.fresh) m in
+      let whole : IsInstance pairs old new (abs v b) (abs u (unwrap_or c b)) = instance_abs pairs old new v u b (unwrap_or c b) (variant_base avoid (variable_inst pairs v) u h) (variant_binder pairs old new v u b h) m in
       subst (λ (r : Named). IsInstance pairs old new (abs v b) r) (sym q) whole
 
   pub abstraction_at : (v u : Var) (b t : Named) (c o : Option Named) → t ≡ abs v b

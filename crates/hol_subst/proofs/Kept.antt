@@ -20,6 +20,7 @@ use Rattle.hol_subst.specs.Substitution.{types_inst}
 use Rattle.hol_subst.specs.Renaming.{image, KeepsPlaces, IsInstance, HasRenamed}
 use Rattle.hol_subst.proofs.Closing.{eq_same}
 use Rattle.hol_subst.proofs.InstSteps.{keeps_inside}
+use Rattle.hol_subst.proofs.Binders.{TypesStay, stays}
 use Rattle.hol_subst.proofs.TypesInst.{applied_is, or_left, or_right}
 
 abbrev Var : Type 0
@@ -77,6 +78,12 @@ module _ (pairs : List (TypeTree × List ℕ)) where
           let is : fun_type v.1 t ≡ s = cc in
           ap (type_subst pairs) (sym is) ∙ (λ j. fun_type (own j) (body j)) ∙ is
 
+  types_stay : (t : Named) → Types (type_filter_of t) → TypesStay (λ r. type_subst pairs r) t
+  types_stay (var v) h = tt
+  types_stay (constant c s) h = sym (kept_free s h)
+  types_stay (comb f x) h = (types_stay f (left (type_filter_of f) (type_filter_of x) h), types_stay x (right (type_filter_of f) (type_filter_of x) h))
+  types_stay (abs v b) h = (sym (kept_free v.1 (left (type_filter v.1) (type_filter_of b) h)), types_stay b (right (type_filter v.1) (type_filter_of b) h))
+
   -- a free variable's type is one of the term's
   free_type : (w : Var) (t : Named) → occurs_in w t ≡ true → Types (type_filter_of t) → Types (type_filter w.1)
   free_type w (var v) o h = subst (λ (u : Var). Types (type_filter u.1)) ((variable_eq_decides v w).0 o) h
@@ -128,6 +135,7 @@ module _ (pairs : List (TypeTree × List ℕ)) where
       record {
         types = λ s g. g ∙ ap Some (sym (kept_type_of t s types g));
         terms = λ k. kept_under old new t types stay k;
+        names = stays (λ w. var (image pairs old new w)) (λ r. type_subst pairs r) t (types_stay t types) (λ w o. ap var (stay w o));
       }
 
   -- ---- what is renamed

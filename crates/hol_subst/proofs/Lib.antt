@@ -13,3 +13,4 @@ pub mod Strip
 pub mod TypesInst
 pub mod InstSteps
 pub mod Kept
+pub mod Binders

@@ -1,18 +1,17 @@
 -- Lists of pairs that are built one after another.
-use Rattle.std.proofs.Common.{◌≡◌, ℕ, zero, suc, ◌+◌, ◌<◌, ◌≤◌, List, [], ◌∷◌, ◌++◌, length, drop, get_or, drop-cons, add-one, refl, ap, sym, ◌∙◌, Bool, true, false, cond, ◌||◌, subst, Option, Some, None, unwrap_or, inl, inr, ◌⊎◌, arith}
+use Rattle.std.proofs.Common.{◌≡◌, ℕ, zero, suc, ◌+◌, ◌<◌, ◌≤◌, List, [], ◌∷◌, ◌++◌, length, drop, get_or, drop-cons, add-one, refl, ap, sym, ◌∙◌, Bool, true, false, cond, ◌||◌, subst, Option, Some, None, inl, inr, ◌⊎◌, arith}
 use Rattle.std.proofs.lemmas.List.{append-nil, append_assoc}
 use Rattle.std.specs.Bool.{Decides}
 use Rattle.hol_types.specs.Tree.{TypeTree}
 use Rattle.hol_types.specs.Equal.{type_eq, variable_eq}
 use Rattle.hol_types.proofs.OrderLaws.{type_cmp_decides}
 use Rattle.hol_terms.specs.Named.{Named, var, constant, comb, abs, named_type}
-use Rattle.hol_terms.specs.Nameless.{Nameless, free, nameless}
 use Rattle.hol_terms.specs.Scoped.{occurs_in}
 use Rattle.hol_terms.proofs.Same.{variable_eq_decides}
-use Rattle.hol_subst.specs.Substitution.{term_lookup}
-use Rattle.hol_subst.specs.Pairs.{nameless_pairs, IsGoodPair, HasBadPair, pair_before}
-use Rattle.hol_subst.specs.Capture.{named_pairs, Fit, has_pair, IsRest}
-use Rattle.hol_subst.proofs.Closing.{or_false}
+use Rattle.hol_subst.specs.Pairs.{IsGoodPair, HasBadPair}
+use Rattle.hol_subst.specs.Capture.{given_or, given, Fit, has_pair, IsRest}
+use Rattle.hol_subst.specs.Substituted.{named_at, named_for}
+use Rattle.hol_subst.proofs.Closing.{or_false, eq_flip}
 
 abbrev Var : Type 0
 Var = List ℕ × TypeTree
@@ -31,104 +30,102 @@ drop-all (x ∷ xs) zero l = absurd (omega arith)
 drop-all (x ∷ xs) (suc i) l = drop-all xs i (omega arith)
 
 -- ---- appended pairs
-abbrev or_else : Option Nameless → Option Nameless → Option Nameless
-or_else None o = o
-or_else (Some n) o = Some n
-
-lookup-append : (ps qs : NamedPairs) (w : Var) → term_lookup (named_pairs (ps ++ qs)) w ≡ or_else (term_lookup (named_pairs ps) w) (term_lookup (named_pairs qs) w)
-lookup-append [] qs w = refl
-lookup-append (p ∷ ps) qs w = by (variable_eq p.1 w) (lookup-append ps qs w)
+pub has_append : (ps qs : List (Named × (List ℕ × TypeTree))) (w : List ℕ × TypeTree) → has_pair (ps ++ qs) w ≡ (has_pair ps w || has_pair qs w)
+has_append [] qs w = refl
+has_append (p ∷ ps) qs w = by (variable_eq p.1 w) (has_append ps qs w)
   where
-    by : (b : Bool) → term_lookup (named_pairs (ps ++ qs)) w ≡ or_else (term_lookup (named_pairs ps) w) (term_lookup (named_pairs qs) w) → cond b (Some (nameless [] p.0)) (term_lookup (named_pairs (ps ++ qs)) w) ≡ or_else (cond b (Some (nameless [] p.0)) (term_lookup (named_pairs ps) w)) (term_lookup (named_pairs qs) w)
+    by : (b : Bool) → has_pair (ps ++ qs) w ≡ (has_pair ps w || has_pair qs w) → (b || has_pair (ps ++ qs) w) ≡ ((b || has_pair ps w) || has_pair qs w)
     by true e = refl
     by false e = e
 
-fit-append : (ps qs : NamedPairs) → Fit ps → Fit qs → Fit (ps ++ qs)
-fit-append [] qs h g = g
-fit-append (p ∷ ps) qs h g = (h.0, fit-append ps qs h.1 g)
+or_none : (a b : Bool) → a ≡ false → b ≡ false → (a || b) ≡ false
+or_none true b p q = absurd (cc)
+or_none false b p q = q
 
-fit_first : (ps qs : NamedPairs) → Fit (ps ++ qs) → Fit ps
-fit_first [] qs h = tt
-fit_first (p ∷ ps) qs h = (h.0, fit_first ps qs h.1)
-
-fit_last : (ps qs : NamedPairs) → Fit (ps ++ qs) → Fit qs
-fit_last [] qs h = h
-fit_last (p ∷ ps) qs h = fit_last ps qs h.1
-
-none_lookup : (ps : NamedPairs) (w : Var) → has_pair ps w ≡ false → term_lookup (named_pairs ps) w ≡ None
-none_lookup [] w e = refl
-none_lookup (p ∷ ps) w e = let z = or_false (variable_eq p.1 w) (has_pair ps w) e in rw z.0 (none_lookup ps w z.1)
+given_append : (ps qs : NamedPairs) (w : Var) (o : Named) → given_or (ps ++ qs) w o ≡ given_or ps w (given_or qs w o)
+given_append [] qs w o = refl
+given_append (p ∷ ps) qs w o = ap (λ x. cond (variable_eq p.1 w) p.0 x) (given_append ps qs w o)
 
 -- a pair that is not of w
-other_pair : (p : Named × Var) (ps qs : NamedPairs) (w : Var) → variable_eq p.1 w ≡ false → term_lookup (named_pairs (ps ++ p ∷ qs)) w ≡ term_lookup (named_pairs (ps ++ qs)) w
-other_pair p ps qs w e = lookup-append ps (p ∷ qs) w ∙ ap (or_else (term_lookup (named_pairs ps) w)) (rw e refl) ∙ sym (lookup-append ps qs w)
+other_pair : (p : Named × Var) (ps qs : NamedPairs) (w : Var) (o : Named) → variable_eq p.1 w ≡ false → given_or (ps ++ p ∷ qs) w o ≡ given_or (ps ++ qs) w o
+other_pair p [] qs w o e = rw e refl
+other_pair p (q ∷ ps) qs w o e = ap (λ x. cond (variable_eq q.1 w) q.0 x) (other_pair p ps qs w o e)
+
+fewer : (p : Named × Var) (ps qs : NamedPairs) (w : Var) → has_pair (ps ++ p ∷ qs) w ≡ false → has_pair (ps ++ qs) w ≡ false
+fewer p [] qs w e = (or_false _ _ e).1
+fewer p (q ∷ ps) qs w e = let z = or_false (variable_eq q.1 w) (has_pair (ps ++ p ∷ qs) w) e in or_none (variable_eq q.1 w) (has_pair (ps ++ qs) w) z.0 (fewer p ps qs w z.1)
+
+fit_fewer : (p : Named × Var) (ps qs : NamedPairs) → Fit (ps ++ p ∷ qs) → Fit (ps ++ qs)
+fit_fewer p [] qs h = h.2
+fit_fewer p (q ∷ ps) qs h = (h.0, fewer p ps qs q.1 h.1, fit_fewer p ps qs h.2)
+
+-- one pair more, of a variable that has none
+fit_more : (p : Named × Var) (ps : NamedPairs) → named_type p.0 ≡ Some p.1.1 → has_pair ps p.1 ≡ false → Fit ps → Fit (ps ++ p ∷ [])
+fit_more p [] t n h = (t, refl, tt)
+fit_more p (q ∷ ps) t n h =
+    let z = or_false (variable_eq q.1 p.1) (has_pair ps p.1) n in
+    let apart : variable_eq p.1 q.1 ≡ false = eq_flip p.1 q.1 ∙ z.0 in
+    (h.0, has_append ps (p ∷ []) q.1 ∙ or_none (has_pair ps q.1) (variable_eq p.1 q.1 || false) h.1 (or_none (variable_eq p.1 q.1) false apart refl), fit_more p ps t z.1 h.2)
 
 -- ---- the pairs that are left under a binder
 -- with the first pairs sorted out and more to come
 pub record IsRestSoFar (v : List ℕ × TypeTree) (b : Named) (pairs rest more : List (Named × (List ℕ × TypeTree))) : Type 0 where
-  pub own : term_lookup (named_pairs rest) v ≡ None
-  pub others : (w : List ℕ × TypeTree) → variable_eq v w ≡ false → occurs_in w b ≡ true → term_lookup (named_pairs (rest ++ more)) w ≡ term_lookup (named_pairs pairs) w
+  pub own : has_pair rest v ≡ false
+  pub others : (w : List ℕ × TypeTree) → variable_eq v w ≡ false → occurs_in w b ≡ true → given (rest ++ more) w ≡ given pairs w
   pub fit : Fit pairs → Fit (rest ++ more)
 
 pub rest_first : (v : List ℕ × TypeTree) (b : Named) (pairs : List (Named × (List ℕ × TypeTree))) → IsRestSoFar v b pairs [] pairs
 rest_first v b pairs = record { own = refl; others = λ w d o. refl; fit = λ h. h }
 
-pub rest_own : (v : List ℕ × TypeTree) (b : Named) (pairs rest more : List (Named × (List ℕ × TypeTree))) (p : Named × (List ℕ × TypeTree)) → IsRestSoFar v b pairs rest (p ∷ more) → variable_eq p.1 v ≡ true → IsRestSoFar v b pairs rest more
-rest_own v b pairs rest more p h e = record {
+-- a pair that the body doesn't need
+rest_dropped : (v : Var) (b : Named) (pairs rest more : NamedPairs) (p : Named × Var) → IsRestSoFar v b pairs rest (p ∷ more) → ((w : Var) → variable_eq v w ≡ false → occurs_in w b ≡ true → variable_eq p.1 w ≡ false) → IsRestSoFar v b pairs rest more
+rest_dropped v b pairs rest more p h e = record {
   own = h.own;
-  others = λ w d o. sym (other_pair p rest more w (ap (λ x. variable_eq x w) ((variable_eq_decides p.1 v).0 e) ∙ d)) ∙ h.others w d o;
-  fit = λ f. fit-append rest more (fit_first rest (p ∷ more) (h.fit f)) (fit_last rest (p ∷ more) (h.fit f)).1;
+  others = λ w d o. sym (other_pair p rest more w (var w) (e w d o)) ∙ h.others w d o;
+  fit = λ f. fit_fewer p rest more (h.fit f);
 }
+
+pub rest_own : (v : List ℕ × TypeTree) (b : Named) (pairs rest more : List (Named × (List ℕ × TypeTree))) (p : Named × (List ℕ × TypeTree)) → IsRestSoFar v b pairs rest (p ∷ more) → variable_eq p.1 v ≡ true → IsRestSoFar v b pairs rest more
+rest_own v b pairs rest more p h e = rest_dropped v b pairs rest more p h (λ w d o. ap (λ x. variable_eq x w) ((variable_eq_decides p.1 v).0 e) ∙ d)
 
 -- a pair of a variable that is not free in the body
 pub rest_absent : (v : List ℕ × TypeTree) (b : Named) (pairs rest more : List (Named × (List ℕ × TypeTree))) (p : Named × (List ℕ × TypeTree)) → IsRestSoFar v b pairs rest (p ∷ more) → occurs_in p.1 b ≡ false → IsRestSoFar v b pairs rest more
-rest_absent v b pairs rest more p h e = record {
-  own = h.own;
-  others = λ w d o. sym (other_pair p rest more w (differs w o)) ∙ h.others w d o;
-  fit = λ f. fit-append rest more (fit_first rest (p ∷ more) (h.fit f)) (fit_last rest (p ∷ more) (h.fit f)).1;
-}
+rest_absent v b pairs rest more p h e = rest_dropped v b pairs rest more p h (λ w d o. by w o (variable_eq p.1 w) refl)
   where
-    differs : (w : Var) → occurs_in w b ≡ true → variable_eq p.1 w ≡ false
-    differs w o = by (variable_eq p.1 w) refl
-      where
-        by : (t : Bool) → variable_eq p.1 w ≡ t → variable_eq p.1 w ≡ false
-        by true q = let z : true ≡ false = sym o ∙ ap (λ x. occurs_in x b) (sym ((variable_eq_decides p.1 w).0 q)) ∙ e in absurd (cc)
-        by false q = q
+    by : (w : Var) → occurs_in w b ≡ true → (t : Bool) → variable_eq p.1 w ≡ t → variable_eq p.1 w ≡ false
+    by w o true q = let z : true ≡ false = sym o ∙ ap (λ x. occurs_in x b) (sym ((variable_eq_decides p.1 w).0 q)) ∙ e in absurd (cc)
+    by w o false q = q
 
 pub rest_kept : (v : List ℕ × TypeTree) (b : Named) (pairs rest more : List (Named × (List ℕ × TypeTree))) (p : Named × (List ℕ × TypeTree)) → IsRestSoFar v b pairs rest (p ∷ more) → variable_eq p.1 v ≡ false → IsRestSoFar v b pairs (rest ++ p ∷ []) more
 rest_kept v b pairs rest more p h e = record {
-  own = other_pair p rest [] v e ∙ ap (λ x. term_lookup (named_pairs x) v) (append-nil rest) ∙ h.own;
-  others = λ w d o. ap (λ x. term_lookup (named_pairs x) w) (append_assoc rest (p ∷ []) more) ∙ h.others w d o;
+  own = has_append rest (p ∷ []) v ∙ or_none (has_pair rest v) (variable_eq p.1 v || false) h.own (or_none (variable_eq p.1 v) false e refl);
+  others = λ w d o. ap (λ x. given x w) (append_assoc rest (p ∷ []) more) ∙ h.others w d o;
   fit = λ f. subst Fit (sym (append_assoc rest (p ∷ []) more)) (h.fit f);
 }
 
 pub rest_done : (v : List ℕ × TypeTree) (b : Named) (pairs rest : List (Named × (List ℕ × TypeTree))) → IsRestSoFar v b pairs rest [] → IsRest v b pairs rest
 rest_done v b pairs rest h = record {
-  own = ap (λ o. unwrap_or o (free v)) h.own;
-  others = λ w d o. ap (λ x. unwrap_or (term_lookup (named_pairs x) w) (free w)) (sym (append-nil rest)) ∙ ap (λ x. unwrap_or x (free w)) (h.others w d o);
+  own = h.own;
+  others = λ w d o. ap (λ x. given x w) (sym (append-nil rest)) ∙ h.others w d o;
   fit = λ f. subst Fit (append-nil rest) (h.fit f);
 }
 
 -- ---- the pairs that a caller handed in, the first of each variable
 pub record IsFirstSoFar (pairs : List (Named × Named)) (found : List (Named × (List ℕ × TypeTree))) (more : List (Named × Named)) : Type 0 where
-  pub finds : (w : List ℕ × TypeTree) → or_else (term_lookup (named_pairs found) w) (term_lookup (nameless_pairs more) w) ≡ term_lookup (nameless_pairs pairs) w
+  pub finds : (w : List ℕ × TypeTree) → given_or found w (named_for more w) ≡ named_for pairs w
   pub fit : Fit found
   pub good : HasBadPair more → ⊥
 
-or_else-assoc : (a b c : Option Nameless) → or_else (or_else a b) c ≡ or_else a (or_else b c)
-or_else-assoc None b c = refl
-or_else-assoc (Some n) b c = refl
-
-some_lookup : (ps : NamedPairs) (w : Var) → has_pair ps w ≡ true → (o : Option Nameless) → or_else (term_lookup (named_pairs ps) w) o ≡ term_lookup (named_pairs ps) w
-some_lookup [] w e o = absurd (cc)
-some_lookup (p ∷ ps) w e o = by (variable_eq p.1 w) e (some_lookup ps w)
+some_given : (ps : NamedPairs) (w : Var) → has_pair ps w ≡ true → (o q : Named) → given_or ps w o ≡ given_or ps w q
+some_given [] w e o q = absurd (cc)
+some_given (p ∷ ps) w e o q = by (variable_eq p.1 w) e (λ f. some_given ps w f o q)
   where
-    by : (b : Bool) → (b || has_pair ps w) ≡ true → (has_pair ps w ≡ true → (o : Option Nameless) → or_else (term_lookup (named_pairs ps) w) o ≡ term_lookup (named_pairs ps) w) → or_else (cond b (Some (nameless [] p.0)) (term_lookup (named_pairs ps) w)) o ≡ cond b (Some (nameless [] p.0)) (term_lookup (named_pairs ps) w)
+    by : (b : Bool) → (b || has_pair ps w) ≡ true → (has_pair ps w ≡ true → given_or ps w o ≡ given_or ps w q) → cond b p.0 (given_or ps w o) ≡ cond b p.0 (given_or ps w q)
     by true f r = refl
-    by false f r = r f o
+    by false f r = r f
 
-first_found : (pairs : List (Named × Named)) (p : Named × Named) (v w : Var) → p.1 ≡ var v → term_lookup (nameless_pairs (p ∷ pairs)) w ≡ cond (variable_eq v w) (Some (nameless [] p.0)) (term_lookup (nameless_pairs pairs) w)
-first_found pairs p v w e = ap (λ u. term_lookup (pair_before (nameless [] p.0) u (nameless_pairs pairs)) w) e
+first_named : (pairs : List (Named × Named)) (p : Named × Named) (v w : Var) → p.1 ≡ var v → named_for (p ∷ pairs) w ≡ cond (variable_eq v w) p.0 (named_for pairs w)
+first_named pairs p v w e = ap (λ u. named_at u p.0 (named_for pairs w) w) e
 
 typed_or_not : (o : Option TypeTree) (s : TypeTree) → (o ≡ Some s) ⊎ (o ≡ Some s → ⊥)
 typed_or_not None s = inr (λ e. absurd (cc))
@@ -154,38 +151,24 @@ first_first pairs h = record { finds = λ w. refl; fit = tt; good = h }
 
 pub first_again : (pairs : List (Named × Named)) (found : List (Named × (List ℕ × TypeTree))) (more : List (Named × Named)) (p : Named × Named) (v : List ℕ × TypeTree) → p.1 ≡ var v → has_pair found v ≡ true → IsFirstSoFar pairs found (p ∷ more) → IsFirstSoFar pairs found more
 first_again pairs found more p v e o h = record {
-  finds = λ w. by w (variable_eq v w) refl;
+  finds = λ w. by w (variable_eq v w) refl ∙ h.finds w;
   fit = h.fit;
   good = λ b. h.good (inr b);
 }
   where
-    by : (w : Var) (b : Bool) → variable_eq v w ≡ b → or_else (term_lookup (named_pairs found) w) (term_lookup (nameless_pairs more) w) ≡ term_lookup (nameless_pairs pairs) w
-    by w true q =
-        let z : has_pair found w ≡ true = ap (has_pair found) (sym ((variable_eq_decides v w).0 q)) ∙ o in
-        some_lookup found w z (term_lookup (nameless_pairs more) w) ∙ sym (some_lookup found w z (term_lookup (nameless_pairs (p ∷ more)) w)) ∙ h.finds w
-    by w false q = ap (or_else (term_lookup (named_pairs found) w)) (sym (first_found more p v w e ∙ rw q refl)) ∙ h.finds w
+    by : (w : Var) (b : Bool) → variable_eq v w ≡ b → given_or found w (named_for more w) ≡ given_or found w (named_for (p ∷ more) w)
+    by w true q = some_given found w (ap (has_pair found) (sym ((variable_eq_decides v w).0 q)) ∙ o) (named_for more w) (named_for (p ∷ more) w)
+    by w false q = ap (given_or found w) (sym (first_named more p v w e ∙ rw q refl))
 
-pub first_new : (pairs : List (Named × Named)) (found : List (Named × (List ℕ × TypeTree))) (more : List (Named × Named)) (p : Named × Named) (v : List ℕ × TypeTree) → p.1 ≡ var v → IsFirstSoFar pairs found (p ∷ more) → IsFirstSoFar pairs (found ++ (p.0, v) ∷ []) more
-first_new pairs found more p v e h = record {
-  finds = λ w.
-      ap (λ o. or_else o (term_lookup (nameless_pairs more) w)) (lookup-append found ((p.0, v) ∷ []) w)
-      ∙ or_else-assoc (term_lookup (named_pairs found) w) (term_lookup (named_pairs ((p.0, v) ∷ [])) w) (term_lookup (nameless_pairs more) w)
-      ∙ ap (or_else (term_lookup (named_pairs found) w)) (by w (variable_eq v w) ∙ sym (first_found more p v w e))
-      ∙ h.finds w;
-  fit = fit-append found ((p.0, v) ∷ []) h.fit (not_bad p v e (λ b. h.good (inl b)), tt);
+pub first_new : (pairs : List (Named × Named)) (found : List (Named × (List ℕ × TypeTree))) (more : List (Named × Named)) (p : Named × Named) (v : List ℕ × TypeTree) → p.1 ≡ var v → has_pair found v ≡ false → IsFirstSoFar pairs found (p ∷ more) → IsFirstSoFar pairs (found ++ (p.0, v) ∷ []) more
+first_new pairs found more p v e n h = record {
+  finds = λ w. given_append found ((p.0, v) ∷ []) w (named_for more w) ∙ ap (given_or found w) (sym (first_named more p v w e)) ∙ h.finds w;
+  fit = fit_more (p.0, v) found (not_bad p v e (λ b. h.good (inl b))) n h.fit;
   good = λ b. h.good (inr b);
 }
-  where
-    by : (w : Var) (b : Bool) → or_else (cond b (Some (nameless [] p.0)) None) (term_lookup (nameless_pairs more) w) ≡ cond b (Some (nameless [] p.0)) (term_lookup (nameless_pairs more) w)
-    by w true = refl
-    by w false = refl
 
-pub first_done : (pairs : List (Named × Named)) (found : List (Named × (List ℕ × TypeTree))) → IsFirstSoFar pairs found [] → (w : List ℕ × TypeTree) → term_lookup (named_pairs found) w ≡ term_lookup (nameless_pairs pairs) w
-first_done pairs found h w = by (term_lookup (named_pairs found) w) ∙ h.finds w
-  where
-    by : (o : Option Nameless) → o ≡ or_else o None
-    by None = refl
-    by (Some n) = refl
+pub first_done : (pairs : List (Named × Named)) (found : List (Named × (List ℕ × TypeTree))) → IsFirstSoFar pairs found [] → (w : List ℕ × TypeTree) → given found w ≡ named_for pairs w
+first_done pairs found h w = h.finds w
 
 -- ---- the same for one pass of a loop
 pub rest_yes : (v : List ℕ × TypeTree) (b : Named) (pairs rest new : List (Named × (List ℕ × TypeTree))) (i : ℕ) (p : Named × (List ℕ × TypeTree)) (r : Bool)
@@ -228,7 +211,7 @@ first_step pairs found new i p h l e n = by p.1 refl
       where
         found_or : (t : Bool) → has_pair found v ≡ t → IsFirstSoFar pairs new (drop (i + 1) pairs)
         found_or true f = subst (λ x. IsFirstSoFar pairs x (drop (i + 1) pairs)) (sym (n v q ∙ rw f refl)) (first_again pairs found (drop (i + 1) pairs) p v q f now)
-        found_or false f = subst (λ x. IsFirstSoFar pairs x (drop (i + 1) pairs)) (sym (n v q ∙ rw f refl)) (first_new pairs found (drop (i + 1) pairs) p v q now)
+        found_or false f = subst (λ x. IsFirstSoFar pairs x (drop (i + 1) pairs)) (sym (n v q ∙ rw f refl)) (first_new pairs found (drop (i + 1) pairs) p v q f now)
     by (constant c s) q = never (λ v f. let z : constant c s ≡ var v = sym q ∙ f in absurd (cc))
     by (comb f x) q = never (λ v g. let z : comb f x ≡ var v = sym q ∙ g in absurd (cc))
     by (abs w b) q = never (λ v f. let z : abs w b ≡ var v = sym q ∙ f in absurd (cc))

@@ -9,13 +9,15 @@ use Rattle.hol_terms.specs.Scoped.{occurs_in}
 use Rattle.hol_terms.proofs.Occurs.{occurs_is}
 use Rattle.hol_terms.proofs.Typing.{type_outside}
 use Rattle.hol_subst.specs.Substitution.{term_lookup, term_for, term_subst}
-use Rattle.hol_subst.specs.Pairs.{nameless_pairs, IsGoodPair, HasBadPair}
-use Rattle.hol_subst.specs.Capture.{named_pairs, Fit, touches, comes_in, IsRest, IsRenaming}
+use Rattle.hol_subst.specs.Pairs.{nameless_pairs, pair_before, IsGoodPair, HasBadPair}
+use Rattle.hol_subst.specs.Capture.{named_pairs, given, has_pair, Fit, touches, comes_in, IsRest, IsRenaming, IsResult}
+use Rattle.hol_subst.specs.Substituted.{named_at, named_for, IsVsubst}
 use Rattle.hol_subst.proofs.Closing.{shift_whole, or_false}
-use Rattle.hol_subst.proofs.Commute.{subst_agree}
+use Rattle.hol_subst.proofs.Commute.{subst_agree, subst_nothing}
 use Rattle.hol_subst.proofs.Typing.{AllTyped, subst_type}
 use Rattle.hol_subst.proofs.Rest.{next_pair, drop-all}
-use Rattle.hol_subst.proofs.Taken.{closed_pairs, kept, renamed}
+use Rattle.hol_subst.proofs.Binders.{stays, same_types_stay, substituted_agree, names_kept, names_renamed}
+use Rattle.hol_subst.proofs.Taken.{closed_pairs, kept, nameless_given, renamed}
 
 abbrev Var : Type 0
 Var = List ℕ × TypeTree
@@ -30,7 +32,7 @@ IsSubst ps t r = nameless [] r ≡ term_subst (named_pairs ps) 0 (nameless [] t)
 -- ---- types
 pub fit_typed : (ps : List (Named × (List ℕ × TypeTree))) → Fit ps → AllTyped (named_pairs ps)
 fit_typed [] h w = refl
-fit_typed (p ∷ ps) h w = by (variable_eq p.1 w) refl (fit_typed ps h.1 w)
+fit_typed (p ∷ ps) h w = by (variable_eq p.1 w) refl (fit_typed ps h.2 w)
   where
     by : (b : Bool) → variable_eq p.1 w ≡ b → nameless_type [] (term_for (named_pairs ps) w) ≡ Some w.1 → nameless_type [] (unwrap_or (cond b (Some (nameless [] p.0)) (term_lookup (named_pairs ps) w)) (free w)) ≡ Some w.1
     by true q r = type_outside p.0 ∙ h.0 ∙ ap (λ x. Some x.1) ((variable_eq_decides p.1 w).0 q)
@@ -39,53 +41,80 @@ fit_typed (p ∷ ps) h w = by (variable_eq p.1 w) refl (fit_typed ps h.1 w)
 pub kept_type : (ps : List (Named × (List ℕ × TypeTree))) (t r : Named) → Fit ps → IsSubst ps t r → named_type r ≡ named_type t
 kept_type ps t r h e = sym (type_outside r) ∙ ap (nameless_type []) e ∙ subst_type (named_pairs ps) [] 0 (nameless [] t) (fit_typed ps h) ∙ type_outside t
 
-pub comb_typed : (ps : List (Named × (List ℕ × TypeTree))) (t f x g y : Named) (s : TypeTree) → Fit ps → t ≡ comb f x → named_type t ≡ Some s → IsSubst ps f g → IsSubst ps x y → named_type (comb g y) ≡ None → ⊥
+pub comb_typed : (ps : List (Named × (List ℕ × TypeTree))) (t f x g y : Named) (s : TypeTree) → Fit ps → t ≡ comb f x → named_type t ≡ Some s → IsResult ps f g → IsResult ps x y → named_type (comb g y) ≡ None → ⊥
 comb_typed ps t f x g y s h e k p q n =
-    let i : IsSubst ps (comb f x) (comb g y) = (λ j. app (p j) (q j)) in
+    let i : IsSubst ps (comb f x) (comb g y) = (λ j. app (p.terms j) (q.terms j)) in
     let z : None ≡ Some s = sym n ∙ kept_type ps (comb f x) (comb g y) h i ∙ ap named_type (sym e) ∙ k in
     absurd (cc)
 
-pub renaming_fits : (rest pairs : List (Named × (List ℕ × TypeTree))) (b : Named) (v u : List ℕ × TypeTree) → Fit rest → IsRenaming rest b v u → pairs ≡ (var u, v) ∷ rest → Fit pairs
-renaming_fits rest pairs b v u h i e = subst Fit (sym e) (ap (λ x. Some x.1) i.is, h)
+pub renaming_fits : (rest pairs : List (Named × (List ℕ × TypeTree))) (v u : List ℕ × TypeTree) → Fit rest → u.1 ≡ v.1 → has_pair rest v ≡ false → pairs ≡ (var u, v) ∷ rest → Fit pairs
+renaming_fits rest pairs v u h t n e = subst Fit (sym e) (ap Some t, n, h)
 
 -- ---- no variable of a pair is free
-subst_nothing : (k : ℕ) (n : Nameless) → term_subst [] k n ≡ n
-subst_nothing k (free v) = refl
-subst_nothing k (bound i) = refl
-subst_nothing k (fixed c s) = refl
-subst_nothing k (app f x) = λ i. app (subst_nothing k f i) (subst_nothing k x i)
-subst_nothing k (lam a s b) = ap (lam a s) (subst_nothing (k + 1) b)
-
-untouched_for : (ps : NamedPairs) (t : Named) (w : Var) → touches ps t ≡ false → occurs_in w t ≡ true → term_for (named_pairs ps) w ≡ free w
-untouched_for [] t w e o = refl
-untouched_for (p ∷ ps) t w e o = by (variable_eq p.1 w) refl (untouched_for ps t w (or_false _ _ e).1 o)
+untouched_given : (ps : NamedPairs) (t : Named) (w : Var) → touches ps t ≡ false → occurs_in w t ≡ true → given ps w ≡ var w
+untouched_given [] t w e o = refl
+untouched_given (p ∷ ps) t w e o = by (variable_eq p.1 w) refl (untouched_given ps t w (or_false _ _ e).1 o)
   where
-    by : (b : Bool) → variable_eq p.1 w ≡ b → term_for (named_pairs ps) w ≡ free w → unwrap_or (cond b (Some (nameless [] p.0)) (term_lookup (named_pairs ps) w)) (free w) ≡ free w
+    by : (b : Bool) → variable_eq p.1 w ≡ b → given ps w ≡ var w → cond b p.0 (given ps w) ≡ var w
     by true q r = let z : true ≡ false = sym o ∙ ap (λ x. occurs_in x t) (sym ((variable_eq_decides p.1 w).0 q)) ∙ (or_false _ _ e).0 in absurd (cc)
     by false q r = r
 
-pub untouched : (ps : List (Named × (List ℕ × TypeTree))) (t : Named) → touches ps t ≡ false → IsSubst ps t t
-untouched ps t e = sym (subst_agree (named_pairs ps) [] 0 (nameless [] t) (λ w f. untouched_for ps t w e (occurs_is w t ∙ f)) ∙ subst_nothing 0 (nameless [] t))
+pub untouched : (ps : List (Named × (List ℕ × TypeTree))) (t : Named) → touches ps t ≡ false → IsResult ps t t
+untouched ps t e = record {
+  terms = sym (subst_agree (named_pairs ps) [] 0 (nameless [] t) (λ w f. nameless_given ps w ∙ ap (nameless []) (untouched_given ps t w e (occurs_is w t ∙ f))) ∙ subst_nothing 0 (nameless [] t));
+  names = stays (λ w. given ps w) (λ s. s) t (same_types_stay t) (λ w o. untouched_given ps t w e o);
+}
 
 -- ---- cases
-pub at_var : (ps : List (Named × (List ℕ × TypeTree))) (t : Named) (v : List ℕ × TypeTree) (o : Option Named) → t ≡ var v → nameless [] (unwrap_or o (var v)) ≡ term_for (named_pairs ps) v → IsSubst ps t (unwrap_or o t)
-at_var ps t v o e h = subst (λ x. IsSubst ps x (unwrap_or o x)) (sym e) (h ∙ sym (shift_whole 0 0 (term_for (named_pairs ps) v) (closed_pairs ps v)))
+pub at_var : (ps : List (Named × (List ℕ × TypeTree))) (t : Named) (v : List ℕ × TypeTree) (o : Option Named) → t ≡ var v → unwrap_or o (var v) ≡ given ps v → IsResult ps t (unwrap_or o t)
+at_var ps t v o e h = subst (λ x. IsResult ps x (unwrap_or o x)) (sym e) (record {
+  terms = ap (nameless []) h ∙ sym (nameless_given ps v) ∙ sym (shift_whole 0 0 (term_for (named_pairs ps) v) (closed_pairs ps v));
+  names = h;
+})
 
-pub at_const : (ps : List (Named × (List ℕ × TypeTree))) (t : Named) (c : List ℕ) (s : TypeTree) → t ≡ constant c s → IsSubst ps t t
-at_const ps t c s e = subst (λ x. IsSubst ps x x) (sym e) refl
+pub at_const : (ps : List (Named × (List ℕ × TypeTree))) (t : Named) (c : List ℕ) (s : TypeTree) → t ≡ constant c s → IsResult ps t t
+at_const ps t c s e = subst (λ x. IsResult ps x x) (sym e) (record { terms = refl; names = refl })
 
-pub at_comb : (ps : List (Named × (List ℕ × TypeTree))) (t f x g y : Named) (o : Option Named) → t ≡ comb f x → IsSubst ps f g → IsSubst ps x y → unwrap_or o (comb f x) ≡ comb g y → IsSubst ps t (unwrap_or o t)
-at_comb ps t f x g y o e p q r = subst (λ z. IsSubst ps z (unwrap_or o z)) (sym e) (ap (nameless []) r ∙ (λ j. app (p j) (q j)))
+pub at_comb : (ps : List (Named × (List ℕ × TypeTree))) (t f x g y : Named) (o : Option Named) → t ≡ comb f x → IsResult ps f g → IsResult ps x y → unwrap_or o (comb f x) ≡ comb g y → IsResult ps t (unwrap_or o t)
+at_comb ps t f x g y o e p q r = subst (λ z. IsResult ps z (unwrap_or o z)) (sym e) (record {
+  terms = ap (nameless []) r ∙ (λ j. app (p.terms j) (q.terms j));
+  names = (g, y, r, p.names, q.names);
+})
 
-pub at_kept : (ps rest : List (Named × (List ℕ × TypeTree))) (t b r : Named) (v : List ℕ × TypeTree) (o : Option Named) → t ≡ abs v b → IsRest v b ps rest → comes_in rest v b ≡ false → IsSubst rest b r → unwrap_or o (abs v b) ≡ abs v r → IsSubst ps t (unwrap_or o t)
-at_kept ps rest t b r v o e g n h k = subst (λ z. IsSubst ps z (unwrap_or o z)) (sym e) (ap (nameless []) k ∙ kept v b r ps rest g n h)
+pub at_kept : (ps rest : List (Named × (List ℕ × TypeTree))) (t b r : Named) (v : List ℕ × TypeTree) (o : Option Named) → t ≡ abs v b → IsRest v b ps rest → comes_in rest v b ≡ false → IsResult rest b r → unwrap_or o (abs v b) ≡ abs v r → IsResult ps t (unwrap_or o t)
+at_kept ps rest t b r v o e g n h k = subst (λ z. IsResult ps z (unwrap_or o z)) (sym e) (subst (λ z. IsResult ps (abs v b) z) (sym k) (record {
+  terms = kept v b r ps rest g n h.terms;
+  names = names_kept v b r ps rest g n h.names;
+}))
 
-pub at_renamed : (ps rest pairs : List (Named × (List ℕ × TypeTree))) (t b i r w : Named) (v u : List ℕ × TypeTree) → t ≡ abs v b → IsRest v b ps rest → IsRenaming rest b v u → pairs ≡ (var u, v) ∷ rest → IsSubst pairs b r → i ≡ r → w ≡ abs u i → IsSubst ps t w
-at_renamed ps rest pairs t b i r w v u e g n f h j k =
-    subst (λ z. IsSubst ps z w) (sym e) (ap (nameless []) (k ∙ ap (abs u) j) ∙ renamed v u b r ps rest g n (h ∙ ap (λ x. term_subst (named_pairs x) 0 (nameless [] b)) f))
+pub at_renamed : (ps rest pairs : List (Named × (List ℕ × TypeTree))) (t b i r w : Named) (v u : List ℕ × TypeTree) → t ≡ abs v b → Fit rest → IsRest v b ps rest → comes_in rest v b ≡ true → IsRenaming rest b v u → pairs ≡ (var u, v) ∷ rest → IsResult pairs b r → i ≡ r → w ≡ abs u i → IsResult ps t w
+at_renamed ps rest pairs t b i r w v u e f g c n p h j k =
+    let own : IsResult ((var u, v) ∷ rest) b r = subst (λ x. IsResult x b r) p h in
+    subst (λ z. IsResult ps z w) (sym e) (subst (λ z. IsResult ps (abs v b) z) (sym (k ∙ ap (abs u) j)) (record {
+      terms = renamed v u b r ps rest g n own.terms;
+      names = names_renamed v u b r ps rest g f c n own.names;
+    }))
 
-pub at_top : (pairs : List (Named × Named)) (found : List (Named × (List ℕ × TypeTree))) (t r q : Named) → ((w : List ℕ × TypeTree) → term_lookup (named_pairs found) w ≡ term_lookup (nameless_pairs pairs) w) → IsSubst found t r → q ≡ r → nameless [] q ≡ term_subst (nameless_pairs pairs) 0 (nameless [] t)
-at_top pairs found t r q h e f = ap (nameless []) f ∙ e ∙ subst_agree (named_pairs found) (nameless_pairs pairs) 0 (nameless [] t) (λ w g. ap (λ o. unwrap_or o (free w)) (h w))
+-- what stands for a variable by the pairs that a caller handed in
+nameless_named : (pairs : List (Named × Named)) (w : Var) → term_for (nameless_pairs pairs) w ≡ nameless [] (named_for pairs w)
+nameless_named [] w = refl
+nameless_named (p ∷ pairs) w = by p.1 (nameless_named pairs w)
+  where
+    found : (b : Bool) → term_for (nameless_pairs pairs) w ≡ nameless [] (named_for pairs w) → unwrap_or (cond b (Some (nameless [] p.0)) (term_lookup (nameless_pairs pairs) w)) (free w) ≡ nameless [] (cond b p.0 (named_for pairs w))
+    found true e = refl
+    found false e = e
+
+    by : (u : Named) → term_for (nameless_pairs pairs) w ≡ nameless [] (named_for pairs w) → term_for (pair_before (nameless [] p.0) u (nameless_pairs pairs)) w ≡ nameless [] (named_at u p.0 (named_for pairs w) w)
+    by (var v) e = found (variable_eq v w) e
+    by (constant c s) e = e
+    by (comb f x) e = e
+    by (abs v b) e = e
+
+pub at_top : (pairs : List (Named × Named)) (found : List (Named × (List ℕ × TypeTree))) (t r q : Named) → ((w : List ℕ × TypeTree) → given found w ≡ named_for pairs w) → IsResult found t r → q ≡ r → nameless [] q ≡ term_subst (nameless_pairs pairs) 0 (nameless [] t)
+at_top pairs found t r q h e f = ap (nameless []) f ∙ e.terms ∙ subst_agree (named_pairs found) (nameless_pairs pairs) 0 (nameless [] t) (λ w g. nameless_given found w ∙ ap (nameless []) (h w) ∙ sym (nameless_named pairs w))
+
+pub names_at_top : (pairs : List (Named × Named)) (found : List (Named × (List ℕ × TypeTree))) (t r q : Named) → ((w : List ℕ × TypeTree) → given found w ≡ named_for pairs w) → IsResult found t r → q ≡ r → IsVsubst pairs t q
+names_at_top pairs found t r q h e f = subst (λ (x : Named). IsVsubst pairs t x) (sym f) (substituted_agree (λ w. given found w) (λ w. named_for pairs w) (λ s. s) t r (λ w o. h w) e.names)
 
 -- ---- bad pairs
 pub bad_here : (pairs : List (Named × Named)) (i : ℕ) (p : Named × Named) → (HasBadPair pairs ↔ HasBadPair (drop i pairs)) → i < length pairs → p ≡ get_or pairs i p → (IsGoodPair p → ⊥) → HasBadPair pairs

@@ -1,26 +1,36 @@
 -- What substitution in a named term looks at, cited by private contracts alone. Laws in proofs/ lead from here to nameless terms.
-use Rattle.std.specs.Prelude.{◌≡◌, ℕ, ◌<◌, List, [], ◌∷◌, map, Bool, true, false, not, ◌&&◌, ◌||◌, Some}
+use Rattle.std.specs.Prelude.{◌≡◌, ℕ, ◌<◌, List, [], ◌∷◌, map, Bool, true, false, cond, not, ◌&&◌, ◌||◌, Some}
 use Rattle.hol_types.specs.Tree.{TypeTree}
 use Rattle.hol_types.specs.Equal.{variable_eq}
-use Rattle.hol_terms.specs.Named.{Named, named_type}
-use Rattle.hol_terms.specs.Nameless.{Nameless, free, nameless}
+use Rattle.hol_terms.specs.Named.{Named, var, named_type}
+use Rattle.hol_terms.specs.Nameless.{Nameless, nameless}
 use Rattle.hol_terms.specs.Scoped.{occurs_in}
-use Rattle.hol_subst.specs.Substitution.{term_for}
-use Rattle.hol_subst.specs.Variant.{with_primes}
+use Rattle.hol_subst.specs.Substitution.{term_subst}
+use Rattle.hol_subst.specs.Substituted.{IsSubstituted}
+use Rattle.hol_terms.specs.Primes.{HasFewestPrimes}
 
 -- pairs of a named term and a variable, with nameless terms
 abbrev pub named_pairs : List (Named × (List ℕ × TypeTree)) → List (Nameless × (List ℕ × TypeTree))
 named_pairs pairs = map (λ p. (nameless [] p.0, p.1)) pairs
 
--- each term has the type of its variable
-abbrev pub Fit : List (Named × (List ℕ × TypeTree)) → Type 0
-Fit [] = Unit {0}
-Fit (p ∷ pairs) = (named_type p.0 ≡ Some p.1.1) × Fit pairs
+-- the term of the first pair of the variable v, or other where there is none
+abbrev pub given_or : List (Named × (List ℕ × TypeTree)) → List ℕ × TypeTree → Named → Named
+given_or [] v other = other
+given_or (p ∷ pairs) v other = cond (variable_eq p.1 v) p.0 (given_or pairs v other)
+
+-- what stands for the variable v
+abbrev pub given : List (Named × (List ℕ × TypeTree)) → List ℕ × TypeTree → Named
+given pairs v = given_or pairs v (var v)
 
 -- some pair is of the variable v
 abbrev pub has_pair : List (Named × (List ℕ × TypeTree)) → List ℕ × TypeTree → Bool
 has_pair [] v = false
 has_pair (p ∷ pairs) v = variable_eq p.1 v || has_pair pairs v
+
+-- each term has the type of its variable, and no two pairs are of one variable
+abbrev pub Fit : List (Named × (List ℕ × TypeTree)) → Type 0
+Fit [] = Unit {0}
+Fit (p ∷ pairs) = (named_type p.0 ≡ Some p.1.1) × (has_pair pairs p.1 ≡ false) × Fit pairs
 
 -- the variable of some pair is free in t
 abbrev pub touches : List (Named × (List ℕ × TypeTree)) → Named → Bool
@@ -38,13 +48,16 @@ is_taken pairs b v = (occurs_in v b && not (has_pair pairs v)) || comes_in pairs
 
 -- u is v with the fewest primes more that are not taken
 pub record IsRenaming (pairs : List (Named × (List ℕ × TypeTree))) (b : Named) (v u : List ℕ × TypeTree) : Type 0 where
-  pub primes : ℕ
-  pub is : u ≡ (with_primes primes v.0, v.1)
-  pub fresh : is_taken pairs b u ≡ false
-  pub least : (j : ℕ) → j < primes → is_taken pairs b (with_primes j v.0, v.1) ≡ true
+  pub same_type : u.1 ≡ v.1
+  pub name : HasFewestPrimes (λ a. is_taken pairs b (a, v.1) ≡ true) v.0 u.0
 
 -- rest is what is left of the pairs in the body b of an abstraction over v: none of v, and those of the other variables of b
 pub record IsRest (v : List ℕ × TypeTree) (b : Named) (pairs rest : List (Named × (List ℕ × TypeTree))) : Type 0 where
-  pub own : term_for (named_pairs rest) v ≡ free v
-  pub others : (w : List ℕ × TypeTree) → variable_eq v w ≡ false → occurs_in w b ≡ true → term_for (named_pairs rest) w ≡ term_for (named_pairs pairs) w
+  pub own : has_pair rest v ≡ false
+  pub others : (w : List ℕ × TypeTree) → variable_eq v w ≡ false → occurs_in w b ≡ true → given rest w ≡ given pairs w
   pub fit : Fit pairs → Fit rest
+
+-- r is t with the terms of the pairs for its free variables
+pub record IsResult (pairs : List (Named × (List ℕ × TypeTree))) (t r : Named) : Type 0 where
+  pub terms : nameless [] r ≡ term_subst (named_pairs pairs) 0 (nameless [] t)
+  pub names : IsSubstituted (λ v. given pairs v) (λ s. s) t r

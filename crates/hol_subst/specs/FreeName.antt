@@ -1,8 +1,8 @@
 -- Names for new free variables: a base name with primes, which no free variable and no constant of some terms has.
 -- Source: as mk_primed_var of the HOL Light Reference Manual, where the constants of the terms alone count.
-use Rattle.std.specs.Prelude.{◌≡◌, ℕ, ◌<◌, List, [], ◌∷◌, Bool, true, false, ◌||◌, bytes_eq}
+use Rattle.std.specs.Prelude.{◌≡◌, ℕ, List, [], ◌∷◌, Bool, true, false, ◌||◌, bytes_eq}
 use Rattle.hol_terms.specs.Nameless.{Nameless, free, bound, fixed, app, lam}
-use Rattle.hol_subst.specs.Variant.{with_primes}
+use Rattle.hol_terms.specs.Primes.{HasFewestPrimes}
 
 -- a is the name of a free variable or of a constant of the term
 abbrev pub has_name : List ℕ → Nameless → Bool
@@ -18,8 +18,5 @@ is_taken [] a = false
 is_taken (n ∷ avoid) a = has_name a n || is_taken avoid a
 
 -- r is the base with the fewest primes more that make it the name of none of these
-pub record IsFreeName (avoid : List Nameless) (base r : List ℕ) : Type 0 where
-  pub primes : ℕ
-  pub is : r ≡ with_primes primes base
-  pub fresh : is_taken avoid r ≡ false
-  pub least : (j : ℕ) → j < primes → is_taken avoid (with_primes j base) ≡ true
+abbrev pub IsFreeName : List Nameless → List ℕ → List ℕ → Type 0
+IsFreeName avoid base r = HasFewestPrimes (λ a. is_taken avoid a ≡ true) base r

@@ -9,3 +9,4 @@ pub mod Ordered
 pub mod FreeName
 pub mod Capture
 pub mod Renaming
+pub mod Substituted

@@ -10,6 +10,7 @@ use Rattle.hol_terms.specs.Named.{Named, var, named_type}
 use Rattle.hol_terms.specs.Nameless.{place, nameless}
 use Rattle.hol_terms.specs.Scoped.{occurs_in}
 use Rattle.hol_subst.specs.Substitution.{variable_inst, types_inst}
+use Rattle.hol_subst.specs.Substituted.{IsSubstituted}
 
 -- what stands for a variable: the new binder where an old one binds it, and else its own instance
 abbrev pub image : List (TypeTree × List ℕ) → List (List ℕ × TypeTree) → List (List ℕ × TypeTree) → List ℕ × TypeTree → List ℕ × TypeTree
@@ -40,3 +41,4 @@ pub record HasRenamed (pairs : List (TypeTree × List ℕ)) (old new : List (Lis
 pub record IsInstance (pairs : List (TypeTree × List ℕ)) (old new : List (List ℕ × TypeTree)) (t r : Named) : Type 0 where
   pub types : (s : TypeTree) → named_type t ≡ Some s → named_type r ≡ Some (type_subst pairs s)
   pub terms : KeepsPlaces pairs old new t → nameless new r ≡ types_inst pairs (nameless old t)
+  pub names : IsSubstituted (λ v. var (image pairs old new v)) (λ s. type_subst pairs s) t r

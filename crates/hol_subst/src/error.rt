@@ -2,8 +2,7 @@
 ghost use Rattle.std.specs.Prelude.{◌≡◌};
 ghost use Rattle.hol_subst.specs.declared.error.SubstError.TheVariants.{Memory};
 
-use hol_terms::TermError;
-use std::alloc::{AllocError, AllocFailed};
+use std::alloc::AllocError;
 use thiserror::Error;
 
 /// Why a term was not substituted.
@@ -21,23 +20,6 @@ impl From<AllocError> for SubstError {
     ghost from_gives = { λ _ e. e ≡ Memory };
 
     fn from(_e: AllocError) -> SubstError {
-        SubstError::Memory
-    }
-}
-
-impl<T: Drop> From<AllocFailed<T>> for SubstError {
-    ghost from_gives = { λ _ e. e ≡ Memory };
-
-    fn from(_e: AllocFailed<T>) -> SubstError {
-        SubstError::Memory
-    }
-}
-
-/// Of a call that finds no other fault in terms than want of memory.
-impl From<TermError> for SubstError {
-    ghost from_gives = { λ _ e. e ≡ Memory };
-
-    fn from(_e: TermError) -> SubstError {
         SubstError::Memory
     }
 }

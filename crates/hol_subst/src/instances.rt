@@ -1,20 +1,19 @@
 //! Instantiation of type variables in terms.
-ghost use Rattle.std.specs.Prelude.{◌≡◌, ◌⊎◌, [], map, IfOk, IsOkUnless, IsSome, Some, unwrap_or};
+ghost use Rattle.std.specs.Prelude.{◌≡◌, ◌⊎◌, [], map, IfOk, IsSome, Some, unwrap_or};
 ghost use Rattle.hol_types.specs.Tree.{TypeTree};
 ghost use Rattle.hol_terms.specs.Named.{var, comb, abs, named_type};
 ghost use Rattle.hol_terms.specs.Nameless.{nameless, free_occurrences};
 ghost use Rattle.hol_terms.specs.Scope.{binders};
 ghost use Rattle.hol_terms.specs.Scoped.{add_all};
-ghost use Rattle.hol_terms.specs.declared.term.TermError.TheVariants.{Memory};
 ghost use Rattle.hol_subst.specs.Substitution.{variable_inst, types_inst};
+ghost use Rattle.hol_subst.specs.Substituted.{IsInst};
 ghost use Rattle.hol_subst.specs.Variant.{IsVariant};
 ghost use Rattle.hol_subst.specs.Renaming.{image, images_without, KeepsTypes, IsInstance, HasRenamed};
 ghost use Rattle.hol_types.specs.Filter.{name_bit, pairs_filter};
 ghost use Rattle.std.specs.Int.RustNames.{bit_or};
 
-use crate::error::SubstError;
 use crate::variants::variant;
-use hol_terms::{Scope, Term, TermError, TermNode, Variable};
+use hol_terms::{Scope, Term, TermNode, Variable};
 use hol_types::{Name, NameFilter, Ty};
 use std::alloc::{AllocError, Global};
 
@@ -22,12 +21,10 @@ use std::alloc::{AllocError, Global};
 ///
 /// A bound variable is renamed, by `variant`, where another free variable of its body would become equal to it, and nowhere else.
 /// Parts that stay as they are are shared with the term.
-///
-/// Answers `Memory` where memory is short, and no other error.
 #[tactic(auto, using(crate::proofs::InstSteps::instance_outside, crate::proofs::Kept::none_renamed))]
-pub fn inst(alloc: Global, pairs: &[(Ty, Name)], t: &Term) -> Result<Term, SubstError>
+pub fn inst(alloc: Global, pairs: &[(Ty, Name)], t: &Term) -> Result<Term, AllocError>
     ensures ok { IfOk result (λ r. nameless [] r ≡ types_inst pairs.now (nameless [] t.now)) }
-    ensures memory { IsOkUnless result SubstError.Memory }
+    ensures named { IfOk result (λ r. IsInst pairs.now t.now r) }
 {
     let names = NameFilter::of_pairs(pairs);
     let none = NameFilter::empty();
@@ -55,12 +52,11 @@ fn changed(
     new: &Scope,
     renamed: NameFilter,
     t: &Term,
-) -> Result<Option<Term>, TermError>
+) -> Result<Option<Term>, AllocError>
     requires types { KeepsTypes pairs.now (binders old.now) (binders new.now) }
     requires names { names.bits ≡ pairs_filter pairs.now }
     requires renamed { HasRenamed pairs.now (binders old.now) (binders new.now) renamed.bits }
-    ensures ok { IfOk result (λ r. IsInstance pairs.now (binders old.now) (binders new.now) t.now (unwrap_or r t.now)) }
-    ensures memory { IsOkUnless result TermError.Memory }
+    ensures { IfOk result (λ r. IsInstance pairs.now (binders old.now) (binders new.now) t.now (unwrap_or r t.now)) }
 {
     if !t.type_filter().meets(names) && !t.filter().meets(renamed) {
         return Ok(None);
@@ -105,9 +101,8 @@ fn with_binder(renamed: NameFilter, v: &Variable, u: &Variable) -> NameFilter
 }
 
 // The variable `u` as a term, or nothing where it is `v`.
-fn changed_variable(alloc: Global, v: &Variable, u: &Variable) -> Result<Option<Term>, TermError>
-    ensures ok { IfOk result (λ r. unwrap_or r (var v.now) ≡ var u.now) }
-    ensures memory { IsOkUnless result TermError.Memory }
+fn changed_variable(alloc: Global, v: &Variable, u: &Variable) -> Result<Option<Term>, AllocError>
+    ensures { IfOk result (λ r. unwrap_or r (var v.now) ≡ var u.now) }
 {
     if u.same(v) {
         return Ok(None);
@@ -124,17 +119,16 @@ fn changed_application(
     g: Option<Term>,
     x: &Term,
     y: Option<Term>,
-) -> Result<Option<Term>, TermError>
+) -> Result<Option<Term>, AllocError>
     requires { (s : TypeTree) → named_type t.now ≡ Some s → IsSome (named_type (comb (unwrap_or g f.now) (unwrap_or y x.now))) }
-    ensures ok { IfOk result (λ r. unwrap_or r (comb f.now x.now) ≡ comb (unwrap_or g f.now) (unwrap_or y x.now)) }
-    ensures memory { IsOkUnless result TermError.Memory }
+    ensures { IfOk result (λ r. unwrap_or r (comb f.now x.now) ≡ comb (unwrap_or g f.now) (unwrap_or y x.now)) }
 {
     if g.is_none() && y.is_none() {
         return Ok(None);
     }
     // It has a type, so `t` is known to be well typed.
     let _ty = t.type_of();
-    Ok(Some(Term::comb(alloc, either(&g, f), either(&y, x))?))
+    Ok(Some(Term::application(alloc, either(&g, f), either(&y, x))?))
 }
 
 // The abstraction of `u` in what became of `b`, or nothing where `u` is `v` and `b` stayed.
@@ -144,9 +138,8 @@ fn changed_abstraction(
     u: &Variable,
     b: &Term,
     c: Option<Term>,
-) -> Result<Option<Term>, TermError>
-    ensures ok { IfOk result (λ r. unwrap_or r (abs v.now b.now) ≡ abs u.now (unwrap_or c b.now)) }
-    ensures memory { IsOkUnless result TermError.Memory }
+) -> Result<Option<Term>, AllocError>
+    ensures { IfOk result (λ r. unwrap_or r (abs v.now b.now) ≡ abs u.now (unwrap_or c b.now)) }
 {
     if c.is_none() && u.same(v) {
         return Ok(None);
@@ -172,16 +165,12 @@ fn new_binder(
     new: &Scope,
     v: &Variable,
     body: &Term,
-) -> Result<Variable, TermError>
-    ensures ok { IfOk result (λ u. IsVariant (map (λ t. nameless [] t) (images_without pairs.now (binders old.now) (binders new.now) v.now (add_all [] (free_occurrences (nameless [] body.now))))) (variable_inst pairs.now v.now) u) }
-    ensures memory { IsOkUnless result TermError.Memory }
+) -> Result<Variable, AllocError>
+    ensures { IfOk result (λ u. IsVariant (map (λ t. nameless [] t) (images_without pairs.now (binders old.now) (binders new.now) v.now (add_all [] (free_occurrences (nameless [] body.now))))) (variable_inst pairs.now v.now) u) }
 {
     let others = other_images(alloc, pairs, old, new, v, body)?;
     let own = instance(alloc, pairs, v)?;
-    match variant(alloc, &others, &own) {
-        Ok(u) => Ok(u),
-        Err(_) => Err(TermError::Memory),
-    }
+    variant(alloc, &others, &own)
 }
 
 // What stands for the free variables of the body other than the bound one, as terms.
@@ -192,9 +181,8 @@ fn other_images(
     new: &Scope,
     v: &Variable,
     body: &Term,
-) -> Result<Vec<Term>, TermError>
-    ensures ok { IfOk result (λ ts. ts.items ≡ images_without pairs.now (binders old.now) (binders new.now) v.now (add_all [] (free_occurrences (nameless [] body.now)))) }
-    ensures memory { IsOkUnless result TermError.Memory }
+) -> Result<Vec<Term>, AllocError>
+    ensures { IfOk result (λ ts. ts.items ≡ images_without pairs.now (binders old.now) (binders new.now) v.now (add_all [] (free_occurrences (nameless [] body.now)))) }
 {
     let frees = body.frees(alloc)?;
     let mut images = Vec::new(alloc);

@@ -1,23 +1,15 @@
 //! Substitution of terms for variables and of types for type variables, with renaming of bound variables.
+//!
+//! A call that answers a `Result` answers the error of memory where memory is short, and nowhere else.
 #![tactic(auto)]
 
 mod alpha;
-#[cfg(test)]
-mod alpha_tests;
 mod error;
 mod instances;
-#[cfg(test)]
-mod instances_tests;
 mod names;
-#[cfg(test)]
-mod names_tests;
 mod pairs;
 mod substitution;
-#[cfg(test)]
-mod substitution_tests;
 mod variants;
-#[cfg(test)]
-mod written;
 
 pub use alpha::{aconv, alpha_order, alpha_order_is_total};
 pub use error::SubstError;

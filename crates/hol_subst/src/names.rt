@@ -1,22 +1,17 @@
 //! Names for new free variables.
-ghost use Rattle.std.specs.Prelude.{◌≡◌, [], map, IfOk, IsOkUnless};
+ghost use Rattle.std.specs.Prelude.{◌≡◌, [], map, IfOk};
 ghost use Rattle.hol_terms.specs.Nameless.{nameless};
 ghost use Rattle.hol_terms.specs.Scope.{binders};
 ghost use Rattle.hol_subst.specs.FreeName.{has_name, is_taken, IsFreeName};
-ghost use Rattle.hol_subst.specs.declared.error.SubstError.TheVariants.{Memory};
 
-use crate::error::SubstError;
 use hol_terms::{Scope, Term, TermNode};
 use hol_types::Name;
-use std::alloc::Global;
+use std::alloc::{AllocError, Global};
 
 /// The base with the fewest primes more at its end that make it differ from the names of all free variables and constants in the
 /// terms.
-///
-/// Answers `Memory` where memory is short, and no other error.
-pub fn free_name(alloc: Global, avoid: &[Term], base: &Name) -> Result<Name, SubstError>
-    ensures ok { IfOk result (λ r. IsFreeName (map (λ t. nameless [] t) avoid.now) base.now r) }
-    ensures memory { IsOkUnless result SubstError.Memory }
+pub fn free_name(alloc: Global, avoid: &[Term], base: &Name) -> Result<Name, AllocError>
+    ensures { IfOk result (λ r. IsFreeName (map (λ t. nameless [] t) avoid.now) base.now r) }
 {
     let mut candidate = base.copy()?;
     'primes: while is_taken(avoid, &candidate) {

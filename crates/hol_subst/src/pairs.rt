@@ -1,19 +1,17 @@
 //! Lists of a term and a variable.
-ghost use Rattle.std.specs.Prelude.{◌≡◌, ◌∷◌, ◌++◌, [], true, false, IfOk, IsOkUnless, MatchOption, OnOk, Some, None};
+ghost use Rattle.std.specs.Prelude.{◌≡◌, ◌∷◌, ◌++◌, [], true, false, IfOk, MatchOption, OnOk, Some, None};
 ghost use Rattle.hol_types.specs.Equal.{variable_eq};
 ghost use Rattle.hol_terms.specs.Named.{Named, var};
 ghost use Rattle.hol_terms.specs.Nameless.{nameless};
-ghost use Rattle.hol_terms.specs.declared.term.TermError.TheVariants.{Memory};
 ghost use Rattle.hol_terms.specs.Scoped.{occurs_in};
-ghost use Rattle.hol_subst.specs.Substitution.{term_lookup};
-ghost use Rattle.hol_subst.specs.Capture.{named_pairs, has_pair, touches, comes_in, is_taken, IsRest, IsRenaming};
+ghost use Rattle.hol_subst.specs.Capture.{given, has_pair, touches, comes_in, is_taken, IsRest, IsRenaming};
 
-use hol_terms::{Term, TermError, Variable};
-use std::alloc::Global;
+use hol_terms::{Term, Variable};
+use std::alloc::{AllocError, Global};
 
 /// The term of the first pair of the variable.
 pub fn replacement<'a>(pairs: &'a [(Term, Variable)], v: &Variable) -> Option<&'a Term>
-    ensures { MatchOption result (term_lookup (named_pairs pairs.now) v.now ≡ None) (λ t. term_lookup (named_pairs pairs.now) v.now ≡ Some (nameless [] t.now)) }
+    ensures { MatchOption result (given pairs.now v.now ≡ var v.now) (λ t. given pairs.now v.now ≡ t.now) }
 {
     for pair in pairs {
         if pair.1.same(v) {
@@ -65,9 +63,8 @@ pub fn rest_of(
     pairs: &[(Term, Variable)],
     v: &Variable,
     b: &Term,
-) -> Result<Vec<(Term, Variable)>, TermError>
-    ensures ok { IfOk result (λ rest. IsRest v.now b.now pairs.now rest.items) }
-    ensures memory { IsOkUnless result TermError.Memory }
+) -> Result<Vec<(Term, Variable)>, AllocError>
+    ensures { IfOk result (λ rest. IsRest v.now b.now pairs.now rest.items) }
 {
     let mut rest = Vec::new(alloc);
     for pair in pairs {
@@ -87,18 +84,14 @@ fn stays(u: &Variable, v: &Variable, b: &Term) -> bool
 }
 
 /// Puts the pair at the end.
-///
-/// Answers `Memory` where memory is short, and no other error.
 pub fn add_pair(
     pairs: &mut Vec<(Term, Variable)>,
     term: &Term,
     v: &Variable,
-) -> Result<(), TermError>
-    ensures ok { OnOk result (pairs.new.items ≡ pairs.old.items ++ (term.now, v.now) ∷ []) }
-    ensures memory { IsOkUnless result TermError.Memory }
+) -> Result<(), AllocError>
+    ensures { OnOk result (pairs.new.items ≡ pairs.old.items ++ (term.now, v.now) ∷ []) }
 {
-    pairs.push((term.copy()?, v.copy()?))?;
-    Ok(())
+    Ok(pairs.push((term.copy()?, v.copy()?))?)
 }
 
 /// What a variable bound over `b` is called where the pairs are substituted in `b`: with the fewest primes more that make it free in
@@ -110,9 +103,8 @@ pub fn renaming(
     pairs: &[(Term, Variable)],
     v: &Variable,
     b: &Term,
-) -> Result<Variable, TermError>
-    ensures ok { IfOk result (λ u. IsRenaming pairs.now b.now v.now u) }
-    ensures memory { IsOkUnless result TermError.Memory }
+) -> Result<Variable, AllocError>
+    ensures { IfOk result (λ u. IsRenaming pairs.now b.now v.now u) }
 {
     let mut candidate = v.copy()?;
     'primes: while is_taken(pairs, b, &candidate) {
@@ -134,9 +126,8 @@ pub fn renaming_first(
     u: &Variable,
     v: &Variable,
     rest: Vec<(Term, Variable)>,
-) -> Result<Vec<(Term, Variable)>, TermError>
-    ensures ok { IfOk result (λ pairs. pairs.items ≡ (var u.now, v.now) ∷ rest.items) }
-    ensures memory { IsOkUnless result TermError.Memory }
+) -> Result<Vec<(Term, Variable)>, AllocError>
+    ensures { IfOk result (λ pairs. pairs.items ≡ (var u.now, v.now) ∷ rest.items) }
 {
     let mut pairs = rest;
     pairs.insert(0, (Term::var(alloc, u)?, v.copy()?))?;

@@ -1,29 +1,29 @@
 //! Substitution of terms for free variables.
-ghost use Rattle.std.specs.Prelude.{◌≡◌, ◌↔◌, ◌∷◌, ◌++◌, [], cond, IfOk, IsErrOf, IsOkUnless, IsTrue, OnOk, List, ℕ, None, unwrap_or};
+ghost use Rattle.std.specs.Prelude.{◌≡◌, ◌↔◌, ◌∷◌, ◌++◌, [], cond, IfOk, IsErrOf, IsTrue, OnOk, List, ℕ, None, unwrap_or};
 ghost use Rattle.hol_types.specs.Tree.{TypeTree};
 ghost use Rattle.hol_terms.specs.Named.{Named, var, comb, abs, named_type};
 ghost use Rattle.hol_terms.specs.Nameless.{nameless};
-ghost use Rattle.hol_terms.specs.declared.term.TermError.TheVariants.{Memory};
-ghost use Rattle.hol_subst.specs.Substitution.{term_lookup, term_for, term_subst};
+ghost use Rattle.hol_subst.specs.Substitution.{term_subst};
 ghost use Rattle.hol_subst.specs.Pairs.{nameless_pairs, IsGoodPair, HasBadPair};
-ghost use Rattle.hol_subst.specs.Capture.{named_pairs, has_pair, Fit};
+ghost use Rattle.hol_subst.specs.Capture.{given, has_pair, Fit, IsResult};
+ghost use Rattle.hol_subst.specs.Substituted.{named_for, IsVsubst};
 
 use crate::error::SubstError;
 use crate::pairs::{
     add_pair, comes_in, has_pair, may_touch, renaming, renaming_first, replacement, rest_of,
 };
-use hol_terms::{Term, TermError, TermNode, Variable};
-use std::alloc::Global;
+use hol_terms::{Term, TermNode, Variable};
+use std::alloc::{AllocError, Global};
 
 /// The term with terms for its free variables, by pairs of a term and a variable, of which the first of a variable counts.
 ///
 /// A bound variable gets primes where it would capture a variable that comes in, and nowhere else. A part in which no variable of a
 /// pair is free keeps its nodes.
 ///
-/// Answers `BadPair` exactly where the second part of some pair is no variable of the first part's type, and `Memory` where memory
-/// is short.
+/// Answers `BadPair` exactly where the second part of some pair is no variable of the first part's type.
 pub fn vsubst(alloc: Global, pairs: &[(Term, Term)], t: &Term) -> Result<Term, SubstError>
     ensures ok { IfOk result (λ r. nameless [] r ≡ term_subst (nameless_pairs pairs.now) 0 (nameless [] t.now)) }
+    ensures named { IfOk result (λ r. IsVsubst pairs.now t.now r) }
     ensures bad_pair { IsErrOf result SubstError.BadPair ↔ HasBadPair pairs.now }
 {
     if has_bad_pair(pairs) {
@@ -58,11 +58,10 @@ fn fits(term: &Term, u: &Term) -> bool
 }
 
 // The pairs as terms for variables, the first of each variable alone.
-fn first_pairs(alloc: Global, pairs: &[(Term, Term)]) -> Result<Vec<(Term, Variable)>, TermError>
+fn first_pairs(alloc: Global, pairs: &[(Term, Term)]) -> Result<Vec<(Term, Variable)>, AllocError>
     requires { HasBadPair pairs.now → ⊥ }
-    ensures ok { IfOk result (λ found. (w : List ℕ × TypeTree) → term_lookup (named_pairs found.items) w ≡ term_lookup (nameless_pairs pairs.now) w) }
+    ensures ok { IfOk result (λ found. (w : List ℕ × TypeTree) → given found.items w ≡ named_for pairs.now w) }
     ensures fit { IfOk result (λ found. Fit found.items) }
-    ensures memory { IsOkUnless result TermError.Memory }
 {
     let mut found = Vec::new(alloc);
     for pair in pairs {
@@ -72,9 +71,8 @@ fn first_pairs(alloc: Global, pairs: &[(Term, Term)]) -> Result<Vec<(Term, Varia
 }
 
 // Puts the pair at the end, where `u` is a variable that has no pair yet.
-fn add_first(found: &mut Vec<(Term, Variable)>, term: &Term, u: &Term) -> Result<(), TermError>
-    ensures ok { OnOk result ((v : List ℕ × TypeTree) → u.now ≡ var v → found.new.items ≡ cond (has_pair found.old.items v) found.old.items (found.old.items ++ (term.now, v) ∷ [])) }
-    ensures memory { IsOkUnless result TermError.Memory }
+fn add_first(found: &mut Vec<(Term, Variable)>, term: &Term, u: &Term) -> Result<(), AllocError>
+    ensures { OnOk result ((v : List ℕ × TypeTree) → u.now ≡ var v → found.new.items ≡ cond (has_pair found.old.items v) found.old.items (found.old.items ++ (term.now, v) ∷ [])) }
 {
     let TermNode::Var(v) = u.node() else {
         return Ok(());
@@ -82,7 +80,7 @@ fn add_first(found: &mut Vec<(Term, Variable)>, term: &Term, u: &Term) -> Result
     if has_pair(found, v) {
         return Ok(());
     }
-    Ok(add_pair(found, term, v)?)
+    add_pair(found, term, v)
 }
 
 // The term with the terms of the pairs for its free variables, or nothing where it stays as it is.
@@ -90,10 +88,9 @@ fn substituted(
     alloc: Global,
     t: &Term,
     pairs: &[(Term, Variable)],
-) -> Result<Option<Term>, TermError>
+) -> Result<Option<Term>, AllocError>
     requires { Fit pairs.now }
-    ensures ok { IfOk result (λ r. nameless [] (unwrap_or r t.now) ≡ term_subst (named_pairs pairs.now) 0 (nameless [] t.now)) }
-    ensures memory { IsOkUnless result TermError.Memory }
+    ensures { IfOk result (λ r. IsResult pairs.now t.now (unwrap_or r t.now)) }
 {
     if !may_touch(pairs, t) {
         return Ok(None);
@@ -123,9 +120,8 @@ fn substituted(
 }
 
 // A copy of the term of the first pair of the variable.
-fn at_variable(pairs: &[(Term, Variable)], v: &Variable) -> Result<Option<Term>, TermError>
-    ensures ok { IfOk result (λ r. nameless [] (unwrap_or r (var v.now)) ≡ term_for (named_pairs pairs.now) v.now) }
-    ensures memory { IsOkUnless result TermError.Memory }
+fn at_variable(pairs: &[(Term, Variable)], v: &Variable) -> Result<Option<Term>, AllocError>
+    ensures { IfOk result (λ r. unwrap_or r (var v.now) ≡ given pairs.now v.now) }
 {
     match replacement(pairs, v) {
         Some(term) => Ok(Some(term.copy()?)),
@@ -140,23 +136,21 @@ fn applied(
     function: Option<Term>,
     x: &Term,
     argument: Option<Term>,
-) -> Result<Option<Term>, TermError>
+) -> Result<Option<Term>, AllocError>
     requires { named_type (comb (unwrap_or function f.now) (unwrap_or argument x.now)) ≡ None → ⊥ }
-    ensures ok { IfOk result (λ r. unwrap_or r (comb f.now x.now) ≡ comb (unwrap_or function f.now) (unwrap_or argument x.now)) }
-    ensures memory { IsOkUnless result TermError.Memory }
+    ensures { IfOk result (λ r. unwrap_or r (comb f.now x.now) ≡ comb (unwrap_or function f.now) (unwrap_or argument x.now)) }
 {
     if function.is_none() && argument.is_none() {
         return Ok(None);
     }
     let function = or_same(function, f)?;
     let argument = or_same(argument, x)?;
-    Ok(Some(Term::comb(alloc, &function, &argument)?))
+    Ok(Some(Term::application(alloc, &function, &argument)?))
 }
 
 // The abstraction of the variable in a body that was changed.
-fn abstracted(alloc: Global, v: &Variable, inside: Option<Term>) -> Result<Option<Term>, TermError>
-    ensures ok { IfOk result (λ r. (b : Named) → unwrap_or r (abs v.now b) ≡ abs v.now (unwrap_or inside b)) }
-    ensures memory { IsOkUnless result TermError.Memory }
+fn abstracted(alloc: Global, v: &Variable, inside: Option<Term>) -> Result<Option<Term>, AllocError>
+    ensures { IfOk result (λ r. (b : Named) → unwrap_or r (abs v.now b) ≡ abs v.now (unwrap_or inside b)) }
 {
     match inside {
         Some(inside) => Ok(Some(Term::abstraction(alloc, v, &inside)?)),
@@ -165,9 +159,8 @@ fn abstracted(alloc: Global, v: &Variable, inside: Option<Term>) -> Result<Optio
 }
 
 // The changed term, or a copy of the old one.
-fn or_same(changed: Option<Term>, t: &Term) -> Result<Term, TermError>
-    ensures ok { IfOk result (λ r. r ≡ unwrap_or changed t.now) }
-    ensures memory { IsOkUnless result TermError.Memory }
+fn or_same(changed: Option<Term>, t: &Term) -> Result<Term, AllocError>
+    ensures { IfOk result (λ r. r ≡ unwrap_or changed t.now) }
 {
     match changed {
         Some(changed) => Ok(changed),

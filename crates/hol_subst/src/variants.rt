@@ -1,19 +1,14 @@
 //! Variants of a variable.
-ghost use Rattle.std.specs.Prelude.{◌≡◌, [], map, IfOk, IsOkUnless};
+ghost use Rattle.std.specs.Prelude.{◌≡◌, [], map, IfOk};
 ghost use Rattle.hol_terms.specs.Nameless.{nameless};
 ghost use Rattle.hol_subst.specs.Variant.{is_free_in, IsVariant};
-ghost use Rattle.hol_subst.specs.declared.error.SubstError.TheVariants.{Memory};
 
-use crate::error::SubstError;
 use hol_terms::{Term, Variable};
-use std::alloc::Global;
+use std::alloc::{AllocError, Global};
 
 /// The variable with the fewest primes more at the end of its name that make it free in none of the terms.
-///
-/// Answers `Memory` where memory is short, and no other error.
-pub fn variant(alloc: Global, avoid: &[Term], v: &Variable) -> Result<Variable, SubstError>
-    ensures ok { IfOk result (λ r. IsVariant (map (λ t. nameless [] t) avoid.now) v.now r) }
-    ensures memory { IsOkUnless result SubstError.Memory }
+pub fn variant(alloc: Global, avoid: &[Term], v: &Variable) -> Result<Variable, AllocError>
+    ensures { IfOk result (λ r. IsVariant (map (λ t. nameless [] t) avoid.now) v.now r) }
 {
     let mut candidate = v.copy()?;
     'primes: while free_in_any(avoid, &candidate) {

@@ -1,11 +1,12 @@
--- Cutting the primes off the end of a name leaves its base.
-use Rattle.std.proofs.Common.{◌≡◌, ◌≢◌, ℕ, ◌-◌, List, [], ◌∷◌, ◌++◌, length, take, drop, refl, ap, sym, ◌∙◌, Option, Some, None, IfSome, arith, lit<}
+-- Primes at the end of a name: cutting them off leaves its base, and adding one after another comes to an end.
+use Rattle.std.proofs.Common.{◌≡◌, ◌≢◌, ℕ, zero, suc, ◌+◌, ◌-◌, ◌<◌, ◌≤◌, List, [], ◌∷◌, ◌++◌, length, length-append, take, drop, add-one, below_more, refl, ap, sym, ◌∙◌, subst, Option, Some, None, IfSome, arith, lit<}
 use Rattle.std.proofs.lemmas.List.{take-append-drop}
 use Rattle.std.proofs.Math.Seq.{drop-length}
 use Rattle.std.proofs.lemmas.Str.Pattern.{drop_at_char}
 use Rattle.std.proofs.lemmas.Bool.Decides.{nat_tests}
 use Rattle.std.specs.Str.Pattern.{FindsCharSuffix, CutsSuffixes, IsFullyTrimmed, IsTrimEndMatches}
 use Rattle.hol_terms.specs.Nameless.{with_letter, base_of}
+use Rattle.hol_terms.specs.Primes.{with_primes, HasFewestPrimes}
 
 base_prime : (front : List ℕ) → base_of (front ++ 39 ∷ []) ≡ base_of front
 base_prime [] = refl
@@ -41,3 +42,32 @@ no_more r h = by h.0 h.1 h.2
 
 pub trimmed_base : (s r : List ℕ) → IsTrimEndMatches (FindsCharSuffix 39) s r → r ≡ base_of s
 trimmed_base s r h = sym (cut_all h.0.0 s r h.0.1 ∙ no_more r h.1)
+
+-- primes change no base
+pub base_with_primes : (k : ℕ) (a : List ℕ) → base_of (with_primes k a) ≡ base_of a
+base_with_primes zero a = refl
+base_with_primes (suc k) a = base_prime (with_primes k a) ∙ base_with_primes k a
+
+-- ---- the search for a name that is not taken
+-- c is the name a with so many primes more, and each with fewer is taken
+abbrev pub IsTried : (List ℕ → Type 0) → List ℕ → List ℕ → Type 0
+IsTried IsTaken a c = (k : ℕ) × (c ≡ with_primes k a) × ((j : ℕ) → j < k → IsTaken (with_primes j a))
+
+pub tried_first : (IsTaken : List ℕ → Type 0) (a c : List ℕ) → c ≡ a → IsTried IsTaken a c
+tried_first IsTaken a c e = (0, e, λ j l. absurd (omega arith))
+
+pub tried_more : (IsTaken : List ℕ → Type 0) (a c d : List ℕ) → IsTried IsTaken a c → IsTaken c → d ≡ c ++ 39 ∷ [] → IsTried IsTaken a d
+tried_more IsTaken a c d h o e = (h.0 + 1, rw add-one (e ∙ ap (λ x. x ++ 39 ∷ []) h.1), λ j l. below_more (λ i. IsTaken (with_primes i a)) h.0 h.2 (subst IsTaken h.1 o) j l)
+
+pub tried_done : (IsTaken : List ℕ → Type 0) (a c : List ℕ) → IsTried IsTaken a c → (IsTaken c → ⊥) → HasFewestPrimes IsTaken a c
+tried_done IsTaken a c h o = record { primes = h.0; is = h.1; fresh = o; least = h.2 }
+
+-- no name that is taken is longer than m
+pub primed_nearer : (m : ℕ) (a b : List ℕ) → length a ≤ m → b ≡ a ++ 39 ∷ [] → m + 1 - length b < m + 1 - length a
+primed_nearer m a b h e =
+    let p : length b ≡ length a + 1 = ap length e ∙ length-append a (39 ∷ []) ∙ omega arith in
+    omega arith
+
+-- the same name by another test that says the same
+pub fewest_other : (IsTaken IsOther : List ℕ → Type 0) (a r : List ℕ) → ((b : List ℕ) → IsTaken b → IsOther b) → ((b : List ℕ) → IsOther b → IsTaken b) → HasFewestPrimes IsTaken a r → HasFewestPrimes IsOther a r
+fewest_other IsTaken IsOther a r f g h = record { primes = h.primes; is = h.is; fresh = λ o. h.fresh (g r o); least = λ j l. f (with_primes j a) (h.least j l) }

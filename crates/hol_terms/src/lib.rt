@@ -1,11 +1,11 @@
 //! Named terms, which contracts see as trees, and their nameless terms.
+//!
+//! A call that answers a `Result` answers the error of memory where memory is short, and nowhere else.
 #![tactic(auto)]
 
 mod base;
 mod scope;
 mod term;
-#[cfg(test)]
-mod tests;
 mod variable;
 
 pub use base::base_name;

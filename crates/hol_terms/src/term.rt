@@ -1,8 +1,8 @@
 //! Terms. Contracts see a term as a named tree, and state what they say of bound variables on its nameless term.
-ghost use Rattle.std.specs.Prelude.{◌≡◌, ℕ, List, [], ◌∷◌, ◌↔◌, IfOk, IsErrOf, IsOkUnless, IsTrue, MatchOption, OnOk, bytes_eq, Some, None, min};
+ghost use Rattle.std.specs.Prelude.{◌≡◌, ℕ, List, [], ◌∷◌, ◌↔◌, IfOk, IsErrOf, IsTrue, MatchOption, OnOk, bytes_eq, Some, None, min};
 ghost use Rattle.hol_terms.specs.Named.{Named, var, constant, comb, abs, named_type, applied_type};
 ghost use Rattle.hol_types.specs.Tree.{TypeTree};
-ghost use Rattle.hol_terms.specs.Nameless.{nameless, base_of, free_occurrences};
+ghost use Rattle.hol_terms.specs.Nameless.{nameless, nameless_type, base_of, free_occurrences};
 ghost use Rattle.hol_terms.specs.Scoped.{binds, same_named, add_all, occurs_in};
 ghost use Rattle.hol_terms.specs.Scope.{binders};
 ghost use Rattle.hol_terms.specs.Alpha.{strip, alpha_eq};
@@ -15,7 +15,7 @@ use crate::base::base_name;
 use crate::scope::{Scope, same_place};
 use crate::variable::Variable;
 use hol_types::{Name, NameFilter, Ty};
-use std::alloc::{AllocError, AllocFailed, Global};
+use std::alloc::{AllocError, Global};
 use std::marker::Model;
 use std::rc::Rc;
 use thiserror::Error;
@@ -38,14 +38,6 @@ impl From<AllocError> for TermError {
     ghost from_gives = { λ _ e. e ≡ Memory };
 
     fn from(_e: AllocError) -> TermError {
-        TermError::Memory
-    }
-}
-
-impl<T: Drop> From<AllocFailed<T>> for TermError {
-    ghost from_gives = { λ _ e. e ≡ Memory };
-
-    fn from(_e: AllocFailed<T>) -> TermError {
         TermError::Memory
     }
 }
@@ -102,33 +94,24 @@ impl Model for Term {
 
 impl Term {
     /// The term that is this variable.
-    ///
-    /// Answers `Memory` where memory is short, and no other error.
-    pub fn var(alloc: Global, variable: &Variable) -> Result<Term, TermError>
-        ensures ok { IfOk result (λ t. t ≡ var variable.now) }
-        ensures memory { IsOkUnless result TermError.Memory }
+    pub fn var(alloc: Global, variable: &Variable) -> Result<Term, AllocError>
+        ensures { IfOk result (λ t. t ≡ var variable.now) }
     {
         let ty = variable.ty().copy()?;
-        let node = TermNode::Var(variable.copy()?);
-        Ok(Term::from_node(alloc, node, ty)?)
+        Term::from_node(alloc, TermNode::Var(variable.copy()?), ty)
     }
 
     /// The constant of this name and type.
-    ///
-    /// Answers `Memory` where memory is short, and no other error.
-    pub fn constant(alloc: Global, name: &Name, ty: &Ty) -> Result<Term, TermError>
-        ensures ok { IfOk result (λ t. t ≡ constant name.now ty.now) }
-        ensures memory { IsOkUnless result TermError.Memory }
+    pub fn constant(alloc: Global, name: &Name, ty: &Ty) -> Result<Term, AllocError>
+        ensures { IfOk result (λ t. t ≡ constant name.now ty.now) }
     {
         let node = TermNode::Const(name.copy()?, ty.copy()?);
-        let ty = ty.copy()?;
-        Ok(Term::from_node(alloc, node, ty)?)
+        Term::from_node(alloc, node, ty.copy()?)
     }
 
     /// The application of `f` to `x`.
     ///
-    /// Answers `TypesDontFit` exactly where the type of `f` is no function type whose domain is the type of `x`, and `Memory` where
-    /// memory is short.
+    /// Answers `TypesDontFit` exactly where the type of `f` is no function type whose domain is the type of `x`.
     #[tactic(auto, using(crate::proofs::Typing::comb_type))]
     pub fn comb(alloc: Global, f: &Term, x: &Term) -> Result<Term, TermError>
         ensures ok { IfOk result (λ t. t ≡ comb f.now x.now) }
@@ -138,14 +121,33 @@ impl Term {
         let Some(range) = applied(f.type_of(), x.type_of()) else {
             return Err(TermError::TypesDontFit);
         };
-        let ty = range.copy()?;
+        Ok(Term::application_to(alloc, f, x, range)?)
+    }
+
+    /// The application of `f` to `x`, whose type is the domain of that of `f`.
+    #[tactic(auto, using(crate::proofs::Typing::comb_type))]
+    pub fn application(alloc: Global, f: &Term, x: &Term) -> Result<Term, AllocError>
+        requires { named_type (comb f.now x.now) ≡ None → ⊥ }
+        ensures { IfOk result (λ t. t ≡ comb f.now x.now) }
+    {
+        let Some(range) = applied(f.type_of(), x.type_of()) else {
+            unreachable!()
+        };
+        Term::application_to(alloc, f, x, range)
+    }
+
+    // The application of `f` to `x`, where its type is `range`.
+    fn application_to(alloc: Global, f: &Term, x: &Term, range: &Ty) -> Result<Term, AllocError>
+        requires { named_type (comb f.now x.now) ≡ Some range.now }
+        ensures { IfOk result (λ t. t ≡ comb f.now x.now) }
+    {
         let node = TermNode::Comb(f.copy()?, x.copy()?);
-        Ok(Term::from_node(alloc, node, ty)?)
+        Term::from_node(alloc, node, range.copy()?)
     }
 
     /// The abstraction of the variable that the term `variable` is, in `body`.
     ///
-    /// Answers `NotAVariable` exactly where that term is no variable, and `Memory` where memory is short.
+    /// Answers `NotAVariable` exactly where that term is no variable.
     #[tactic(auto, using(crate::proofs::Typing::abs_type))]
     pub fn abs(alloc: Global, variable: &Term, body: &Term) -> Result<Term, TermError>
         ensures ok { IfOk result (λ t. (v : List ℕ × TypeTree) × (variable.now ≡ var v) × (t ≡ abs v body.now)) }
@@ -155,27 +157,23 @@ impl Term {
         let TermNode::Var(v) = variable.node() else {
             return Err(TermError::NotAVariable);
         };
-        Term::abstraction(alloc, v, body)
+        Ok(Term::abstraction(alloc, v, body)?)
     }
 
     /// The abstraction of the variable `v` in `body`.
-    ///
-    /// Answers `Memory` where memory is short, and no other error.
     #[tactic(auto, using(crate::proofs::Typing::abs_type))]
-    pub fn abstraction(alloc: Global, v: &Variable, body: &Term) -> Result<Term, TermError>
-        ensures ok { IfOk result (λ t. t ≡ abs v.now body.now) }
-        ensures memory { IsOkUnless result TermError.Memory }
+    pub fn abstraction(alloc: Global, v: &Variable, body: &Term) -> Result<Term, AllocError>
+        ensures { IfOk result (λ t. t ≡ abs v.now body.now) }
     {
         let ty = Ty::fun(alloc, v.ty(), body.type_of())?;
         let node = TermNode::Abs(v.copy()?, body.copy()?);
-        Ok(Term::from_node(alloc, node, ty)?)
+        Term::from_node(alloc, node, ty)
     }
 
     // The term with this top node, whose type is `ty`.
-    fn from_node(alloc: Global, node: TermNode, ty: Ty) -> Result<Term, TermError>
+    fn from_node(alloc: Global, node: TermNode, ty: Ty) -> Result<Term, AllocError>
         requires { named_type (named_of node) ≡ Some ty }
-        ensures ok { IfOk result (λ t. t ≡ named_of node) }
-        ensures memory { IsOkUnless result TermError.Memory }
+        ensures { IfOk result (λ t. t ≡ named_of node) }
     {
         let size = node.size();
         let filter = node.filter();
@@ -189,12 +187,9 @@ impl Term {
         })
     }
 
-    /// The same term, sharing its nodes.
-    ///
-    /// Answers `Memory` where memory is short (no count is left for one more copy), and no other error.
-    pub fn copy(&self) -> Result<Term, TermError>
-        ensures ok { IfOk result (λ t. t ≡ self.now) }
-        ensures memory { IsOkUnless result TermError.Memory }
+    /// The same term, sharing its nodes. An error says that no count is left for one more copy.
+    pub fn copy(&self) -> Result<Term, AllocError>
+        ensures { IfOk result (λ t. t ≡ self.now) }
     {
         Ok(Term {
             node: self.node.clone()?,
@@ -213,8 +208,10 @@ impl Term {
     }
 
     /// The type of the term. Each term keeps it, so this is at once and takes no memory.
+    #[tactic(auto, using(crate::proofs::Typing::type_outside))]
     pub fn type_of(&self) -> &Ty
-        ensures { named_type self.now ≡ Some result.now }
+        ensures named { named_type self.now ≡ Some result.now }
+        ensures nameless { nameless_type [] (nameless [] self.now) ≡ Some result.now }
     {
         &self.ty
     }
@@ -327,11 +324,8 @@ impl Term {
     }
 
     /// The free variables, each once, by first occurrence.
-    ///
-    /// Answers `Memory` where memory is short, and no other error.
-    pub fn frees(&self, alloc: Global) -> Result<Vec<Variable>, TermError>
-        ensures memory { IsOkUnless result TermError.Memory }
-        ensures ok { IfOk result (λ vs. vs.items ≡ add_all [] (free_occurrences (nameless [] self.now))) }
+    pub fn frees(&self, alloc: Global) -> Result<Vec<Variable>, AllocError>
+        ensures { IfOk result (λ vs. vs.items ≡ add_all [] (free_occurrences (nameless [] self.now))) }
     {
         let mut found = Vec::new(alloc);
         self.add_frees(&Scope::Outside, &mut found)?;
@@ -340,9 +334,8 @@ impl Term {
 
     // Puts each variable that is free under the binders, and not there yet, at the end.
     #[tactic(auto, using(crate::proofs::Frees::collecting))]
-    fn add_frees(&self, scope: &Scope, found: &mut Vec<Variable>) -> Result<(), TermError>
-        ensures memory { IsOkUnless result TermError.Memory }
-        ensures ok { OnOk result (found.new.items ≡ add_all found.old.items (free_occurrences (nameless (binders scope.now) self.now))) }
+    fn add_frees(&self, scope: &Scope, found: &mut Vec<Variable>) -> Result<(), AllocError>
+        ensures { OnOk result (found.new.items ≡ add_all found.old.items (free_occurrences (nameless (binders scope.now) self.now))) }
     {
         match &*self.node {
             TermNode::Var(v) => {

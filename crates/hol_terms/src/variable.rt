@@ -33,8 +33,6 @@ impl Model for Variable {
 
 impl Variable {
     /// The variable of this name and type.
-    ///
-    /// Answers an error where memory is short, and nowhere else.
     pub fn new(name: &Name, ty: &Ty) -> Result<Variable, AllocError>
         ensures { IfOk result (λ v. v ≡ (name.now, ty.now)) }
     {
@@ -60,8 +58,7 @@ impl Variable {
     }
 
     /// The same variable, sharing its name and the nodes of its type.
-    ///
-    /// Answers an error where memory is short (no count is left for one more copy), and nowhere else.
+    /// An error says that no count is left for one more copy.
     pub fn copy(&self) -> Result<Variable, AllocError>
         ensures { IfOk result (λ v. v ≡ self.now) }
     {
@@ -82,8 +79,6 @@ impl Variable {
     }
 
     /// The variable with one prime more at the end of its name.
-    ///
-    /// Answers an error where memory is short, and nowhere else.
     pub fn primed(&self, alloc: Global) -> Result<Variable, AllocError>
         ensures { IfOk result (λ v. v ≡ (self.now.0 ++ 39 ∷ [], self.now.1)) }
     {

@@ -1,10 +1,10 @@
 //! Types: finite trees of variables and constructors, with shared nodes.
+//!
+//! A call that answers a `Result` answers the error of memory where memory is short, and nowhere else.
 #![tactic(auto)]
 
 mod filter;
 mod name;
-#[cfg(test)]
-mod tests;
 mod ty;
 
 pub use filter::NameFilter;

@@ -64,8 +64,6 @@ impl Model for Ty {
 
 impl Ty {
     /// The type variable of this name.
-    ///
-    /// Answers an error where memory is short, and nowhere else.
     pub fn var(alloc: Global, name: &Name) -> Result<Ty, AllocError>
         ensures { IfOk result (λ ty. ty ≡ TyVar name.now) }
     {
@@ -73,8 +71,6 @@ impl Ty {
     }
 
     /// The constructor of this name applied to the arguments, in their order.
-    ///
-    /// Answers an error where memory is short, and nowhere else.
     pub fn app(alloc: Global, name: &Name, args: &[Ty]) -> Result<Ty, AllocError>
         ensures { IfOk result (λ ty. ty ≡ TyApp name.now (type_list args.now)) }
     {
@@ -99,8 +95,7 @@ impl Ty {
     }
 
     /// The same type, sharing its nodes.
-    ///
-    /// Answers an error where memory is short (no count is left for one more copy), and nowhere else.
+    /// An error says that no count is left for one more copy.
     pub fn copy(&self) -> Result<Ty, AllocError>
         ensures { IfOk result (λ ty. ty ≡ self.now) }
     {
@@ -119,8 +114,6 @@ impl Ty {
     }
 
     /// The type of functions from `domain` to `range`: the constructor `fun` of these two.
-    ///
-    /// Answers an error where memory is short, and nowhere else.
     pub fn fun(alloc: Global, domain: &Ty, range: &Ty) -> Result<Ty, AllocError>
         ensures { IfOk result (λ ty. ty ≡ fun_type domain.now range.now) }
     {
@@ -183,8 +176,6 @@ impl Ty {
     /// A part in which `may_have_var` excludes each pair's name is kept, with its nodes. The others are walked, and a node that
     /// stands at many places is walked and made anew at each: so the nodes of this type, as `size` counts them, bound the walk. The
     /// pairs' types are shared, however large.
-    ///
-    /// Answers an error where memory is short, and nowhere else.
     #[tactic(auto, using(crate::proofs::Filters::kept_closed))]
     pub fn subst(&self, alloc: Global, pairs: &[(Ty, Name)]) -> Result<Ty, AllocError>
         ensures { IfOk result (λ ty. ty ≡ type_subst pairs.now self.now) }
@@ -274,8 +265,6 @@ impl Ty {
     /// The names of the type variables, each once, in order of bytes.
     ///
     /// Parts without variables are passed over. The others are walked at each place where they stand.
-    ///
-    /// Answers an error where memory is short, and nowhere else.
     #[tactic(auto, using(crate::proofs::Names::collected))]
     pub fn tyvars(&self, alloc: Global) -> Result<Vec<Name>, AllocError>
         ensures list { IfOk result (λ names. names.items ≡ tyvars self.now) }
@@ -310,8 +299,6 @@ impl Ty {
     /// give it.
     ///
     /// Parts without variables are compared as `same` does. The others are walked at each place where they stand.
-    ///
-    /// Answers an error where memory is short, and nowhere else.
     #[tactic(auto, using(crate::proofs::MatchLaws::matching))]
     pub fn match_to(
         &self,

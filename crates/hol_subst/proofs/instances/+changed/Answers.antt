@@ -9,31 +9,31 @@ use Rattle.hol_subst.proofs.InstSteps.{variable_at, application_at, fits_at, abs
 use Rattle.hol_subst.proofs.Kept.{kept_instance, renamed_inside}
 use Rattle.hol_subst.proofs.instances.+changed.Goals as goal
 
-pub returns-then-not-meets-2-clause-ok : goal.returns-then-not-meets-2-clause-ok
-returns-then-not-meets-2-clause-ok t c =
+pub returns-then-not-meets-2 : goal.returns-then-not-meets-2
+returns-then-not-meets-2 t c =
     let types : bit_and (type_filter_of c.args.t.now) (pairs_filter c.args.pairs.now) ≡ 0 = grind (arith, common_steps) in
     let free : bit_and (filter_of c.args.t.now) c.args.renamed.bits ≡ 0 = grind (arith, common_steps) in
     kept_instance c.args.pairs.now (binders c.args.old.now) (binders c.args.new.now) c.args.t.now c.args.renamed.bits c.requires.renamed types free
 
-pub returns-in_ok-changed_variable-in-Var-clause-ok : goal.returns-in_ok-changed_variable-in-Var-clause-ok
-returns-in_ok-changed_variable-in-Var-clause-ok t c =
+pub returns-in_ok-changed_variable-in-Var : goal.returns-in_ok-changed_variable-in-Var
+returns-in_ok-changed_variable-in-Var t c =
     variable_at c.args.pairs.now (binders c.args.old.now) (binders c.args.new.now) c.in-Var.v c.in_ok-u-in-Var.u c.args.t.now c.in_ok-changed_variable-in-Var.field-0
-    (sym c.node.ensures ∙ ap named_of c.in-Var.is) c.requires.types c.in_ok-u-in-Var.ensures c.in_ok-changed_variable-in-Var.ensures.ok
+    (sym c.node.ensures ∙ ap named_of c.in-Var.is) c.requires.types c.in_ok-u-in-Var.ensures c.in_ok-changed_variable-in-Var.ensures
 
 pub changed_application-requires : goal.changed_application-requires
 changed_application-requires t c =
     fits_at c.args.pairs.now (binders c.args.old.now) (binders c.args.new.now) c.in-Comb.f c.in-Comb.x c.args.t.now c.in_ok-g-in-Comb.g c.in_ok-y-in-Comb.y
-    (sym c.node.ensures ∙ ap named_of c.in-Comb.is) c.in_ok-g-in-Comb.ensures.ok c.in_ok-y-in-Comb.ensures.ok
+    (sym c.node.ensures ∙ ap named_of c.in-Comb.is) c.in_ok-g-in-Comb.ensures c.in_ok-y-in-Comb.ensures
 
-pub returns-in_ok-changed_application-in-Comb-clause-ok : goal.returns-in_ok-changed_application-in-Comb-clause-ok
-returns-in_ok-changed_application-in-Comb-clause-ok t c =
+pub returns-in_ok-changed_application-in-Comb : goal.returns-in_ok-changed_application-in-Comb
+returns-in_ok-changed_application-in-Comb t c =
     application_at c.args.pairs.now (binders c.args.old.now) (binders c.args.new.now) c.in-Comb.f c.in-Comb.x c.args.t.now c.in_ok-g-in-Comb.g c.in_ok-y-in-Comb.y c.in_ok-changed_application-in-Comb.field-0
-    (sym c.node.ensures ∙ ap named_of c.in-Comb.is) c.in_ok-g-in-Comb.ensures.ok c.in_ok-y-in-Comb.ensures.ok c.in_ok-changed_application-in-Comb.ensures.ok
+    (sym c.node.ensures ∙ ap named_of c.in-Comb.is) c.in_ok-g-in-Comb.ensures c.in_ok-y-in-Comb.ensures c.in_ok-changed_application-in-Comb.ensures
 
-pub returns-in_ok-changed_abstraction-in-Abs-clause-ok : goal.returns-in_ok-changed_abstraction-in-Abs-clause-ok
-returns-in_ok-changed_abstraction-in-Abs-clause-ok t c =
+pub returns-in_ok-changed_abstraction-in-Abs : goal.returns-in_ok-changed_abstraction-in-Abs
+returns-in_ok-changed_abstraction-in-Abs t c =
     abstraction_at c.args.pairs.now (binders c.args.old.now) (binders c.args.new.now) c.in-Abs.v c.in_ok-u-in-Abs.u c.in-Abs.b c.args.t.now c.in_ok-c-in-Abs.c c.in_ok-changed_abstraction-in-Abs.field-0
-    (sym c.node.ensures ∙ ap named_of c.in-Abs.is) c.in_ok-u-in-Abs.ensures.ok c.in_ok-c-in-Abs.ensures.ok c.in_ok-changed_abstraction-in-Abs.ensures.ok
+    (sym c.node.ensures ∙ ap named_of c.in-Abs.is) c.in_ok-u-in-Abs.ensures c.in_ok-c-in-Abs.ensures c.in_ok-changed_abstraction-in-Abs.ensures
 
 pub changed-requires-in-Abs : goal.changed-requires-in-Abs
 changed-requires-in-Abs t c = (

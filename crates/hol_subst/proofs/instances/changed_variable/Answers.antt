@@ -3,5 +3,5 @@ use Rattle.hol_terms.specs.Named.{var}
 use Rattle.hol_subst.proofs.InstSteps.{same_variable}
 use Rattle.hol_subst.proofs.instances.changed_variable.Goals as goal
 
-pub returns-then-same-clause-ok : goal.returns-then-same-clause-ok
-returns-then-same-clause-ok c = ap var (sym (same_variable c.args.u.now c.args.v.now (sym c.if-same.true ∙ c.same.ensures)))
+pub returns-then-same : goal.returns-then-same
+returns-then-same c = ap var (sym (same_variable c.args.u.now c.args.v.now (sym c.if-same.true ∙ c.same.ensures)))
