@@ -5,8 +5,6 @@ use Rattle.hol_notation_tokens.specs.declared.token.Token.{Token}
 use Rattle.hol_notation_tokens.specs.declared.lexer.Word.{Word}
 use Rattle.hol_notation_tokens.specs.declared.error.SyntaxError.{SyntaxError}
 use Rattle.hol_notation_tokens.specs.declared.error.SyntaxError.TheVariants.{Memory, Syntax}
-use Rattle.hol_notation_commands.specs.declared.command.Command.{Command}
-use Rattle.hol_notation_commands.specs.View.{command_text}
 use Rattle.hol_notation_tokens.specs.Token.{IsLexed, token_after, skip}
 use Rattle.hol_notation_tokens.specs.Lexeme.{Lexeme, lexeme_of, lexemes, seen, token_of, IsScan}
 use Rattle.hol_notation_commands.specs.Text.{CommandText}
@@ -49,7 +47,7 @@ pub answer-err : (end : ℕ) (words : List Lexeme) (e : SyntaxError) → Fails c
 answer-err end words Memory h = tt
 answer-err end words (Syntax place) h = fault-from_stuck end words place h
 
-pub answer-ok : (end : ℕ) (words rest : List Lexeme) (command : Command) → Found command_value words (command_text command) rest → rest ≡ [] → IsAnswer end words (Ok command)
+pub answer-ok : (end : ℕ) (words rest : List Lexeme) (command : CommandText) → Found command_value words command rest → rest ≡ [] → IsAnswer end words (Ok command)
 answer-ok end words rest command f e = record { written = f.written; whole = f.whole ∙ ap (then f.written) e; stands = subst (Stands f.written) e f.stands; says = f.says }
 
 -- a command is read whole, and goes on with nothing

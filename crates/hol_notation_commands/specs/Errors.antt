@@ -4,9 +4,7 @@ use Rattle.hol_notation_tokens.specs.declared.error.SyntaxError.{SyntaxError}
 use Rattle.hol_notation_tokens.specs.declared.error.SyntaxError.TheVariants.{Memory, Syntax}
 use Rattle.hol_notation_tokens.specs.Lexeme.{Lexeme}
 use Rattle.hol_notation_grammar.specs.Terminal.{place_at}
-use Rattle.hol_notation_commands.specs.declared.command.Command.{Command}
 use Rattle.hol_notation_commands.specs.Text.{CommandText}
-use Rattle.hol_notation_commands.specs.View.{command_text}
 use Rattle.hol_notation_commands.specs.Reading.{IsRead, Breaks, IsCommand, IsBeginning}
 
 -- the text is no command, from this place on
@@ -29,7 +27,7 @@ pub record IsFaultAt (end : ℕ) (words : List Lexeme) (place : ℕ) : Type 0 wh
   pub dead : IsDead front rest
 
 -- what a reading of all lexemes answers
-abbrev pub IsAnswer : ℕ → List Lexeme → Result Command SyntaxError → Type 0
-IsAnswer end words (Ok command) = IsCommand words (command_text command)
+abbrev pub IsAnswer : ℕ → List Lexeme → Result CommandText SyntaxError → Type 0
+IsAnswer end words (Ok command) = IsCommand words command
 IsAnswer end words (Err Memory) = Unit {0}
 IsAnswer end words (Err (Syntax place)) = IsFaultAt end words place

@@ -1,7 +1,9 @@
 pub use Rattle.hol_notation_tokens.specs.Token
 pub use Rattle.hol_notation_tokens.specs.Lexeme
 pub mod Text
-pub mod View
+pub mod Code
+pub mod TypeDefinitionView
+pub mod CommandView
 pub mod Grammar
 pub mod Value
 pub mod Reading

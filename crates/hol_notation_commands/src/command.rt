@@ -1,15 +1,22 @@
 //! Commands as they are written.
 ghost use Rattle.std.specs.Prelude.{◌≡◌, IfOk};
-ghost use Rattle.hol_notation_commands.specs.View.{command_text};
+ghost use Rattle.hol_notation_commands.specs.CommandView.{command_of_node};
 
 use crate::type_definition::TypeDefinition;
 use hol_notation_tactics::TacExpr;
 use hol_notation_terms::{Definition, Quotation, TypeQuotation};
 use std::alloc::{AllocError, Global};
+use std::marker::Model;
 
 /// A command.
 #[derive(Drop)]
-pub enum Command {
+pub struct Command {
+    pub(crate) node: CommandNode,
+}
+
+/// What a command is.
+#[derive(Drop)]
+pub enum CommandNode {
     /// `g NAME` and a quotation: opens a proof of a goal.
     Goal {
         /// The theorem's name.
@@ -61,41 +68,67 @@ pub enum Command {
     NewBasicTypeDefinition(TypeDefinition),
 }
 
+impl Model for Command {
+    ghost use Rattle.hol_notation_commands.specs.Text.{CommandText};
+    ghost use Rattle.hol_notation_commands.specs.Code.{coded_command};
+
+    ghost Value = { CommandText };
+
+    ghost coded = { coded_command };
+
+    ghost use Rattle.hol_notation_commands.specs.CommandView.{command_of_node};
+
+    ghost view = { λ a. command_of_node a.node };
+}
+
 impl Command {
-    /// The same command, sharing the nodes of its parts. Answers an error where memory is short, and nowhere else.
-    pub fn copy(&self, alloc: Global) -> Result<Command, AllocError>
-        ensures { IfOk result (λ command. command_text command ≡ command_text self.now) }
+    /// The command that is this.
+    pub fn new(node: CommandNode) -> Command
+        ensures { result ≡ command_of_node node }
     {
-        match self {
-            Command::Goal { name, quotation } => Ok(Command::Goal {
+        Command { node }
+    }
+
+    /// What it is, with its parts by reference.
+    pub fn node(&self) -> &CommandNode
+        ensures { command_of_node result.now ≡ self.now }
+    {
+        &self.node
+    }
+
+    /// The same command, sharing the nodes of its parts.
+    pub fn copy(&self, alloc: Global) -> Result<Command, AllocError>
+        ensures { IfOk result (λ command. command ≡ self.now) }
+    {
+        let node = match &self.node {
+            CommandNode::Goal { name, quotation } => CommandNode::Goal {
                 name: String::from_str(alloc, name.as_str())?,
                 quotation: quotation.copy()?,
-            }),
-            Command::Apply(tactic) => Ok(Command::Apply(tactic.copy()?)),
-            Command::Back => Ok(Command::Back),
-            Command::Rotate(n) => Ok(Command::Rotate(*n)),
-            Command::Qed => Ok(Command::Qed),
-            Command::Oops => Ok(Command::Oops),
-            Command::Import(name) => Ok(Command::Import(String::from_str(alloc, name.as_str())?)),
-            Command::NewType { name, arity } => Ok(Command::NewType {
+            },
+            CommandNode::Apply(tactic) => CommandNode::Apply(tactic.copy()?),
+            CommandNode::Back => CommandNode::Back,
+            CommandNode::Rotate(n) => CommandNode::Rotate(*n),
+            CommandNode::Qed => CommandNode::Qed,
+            CommandNode::Oops => CommandNode::Oops,
+            CommandNode::Import(name) => CommandNode::Import(String::from_str(alloc, name.as_str())?),
+            CommandNode::NewType { name, arity } => CommandNode::NewType {
                 name: String::from_str(alloc, name.as_str())?,
                 arity: *arity,
-            }),
-            Command::NewConstant { name, quotation } => Ok(Command::NewConstant {
+            },
+            CommandNode::NewConstant { name, quotation } => CommandNode::NewConstant {
                 name: String::from_str(alloc, name.as_str())?,
                 quotation: quotation.copy()?,
-            }),
-            Command::NewAxiom { name, quotation } => Ok(Command::NewAxiom {
+            },
+            CommandNode::NewAxiom { name, quotation } => CommandNode::NewAxiom {
                 name: String::from_str(alloc, name.as_str())?,
                 quotation: quotation.copy()?,
-            }),
-            Command::NewDefinition { name, definition } => Ok(Command::NewDefinition {
+            },
+            CommandNode::NewDefinition { name, definition } => CommandNode::NewDefinition {
                 name: String::from_str(alloc, name.as_str())?,
                 definition: definition.copy(alloc)?,
-            }),
-            Command::NewBasicTypeDefinition(definition) => Ok(Command::NewBasicTypeDefinition(
-                definition.copy(alloc)?,
-            )),
-        }
+            },
+            CommandNode::NewBasicTypeDefinition(definition) => CommandNode::NewBasicTypeDefinition(definition.copy(alloc)?),
+        };
+        Ok(Command { node })
     }
 }

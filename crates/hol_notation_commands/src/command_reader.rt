@@ -3,10 +3,10 @@
 //! A reader takes the words that are left and gives what it has read and the words after it. Where no command goes on it
 //! answers `Syntax` with the place of the next word, or with the end where there is none.
 ghost use Rattle.hol_notation_grammar.specs.Reading.{ReadsPart};
-ghost use Rattle.hol_notation_commands.specs.View.{command_text, type_definition_text};
+ghost use Rattle.hol_notation_commands.specs.CommandView.{command_of_node};
 ghost use Rattle.hol_notation_commands.specs.Value.{command_value, declaration_value, names_value};
 
-use crate::command::Command;
+use crate::command::CommandNode;
 use crate::type_definition::TypeDefinition;
 use crate::word::{CommandWord, next, read_name};
 use hol_notation_grammar::{Class, expect};
@@ -25,30 +25,30 @@ pub(crate) fn read_words<'a, 't>(
     alloc: Global,
     words: &'a [Word<'t>],
     end: usize,
-) -> Result<(Command, &'a [Word<'t>]), SyntaxError>
-    ensures { ReadsPart command_value command_text end words.now result }
+) -> Result<(CommandNode, &'a [Word<'t>]), SyntaxError>
+    ensures { ReadsPart command_value command_of_node end words.now result }
 {
     let next = next(words, end);
     match next.word {
         CommandWord::Goal => {
             let (name, after) = read_name(alloc, next.rest, end)?;
             let (quotation, rest) = read_quotation(alloc, after, end)?;
-            Ok((Command::Goal { name, quotation }, rest))
+            Ok((CommandNode::Goal { name, quotation }, rest))
         }
         CommandWord::Apply => {
             let (tactic, rest) = read_tactic(alloc, next.rest, end)?;
-            Ok((Command::Apply(tactic), rest))
+            Ok((CommandNode::Apply(tactic), rest))
         }
-        CommandWord::Back => Ok((Command::Back, next.rest)),
+        CommandWord::Back => Ok((CommandNode::Back, next.rest)),
         CommandWord::Rotate => {
             let (number, rest) = expect(next.rest, Class::Number, end)?;
-            Ok((Command::Rotate(number_value(number.text)), rest))
+            Ok((CommandNode::Rotate(number_value(number.text)), rest))
         }
-        CommandWord::Qed => Ok((Command::Qed, next.rest)),
-        CommandWord::Oops => Ok((Command::Oops, next.rest)),
+        CommandWord::Qed => Ok((CommandNode::Qed, next.rest)),
+        CommandWord::Oops => Ok((CommandNode::Oops, next.rest)),
         CommandWord::Import => {
             let (name, rest) = read_name(alloc, next.rest, end)?;
-            Ok((Command::Import(name), rest))
+            Ok((CommandNode::Import(name), rest))
         }
         _ => {
             let (command, rest) = read_declaration(alloc, words, end)?;
@@ -62,8 +62,8 @@ fn read_declaration<'a, 't>(
     alloc: Global,
     words: &'a [Word<'t>],
     end: usize,
-) -> Result<(Command, &'a [Word<'t>]), SyntaxError>
-    ensures { ReadsPart declaration_value command_text end words.now result }
+) -> Result<(CommandNode, &'a [Word<'t>]), SyntaxError>
+    ensures { ReadsPart declaration_value command_of_node end words.now result }
 {
     let next = next(words, end);
     match next.word {
@@ -72,7 +72,7 @@ fn read_declaration<'a, 't>(
             let (number, rest) = expect(after, Class::Number, end)?;
             let arity = number_value(number.text);
             if arity <= MAX_ARITY {
-                Ok((Command::NewType { name, arity }, rest))
+                Ok((CommandNode::NewType { name, arity }, rest))
             } else {
                 Err(SyntaxError::Syntax(number.place))
             }
@@ -80,21 +80,21 @@ fn read_declaration<'a, 't>(
         CommandWord::NewConstant => {
             let (name, after) = read_name(alloc, next.rest, end)?;
             let (quotation, rest) = read_type_quotation(alloc, after, end)?;
-            Ok((Command::NewConstant { name, quotation }, rest))
+            Ok((CommandNode::NewConstant { name, quotation }, rest))
         }
         CommandWord::NewAxiom => {
             let (name, after) = read_name(alloc, next.rest, end)?;
             let (quotation, rest) = read_quotation(alloc, after, end)?;
-            Ok((Command::NewAxiom { name, quotation }, rest))
+            Ok((CommandNode::NewAxiom { name, quotation }, rest))
         }
         CommandWord::NewDefinition => {
             let (name, after) = read_name(alloc, next.rest, end)?;
             let (definition, rest) = read_definition_quotation(alloc, after, end)?;
-            Ok((Command::NewDefinition { name, definition }, rest))
+            Ok((CommandNode::NewDefinition { name, definition }, rest))
         }
         CommandWord::NewBasicTypeDefinition => {
             let (definition, rest) = read_names(alloc, next.rest, end)?;
-            Ok((Command::NewBasicTypeDefinition(definition), rest))
+            Ok((CommandNode::NewBasicTypeDefinition(definition), rest))
         }
         _ => Err(SyntaxError::Syntax(next.place)),
     }
@@ -106,7 +106,7 @@ fn read_names<'a, 't>(
     words: &'a [Word<'t>],
     end: usize,
 ) -> Result<(TypeDefinition, &'a [Word<'t>]), SyntaxError>
-    ensures { ReadsPart names_value type_definition_text end words.now result }
+    ensures { ReadsPart names_value (λ d. d) end words.now result }
 {
     let (ty, after_ty) = read_name(alloc, words, end)?;
     let (abs, after_abs) = read_name(alloc, after_ty, end)?;

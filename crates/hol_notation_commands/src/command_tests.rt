@@ -1,5 +1,5 @@
 //! What commands are read as, and their copies.
-use crate::{Command, TypeDefinition, read_command};
+use crate::{Command, CommandNode, TypeDefinition, read_command};
 use hol_notation_tactics::{TacExpr, TacExprNode};
 use hol_notation_tokens::SyntaxError;
 use std::alloc::{AllocError, Global};
@@ -46,11 +46,11 @@ fn names(alloc: Global, definition: &TypeDefinition) -> Result<String, AllocErro
 
 // The command's words and numbers; the place of a quotation, and of a definition between backquotes its constant.
 fn said(alloc: Global, command: &Command) -> Result<String, AllocError> {
-    match command {
-        Command::Goal { name, quotation } => {
+    match command.node() {
+        CommandNode::Goal { name, quotation } => {
             with_number(alloc, &["g", name.as_str()], quotation.place)
         }
-        Command::Apply(tactic) => {
+        CommandNode::Apply(tactic) => {
             joined(
                 alloc,
                 if is_then(tactic) {
@@ -60,31 +60,31 @@ fn said(alloc: Global, command: &Command) -> Result<String, AllocError> {
                 },
             )
         }
-        Command::Back => joined(alloc, &["b"]),
-        Command::Rotate(number) => with_number(alloc, &["r"], *number),
-        Command::Qed => joined(alloc, &["qed"]),
-        Command::Oops => joined(alloc, &["oops"]),
-        Command::Import(name) => joined(alloc, &["import", name.as_str()]),
+        CommandNode::Back => joined(alloc, &["b"]),
+        CommandNode::Rotate(number) => with_number(alloc, &["r"], *number),
+        CommandNode::Qed => joined(alloc, &["qed"]),
+        CommandNode::Oops => joined(alloc, &["oops"]),
+        CommandNode::Import(name) => joined(alloc, &["import", name.as_str()]),
         _ => declared(alloc, command),
     }
 }
 
 fn declared(alloc: Global, command: &Command) -> Result<String, AllocError> {
-    match command {
-        Command::NewType { name, arity } => {
+    match command.node() {
+        CommandNode::NewType { name, arity } => {
             with_number(alloc, &["new_type", name.as_str()], *arity)
         }
-        Command::NewConstant { name, quotation } => {
+        CommandNode::NewConstant { name, quotation } => {
             with_number(alloc, &["new_constant", name.as_str()], quotation.place)
         }
-        Command::NewAxiom { name, quotation } => {
+        CommandNode::NewAxiom { name, quotation } => {
             with_number(alloc, &["new_axiom", name.as_str()], quotation.place)
         }
-        Command::NewDefinition { name, definition } => joined(
+        CommandNode::NewDefinition { name, definition } => joined(
             alloc,
             &["new_definition", name.as_str(), definition.name.as_str()],
         ),
-        Command::NewBasicTypeDefinition(definition) => names(alloc, definition),
+        CommandNode::NewBasicTypeDefinition(definition) => names(alloc, definition),
         _ => joined(alloc, &["no declaration"]),
     }
 }

@@ -12,7 +12,7 @@ mod texts_tests;
 mod type_definition;
 mod word;
 
-pub use command::Command;
+pub use command::{Command, CommandNode};
 pub use laws::one_reading;
 pub use text_reader::read_command;
 pub use type_definition::TypeDefinition;

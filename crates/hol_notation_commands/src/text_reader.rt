@@ -1,7 +1,6 @@
 //! The reader of whole texts.
 ghost use Rattle.std.specs.Prelude.{map, MatchResult};
 ghost use Rattle.hol_notation_tokens.specs.Lexeme.{seen};
-ghost use Rattle.hol_notation_commands.specs.View.{command_text};
 ghost use Rattle.hol_notation_commands.specs.Reading.{IsRead, Reads};
 ghost use Rattle.hol_notation_commands.specs.Errors.{IsSyntaxError, IsAnswer};
 
@@ -14,9 +13,9 @@ use std::alloc::Global;
 fn read_all(alloc: Global, words: &[Word<'_>], end: usize) -> Result<Command, SyntaxError>
     ensures { IsAnswer end (map seen words.now) result }
 {
-    let (command, rest) = read_words(alloc, words, end)?;
+    let (node, rest) = read_words(alloc, words, end)?;
     match rest.split_first() {
-        None => Ok(command),
+        None => Ok(Command { node }),
         Some((word, _after)) => Err(SyntaxError::Syntax(word.place)),
     }
 }
@@ -27,7 +26,7 @@ fn read_all(alloc: Global, words: &[Word<'_>], end: usize) -> Result<Command, Sy
 /// would be one more than `MAX_OPEN`, or no command goes on, and at the text's length where the text ends too soon;
 /// and `Memory` where memory is short.
 pub fn read_command(alloc: Global, text: &str) -> Result<Command, SyntaxError>
-    ensures { MatchResult result (λ command. IsRead text.now (Reads (command_text command))) (IsSyntaxError text.now) }
+    ensures { MatchResult result (λ command. IsRead text.now (Reads command)) (IsSyntaxError text.now) }
 {
     let (words, end) = scan(alloc, text)?;
     let command = read_all(alloc, &words, end)?;

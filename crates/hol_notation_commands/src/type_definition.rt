@@ -1,8 +1,8 @@
 //! Definitions of types.
 ghost use Rattle.std.specs.Prelude.{◌≡◌, IfOk};
-ghost use Rattle.hol_notation_commands.specs.View.{type_definition_text};
 
 use std::alloc::{AllocError, Global};
+use std::marker::Model;
 
 /// The names that `new_basic_type_definition` is given, in the order in which they are written.
 #[derive(Drop)]
@@ -21,10 +21,24 @@ pub struct TypeDefinition {
     pub theorem: String,
 }
 
+impl Model for TypeDefinition {
+    ghost use Rattle.std.specs.Prelude.{string_bytes};
+    ghost use Rattle.hol_notation_commands.specs.Text.{TypeDefinitionText};
+    ghost use Rattle.hol_notation_commands.specs.Code.{coded_type_definition};
+
+    ghost Value = { TypeDefinitionText };
+
+    ghost coded = { coded_type_definition };
+
+    ghost use Rattle.hol_notation_commands.specs.TypeDefinitionView.{type_definition_text};
+
+    ghost view = { type_definition_text };
+}
+
 impl TypeDefinition {
     /// The same names. Answers an error where memory is short, and nowhere else.
     pub fn copy(&self, alloc: Global) -> Result<TypeDefinition, AllocError>
-        ensures { IfOk result (λ definition. type_definition_text definition ≡ type_definition_text self.now) }
+        ensures { IfOk result (λ definition. definition ≡ self.now) }
     {
         Ok(TypeDefinition {
             ty: String::from_str(alloc, self.ty.as_str())?,

@@ -1,5 +1,5 @@
 -- The grammar of theorem and tactic expressions is certain.
-use Rattle.std.proofs.Common.{true, false, IsTrue, List, [], ◌∷◌, refl}
+use Rattle.std.proofs.Common.{IsTrue, List, [], ◌∷◌, refl}
 use Rattle.std.proofs.lemmas.Bool.{false≢true}
 use Rattle.hol_notation_tokens.specs.declared.token.Kind.{Kind}
 use Rattle.hol_notation_tokens.specs.declared.token.Kind.TheVariants.{Close, CloseList, Semicolon}

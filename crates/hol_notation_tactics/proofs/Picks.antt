@@ -1,5 +1,5 @@
 -- The production that the next token picks.
-use Rattle.std.proofs.Common.{◌≡◌, true, false, IsTrue, inl, inr, List, [], ◌∷◌, refl, ap, ◌∙◌, sym, subst, Option, Some, None}
+use Rattle.std.proofs.Common.{◌≡◌, false, IsTrue, inl, inr, List, [], ◌∷◌, refl, ap, ◌∙◌, sym, subst, Option, Some, None}
 use Rattle.std.proofs.lemmas.Bool.{false≢true}
 use Rattle.hol_notation_tokens.specs.declared.token.Kind.{Kind}
 use Rattle.hol_notation_tokens.specs.declared.token.Kind.TheVariants.{Ident, CloseList, Semicolon, Open as OpenKind, OpenList as OpenListKind, Backquote as BackquoteKind}

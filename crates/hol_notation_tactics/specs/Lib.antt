@@ -1,8 +1,7 @@
 pub mod Text
 pub mod Code
-pub mod PairView
 pub mod ThmView
-pub mod CallView
+pub mod ArgumentView
 pub mod TacView
 pub mod Falls
 pub mod Number

@@ -1,13 +1,12 @@
 //! The readers of a TAC's arguments, one function for each part of the grammar.
 ghost use Rattle.std.specs.Prelude.{◌≡◌, ◌<◌, ◌≤◌, length, map, IfOk, []};
 ghost use Rattle.hol_notation_grammar.specs.Reading.{ReadsPart};
-ghost use Rattle.hol_notation_tactics.specs.CallView.{argument_text, call_text};
 ghost use Rattle.hol_notation_tactics.specs.Lead.{opens_argument, next_lead};
 ghost use Rattle.hol_notation_tokens.specs.Lexeme.{seen};
 ghost use Rattle.hol_notation_tactics.specs.Value.{theorems_value, theorem_list_value, group_value, argument_value, arguments_value, theorem_tactic_value};
 
 use crate::lead::{Lead, next};
-use crate::tac_arg::TacArg;
+use crate::tac_arg::{TacArg, TacArgNode};
 use crate::tac_call::TacCall;
 use crate::theorem_reader::read_theorem;
 use crate::thm_expr::{ThmExpr, ThmExprNode};
@@ -68,7 +67,7 @@ fn read_group<'a, 't>(
     words: &'a [Word<'t>],
     end: usize,
 ) -> Result<(TacArg, &'a [Word<'t>]), SyntaxError>
-    ensures reads { ReadsPart group_value argument_text end words.now result }
+    ensures reads { ReadsPart group_value (λ a. a) end words.now result }
     ensures shorter { IfOk result (λ x. length x.1.now < length words.now) }
 {
     let next = next(words, end);
@@ -78,12 +77,14 @@ fn read_group<'a, 't>(
             let (_comma, after) = expect(behind, Class::Sign(Kind::Comma), end)?;
             let (second, last) = read_quotation(alloc, after, end)?;
             let (_close, rest) = expect(last, Class::Sign(Kind::Close), end)?;
-            Ok((TacArg::Pair(first, second), rest))
+            let node = TacArgNode::Pair(first, second);
+            Ok((TacArg { node }, rest))
         }
         _ => {
             let (theorem, after) = read_theorem(alloc, words, end)?;
             let (_close, rest) = expect(after, Class::Sign(Kind::Close), end)?;
-            Ok((TacArg::Theorem(theorem), rest))
+            let node = TacArgNode::Theorem(theorem);
+            Ok((TacArg { node }, rest))
         }
     }
 }
@@ -94,19 +95,21 @@ fn read_argument<'a, 't>(
     words: &'a [Word<'t>],
     end: usize,
 ) -> Result<(TacArg, &'a [Word<'t>]), SyntaxError>
-    ensures reads { ReadsPart argument_value argument_text end words.now result }
+    ensures reads { ReadsPart argument_value (λ a. a) end words.now result }
     ensures shorter { IfOk result (λ x. length x.1.now < length words.now) }
 {
     let next = next(words, end);
     match next.lead {
         Lead::Backquote => {
             let (quotation, rest) = read_quotation(alloc, words, end)?;
-            Ok((TacArg::Term(quotation), rest))
+            let node = TacArgNode::Term(quotation);
+            Ok((TacArg { node }, rest))
         }
         Lead::Name => {
             let name = String::from_str(alloc, next.text)?;
             let theorem = ThmExpr::new(alloc, ThmExprNode::Name(name))?;
-            Ok((TacArg::Theorem(theorem), next.rest))
+            let node = TacArgNode::Theorem(theorem);
+            Ok((TacArg { node }, next.rest))
         }
         Lead::Open => {
             let (argument, rest) = read_group(alloc, next.rest, end)?;
@@ -114,7 +117,8 @@ fn read_argument<'a, 't>(
         }
         Lead::OpenList => {
             let (theorems, rest) = read_theorem_list(alloc, next.rest, end)?;
-            Ok((TacArg::Theorems(theorems), rest))
+            let node = TacArgNode::Theorems(theorems);
+            Ok((TacArg { node }, rest))
         }
         _ => Err(SyntaxError::Syntax(next.place)),
     }
@@ -137,7 +141,7 @@ pub(crate) fn read_arguments<'a, 't>(
     words: &'a [Word<'t>],
     end: usize,
 ) -> Result<(Vec<TacArg>, &'a [Word<'t>]), SyntaxError>
-    ensures reads { ReadsPart (λ r. arguments_value r (map argument_text arguments.items)) (λ all. map argument_text all.items) end words.now result }
+    ensures reads { ReadsPart (λ r. arguments_value r arguments.items) (λ all. all.items) end words.now result }
     ensures shorter { IfOk result (λ x. length x.1.now ≤ length words.now) }
 {
     if is_argument_next(words, end) {
@@ -157,7 +161,7 @@ pub(crate) fn read_theorem_tactic<'a, 't>(
     words: &'a [Word<'t>],
     end: usize,
 ) -> Result<(TacCall, &'a [Word<'t>]), SyntaxError>
-    ensures reads { ReadsPart theorem_tactic_value call_text end words.now result }
+    ensures reads { ReadsPart theorem_tactic_value (λ c. c) end words.now result }
     ensures shorter { IfOk result (λ x. length x.1.now < length words.now) }
 {
     let next = next(words, end);

@@ -21,7 +21,7 @@ mod type_pair;
 
 pub use laws::one_reading;
 pub use number::number_value;
-pub use tac_arg::TacArg;
+pub use tac_arg::{TacArg, TacArgNode};
 pub use tac_call::TacCall;
 pub use tac_expr::{TacExpr, TacExprNode};
 pub use tactic_reader::read_tactic;

@@ -1,7 +1,6 @@
 //! The readers of what type variables are instantiated by.
 ghost use Rattle.std.specs.Prelude.{◌≡◌, ◌<◌, ◌≤◌, length, map, IfOk};
 ghost use Rattle.hol_notation_grammar.specs.Reading.{ReadsPart};
-ghost use Rattle.hol_notation_tactics.specs.PairView.{pair_text};
 ghost use Rattle.hol_notation_tactics.specs.Value.{pairs_value, pair_value, more_pairs_value};
 
 use crate::type_pair::TypePair;
@@ -16,7 +15,7 @@ pub(crate) fn read_pairs<'a, 't>(
     words: &'a [Word<'t>],
     end: usize,
 ) -> Result<(Vec<TypePair>, &'a [Word<'t>]), SyntaxError>
-    ensures reads { ReadsPart pairs_value (λ ps. map pair_text ps.items) end words.now result }
+    ensures reads { ReadsPart pairs_value (λ ps. ps.items) end words.now result }
     ensures shorter { IfOk result (λ x. length x.1.now < length words.now) }
 {
     let (_open, inside) = expect(words, Class::Sign(Kind::OpenList), end)?;
@@ -33,7 +32,7 @@ fn read_pair<'a, 't>(
     words: &'a [Word<'t>],
     end: usize,
 ) -> Result<(TypePair, &'a [Word<'t>]), SyntaxError>
-    ensures reads { ReadsPart pair_value pair_text end words.now result }
+    ensures reads { ReadsPart pair_value (λ p. p) end words.now result }
     ensures shorter { IfOk result (λ x. length x.1.now < length words.now) }
 {
     let (new_type, behind) = read_type_quotation(alloc, words, end)?;
@@ -49,7 +48,7 @@ fn read_more_pairs<'a, 't>(
     words: &'a [Word<'t>],
     end: usize,
 ) -> Result<(Vec<TypePair>, &'a [Word<'t>]), SyntaxError>
-    ensures reads { ReadsPart (λ r. more_pairs_value r (map pair_text pairs.items)) (λ ps. map pair_text ps.items) end words.now result }
+    ensures reads { ReadsPart (λ r. more_pairs_value r pairs.items) (λ ps. ps.items) end words.now result }
     ensures shorter { IfOk result (λ x. length x.1.now < length words.now) }
 {
     match accept(words, Class::Sign(Kind::Semicolon)) {

@@ -1,6 +1,6 @@
 //! What texts are read as, and where they are refused. What is wanted is taken from the grammar by hand.
 use crate::{
-    TacArg, TacCall, TacExpr, TacExprNode, ThmExpr, ThmExprNode, TypePair, read_tactic,
+    TacArg, TacArgNode, TacCall, TacExpr, TacExprNode, ThmExpr, ThmExprNode, TypePair, read_tactic,
     read_theorem,
 };
 use hol_notation_tokens::{SyntaxError, scan};
@@ -78,14 +78,14 @@ fn spell_theorem(
 
 fn spell_argument(alloc: Global, argument: &TacArg, text: &mut String) -> Result<(), AllocError> {
     text.push_str(" ")?;
-    match argument {
-        TacArg::Term(t) => spell_number(alloc, "", t.place, "", text)?,
-        TacArg::Theorem(theorem) => spell_theorem(alloc, 8, theorem, text)?,
-        TacArg::Pair(t, x) => {
+    match argument.node() {
+        TacArgNode::Term(t) => spell_number(alloc, "", t.place, "", text)?,
+        TacArgNode::Theorem(theorem) => spell_theorem(alloc, 8, theorem, text)?,
+        TacArgNode::Pair(t, x) => {
             spell_number(alloc, "", t.place, "-", text)?;
             spell_number(alloc, "", x.place, "", text)?;
         }
-        TacArg::Theorems(theorems) => {
+        TacArgNode::Theorems(theorems) => {
             text.push_str("[")?;
             for theorem in theorems {
                 spell_theorem(alloc, 8, theorem, text)?;

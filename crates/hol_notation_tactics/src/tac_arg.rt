@@ -1,14 +1,21 @@
 //! What is written after the name of a TAC.
 ghost use Rattle.std.specs.Prelude.{◌≡◌, IfOk};
-ghost use Rattle.hol_notation_tactics.specs.CallView.{argument_text};
+ghost use Rattle.hol_notation_tactics.specs.ArgumentView.{argument_of_node};
 
 use crate::thm_expr::ThmExpr;
 use hol_notation_terms::Quotation;
 use std::alloc::{AllocError, Global};
+use std::marker::Model;
 
 /// An argument of a TAC, as it is written.
 #[derive(Drop)]
-pub enum TacArg {
+pub struct TacArg {
+    pub(crate) node: TacArgNode,
+}
+
+/// What an argument of a TAC is.
+#[derive(Drop)]
+pub enum TacArgNode {
     /// A term.
     Term(Quotation),
     /// A theorem.
@@ -17,6 +24,19 @@ pub enum TacArg {
     Pair(Quotation, Quotation),
     /// Theorems, none or more, in order.
     Theorems(Vec<ThmExpr>),
+}
+
+impl Model for TacArg {
+    ghost use Rattle.hol_notation_tactics.specs.Text.{ArgumentText};
+    ghost use Rattle.hol_notation_tactics.specs.Code.{coded_argument};
+
+    ghost Value = { ArgumentText };
+
+    ghost coded = { coded_argument };
+
+    ghost use Rattle.hol_notation_tactics.specs.ArgumentView.{argument_of_node};
+
+    ghost view = { λ a. argument_of_node a.node };
 }
 
 fn copies(alloc: Global, theorems: &[ThmExpr]) -> Result<Vec<ThmExpr>, AllocError>
@@ -30,15 +50,30 @@ fn copies(alloc: Global, theorems: &[ThmExpr]) -> Result<Vec<ThmExpr>, AllocErro
 }
 
 impl TacArg {
-    /// The same argument, sharing its nodes. Answers an error where memory is short, and nowhere else.
-    pub fn copy(&self, alloc: Global) -> Result<TacArg, AllocError>
-        ensures { IfOk result (λ argument. argument_text argument ≡ argument_text self.now) }
+    /// The argument that is this.
+    pub fn new(node: TacArgNode) -> TacArg
+        ensures { result ≡ argument_of_node node }
     {
-        match self {
-            TacArg::Term(quotation) => Ok(TacArg::Term(quotation.copy()?)),
-            TacArg::Theorem(theorem) => Ok(TacArg::Theorem(theorem.copy()?)),
-            TacArg::Pair(first, second) => Ok(TacArg::Pair(first.copy()?, second.copy()?)),
-            TacArg::Theorems(theorems) => Ok(TacArg::Theorems(copies(alloc, theorems)?)),
-        }
+        TacArg { node }
+    }
+
+    /// What it is, with its parts by reference.
+    pub fn node(&self) -> &TacArgNode
+        ensures { argument_of_node result.now ≡ self.now }
+    {
+        &self.node
+    }
+
+    /// The same argument, sharing its nodes.
+    pub fn copy(&self, alloc: Global) -> Result<TacArg, AllocError>
+        ensures { IfOk result (λ argument. argument ≡ self.now) }
+    {
+        let node = match &self.node {
+            TacArgNode::Term(quotation) => TacArgNode::Term(quotation.copy()?),
+            TacArgNode::Theorem(theorem) => TacArgNode::Theorem(theorem.copy()?),
+            TacArgNode::Pair(first, second) => TacArgNode::Pair(first.copy()?, second.copy()?),
+            TacArgNode::Theorems(theorems) => TacArgNode::Theorems(copies(alloc, theorems)?),
+        };
+        Ok(TacArg { node })
     }
 }

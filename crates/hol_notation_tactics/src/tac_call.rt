@@ -1,9 +1,9 @@
 //! A TAC with its arguments, as they are written.
 ghost use Rattle.std.specs.Prelude.{◌≡◌, IfOk};
-ghost use Rattle.hol_notation_tactics.specs.CallView.{call_text};
 
 use crate::tac_arg::TacArg;
 use std::alloc::{AllocError, Global};
+use std::marker::Model;
 
 /// A TAC by its name, with the arguments that are written after it.
 #[derive(Drop)]
@@ -14,10 +14,22 @@ pub struct TacCall {
     pub arguments: Vec<TacArg>,
 }
 
+impl Model for TacCall {
+    ghost use Rattle.std.specs.Prelude.{string_bytes};
+    ghost use Rattle.hol_notation_tactics.specs.Text.{CallText};
+    ghost use Rattle.hol_notation_tactics.specs.Code.{coded_call};
+
+    ghost Value = { CallText };
+
+    ghost coded = { coded_call };
+
+    ghost view = { λ a. record { name = string_bytes a.name; arguments = a.arguments.items } };
+}
+
 impl TacCall {
     /// The same call, sharing the nodes of its arguments. Answers an error where memory is short, and nowhere else.
     pub fn copy(&self, alloc: Global) -> Result<TacCall, AllocError>
-        ensures { IfOk result (λ call. call_text call ≡ call_text self.now) }
+        ensures { IfOk result (λ call. call ≡ self.now) }
     {
         let mut arguments = Vec::with_capacity(alloc, self.arguments.len())?;
         for argument in &self.arguments {

@@ -1,5 +1,5 @@
 //! Copies and readings of theorem and tactic expressions.
-use crate::{TacArg, TacCall, TacExpr, TacExprNode, ThmExpr, ThmExprNode, TypePair};
+use crate::{TacArg, TacArgNode, TacCall, TacExpr, TacExprNode, ThmExpr, ThmExprNode, TypePair};
 use hol_notation_terms::{PreType, PreTypeNode, TypeQuotation};
 use std::alloc::{AllocError, Global};
 use std::test::Fail;
@@ -17,7 +17,7 @@ fn is_theorem_named(theorem: &ThmExpr, wanted: &str) -> bool {
 
 fn call_of(alloc: Global, name: &str, theorem: &str) -> Result<TacCall, AllocError> {
     let mut arguments = Vec::new(alloc);
-    arguments.push(TacArg::Theorem(theorem_named(alloc, theorem)?))?;
+    arguments.push(TacArg::new(TacArgNode::Theorem(theorem_named(alloc, theorem)?)))?;
     let name = String::from_str(alloc, name)?;
     Ok(TacCall { name, arguments })
 }
@@ -56,8 +56,8 @@ fn copies_pairs_of_types(rt: HostRuntime) -> Result<(), Fail> {
 fn copies_calls(rt: HostRuntime) -> Result<(), Fail> {
     let copied = call_of(rt.alloc(), "MP_TAC", "TRUTH")?.copy(rt.alloc())?;
     assert_eq!(rt; copied.name.as_str(), "MP_TAC");
-    match copied.arguments.first() {
-        Some(TacArg::Theorem(theorem)) => assert!(rt; is_theorem_named(theorem, "TRUTH")),
+    match copied.arguments.first().map(|argument| argument.node()) {
+        Some(TacArgNode::Theorem(theorem)) => assert!(rt; is_theorem_named(theorem, "TRUTH")),
         _ => assert!(rt; false),
     }
     Ok(())

@@ -1,9 +1,9 @@
 //! What a type variable is instantiated by.
 ghost use Rattle.std.specs.Prelude.{◌≡◌, IfOk};
-ghost use Rattle.hol_notation_tactics.specs.PairView.{pair_text};
 
 use hol_notation_terms::TypeQuotation;
 use std::alloc::AllocError;
+use std::marker::Model;
 
 /// A type, and the type variable that it is put for.
 #[derive(Drop)]
@@ -14,12 +14,23 @@ pub struct TypePair {
     pub old_type: TypeQuotation,
 }
 
+impl Model for TypePair {
+    ghost use Rattle.hol_notation_tactics.specs.Text.{TypePairText};
+    ghost use Rattle.hol_notation_tactics.specs.Code.{coded_pair};
+
+    ghost Value = { TypePairText };
+
+    ghost coded = { coded_pair };
+
+    ghost view = { λ a. record { new_type = a.new_type; old_type = a.old_type } };
+}
+
 impl TypePair {
     /// The same pair, sharing the nodes of its types.
     ///
     /// Answers an error where memory is short (no count is left for one more copy), and nowhere else.
     pub fn copy(&self) -> Result<TypePair, AllocError>
-        ensures { IfOk result (λ pair. pair_text pair ≡ pair_text self.now) }
+        ensures { IfOk result (λ pair. pair ≡ self.now) }
     {
         Ok(TypePair {
             new_type: self.new_type.copy()?,

@@ -1,5 +1,5 @@
 -- From what is read of the parts of a definition to the definition.
-use Rattle.std.proofs.Common.{◌≡◌, IsTrue, true, false, ℕ, List, [], ◌∷◌, ◌++◌, refl, ap, ◌∙◌, sym, subst, Option, Some, None, codes, map, string_bytes}
+use Rattle.std.proofs.Common.{◌≡◌, true, false, ℕ, List, [], ◌∷◌, ◌++◌, refl, ap, ◌∙◌, sym, subst, Option, Some, None, codes, map}
 use Rattle.std.proofs.lemmas.Bool.{false≢true}
 use Rattle.hol_notation_tokens.specs.declared.token.Kind.{Kind}
 use Rattle.hol_notation_tokens.specs.declared.token.Kind.TheVariants.{Ident as IdentKind, Open, Colon, Equals, Iff, Backquote}
@@ -9,17 +9,15 @@ use Rattle.hol_notation_tokens.specs.Token.{is_among}
 use Rattle.hol_notation_tokens.specs.Lexeme.{Lexeme}
 use Rattle.hol_notation_grammar.specs.Terminal.{Is, IsNotNext, sign, identifier, other_than, name, next_kind, place_at}
 use Rattle.hol_notation_grammar.specs.Class.{Taken}
-use Rattle.hol_notation_grammar.specs.Syntax.{Parts, nothing, token, part, Tree, node, done, leaf, tree, then, Stands}
-use Rattle.hol_notation_grammar.specs.Reading.{Found, Stuck, IsMissing}
-use Rattle.hol_notation_grammar.proofs.Steps.{FailsAll, Fits, fails-node, fails-part, fails-after, fails-behind, fails-missing, stuck-here}
-use Rattle.hol_notation_terms.specs.Text.{TypeText, VariableText, TermText, RightSideText, DefinitionText}
-use Rattle.hol_notation_terms.specs.declared.pre_variable.PreVariable.{PreVariable}
-use Rattle.hol_notation_terms.specs.VariableView.{variable_text}
-use Rattle.hol_notation_terms.specs.DefinitionView.{taken_names}
-use Rattle.hol_notation_terms.specs.Grammar.{Nonterminal, term_grammar, closing, Closes, a_type, a_level, a_term, an_ascription, a_definition, a_parameters, a_right_side, an_equation, defined, named_parameter, typed_parameter, no_parameter, typed_side, plain_side, equals_side, iff_side}
+use Rattle.hol_notation_grammar.specs.Syntax.{Parts, nothing, token, part, node, done, leaf, tree, then, Stands}
+use Rattle.hol_notation_grammar.specs.Reading.{Stuck, IsMissing}
+use Rattle.hol_notation_grammar.proofs.Steps.{Fits, fails-part, fails-after, fails-behind, fails-missing, stuck-here}
+use Rattle.hol_notation_terms.specs.Text.{TypeText, VariableText, TermText, RightSideText}
+use Rattle.hol_notation_terms.specs.TakenNames.{taken_names}
+use Rattle.hol_notation_terms.specs.Grammar.{Nonterminal, term_grammar, a_type, a_level, a_term, an_ascription, a_definition, a_parameters, a_right_side, an_equation, defined, named_parameter, typed_parameter, no_parameter, typed_side, plain_side, equals_side, iff_side}
 use Rattle.hol_notation_terms.specs.Value.{type_value, level_value, ascription_value, equation_value, right_side_value, parameters_value, definition_value}
 use Rattle.hol_notation_terms.proofs.Picks.{pick, looks, choose_parameter, choose_side, choose_equation}
-use Rattle.hol_notation_terms.proofs.Certain.{certain, same_term, wider}
+use Rattle.hol_notation_terms.proofs.Certain.{certain, same_term}
 use Rattle.hol_notation_terms.proofs.Some.{mark, Some-tree, some-level}
 use Rattle.hol_notation_terms.proofs.TypeSteps.{IsFound, Failing}
 use Rattle.hol_notation_terms.proofs.TermSteps.{whole, final, some-ascription}
@@ -342,19 +340,15 @@ taken-more constant vs us v e = ap (taken_names constant) e ∙ ap (λ (l : List
     go [] v = refl
     go (w ∷ vs) v = ap (λ (l : List (List ℕ)). w.name ∷ l) (go vs v)
 
-pub pushed : (ps qs : List PreVariable) (p : PreVariable) (text : List ℕ) → qs ≡ ps ++ p ∷ [] → string_bytes p.name ≡ text
-    → map variable_text qs ≡ map variable_text ps ++ record { name = text; annotation = p.annotation } ∷ []
-pushed ps qs p text q e = ap (map variable_text) q ∙ go ps p ∙ ap (λ (n : List ℕ). map variable_text ps ++ record { name = n; annotation = p.annotation } ∷ []) e
-  where
-    go : (ps : List PreVariable) (p : PreVariable) → map variable_text (ps ++ p ∷ []) ≡ map variable_text ps ++ variable_text p ∷ []
-    go [] p = refl
-    go (w ∷ ps) p = ap (λ (l : List VariableText). variable_text w ∷ l) (go ps p)
+pub pushed : (ps qs : List VariableText) (p : VariableText) (text : List ℕ) → qs ≡ ps ++ p ∷ [] → p.name ≡ text
+    → qs ≡ ps ++ record { name = text; annotation = p.annotation } ∷ []
+pushed ps qs p text q e = q ∙ ap (λ (n : List ℕ). ps ++ record { name = n; annotation = p.annotation } ∷ []) e
 
 -- before the first parameter
-pub first-fails : (constant : List ℕ) (ps : List PreVariable) (end : ℕ) (words : List Lexeme) (e : SyntaxError) → ps ≡ [] → Failing (a_parameters (taken_names constant (map variable_text ps))) end words e
+pub first-fails : (constant : List ℕ) (ps : List VariableText) (end : ℕ) (words : List Lexeme) (e : SyntaxError) → ps ≡ [] → Failing (a_parameters (taken_names constant ps)) end words e
     → Failing (a_parameters (constant ∷ [])) end words e
-first-fails constant ps end words e q h = subst (λ (l : List PreVariable). Failing (a_parameters (taken_names constant (map variable_text l))) end words e) q h
+first-fails constant ps end words e q h = subst (λ (l : List VariableText). Failing (a_parameters (taken_names constant l)) end words e) q h
 
-pub first-found : (constant : List ℕ) (ps : List PreVariable) (words rest : List Lexeme) (v : Read) → ps ≡ [] → IsRead (taken_names constant (map variable_text ps)) (map variable_text ps) words v rest
+pub first-found : (constant : List ℕ) (ps : List VariableText) (words rest : List Lexeme) (v : Read) → ps ≡ [] → IsRead (taken_names constant ps) ps words v rest
     → IsRead (constant ∷ []) [] words v rest
-first-found constant ps words rest v q h = subst (λ (l : List PreVariable). IsRead (taken_names constant (map variable_text l)) (map variable_text l) words v rest) q h
+first-found constant ps words rest v q h = subst (λ (l : List VariableText). IsRead (taken_names constant l) l words v rest) q h

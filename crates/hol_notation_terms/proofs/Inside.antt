@@ -1,24 +1,23 @@
 -- What stands in parentheses: a constant that has a notation, or a term. Two tokens tell them apart.
-use Rattle.std.proofs.Common.{◌≡◌, ◌||◌, Bool, true, false, IsTrue, cond, ℕ, zero, suc, List, [], ◌∷◌, ◌++◌, refl, ap, ◌∙◌, sym, subst, Option, Some, None}
+use Rattle.std.proofs.Common.{◌≡◌, ◌||◌, Bool, true, false, IsTrue, cond, ℕ, zero, suc, List, [], ◌∷◌, ◌++◌, refl, ap, ◌∙◌, sym, subst, Some}
 use Rattle.std.proofs.lemmas.Bool.{false≢true}
 use Rattle.hol_notation_tokens.specs.declared.token.Kind.{Kind}
-use Rattle.hol_notation_tokens.specs.declared.token.Kind.TheVariants.{Ident as IdentKind, Not as NotKind, Lambda, ForAll, Exists, ExistsUnique, Choice, Iff, Implies, Or, And, Equals, Close, Dot}
+use Rattle.hol_notation_tokens.specs.declared.token.Kind.TheVariants.{Ident as IdentKind, Not as NotKind, ForAll, Exists, ExistsUnique, Choice, Iff, Implies, Or, And, Equals, Close, Dot}
 use Rattle.hol_notation_tokens.specs.declared.error.SyntaxError.{SyntaxError}
 use Rattle.hol_notation_tokens.specs.declared.error.SyntaxError.TheVariants.{Memory, Syntax}
 use Rattle.hol_notation_tokens.specs.Lexeme.{Lexeme}
-use Rattle.hol_notation_tokens.proofs.Tokens.{some-same, none-not_some}
-use Rattle.hol_notation_grammar.specs.Terminal.{Is, IsNotNext, SameNext, sign, operator, next_kind, is_binder, is_infix, is_operator, place_at}
+use Rattle.hol_notation_tokens.proofs.Tokens.{some-same}
+use Rattle.hol_notation_grammar.specs.Terminal.{Is, IsNotNext, SameNext, sign, operator, next_kind, is_binder, is_infix, is_operator}
 use Rattle.hol_notation_grammar.specs.Class.{Taken}
-use Rattle.hol_notation_grammar.specs.Syntax.{nothing, token, part, Tree, node, Trees, done, leaf, tree, then, all_then, Stands, AllStand}
-use Rattle.hol_notation_grammar.specs.Reading.{Found, Stuck, IsMissing}
+use Rattle.hol_notation_grammar.specs.Syntax.{nothing, token, Tree, node, Trees, done, leaf, tree, then, all_then, Stands, AllStand}
+use Rattle.hol_notation_grammar.specs.Reading.{IsMissing}
 use Rattle.hol_notation_grammar.proofs.Laws.{first-same, next-same}
-use Rattle.hol_notation_grammar.proofs.Steps.{FailsAll, StuckAll, fails-behind, fails-missing}
+use Rattle.hol_notation_grammar.proofs.Steps.{FailsAll, fails-behind, fails-missing}
 use Rattle.hol_notation_terms.specs.Text.{TermText, Constant}
 use Rattle.hol_notation_terms.specs.Grammar.{Production, parts, term_grammar, Closes, a_term, a_level, a_tail, a_unary, a_bound, an_inside, a_closed, level_zero, level_up, no_infix, negation, binding, operator_alone, inner, closed_term, named_bound, name_alone, bound_body}
 use Rattle.hol_notation_terms.specs.Value.{operator_of, inside_value, closed_value}
 use Rattle.hol_notation_terms.specs.Inside.{OpensTerm}
 use Rattle.hol_notation_terms.proofs.Picks.{picks, pick_inside, choose_inside, closes_next, shut}
-use Rattle.hol_notation_terms.proofs.Certain.{certain}
 use Rattle.hol_notation_terms.proofs.Some.{mark, Some-tree, some-level, some-unary}
 use Rattle.hol_notation_terms.proofs.TypeSteps.{IsFound, Failing}
 

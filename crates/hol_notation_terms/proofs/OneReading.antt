@@ -3,9 +3,9 @@ use Rattle.std.proofs.Common.{◌≡◌, ◌⊎◌, inl, inr, ℕ, List, [], ◌
 use Rattle.hol_notation_tokens.specs.Lexeme.{Lexeme}
 use Rattle.hol_notation_grammar.specs.Terminal.{SameNext, place_at}
 use Rattle.hol_notation_grammar.specs.Syntax.{Tree, then, Stands}
-use Rattle.hol_notation_grammar.specs.Reading.{Begins, Stuck}
+use Rattle.hol_notation_grammar.specs.Reading.{Stuck}
 use Rattle.hol_notation_grammar.proofs.Laws.{first-same}
-use Rattle.hol_notation_terms.specs.Grammar.{Nonterminal, term_grammar, Closes}
+use Rattle.hol_notation_terms.specs.Grammar.{Nonterminal, term_grammar}
 
 same-next : (words : List Lexeme) → SameNext words words
 same-next [] = tt

@@ -1,8 +1,8 @@
 -- The production that the next tokens pick.
-use Rattle.std.proofs.Common.{◌≡◌, Bool, true, false, IsTrue, ◌||◌, cond, ℕ, zero, suc, List, [], ◌∷◌, ◌++◌, refl, ap, ◌∙◌, sym, subst, Option, Some, None}
+use Rattle.std.proofs.Common.{◌≡◌, Bool, true, false, IsTrue, ◌||◌, cond, ℕ, zero, suc, List, [], ◌∷◌, refl, ap, ◌∙◌, sym, subst, Option, Some, None}
 use Rattle.std.proofs.lemmas.Bool.{false≢true}
 use Rattle.hol_notation_tokens.specs.declared.token.Kind.{Kind}
-use Rattle.hol_notation_tokens.specs.declared.token.Kind.TheVariants.{Ident, Iff, Implies, Or, And, Arrow, ExistsUnique, Equals, Not, Lambda, ForAll, Exists, Choice, Open, Close, CloseList, Dot, Colon, Comma, Semicolon, Backquote}
+use Rattle.hol_notation_tokens.specs.declared.token.Kind.TheVariants.{Ident, Iff, Implies, Or, And, Arrow, ExistsUnique, Equals, Not, Lambda, ForAll, Exists, Choice, Open, Close, Dot, Colon, Comma}
 use Rattle.hol_notation_tokens.specs.Lexeme.{Lexeme}
 use Rattle.hol_notation_grammar.specs.Terminal.{IsNotNext, SameNext, next_kind, is_binder, is_infix, is_operator}
 use Rattle.hol_notation_grammar.specs.Syntax.{Tree, node, Trees, done, leaf, tree, then, all_then, Stands}

@@ -1,13 +1,12 @@
 -- From what is read of the parts of a quotation to the quotation.
-use Rattle.std.proofs.Common.{◌≡◌, IsTrue, ℕ, List, [], ◌∷◌, refl, ap, ◌∙◌, subst}
-use Rattle.hol_notation_tokens.specs.declared.token.Kind.{Kind}
+use Rattle.std.proofs.Common.{◌≡◌, IsTrue, ℕ, List, ◌∷◌, refl, ap, ◌∙◌, subst}
 use Rattle.hol_notation_tokens.specs.declared.token.Kind.TheVariants.{Colon, Backquote}
 use Rattle.hol_notation_tokens.specs.declared.error.SyntaxError.{SyntaxError}
 use Rattle.hol_notation_tokens.specs.Lexeme.{Lexeme}
 use Rattle.hol_notation_grammar.specs.Terminal.{Is, sign}
 use Rattle.hol_notation_grammar.specs.Class.{Taken}
 use Rattle.hol_notation_grammar.specs.Syntax.{Parts, nothing, token, part, node, done, leaf, tree, then, Stands}
-use Rattle.hol_notation_grammar.specs.Reading.{Found, IsMissing}
+use Rattle.hol_notation_grammar.specs.Reading.{IsMissing}
 use Rattle.hol_notation_grammar.proofs.Steps.{FailsAll, Fits, Filled, fails-node, fails-part, fails-after, fails-behind, fails-missing}
 use Rattle.hol_notation_terms.specs.Text.{TypeText, TermText}
 use Rattle.hol_notation_terms.specs.Grammar.{Nonterminal, term_grammar, closing, a_type, a_term, a_quotation, a_type_quotation, quoted, type_quoted}

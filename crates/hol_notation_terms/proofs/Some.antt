@@ -6,7 +6,7 @@ use Rattle.hol_notation_tokens.specs.Lexeme.{Lexeme}
 use Rattle.hol_notation_grammar.specs.Syntax.{nothing, part, Tree, node, done, leaf, tree, Stands}
 use Rattle.hol_notation_grammar.specs.Reading.{Begins}
 use Rattle.hol_notation_grammar.proofs.Steps.{Fits}
-use Rattle.hol_notation_terms.specs.Grammar.{Nonterminal, term_grammar, Closes, closing, a_type, a_term, an_arrow, an_applied_type, a_type_list, a_type_rest, a_postfix, a_level, a_tail, a_unary, an_arguments, an_annotation, applied_first, no_arrow, named_type, one_type, last_type, no_postfix, level_zero, level_up, no_infix, plain, typed_term, no_argument, no_annotation, identifier_atom}
+use Rattle.hol_notation_terms.specs.Grammar.{Nonterminal, term_grammar, Closes, a_type, a_term, an_arrow, an_applied_type, a_type_list, a_type_rest, a_postfix, a_level, a_tail, a_unary, an_arguments, an_annotation, applied_first, no_arrow, named_type, one_type, last_type, no_postfix, level_zero, level_up, no_infix, plain, typed_term, no_argument, no_annotation, identifier_atom}
 use Rattle.hol_notation_terms.proofs.Picks.{shut}
 
 -- a lexeme of a kind

@@ -1,22 +1,22 @@
 -- From what is read of the parts of a term to the term.
-use Rattle.std.proofs.Common.{◌≡◌, ◌-◌, Bool, true, false, IsTrue, cond, ℕ, zero, suc, List, [], ◌∷◌, refl, ap, ◌∙◌, sym, subst, Option, Some, None, arith}
+use Rattle.std.proofs.Common.{◌≡◌, ◌-◌, Bool, true, false, IsTrue, cond, ℕ, zero, suc, List, [], ◌∷◌, refl, ap, ◌∙◌, sym, subst, Some, None, arith}
 use Rattle.std.proofs.lemmas.Bool.{false≢true}
 use Rattle.hol_notation_tokens.specs.declared.token.Kind.{Kind}
-use Rattle.hol_notation_tokens.specs.declared.token.Kind.TheVariants.{Ident as IdentKind, Iff as IffKind, Implies as ImpliesKind, Or as OrKind, And as AndKind, Equals as EqualsKind, Not as NotKind, Lambda, ForAll as ForAllKind, Exists as ExistsKind, ExistsUnique as ExistsUniqueKind, Choice as ChoiceKind, Open, Close, Colon, Dot, Backquote}
+use Rattle.hol_notation_tokens.specs.declared.token.Kind.TheVariants.{Ident as IdentKind, Iff as IffKind, Implies as ImpliesKind, Or as OrKind, And as AndKind, Equals as EqualsKind, Not as NotKind, Lambda, ForAll as ForAllKind, Exists as ExistsKind, ExistsUnique as ExistsUniqueKind, Choice as ChoiceKind, Open, Close, Colon, Dot}
 use Rattle.hol_notation_tokens.specs.declared.error.SyntaxError.{SyntaxError}
 use Rattle.hol_notation_tokens.specs.declared.error.SyntaxError.TheVariants.{Memory, Syntax}
 use Rattle.hol_notation_tokens.specs.Lexeme.{Lexeme}
-use Rattle.hol_notation_grammar.specs.Terminal.{Terminal, Is, IsNotNext, identifier, sign, binder, operator, next_kind, is_binder}
+use Rattle.hol_notation_grammar.specs.Terminal.{Is, IsNotNext, identifier, sign, binder, next_kind, is_binder}
 use Rattle.hol_notation_grammar.specs.Class.{Taken}
-use Rattle.hol_notation_grammar.specs.Syntax.{Parts, nothing, token, part, Tree, node, Trees, done, leaf, tree, then, all_then, Stands}
-use Rattle.hol_notation_grammar.specs.Reading.{Found, Fails, Stuck, Begins, IsMissing}
-use Rattle.hol_notation_grammar.proofs.Steps.{FailsAll, Fits, Fills, Filled, fails-node, fails-part, fails-after, fails-behind, fails-missing, stuck-here}
+use Rattle.hol_notation_grammar.specs.Syntax.{Parts, nothing, token, part, node, done, leaf, tree, then, Stands}
+use Rattle.hol_notation_grammar.specs.Reading.{Stuck, IsMissing}
+use Rattle.hol_notation_grammar.proofs.Steps.{FailsAll, Fits, fails-node, fails-part, fails-after, fails-behind, fails-missing, stuck-here}
 use Rattle.hol_notation_terms.specs.declared.operator.Operator.TheVariants.{Not}
 use Rattle.hol_notation_terms.specs.Text.{TypeText, VariableText, TermText, Named, Constant, Applied, Typed}
-use Rattle.hol_notation_terms.specs.Grammar.{Nonterminal, Production, parts, term_grammar, infix_at, is_infix_at, opens, closing, Closes, a_type, a_level, a_term, a_tail, a_unary, a_typed, an_arguments, an_annotation, an_atom, an_inside, a_closed, a_bound, a_variable, an_ascription, an_after_name, an_after_bound, level_zero, level_up, no_infix, infixed, negation, binding, plain, typed_term, no_argument, argument, no_annotation, annotated, identifier_atom, parenthesised, operator_alone, inner, closed_term, named_bound, typed_bound, typed_variable, ascription, last_typed, name_alone, bound_body, bound_more}
-use Rattle.hol_notation_terms.specs.Value.{operator_of, bind, infix_value, type_value, level_value, tail_value, unary_value, typed_value, arguments_value, annotation_value, atom_value, inside_value, closed_value, ascription_value, variable_value, bound_value, after_name_value, after_bound_value}
+use Rattle.hol_notation_terms.specs.Grammar.{Nonterminal, Production, parts, term_grammar, infix_at, is_infix_at, opens, closing, a_type, a_level, a_term, a_tail, a_unary, a_typed, an_arguments, an_annotation, an_atom, an_inside, a_closed, a_bound, a_variable, an_ascription, an_after_name, an_after_bound, level_zero, level_up, no_infix, infixed, negation, binding, plain, typed_term, no_argument, argument, no_annotation, annotated, identifier_atom, parenthesised, closed_term, named_bound, typed_bound, typed_variable, ascription, last_typed, name_alone, bound_body, bound_more}
+use Rattle.hol_notation_terms.specs.Value.{bind, infix_value, type_value, level_value, unary_value, typed_value, arguments_value, atom_value, inside_value, closed_value, ascription_value, variable_value, bound_value, after_name_value, after_bound_value}
 use Rattle.hol_notation_terms.specs.Next.{next_opens}
-use Rattle.hol_notation_terms.proofs.Picks.{pick, looks, NotInside, choose_unary, choose_atom, choose_bound, choose_after_name, choose_after_bound, not-opens, infix-opens, binder-chosen, shut}
+use Rattle.hol_notation_terms.proofs.Picks.{pick, looks, NotInside, choose_unary, choose_atom, choose_bound, choose_after_name, choose_after_bound, infix-opens, binder-chosen, shut}
 use Rattle.hol_notation_terms.proofs.Certain.{certain, same_term, wider}
 use Rattle.hol_notation_terms.proofs.Some.{mark, Some-tree, ClosesToo, fit-nothing, some-type, some-level}
 use Rattle.hol_notation_terms.proofs.TypeSteps.{IsFound, Failing, not-open}

@@ -1,10 +1,10 @@
 -- How the logic stores a type and a term: as trees of numbers, by functions that map no two to one tree.
-use Rattle.std.specs.Coded.{Coded, coded×, coded_ℕ, coded_list, coded_option, code_by}
-use Rattle.std.proofs.Common.{◌≡◌, ◌≢◌, ◌==◌, ℕ, List, Option, ap, arith, refl, if◌then◌else◌}
+use Rattle.std.specs.Coded.{Coded, coded×, coded_ℕ, coded_bool, coded_list, coded_option, code_by}
+use Rattle.std.proofs.Common.{◌≡◌, ◌≢◌, ◌==◌, ℕ, Bool, List, Option, ap, arith, refl, if◌then◌else◌}
 use base.Stored.{Gv, gnil, gnum, gcons}
 use Rattle.hol_notation_terms.specs.declared.operator.Operator.{Operator}
 use Rattle.hol_notation_terms.specs.declared.operator.Operator.TheVariants.{Iff, Implies, Or, And, Equals, Not, ForAll, Exists, ExistsUnique, Choice}
-use Rattle.hol_notation_terms.specs.Text.{TypeText, TypeTexts, Ident, Arrow, Apply, no_types, more_types, VariableText, TermText, Named, Constant, Applied, Abstraction, Typed}
+use Rattle.hol_notation_terms.specs.Text.{TypeText, TypeTexts, Ident, Arrow, Apply, no_types, more_types, VariableText, TermText, Named, Constant, Applied, Abstraction, Typed, QuotationText, TypeQuotationText, RightSideText, DefinitionText}
 
 abbrev head : Gv → Gv
 head gnil = gnil
@@ -19,7 +19,7 @@ tail (gcons a b) = b
 apart : (m n : ℕ) {a b : Gv} → gcons (gnum m) a ≡ gcons (gnum n) b → m ≢ n → ⊥
 apart m n p other = other (cc)
 
-abbrev coded_name : Coded (List ℕ)
+abbrev pub coded_name : Coded (List ℕ)
 coded_name = coded_list coded_ℕ
 
 abbrev operator_number : Operator → ℕ
@@ -89,7 +89,7 @@ variable_fields v = (v.name, v.annotation)
 abbrev variable_of : List ℕ × Option TypeText → VariableText
 variable_of p = record { name = p.0; annotation = p.1 }
 
-abbrev coded_variable : Coded VariableText
+abbrev pub coded_variable : Coded VariableText
 coded_variable = code_by (List ℕ × Option TypeText) (coded× coded_name (coded_option coded_type)) variable_fields variable_of (λ _. refl)
 
 abbrev pub term_code : TermText → Gv
@@ -128,3 +128,19 @@ term_inj (Typed t ty) (Typed t_ ty_) p = λ i. Typed (term_inj t t_ (ap (λ g. h
 
 abbrev pub coded_term : Coded TermText
 coded_term = record { code = term_code; inj = term_inj }
+
+abbrev pub coded_quotation : Coded QuotationText
+coded_quotation = code_by (ℕ × TermText) (coded× coded_ℕ coded_term) (λ q. (q.place, q.term)) (λ p. record { place = p.0; term = p.1 }) (λ _. refl)
+
+abbrev pub coded_type_quotation : Coded TypeQuotationText
+coded_type_quotation = code_by (ℕ × TypeText) (coded× coded_ℕ coded_type) (λ q. (q.place, q.ty)) (λ p. record { place = p.0; ty = p.1 }) (λ _. refl)
+
+abbrev pub coded_right_side : Coded RightSideText
+coded_right_side =
+    code_by (Option TypeText × (Bool × TermText)) (coded× (coded_option coded_type) (coded× coded_bool coded_term))
+    (λ r. (r.annotation, (r.is_iff, r.term))) (λ p. record { annotation = p.0; is_iff = p.1.0; term = p.1.1 }) (λ _. refl)
+
+abbrev pub coded_definition : Coded DefinitionText
+coded_definition =
+    code_by (ℕ × (List ℕ × (List VariableText × RightSideText))) (coded× coded_ℕ (coded× coded_name (coded× (coded_list coded_variable) coded_right_side)))
+    (λ d. (d.place, (d.name, (d.parameters, d.right)))) (λ p. record { place = p.0; name = p.1.0; parameters = p.1.1.0; right = p.1.1.1 }) (λ _. refl)

@@ -1,10 +1,8 @@
 pub mod Text
 pub mod Code
 pub mod TypeView
-pub mod VariableView
 pub mod TermView
-pub mod QuotationView
-pub mod DefinitionView
+pub mod TakenNames
 pub mod Falls
 pub mod Grammar
 pub mod Value

@@ -1,12 +1,11 @@
 //! Definitions of constants, as they are written between backquotes.
-ghost use Rattle.std.specs.Prelude.{◌≡◌, IfOk, map};
-ghost use Rattle.hol_notation_terms.specs.VariableView.{variable_text};
-ghost use Rattle.hol_notation_terms.specs.DefinitionView.{right_side_text, definition_text};
+ghost use Rattle.std.specs.Prelude.{◌≡◌, IfOk};
 
 use crate::pre_term::PreTerm;
 use crate::pre_type::PreType;
 use crate::pre_variable::PreVariable;
 use std::alloc::{AllocError, Global};
+use std::marker::Model;
 
 /// What a constant that is applied to its parameters is to be equal to.
 #[derive(Drop)]
@@ -32,12 +31,23 @@ pub struct Definition {
     pub right: RightSide,
 }
 
+impl Model for RightSide {
+    ghost use Rattle.hol_notation_terms.specs.Text.{RightSideText};
+    ghost use Rattle.hol_notation_terms.specs.Code.{coded_right_side};
+
+    ghost Value = { RightSideText };
+
+    ghost coded = { coded_right_side };
+
+    ghost view = { λ a. record { annotation = a.annotation; is_iff = a.is_iff; term = a.term } };
+}
+
 impl RightSide {
     /// The same right side, sharing the nodes of its type and term.
     ///
     /// Answers an error where memory is short (no count is left for one more copy), and nowhere else.
     pub fn copy(&self) -> Result<RightSide, AllocError>
-        ensures { IfOk result (λ right. right_side_text right ≡ right_side_text self.now) }
+        ensures { IfOk result (λ right. right ≡ self.now) }
     {
         let annotation = match &self.annotation {
             Some(ty) => Some(ty.copy()?),
@@ -51,11 +61,23 @@ impl RightSide {
     }
 }
 
+impl Model for Definition {
+    ghost use Rattle.std.specs.Prelude.{string_bytes};
+    ghost use Rattle.hol_notation_terms.specs.Text.{DefinitionText};
+    ghost use Rattle.hol_notation_terms.specs.Code.{coded_definition};
+
+    ghost Value = { DefinitionText };
+
+    ghost coded = { coded_definition };
+
+    ghost view = { λ a. record { place = a.place; name = string_bytes a.name; parameters = a.parameters.items; right = a.right } };
+}
+
 impl Definition {
     /// The same definition, sharing the nodes of its types and its term. Answers an error where memory is short, and
     /// nowhere else.
     pub fn copy(&self, alloc: Global) -> Result<Definition, AllocError>
-        ensures { IfOk result (λ definition. definition_text definition ≡ definition_text self.now) }
+        ensures { IfOk result (λ definition. definition ≡ self.now) }
     {
         Ok(Definition {
             place: self.place,
@@ -68,7 +90,7 @@ impl Definition {
 
 /// The same variables.
 fn copies(alloc: Global, variables: &[PreVariable]) -> Result<Vec<PreVariable>, AllocError>
-    ensures { IfOk result (λ copied. map variable_text copied.items ≡ map variable_text variables.now) }
+    ensures { IfOk result (λ copied. copied.items ≡ variables.now) }
 {
     let mut copied = Vec::with_capacity(alloc, variables.len())?;
     for variable in variables {

@@ -1,13 +1,12 @@
 //! The reader of definitions, one function for each part of the grammar.
-ghost use Rattle.std.specs.Prelude.{◌≡◌, ◌<◌, length, map, bytes_eq, string_bytes, IfOk, MatchResult};
+ghost use Rattle.std.specs.Prelude.{◌≡◌, ◌<◌, length, map, bytes_eq, IfOk, MatchResult};
 ghost use Rattle.std.specs.List.{list_any};
 ghost use Rattle.hol_notation_tokens.specs.Token.{is_among};
 ghost use Rattle.hol_notation_tokens.specs.Lexeme.{seen};
 ghost use Rattle.hol_notation_grammar.specs.Terminal.{Is, other_than};
 ghost use Rattle.hol_notation_grammar.specs.Class.{Taken};
 ghost use Rattle.hol_notation_grammar.specs.Reading.{ReadsPart, IsMissing};
-ghost use Rattle.hol_notation_terms.specs.VariableView.{variable_text};
-ghost use Rattle.hol_notation_terms.specs.DefinitionView.{right_side_text, definition_text, taken_names};
+ghost use Rattle.hol_notation_terms.specs.TakenNames.{taken_names};
 ghost use Rattle.hol_notation_terms.specs.Value.{equation_value, right_side_value, parameters_value, definition_value};
 
 use crate::definition::{Definition, RightSide};
@@ -28,7 +27,7 @@ pub fn read_definition_quotation<'a, 't>(
     words: &'a [Word<'t>],
     end: usize,
 ) -> Result<(Definition, &'a [Word<'t>]), SyntaxError>
-    ensures reads { ReadsPart definition_value definition_text end words.now result }
+    ensures reads { ReadsPart definition_value (λ d. d) end words.now result }
     ensures shorter { IfOk result (λ x. length x.1.now < length words.now) }
 {
     let (open, after) = expect(words, Class::Sign(Kind::Backquote), end)?;
@@ -56,7 +55,7 @@ fn read_parameters<'a, 't>(
     words: &'a [Word<'t>],
     end: usize,
 ) -> Result<((Vec<PreVariable>, RightSide), &'a [Word<'t>]), SyntaxError>
-    ensures reads { ReadsPart (λ p. parameters_value {names = taken_names constant.now (map variable_text before.items)} p (map variable_text before.items)) (λ x. (map variable_text x.0.items, right_side_text x.1)) end words.now result }
+    ensures reads { ReadsPart (λ p. parameters_value {names = taken_names constant.now before.items} p before.items) (λ x. (x.0.items, x.1)) end words.now result }
     ensures shorter { IfOk result (λ x. length x.1.now < length words.now) }
 {
     match accept(words, Class::Identifier) {
@@ -95,7 +94,7 @@ fn expect_parameter<'a, 't>(
     words: &'a [Word<'t>],
     end: usize,
 ) -> Result<(Word<'t>, &'a [Word<'t>]), SyntaxError>
-    ensures taken { MatchResult result (λ x. Taken (Is (other_than (taken_names constant.now (map variable_text before.now)))) (map seen words.now) (seen x.0) (map seen x.1.now)) (IsMissing (other_than (taken_names constant.now (map variable_text before.now))) end (map seen words.now)) }
+    ensures taken { MatchResult result (λ x. Taken (Is (other_than (taken_names constant.now before.now))) (map seen words.now) (seen x.0) (map seen x.1.now)) (IsMissing (other_than (taken_names constant.now before.now)) end (map seen words.now)) }
     ensures shorter { IfOk result (λ x. length x.1.now < length words.now) }
 {
     let (word, rest) = expect(words, Class::Identifier, end)?;
@@ -108,14 +107,14 @@ fn expect_parameter<'a, 't>(
 
 /// Whether the name is the constant's or a parameter's.
 fn is_taken(constant: &str, parameters: &[PreVariable], name: &str) -> bool
-    ensures { result ≡ is_among (taken_names constant.now (map variable_text parameters.now)) name.now }
+    ensures { result ≡ is_among (taken_names constant.now parameters.now) name.now }
 {
     name == constant || is_parameter(parameters, name)
 }
 
 /// Whether a parameter has the name.
 fn is_parameter(parameters: &[PreVariable], name: &str) -> bool
-    ensures { result ≡ list_any (λ parameter. bytes_eq name.now (string_bytes parameter.name)) parameters.now }
+    ensures { result ≡ list_any (λ parameter. bytes_eq name.now parameter.name) parameters.now }
 {
     parameters
         .iter()
@@ -128,7 +127,7 @@ fn read_right_side<'a, 't>(
     words: &'a [Word<'t>],
     end: usize,
 ) -> Result<(RightSide, &'a [Word<'t>]), SyntaxError>
-    ensures reads { ReadsPart right_side_value right_side_text end words.now result }
+    ensures reads { ReadsPart right_side_value (λ r. r) end words.now result }
     ensures shorter { IfOk result (λ x. length x.1.now < length words.now) }
 {
     match accept(words, Class::Sign(Kind::Colon)) {
@@ -151,7 +150,7 @@ fn read_equation<'a, 't>(
     words: &'a [Word<'t>],
     end: usize,
 ) -> Result<(RightSide, &'a [Word<'t>]), SyntaxError>
-    ensures reads { ReadsPart (λ e. equation_value e annotation) right_side_text end words.now result }
+    ensures reads { ReadsPart (λ e. equation_value e annotation) (λ r. r) end words.now result }
     ensures shorter { IfOk result (λ x. length x.1.now < length words.now) }
 {
     match accept(words, Class::Sign(Kind::Iff)) {

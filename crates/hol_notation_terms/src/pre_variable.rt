@@ -1,9 +1,9 @@
 //! Variables where they are bound.
 ghost use Rattle.std.specs.Prelude.{◌≡◌, IfOk};
-ghost use Rattle.hol_notation_terms.specs.VariableView.{variable_text};
 
 use crate::pre_type::PreType;
 use std::alloc::{AllocError, Global};
+use std::marker::Model;
 
 /// A variable where it is bound, with the type that is written for it, if there is one.
 #[derive(Drop)]
@@ -14,10 +14,22 @@ pub struct PreVariable {
     pub annotation: Option<PreType>,
 }
 
+impl Model for PreVariable {
+    ghost use Rattle.std.specs.Prelude.{string_bytes};
+    ghost use Rattle.hol_notation_terms.specs.Text.{VariableText};
+    ghost use Rattle.hol_notation_terms.specs.Code.{coded_variable};
+
+    ghost Value = { VariableText };
+
+    ghost coded = { coded_variable };
+
+    ghost view = { λ a. record { name = string_bytes a.name; annotation = a.annotation } };
+}
+
 impl PreVariable {
     /// The same variable. Answers an error where memory is short, and nowhere else.
     pub fn copy(&self, alloc: Global) -> Result<PreVariable, AllocError>
-        ensures { IfOk result (λ variable. variable_text variable ≡ variable_text self.now) }
+        ensures { IfOk result (λ variable. variable ≡ self.now) }
     {
         let annotation = match &self.annotation {
             Some(ty) => Some(ty.copy()?),

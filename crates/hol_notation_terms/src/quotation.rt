@@ -1,10 +1,10 @@
 //! Terms and types between backquotes.
 ghost use Rattle.std.specs.Prelude.{◌≡◌, IfOk};
-ghost use Rattle.hol_notation_terms.specs.QuotationView.{quotation_text, type_quotation_text};
 
 use crate::pre_term::PreTerm;
 use crate::pre_type::PreType;
 use std::alloc::AllocError;
+use std::marker::Model;
 
 /// A term between backquotes.
 #[derive(Drop)]
@@ -24,12 +24,23 @@ pub struct TypeQuotation {
     pub ty: PreType,
 }
 
+impl Model for Quotation {
+    ghost use Rattle.hol_notation_terms.specs.Text.{QuotationText};
+    ghost use Rattle.hol_notation_terms.specs.Code.{coded_quotation};
+
+    ghost Value = { QuotationText };
+
+    ghost coded = { coded_quotation };
+
+    ghost view = { λ a. record { place = a.place; term = a.term } };
+}
+
 impl Quotation {
     /// The same quotation, sharing the nodes of its term.
     ///
     /// Answers an error where memory is short (no count is left for one more copy), and nowhere else.
     pub fn copy(&self) -> Result<Quotation, AllocError>
-        ensures { IfOk result (λ quotation. quotation_text quotation ≡ quotation_text self.now) }
+        ensures { IfOk result (λ quotation. quotation ≡ self.now) }
     {
         Ok(Quotation {
             place: self.place,
@@ -38,12 +49,23 @@ impl Quotation {
     }
 }
 
+impl Model for TypeQuotation {
+    ghost use Rattle.hol_notation_terms.specs.Text.{TypeQuotationText};
+    ghost use Rattle.hol_notation_terms.specs.Code.{coded_type_quotation};
+
+    ghost Value = { TypeQuotationText };
+
+    ghost coded = { coded_type_quotation };
+
+    ghost view = { λ a. record { place = a.place; ty = a.ty } };
+}
+
 impl TypeQuotation {
     /// The same quotation, sharing the nodes of its type.
     ///
     /// Answers an error where memory is short (no count is left for one more copy), and nowhere else.
     pub fn copy(&self) -> Result<TypeQuotation, AllocError>
-        ensures { IfOk result (λ quotation. type_quotation_text quotation ≡ type_quotation_text self.now) }
+        ensures { IfOk result (λ quotation. quotation ≡ self.now) }
     {
         Ok(TypeQuotation {
             place: self.place,

@@ -1,7 +1,6 @@
 //! The readers of quotations.
 ghost use Rattle.std.specs.Prelude.{◌≡◌, ◌<◌, length, IfOk};
 ghost use Rattle.hol_notation_grammar.specs.Reading.{ReadsPart};
-ghost use Rattle.hol_notation_terms.specs.QuotationView.{quotation_text, type_quotation_text};
 ghost use Rattle.hol_notation_terms.specs.Value.{quotation_value, type_quotation_value};
 
 use crate::quotation::{Quotation, TypeQuotation};
@@ -19,7 +18,7 @@ pub fn read_quotation<'a, 't>(
     words: &'a [Word<'t>],
     end: usize,
 ) -> Result<(Quotation, &'a [Word<'t>]), SyntaxError>
-    ensures reads { ReadsPart quotation_value quotation_text end words.now result }
+    ensures reads { ReadsPart quotation_value (λ q. q) end words.now result }
     ensures shorter { IfOk result (λ x. length x.1.now < length words.now) }
 {
     let (open, after) = expect(words, Class::Sign(Kind::Backquote), end)?;
@@ -37,7 +36,7 @@ pub fn read_type_quotation<'a, 't>(
     words: &'a [Word<'t>],
     end: usize,
 ) -> Result<(TypeQuotation, &'a [Word<'t>]), SyntaxError>
-    ensures reads { ReadsPart type_quotation_value type_quotation_text end words.now result }
+    ensures reads { ReadsPart type_quotation_value (λ q. q) end words.now result }
     ensures shorter { IfOk result (λ x. length x.1.now < length words.now) }
 {
     let (open, after) = expect(words, Class::Sign(Kind::Backquote), end)?;

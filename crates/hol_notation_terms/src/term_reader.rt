@@ -9,7 +9,6 @@ ghost use Rattle.hol_notation_terms.specs.Grammar.{opens, an_arguments, infix_at
 ghost use Rattle.hol_notation_terms.specs.Next.{next_opens};
 ghost use Rattle.hol_notation_terms.specs.Inside.{ReadsOperator};
 ghost use Rattle.hol_notation_terms.specs.Text.{Constant};
-ghost use Rattle.hol_notation_terms.specs.VariableView.{variable_text};
 ghost use Rattle.hol_notation_terms.specs.Value.{operator_of, bind, infix_value, level_value, unary_value, typed_value, arguments_value, atom_value, inside_value, closed_value, ascription_value, variable_value, bound_value, after_name_value, after_bound_value};
 
 use crate::operator::Operator;
@@ -73,7 +72,7 @@ fn bind(
     variable: PreVariable,
     body: PreTerm,
 ) -> Result<PreTerm, AllocError>
-    ensures { IfOk result (λ t. t ≡ bind binder (variable_text variable) body) }
+    ensures { IfOk result (λ t. t ≡ bind binder variable body) }
 {
     let abstraction = PreTerm::new(alloc, PreTermNode::Abstraction(variable, body))?;
     match binder {
@@ -318,7 +317,7 @@ fn read_variable<'a, 't>(
     words: &'a [Word<'t>],
     end: usize,
 ) -> Result<(PreVariable, &'a [Word<'t>]), SyntaxError>
-    ensures reads { ReadsPart variable_value variable_text end words.now result }
+    ensures reads { ReadsPart variable_value (λ v. v) end words.now result }
     ensures shorter { IfOk result (λ x. length x.1.now < length words.now) }
 {
     let (_open, inside) = expect(words, Class::Sign(Kind::Open), end)?;

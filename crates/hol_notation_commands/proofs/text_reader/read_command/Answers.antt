@@ -1,7 +1,6 @@
 use Rattle.std.proofs.Common.{List, map, subst, Err}
 use Rattle.std.proofs.lemmas.Result.{err_from_is_err_and}
 use Rattle.hol_notation_tokens.specs.declared.lexer.Word.{Word}
-use Rattle.hol_notation_commands.specs.View.{command_text}
 use Rattle.hol_notation_tokens.specs.Lexeme.{seen}
 use Rattle.hol_notation_commands.specs.Reading.{IsCommand}
 use Rattle.hol_notation_commands.specs.Errors.{IsAnswer}
@@ -16,10 +15,10 @@ returns-in_err-command c =
 
 pub returns-then-end-text : goal.returns-then-end-text
 returns-then-end-text c =
-    break-after c.args.text.now c.in_ok-words.words.items c.in_ok-words.end (command_text c.in_ok-command.command) c.in_ok-words.ensures c.if-end-text.true
-    (subst (λ (ws : List Word). IsCommand (map seen ws) (command_text c.in_ok-command.command)) c.deref.ensures.value c.in_ok-command.ensures)
+    break-after c.args.text.now c.in_ok-words.words.items c.in_ok-words.end c.in_ok-command.command c.in_ok-words.ensures c.if-end-text.true
+    (subst (λ (ws : List Word). IsCommand (map seen ws) c.in_ok-command.command) c.deref.ensures.value c.in_ok-command.ensures)
 
 pub returns : goal.returns
 returns c =
-    whole-command c.args.text.now c.in_ok-words.words.items c.in_ok-words.end (command_text c.in_ok-command.command) c.in_ok-words.ensures c.if-end-text.false
-    (subst (λ (ws : List Word). IsCommand (map seen ws) (command_text c.in_ok-command.command)) c.deref.ensures.value c.in_ok-command.ensures)
+    whole-command c.args.text.now c.in_ok-words.words.items c.in_ok-words.end c.in_ok-command.command c.in_ok-words.ensures c.if-end-text.false
+    (subst (λ (ws : List Word). IsCommand (map seen ws) c.in_ok-command.command) c.deref.ensures.value c.in_ok-command.ensures)

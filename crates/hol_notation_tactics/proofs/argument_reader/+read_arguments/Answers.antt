@@ -1,6 +1,4 @@
 use Rattle.hol_notation_grammar.specs.Syntax.{done}
-use Rattle.std.proofs.lemmas.List.{map-append}
-use Rattle.hol_notation_tactics.specs.CallView.{argument_text}
 use Rattle.std.proofs.Common.{map, refl, ap, ◌∙◌, sym, [], ◌∷◌, ◌++◌}
 use Rattle.std.proofs.lemmas.Result.{err_from_is_err_and}
 use Rattle.hol_notation_tokens.specs.Lexeme.{seen}
@@ -26,8 +24,8 @@ returns-in_err-all-clause-reads t c =
 
 pub returns-in_ok-all-clause-reads : goal.returns-in_ok-all-clause-reads
 returns-in_ok-all-clause-reads t c =
-    arrive (λ r. arguments_value r (map argument_text c.args.arguments.items)) (by-part certain (by-part certain (start certain (above some_arguments) one_argument (map seen c.args.words.now) (looks some_arguments) (opened-arguments _ (sym c.is_argument_next.ensures ∙ c.if-is_argument_next.true)) tt) (to-arguments some_arguments an_argument) c.in_ok-argument.ensures.reads) (to-end some_arguments some_arguments) c.in_ok-all.ensures.reads) (c.in_ok-all.ensures.reads.says ∙ ap (arguments_value c.in_ok-all.ensures.reads.written) (rw c.in_ok-push.ensures.items (map-append argument_text _ _) ∙ ap (λ a. map argument_text c.args.arguments.items ++ a ∷ []) c.in_ok-argument.ensures.reads.says))
+    arrive (λ r. arguments_value r c.args.arguments.items) (by-part certain (by-part certain (start certain (above some_arguments) one_argument (map seen c.args.words.now) (looks some_arguments) (opened-arguments _ (sym c.is_argument_next.ensures ∙ c.if-is_argument_next.true)) tt) (to-arguments some_arguments an_argument) c.in_ok-argument.ensures.reads) (to-end some_arguments some_arguments) c.in_ok-all.ensures.reads) (c.in_ok-all.ensures.reads.says ∙ ap (arguments_value c.in_ok-all.ensures.reads.written) (c.in_ok-push.ensures.items ∙ ap (λ a. c.args.arguments.items ++ a ∷ []) c.in_ok-argument.ensures.reads.says))
 
 pub returns-else-is_argument_next-clause-reads : goal.returns-else-is_argument_next-clause-reads
 returns-else-is_argument_next-clause-reads t c =
-    skip (above some_arguments) (λ r. arguments_value r (map argument_text c.args.arguments.items)) no_argument (map seen c.args.words.now) done (unopened-arguments (map seen c.args.words.now) (sym c.is_argument_next.ensures ∙ c.if-is_argument_next.false)) refl tt refl
+    skip (above some_arguments) (λ r. arguments_value r c.args.arguments.items) no_argument (map seen c.args.words.now) done (unopened-arguments (map seen c.args.words.now) (sym c.is_argument_next.ensures ∙ c.if-is_argument_next.false)) refl tt refl

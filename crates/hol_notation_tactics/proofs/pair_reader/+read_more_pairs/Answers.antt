@@ -1,9 +1,7 @@
 use Rattle.hol_notation_tokens.specs.declared.token.Kind.{Kind}
 use Rattle.hol_notation_tokens.specs.declared.token.Kind.TheVariants.{CloseList}
 use Rattle.hol_notation_grammar.specs.Terminal.{sign}
-use Rattle.std.proofs.lemmas.List.{map-append}
 use Rattle.std.proofs.Common.{Some}
-use Rattle.hol_notation_tactics.specs.PairView.{pair_text}
 use Rattle.std.proofs.Common.{map, refl, ap, ◌∙◌, [], ◌∷◌, ◌++◌}
 use Rattle.std.proofs.lemmas.Result.{err_from_is_err_and}
 use Rattle.hol_notation_tokens.specs.Lexeme.{seen}
@@ -29,7 +27,7 @@ returns-in_err-all-in-Some-clause-reads t c =
 
 pub returns-in_ok-all-in-Some-clause-reads : goal.returns-in_ok-all-in-Some-clause-reads
 returns-in_ok-all-in-Some-clause-reads t c =
-    arrive (λ r. more_pairs_value r (map pair_text c.args.pairs.items)) (by-part certain (by-part certain (by-token (start certain (above more_pairs) next_pair (map seen c.args.words.now) (looks more_pairs) (ap (pick more_pairs) c.in-Some.ensures.taken.whole ∙ ap (λ (k : Kind). choose_more_pairs (Some k)) c.in-Some.ensures.taken.is) tt) c.in-Some.ensures.taken) (to-more_pairs more_pairs a_pair) c.in_ok-pair-in-Some.ensures.reads) (to-end more_pairs more_pairs) c.in_ok-all-in-Some.ensures.reads) (c.in_ok-all-in-Some.ensures.reads.says ∙ ap (more_pairs_value c.in_ok-all-in-Some.ensures.reads.written) (rw c.in_ok-push-in-Some.ensures.items (map-append pair_text _ _) ∙ ap (λ a. (map pair_text c.args.pairs.items) ++ a ∷ []) c.in_ok-pair-in-Some.ensures.reads.says))
+    arrive (λ r. more_pairs_value r c.args.pairs.items) (by-part certain (by-part certain (by-token (start certain (above more_pairs) next_pair (map seen c.args.words.now) (looks more_pairs) (ap (pick more_pairs) c.in-Some.ensures.taken.whole ∙ ap (λ (k : Kind). choose_more_pairs (Some k)) c.in-Some.ensures.taken.is) tt) c.in-Some.ensures.taken) (to-more_pairs more_pairs a_pair) c.in_ok-pair-in-Some.ensures.reads) (to-end more_pairs more_pairs) c.in_ok-all-in-Some.ensures.reads) (c.in_ok-all-in-Some.ensures.reads.says ∙ ap (more_pairs_value c.in_ok-all-in-Some.ensures.reads.written) (c.in_ok-push-in-Some.ensures.items ∙ ap (λ a. c.args.pairs.items ++ a ∷ []) c.in_ok-pair-in-Some.ensures.reads.says))
 
 pub returns-in_err-_close-in-None-clause-reads : goal.returns-in_err-_close-in-None-clause-reads
 returns-in_err-_close-in-None-clause-reads t c =
@@ -38,4 +36,4 @@ returns-in_err-_close-in-None-clause-reads t c =
 
 pub returns-in_ok-_close-in-None-clause-reads : goal.returns-in_ok-_close-in-None-clause-reads
 returns-in_ok-_close-in-None-clause-reads t c =
-    arrive (λ r. more_pairs_value r (map pair_text c.args.pairs.items)) (by-token (start certain (above more_pairs) last_pair (map seen c.args.words.now) (looks more_pairs) (ap (pick more_pairs) c.in_ok-_close-in-None.ensures.taken.whole ∙ ap (λ (k : Kind). choose_more_pairs (Some k)) c.in_ok-_close-in-None.ensures.taken.is) tt) c.in_ok-_close-in-None.ensures.taken) refl
+    arrive (λ r. more_pairs_value r c.args.pairs.items) (by-token (start certain (above more_pairs) last_pair (map seen c.args.words.now) (looks more_pairs) (ap (pick more_pairs) c.in_ok-_close-in-None.ensures.taken.whole ∙ ap (λ (k : Kind). choose_more_pairs (Some k)) c.in_ok-_close-in-None.ensures.taken.is) tt) c.in_ok-_close-in-None.ensures.taken) refl

@@ -1,16 +1,15 @@
-use Rattle.std.proofs.Common.{◌≡◌, ◌||◌, Bool, true, false, ℕ, List, [], ◌∷◌, map, bytes_eq, string_bytes, refl, ap, ◌∙◌, sym}
+use Rattle.std.proofs.Common.{◌≡◌, ◌||◌, Bool, false, ℕ, List, [], ◌∷◌, map, bytes_eq, refl, ap, ◌∙◌, sym}
 use Rattle.std.specs.List.{list_any}
-use Rattle.hol_notation_terms.specs.declared.pre_variable.PreVariable.{PreVariable}
-use Rattle.hol_notation_terms.specs.VariableView.{variable_text}
+use Rattle.hol_notation_terms.specs.Text.{VariableText}
 use Rattle.hol_notation_terms.proofs.definition_reader.is_taken.Goals as goal
 
-any-name : (text : List ℕ) (ps : List PreVariable) → list_any (λ p. bytes_eq text (string_bytes p.name)) ps ≡ list_any (bytes_eq text) (map (λ v. v.name) (map variable_text ps))
+any-name : (text : List ℕ) (ps : List VariableText) → list_any (λ p. bytes_eq text p.name) ps ≡ list_any (bytes_eq text) (map (λ v. v.name) ps)
 any-name text [] = refl
-any-name text (p ∷ ps) = ap (λ (b : Bool). bytes_eq text (string_bytes p.name) || b) (any-name text ps)
+any-name text (p ∷ ps) = ap (λ (b : Bool). bytes_eq text p.name || b) (any-name text ps)
 
-other-name : (text constant : List ℕ) (ps : List PreVariable) (r : Bool) → bytes_eq text constant ≡ false → r ≡ list_any (λ p. bytes_eq text (string_bytes p.name)) ps
-    → r ≡ (bytes_eq text constant || list_any (bytes_eq text) (map (λ v. v.name) (map variable_text ps)))
-other-name text constant ps r e h = h ∙ any-name text ps ∙ sym (ap (λ (b : Bool). b || list_any (bytes_eq text) (map (λ v. v.name) (map variable_text ps))) e)
+other-name : (text constant : List ℕ) (ps : List VariableText) (r : Bool) → bytes_eq text constant ≡ false → r ≡ list_any (λ p. bytes_eq text p.name) ps
+    → r ≡ (bytes_eq text constant || list_any (bytes_eq text) (map (λ v. v.name) ps))
+other-name text constant ps r e h = h ∙ any-name text ps ∙ sym (ap (λ (b : Bool). b || list_any (bytes_eq text) (map (λ v. v.name) ps)) e)
 
 pub returns-else-eq : goal.returns-else-eq
 returns-else-eq c = other-name c.args.name.now c.args.constant.now c.args.parameters.now c.is_parameter.result (sym c.eq.ensures ∙ c.if-eq.false) c.is_parameter.ensures

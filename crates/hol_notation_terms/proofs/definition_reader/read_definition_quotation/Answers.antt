@@ -1,8 +1,6 @@
 use Rattle.std.proofs.Common.{map}
 use Rattle.std.proofs.lemmas.Result.{err_from_is_err_and}
 use Rattle.hol_notation_tokens.specs.Lexeme.{seen}
-use Rattle.hol_notation_terms.specs.VariableView.{variable_text}
-use Rattle.hol_notation_terms.specs.DefinitionView.{right_side_text}
 use Rattle.hol_notation_terms.proofs.DefinitionSteps.{definition-open-missing, definition-name-missing, definition-parameters-fail, definition-found, first-fails, first-found}
 use Rattle.hol_notation_terms.proofs.definition_reader.read_definition_quotation.Goals as goal
 
@@ -23,4 +21,4 @@ returns-in_err-parameters-clause-reads c =
 
 pub returns-clause-reads : goal.returns-clause-reads
 returns-clause-reads c =
-    definition-found (map seen c.args.words.now) (map seen c.in_ok-open.after.now) (map seen c.in_ok-constant.behind.now) (map seen c.in_ok-parameters.rest.now) (seen c.in_ok-open.open) (seen c.in_ok-constant.constant) _ (map variable_text c.in_ok-parameters.parameters.items, right_side_text c.in_ok-parameters.right) c.in_ok-open.ensures.taken c.in_ok-constant.ensures.taken (first-found c.in_ok-constant.constant.text.now _ (map seen c.in_ok-constant.behind.now) (map seen c.in_ok-parameters.rest.now) _ c.new-none.ensures.items c.in_ok-parameters.ensures.reads) c.in_ok-name.ensures.ok
+    definition-found (map seen c.args.words.now) (map seen c.in_ok-open.after.now) (map seen c.in_ok-constant.behind.now) (map seen c.in_ok-parameters.rest.now) (seen c.in_ok-open.open) (seen c.in_ok-constant.constant) _ (c.in_ok-parameters.parameters.items, c.in_ok-parameters.right) c.in_ok-open.ensures.taken c.in_ok-constant.ensures.taken (first-found c.in_ok-constant.constant.text.now _ (map seen c.in_ok-constant.behind.now) (map seen c.in_ok-parameters.rest.now) _ c.new-none.ensures.items c.in_ok-parameters.ensures.reads) c.in_ok-name.ensures.ok

@@ -1,4 +1,4 @@
-use Rattle.std.proofs.Common.{map, refl}
+use Rattle.std.proofs.Common.{map}
 use Rattle.std.proofs.lemmas.Result.{err_from_is_err_and}
 use Rattle.hol_notation_tokens.specs.Lexeme.{seen}
 use Rattle.hol_notation_terms.proofs.QuotationSteps.{type_open-missing, type_colon-missing, type_inside-fails, type_close-missing, type_quotation-found}
