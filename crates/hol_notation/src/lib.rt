@@ -1,0 +1,15 @@
+//! Commands, tactic and theorem expressions, quotations, types and terms as they are written, and the reading of them: what the crates
+//! of the notation give to those above.
+#![tactic(auto)]
+
+pub use hol_notation_commands::{Command, CommandNode, TypeDefinition, read_command};
+pub use hol_notation_tactics::{
+    TacArg, TacArgNode, TacCall, TacExpr, TacExprNode, ThmExpr, ThmExprNode, TypePair,
+};
+pub use hol_notation_terms::{
+    Definition, Operator, PreTerm, PreTermNode, PreType, PreTypeNode, PreVariable, Quotation,
+    RightSide, TypeQuotation,
+};
+pub use hol_notation_tokens::{
+    Kind, MAX_OPEN, MAX_TOKENS, SyntaxError, Token, is_identifier, lex, skip,
+};
