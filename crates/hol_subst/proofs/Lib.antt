@@ -14,3 +14,5 @@ pub mod TypesInst
 pub mod InstSteps
 pub mod Kept
 pub mod Binders
+pub mod Opening
+pub mod Composition

@@ -10,3 +10,4 @@ pub mod FreeName
 pub mod Capture
 pub mod Renaming
 pub mod Substituted
+pub mod Laws

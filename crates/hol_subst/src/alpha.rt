@@ -1,6 +1,5 @@
 //! The order of terms up to the names of bound variables.
 ghost use Rattle.std.specs.Prelude.{◌≡◌, ◌↔◌, [], IsTrue};
-ghost use Rattle.std.specs.Cmp.{IsTotalOrder};
 ghost use Rattle.std.specs.declared.cmp.Ordering.TheVariants.{Equal};
 ghost use Rattle.hol_terms.specs.Nameless.{nameless};
 ghost use Rattle.hol_terms.specs.Alpha.{strip, alpha_eq};
@@ -12,7 +11,7 @@ use hol_terms::{Scope, Term, TermNode, Variable};
 use std::cmp::Ordering;
 
 /// The order of terms up to the names of bound variables: constants, then bound variables, free variables, applications and
-/// abstractions, and within a kind the parts from the left. It is total (`alpha_order_is_total`) and ties just at alpha equivalence.
+/// abstractions, and within a kind the parts from the left. It is total (`laws::alpha_order_is_total`) and ties just at alpha equivalence.
 ///
 /// Takes no memory. Shared nodes are compared again at each place where they stand.
 #[tactic(auto, using(crate::proofs::AlphaOrder::alpha_orders))]
@@ -80,9 +79,3 @@ fn place_order(left: &Scope, v: &Variable, right: &Scope, w: &Variable) -> Order
         },
     }
 }
-
-/// The law of `alpha_order`: it is a total order.
-#[tactic(auto, using(crate::proofs::AlphaOrder::alpha_total))]
-pub fn alpha_order_is_total()
-    ensures { IsTotalOrder alpha_cmp }
-{}

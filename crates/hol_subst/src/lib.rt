@@ -6,12 +6,13 @@
 mod alpha;
 mod error;
 mod instances;
+pub mod laws;
 mod names;
 mod pairs;
 mod substitution;
 mod variants;
 
-pub use alpha::{aconv, alpha_order, alpha_order_is_total};
+pub use alpha::{aconv, alpha_order};
 pub use error::SubstError;
 pub use instances::inst;
 pub use names::free_name;

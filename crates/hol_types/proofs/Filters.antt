@@ -119,9 +119,9 @@ mutual
 pub kept_closed : (pairs : List (TypeTree × List ℕ)) (t : TypeTree) → type_filter t ≡ 0 → type_subst pairs t ≡ t
 kept_closed pairs t e = kept_apart pairs t (λ k p q. no_bit k (ap (λ n. bit_at n k) (sym e) ∙ p))
 
-among-append : (xs ys : List (List ℕ)) (a : List ℕ) → is_among (xs ++ ys) a ≡ (is_among xs a || is_among ys a)
-among-append [] ys a = refl
-among-append (x ∷ xs) ys a = by (bytes_eq a x) (among-append xs ys a)
+pub among_append : (xs ys : List (List ℕ)) (a : List ℕ) → is_among (xs ++ ys) a ≡ (is_among xs a || is_among ys a)
+among_append [] ys a = refl
+among_append (x ∷ xs) ys a = by (bytes_eq a x) (among_append xs ys a)
   where
     by : (b : Bool) → is_among (xs ++ ys) a ≡ (is_among xs a || is_among ys a) → (b || is_among (xs ++ ys) a) ≡ ((b || is_among xs a) || is_among ys a)
     by true e = refl
@@ -138,7 +138,7 @@ mutual
 
   have_bit : (a : List ℕ) (ts : TypeList) → is_among (types_names ts) a ≡ true → bit_at (types_filter ts) (name_place 0 a) ≡ 1
   have_bit a no_types e = absurd (cc)
-  have_bit a (more_types t ts) e = by (is_among (type_names t) a) (is_among (types_names ts) a) (has_bit a t) (have_bit a ts) (sym (among-append (type_names t) (types_names ts) a) ∙ e)
+  have_bit a (more_types t ts) e = by (is_among (type_names t) a) (is_among (types_names ts) a) (has_bit a t) (have_bit a ts) (sym (among_append (type_names t) (types_names ts) a) ∙ e)
     where
       by : (b c : Bool) → (b ≡ true → bit_at (type_filter t) (name_place 0 a) ≡ 1) → (c ≡ true → bit_at (types_filter ts) (name_place 0 a) ≡ 1) → (b || c) ≡ true → bit_at (types_filter (more_types t ts)) (name_place 0 a) ≡ 1
       by true c p q r = or_has_left (type_filter t) (types_filter ts) (name_place 0 a) (p refl)

@@ -4,9 +4,10 @@
 #![tactic(auto)]
 
 mod filter;
+pub mod laws;
 mod name;
 mod ty;
 
 pub use filter::NameFilter;
 pub use name::Name;
-pub use ty::{Ty, TyNode, order_is_total};
+pub use ty::{Ty, TyNode};

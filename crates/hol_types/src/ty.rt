@@ -1,7 +1,6 @@
 //! Types, which contracts see as finite trees.
 ghost use Rattle.std.specs.Prelude.{◌≡◌, ℕ, Some, None, OnOk, length, ◌≤◌, map, if◌then◌else◌, List, ◌++◌, [], ◌∷◌, min, IfOk, IfSome, IsNone, MatchOption, IsTrue, ◌↔◌};
 ghost use Rattle.std.specs.List.{insert};
-ghost use Rattle.std.specs.Cmp.{IsTotalOrder};
 ghost use Rattle.hol_types.specs.Tree.{TypeTree, TyVar, TyApp, type_list, type_size};
 ghost use Rattle.hol_types.specs.Subst.{type_lookup, type_for, type_subst};
 ghost use Rattle.hol_types.specs.Names.{type_names, insert_name, insert_names, tyvars, IsAscending, is_among};
@@ -230,7 +229,7 @@ impl Ty {
 
     /// The order of types: variables before applications, then by the bytes of the name, then by the arguments from the left.
     ///
-    /// It is total (`order_is_total`). Takes no memory. Shared nodes are compared again at each place where they stand, up to the
+    /// It is total (`laws::order_is_total`). Takes no memory. Shared nodes are compared again at each place where they stand, up to the
     /// first difference.
     #[tactic(auto, using(crate::proofs::Steps::ends_less))]
     pub fn order(&self, other: &Ty) -> Ordering
@@ -444,9 +443,3 @@ fn replacement<'a>(pairs: &'a [(Ty, Name)], name: &Name) -> Option<&'a Ty>
     }
     None
 }
-
-/// The law of `order`: it is a total order.
-#[tactic(auto, using(crate::proofs::OrderLaws::type_cmp_total))]
-pub fn order_is_total()
-    ensures { IsTotalOrder type_cmp }
-{}
