@@ -2,4 +2,4 @@ pub mod Types
 pub mod Shapes
 pub mod Fewest
 pub mod Primes
-pub mod Making
+pub mod Places

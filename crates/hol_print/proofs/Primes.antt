@@ -1,32 +1,29 @@
 -- Names as a base and primes.
 use Rattle.std.proofs.Common.{◌≡◌, ◌≢◌, ℕ, ◌+◌, ◌-◌, ◌<◌, ◌≤◌, zero, suc, List, [], ◌∷◌, ◌++◌, length, length-append, get_or, take, drop, refl, ap, sym, ◌∙◌, append_assoc, Bool, true, false, cond, ◌||◌, bytes_eq, codes, arith}
 use Rattle.std.proofs.Math.ListN.{set}
+use Rattle.std.proofs.Math.Bool.{or_assoc, or-false}
+use Rattle.std.proofs.lemmas.Bool.{false_from_ne_true, or_right}
+use Rattle.std.proofs.lemmas.List.{get_or-set_other}
 use Rattle.std.proofs.lemmas.Grind.{get_or-set_at}
 use Rattle.std.proofs.lemmas.Slice.Eq.{bytes_eq-Decides}
 use Rattle.std.specs.Prelude.{◌==◌}
 use Rattle.std.proofs.lemmas.Bool.Decides.{nat_tests}
 use Rattle.hol_types.specs.Names.{is_among}
 use Rattle.hol_terms.specs.Nameless.{with_letter, base_of}
-use Rattle.hol_print.specs.NamesLeft.{IsTable}
-use Rattle.hol_print.specs.ShowTerm.{primed, with_primes}
+use Rattle.hol_terms.specs.Primes.{with_primes}
+use Rattle.hol_terms.proofs.Primes.{base_with_primes}
+use Rattle.hol_print.specs.Taken.{IsTable}
+use Rattle.hol_print.specs.ShowTerm.{primed}
 
 -- ---- the base of a name with primes
 
-base_prime : (front : List ℕ) → base_of (front ++ codes "'") ≡ base_of front
-base_prime [] = refl
-base_prime (y ∷ front) = ap (with_letter y) (base_prime front)
-
-base_with : (k : ℕ) (a : List ℕ) → base_of (with_primes k a) ≡ base_of a
-base_with zero a = refl
-base_with (suc k) a = base_with k (a ++ codes "'") ∙ base_prime a
-
 length_with : (k : ℕ) (a : List ℕ) → length (with_primes k a) ≡ length a + k
 length_with zero a = omega arith
-length_with (suc k) a = omega (arith, length_with k (a ++ codes "'"), length-append a (codes "'"))
+length_with (suc k) a = omega (arith, length_with k a, length-append (with_primes k a) (codes "'"))
 
 -- a name is one base with primes in one way
 same_base : (k j : ℕ) (a b : List ℕ) → base_of a ≡ a → base_of b ≡ b → with_primes k a ≡ with_primes j b → a ≡ b
-same_base k j a b p q e = sym p ∙ sym (base_with k a) ∙ ap base_of e ∙ base_with j b ∙ q
+same_base k j a b p q e = sym p ∙ sym (base_with_primes k a) ∙ ap base_of e ∙ base_with_primes j b ∙ q
 
 same_primes : (k j : ℕ) (a : List ℕ) → with_primes k a ≡ with_primes j a → k ≡ j
 same_primes k j a e = let h : length (with_primes k a) ≡ length (with_primes j a) = ap length e in omega (arith, h, length_with k a, length_with j a)
@@ -36,18 +33,18 @@ other_base a b k j p q ne e = ne (same_base k j a b p q e)
 
 -- ---- one prime more
 
-with_end : (k : ℕ) (a : List ℕ) → with_primes k (a ++ codes "'") ≡ with_primes k a ++ codes "'"
+pub with_end : (k : ℕ) (a : List ℕ) → with_primes k (a ++ codes "'") ≡ with_primes k a ++ codes "'"
 with_end zero a = refl
-with_end (suc k) a = with_end k (a ++ codes "'")
+with_end (suc k) a = ap (λ x. x ++ codes "'") (with_end k a)
 
 pub more_primes : (k : ℕ) (a : List ℕ) → with_primes (k + 1) a ≡ with_primes k a ++ codes "'"
-more_primes k a = let e : k + 1 ≡ suc k = omega arith in rw e (with_end k a)
+more_primes k a = let e : k + 1 ≡ suc k = omega arith in rw e refl
 
 pub ruleset one_more = (more_primes)
 
 pub with_before : (k : ℕ) (o a : List ℕ) → with_primes k (o ++ a) ≡ o ++ with_primes k a
 with_before zero o a = refl
-with_before (suc k) o a = ap (with_primes k) (append_assoc o a (codes "'")) ∙ with_before k o (a ++ codes "'")
+with_before (suc k) o a = ap (λ x. x ++ codes "'") (with_before k o a) ∙ append_assoc o (with_primes k a) (codes "'")
 
 pub ruleset after_front = (with_before)
 
@@ -79,7 +76,7 @@ base_length (x ∷ xs) = by (base_of xs) (base_length xs)
 
 with_front : (k : ℕ) (x : ℕ) (a : List ℕ) → with_primes k (x ∷ a) ≡ x ∷ with_primes k a
 with_front zero x a = refl
-with_front (suc k) x a = with_front k x (a ++ codes "'")
+with_front (suc k) x a = ap (λ y. y ++ codes "'") (with_front k x a)
 
 whole : (a : List ℕ) → with_primes (length a - length (base_of a)) (base_of a) ≡ a
 whole [] = refl
@@ -89,7 +86,7 @@ whole (x ∷ xs) = by (base_of xs) (whole xs)
     prime true e h =
         let p : x ≡ 39 = grind (arith, nat_tests) in
         let d : suc (length xs) - 0 ≡ suc (length xs) = omega arith in
-        ap (λ m. with_primes m []) d ∙ with_front (length xs) 39 [] ∙ (λ i. sym p i ∷ h i)
+        ap (λ m. with_primes m []) d ∙ sym (with_end (length xs) []) ∙ with_front (length xs) 39 [] ∙ (λ i. sym p i ∷ h i)
     prime false e h =
         let d : suc (length xs) - 1 ≡ length xs = omega arith in
         ap (λ m. with_primes m (x ∷ [])) d ∙ with_front (length xs) x [] ∙ ap (λ ys. x ∷ ys) h
@@ -121,35 +118,17 @@ fewest zero (suc k) names a h f g = absurd (omega arith)
 fewest (suc n) zero names a h f g = let e : is_among names a ≡ false = g (omega arith) in rw e refl
 fewest (suc n) (suc k) names a h f g =
     let e : is_among names a ≡ true = f 0 (omega arith) in
-    rw e (fewest n k names (a ++ codes "'") (omega arith) (λ j l. f (suc j) (omega arith)) (λ l. g (omega arith)))
+    let found : with_primes k (a ++ codes "'") ≡ primed n names (a ++ codes "'") = fewest n k names (a ++ codes "'") (omega arith) (λ j l. ap (is_among names) (with_end j a) ∙ f (suc j) (omega arith)) (λ l. ap (is_among names) (with_end k a) ∙ g (omega arith)) in
+    rw e (sym (with_end k a) ∙ found)
 
 -- ---- which primes are taken
-
-not_true : (p : Bool) → (p ≡ true → ⊥) → p ≡ false
-not_true true f = absurd (f refl)
-not_true false f = refl
-
-or_right : (p : Bool) {q : Bool} → q ≡ true → (p || q) ≡ true
-or_right true e = refl
-or_right false e = e
-
-or_false : (p : Bool) → (p || false) ≡ p
-or_false true = refl
-or_false false = refl
-
-get_or-set_other : (xs : List Bool) (i k : ℕ) (y d : Bool) → k ≢ i → get_or (set xs i y) k d ≡ get_or xs k d
-get_or-set_other [] i k y d ne = refl
-get_or-set_other (x ∷ xs) zero zero y d ne = absurd (ne refl)
-get_or-set_other (x ∷ xs) zero (suc k) y d ne = refl
-get_or-set_other (x ∷ xs) (suc i) zero y d ne = refl
-get_or-set_other (x ∷ xs) (suc i) (suc k) y d ne = get_or-set_other xs i k y d (λ e. ne (ap suc e))
 
 no_more : (p q : Bool) → q ≡ false → p ≡ (p || q)
 no_more true q e = refl
 no_more false q e = sym e
 
 other_primes : (k j : ℕ) (a name : List ℕ) → name ≡ with_primes j a → k ≢ j → bytes_eq (with_primes k a) name ≡ false
-other_primes k j a name is ne = not_true (bytes_eq (with_primes k a) name) (λ e. ne (same_primes k j a ((bytes_eq-Decides (with_primes k a) name).0 e ∙ is)))
+other_primes k j a name is ne = false_from_ne_true (bytes_eq (with_primes k a) name) (λ e. ne (same_primes k j a ((bytes_eq-Decides (with_primes k a) name).0 e ∙ is)))
 
 pub marked : (taken : List Bool) (j k : ℕ) (a name : List ℕ) → name ≡ with_primes j a → j < length taken → k < length taken → get_or (set taken j true) k false ≡ (get_or taken k false || bytes_eq (with_primes k a) name)
 marked taken j k a name is l m = by (k == j) refl
@@ -159,7 +138,7 @@ marked taken j k a name is l m = by (k == j) refl
         let same : k ≡ j = grind (arith, nat_tests) in
         let here : get_or (set taken j true) k false ≡ true = get_or-set_at taken j k true false same l in
         let met : bytes_eq (with_primes k a) name ≡ true = (bytes_eq-Decides (with_primes k a) name).1 (ap (λ n. with_primes n a) same ∙ sym is) in
-        here ∙ sym (or_right (get_or taken k false) met)
+        here ∙ sym (or_right (get_or taken k false) (bytes_eq (with_primes k a) name) met)
     by false e =
         let ne : k ≢ j = grind (arith, nat_tests) in
         get_or-set_other taken j k true false ne ∙ no_more (get_or taken k false) (bytes_eq (with_primes k a) name) (other_primes k j a name is ne)
@@ -168,7 +147,7 @@ pub unmarked_past : (taken : List Bool) (j k : ℕ) (a name : List ℕ) → name
 unmarked_past taken j k a name is l m = no_more (get_or taken k false) (bytes_eq (with_primes k a) name) (other_primes k j a name is (λ e. omega (arith, e)))
 
 pub unmarked_other : (taken : List Bool) (k : ℕ) (a name : List ℕ) → ((j : ℕ) → name ≢ with_primes j a) → get_or taken k false ≡ (get_or taken k false || bytes_eq (with_primes k a) name)
-unmarked_other taken k a name f = no_more (get_or taken k false) (bytes_eq (with_primes k a) name) (not_true (bytes_eq (with_primes k a) name) (λ e. f k (sym ((bytes_eq-Decides (with_primes k a) name).0 e))))
+unmarked_other taken k a name f = no_more (get_or taken k false) (bytes_eq (with_primes k a) name) (false_from_ne_true (bytes_eq (with_primes k a) name) (λ e. f k (sym ((bytes_eq-Decides (with_primes k a) name).0 e))))
 
 pub ruleset marking = (marked, unmarked_past, unmarked_other)
 
@@ -178,17 +157,13 @@ among_next [] i name x l e = absurd (omega arith)
 among_next (n ∷ names) zero name x l e = let same : name ≡ n = e in rw same refl
 among_next (n ∷ names) (suc i) name x l e = let d : suc i + 1 ≡ suc (i + 1) = omega arith in rw d (among_next names i name x (omega arith) e)
 
-regroup : (p q r : Bool) → (p || (q || r)) ≡ ((p || q) || r)
-regroup true q r = refl
-regroup false q r = refl
-
 pub table_next : (names : List (List ℕ)) (i : ℕ) (name x : List ℕ) (t p q : Bool) → i < length names → name ≡ get_or names i name → t ≡ (p || is_among (drop i names) x) → q ≡ (p || bytes_eq x name) → t ≡ (q || is_among (drop (i + 1) names) x)
 table_next names i name x t p q l e h k =
-    h ∙ ap (λ b. p || b) (among_next names i name x l e) ∙ regroup p (bytes_eq x name) (is_among (drop (i + 1) names) x) ∙ ap (λ b. b || is_among (drop (i + 1) names) x) (sym k)
+    h ∙ ap (λ b. p || b) (among_next names i name x l e) ∙ sym (or_assoc p (bytes_eq x name) (is_among (drop (i + 1) names) x)) ∙ ap (λ b. b || is_among (drop (i + 1) names) x) (sym k)
 
 pub table_end : (names : List (List ℕ)) (i : ℕ) (x : List ℕ) (t p : Bool) → length names ≤ i → t ≡ (p || is_among (drop i names) x) → p ≡ t
-table_end [] zero x t p l h = sym (h ∙ or_false p)
-table_end [] (suc i) x t p l h = sym (h ∙ or_false p)
+table_end [] zero x t p l h = sym (h ∙ or-false p)
+table_end [] (suc i) x t p l h = sym (h ∙ or-false p)
 table_end (n ∷ names) zero x t p l h = absurd (omega arith)
 table_end (n ∷ names) (suc i) x t p l h = table_end names i x t p (omega arith) h
 

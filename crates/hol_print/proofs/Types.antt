@@ -1,12 +1,11 @@
 -- Steps of showing types.
-use Rattle.std.proofs.Common.{◌≡◌, ◌≢◌, ℕ, ◌+◌, ◌<◌, ◌≤◌, List, [], ◌∷◌, ◌++◌, length, get_or, drop, refl, ap, sym, Bool, true, false, cond, Option, Some, None, unwrap_or, codes, arith, bytes_eq}
-use Rattle.hol_types.specs.Tree.{TypeTree, TypeList, TyVar, TyApp, no_types, more_types, type_list}
-use Rattle.hol_types.specs.Fun.{fun_type, fun_parts, both_of}
-use Rattle.std.proofs.lemmas.Slice.Eq.{bytes_eq-Decides}
+use Rattle.std.proofs.Common.{◌≡◌, ◌≢◌, ℕ, zero, suc, ◌+◌, ◌<◌, ◌≤◌, List, [], ◌∷◌, ◌++◌, length, get_or, drop, refl, ap, sym, ◌∙◌, Bool, true, false, cond, Option, Some, None, unwrap_or, codes, append_assoc, arith, bytes_eq}
+use Rattle.hol_types.specs.Tree.{TypeTree, TypeList, TyVar, TyApp, no_types, more_types, type_list, type_size, types_size}
 use Rattle.hol_types.specs.Equal.{type_eq}
 use Rattle.hol_types.proofs.OrderLaws.{type_cmp_decides}
+use Rattle.hol_types.specs.Fun.{fun_type, fun_parts, both_of}
+use Rattle.std.proofs.lemmas.Slice.Eq.{bytes_eq-Decides}
 use Rattle.hol_print.specs.ShowType.{in_parentheses, is_function, show_type, show_arguments, show_others}
-use Rattle.hol_print.specs.TypePieces.{type_work, types_work}
 
 abbrev Parts : Type 0
 Parts = Option (TypeTree × TypeTree)
@@ -49,47 +48,57 @@ one_argument [] s h k e = absurd (omega arith)
 one_argument (t ∷ []) s h k e = ap (λ x. in_parentheses (is_function x) (show_type x) ++ codes " ") (sym e)
 one_argument (t ∷ u ∷ ts) s h k e = absurd (omega arith)
 
-pub many_arguments : (ts : List TypeTree) (s t : TypeTree) → 2 ≤ length ts → s ≡ get_or ts 0 s → t ≡ get_or ts 1 t → show_arguments (type_list ts) ≡ codes "(" ++ show_type s ++ codes "," ++ show_type t ++ show_others (type_list (drop 2 ts)) ++ codes ") "
-many_arguments [] s t h e k = absurd (omega arith)
-many_arguments (a ∷ []) s t h e k = absurd (omega arith)
-many_arguments (a ∷ b ∷ ts) s t h e k = let p : s ≡ a = e in let q : t ≡ b = k in rw (p, q) refl
+pub many_arguments : (ts : List TypeTree) (s : TypeTree) → 2 ≤ length ts → s ≡ get_or ts 0 s → show_arguments (type_list ts) ≡ codes "(" ++ show_type s ++ show_others (type_list (drop 1 ts)) ++ codes ") "
+many_arguments [] s h e = absurd (omega arith)
+many_arguments (a ∷ []) s h e = absurd (omega arith)
+many_arguments (a ∷ b ∷ ts) s h e =
+    let front : List ℕ = codes "(" ++ show_type s in
+    let p : show_type a ≡ show_type s = ap show_type (sym e) in
+    ap (λ x. codes "(" ++ x ++ codes "," ++ show_type b ++ show_others (type_list ts) ++ codes ") ") p
+    ∙ ap (λ x. x ++ show_others (type_list ts) ++ codes ") ") (append_assoc front (codes ",") (show_type b))
+    ∙ ap (λ x. x ++ codes ") ") (append_assoc front (codes "," ++ show_type b) (show_others (type_list ts)))
 
 pub ruleset arguments = (one_argument, many_arguments)
 
--- the first of the arguments after the second
-pub other_text : (ts : List TypeTree) (t : TypeTree) → 1 ≤ length ts → t ≡ get_or ts 0 t → show_others (type_list ts) ≡ codes "," ++ show_type t ++ show_others (type_list (drop 1 ts))
-other_text [] t h e = absurd (omega arith)
-other_text (a ∷ ts) t h e = let p : t ≡ a = e in rw p refl
+-- the first of the arguments after the first
+pub other_text : (ts : List TypeTree) (i : ℕ) (t : TypeTree) → i < length ts → t ≡ get_or ts i t → show_others (type_list (drop i ts)) ≡ codes "," ++ show_type t ++ show_others (type_list (drop (i + 1) ts))
+other_text [] i t h e = absurd (omega arith)
+other_text (a ∷ ts) zero t h e = let p : t ≡ a = e in rw p refl
+other_text (a ∷ ts) (suc i) t h e = let n : suc i + 1 ≡ suc (i + 1) = omega arith in rw n (other_text ts i t (omega arith) e)
 
-pub no_other_text : (ts : List TypeTree) → length ts < 1 → show_others (type_list ts) ≡ []
-no_other_text [] h = refl
-no_other_text (t ∷ ts) h = absurd (omega arith)
+pub no_other_text : (ts : List TypeTree) (i : ℕ) → length ts ≤ i → show_others (type_list (drop i ts)) ≡ []
+no_other_text [] zero h = refl
+no_other_text [] (suc i) h = refl
+no_other_text (t ∷ ts) zero h = absurd (omega arith)
+no_other_text (t ∷ ts) (suc i) h = no_other_text ts i (omega arith)
 
--- the work of the arguments
-pub function_work : (s a b : TypeTree) → fun_parts s ≡ Some (a, b) → type_work s ≡ 17 + type_work a + type_work b
-function_work s a b e = omega (arith, ap type_work (is_fun_type s a b e))
+pub ruleset others = (other_text, no_other_text)
 
-pub no_work : (ts : List TypeTree) → length ts < 1 → types_work (type_list ts) ≡ 1
-no_work [] h = refl
-no_work (t ∷ ts) h = absurd (omega arith)
+-- ---- parts are smaller
 
-pub first_work : (ts : List TypeTree) (t : TypeTree) → 1 ≤ length ts → t ≡ get_or ts 0 t → types_work (type_list ts) ≡ 4 + type_work t + types_work (type_list (drop 1 ts))
-first_work [] t h e = absurd (omega arith)
-first_work (a ∷ ts) t h e = let p : t ≡ a = e in rw p refl
+pub domain_smaller : (s a b : TypeTree) → fun_parts s ≡ Some (a, b) → type_size a < type_size s
+domain_smaller s a b e = omega (arith, ap type_size (is_fun_type s a b e))
 
-pub one_work : (ts : List TypeTree) (t : TypeTree) → 1 ≤ length ts → length ts < 2 → t ≡ get_or ts 0 t → types_work (type_list ts) ≡ 5 + type_work t
-one_work [] t h k e = absurd (omega arith)
-one_work (a ∷ []) t h k e = let p : t ≡ a = e in rw p (omega arith)
-one_work (a ∷ b ∷ ts) t h k e = absurd (omega arith)
+pub range_smaller : (s a b : TypeTree) → fun_parts s ≡ Some (a, b) → type_size b < type_size s
+range_smaller s a b e = omega (arith, ap type_size (is_fun_type s a b e))
 
-pub many_work : (ts : List TypeTree) (s t : TypeTree) → 2 ≤ length ts → s ≡ get_or ts 0 s → t ≡ get_or ts 1 t → types_work (type_list ts) ≡ 8 + type_work s + type_work t + types_work (type_list (drop 2 ts))
-many_work [] s t h e k = absurd (omega arith)
-many_work (a ∷ []) s t h e k = absurd (omega arith)
-many_work (a ∷ b ∷ ts) s t h e k = let p : s ≡ a = e in let q : t ≡ b = k in rw (p, q) (omega arith)
+pub arguments_smaller : (s : TypeTree) (c : List ℕ) (ts : List TypeTree) → s ≡ TyApp c (type_list ts) → types_size (type_list ts) < type_size s
+arguments_smaller s c ts e = omega (arith, ap type_size e)
 
-pub ruleset works = (function_work, no_work, one_work, many_work)
+pub ruleset smaller = (domain_smaller, range_smaller, arguments_smaller)
 
-pub ruleset others = (other_text, no_other_text, no_work, first_work)
+pub part_size : (ts : List TypeTree) (i : ℕ) (t : TypeTree) → i < length ts → t ≡ get_or ts i t → type_size t ≤ types_size (type_list ts)
+part_size [] i t h e = absurd (omega arith)
+part_size (a ∷ ts) zero t h e = let p : t ≡ a = e in omega (arith, ap type_size p)
+part_size (a ∷ ts) (suc i) t h e = omega (arith, part_size ts i t (omega arith) e)
+
+pub rest_size : (ts : List TypeTree) (i : ℕ) → types_size (type_list (drop i ts)) ≤ types_size (type_list ts)
+rest_size [] zero = omega arith
+rest_size [] (suc i) = omega arith
+rest_size (t ∷ ts) zero = omega arith
+rest_size (t ∷ ts) (suc i) = omega (arith, rest_size ts i)
+
+pub ruleset sizes = (part_size, rest_size)
 
 -- the type of propositions is the constructor `bool` without arguments
 pub bool_empty : (c : List ℕ) (ts : List TypeTree) → c ≡ codes "bool" → length ts ≡ 0 → type_eq (TyApp c (type_list ts)) (TyApp (codes "bool") no_types) ≡ true

@@ -3,7 +3,4 @@ pub mod ShowTerm
 pub mod BareView
 pub mod ShapeView
 pub mod ShowGoal
-pub mod TypePieces
-pub mod NamesLeft
-pub mod Making
-pub mod TermPieces
+pub mod Taken

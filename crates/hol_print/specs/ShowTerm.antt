@@ -1,6 +1,6 @@
 -- The text of a nameless term.
 -- Source: the notation of HOL Light (parser.ml, printer.ml) for the connectives, `=` and the binders; the exact text is this project's.
-use Rattle.std.specs.Prelude.{◌≡◌, ◌<◌, ℕ, zero, suc, ◌+◌, ◌-◌, List, [], ◌∷◌, ◌++◌, length, codes, Bool, true, false, cond, ◌&&◌, ◌||◌, nat_lt, bytes_eq, Option, Some, None, is_some, slice_get, unwrap_or}
+use Rattle.std.specs.Prelude.{ℕ, zero, suc, ◌+◌, ◌-◌, List, [], ◌∷◌, ◌++◌, length, codes, Bool, false, cond, ◌&&◌, ◌||◌, nat_lt, bytes_eq, Option, Some, None, is_some, slice_get, unwrap_or}
 use Rattle.hol_types.specs.Tree.{TypeTree, TyApp, no_types}
 use Rattle.hol_types.specs.Fun.{fun_parts}
 use Rattle.hol_types.specs.Equal.{type_eq}
@@ -30,20 +30,6 @@ primed (suc n) names a = cond (is_among names a) (primed n names (a ++ codes "'"
 -- how a variable of base a is shown, whose binder has the body b
 abbrev pub shown_name : List (List ℕ) → List ℕ → Nameless → List ℕ
 shown_name env a b = let names = names_in 1 env b in primed (length names) names a
-
--- ---- That this is the fewest primes
-
--- a with k primes more
-abbrev pub with_primes : ℕ → List ℕ → List ℕ
-with_primes zero a = a
-with_primes (suc k) a = with_primes k (a ++ codes "'")
-
--- the name is a with so many primes, it is none of the names, and with fewer primes it would be one of them
-pub record IsFewest (names : List (List ℕ)) (a name : List ℕ) : Type 0 where
-  pub primes : ℕ
-  pub is : name ≡ with_primes primes a
-  pub fresh : is_among names name ≡ false
-  pub least : (j : ℕ) → j < primes → is_among names (with_primes j a) ≡ true
 
 -- ---- Notation
 
@@ -97,13 +83,25 @@ syntax env (free v) = Word v.0
 syntax env (bound i) = Word (unwrap_or (slice_get env i) [])
 syntax env (fixed c s) = Word (in_parentheses (is_operator (symbol c s)) (symbol c s))
 syntax env (lam a s b) = Binder (codes "\\") (shown_name env a b) (syntax (shown_name env a b ∷ env) b)
+-- a constant and its first argument
+syntax env (app (fixed c s) (free v)) = prefixed c (syntax env (fixed c s)) (syntax env (free v))
+syntax env (app (fixed c s) (bound i)) = prefixed c (syntax env (fixed c s)) (syntax env (bound i))
+syntax env (app (fixed c s) (fixed d t)) = prefixed c (syntax env (fixed c s)) (syntax env (fixed d t))
+syntax env (app (fixed c s) (app g y)) = prefixed c (syntax env (fixed c s)) (syntax env (app g y))
 syntax env (app (fixed c s) (lam a t b)) =
     cond (is_quantifier c)
     (Binder c (shown_name env a b) (syntax (shown_name env a b ∷ env) b))
     (prefixed c (syntax env (fixed c s)) (syntax env (lam a t b)))
-syntax env (app (fixed c s) x) = prefixed c (syntax env (fixed c s)) (syntax env x)
+-- a constant and two arguments
 syntax env (app (app (fixed c s) x) y) = infixed (infix_number (symbol c s)) (symbol c s) (syntax env x) (syntax env (app (fixed c s) x)) (syntax env y)
-syntax env (app f x) = Apply (syntax env f) (syntax env x)
+-- what else is applied
+syntax env (app (app (free v) x) y) = Apply (syntax env (app (free v) x)) (syntax env y)
+syntax env (app (app (bound i) x) y) = Apply (syntax env (app (bound i) x)) (syntax env y)
+syntax env (app (app (app g w) x) y) = Apply (syntax env (app (app g w) x)) (syntax env y)
+syntax env (app (app (lam a s b) x) y) = Apply (syntax env (app (lam a s b) x)) (syntax env y)
+syntax env (app (free v) x) = Apply (syntax env (free v)) (syntax env x)
+syntax env (app (bound i) x) = Apply (syntax env (bound i)) (syntax env x)
+syntax env (app (lam a s b) x) = Apply (syntax env (lam a s b)) (syntax env x)
 
 -- ---- Text
 

@@ -16,11 +16,13 @@ is_function s = is_some (fun_parts s)
 abbrev mutual
   pub show_type : TypeTree → List ℕ
   show_type (TyVar a) = a
+  show_type (TyApp c no_types) = show_arguments no_types ++ c
+  show_type (TyApp c (more_types s no_types)) = show_arguments (more_types s no_types) ++ c
   show_type (TyApp c (more_types s (more_types t no_types))) =
       cond (bytes_eq c (codes "fun"))
       (in_parentheses (is_function s) (show_type s) ++ codes "->" ++ show_type t)
       (show_arguments (more_types s (more_types t no_types)) ++ c)
-  show_type (TyApp c ts) = show_arguments ts ++ c
+  show_type (TyApp c (more_types s (more_types t (more_types u us)))) = show_arguments (more_types s (more_types t (more_types u us))) ++ c
 
   -- what stands before the constructor
   pub show_arguments : TypeList → List ℕ

@@ -1,14 +1,10 @@
 //! Terms whose bound variables are found at once.
-ghost use Rattle.std.specs.Prelude.{◌≡◌, ◌≤◌, ◌<◌, ◌+◌, ◌*◌, ◌∷◌, [], IfOk, OnOk, map, length, drop};
-ghost use Rattle.hol_terms.specs.Nameless.{nameless, place};
-ghost use Rattle.hol_terms.specs.Named.{term_nodes};
+ghost use Rattle.std.specs.Prelude.{◌≡◌, ◌+◌, IfOk, IfSome, IsNone, MatchOption, None, Some, true, false};
+ghost use Rattle.hol_terms.specs.Nameless.{nameless, place, free, bound};
+ghost use Rattle.hol_terms.specs.Scope.{binders};
 ghost use Rattle.hol_print.specs.BareView.{bare_of};
-ghost use Rattle.hol_print.specs.Making.{applied, abstracted, finished, steps_work};
 
-use crate::binder::Binder;
-use crate::stack::Stack;
-use crate::step::Step;
-use hol_terms::{Term, TermNode, Variable};
+use hol_terms::{Scope, Term, TermNode, Variable};
 use hol_types::{Name, Ty};
 use std::alloc::{AllocError, Global};
 
@@ -28,96 +24,47 @@ pub(crate) enum Bare<'a> {
 }
 
 impl<'a> Bare<'a> {
-    /// The nameless term of a term. Terms may be nested deep, so what is still to be done waits on a stack.
-    ///
-    /// Answers an error where memory is short, and nowhere else.
-    #[tactic(auto, using(crate::proofs::Making::steps_made))]
-    pub(crate) fn new(alloc: Global, t: &'a Term) -> Result<Bare<'a>, AllocError>
-        ensures { IfOk result (λ b. bare_of b ≡ nameless [] t.now) }
+    /// The nameless term of a term under the binders.
+    pub(crate) fn new(alloc: Global, t: &'a Term, scope: &Scope) -> Result<Bare<'a>, AllocError>
+        ensures { IfOk result (λ b. bare_of b ≡ nameless (binders scope.now) t.now) }
     {
-        let mut steps = Stack::new(alloc);
-        let mut binders = Stack::new(alloc);
-        let mut made = Stack::new(alloc);
-        steps.push(Step::Make(t))?;
-        while let Some(step) = steps.pop() {
-            match step {
-                Step::Make(part) => make(part, &mut steps, &mut binders, &mut made)?,
-                Step::Apply => apply(alloc, &mut made)?,
-                Step::Bind => bind(alloc, &mut binders, &mut made)?,
+        match t.node() {
+            TermNode::Var(v) => occurrence(scope, v, 0),
+            TermNode::Const(c, s) => Ok(Bare::Constant(c, s)),
+            TermNode::Comb(f, x) => {
+                let f = Bare::new(alloc, f, scope)?;
+                let x = Bare::new(alloc, x, scope)?;
+                Ok(Bare::App(Box::new(alloc, f)?, Box::new(alloc, x)?))
             }
-        }
-        let Some(bare) = made.pop() else {
-            unreachable!()
-        };
-        Ok(bare)
-    }
-}
-
-// Makes a variable or a constant, and leaves the steps of another term to be done.
-fn make<'a>(
-    t: &'a Term,
-    steps: &mut Stack<Step<'a>>,
-    binders: &mut Stack<Binder<'a>>,
-    made: &mut Stack<Bare<'a>>,
-) -> Result<(), AllocError>
-    ensures made { OnOk result (finished steps.new binders.new (map bare_of made.new) ≡ finished steps.old binders.old (nameless binders.old t.now ∷ map bare_of made.old)) }
-    ensures work { OnOk result (steps_work steps.new < 2 * term_nodes t.now + steps_work steps.old) }
-{
-    match t.node() {
-        TermNode::Var(v) => made.push(occurrence(binders, v)),
-        TermNode::Const(c, s) => made.push(Bare::Constant(c, s)),
-        TermNode::Comb(f, x) => {
-            steps.push(Step::Apply)?;
-            steps.push(Step::Make(x))?;
-            steps.push(Step::Make(f))
-        }
-        TermNode::Abs(v, b) => {
-            binders.push(Binder::new(v))?;
-            steps.push(Step::Bind)?;
-            steps.push(Step::Make(b))
-        }
-    }
-}
-
-// An occurrence of v under the binders, of which the innermost that binds it counts.
-#[tactic(auto, using(crate::proofs::Making::placing))]
-fn occurrence<'a>(binders: &Stack<Binder>, v: &'a Variable) -> Bare<'a>
-    ensures { bare_of result ≡ place binders.now 0 v.now }
-{
-    for i in 0..binders.len() {
-        if let Some(binder) = binders.get(i) {
-            if binder.binds(v) {
-                return Bare::Bound(i);
+            TermNode::Abs(v, b) => {
+                let body = Bare::new(alloc, b, &Scope::Inside(v, scope))?;
+                Ok(Bare::Lam(v, Box::new(alloc, body)?))
             }
         }
     }
-    Bare::Free(v)
 }
 
-// The last two become the application of the first of them to the second.
-fn apply(alloc: Global, made: &mut Stack<Bare>) -> Result<(), AllocError>
-    requires { 2 ≤ length made.old }
-    ensures { OnOk result (map bare_of made.new ≡ applied (map bare_of made.old)) }
+// An occurrence of v under the binders, of which the innermost that binds it counts; so many binders inside them are passed already.
+fn occurrence<'a>(scope: &Scope, v: &'a Variable, passed: usize) -> Result<Bare<'a>, AllocError>
+    ensures { IfOk result (λ b. bare_of b ≡ place (binders scope.now) passed v.now) }
 {
-    let (Some(x), Some(f)) = (made.pop(), made.pop()) else {
-        unreachable!()
-    };
-    made.push(Bare::App(Box::new(alloc, f)?, Box::new(alloc, x)?))
+    match scope {
+        Scope::Outside => Ok(Bare::Free(v)),
+        Scope::Inside(binder, outer) => {
+            if binder.same(v) {
+                return Ok(Bare::Bound(passed));
+            }
+            occurrence(outer, v, one_more(passed)?)
+        }
+    }
 }
 
-// The last becomes the body of the innermost binder.
-fn bind<'a>(
-    alloc: Global,
-    binders: &mut Stack<Binder<'a>>,
-    made: &mut Stack<Bare<'a>>,
-) -> Result<(), AllocError>
-    requires binders { 1 ≤ length binders.old }
-    requires made { 1 ≤ length made.old }
-    ensures made { OnOk result (map bare_of made.new ≡ abstracted binders.old (map bare_of made.old)) }
-    ensures binders { binders.new ≡ drop 1 binders.old }
+/// One more. More binders than `usize` counts fit no memory.
+pub(crate) fn one_more(binders: usize) -> Result<usize, AllocError>
+    ensures { IfOk result (λ n. n ≡ binders + 1) }
 {
-    let (Some(binder), Some(body)) = (binders.pop(), made.pop()) else {
-        unreachable!()
-    };
-    made.push(Bare::Lam(binder.variable(), Box::new(alloc, body)?))
+    match binders.checked_add(1) {
+        Some(more) => Ok(more),
+        None => Err(AllocError),
+    }
 }

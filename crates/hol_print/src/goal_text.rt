@@ -14,8 +14,6 @@ use std::alloc::{AllocError, Global};
 use std::cmp::Ordering;
 
 /// The goal as it is shown, of the assumptions and the conclusion: a function of their nameless terms.
-///
-/// Answers an error where memory is short, and nowhere else.
 pub fn show_goal(alloc: Global, asl: &[Term], concl: &Term) -> Result<ShownGoal, AllocError>
     ensures { IfOk result (λ shown. goal_text shown ≡ show_goal (map (nameless []) asl.now) (nameless [] concl.now)) }
 {
@@ -55,7 +53,7 @@ fn variable_text(alloc: Global, v: &Variable) -> Result<String, AllocError>
 {
     let mut text = String::from_str(alloc, v.name().as_str())?;
     text.push_str(":")?;
-    write_type(alloc, v.ty(), &mut text)?;
+    write_type(v.ty(), &mut text)?;
     Ok(text)
 }
 
@@ -74,20 +72,11 @@ fn goal_variables(alloc: Global, asl: &[Term], concl: &Term) -> Result<Vec<Varia
 fn put_free_variables(alloc: Global, among: &mut Vec<Variable>, t: &Term) -> Result<(), AllocError>
     ensures { OnOk result (among.new.items ≡ put_all among.old.items (free_variables (nameless [] t.now))) }
 {
-    let found = frees(alloc, t)?;
+    let found = t.frees(alloc)?;
     for v in &found {
         put_new(alloc, v, among)?;
     }
     Ok(())
-}
-
-fn frees(alloc: Global, t: &Term) -> Result<Vec<Variable>, AllocError>
-    ensures { IfOk result (λ vs. vs.items ≡ free_variables (nameless [] t.now)) }
-{
-    match t.frees(alloc) {
-        Ok(found) => Ok(found),
-        Err(_memory) => Err(AllocError),
-    }
 }
 
 fn put_new(alloc: Global, v: &Variable, among: &mut Vec<Variable>) -> Result<(), AllocError>

@@ -1,76 +1,59 @@
 //! The names by which bound variables are shown.
-ghost use Rattle.std.specs.Prelude.{◌≡◌, ◌≤◌, ◌<◌, ◌+◌, ◌∷◌, [], ℕ, List, IfOk, MatchOption, length, get_or, true, false, ◌||◌, bytes_eq};
-ghost use Rattle.hol_terms.specs.Nameless.{Nameless, base_of, bound};
+ghost use Rattle.std.specs.Prelude.{◌≡◌, ◌≤◌, ◌<◌, ◌++◌, ◌∷◌, [], ℕ, IfOk, OnOk, MatchOption, length, get_or, true, false, ◌||◌, bytes_eq};
+ghost use Rattle.hol_terms.specs.Nameless.{base_of, bound};
+ghost use Rattle.hol_terms.specs.Primes.{with_primes};
 ghost use Rattle.hol_print.specs.BareView.{bare_of};
-ghost use Rattle.hol_print.specs.NamesLeft.{IsTable};
-ghost use Rattle.hol_print.specs.ShowTerm.{IsFewest, names_in, primed, shown_name, with_primes};
+ghost use Rattle.hol_print.specs.Taken.{IsTable};
+ghost use Rattle.hol_print.specs.ShowTerm.{names_in, primed, shown_name};
 
-use crate::bare::Bare;
-use crate::part::Part;
+use crate::bare::{Bare, one_more};
 use crate::primed_name::PrimedName;
-use crate::stack::Stack;
+use crate::shown_names::ShownNames;
 use std::alloc::{AllocError, Global};
 
 /// The name by which a variable of this base is shown, whose binder has this body. `shown` has the names of the binders around it,
 /// the innermost first.
-///
-/// Answers an error where memory is short, and nowhere else.
 pub(crate) fn shown_name<'a>(
     alloc: Global,
-    shown: &Stack<PrimedName<'a>>,
+    shown: &ShownNames<'a>,
     base: &'a str,
     body: &Bare<'a>,
 ) -> Result<PrimedName<'a>, AllocError>
     requires { base_of base.now ≡ base.now }
     ensures { IfOk result (λ name. name ≡ shown_name shown.now base.now (bare_of body.now)) }
 {
-    let names = names_in(alloc, body, shown)?;
+    let mut names = Vec::new(alloc);
+    put_names(body, 1, shown, &mut names)?;
     let primes = fewest_primes(alloc, &names, base)?;
     Ok(PrimedName::new(base, primes))
 }
 
-/// The law of shown names: a shown name is the base with primes, is none of the names that the binder's variable is to differ from,
-/// and with fewer primes would be one of them.
-#[tactic(auto, using(crate::proofs::Fewest::shown_fewest))]
-pub fn shown_names_have_fewest_primes()
-    ensures { (env : List (List ℕ)) (a : List ℕ) (b : Nameless) → IsFewest (names_in 1 env b) a (shown_name env a b) }
-{}
-
-// The names that the body of a binder shows.
-fn names_in<'a>(
-    alloc: Global,
-    body: &Bare<'a>,
-    shown: &Stack<PrimedName<'a>>,
-) -> Result<Vec<PrimedName<'a>>, AllocError>
-    ensures { IfOk result (λ names. names.items ≡ names_in 1 shown.now (bare_of body.now)) }
+// Puts the names that the part of a binder's body shows at the end; `own` of the binders around it are the body's, with the binder itself.
+fn put_names<'a>(
+    t: &Bare<'a>,
+    own: usize,
+    shown: &ShownNames<'a>,
+    names: &mut Vec<PrimedName<'a>>,
+) -> Result<(), AllocError>
+    ensures { OnOk result (names.new.items ≡ names.old.items ++ names_in own shown.now (bare_of t.now)) }
 {
-    let mut names = Vec::new(alloc);
-    let mut todo = Stack::new(alloc);
-    todo.push(Part { term: body, own: 1 })?;
-    while let Some(Part { term, own }) = todo.pop() {
-        match term {
-            Bare::Free(v) => names.push(PrimedName::of(v.name().as_str()))?,
-            Bare::Constant(c, _) => names.push(PrimedName::of(c.as_str()))?,
-            Bare::Bound(i) => {
-                if let Some(name) = outer_name(shown, *i, own) {
-                    names.push(name)?;
-                }
-            }
-            Bare::App(f, x) => {
-                todo.push(Part { term: &**x, own })?;
-                todo.push(Part { term: &**f, own })?;
-            }
-            Bare::Lam(_, b) => todo.push(Part {
-                term: &**b,
-                own: deeper(own)?,
-            })?,
+    match t {
+        Bare::Free(v) => Ok(names.push(PrimedName::of(v.name().as_str()))?),
+        Bare::Constant(c, _) => Ok(names.push(PrimedName::of(c.as_str()))?),
+        Bare::Bound(i) => match outer_name(shown, *i, own) {
+            Some(name) => Ok(names.push(name)?),
+            None => Ok(()),
+        },
+        Bare::App(f, x) => {
+            put_names(f, own, shown, names)?;
+            put_names(x, own, shown, names)
         }
+        Bare::Lam(_, b) => put_names(b, one_more(own)?, shown, names),
     }
-    Ok(names)
 }
 
 // The name of a bound variable whose binder is none of the `own` innermost.
-fn outer_name<'a>(shown: &Stack<PrimedName<'a>>, index: usize, own: usize) -> Option<PrimedName<'a>>
+fn outer_name<'a>(shown: &ShownNames<'a>, index: usize, own: usize) -> Option<PrimedName<'a>>
     ensures { MatchOption result (names_in own shown.now (bound index) ≡ []) (λ name. names_in own shown.now (bound index) ≡ name ∷ []) }
 {
     if index < own {
@@ -79,16 +62,6 @@ fn outer_name<'a>(shown: &Stack<PrimedName<'a>>, index: usize, own: usize) -> Op
     match shown.get(index - own) {
         Some(name) => Some(name.copy()),
         None => None,
-    }
-}
-
-// One binder more. More binders than `usize` counts fit no memory.
-fn deeper(binders: usize) -> Result<usize, AllocError>
-    ensures { IfOk result (λ n. n ≡ binders + 1) }
-{
-    match binders.checked_add(1) {
-        Some(more) => Ok(more),
-        None => Err(AllocError),
     }
 }
 

@@ -68,12 +68,12 @@ pub(crate) fn is_not(symbol: &str) -> bool
 pub(crate) fn is_quantifier(symbol: &str) -> bool
     ensures { result ≡ is_quantifier symbol.now }
 {
-    symbol == "!" || symbol == "?" || symbol == "?!" || symbol == "@"
+    (symbol == "!") | (symbol == "?") | (symbol == "?!") | (symbol == "@")
 }
 
 /// Whether the constant stands in parentheses where it is not written in its notation.
 pub(crate) fn is_operator(symbol: &str) -> bool
     ensures { result ≡ is_operator symbol.now }
 {
-    infix_number(symbol).is_some() || is_not(symbol) || is_quantifier(symbol)
+    infix_number(symbol).is_some() | is_not(symbol) | is_quantifier(symbol)
 }

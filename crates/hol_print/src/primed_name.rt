@@ -1,7 +1,7 @@
 //! Names as a base and primes.
 ghost use Rattle.std.specs.Prelude.{◌≡◌, ◌≢◌, ◌++◌, ℕ, OnOk, MatchOption, string_bytes};
 ghost use Rattle.hol_terms.specs.Nameless.{base_of};
-ghost use Rattle.hol_print.specs.ShowTerm.{with_primes};
+ghost use Rattle.hol_terms.specs.Primes.{with_primes};
 
 use hol_terms::base_name;
 use std::alloc::AllocError;
@@ -18,7 +18,7 @@ pub(crate) struct PrimedName<'a> {
 impl<'a> Model for PrimedName<'a> {
     ghost use Rattle.std.specs.Prelude.{ℕ, List, ◌≡◌};
     ghost use Rattle.hol_terms.specs.Nameless.{base_of};
-    ghost use Rattle.hol_print.specs.ShowTerm.{with_primes};
+    ghost use Rattle.hol_terms.specs.Primes.{with_primes};
 
     ghost Value = { List ℕ };
 

@@ -1,21 +1,18 @@
 //! The text of a term.
-ghost use Rattle.std.specs.Prelude.{◌≡◌, ◌≤◌, ◌<◌, ◌+◌, ◌*◌, ◌++◌, ℕ, List, IfOk, OnOk, [], codes, slice_get, string_bytes, unwrap_or};
+ghost use Rattle.std.specs.Prelude.{◌≡◌, ◌++◌, IfOk, OnOk, [], slice_get, string_bytes, unwrap_or};
 ghost use Rattle.hol_terms.specs.Nameless.{base_of, nameless};
-ghost use Rattle.hol_print.specs.BareView.{bare_of, nodes};
+ghost use Rattle.hol_print.specs.BareView.{bare_of};
 ghost use Rattle.hol_print.specs.ShapeView.{binder_syntax, site_place};
 ghost use Rattle.hol_print.specs.ShowType.{in_parentheses};
-ghost use Rattle.hol_print.specs.ShowTerm.{show, text, before, after, opening, syntax, Within, Word, is_operator};
-ghost use Rattle.hol_print.specs.TermPieces.{term_pieces, term_pieces_work};
+ghost use Rattle.hol_print.specs.ShowTerm.{show, text, before, after, opening, syntax, Word, Infix, Negation, Apply, is_operator};
 
 use crate::bare::Bare;
 use crate::names::shown_name;
 use crate::notation::is_operator;
-use crate::primed_name::PrimedName;
 use crate::shape::Shape;
+use crate::shown_names::ShownNames;
 use crate::site::Site;
-use crate::stack::Stack;
-use crate::term_piece::TermPiece;
-use hol_terms::{Term, Variable, base_name};
+use hol_terms::{Scope, Term, Variable, base_name};
 use std::alloc::{AllocError, Global};
 
 // How strongly a binder, `~`, an application and a name bind.
@@ -28,114 +25,130 @@ const APPLICATION: u32 = 15;
 const WORD: u32 = 16;
 
 /// The text of a term, which is a function of its nameless term.
-///
-/// Answers an error where memory is short, and nowhere else.
 pub fn show_term(alloc: Global, t: &Term) -> Result<String, AllocError>
     ensures { IfOk result (λ text. string_bytes text ≡ show (nameless [] t.now)) }
 {
-    let bare = Bare::new(alloc, t)?;
+    let bare = Bare::new(alloc, t, &Scope::Outside)?;
+    let mut shown = ShownNames::new(alloc);
     let mut out = String::new(alloc);
-    write(alloc, &bare, &mut out)?;
+    write(alloc, &bare, Site::Within(0), &mut shown, &mut out)?;
     Ok(out)
 }
 
-// Puts the text of the term at the end. Terms may be nested deep, so what is still to be written waits on a stack.
-fn write(alloc: Global, t: &Bare, out: &mut String) -> Result<(), AllocError>
-    ensures { OnOk result (string_bytes out.new ≡ string_bytes out.old ++ text (Within 0) (syntax [] (bare_of t.now))) }
-{
-    let mut shown = Stack::new(alloc);
-    let mut todo = Stack::new(alloc);
-    todo.push(TermPiece::Term(t, Site::Within(0)))?;
-    while let Some(piece) = todo.pop() {
-        match piece {
-            TermPiece::Text(part) => out.push_str(part)?,
-            TermPiece::Term(part, site) => {
-                write_top(alloc, part, site, &mut shown, &mut todo, out)?;
-            }
-            TermPiece::Leave => shown.drop_first(),
-        }
-    }
-    Ok(())
-}
-
-// Puts what the term begins with at the end, and the other pieces of it before what waits.
-fn write_top<'a, 'b>(
+// Puts the text of the term at the end.
+#[cycle(write)]
+fn write<'a>(
     alloc: Global,
-    t: &'a Bare<'b>,
-    site: Site<'a>,
-    shown: &mut Stack<PrimedName<'b>>,
-    todo: &mut Stack<TermPiece<'a, 'b>>,
+    t: &Bare<'a>,
+    site: Site,
+    shown: &mut ShownNames<'a>,
     out: &mut String,
 ) -> Result<(), AllocError>
-    ensures text { OnOk result (string_bytes out.new ++ term_pieces shown.new todo.new ≡ string_bytes out.old ++ text (site_place site.entry) (syntax shown.old (bare_of t.now)) ++ term_pieces shown.old todo.old) }
-    ensures work { OnOk result (term_pieces_work todo.new < 8 * nodes (bare_of t.now) + term_pieces_work todo.old) }
+    ensures text { OnOk result (string_bytes out.new ≡ string_bytes out.old ++ text (site_place site.entry) (syntax shown.old (bare_of t.now))) }
+    ensures shown { OnOk result (shown.new ≡ shown.old) }
 {
     match Shape::new(t) {
         Shape::Free(name) => write_word(name.as_str(), site, out),
         Shape::Bound(i) => write_bound(shown, i, site, out),
         Shape::Constant(symbol) => write_constant(symbol, site, out),
-        Shape::Binder(symbol, v, body) => {
-            write_binder(alloc, symbol, v, body, site, shown, todo, out)
-        }
+        Shape::Binder(symbol, v, body) => write_binder(alloc, symbol, v, body, site, shown, out),
         Shape::Infix(number, symbol, left, right) => {
-            let number = u32::from(number);
-            open(number, site, out)?;
-            put_close(number, site, todo)?;
-            todo.push(TermPiece::Term(right, Site::Within(number)))?;
-            put_infix(symbol, todo)?;
-            todo.push(TermPiece::Term(left, Site::Within(number + 1)))
+            write_infix(alloc, number, symbol, left, right, site, shown, out)
         }
-        Shape::Negation(x) => {
-            open(NEGATION, site, out)?;
-            out.push_str("~")?;
-            put_close(NEGATION, site, todo)?;
-            todo.push(TermPiece::Term(x, Site::Within(NEGATION)))
-        }
-        Shape::Apply(f, x) => {
-            open(APPLICATION, site, out)?;
-            put_close(APPLICATION, site, todo)?;
-            todo.push(TermPiece::Term(x, Site::Within(WORD)))?;
-            todo.push(TermPiece::Text(" "))?;
-            todo.push(TermPiece::Term(f, Site::Within(APPLICATION)))
-        }
+        Shape::Negation(x) => write_negation(alloc, x, site, shown, out),
+        Shape::Apply(f, x) => write_application(alloc, f, x, site, shown, out),
     }
 }
 
-// Puts the binder and its variable's name at the end, and its body before what waits.
-fn write_binder<'a, 'b>(
+// Puts the binder, its variable's name and its body at the end.
+#[cycle(write)]
+#[tactic(auto, using(crate::proofs::Primes::base_is_base))]
+fn write_binder<'a>(
     alloc: Global,
-    symbol: &'a str,
-    v: &'b Variable,
-    body: &'a Bare<'b>,
+    symbol: &str,
+    v: &'a Variable,
+    body: &Bare<'a>,
     site: Site,
-    shown: &mut Stack<PrimedName<'b>>,
-    todo: &mut Stack<TermPiece<'a, 'b>>,
+    shown: &mut ShownNames<'a>,
     out: &mut String,
 ) -> Result<(), AllocError>
-    ensures text { OnOk result (string_bytes out.new ++ term_pieces shown.new todo.new ≡ string_bytes out.old ++ text (site_place site.entry) (binder_syntax shown.old symbol.now (base_of v.now.0) (bare_of body.now)) ++ term_pieces shown.old todo.old) }
-    ensures work { OnOk result (term_pieces_work todo.new < 3 + 8 * nodes (bare_of body.now) + term_pieces_work todo.old) }
+    ensures text { OnOk result (string_bytes out.new ≡ string_bytes out.old ++ text (site_place site.entry) (binder_syntax shown.old symbol.now (base_of v.now.0) (bare_of body.now))) }
+    ensures shown { OnOk result (shown.new ≡ shown.old) }
 {
     let name = shown_name(alloc, shown, base_name(v.name().as_str()), body)?;
     open_binder(symbol, site, out)?;
     name.put(out)?;
-    shown.push(name)?;
-    put_close(BINDER, site, todo)?;
-    todo.push(TermPiece::Leave)?;
-    todo.push(TermPiece::Term(body, Site::After(symbol)))
+    shown.enter(name)?;
+    write(alloc, body, Site::After(symbol), shown, out)?;
+    shown.leave();
+    close(BINDER, site, out)
 }
 
-// Puts the infix before what waits.
-fn put_infix<'a>(symbol: &'a str, todo: &mut Stack<TermPiece<'a, '_>>) -> Result<(), AllocError>
-    ensures text { (env : List (List ℕ)) → OnOk result (term_pieces env todo.new ≡ codes " " ++ (symbol.now ++ (codes " " ++ term_pieces env todo.old))) }
-    ensures work { OnOk result (term_pieces_work todo.new ≡ 3 + term_pieces_work todo.old) }
+// Puts an infix between its operands at the end.
+#[cycle(write)]
+fn write_infix<'a>(
+    alloc: Global,
+    number: u8,
+    symbol: &str,
+    left: &Bare<'a>,
+    right: &Bare<'a>,
+    site: Site,
+    shown: &mut ShownNames<'a>,
+    out: &mut String,
+) -> Result<(), AllocError>
+    ensures text { OnOk result (string_bytes out.new ≡ string_bytes out.old ++ text (site_place site.entry) (Infix number symbol.now (syntax shown.old (bare_of left.now)) (syntax shown.old (bare_of right.now)))) }
+    ensures shown { OnOk result (shown.new ≡ shown.old) }
 {
-    todo.push(TermPiece::Text(" "))?;
-    todo.push(TermPiece::Text(symbol))?;
-    todo.push(TermPiece::Text(" "))
+    let number = u32::from(number);
+    open(number, site, out)?;
+    write(alloc, left, Site::Within(number + 1), shown, out)?;
+    out.push_str(" ")?;
+    out.push_str(symbol)?;
+    out.push_str(" ")?;
+    write(alloc, right, Site::Within(number), shown, out)?;
+    close(number, site, out)
+}
+
+// Puts a negation of the operand at the end.
+#[cycle(write)]
+fn write_negation<'a>(
+    alloc: Global,
+    x: &Bare<'a>,
+    site: Site,
+    shown: &mut ShownNames<'a>,
+    out: &mut String,
+) -> Result<(), AllocError>
+    ensures text { OnOk result (string_bytes out.new ≡ string_bytes out.old ++ text (site_place site.entry) (Negation (syntax shown.old (bare_of x.now)))) }
+    ensures shown { OnOk result (shown.new ≡ shown.old) }
+{
+    open(NEGATION, site, out)?;
+    out.push_str("~")?;
+    write(alloc, x, Site::Within(NEGATION), shown, out)?;
+    close(NEGATION, site, out)
+}
+
+// Puts an application in no other notation at the end.
+#[cycle(write)]
+fn write_application<'a>(
+    alloc: Global,
+    f: &Bare<'a>,
+    x: &Bare<'a>,
+    site: Site,
+    shown: &mut ShownNames<'a>,
+    out: &mut String,
+) -> Result<(), AllocError>
+    ensures text { OnOk result (string_bytes out.new ≡ string_bytes out.old ++ text (site_place site.entry) (Apply (syntax shown.old (bare_of f.now)) (syntax shown.old (bare_of x.now)))) }
+    ensures shown { OnOk result (shown.new ≡ shown.old) }
+{
+    open(APPLICATION, site, out)?;
+    write(alloc, f, Site::Within(APPLICATION), shown, out)?;
+    out.push_str(" ")?;
+    write(alloc, x, Site::Within(WORD), shown, out)?;
+    close(APPLICATION, site, out)
 }
 
 fn write_bound(
-    shown: &Stack<PrimedName>,
+    shown: &ShownNames,
     index: usize,
     site: Site,
     out: &mut String,
@@ -143,8 +156,8 @@ fn write_bound(
     ensures { OnOk result (string_bytes out.new ≡ string_bytes out.old ++ text (site_place site.entry) (Word (unwrap_or (slice_get shown.now index) []))) }
 {
     open(WORD, site, out)?;
-    if let Some(name) = shown.get(index) {
-        name.put(out)?;
+    if let Some(binder) = shown.get(index) {
+        binder.put(out)?;
     }
     close(WORD, site, out)
 }
@@ -193,22 +206,6 @@ fn close(strength: u32, site: Site, out: &mut String) -> Result<(), AllocError>
         Site::Within(least) => {
             if strength < least {
                 return out.push_str(")");
-            }
-            Ok(())
-        }
-        Site::After(_) => Ok(()),
-    }
-}
-
-// Puts what stands after it before what waits.
-fn put_close(strength: u32, site: Site, todo: &mut Stack<TermPiece>) -> Result<(), AllocError>
-    ensures text { (env : List (List ℕ)) → OnOk result (term_pieces env todo.new ≡ after (site_place site.entry) strength ++ term_pieces env todo.old) }
-    ensures work { OnOk result (term_pieces_work todo.new ≤ 1 + term_pieces_work todo.old) }
-{
-    match site {
-        Site::Within(least) => {
-            if strength < least {
-                return todo.push(TermPiece::Text(")"));
             }
             Ok(())
         }

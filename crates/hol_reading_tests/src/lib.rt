@@ -3,4 +3,8 @@
 #![tactic(auto)]
 
 #[cfg(test)]
+mod print_fixtures;
+#[cfg(test)]
+mod print_tests;
+#[cfg(test)]
 mod tests;

@@ -1,6 +1,6 @@
 use Rattle.std.proofs.Common.{◌≡◌, ◌<◌, ◌+◌, ◌++◌, length, get_or, take, drop, false, ◌||◌, bytes_eq, ap, sym, ◌∙◌, arith}
 use Rattle.hol_types.specs.Names.{is_among}
-use Rattle.hol_print.specs.ShowTerm.{with_primes}
+use Rattle.hol_terms.specs.Primes.{with_primes}
 use Rattle.hol_print.proofs.Primes.{table_next, written}
 use Rattle.hol_print.proofs.names.taken_primes.Goals as goal
 

@@ -1,6 +1,6 @@
 use Rattle.std.proofs.Common.{◌≡◌, ◌<◌, ℕ, length, get_or, drop, false, ◌||◌}
 use Rattle.hol_types.specs.Names.{is_among}
-use Rattle.hol_print.specs.ShowTerm.{with_primes}
+use Rattle.hol_terms.specs.Primes.{with_primes}
 use Rattle.hol_print.proofs.names.taken_primes.Given as goal
 
 abbrev pub invariant-loop-name : goal.invariant-loop-name

@@ -1,5 +1,5 @@
 use Rattle.std.proofs.Common.{◌≡◌, string_bytes}
-use Rattle.hol_print.specs.ShowTerm.{with_primes}
+use Rattle.hol_terms.specs.Primes.{with_primes}
 use Rattle.hol_print.proofs.primed_name.put_primes.Given as goal
 
 abbrev pub invariant-loop-i : goal.invariant-loop-i

@@ -1,6 +1,6 @@
 //! The texts of types, terms and goals, as they are wanted.
-use crate::written::{term, ty};
-use crate::{show_goal, show_term, show_type};
+use crate::print_fixtures::{term, ty};
+use hol_print::{show_goal, show_term, show_type};
 use std::alloc::Global;
 use std::test::Fail;
 
