@@ -12,7 +12,7 @@ use crate::elements::{element, element_term, function_type, of_element, property
 use crate::equations::mk_eq;
 use crate::prelude::choice_type;
 use crate::quantifiers::{mk_exists, mk_forall};
-use crate::terms::{abstraction, application, constant_named, occurrence, variable};
+use crate::terms::{constant_named, occurrence, variable};
 use crate::types::bool_type;
 use hol_terms::{Term, Variable};
 use hol_types::{Name, Ty};
@@ -43,7 +43,7 @@ fn expanded_value(alloc: Global) -> Result<Term, AllocError>
 {
     let t = expanded_term(alloc)?;
     let x = element_term(alloc, "x")?;
-    application(alloc, &t, &x)
+    Term::application(alloc, &t, &x)
 }
 
 /// `\x. t x`.
@@ -54,7 +54,7 @@ fn expansion(alloc: Global) -> Result<Term, AllocError>
 {
     let x = element(alloc, "x")?;
     let body = expanded_value(alloc)?;
-    abstraction(alloc, &x, &body)
+    Term::abstraction(alloc, &x, &body)
 }
 
 /// `!t:A->B. (\x. t x) = t`.
@@ -86,7 +86,7 @@ fn choice_of_property(alloc: Global) -> Result<Term, AllocError>
 {
     let choice = choice(alloc)?;
     let property = property_term(alloc)?;
-    application(alloc, &choice, &property)
+    Term::application(alloc, &choice, &property)
 }
 
 /// `P ((@) P)`.
@@ -97,7 +97,7 @@ fn of_choice(alloc: Global) -> Result<Term, AllocError>
 {
     let property = property_term(alloc)?;
     let element = choice_of_property(alloc)?;
-    application(alloc, &property, &element)
+    Term::application(alloc, &property, &element)
 }
 
 /// `P x ==> P ((@) P)`.
@@ -166,7 +166,7 @@ fn of_individual_function(alloc: Global, name: &str) -> Result<Term, AllocError>
 {
     let property = individual_property(alloc, name)?;
     let f = individual_function_term(alloc)?;
-    application(alloc, &property, &f)
+    Term::application(alloc, &property, &f)
 }
 
 /// `~ONTO f`.

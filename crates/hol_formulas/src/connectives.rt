@@ -6,7 +6,7 @@ ghost use Rattle.hol_formulas.specs.Equation.{bool_type};
 ghost use Rattle.hol_formulas.specs.Formula.{connective_type, negation_type, is_constant, is_truth, is_falsity, dest_binary, dest_conj, dest_disj, dest_imp, dest_neg, is_conj, is_disj, is_imp, is_neg};
 ghost use Rattle.hol_formulas.specs.Making.{mk_truth, mk_falsity, mk_binary, mk_conj, mk_disj, mk_imp, mk_neg};
 
-use crate::terms::{application, constant_named};
+use crate::terms::constant_named;
 use crate::types::{
     bool_type, connective_type, is_bool, is_connective_type, is_negation_type, negation_type,
 };
@@ -84,7 +84,7 @@ pub fn mk_neg(alloc: Global, p: &Term) -> Result<Term, AllocError>
 {
     let ty = negation_type(alloc)?;
     let sign = constant_named(alloc, "~", &ty)?;
-    application(alloc, &sign, p)
+    Term::application(alloc, &sign, p)
 }
 
 /// `p` and `q` of `p /\ q`, and `None` of another term.
@@ -172,8 +172,8 @@ pub(crate) fn applied_to_two(
     ensures is { IfOk result (λ t. t ≡ comb (comb f.now p.now) q.now) }
     ensures typed { IfOk result (λ t. named_type t ≡ Some bool_type) }
 {
-    let one = application(alloc, f, p)?;
-    application(alloc, &one, q)
+    let one = Term::application(alloc, f, p)?;
+    Term::application(alloc, &one, q)
 }
 
 // The connective of the name between two terms of type `bool`.

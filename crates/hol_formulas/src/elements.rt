@@ -9,7 +9,7 @@ ghost use Rattle.hol_formulas.specs.Prelude.{property_type, boolean, element, pr
 
 use crate::equations::mk_eq;
 use crate::quantifiers::mk_forall;
-use crate::terms::{application, occurrence, variable};
+use crate::terms::{occurrence, variable};
 use crate::types::{bool_type, type_variable};
 use hol_terms::{Term, Variable};
 use hol_types::Ty;
@@ -66,7 +66,7 @@ pub fn of_element(alloc: Global, name: &str) -> Result<Term, AllocError>
 {
     let property = property_term(alloc)?;
     let element = element_term(alloc, name)?;
-    application(alloc, &property, &element)
+    Term::application(alloc, &property, &element)
 }
 
 /// The equation of the elements of two names.
@@ -126,7 +126,7 @@ pub fn value_at(alloc: Global, name: &str) -> Result<Term, AllocError>
 {
     let function = function_term(alloc)?;
     let element = element_term(alloc, name)?;
-    application(alloc, &function, &element)
+    Term::application(alloc, &function, &element)
 }
 
 /// The equation of the values of `f` at the elements of two names.

@@ -5,7 +5,7 @@ ghost use Rattle.hol_terms.specs.Nameless.{nameless};
 ghost use Rattle.hol_formulas.specs.Equation.{bool_type, mk_eq, dest_eq, is_eq};
 ghost use Rattle.hol_formulas.specs.Making.{mk_iff};
 
-use crate::terms::{application, constant_named};
+use crate::terms::constant_named;
 use crate::types::{bool_type, equality_type, is_property_type};
 use hol_terms::{Term, TermNode};
 use hol_types::Ty;
@@ -21,8 +21,8 @@ pub fn mk_eq(alloc: Global, ty: &Ty, left: &Term, right: &Term) -> Result<Term, 
 {
     let sign_type = equality_type(alloc, ty)?;
     let sign = constant_named(alloc, "=", &sign_type)?;
-    let applied = application(alloc, &sign, left)?;
-    application(alloc, &applied, right)
+    let applied = Term::application(alloc, &sign, left)?;
+    Term::application(alloc, &applied, right)
 }
 
 /// `p <=> q`: the equation of two terms of type `bool`.

@@ -27,7 +27,7 @@ pub use prelude::{has_constant, has_type, instances_are_substitutions, is_instan
 pub use quantifiers::{dest_exists, dest_forall, is_exists, is_forall, mk_exists, mk_forall};
 pub use standing::{prelude_constants, prelude_types};
 pub use statements::statement;
-pub use terms::{abstraction, application, constant, copy_of, fitting, occurrence, variable};
+pub use terms::{constant, occurrence, variable};
 pub use types::{
     bool_type, connective_type, equality_type, is_bool, negation_type, quantifier_type,
 };

@@ -11,7 +11,7 @@ use crate::connectives::{applied_to_two, mk_conj, mk_falsity, mk_imp, mk_truth};
 use crate::elements::{boolean, boolean_term};
 use crate::equations::mk_eq;
 use crate::quantifiers::mk_forall;
-use crate::terms::{abstraction, occurrence, variable};
+use crate::terms::{occurrence, variable};
 use crate::types::{bool_type, connective_type};
 use hol_terms::Term;
 use hol_types::Ty;
@@ -25,7 +25,7 @@ pub fn identity(alloc: Global) -> Result<Term, AllocError>
 {
     let p = boolean(alloc, "p")?;
     let body = occurrence(alloc, &p)?;
-    abstraction(alloc, &p, &body)
+    Term::abstraction(alloc, &p, &body)
 }
 
 /// The equation of two terms of type `bool`.
@@ -51,7 +51,7 @@ fn paired(alloc: Global, p: &Term, q: &Term) -> Result<Term, AllocError>
     let f = variable(alloc, "f", &ty)?;
     let function = occurrence(alloc, &f)?;
     let body = applied_to_two(alloc, &function, p, q)?;
-    abstraction(alloc, &f, &body)
+    Term::abstraction(alloc, &f, &body)
 }
 
 /// `(bool->bool->bool)->bool`.
@@ -158,7 +158,7 @@ pub fn negation(alloc: Global) -> Result<Term, AllocError>
     let p = boolean_term(alloc, "p")?;
     let falsity = mk_falsity(alloc)?;
     let body = mk_imp(alloc, &p, &falsity)?;
-    abstraction(alloc, &v, &body)
+    Term::abstraction(alloc, &v, &body)
 }
 
 /// The function of the truth values `p` and `q` to the term.
@@ -170,6 +170,6 @@ pub fn of_two(alloc: Global, body: &Term) -> Result<Term, AllocError>
 {
     let p = boolean(alloc, "p")?;
     let q = boolean(alloc, "q")?;
-    let inner = abstraction(alloc, &q, body)?;
-    abstraction(alloc, &p, &inner)
+    let inner = Term::abstraction(alloc, &q, body)?;
+    Term::abstraction(alloc, &p, &inner)
 }

@@ -7,7 +7,7 @@ ghost use Rattle.hol_formulas.specs.Equation.{bool_type};
 ghost use Rattle.hol_formulas.specs.Formula.{quantifier_type, is_constant, dest_quantifier, dest_forall, dest_exists, is_forall, is_exists};
 ghost use Rattle.hol_formulas.specs.Making.{mk_quantifier, mk_forall, mk_exists};
 
-use crate::terms::{abstraction, application, constant_named};
+use crate::terms::constant_named;
 use crate::types::{is_quantifier_type, quantifier_type};
 use hol_terms::{Term, TermNode, Variable};
 use hol_types::Ty;
@@ -68,7 +68,7 @@ fn property_of(alloc: Global, v: &Variable, p: &Term) -> Result<Term, AllocError
     ensures is { IfOk result (λ t. t ≡ abs v.now p.now) }
     ensures typed { IfOk result (λ t. named_type t ≡ Some (fun_type v.now.1 bool_type)) }
 {
-    abstraction(alloc, v, p)
+    Term::abstraction(alloc, v, p)
 }
 
 // The quantifier of the name over the type.
@@ -89,7 +89,7 @@ fn mk_quantifier(alloc: Global, name: &str, v: &Variable, p: &Term) -> Result<Te
 {
     let quantifier = quantifier_over(alloc, name, v.ty())?;
     let body = property_of(alloc, v, p)?;
-    application(alloc, &quantifier, &body)
+    Term::application(alloc, &quantifier, &body)
 }
 
 // What the quantifier of the name stands before.

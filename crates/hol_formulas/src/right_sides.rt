@@ -14,7 +14,7 @@ use crate::elements::{
 use crate::equations::mk_eq;
 use crate::prelude::binder_type;
 use crate::quantifiers::{mk_exists, mk_forall};
-use crate::terms::{abstraction, application, constant_named, occurrence, variable};
+use crate::terms::{constant_named, occurrence, variable};
 use crate::types::type_variable;
 use hol_terms::{Term, Variable};
 use std::alloc::{AllocError, Global};
@@ -27,7 +27,7 @@ fn constantly_true(alloc: Global) -> Result<Term, AllocError>
 {
     let x = element(alloc, "x")?;
     let body = mk_truth(alloc)?;
-    abstraction(alloc, &x, &body)
+    Term::abstraction(alloc, &x, &body)
 }
 
 /// `P = (\x. T)`.
@@ -49,7 +49,7 @@ pub fn everywhere(alloc: Global) -> Result<Term, AllocError>
 {
     let v = property(alloc)?;
     let body = holds_everywhere(alloc)?;
-    abstraction(alloc, &v, &body)
+    Term::abstraction(alloc, &v, &body)
 }
 
 /// `!x. P x ==> q`.
@@ -84,7 +84,7 @@ pub fn somewhere(alloc: Global) -> Result<Term, AllocError>
 {
     let v = property(alloc)?;
     let body = holds_somewhere(alloc)?;
-    abstraction(alloc, &v, &body)
+    Term::abstraction(alloc, &v, &body)
 }
 
 /// `P x /\ P y ==> x = y`.
@@ -125,7 +125,7 @@ fn exists_property(alloc: Global) -> Result<Term, AllocError>
 {
     let exists = exists_sign(alloc)?;
     let property = property_term(alloc)?;
-    application(alloc, &exists, &property)
+    Term::application(alloc, &exists, &property)
 }
 
 /// `(?) P /\ (!x y. P x /\ P y ==> x = y)`.
@@ -146,7 +146,7 @@ pub fn once(alloc: Global) -> Result<Term, AllocError>
 {
     let v = property(alloc)?;
     let body = holds_once(alloc)?;
-    abstraction(alloc, &v, &body)
+    Term::abstraction(alloc, &v, &body)
 }
 
 /// `f x1 = f x2 ==> x1 = x2`.
@@ -176,7 +176,7 @@ pub fn injective(alloc: Global) -> Result<Term, AllocError>
 {
     let v = function(alloc)?;
     let body = is_injective(alloc)?;
-    abstraction(alloc, &v, &body)
+    Term::abstraction(alloc, &v, &body)
 }
 
 /// `y:B`.
@@ -219,5 +219,5 @@ pub fn surjective(alloc: Global) -> Result<Term, AllocError>
 {
     let v = function(alloc)?;
     let body = is_surjective(alloc)?;
-    abstraction(alloc, &v, &body)
+    Term::abstraction(alloc, &v, &body)
 }

@@ -16,7 +16,7 @@ parts_are c = search rules
 is_equation : (c : goal.Else-not-is_property_type) → IsEquation c.in-Comb-node.left c.in-Comb.right c.in_ok-domain.domain.now c.type_of-ty.result.now
 is_equation c =
     equation_parts c.in-Const.name c.in-Const.ty c.in-Comb-node.left c.in-Comb.right c.type_of-ty.result.now (c.in_ok-domain.domain.now, c.in_ok-domain.property.now)
-    (ap named_type (sym (term_is c)) ∙ c.type_of-ty.ensures) (parts_are c) (search rules)
+    (ap named_type (sym (term_is c)) ∙ c.type_of-ty.ensures.named) (parts_are c) (search rules)
 
 pub returns-clause-sides : goal.returns-clause-sides
 returns-clause-sides c =

@@ -7,7 +7,6 @@ use Rattle.hol_formulas.proofs.PartTypes.{applies}
 use Rattle.hol_formulas.proofs.quantifiers.mk_quantifier.Goals as goal
 
 pub application-requires : goal.application-requires
-application-requires c = record {
-  fits = applies c.in_ok-quantifier.quantifier c.in_ok-body.body (fun_type c.args.v.now.1 bool_type) bool_type
-      (c.in_ok-quantifier.ensures.typed ∙ ap (λ (a : TypeTree). Some (quantifier_type a)) c.ty.ensures) c.in_ok-body.ensures.typed;
-}
+application-requires c =
+    applies c.in_ok-quantifier.quantifier c.in_ok-body.body (fun_type c.args.v.now.1 bool_type) bool_type
+    (c.in_ok-quantifier.ensures.typed ∙ ap (λ (a : TypeTree). Some (quantifier_type a)) c.ty.ensures) c.in_ok-body.ensures.typed

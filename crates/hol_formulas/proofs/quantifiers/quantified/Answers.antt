@@ -9,4 +9,4 @@ pub returns-clause-typed : goal.returns-clause-typed
 returns-clause-typed c =
     let is : c.args.term.now ≡ comb c.in-Comb.quantifier (abs c.in-Abs.v c.in-Abs.body) = search rules in
     let tested : is_constant c.args.name.now (quantifier_type c.in-Abs.v.1) (nameless [] c.in-Comb.quantifier) ≡ true = search rules in
-    body_typed c.args.name.now c.in-Comb.quantifier c.in-Abs.v c.in-Abs.body c.type_of-ty.result.now tested (ap named_type (sym is) ∙ c.type_of-ty.ensures)
+    body_typed c.args.name.now c.in-Comb.quantifier c.in-Abs.v c.in-Abs.body c.type_of-ty.result.now tested (ap named_type (sym is) ∙ c.type_of-ty.ensures.named)
