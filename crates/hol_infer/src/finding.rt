@@ -7,6 +7,7 @@ ghost use Rattle.hol_infer.specs.Found.{found_at, ArePartsFound, IsPartMissing, 
 
 use crate::cell::Cell;
 use crate::fault::Fault;
+use crate::order::parts_first;
 use crate::shape::Shape;
 use std::alloc::{AllocError, Global};
 
@@ -99,18 +100,22 @@ fn sweep(alloc: Global, cells: &[Cell], found: &mut [Option<Shape>]) -> Result<b
     Ok(progress)
 }
 
-// The same from the highest slot down. A long chain of slots is found in one sweep or the other.
-fn sweep_down(alloc: Global, cells: &[Cell], found: &mut [Option<Shape>]) -> Result<(), AllocError>
+// Gives each of the slots its shape in turn, where those of its parts are found.
+fn find_in_order(
+    alloc: Global,
+    cells: &[Cell],
+    found: &mut [Option<Shape>],
+    order: &[usize],
+) -> Result<(), AllocError>
     requires graph { IsGraph cells.now }
     requires len { length found.old ≡ length cells.now }
+    requires order_in { All (λ s. s < length cells.now) order.now }
     requires built { IsBuilt cells.now found.old }
     ensures len { length found.new ≡ length cells.now }
     ensures built { IsBuilt cells.now found.new }
-    ensures no_more { OnOk result (missing found.new ≤ missing found.old) }
 {
-    let count = cells.len();
-    for passed in 0..count {
-        step(alloc, cells, found, count - 1 - passed)?;
+    for slot in order {
+        step(alloc, cells, found, *slot)?;
     }
     Ok(())
 }
@@ -124,9 +129,7 @@ fn saturate(alloc: Global, cells: &[Cell], found: &mut [Option<Shape>]) -> Resul
     ensures built { IsBuilt cells.now found.new }
     ensures stuck { OnOk result (IsStuck cells.now found.new) }
 {
-    while sweep(alloc, cells, found)? {
-        sweep_down(alloc, cells, found)?;
-    }
+    while sweep(alloc, cells, found)? {}
     Ok(())
 }
 
@@ -163,13 +166,16 @@ fn none_found(alloc: Global, count: usize) -> Result<Vec<Option<Shape>>, AllocEr
 
 /// The shape of each slot: of these the types that meet the graph are the instances.
 ///
-/// Answers `Untypable` only where no types meet the graph.
+/// Answers `Untypable` only where no types meet the graph. Its time is linear in the graph: with each slot after its parts, one pass finds
+/// all that can be found, and one sweep sees that nothing is left.
 pub fn shapes_of(alloc: Global, cells: &[Cell]) -> Result<Vec<Shape>, Fault>
     requires graph { IsGraph cells.now }
     ensures general { IfOk result (λ v. AreGeneral cells.now v.items) }
     ensures untypable { IfErr result (λ e. e ≡ Fault.Untypable → (types : ℕ → TypeTree) → Respects cells.now types → ⊥) }
 {
+    let order = parts_first(alloc, cells)?;
     let mut found = none_found(alloc, cells.len())?;
+    find_in_order(alloc, cells, &mut found, &order)?;
     saturate(alloc, cells, &mut found)?;
     all_found(alloc, cells, &found)
 }

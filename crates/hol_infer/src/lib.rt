@@ -10,6 +10,7 @@ mod finding;
 mod generate;
 mod graph;
 mod laws;
+mod order;
 mod principal;
 mod raw;
 mod reading;
