@@ -15,7 +15,9 @@ The jobs:
                large), and 400 applications that double so
   nesting      an application to 3,000 arguments, and 3,000 times `~`; with 4,000 both are too large
   names        1,000 free names in 500 equations
-  binders      2,000 variables of one quantifier
+  zigzag       985 free names, of which each takes the next as its argument: the first the last, the last the second, the second the last
+               but one, and so on. Each type is in that of the name before, so that most are found in another order than the names occur
+  binders      2,000 variables of one quantifier, and 4,080, with which the statement is too large
 
 Needs Python 3.8 and Linux, and nothing else.
 """
@@ -38,6 +40,21 @@ def names(count):
     return " /\\ ".join("x%d = y%d" % (k, k) for k in range(count // 2))
 
 
+def quantified(count):
+    return "!" + " ".join("x%d" % k for k in range(count)) + ". T"
+
+
+def zigzag(count):
+    """The numbers below count from both ends in turn."""
+    return [k // 2 if k % 2 == 0 else count - 1 - k // 2 for k in range(count)]
+
+
+def zigzag_applications(count):
+    order = zigzag(count)
+    listed = "f " + " ".join("x%d" % k for k in range(count))
+    return listed + " /\\ " + " /\\ ".join("x%d x%d" % pair for pair in zip(order, order[1:]))
+
+
 JOBS = [
     ("a small goal", "!x y:A. f x y = g y x ==> (?z. f x z = y)", b'"goals"'),
     ("8 equations that double, 18,208 nodes", doubling(8), b'"goals"'),
@@ -48,7 +65,9 @@ JOBS = [
     ("3,000 times ~", "~" * 3000 + " p", b'"goals"'),
     ("4,000 times ~: too large", "~" * 4000 + " p", b'"refusal":13'),
     ("1,000 free names", names(1000), b'"goals"'),
-    ("2,000 variables of a quantifier", "!" + " ".join("x%d" % k for k in range(2000)) + ". T", b'"goals"'),
+    ("985 free names on a zigzag: too large", zigzag_applications(985), b'"refusal":13'),
+    ("2,000 variables of a quantifier", quantified(2000), b'"goals"'),
+    ("4,080 variables of a quantifier: too large", quantified(4080), b'"refusal":13'),
 ]
 
 

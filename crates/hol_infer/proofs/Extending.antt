@@ -16,14 +16,14 @@ use Rattle.hol_infer.specs.declared.cell.Cell.TheVariants.{Unknown, Link, Rigid,
 use Rattle.hol_infer.specs.declared.generate.Graph.{Graph}
 use Rattle.hol_infer.specs.Graph.{CellHolds}
 use Rattle.hol_infer.specs.Generate.{Solves, slots, IsWellFormed, Agree, IsNewCell, IsFresh, IsFunction, BuildsType, BuildsTypes, IsPlace, HasNoPlace, pairs_from}
-use Rattle.hol_infer.proofs.Growing.{Solves-agree, map_agree}
+use Rattle.hol_infer.proofs.Growing.{solves_agree, map_agree}
 use Rattle.std.proofs.lemmas.List.{map-append}
 
-pub Agree-trans : (n m : ℕ) (a b c : ℕ → TypeTree) → n ≤ m → Agree n a b → Agree m b c → Agree n a c
-Agree-trans n m a b c le p q = record { agree = λ i lt. p.agree i lt ∙ q.agree i (omega arith) }
+pub agree_trans : (n m : ℕ) (a b c : ℕ → TypeTree) → n ≤ m → Agree n a b → Agree m b c → Agree n a c
+agree_trans n m a b c le p q = record { agree = λ i lt. p.agree i lt ∙ q.agree i (omega arith) }
 
-pub Agree-refl : (n : ℕ) (a : ℕ → TypeTree) → Agree n a a
-Agree-refl n a = record { agree = λ i lt. refl }
+pub agree_refl : (n : ℕ) (a : ℕ → TypeTree) → Agree n a a
+agree_refl n a = record { agree = λ i lt. refl }
 
 app_same : (u u' v v' : Nameless) → u ≡ u' → v ≡ v' → app u v ≡ app u' v'
 app_same u u' v v' p q = cc
@@ -38,12 +38,12 @@ term_agree n types types' (SlotFree x s) a in' = ap (λ (t : TypeTree). free (x,
 term_agree n types types' (SlotApply f b) a (p, q) = app_same (typed types f) (typed types' f) (typed types b) (typed types' b) (term_agree n types types' f a p) (term_agree n types types' b a q)
 term_agree n types types' (SlotAbstraction x s b) a (p, q) = lam_same (base_of x) (types s) (types' s) (typed types b) (typed types' b) (a.agree s p) (term_agree n types types' b a q)
 
-pub AreSlotsIn-more : (n m : ℕ) (term : SlotTree) → n ≤ m → AreSlotsIn n term → AreSlotsIn m term
-AreSlotsIn-more n m (SlotBound i) le h = tt
-AreSlotsIn-more n m (SlotConstant c s) le h = omega arith
-AreSlotsIn-more n m (SlotFree x s) le h = omega arith
-AreSlotsIn-more n m (SlotApply f b) le (p, q) = (AreSlotsIn-more n m f le p, AreSlotsIn-more n m b le q)
-AreSlotsIn-more n m (SlotAbstraction x s b) le (p, q) = (omega arith, AreSlotsIn-more n m b le q)
+pub are_slots_in_more : (n m : ℕ) (term : SlotTree) → n ≤ m → AreSlotsIn n term → AreSlotsIn m term
+are_slots_in_more n m (SlotBound i) le h = tt
+are_slots_in_more n m (SlotConstant c s) le h = omega arith
+are_slots_in_more n m (SlotFree x s) le h = omega arith
+are_slots_in_more n m (SlotApply f b) le (p, q) = (are_slots_in_more n m f le p, are_slots_in_more n m b le q)
+are_slots_in_more n m (SlotAbstraction x s b) le (p, q) = (omega arith, are_slots_in_more n m b le q)
 
 pub env_more : (n m : ℕ) (env : List ℕ) → n ≤ m → All (λ s. s < n) env → All (λ s. s < m) env
 env_more n m env le all = All-weaker (λ (s : ℕ). s < n) (λ (s : ℕ). s < m) (λ x h. omega arith) env all
@@ -68,11 +68,11 @@ app_ap c ss ts e = cc
 parts_agree : (n : ℕ) (types types' : ℕ → TypeTree) (c : List ℕ) (parts : List ℕ) (t : TypeTree) → map types parts ≡ map types' parts → t ≡ TyApp c (type_list (map types parts)) → t ≡ TyApp c (type_list (map types' parts))
 parts_agree n types types' c parts t e h = h ∙ app_ap c (map types parts) (map types' parts) e
 
-CellHolds-new : (n : ℕ) (types types' : ℕ → TypeTree) (t : TypeTree) (cell : Cell) → Agree n types types' → IsNewCell n cell → CellHolds types t cell → CellHolds types' t cell
-CellHolds-new n types types' t Unknown a in' h = tt
-CellHolds-new n types types' t (Link j) a in' h = h ∙ a.agree j in'
-CellHolds-new n types types' t (Rigid x) a in' h = h
-CellHolds-new n types types' t (App c parts) a in' h = parts_agree n types types' c parts.items t (map_agree n types types' parts.items a in') h
+cell_holds_new : (n : ℕ) (types types' : ℕ → TypeTree) (t : TypeTree) (cell : Cell) → Agree n types types' → IsNewCell n cell → CellHolds types t cell → CellHolds types' t cell
+cell_holds_new n types types' t Unknown a in' h = tt
+cell_holds_new n types types' t (Link j) a in' h = h ∙ a.agree j in'
+cell_holds_new n types types' t (Rigid x) a in' h = h
+cell_holds_new n types types' t (App c parts) a in' h = parts_agree n types types' c parts.items t (map_agree n types types' parts.items a in') h
 
 -- a solution and a type for the new slot give a solution
 pub extend_fresh : (g h : Graph) (slot : ℕ) (cell : Cell) → IsWellFormed g → IsNewCell (slots g) cell → IsFresh g h slot cell →
@@ -82,7 +82,7 @@ extend_fresh g h slot cell w in' fresh type_of types t s holds =
     let types' = put types (slots g) t in
     let a : Agree (slots g) types types' = put_agree types (slots g) t in
     let same : types' slot ≡ t = ap types' fresh.slot_is ∙ put_same types (slots g) t in
-    (types', a, (fresh.solves type_of types').1 (Solves-agree g type_of types types' w a s, subst (λ (u : TypeTree). CellHolds types' u cell) (sym same) (CellHolds-new (slots g) types types' t cell a in' holds)), same)
+    (types', a, (fresh.solves type_of types').1 (solves_agree g type_of types types' w a s, subst (λ (u : TypeTree). CellHolds types' u cell) (sym same) (cell_holds_new (slots g) types types' t cell a in' holds)), same)
 
 fun_same : (s s' t t' : TypeTree) → s ≡ s' → t ≡ t' → fun_type s t ≡ fun_type s' t'
 fun_same s s' t t' p q = cc
@@ -95,7 +95,7 @@ extend_function g h slot d r w d_in r_in new type_of types s =
     let types' = put types (slots g) t in
     let a : Agree (slots g) types types' = put_agree types (slots g) t in
     let same : types' slot ≡ t = ap types' new.slot_is ∙ put_same types (slots g) t in
-    (types', a, (new.solves type_of types').1 (Solves-agree g type_of types types' w a s, same ∙ fun_same (types d) (types' d) (types r) (types' r) (a.agree d d_in) (a.agree r r_in)), same)
+    (types', a, (new.solves type_of types').1 (solves_agree g type_of types types' w a s, same ∙ fun_same (types d) (types' d) (types r) (types' r) (a.agree d d_in) (a.agree r r_in)), same)
 
 -- ---- the slots of a type
 
@@ -106,17 +106,17 @@ lookup_none : (pairs : List (TypeTree × List ℕ)) (a : List ℕ) → type_look
 lookup_none pairs a e = rw e refl
 
 -- a type variable that is one of the names, and one that is not
-pub BuildsType-place : (g : Graph) (names : List (List ℕ)) (base i : ℕ) (a : List ℕ) → IsWellFormed g → base + length names ≤ slots g → IsPlace names a i → BuildsType g g names base (base + i) (TyVar a)
-BuildsType-place g names base i a w base_in p = record {
+pub builds_type_place : (g : Graph) (names : List (List ℕ)) (base i : ℕ) (a : List ℕ) → IsWellFormed g → base + length names ≤ slots g → IsPlace names a i → BuildsType g g names base (base + i) (TyVar a)
+builds_type_place g names base i a w base_in p = record {
   well_formed = w;
   more = omega arith;
   slot_in = (let l = p.below in omega (arith, l));
   sound = λ type_of types s. (s, sym (lookup_for (pairs_from types base names) a (types (base + i)) (p.gives types base)));
-  complete = λ type_of types s. (types, Agree-refl (slots g) types, s);
+  complete = λ type_of types s. (types, agree_refl (slots g) types, s);
 }
 
-pub BuildsType-rigid : (g h : Graph) (names : List (List ℕ)) (base slot : ℕ) (a : List ℕ) → IsWellFormed g → (IsOpen a → ⊥) → HasNoPlace names a → IsFresh g h slot (Rigid a) → BuildsType g h names base slot (TyVar a)
-BuildsType-rigid g h names base slot a w rigid none fresh = record {
+pub builds_type_rigid : (g h : Graph) (names : List (List ℕ)) (base slot : ℕ) (a : List ℕ) → IsWellFormed g → (IsOpen a → ⊥) → HasNoPlace names a → IsFresh g h slot (Rigid a) → BuildsType g h names base slot (TyVar a)
+builds_type_rigid g h names base slot a w rigid none fresh = record {
   well_formed = fresh.well_formed;
   more = (let e = fresh.slots_are in omega (arith, e));
   slot_in = (let e = fresh.slots_are in let f = fresh.slot_is in omega (arith, e, f));
@@ -125,13 +125,13 @@ BuildsType-rigid g h names base slot a w rigid none fresh = record {
 }
 
 -- no arguments, and one more
-pub BuildsTypes-none : (g : Graph) (names : List (List ℕ)) (base : ℕ) → IsWellFormed g → BuildsTypes g g names base [] []
-BuildsTypes-none g names base w = record {
+pub builds_types_none : (g : Graph) (names : List (List ℕ)) (base : ℕ) → IsWellFormed g → BuildsTypes g g names base [] []
+builds_types_none g names base w = record {
   well_formed = w;
   more = omega arith;
   parts_in = All-nil (λ (p : ℕ). p < slots g);
   sound = λ type_of types s. (s, refl);
-  complete = λ type_of types s. (types, Agree-refl (slots g) types, s);
+  complete = λ type_of types s. (types, agree_refl (slots g) types, s);
 }
 
 append_same : (xs xs' ys ys' : List TypeTree) → xs ≡ xs' → ys ≡ ys' → xs ++ ys ≡ xs' ++ ys'
@@ -140,8 +140,8 @@ append_same xs xs' ys ys' p q = cc
 one_same : (s t : TypeTree) → s ≡ t → s ∷ [] ≡ t ∷ []
 one_same s t p = cc
 
-pub BuildsTypes-more : (g g1 h : Graph) (names : List (List ℕ)) (base : ℕ) (parts : List ℕ) (tys : List TypeTree) (slot : ℕ) (ty : TypeTree) → BuildsTypes g g1 names base parts tys → BuildsType g1 h names base slot ty → BuildsTypes g h names base (parts ++ slot ∷ []) (tys ++ ty ∷ [])
-BuildsTypes-more g g1 h names base parts tys slot ty b c = record {
+pub builds_types_more : (g g1 h : Graph) (names : List (List ℕ)) (base : ℕ) (parts : List ℕ) (tys : List TypeTree) (slot : ℕ) (ty : TypeTree) → BuildsTypes g g1 names base parts tys → BuildsType g1 h names base slot ty → BuildsTypes g h names base (parts ++ slot ∷ []) (tys ++ ty ∷ [])
+builds_types_more g g1 h names base parts tys slot ty b c = record {
   well_formed = c.well_formed;
   more = (let p = b.more in let q = c.more in omega (arith, p, q));
   parts_in = All-push (λ (p : ℕ). p < slots h) parts slot (env_more (slots g1) (slots h) parts c.more b.parts_in) c.slot_in;
@@ -158,17 +158,17 @@ BuildsTypes-more g g1 h names base parts tys slot ty b c = record {
       let x = b.complete type_of types z in
       let y = c.complete type_of x.0 x.2 in
       let m = b.more in
-      (y.0, Agree-trans (slots g) (slots g1) types x.0 y.0 m x.1 y.1, y.2);
+      (y.0, agree_trans (slots g) (slots g1) types x.0 y.0 m x.1 y.1, y.2);
 }
 
 subst_list : (pairs : List (TypeTree × List ℕ)) (ts : List TypeTree) → type_list (map (type_subst pairs) ts) ≡ types_subst pairs (type_list ts)
 subst_list pairs [] = refl
 subst_list pairs (t ∷ ts) = ap (more_types (type_subst pairs t)) (subst_list pairs ts)
 
-pub BuildsType-app : (g g1 h : Graph) (names : List (List ℕ)) (base slot : ℕ) (c : List ℕ) (cell : Cell) (parts : List ℕ) (tys : List TypeTree) →
+pub builds_type_app : (g g1 h : Graph) (names : List (List ℕ)) (base slot : ℕ) (c : List ℕ) (cell : Cell) (parts : List ℕ) (tys : List TypeTree) →
     ((types : ℕ → TypeTree) (t : TypeTree) → CellHolds types t cell ↔ (t ≡ TyApp c (type_list (map types parts)))) → IsNewCell (slots g1) cell →
     BuildsTypes g g1 names base parts tys → IsFresh g1 h slot cell → BuildsType g h names base slot (TyApp c (type_list tys))
-BuildsType-app g g1 h names base slot c cell parts tys is new b fresh = record {
+builds_type_app g g1 h names base slot c cell parts tys is new b fresh = record {
   well_formed = fresh.well_formed;
   more = (let e = fresh.slots_are in let p = b.more in omega (arith, e, p));
   slot_in = (let e = fresh.slots_are in let f = fresh.slot_is in omega (arith, e, f));
@@ -183,5 +183,5 @@ BuildsType-app g g1 h names base slot c cell parts tys is new b fresh = record {
   complete = λ type_of types z.
       let x = b.complete type_of types z in
       let v = extend_fresh g1 h slot cell b.well_formed new fresh type_of x.0 (TyApp c (type_list (map x.0 parts))) x.2 ((is x.0 (TyApp c (type_list (map x.0 parts)))).1 refl) in
-      (v.0, Agree-trans (slots g) (slots g1) types x.0 v.0 b.more x.1 v.1, v.2);
+      (v.0, agree_trans (slots g) (slots g1) types x.0 v.0 b.more x.1 v.1, v.2);
 }

@@ -11,7 +11,7 @@ use Rattle.hol_infer.specs.declared.cell.Cell.TheVariants.{Unknown}
 use Rattle.hol_infer.specs.declared.generate.Graph.{Graph}
 use Rattle.hol_infer.specs.Generate.{Solves, slots, IsWellFormed, Agree, IsFresh, IsFunction, IsEquated, BuildsType, Instantiates, FindsName, BuildsVariable, Generates}
 use Rattle.hol_infer.proofs.Growing.{map_agree}
-use Rattle.hol_infer.proofs.Extending.{Agree-refl, Agree-trans, term_agree, AreSlotsIn-more, typing_at, extend_fresh, extend_function}
+use Rattle.hol_infer.proofs.Extending.{agree_refl, agree_trans, term_agree, are_slots_in_more, typing_at, extend_fresh, extend_function}
 use Rattle.hol_infer.proofs.Instances.{rigid_subst}
 
 app_same : (u u' v v' : Nameless) → u ≡ u' → v ≡ v' → app u v ≡ app u' v'
@@ -47,13 +47,13 @@ module _ (g h : Graph) (env : List ℕ) (i e slot : ℕ) (w : IsWellFormed g) (e
   bound_complete type_of types (free v) s t = absurd t
   bound_complete type_of types (bound j) s (j_is, t_is) =
       let n = same.slots_are in
-      (types, Agree-refl (slots g) types, (same.solves type_of types).1 (s, some_same (types slot) (types e) (sym (env_type types env i slot at) ∙ t_is)), ap bound (sym j_is))
+      (types, agree_refl (slots g) types, (same.solves type_of types).1 (s, some_same (types slot) (types e) (sym (env_type types env i slot at) ∙ t_is)), ap bound (sym j_is))
   bound_complete type_of types (fixed c u) s t = absurd t
   bound_complete type_of types (app f a) s t = absurd t
   bound_complete type_of types (lam x u b) s t = absurd t
 
-  pub Generates-bound : Generates g h env (RawBound i) e (SlotBound i)
-  Generates-bound = record {
+  pub generates_bound : Generates g h env (RawBound i) e (SlotBound i)
+  generates_bound = record {
     well_formed = same.well_formed;
     more = (let n = same.slots_are in omega (arith, n));
     slots_in = tt;
@@ -74,8 +74,8 @@ module _ (g h : Graph) (env : List ℕ) (c : List ℕ) (generic : TypeTree) (e :
   constant_complete type_of types (app f a) s t = absurd t
   constant_complete type_of types (lam x u b) s t = absurd t
 
-  pub Generates-constant : Generates g h env (RawConstant c generic) e (SlotConstant c e)
-  Generates-constant = record {
+  pub generates_constant : Generates g h env (RawConstant c generic) e (SlotConstant c e)
+  generates_constant = record {
     well_formed = instance'.well_formed;
     more = instance'.more;
     slots_in = (let m = instance'.more in omega (arith, m, e_in));
@@ -98,8 +98,8 @@ module _ (g g1 h : Graph) (env : List ℕ) (x : List ℕ) (e slot : ℕ) (e_in :
   free_complete type_of types (app f a) s t = absurd t
   free_complete type_of types (lam y u b) s t = absurd t
 
-  pub Generates-free : Generates g h env (RawFree x) e (SlotFree x e)
-  Generates-free = record {
+  pub generates_free : Generates g h env (RawFree x) e (SlotFree x e)
+  generates_free = record {
     well_formed = same.well_formed;
     more = (let n = same.slots_are in let m = finds.more in omega (arith, n, m));
     slots_in = (let n = same.slots_are in let m = finds.more in omega (arith, n, m, e_in));
@@ -130,23 +130,23 @@ module _ (g g1 g2 g3 h : Graph) (env : List ℕ) (f a : RawTree) (e d fs : ℕ) 
       let d1 : x.0 d ≡ s' = x.3 in
       let y = extend_function g1 g2 fs d e domain.well_formed (omega (arith, n1, d_is)) (omega (arith, n1)) function type_of x.0 x.2 in
       let fs_type : fun_type s' (types e) ≡ y.0 fs = fun_same s' (x.0 d) (types e) (x.0 e) (sym d1) e1 ∙ sym y.3 in
-      let agree2 : Agree (slots g) types y.0 = Agree-trans (slots g) (slots g1) types x.0 y.0 (omega (arith, n1)) x.1 y.1 in
+      let agree2 : Agree (slots g) types y.0 = agree_trans (slots g) (slots g1) types x.0 y.0 (omega (arith, n1)) x.1 y.1 in
       let z = gf.complete type_of y.0 u y.2
       (typing_at type_of (map types env) (map y.0 env) f u (fun_type s' (types e)) (y.0 fs) (map_agree (slots g) types y.0 env agree2 env_in) fs_type tf) in
-      let agree3 : Agree (slots g) types z.0 = Agree-trans (slots g) (slots g2) types y.0 z.0 (omega (arith, n1, n2)) agree2 z.1 in
+      let agree3 : Agree (slots g) types z.0 = agree_trans (slots g) (slots g2) types y.0 z.0 (omega (arith, n1, n2)) agree2 z.1 in
       let d_same : s' ≡ z.0 d = sym d1 ∙ y.1.agree d (omega (arith, n1, d_is)) ∙ z.1.agree d (omega (arith, n1, n2, d_is)) in
       let v' = ga.complete type_of z.0 v z.2
       (typing_at type_of (map types env) (map z.0 env) a v s' (z.0 d) (map_agree (slots g) types z.0 env agree3 env_in) d_same ta) in
       let more2 = gf.more in
       let left_same : u ≡ typed v'.0 left = z.3 ∙ term_agree (slots g3) z.0 v'.0 left v'.1 gf.slots_in in
       let right_same : v ≡ typed v'.0 right = v'.3 in
-      (v'.0, Agree-trans (slots g) (slots g3) types z.0 v'.0 (omega (arith, n1, n2, more2)) agree3 v'.1, v'.2, app_same u (typed v'.0 left) v (typed v'.0 right) left_same right_same)
+      (v'.0, agree_trans (slots g) (slots g3) types z.0 v'.0 (omega (arith, n1, n2, more2)) agree3 v'.1, v'.2, app_same u (typed v'.0 left) v (typed v'.0 right) left_same right_same)
 
-  pub Generates-apply : Generates g h env (RawApply f a) e (SlotApply left right)
-  Generates-apply = record {
+  pub generates_apply : Generates g h env (RawApply f a) e (SlotApply left right)
+  generates_apply = record {
     well_formed = ga.well_formed;
     more = (let n1 = domain.slots_are in let n2 = function.slots_are in let m1 = gf.more in let m2 = ga.more in omega (arith, n1, n2, m1, m2));
-    slots_in = (AreSlotsIn-more (slots g3) (slots h) left ga.more gf.slots_in, ga.slots_in);
+    slots_in = (are_slots_in_more (slots g3) (slots h) left ga.more gf.slots_in, ga.slots_in);
     scoped = λ names (p, q). (gf.scoped names p, ga.scoped names q);
     sound = λ type_of types s.
         let x = ga.sound type_of types s in
@@ -180,8 +180,8 @@ module _ (g g1 g2 g3 g4 h : Graph) (env : List ℕ) (x : List ℕ) (annotation :
       let r2 : t2.0 r ≡ u = t2.3 in
       let t3 = extend_function g2 g3 ws v r range.well_formed (omega (arith, n2, v_in)) (omega (arith, n2, r_is)) whole type_of t2.0 t2.2 in
       let ws_type : t3.0 ws ≡ fun_type a u = t3.3 ∙ fun_same (t2.0 v) a (t2.0 r) u (sym v2) r2 in
-      let agree2 : Agree (slots g) types t2.0 = Agree-trans (slots g) (slots g1) types t1.0 t2.0 m1 t1.1 t2.1 in
-      let agree3 : Agree (slots g) types t3.0 = Agree-trans (slots g) (slots g2) types t2.0 t3.0 (omega (arith, m1, n2)) agree2 t3.1 in
+      let agree2 : Agree (slots g) types t2.0 = agree_trans (slots g) (slots g1) types t1.0 t2.0 m1 t1.1 t2.1 in
+      let agree3 : Agree (slots g) types t3.0 = agree_trans (slots g) (slots g2) types t2.0 t3.0 (omega (arith, m1, n2)) agree2 t3.1 in
       let v3 : a ≡ t3.0 v = v2 ∙ t3.1.agree v (omega (arith, n2, v_in)) in
       let r3 : u ≡ t3.0 r = sym r2 ∙ t3.1.agree r (omega (arith, n2, r_is)) in
       let e3 : t3.0 ws ≡ t3.0 e = ws_type ∙ sym e_is ∙ agree3.agree e e_in in
@@ -192,10 +192,10 @@ module _ (g g1 g2 g3 g4 h : Graph) (env : List ℕ) (x : List ℕ) (annotation :
       (typing_at type_of (a ∷ map types env) (map t3.0 (v ∷ env)) body b u (t3.0 r) inside r3 tb) in
       let v4 : a ≡ t4.0 v = v3 ∙ t4.1.agree v (omega (arith, n2, n3, n4, v_in)) in
       let b4 : b ≡ typed t4.0 inner = t4.3 in
-      (t4.0, Agree-trans (slots g) (slots g4) types t3.0 t4.0 (omega (arith, m1, n2, n3, n4)) agree3 t4.1, t4.2, lam_same (base_of x) y a (t4.0 v) b (typed t4.0 inner) name_same v4 b4)
+      (t4.0, agree_trans (slots g) (slots g4) types t3.0 t4.0 (omega (arith, m1, n2, n3, n4)) agree3 t4.1, t4.2, lam_same (base_of x) y a (t4.0 v) b (typed t4.0 inner) name_same v4 b4)
 
-  pub Generates-abstraction : Generates g h env (RawAbstraction x annotation body) e (SlotAbstraction x v inner)
-  Generates-abstraction = record {
+  pub generates_abstraction : Generates g h env (RawAbstraction x annotation body) e (SlotAbstraction x v inner)
+  generates_abstraction = record {
     well_formed = gb.well_formed;
     more = (let m1 = variable.more in let n2 = range.slots_are in let n3 = whole.slots_are in let n4 = same.slots_are in let m = gb.more in omega (arith, m1, n2, n3, n4, m));
     slots_in = ((let v_in = variable.slot_in in let n2 = range.slots_are in let n3 = whole.slots_are in let n4 = same.slots_are in let m = gb.more in omega (arith, v_in, n2, n3, n4, m)), gb.slots_in);
@@ -214,8 +214,8 @@ module _ (g g1 g2 g3 g4 h : Graph) (env : List ℕ) (x : List ℕ) (annotation :
 module _ (g g1 g2 h : Graph) (env : List ℕ) (raw : RawTree) (ty : TypeTree) (e slot : ℕ) (term : SlotTree)
     (env_in : All (λ s. s < slots g) env) (e_in : e < slots g)
     (builds : BuildsType g g1 [] 0 slot ty) (same : IsEquated g1 g2 slot e) (gi : Generates g2 h env raw e term) where
-  pub Generates-annotated : Generates g h env (RawAnnotated raw ty) e term
-  Generates-annotated = record {
+  pub generates_annotated : Generates g h env (RawAnnotated raw ty) e term
+  generates_annotated = record {
     well_formed = gi.well_formed;
     more = (let m1 = builds.more in let n2 = same.slots_are in let m = gi.more in omega (arith, m1, n2, m));
     slots_in = gi.slots_in;
@@ -234,12 +234,12 @@ module _ (g g1 g2 h : Graph) (env : List ℕ) (raw : RawTree) (ty : TypeTree) (e
         let s2 : Solves g2 type_of x.0 = (same.solves type_of x.0).1 (x.2, slot_is ∙ sym e_is ∙ e1) in
         let y = gi.complete type_of x.0 p s2
         (typing_at type_of (map types env) (map x.0 env) raw p (types e) (x.0 e) (map_agree (slots g) types x.0 env x.1 env_in) e1 t) in
-        (y.0, Agree-trans (slots g) (slots g2) types x.0 y.0 (omega (arith, m1, n2)) x.1 y.1, y.2, y.3);
+        (y.0, agree_trans (slots g) (slots g2) types x.0 y.0 (omega (arith, m1, n2)) x.1 y.1, y.2, y.3);
   }
 
 -- a bound variable with an annotation and without
-pub BuildsVariable-some : (g h : Graph) (slot : ℕ) (annotation : Option TypeTree) (ty : TypeTree) → annotation ≡ Some ty → BuildsType g h [] 0 slot ty → BuildsVariable g h slot annotation
-BuildsVariable-some g h slot annotation ty is b = record {
+pub builds_variable_some : (g h : Graph) (slot : ℕ) (annotation : Option TypeTree) (ty : TypeTree) → annotation ≡ Some ty → BuildsType g h [] 0 slot ty → BuildsVariable g h slot annotation
+builds_variable_some g h slot annotation ty is b = record {
   well_formed = b.well_formed;
   more = b.more;
   slot_in = b.slot_in;
@@ -250,8 +250,8 @@ BuildsVariable-some g h slot annotation ty is b = record {
       (x.0, x.1, x.2, (b.sound type_of x.0 x.2).1 ∙ rigid_subst ty ∙ sym e);
 }
 
-pub BuildsVariable-none : (g h : Graph) (slot : ℕ) (annotation : Option TypeTree) → annotation ≡ None → IsWellFormed g → IsFresh g h slot Unknown → BuildsVariable g h slot annotation
-BuildsVariable-none g h slot annotation is w fresh = record {
+pub builds_variable_none : (g h : Graph) (slot : ℕ) (annotation : Option TypeTree) → annotation ≡ None → IsWellFormed g → IsFresh g h slot Unknown → BuildsVariable g h slot annotation
+builds_variable_none g h slot annotation is w fresh = record {
   well_formed = fresh.well_formed;
   more = (let n = fresh.slots_are in omega (arith, n));
   slot_in = (let n = fresh.slots_are in let i = fresh.slot_is in omega (arith, n, i));
@@ -260,6 +260,6 @@ BuildsVariable-none g h slot annotation is w fresh = record {
 }
 
 -- the same of equal terms
-pub Generates-same : (g h : Graph) (env : List ℕ) (raw raw' : RawTree) (e : ℕ) (term term' : SlotTree) → raw ≡ raw' → term ≡ term' → Generates g h env raw e term → Generates g h env raw' e term'
-Generates-same g h env raw raw' e term term' p q gen =
+pub generates_same : (g h : Graph) (env : List ℕ) (raw raw' : RawTree) (e : ℕ) (term term' : SlotTree) → raw ≡ raw' → term ≡ term' → Generates g h env raw e term → Generates g h env raw' e term'
+generates_same g h env raw raw' e term term' p q gen =
     subst (λ (r : RawTree). Generates g h env r e term') p (subst (λ (t : SlotTree). Generates g h env raw e t) q gen)

@@ -15,8 +15,8 @@ use Rattle.hol_infer.specs.Graph.{CellHolds, cell_at, Respects, EquationHolds, I
 use Rattle.hol_infer.specs.Generate.{Agree, IsNewCell, Solves, slots, IsWellFormed, IsFresh}
 
 -- of a list with one more at its end
-pub All-last : (P : Equation → Type 0) (xs : List Equation) (x : Equation) → All P (xs ++ x ∷ []) → All P xs × P x
-All-last P xs x h = (
+pub all_last : (P : Equation → Type 0) (xs : List Equation) (x : Equation) → All P (xs ++ x ∷ []) → All P xs × P x
+all_last P xs x h = (
   λ k d lt. rw (get_or_append_left xs (x ∷ []) d k lt) at (h k d (rw length-append (omega arith))),
   rw (get_or-append_seam xs x [] x) at (h (length xs) x (rw length-append (omega arith))),
 )
@@ -34,17 +34,17 @@ past_cell cells i le = get_or_past cells i Unknown le
 below_more : (n : ℕ) (parts : List ℕ) → All (λ p. p < n) parts → All (λ p. p < n + 1) parts
 below_more n parts h = All-weaker (λ (p : ℕ). p < n) (λ (p : ℕ). p < n + 1) (λ x l. omega arith) parts h
 
-IsCellIn-new : (n : ℕ) (cell : Cell) → IsNewCell n cell → IsCellIn (n + 1) n cell
-IsCellIn-new n Unknown h = tt
-IsCellIn-new n (Link j) h = h
-IsCellIn-new n (Rigid a) h = h
-IsCellIn-new n (App c parts) h = below_more n parts.items h
+is_cell_in_new : (n : ℕ) (cell : Cell) → IsNewCell n cell → IsCellIn (n + 1) n cell
+is_cell_in_new n Unknown h = tt
+is_cell_in_new n (Link j) h = h
+is_cell_in_new n (Rigid a) h = h
+is_cell_in_new n (App c parts) h = below_more n parts.items h
 
-IsCellIn-more : (n i : ℕ) (cell : Cell) → IsCellIn n i cell → IsCellIn (n + 1) i cell
-IsCellIn-more n i Unknown h = tt
-IsCellIn-more n i (Link j) h = h
-IsCellIn-more n i (Rigid a) h = h
-IsCellIn-more n i (App c parts) h = below_more n parts.items h
+is_cell_in_more : (n i : ℕ) (cell : Cell) → IsCellIn n i cell → IsCellIn (n + 1) i cell
+is_cell_in_more n i Unknown h = tt
+is_cell_in_more n i (Link j) h = h
+is_cell_in_more n i (Rigid a) h = h
+is_cell_in_more n i (App c parts) h = below_more n parts.items h
 
 -- a slot is an old one, the new one, or none
 by_slot : (n i : ℕ) → (i < n) ⊎ ((i ≡ n) ⊎ (n + 1 ≤ i))
@@ -56,20 +56,20 @@ by_slot n i = elim (cases_lt i n) [
 pushed_length : (cells : List Cell) (cell : Cell) → length (cells ++ cell ∷ []) ≡ length cells + 1
 pushed_length cells cell = length-append cells (cell ∷ [])
 
-pub IsGraph-push : (cells : List Cell) (cell : Cell) → IsGraph cells → IsNewCell (length cells) cell → IsGraph (cells ++ cell ∷ [])
-IsGraph-push cells cell g new = record {
+pub is_graph_push : (cells : List Cell) (cell : Cell) → IsGraph cells → IsNewCell (length cells) cell → IsGraph (cells ++ cell ∷ [])
+is_graph_push cells cell g new = record {
   cell_in = λ i. elim (by_slot (length cells) i) [
-    | inl lt ↦ rw (pushed_length cells cell, old_cell cells cell i lt) (IsCellIn-more (length cells) i (cell_at cells i) (g.cell_in i))
+    | inl lt ↦ rw (pushed_length cells cell, old_cell cells cell i lt) (is_cell_in_more (length cells) i (cell_at cells i) (g.cell_in i))
     | inr more ↦ elim more [
       | inl e ↦ subst (λ (k : ℕ). IsCellIn (length (cells ++ cell ∷ [])) k (cell_at (cells ++ cell ∷ []) k)) (sym e)
-          (rw (pushed_length cells cell, new_cell cells cell) (IsCellIn-new (length cells) cell new))
+          (rw (pushed_length cells cell, new_cell cells cell) (is_cell_in_new (length cells) cell new))
       | inr le ↦ rw (past_cell (cells ++ cell ∷ []) i (rw pushed_length le)) tt
     ]
   ];
 }
 
-pub Respects-push : (cells : List Cell) (cell : Cell) (types : ℕ → TypeTree) → Respects (cells ++ cell ∷ []) types ↔ (Respects cells types × CellHolds types (types (length cells)) cell)
-Respects-push cells cell types = (
+pub respects_push : (cells : List Cell) (cell : Cell) (types : ℕ → TypeTree) → Respects (cells ++ cell ∷ []) types ↔ (Respects cells types × CellHolds types (types (length cells)) cell)
+respects_push cells cell types = (
   λ r. (
     record {
       cell = λ i. elim (cases_lt i (length cells)) [
@@ -94,19 +94,19 @@ Respects-push cells cell types = (
 pub push_cell_solves : (cells : List Cell) (pending : List Equation) (cell : Cell) (types : ℕ → TypeTree) →
     IsSolution (cells ++ cell ∷ []) pending types ↔ (IsSolution cells pending types × CellHolds types (types (length cells)) cell)
 push_cell_solves cells pending cell types = (
-  λ s. let parts = (Respects-push cells cell types).0 s.respects in (record { respects = parts.0; equations = s.equations }, parts.1),
-  λ (s, h). record { respects = (Respects-push cells cell types).1 (s.respects, h); equations = s.equations },
+  λ s. let parts = (respects_push cells cell types).0 s.respects in (record { respects = parts.0; equations = s.equations }, parts.1),
+  λ (s, h). record { respects = (respects_push cells cell types).1 (s.respects, h); equations = s.equations },
 )
 
 pub push_equation_solves : (cells : List Cell) (pending : List Equation) (e : Equation) (types : ℕ → TypeTree) →
     IsSolution cells (pending ++ e ∷ []) types ↔ (IsSolution cells pending types × EquationHolds types e)
 push_equation_solves cells pending e types = (
-  λ s. let parts = All-last (EquationHolds types) pending e s.equations in (record { respects = s.respects; equations = parts.0 }, parts.1),
+  λ s. let parts = all_last (EquationHolds types) pending e s.equations in (record { respects = s.respects; equations = parts.0 }, parts.1),
   λ (s, h). record { respects = s.respects; equations = All-push (EquationHolds types) pending e s.equations h },
 )
 
-pub AreIn-push_cell : (cells : List Cell) (pending : List Equation) (cell : Cell) → AreIn cells pending → AreIn (cells ++ cell ∷ []) pending
-AreIn-push_cell cells pending cell h k d lt = let w = h k d lt in let e = pushed_length cells cell in (omega (arith, e, w.0), omega (arith, e, w.1))
+pub are_in_push_cell : (cells : List Cell) (pending : List Equation) (cell : Cell) → AreIn cells pending → AreIn (cells ++ cell ∷ []) pending
+are_in_push_cell cells pending cell h k d lt = let w = h k d lt in let e = pushed_length cells cell in (omega (arith, e, w.0), omega (arith, e, w.1))
 
 -- a graph with a slot more
 pub fresh_of : (g h : Graph) (slot : ℕ) (cell : Cell) → IsWellFormed g → IsNewCell (slots g) cell → slot ≡ slots g →
@@ -118,8 +118,8 @@ fresh_of g h slot cell w new at cells pending names =
       slots_are = len;
       names_are = names;
       well_formed = record {
-        cells_in = subst (λ (xs : List Cell). IsGraph xs) (sym cells) (IsGraph-push g.cells.items cell w.cells_in new);
-        pending_in = rw (cells, pending) (AreIn-push_cell g.cells.items g.pending.items cell w.pending_in);
+        cells_in = subst (λ (xs : List Cell). IsGraph xs) (sym cells) (is_graph_push g.cells.items cell w.cells_in new);
+        pending_in = rw (cells, pending) (are_in_push_cell g.cells.items g.pending.items cell w.pending_in);
         names_in = λ a s e. (let l = w.names_in a s (rw names at e) in omega (arith, l, len));
       };
       solves = λ type_of types. (
@@ -148,26 +148,26 @@ map_agree n types types' env a h = parts_agree n types types' env a h
 app_ap : (c : List ℕ) (ss ts : List TypeTree) → ss ≡ ts → TyApp c (type_list ss) ≡ TyApp c (type_list ts)
 app_ap c ss ts e = cc
 
-CellHolds-agree : (n i : ℕ) (types types' : ℕ → TypeTree) (cell : Cell) → Agree n types types' → i < n → IsCellIn n i cell → CellHolds types (types i) cell → CellHolds types' (types' i) cell
-CellHolds-agree n i types types' Unknown a lt in' h = tt
-CellHolds-agree n i types types' (Link j) a lt in' h = sym (a.agree i lt) ∙ h ∙ a.agree j (omega arith)
-CellHolds-agree n i types types' (Rigid x) a lt in' h = sym (a.agree i lt) ∙ h
-CellHolds-agree n i types types' (App c parts) a lt in' h =
+cell_holds_agree : (n i : ℕ) (types types' : ℕ → TypeTree) (cell : Cell) → Agree n types types' → i < n → IsCellIn n i cell → CellHolds types (types i) cell → CellHolds types' (types' i) cell
+cell_holds_agree n i types types' Unknown a lt in' h = tt
+cell_holds_agree n i types types' (Link j) a lt in' h = sym (a.agree i lt) ∙ h ∙ a.agree j (omega arith)
+cell_holds_agree n i types types' (Rigid x) a lt in' h = sym (a.agree i lt) ∙ h
+cell_holds_agree n i types types' (App c parts) a lt in' h =
     sym (a.agree i lt) ∙ h ∙ app_ap c (map types parts.items) (map types' parts.items) (parts_agree n types types' parts.items a in')
 
 pub agree_solves : (cells : List Cell) (pending : List Equation) (types types' : ℕ → TypeTree) → IsGraph cells → AreIn cells pending → Agree (length cells) types types' → IsSolution cells pending types → IsSolution cells pending types'
 agree_solves cells pending types types' g p a s = record {
   respects = record {
     cell = λ i. elim (cases_lt i (length cells)) [
-      | inl lt ↦ CellHolds-agree (length cells) i types types' (cell_at cells i) a lt (g.cell_in i) (s.respects.cell i)
+      | inl lt ↦ cell_holds_agree (length cells) i types types' (cell_at cells i) a lt (g.cell_in i) (s.respects.cell i)
       | inr ge ↦ rw (past_cell cells i ge) tt
     ];
   };
   equations = λ k d lt. let in' = p k d lt in sym (a.agree (get_or pending k d).left in'.0) ∙ s.equations k d lt ∙ a.agree (get_or pending k d).right in'.1;
 }
 
-pub Solves-agree : (g : Graph) (type_of : List ℕ → TypeTree) (types types' : ℕ → TypeTree) → IsWellFormed g → Agree (slots g) types types' → Solves g type_of types → Solves g type_of types'
-Solves-agree g type_of types types' w a s = record {
+pub solves_agree : (g : Graph) (type_of : List ℕ → TypeTree) (types types' : ℕ → TypeTree) → IsWellFormed g → Agree (slots g) types types' → Solves g type_of types → Solves g type_of types'
+solves_agree g type_of types types' w a s = record {
   solution = agree_solves g.cells.items g.pending.items types types' w.cells_in w.pending_in a s.solution;
   names = λ b k e. s.names b k e ∙ a.agree k (w.names_in b k e);
 }

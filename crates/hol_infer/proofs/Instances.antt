@@ -26,7 +26,8 @@ other_lookup types base a b names e = rw e refl
 same_lookup : (types : ℕ → TypeTree) (base : ℕ) (a b : List ℕ) (names : List (List ℕ)) → bytes_eq b a ≡ true → type_lookup (pairs_from types base (b ∷ names)) a ≡ Some (types base)
 same_lookup types base a b names e = rw e refl
 
-turned : (a b : List ℕ) → bytes_eq b a ≡ false → bytes_eq a b ≡ false
+-- the test of two names is the same in both orders
+pub turned : (a b : List ℕ) → bytes_eq b a ≡ false → bytes_eq a b ≡ false
 turned a b e = by (bytes_eq a b) refl
   where
     by : (t : Bool) → bytes_eq a b ≡ t → bytes_eq a b ≡ false
@@ -99,11 +100,11 @@ mutual
 abbrev pub put_from : (ℕ → TypeTree) → ℕ → (ℕ → TypeTree) → ℕ → TypeTree
 put_from types n at k = cond (ltb k n) (types k) (at (k - n))
 
-pub put_from-agree : (types : ℕ → TypeTree) (n : ℕ) (at : ℕ → TypeTree) → Agree n types (put_from types n at)
-put_from-agree types n at = record { agree = λ i lt. rw (lt-ltb i n lt) refl }
+pub put_from_agree : (types : ℕ → TypeTree) (n : ℕ) (at : ℕ → TypeTree) → Agree n types (put_from types n at)
+put_from_agree types n at = record { agree = λ i lt. rw (lt-ltb i n lt) refl }
 
-pub put_from-at : (types : ℕ → TypeTree) (n : ℕ) (at : ℕ → TypeTree) (k : ℕ) → put_from types n at (n + k) ≡ at k
-put_from-at types n at k =
+pub put_from_at : (types : ℕ → TypeTree) (n : ℕ) (at : ℕ → TypeTree) (k : ℕ) → put_from types n at (n + k) ≡ at k
+put_from_at types n at k =
     let ge : n ≤ n + k = omega arith in
     let e : n + k - n ≡ k = omega arith in
     rw (le-ltb (n + k) n ge, e) refl

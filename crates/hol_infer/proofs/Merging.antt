@@ -18,8 +18,8 @@ pub kept : (cells : List Cell) (at i : ℕ) (cell : Cell) → i ≢ at → cell_
 kept cells at i cell h = get_or-set_other cells at i cell Unknown h
 
 -- types that meet the graph and one more cell meet the graph with that cell written
-pub Respects-set : (cells : List Cell) (at : ℕ) (cell : Cell) (types : ℕ → TypeTree) → at < length cells → Respects cells types → CellHolds types (types at) cell → Respects (set cells at cell) types
-Respects-set cells at cell types h r holds = record {
+pub respects_set : (cells : List Cell) (at : ℕ) (cell : Cell) (types : ℕ → TypeTree) → at < length cells → Respects cells types → CellHolds types (types at) cell → Respects (set cells at cell) types
+respects_set cells at cell types h r holds = record {
   cell = λ i. elim (cases_eq i at) [
     | inl e ↦ subst (λ (k : ℕ). CellHolds types (types k) (cell_at (set cells at cell) k)) (sym e) (rw (written cells at cell h) holds)
     | inr ne ↦ rw (kept cells at i cell ne) (r.cell i)
@@ -30,8 +30,8 @@ Respects-set cells at cell types h r holds = record {
 pub holds_set : (cells : List Cell) (at : ℕ) (cell : Cell) (types : ℕ → TypeTree) → at < length cells → Respects (set cells at cell) types → CellHolds types (types at) cell
 holds_set cells at cell types h r = rw (written cells at cell h) at (r.cell at)
 
-pub Respects-unset : (cells : List Cell) (at : ℕ) (cell : Cell) (types : ℕ → TypeTree) → Respects (set cells at cell) types → CellHolds types (types at) (cell_at cells at) → Respects cells types
-Respects-unset cells at cell types r holds = record {
+pub respects_unset : (cells : List Cell) (at : ℕ) (cell : Cell) (types : ℕ → TypeTree) → Respects (set cells at cell) types → CellHolds types (types at) (cell_at cells at) → Respects cells types
+respects_unset cells at cell types r holds = record {
   cell = λ i. elim (cases_eq i at) [
     | inl e ↦ subst (λ (k : ℕ). CellHolds types (types k) (cell_at cells k)) (sym e) holds
     | inr ne ↦ rw (kept cells at i cell ne) at (r.cell i)
@@ -39,8 +39,8 @@ Respects-unset cells at cell types r holds = record {
 }
 
 -- a type that meets a cell may be replaced by an equal one
-pub CellHolds-same : (types : ℕ → TypeTree) (s t : TypeTree) (cell : Cell) → s ≡ t → CellHolds types s cell → CellHolds types t cell
-CellHolds-same types s t cell e h = subst (λ (u : TypeTree). CellHolds types u cell) e h
+pub cell_holds_same : (types : ℕ → TypeTree) (s t : TypeTree) (cell : Cell) → s ≡ t → CellHolds types s cell → CellHolds types t cell
+cell_holds_same types s t cell e h = subst (λ (u : TypeTree). CellHolds types u cell) e h
 
 -- a root's cell may stand at any slot
 root_anywhere : (n i j : ℕ) (cell : Cell) → IsRootCell cell → IsCellIn n i cell → IsCellIn n j cell
@@ -49,8 +49,8 @@ root_anywhere n i j (Link k) r h = absurd r
 root_anywhere n i j (Rigid a) r h = h
 root_anywhere n i j (App c parts) r h = h
 
-pub IsGraph-set : (cells : List Cell) (at : ℕ) (cell : Cell) → at < length cells → IsGraph cells → IsCellIn (length cells) at cell → IsGraph (set cells at cell)
-IsGraph-set cells at cell h g new = record {
+pub is_graph_set : (cells : List Cell) (at : ℕ) (cell : Cell) → at < length cells → IsGraph cells → IsCellIn (length cells) at cell → IsGraph (set cells at cell)
+is_graph_set cells at cell h g new = record {
   cell_in = λ i. elim (cases_eq i at) [
     | inl e ↦ subst (λ (k : ℕ). IsCellIn (length (set cells at cell)) k (cell_at (set cells at cell) k)) (sym e) (rw (length-set, written cells at cell h) new)
     | inr ne ↦ rw (length-set, kept cells at i cell ne) (g.cell_in i)
@@ -65,11 +65,11 @@ module _ (cells : List Cell) (low high : ℕ) (order : low < high) (high_in : hi
   low_in = omega arith
 
   pub linked_graph : IsGraph cells → IsGraph (set cells high (Link low))
-  linked_graph g = IsGraph-set cells high (Link low) high_in g order
+  linked_graph g = is_graph_set cells high (Link low) high_in g order
 
   pub taken_graph : IsGraph cells → IsRootCell (cell_at cells high) → IsGraph (set (set cells high (Link low)) low (cell_at cells high))
   taken_graph g r =
-      IsGraph-set (set cells high (Link low)) low (cell_at cells high) (rw length-set low_in) (linked_graph g)
+      is_graph_set (set cells high (Link low)) low (cell_at cells high) (rw length-set low_in) (linked_graph g)
       (rw length-set (root_anywhere (length cells) high low (cell_at cells high) r (g.cell_in high)))
 
   -- the lower root knows nothing: it takes the cell of the higher one
@@ -83,9 +83,9 @@ module _ (cells : List Cell) (low high : ℕ) (order : low < high) (high_in : hi
         rw (written cells high (Link low) high_in) at (rw (kept given low high (cell_at cells high) (λ e. apart (sym e))) at (s.respects.cell high)) in
         let before : CellHolds types (types low) (cell_at given low) = rw (kept cells high low (Link low) apart, unknown) tt in
         record {
-          respects = Respects-unset cells high (Link low) types
-              (Respects-unset given low (cell_at cells high) types s.respects before)
-              (CellHolds-same types (types low) (types high) (cell_at cells high) (sym same) at_low);
+          respects = respects_unset cells high (Link low) types
+              (respects_unset given low (cell_at cells high) types s.respects before)
+              (cell_holds_same types (types low) (types high) (cell_at cells high) (sym same) at_low);
           equations = All-cons (EquationHolds types) (record { left = low; right = high }) pending (sym same) s.equations;
         },
     λ s.
@@ -93,9 +93,9 @@ module _ (cells : List Cell) (low high : ℕ) (order : low < high) (high_in : hi
         let low_given : low < length given = rw length-set low_in in
         let same : types low ≡ types high = All-head (EquationHolds types) (record { left = low; right = high }) pending s.equations in
         record {
-          respects = Respects-set given low (cell_at cells high) types low_given
-              (Respects-set cells high (Link low) types high_in s.respects (sym same))
-              (CellHolds-same types (types high) (types low) (cell_at cells high) (sym same) (s.respects.cell high));
+          respects = respects_set given low (cell_at cells high) types low_given
+              (respects_set cells high (Link low) types high_in s.respects (sym same))
+              (cell_holds_same types (types high) (types low) (cell_at cells high) (sym same) (s.respects.cell high));
           equations = All-tail (EquationHolds types) (record { left = low; right = high }) pending s.equations;
         },
   )
@@ -119,15 +119,15 @@ module _ (cells : List Cell) (low high : ℕ) (order : low < high) (high_in : hi
         let at_low : CellHolds types (types low) (cell_at cells low) = rw (kept cells high low (Link low) apart) at (s.respects.cell low) in
         let parts = (joined.joins types (types low) at_low).0 s.equations in
         record {
-          respects = Respects-unset cells high (Link low) types s.respects (CellHolds-same types (types low) (types high) (cell_at cells high) (sym same) parts.0);
+          respects = respects_unset cells high (Link low) types s.respects (cell_holds_same types (types low) (types high) (cell_at cells high) (sym same) parts.0);
           equations = All-cons (EquationHolds types) (record { left = low; right = high }) pending (sym same) parts.1;
         },
     λ s.
         let same : types low ≡ types high = All-head (EquationHolds types) (record { left = low; right = high }) pending s.equations in
         record {
-          respects = Respects-set cells high (Link low) types high_in s.respects (sym same);
+          respects = respects_set cells high (Link low) types high_in s.respects (sym same);
           equations = (joined.joins types (types low) (s.respects.cell low)).1 (
-            CellHolds-same types (types high) (types low) (cell_at cells high) (sym same) (s.respects.cell high),
+            cell_holds_same types (types high) (types low) (cell_at cells high) (sym same) (s.respects.cell high),
             All-tail (EquationHolds types) (record { left = low; right = high }) pending s.equations,
           );
         },
@@ -142,7 +142,7 @@ module _ (cells : List Cell) (low high : ℕ) (order : low < high) (high_in : hi
   pub clash : (pending : List Equation) → HaveNoType (cell_at cells low) (cell_at cells high) → HasNoSolution cells (record { left = low; right = high } ∷ pending)
   clash pending none types s =
       let same : types low ≡ types high = All-head (EquationHolds types) (record { left = low; right = high }) pending s.equations in
-      none types (types low) (s.respects.cell low) (CellHolds-same types (types high) (types low) (cell_at cells high) (sym same) (s.respects.cell high))
+      none types (types low) (s.respects.cell low) (cell_holds_same types (types high) (types low) (cell_at cells high) (sym same) (s.respects.cell high))
 
 -- what a read of a slot gives
 pub read_cell : (cells : List Cell) (i : ℕ) (x : Cell) → i < length cells → x ≡ slice_index_or cells i x → cell_at cells i ≡ x

@@ -1,6 +1,7 @@
 -- Resolved terms: their indexes and free names are scoped, and their annotations have no open type variables.
 use Rattle.std.proofs.Common.{◌≡◌, ◌≢◌, ℕ, ◌+◌, ◌<◌, ◌≤◌, zero, suc, List, [], ◌∷◌, ◌++◌, length, map, get_or, take, refl, sym, ◌∙◌, ap, subst, arith, add-one, Bool, true, false, ◌&&◌, cond, bytes_eq, codes, Option, Some, None}
 use Rattle.std.specs.Option.{option_map}
+use Rattle.std.proofs.lemmas.Bool.{and_from, and_right}
 use Rattle.std.proofs.lemmas.List.{take_more, take_all, map-append}
 use Rattle.std.proofs.lemmas.Slice.Eq.{bytes_eq-Decides}
 use Rattle.hol_types.specs.Tree.{TypeTree, TyApp, more_types, type_list}
@@ -11,6 +12,7 @@ use Rattle.hol_notation_terms.specs.Text.{TypeText, TypeTexts, Ident, Arrow, App
 use Rattle.hol_infer.specs.Raw.{RawTree, RawFree, RawApply}
 use Rattle.hol_infer.specs.Scoped.{IsFirstAt, IsScoped, HasNoOpenName, HaveNoOpenName, IsRigid, HasRigidAnnotations}
 use Rattle.hol_infer.specs.Resolving.{arity_of, generic_type_of, ident_type, type_of_text, types_of_texts, text_count, has_arities, have_arities, bool_type, name_index, resolved, identifier, resolved_sign, sign, operator_raw, raw_of, takes, annotated, at_bool, value_raw, without, definition_raw}
+use Rattle.hol_infer.proofs.Instances.{turned}
 use Rattle.hol_infer.proofs.Marks.{written_rigid}
 
 -- ---- scopes
@@ -32,13 +34,6 @@ index_first (b ∷ names) a i e = by (bytes_eq b a) refl e (index_first names a)
     by : (t : Bool) → bytes_eq b a ≡ t → cond t (Some 0) (option_map (λ j. j + 1) (name_index names a)) ≡ Some i → ((j : ℕ) → name_index names a ≡ Some j → IsFirstAt names j a) → IsFirstAt (b ∷ names) i a
     by true f g r = let q : 0 ≡ i = cc in subst (λ (k : ℕ). IsFirstAt (b ∷ names) k a) q ((bytes_eq-Decides b a).0 f)
     by false f g r = next (name_index names a) f g r
-
-turned : (a b : List ℕ) → bytes_eq b a ≡ false → bytes_eq a b ≡ false
-turned a b e = by (bytes_eq a b) refl
-  where
-    by : (t : Bool) → bytes_eq a b ≡ t → bytes_eq a b ≡ false
-    by true f = let z : true ≡ false = sym ((bytes_eq-Decides b a).1 (sym ((bytes_eq-Decides a b).0 f))) ∙ e in absurd (cc)
-    by false f = f
 
 index_none : (names : List (List ℕ)) (a : List ℕ) → name_index names a ≡ None → is_among names a ≡ false
 index_none [] a e = refl
@@ -199,15 +194,8 @@ pub count_length : (ts : List TypeText) → text_count (type_texts ts) ≡ lengt
 count_length [] = refl
 count_length (t ∷ ts) = let r = count_length ts in omega (arith, r)
 
-and_true : (a b : Bool) → a ≡ true → b ≡ true → (a && b) ≡ true
-and_true a b p q = rw (p, q) refl
-
-and_right_false : (a b : Bool) → b ≡ false → (a && b) ≡ false
-and_right_false true b e = e
-and_right_false false b e = refl
-
 pub have_append : (arities : List (List ℕ × ℕ)) (ts : List TypeText) (t : TypeText) → have_arities arities (type_texts ts) ≡ true → has_arities arities t ≡ true → have_arities arities (type_texts (ts ++ t ∷ [])) ≡ true
-have_append arities [] t h k = and_true (has_arities arities t) true k refl
+have_append arities [] t h k = and_from (has_arities arities t) true k refl
 have_append arities (s ∷ ts) t h k = by (has_arities arities s) h (λ g. have_append arities ts t g k)
   where
     by : (b : Bool) → (b && have_arities arities (type_texts ts)) ≡ true → (have_arities arities (type_texts ts) ≡ true → have_arities arities (type_texts (ts ++ t ∷ [])) ≡ true) → (b && have_arities arities (type_texts (ts ++ t ∷ []))) ≡ true
@@ -218,7 +206,7 @@ have_append arities (s ∷ ts) t h k = by (has_arities arities s) h (λ g. have_
 pub have_false : (arities : List (List ℕ × ℕ)) (ts : List TypeText) (i : ℕ) (d : TypeText) → i < length ts → has_arities arities (get_or ts i d) ≡ false → have_arities arities (type_texts ts) ≡ false
 have_false arities [] i d l e = absurd (omega arith)
 have_false arities (t ∷ ts) zero d l e = rw e refl
-have_false arities (t ∷ ts) (suc i) d l e = and_right_false (has_arities arities t) (have_arities arities (type_texts ts)) (have_false arities ts i d (omega arith) e)
+have_false arities (t ∷ ts) (suc i) d l e = and_right (has_arities arities t) (have_arities arities (type_texts ts)) (have_false arities ts i d (omega arith) e)
 
 -- an argument has fewer nodes than the whole
 text_size : (ts : List TypeText) (i : ℕ) (d : TypeText) → i < length ts → type_nodes (get_or ts i d) ≤ types_nodes (type_texts ts)
@@ -248,7 +236,7 @@ pub wrong_argument : (arities : List (List ℕ × ℕ)) (ty : TypeText) (c : Lis
 wrong_argument arities ty c args items i arg e p lt q h =
     let here : has_arities arities (get_or items i arg) ≡ false = sym (ap (has_arities arities) q) ∙ h in
     let inside : have_arities arities (type_texts args) ≡ false = subst (λ (xs : List TypeText). have_arities arities (type_texts xs) ≡ false) p (have_false arities items i arg lt here) in
-    sym (ap (has_arities arities) e) ∙ and_right_false (takes (arity_of arities c) (text_count (type_texts args))) (have_arities arities (type_texts args)) inside
+    sym (ap (has_arities arities) e) ∙ and_right (takes (arity_of arities c) (text_count (type_texts args))) (have_arities arities (type_texts args)) inside
 
 take_next : (items : List TypeText) (i : ℕ) (arg : TypeText) → i < length items → arg ≡ get_or items i arg → take (i + 1) items ≡ take i items ++ arg ∷ []
 take_next items i arg lt q = take_more items i arg lt ∙ ap (λ (x : TypeText). take i items ++ x ∷ []) (sym q)
@@ -270,5 +258,5 @@ whole_type arities ty c a args items types n i t e p l f s k m h r =
     let count : takes (arity_of arities c) (text_count (type_texts args)) ≡ true = subst (λ (x : List ℕ). takes (arity_of arities x) (text_count (type_texts args)) ≡ true) p g in
     let inside : have_arities arities (type_texts args) ≡ true = subst (λ (xs : List TypeText). have_arities arities (type_texts xs) ≡ true) all h in (
       r ∙ (λ j. TyApp (p j) (ts j)) ∙ ap (type_of_text arities) e,
-      sym (ap (has_arities arities) e) ∙ and_true (takes (arity_of arities c) (text_count (type_texts args))) (have_arities arities (type_texts args)) count inside,
+      sym (ap (has_arities arities) e) ∙ and_from (takes (arity_of arities c) (text_count (type_texts args))) (have_arities arities (type_texts args)) count inside,
     )

@@ -48,11 +48,11 @@ parts_keep found at t (p ∷ parts) (s ∷ shapes) none e =
     cons_same (found_at (set found at (Some t)) p) (Some s) (map (found_at (set found at (Some t))) parts) (map Some shapes)
     (keeps found at p s t none both.0) (parts_keep found at t parts shapes none both.1)
 
-BuiltFrom-more : (found : List (Option ShapeTree)) (at i : ℕ) (s t : ShapeTree) (cell : Cell) → found_at found at ≡ None → BuiltFrom found i s cell → BuiltFrom (set found at (Some t)) i s cell
-BuiltFrom-more found at i s t Unknown none b = b
-BuiltFrom-more found at i s t (Link j) none b = keeps found at j s t none b
-BuiltFrom-more found at i s t (Rigid a) none b = b
-BuiltFrom-more found at i s t (App c parts) none (shapes, p, e) = (shapes, parts_keep found at t parts.items shapes none p, e)
+built_from_more : (found : List (Option ShapeTree)) (at i : ℕ) (s t : ShapeTree) (cell : Cell) → found_at found at ≡ None → BuiltFrom found i s cell → BuiltFrom (set found at (Some t)) i s cell
+built_from_more found at i s t Unknown none b = b
+built_from_more found at i s t (Link j) none b = keeps found at j s t none b
+built_from_more found at i s t (Rigid a) none b = b
+built_from_more found at i s t (App c parts) none (shapes, p, e) = (shapes, parts_keep found at t parts.items shapes none p, e)
 
 -- the types of parts are instances of their shapes
 parts_general : (cells : List Cell) (found : List (Option ShapeTree)) (types : ℕ → TypeTree) → IsBuilt cells found → Respects cells types → (parts : List ℕ) (shapes : List ShapeTree) → ArePartsFound found parts shapes → type_list (map types parts) ≡ fills types (shape_list shapes)
@@ -65,11 +65,11 @@ parts_general cells found types b r (p ∷ parts) (s ∷ shapes) e =
     (b.general types r p s both.0) (parts_general cells found types b r parts shapes both.1)
 
 -- a shape made of general shapes is general
-BuiltFrom-general : (cells : List Cell) (found : List (Option ShapeTree)) (i : ℕ) (s : ShapeTree) (cell : Cell) (types : ℕ → TypeTree) → IsBuilt cells found → Respects cells types → CellHolds types (types i) cell → BuiltFrom found i s cell → types i ≡ fill types s
-BuiltFrom-general cells found i s Unknown types b r holds e = sym (ap (fill types) e)
-BuiltFrom-general cells found i s (Link j) types b r holds e = holds ∙ b.general types r j s e
-BuiltFrom-general cells found i s (Rigid a) types b r holds e = holds ∙ sym (ap (fill types) e)
-BuiltFrom-general cells found i s (App c parts) types b r holds (shapes, p, e) =
+built_from_general : (cells : List Cell) (found : List (Option ShapeTree)) (i : ℕ) (s : ShapeTree) (cell : Cell) (types : ℕ → TypeTree) → IsBuilt cells found → Respects cells types → CellHolds types (types i) cell → BuiltFrom found i s cell → types i ≡ fill types s
+built_from_general cells found i s Unknown types b r holds e = sym (ap (fill types) e)
+built_from_general cells found i s (Link j) types b r holds e = holds ∙ b.general types r j s e
+built_from_general cells found i s (Rigid a) types b r holds e = holds ∙ sym (ap (fill types) e)
+built_from_general cells found i s (App c parts) types b r holds (shapes, p, e) =
     holds ∙ ap (TyApp c) (parts_general cells found types b r parts.items shapes p) ∙ sym (ap (fill types) e)
 
 -- and one made of shapes with rigid names has rigid names
@@ -80,11 +80,11 @@ parts_rigid cells found b (p ∷ parts) (s ∷ shapes) e =
     let both = cons_parts (found_at found p) (Some s) (map (found_at found) parts) (map Some shapes) e in
     (b.rigid p s both.0, parts_rigid cells found b parts shapes both.1)
 
-BuiltFrom-rigid : (cells : List Cell) (found : List (Option ShapeTree)) (n i : ℕ) (s : ShapeTree) (cell : Cell) → IsBuilt cells found → IsCellIn n i cell → BuiltFrom found i s cell → HasRigidNames s
-BuiltFrom-rigid cells found n i s Unknown b in' e = subst HasRigidNames (sym e) tt
-BuiltFrom-rigid cells found n i s (Link j) b in' e = b.rigid j s e
-BuiltFrom-rigid cells found n i s (Rigid a) b in' e = subst HasRigidNames (sym e) in'
-BuiltFrom-rigid cells found n i s (App c parts) b in' (shapes, p, e) = subst HasRigidNames (sym e) (parts_rigid cells found b parts.items shapes p)
+built_from_rigid : (cells : List Cell) (found : List (Option ShapeTree)) (n i : ℕ) (s : ShapeTree) (cell : Cell) → IsBuilt cells found → IsCellIn n i cell → BuiltFrom found i s cell → HasRigidNames s
+built_from_rigid cells found n i s Unknown b in' e = subst HasRigidNames (sym e) tt
+built_from_rigid cells found n i s (Link j) b in' e = b.rigid j s e
+built_from_rigid cells found n i s (Rigid a) b in' e = subst HasRigidNames (sym e) in'
+built_from_rigid cells found n i s (App c parts) b in' (shapes, p, e) = subst HasRigidNames (sym e) (parts_rigid cells found b parts.items shapes p)
 
 -- and the open slots are among those of the graph
 parts_below : (cells : List Cell) (found : List (Option ShapeTree)) → IsBuilt cells found → (parts : List ℕ) (shapes : List ShapeTree) → ArePartsFound found parts shapes → AllHolesBelow (length cells) (shape_list shapes)
@@ -94,41 +94,41 @@ parts_below cells found b (p ∷ parts) (s ∷ shapes) e =
     let both = cons_parts (found_at found p) (Some s) (map (found_at found) parts) (map Some shapes) e in
     (b.below p s both.0, parts_below cells found b parts shapes both.1)
 
-BuiltFrom-below : (cells : List Cell) (found : List (Option ShapeTree)) (i : ℕ) (s : ShapeTree) (cell : Cell) → i < length cells → IsBuilt cells found → BuiltFrom found i s cell → AreHolesBelow (length cells) s
-BuiltFrom-below cells found i s Unknown lt b e = subst (AreHolesBelow (length cells)) (sym e) lt
-BuiltFrom-below cells found i s (Link j) lt b e = b.below j s e
-BuiltFrom-below cells found i s (Rigid a) lt b e = subst (AreHolesBelow (length cells)) (sym e) tt
-BuiltFrom-below cells found i s (App c parts) lt b (shapes, p, e) = subst (AreHolesBelow (length cells)) (sym e) (parts_below cells found b parts.items shapes p)
+built_from_below : (cells : List Cell) (found : List (Option ShapeTree)) (i : ℕ) (s : ShapeTree) (cell : Cell) → i < length cells → IsBuilt cells found → BuiltFrom found i s cell → AreHolesBelow (length cells) s
+built_from_below cells found i s Unknown lt b e = subst (AreHolesBelow (length cells)) (sym e) lt
+built_from_below cells found i s (Link j) lt b e = b.below j s e
+built_from_below cells found i s (Rigid a) lt b e = subst (AreHolesBelow (length cells)) (sym e) tt
+built_from_below cells found i s (App c parts) lt b (shapes, p, e) = subst (AreHolesBelow (length cells)) (sym e) (parts_below cells found b parts.items shapes p)
 
-pub IsBuilt-more : (cells : List Cell) (found : List (Option ShapeTree)) (at : ℕ) (t : ShapeTree) → at < length found → length found ≡ length cells → found_at found at ≡ None → IsGraph cells → IsBuilt cells found → BuiltFrom found at t (cell_at cells at) → IsBuilt cells (set found at (Some t))
-IsBuilt-more cells found at t lt len none graph b new =
+pub is_built_more : (cells : List Cell) (found : List (Option ShapeTree)) (at : ℕ) (t : ShapeTree) → at < length found → length found ≡ length cells → found_at found at ≡ None → IsGraph cells → IsBuilt cells found → BuiltFrom found at t (cell_at cells at) → IsBuilt cells (set found at (Some t))
+is_built_more cells found at t lt len none graph b new =
     let the_new : (i : ℕ) (s : ShapeTree) → i ≡ at → found_at (set found at (Some t)) i ≡ Some s → t ≡ s =
     λ i s e p. some_same t s (sym (get_or-set_same found at (Some t) None lt) ∙ ap (λ (k : ℕ). found_at (set found at (Some t)) k) (sym e) ∙ p) in
     record {
       built = λ i s p. elim (cases_eq i at) [
         | inl e ↦
             subst (λ (k : ℕ). BuiltFrom (set found at (Some t)) k s (cell_at cells k)) (sym e)
-            (BuiltFrom-more found at at s t (cell_at cells at) none
+            (built_from_more found at at s t (cell_at cells at) none
             (subst (λ (u : ShapeTree). BuiltFrom found at u (cell_at cells at)) (the_new i s e p) new))
-        | inr ne ↦ BuiltFrom-more found at i s t (cell_at cells i) none (b.built i s (sym (get_or-set_other found at i (Some t) None ne) ∙ p))
+        | inr ne ↦ built_from_more found at i s t (cell_at cells i) none (b.built i s (sym (get_or-set_other found at i (Some t) None ne) ∙ p))
       ];
       general = λ types r i s p. elim (cases_eq i at) [
         | inl e ↦
-            ap types e ∙ BuiltFrom-general cells found at t (cell_at cells at) types b r (r.cell at) new ∙ ap (fill types) (the_new i s e p)
+            ap types e ∙ built_from_general cells found at t (cell_at cells at) types b r (r.cell at) new ∙ ap (fill types) (the_new i s e p)
         | inr ne ↦ b.general types r i s (sym (get_or-set_other found at i (Some t) None ne) ∙ p)
       ];
       rigid = λ i s p. elim (cases_eq i at) [
-        | inl e ↦ subst HasRigidNames (the_new i s e p) (BuiltFrom-rigid cells found (length cells) at t (cell_at cells at) b (graph.cell_in at) new)
+        | inl e ↦ subst HasRigidNames (the_new i s e p) (built_from_rigid cells found (length cells) at t (cell_at cells at) b (graph.cell_in at) new)
         | inr ne ↦ b.rigid i s (sym (get_or-set_other found at i (Some t) None ne) ∙ p)
       ];
       below = λ i s p. elim (cases_eq i at) [
-        | inl e ↦ subst (AreHolesBelow (length cells)) (the_new i s e p) (BuiltFrom-below cells found at t (cell_at cells at) (omega (arith, lt, len)) b new)
+        | inl e ↦ subst (AreHolesBelow (length cells)) (the_new i s e p) (built_from_below cells found at t (cell_at cells at) (omega (arith, lt, len)) b new)
         | inr ne ↦ b.below i s (sym (get_or-set_other found at i (Some t) None ne) ∙ p)
       ];
     }
 
-pub missing-less : (found : List (Option ShapeTree)) (at : ℕ) (t : ShapeTree) → at < length found → found_at found at ≡ None → missing (set found at (Some t)) < missing found
-missing-less found at t lt none =
+pub missing_less : (found : List (Option ShapeTree)) (at : ℕ) (t : ShapeTree) → at < length found → found_at found at ≡ None → missing (set found at (Some t)) < missing found
+missing_less found at t lt none =
     let a = sum_by-set none_weight found at (Some t) None lt in
     let g : none_weight (found_at found at) ≡ 1 = ap none_weight none in
     omega (arith, a, g)
@@ -170,8 +170,8 @@ module _ (cells : List Cell) (found : List (Option ShapeTree)) (graph : IsGraph 
   stuck_untypable i lt none = none_below (weight i + 1) i lt (omega arith) none
 
 -- before anything is found
-pub IsBuilt-none : (cells : List Cell) (found : List (Option ShapeTree)) → ((i : ℕ) → found_at found i ≡ None) → IsBuilt cells found
-IsBuilt-none cells found none = record {
+pub is_built_none : (cells : List Cell) (found : List (Option ShapeTree)) → ((i : ℕ) → found_at found i ≡ None) → IsBuilt cells found
+is_built_none cells found none = record {
   built = λ i t p. (let w : found_at found i ≡ None = none i in absurd (none_some t (sym w ∙ p)));
   general = λ types r i t p. (let w : found_at found i ≡ None = none i in absurd (none_some t (sym w ∙ p)));
   rigid = λ i t p. (let w : found_at found i ≡ None = none i in absurd (none_some t (sym w ∙ p)));

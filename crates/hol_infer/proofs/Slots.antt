@@ -11,9 +11,9 @@ use Rattle.hol_infer.specs.declared.cell.Cell.TheVariants.{Unknown}
 use Rattle.hol_infer.specs.declared.generate.Graph.{Graph}
 use Rattle.hol_infer.specs.Graph.{CellHolds, IsGraph}
 use Rattle.hol_infer.specs.Generate.{Solves, slots, slot_of, IsWellFormed, Agree, IsFresh, IsFunction, IsEquated, AddsUnknown, BuildsType, Instantiates, FindsName, pairs_from}
-use Rattle.hol_infer.proofs.Growing.{Solves-agree}
-use Rattle.hol_infer.proofs.Extending.{Agree-trans, extend_fresh}
-use Rattle.hol_infer.proofs.Instances.{put_from, put_from-agree, put_from-at, named_types, subst_same}
+use Rattle.hol_infer.proofs.Growing.{solves_agree}
+use Rattle.hol_infer.proofs.Extending.{agree_trans, extend_fresh}
+use Rattle.hol_infer.proofs.Instances.{put_from, put_from_agree, put_from_at, named_types, subst_same}
 
 pub function_of : (g h : Graph) (slot d r : ℕ) (cell : Cell) → ((types : ℕ → TypeTree) (t : TypeTree) → CellHolds types t cell ↔ (t ≡ fun_type (types d) (types r))) → IsFresh g h slot cell → IsFunction g h slot d r
 function_of g h slot d r cell is fresh = record {
@@ -77,8 +77,8 @@ slot_found xs a c s k P old new e = by (slot_of xs c) refl
     by None f = let q = slot_new xs a c s k f e in subst (λ (j : ℕ). P c j) q.1 (subst (λ (n : List ℕ). P n s) q.0 new)
     by (Some j) f = let q : Some j ≡ Some k = sym (slot_before xs ((a, s) ∷ []) c j f) ∙ e in let i : j ≡ k = cc in subst (λ (n : ℕ). P c n) i (old c j f)
 
-pub FindsName-old : (g : Graph) (a : List ℕ) (slot : ℕ) → IsWellFormed g → slot_of g.names.items a ≡ Some slot → FindsName g g a slot
-FindsName-old g a slot w e = record {
+pub finds_name_old : (g : Graph) (a : List ℕ) (slot : ℕ) → IsWellFormed g → slot_of g.names.items a ≡ Some slot → FindsName g g a slot
+finds_name_old g a slot w e = record {
   well_formed = w;
   more = omega arith;
   slot_in = w.names_in a slot e;
@@ -86,9 +86,9 @@ FindsName-old g a slot w e = record {
   complete = λ type_of types s. (types, record { agree = λ i lt. refl }, s);
 }
 
-pub FindsName-new : (g g1 h : Graph) (a : List ℕ) (slot : ℕ) → IsWellFormed g → slot_of g.names.items a ≡ None → IsFresh g g1 slot Unknown →
+pub finds_name_new : (g g1 h : Graph) (a : List ℕ) (slot : ℕ) → IsWellFormed g → slot_of g.names.items a ≡ None → IsFresh g g1 slot Unknown →
     h.cells.items ≡ g1.cells.items → h.pending.items ≡ g1.pending.items → h.names.items ≡ g1.names.items ++ (a, slot) ∷ [] → FindsName g h a slot
-FindsName-new g g1 h a slot w none fresh cells pending names =
+finds_name_new g g1 h a slot w none fresh cells pending names =
     let len : slots h ≡ slots g + 1 = ap length cells ∙ fresh.slots_are in
     let at = fresh.slot_is in
     let none1 : slot_of g1.names.items a ≡ None = ap (λ (xs : List (List ℕ × ℕ)). slot_of xs a) fresh.names_are ∙ none in
@@ -124,10 +124,10 @@ FindsName-new g g1 h a slot w none fresh cells pending names =
 
 -- ---- an instance of a generic type
 
-pub Instantiates-of : (g g1 g2 h : Graph) (generic : TypeTree) (names : List (List ℕ)) (base slot e : ℕ) → IsWellFormed g → e < slots g →
+pub instantiates_of : (g g1 g2 h : Graph) (generic : TypeTree) (names : List (List ℕ)) (base slot e : ℕ) → IsWellFormed g → e < slots g →
     ((a : List ℕ) → is_among (type_names generic) a ≡ true → is_among names a ≡ true) → base ≡ slots g → AddsUnknown g g1 (length names) →
     BuildsType g1 g2 names base slot generic → IsEquated g2 h slot e → Instantiates g h generic e
-Instantiates-of g g1 g2 h generic names base slot e w e_in covers base_is adds builds same = record {
+instantiates_of g g1 g2 h generic names base slot e w e_in covers base_is adds builds same = record {
   well_formed = same.well_formed;
   more = (let n1 = adds.slots_are in let m = builds.more in let n = same.slots_are in omega (arith, n1, m, n));
   sound = λ type_of types s.
@@ -138,12 +138,12 @@ Instantiates-of g g1 g2 h generic names base slot e w e_in covers base_is adds b
       let n1 = adds.slots_are in
       let at = λ (k : ℕ). type_for pairs (get_or names k []) in
       let types1 = put_from types (slots g) at in
-      let agree1 : Agree (slots g) types types1 = put_from-agree types (slots g) at in
-      let s1 : Solves g1 type_of types1 = (adds.solves type_of types1).1 (Solves-agree g type_of types types1 w agree1 s) in
+      let agree1 : Agree (slots g) types types1 = put_from_agree types (slots g) at in
+      let s1 : Solves g1 type_of types1 = (adds.solves type_of types1).1 (solves_agree g type_of types types1 w agree1 s) in
       let x = builds.complete type_of types1 s1 in
-      let agree2 : Agree (slots g) types x.0 = Agree-trans (slots g) (slots g1) types types1 x.0 (omega (arith, n1)) agree1 x.1 in
+      let agree2 : Agree (slots g) types x.0 = agree_trans (slots g) (slots g1) types types1 x.0 (omega (arith, n1)) agree1 x.1 in
       let each : (k : ℕ) → k < length names → x.0 (base + k) ≡ type_for pairs (get_or names k []) =
-      λ k lt. sym (x.1.agree (base + k) (omega (arith, n1, base_is))) ∙ ap (λ (b : ℕ). types1 (b + k)) base_is ∙ put_from-at types (slots g) at k in
+      λ k lt. sym (x.1.agree (base + k) (omega (arith, n1, base_is))) ∙ ap (λ (b : ℕ). types1 (b + k)) base_is ∙ put_from_at types (slots g) at k in
       let slot_is : x.0 slot ≡ type_subst pairs generic =
       (builds.sound type_of x.0 x.2).1 ∙ subst_same (pairs_from x.0 base names) pairs generic (λ a m. named_types pairs x.0 base names a each (covers a m)) in
       let e2 : types e ≡ x.0 e = agree2.agree e e_in in

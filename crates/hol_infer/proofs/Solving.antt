@@ -5,16 +5,16 @@ use Rattle.hol_types.specs.Tree.{TypeTree}
 use Rattle.hol_infer.specs.declared.cell.Cell.{Cell}
 use Rattle.hol_infer.specs.declared.cell.Equation.{Equation}
 use Rattle.hol_infer.specs.Graph.{Respects, EquationHolds, SameSolutions, HasNoSolution}
-use Rattle.hol_infer.proofs.Growing.{All-last}
+use Rattle.hol_infer.proofs.Growing.{all_last}
 
-pub SameSolutions-refl : (cells : List Cell) (pending : List Equation) → SameSolutions cells pending cells pending
-SameSolutions-refl cells pending types = (λ s. s, λ s. s)
+pub same_solutions_refl : (cells : List Cell) (pending : List Equation) → SameSolutions cells pending cells pending
+same_solutions_refl cells pending types = (λ s. s, λ s. s)
 
-pub SameSolutions-trans : (a b c : List Cell) (p q r : List Equation) → SameSolutions a p b q → SameSolutions b q c r → SameSolutions a p c r
-SameSolutions-trans a b c p q r h g types = (λ s. (g types).0 ((h types).0 s), λ s. (h types).1 ((g types).1 s))
+pub same_solutions_trans : (a b c : List Cell) (p q r : List Equation) → SameSolutions a p b q → SameSolutions b q c r → SameSolutions a p c r
+same_solutions_trans a b c p q r h g types = (λ s. (g types).0 ((h types).0 s), λ s. (h types).1 ((g types).1 s))
 
-pub HasNoSolution-same : (a b : List Cell) (p q : List Equation) → SameSolutions a p b q → HasNoSolution a p → HasNoSolution b q
-HasNoSolution-same a b p q h none types s = none types ((h types).1 s)
+pub has_no_solution_same : (a b : List Cell) (p q : List Equation) → SameSolutions a p b q → HasNoSolution a p → HasNoSolution b q
+has_no_solution_same a b p q h none types s = none types ((h types).1 s)
 
 -- an equation of two slots says what one of other slots of the same types says
 pub same_edge : (cells : List Cell) (pending : List Equation) (d e : Equation) →
@@ -48,7 +48,7 @@ last_first cells pending e types = (
     equations = All-push (EquationHolds types) pending e (All-tail (EquationHolds types) e pending s.equations) (All-head (EquationHolds types) e pending s.equations);
   },
   λ s.
-      let parts = All-last (EquationHolds types) pending e s.equations in
+      let parts = all_last (EquationHolds types) pending e s.equations in
       record { respects = s.respects; equations = All-cons (EquationHolds types) e pending parts.1 parts.0 },
 )
 

@@ -1,6 +1,7 @@
 -- The most general typing of a term that stands stands too: what does not stand in its types could be taken out, and substitution
 -- takes nothing out.
 use Rattle.std.proofs.Common.{◌≡◌, ℕ, suc, List, [], ◌∷◌, map, refl, sym, ◌∙◌, ap, subst, Bool, true, false, ◌&&◌, ◌==◌, cond, bytes_eq, codes, Option, Some, None}
+use Rattle.std.proofs.lemmas.Bool.{and_parts, and_from}
 use Rattle.std.specs.Prelude.{unwrap_or}
 use Rattle.std.specs.Option.{option_map}
 use Rattle.std.proofs.lemmas.Option.{slice_get-map}
@@ -25,17 +26,6 @@ abbrev mutual
   all_trimmed takes no_types = no_types
   all_trimmed takes (more_types t ts) = more_types (trimmed takes t) (all_trimmed takes ts)
 
-pub and_left : (a b : Bool) → (a && b) ≡ true → a ≡ true
-and_left true b h = refl
-and_left false b h = h
-
-pub and_right : (a b : Bool) → (a && b) ≡ true → b ≡ true
-and_right true b h = h
-and_right false b h = absurd (cc)
-
-pub and_both : (a b : Bool) → a ≡ true → b ≡ true → (a && b) ≡ true
-and_both a b p q = rw (p, q) refl
-
 -- a part that takes so many arguments stays
 trimmed_app : (takes : List ℕ → ℕ → Bool) (c : List ℕ) (ts : TypeList) → takes c (types_count ts) ≡ true → trimmed takes (TyApp c ts) ≡ TyApp c (all_trimmed takes ts)
 trimmed_app takes c ts e = ap (λ (b : Bool). cond b (TyApp c (all_trimmed takes ts)) (TyVar [])) e
@@ -44,12 +34,12 @@ mutual
   trimmed_same : (takes : List ℕ → ℕ → Bool) (t : TypeTree) → stands takes t ≡ true → trimmed takes t ≡ t
   trimmed_same takes (TyVar a) h = refl
   trimmed_same takes (TyApp c ts) h =
-      trimmed_app takes c ts (and_left (takes c (types_count ts)) (all_stand takes ts) h)
-      ∙ ap (TyApp c) (all_trimmed_same takes ts (and_right (takes c (types_count ts)) (all_stand takes ts) h))
+      trimmed_app takes c ts ((and_parts (takes c (types_count ts)) (all_stand takes ts) h).0)
+      ∙ ap (TyApp c) (all_trimmed_same takes ts ((and_parts (takes c (types_count ts)) (all_stand takes ts) h).1))
 
   all_trimmed_same : (takes : List ℕ → ℕ → Bool) (ts : TypeList) → all_stand takes ts ≡ true → all_trimmed takes ts ≡ ts
   all_trimmed_same takes no_types h = refl
-  all_trimmed_same takes (more_types t ts) h = λ i. more_types (trimmed_same takes t (and_left (stands takes t) (all_stand takes ts) h) i) (all_trimmed_same takes ts (and_right (stands takes t) (all_stand takes ts) h) i)
+  all_trimmed_same takes (more_types t ts) h = λ i. more_types (trimmed_same takes t ((and_parts (stands takes t) (all_stand takes ts) h).0) i) (all_trimmed_same takes ts ((and_parts (stands takes t) (all_stand takes ts) h).1) i)
 
 trimmed_fun : (takes : List ℕ → ℕ → Bool) (s t : TypeTree) → takes (codes "fun") 2 ≡ true → trimmed takes (fun_type s t) ≡ fun_type (trimmed takes s) (trimmed takes t)
 trimmed_fun takes s t e = trimmed_app takes (codes "fun") (more_types s (more_types t no_types)) e
@@ -74,12 +64,12 @@ mutual
   trimmed_subst : (takes : List ℕ → ℕ → Bool) (pairs : List (TypeTree × List ℕ)) (t : TypeTree) → stands takes t ≡ true → trimmed takes (type_subst pairs t) ≡ type_subst (map (trimmed_pair takes) pairs) t
   trimmed_subst takes pairs (TyVar a) h = sym (trimmed_for takes pairs a)
   trimmed_subst takes pairs (TyApp c ts) h =
-      trimmed_app takes c (types_subst pairs ts) (ap (takes c) (count_subst pairs ts) ∙ and_left (takes c (types_count ts)) (all_stand takes ts) h)
-      ∙ ap (TyApp c) (all_trimmed_subst takes pairs ts (and_right (takes c (types_count ts)) (all_stand takes ts) h))
+      trimmed_app takes c (types_subst pairs ts) (ap (takes c) (count_subst pairs ts) ∙ (and_parts (takes c (types_count ts)) (all_stand takes ts) h).0)
+      ∙ ap (TyApp c) (all_trimmed_subst takes pairs ts ((and_parts (takes c (types_count ts)) (all_stand takes ts) h).1))
 
   all_trimmed_subst : (takes : List ℕ → ℕ → Bool) (pairs : List (TypeTree × List ℕ)) (ts : TypeList) → all_stand takes ts ≡ true → all_trimmed takes (types_subst pairs ts) ≡ types_subst (map (trimmed_pair takes) pairs) ts
   all_trimmed_subst takes pairs no_types h = refl
-  all_trimmed_subst takes pairs (more_types t ts) h = λ i. more_types (trimmed_subst takes pairs t (and_left (stands takes t) (all_stand takes ts) h) i) (all_trimmed_subst takes pairs ts (and_right (stands takes t) (all_stand takes ts) h) i)
+  all_trimmed_subst takes pairs (more_types t ts) h = λ i. more_types (trimmed_subst takes pairs t ((and_parts (stands takes t) (all_stand takes ts) h).0) i) (all_trimmed_subst takes pairs ts ((and_parts (stands takes t) (all_stand takes ts) h).1) i)
 
 -- ---- a type that substitution trims stands
 
@@ -95,7 +85,7 @@ mutual
   subst_all_stand : (takes : List ℕ → ℕ → Bool) (pairs : List (TypeTree × List ℕ)) (ts : TypeList) → types_subst pairs ts ≡ all_trimmed takes ts → all_stand takes ts ≡ true
   subst_all_stand takes pairs no_types e = refl
   subst_all_stand takes pairs (more_types t ts) e =
-      and_both (stands takes t) (all_stand takes ts) (subst_stands takes pairs t (first_same e)) (subst_all_stand takes pairs ts (rest_same e))
+      and_from (stands takes t) (all_stand takes ts) (subst_stands takes pairs t (first_same e)) (subst_all_stand takes pairs ts (rest_same e))
     where
       first_same : more_types (type_subst pairs t) (types_subst pairs ts) ≡ more_types (trimmed takes t) (all_trimmed takes ts) → type_subst pairs t ≡ trimmed takes t
       first_same e = cc

@@ -1,6 +1,6 @@
 -- What is resolved among names that stand stands, and so do its readings.
 use Rattle.std.proofs.Common.{◌≡◌, ℕ, List, [], ◌∷◌, refl, sym, ◌∙◌, ap, subst, Bool, true, false, ◌&&◌, cond, bytes_eq, codes, arith, Option, Some, None}
-use Rattle.std.proofs.lemmas.Bool.{eqb-true}
+use Rattle.std.proofs.lemmas.Bool.{eqb-true, and_parts, and_from}
 use Rattle.std.specs.Option.{option_map}
 use Rattle.std.proofs.lemmas.Slice.Eq.{bytes_eq-Decides}
 use Rattle.hol_types.specs.Tree.{TypeTree}
@@ -12,7 +12,7 @@ use Rattle.hol_infer.specs.Raw.{RawTree}
 use Rattle.hol_infer.specs.Reading.{IsReading}
 use Rattle.hol_infer.specs.Resolving.{arity_of, generic_type_of, ident_type, type_of_text, types_of_texts, text_count, stands_alone, takes as takes_count, has_arities, have_arities, option_has_arities, term_has_arities, name_index, resolved, identifier, resolved_sign, sign, operator_raw, raw_of, annotated, at_bool, value_raw, value_has_arities, definition_has_arities, without, definition_raw}
 use Rattle.hol_infer.specs.Standing.{types_count, stands, all_stand, TermStands, AreStanding}
-use Rattle.hol_infer.proofs.Standing.{and_left, and_right, and_both, OptionStands, RawStands, principal_stands}
+use Rattle.hol_infer.proofs.Standing.{OptionStands, RawStands, principal_stands}
 
 count_texts : (arities : List (List ℕ × ℕ)) (ts : TypeTexts) → types_count (types_of_texts arities ts) ≡ text_count ts
 count_texts arities no_texts = refl
@@ -51,7 +51,7 @@ without_found c constants x g e = by (bytes_eq c x) refl
 module _ (takes : List ℕ → ℕ → Bool) (has : List ℕ → TypeTree → Bool) (arities : List (List ℕ × ℕ)) where
   ident_stands : (constants : List (List ℕ × TypeTree)) → AreStanding takes has arities constants → (a : List ℕ) (o : Option ℕ) → arity_of arities a ≡ o → stands_alone o ≡ true → stands takes (ident_type o a) ≡ true
   ident_stands constants s a None e h = refl
-  ident_stands constants s a (Some n) e h = and_both (takes a 0) true (subst (λ (k : ℕ). takes a k ≡ true) (eqb-true n 0 h) (s.constructors a n e)) refl
+  ident_stands constants s a (Some n) e h = and_from (takes a 0) true (subst (λ (k : ℕ). takes a k ≡ true) (eqb-true n 0 h) (s.constructors a n e)) refl
 
   takes_stands : (constants : List (List ℕ × TypeTree)) → AreStanding takes has arities constants → (c : List ℕ) (k : ℕ) (o : Option ℕ) → arity_of arities c ≡ o → takes_count o k ≡ true → takes c k ≡ true
   takes_stands constants s c k None e h = absurd (cc)
@@ -61,19 +61,19 @@ module _ (takes : List ℕ → ℕ → Bool) (has : List ℕ → TypeTree → Bo
     type_stands : (constants : List (List ℕ × TypeTree)) → AreStanding takes has arities constants → (t : TypeText) → has_arities arities t ≡ true → stands takes (type_of_text arities t) ≡ true
     type_stands constants s (Ident a) h = ident_stands constants s a (arity_of arities a) refl h
     type_stands constants s (Arrow t u) h =
-        let p : stands takes (type_of_text arities t) ≡ true = type_stands constants s t (and_left (has_arities arities t) (has_arities arities u) h) in
-        let q : stands takes (type_of_text arities u) ≡ true = type_stands constants s u (and_right (has_arities arities t) (has_arities arities u) h) in
-        and_both (takes (codes "fun") 2) (stands takes (type_of_text arities t) && (stands takes (type_of_text arities u) && true)) s.functions
-        (and_both (stands takes (type_of_text arities t)) (stands takes (type_of_text arities u) && true) p (and_both (stands takes (type_of_text arities u)) true q refl))
+        let p : stands takes (type_of_text arities t) ≡ true = type_stands constants s t ((and_parts (has_arities arities t) (has_arities arities u) h).0) in
+        let q : stands takes (type_of_text arities u) ≡ true = type_stands constants s u ((and_parts (has_arities arities t) (has_arities arities u) h).1) in
+        and_from (takes (codes "fun") 2) (stands takes (type_of_text arities t) && (stands takes (type_of_text arities u) && true)) s.functions
+        (and_from (stands takes (type_of_text arities t)) (stands takes (type_of_text arities u) && true) p (and_from (stands takes (type_of_text arities u)) true q refl))
     type_stands constants s (Apply c ts) h =
-        and_both (takes c (types_count (types_of_texts arities ts))) (all_stand takes (types_of_texts arities ts))
-        (ap (takes c) (count_texts arities ts) ∙ takes_stands constants s c (text_count ts) (arity_of arities c) refl (and_left (takes_count (arity_of arities c) (text_count ts)) (have_arities arities ts) h))
-        (types_stand constants s ts (and_right (takes_count (arity_of arities c) (text_count ts)) (have_arities arities ts) h))
+        and_from (takes c (types_count (types_of_texts arities ts))) (all_stand takes (types_of_texts arities ts))
+        (ap (takes c) (count_texts arities ts) ∙ takes_stands constants s c (text_count ts) (arity_of arities c) refl ((and_parts (takes_count (arity_of arities c) (text_count ts)) (have_arities arities ts) h).0))
+        (types_stand constants s ts ((and_parts (takes_count (arity_of arities c) (text_count ts)) (have_arities arities ts) h).1))
 
     types_stand : (constants : List (List ℕ × TypeTree)) → AreStanding takes has arities constants → (ts : TypeTexts) → have_arities arities ts ≡ true → all_stand takes (types_of_texts arities ts) ≡ true
     types_stand constants s no_texts h = refl
     types_stand constants s (more_texts t ts) h =
-        and_both (stands takes (type_of_text arities t)) (all_stand takes (types_of_texts arities ts)) (type_stands constants s t (and_left (has_arities arities t) (have_arities arities ts) h)) (types_stand constants s ts (and_right (has_arities arities t) (have_arities arities ts) h))
+        and_from (stands takes (type_of_text arities t)) (all_stand takes (types_of_texts arities ts)) (type_stands constants s t ((and_parts (has_arities arities t) (have_arities arities ts) h).0)) (types_stand constants s ts ((and_parts (has_arities arities t) (have_arities arities ts) h).1))
 
   option_stands : (constants : List (List ℕ × TypeTree)) → AreStanding takes has arities constants → (o : Option TypeText) → option_has_arities arities o ≡ true → OptionStands takes (option_map (type_of_text arities) o)
   option_stands constants s None h = tt
@@ -111,11 +111,11 @@ module _ (takes : List ℕ → ℕ → Bool) (has : List ℕ → TypeTree → Bo
   raw_stands constants s names (Named x) h = identifier_stands constants s names x
   raw_stands constants s names (Constant c) h = operator_stands constants s names c
   raw_stands constants s names (Applied f a) h =
-      (raw_stands constants s names f (and_left (term_has_arities arities f) (term_has_arities arities a) h), raw_stands constants s names a (and_right (term_has_arities arities f) (term_has_arities arities a) h))
+      (raw_stands constants s names f ((and_parts (term_has_arities arities f) (term_has_arities arities a) h).0), raw_stands constants s names a ((and_parts (term_has_arities arities f) (term_has_arities arities a) h).1))
   raw_stands constants s names (Abstraction v b) h =
-      (option_stands constants s v.annotation (and_left (option_has_arities arities v.annotation) (term_has_arities arities b) h), raw_stands constants s (v.name ∷ names) b (and_right (option_has_arities arities v.annotation) (term_has_arities arities b) h))
+      (option_stands constants s v.annotation ((and_parts (option_has_arities arities v.annotation) (term_has_arities arities b) h).0), raw_stands constants s (v.name ∷ names) b ((and_parts (option_has_arities arities v.annotation) (term_has_arities arities b) h).1))
   raw_stands constants s names (Typed t ty) h =
-      (raw_stands constants s names t (and_left (term_has_arities arities t) (has_arities arities ty) h), type_stands constants s ty (and_right (term_has_arities arities t) (has_arities arities ty) h))
+      (raw_stands constants s names t ((and_parts (term_has_arities arities t) (has_arities arities ty) h).0), type_stands constants s ty ((and_parts (term_has_arities arities t) (has_arities arities ty) h).1))
 
   annotated_stands : (o : Option TypeTree) (r : RawTree) → OptionStands takes o → RawStands takes has r → RawStands takes has (annotated o r)
   annotated_stands None r p h = h
@@ -129,10 +129,10 @@ module _ (takes : List ℕ → ℕ → Bool) (has : List ℕ → TypeTree → Bo
   value_stands constants s names [] r h =
       at_bool_stands constants s r.is_iff (annotated (option_map (type_of_text arities) r.annotation) (raw_of arities constants names r.term))
       (annotated_stands (option_map (type_of_text arities) r.annotation) (raw_of arities constants names r.term)
-          (option_stands constants s r.annotation (and_right (term_has_arities arities r.term) (option_has_arities arities r.annotation) h))
-          (raw_stands constants s names r.term (and_left (term_has_arities arities r.term) (option_has_arities arities r.annotation) h)))
+          (option_stands constants s r.annotation ((and_parts (term_has_arities arities r.term) (option_has_arities arities r.annotation) h).1))
+          (raw_stands constants s names r.term ((and_parts (term_has_arities arities r.term) (option_has_arities arities r.annotation) h).0)))
   value_stands constants s names (v ∷ vs) r h =
-      (option_stands constants s v.annotation (and_left (option_has_arities arities v.annotation) (value_has_arities arities vs r) h), value_stands constants s (v.name ∷ names) vs r (and_right (option_has_arities arities v.annotation) (value_has_arities arities vs r) h))
+      (option_stands constants s v.annotation ((and_parts (option_has_arities arities v.annotation) (value_has_arities arities vs r) h).0), value_stands constants s (v.name ∷ names) vs r ((and_parts (option_has_arities arities v.annotation) (value_has_arities arities vs r) h).1))
 
 without_standing : (takes : List ℕ → ℕ → Bool) (has : List ℕ → TypeTree → Bool) (arities : List (List ℕ × ℕ)) (constants : List (List ℕ × TypeTree)) (c : List ℕ) → AreStanding takes has arities constants → AreStanding takes has arities (without c constants)
 without_standing takes has arities constants c s = record {

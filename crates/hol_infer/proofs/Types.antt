@@ -11,7 +11,7 @@ use Rattle.hol_infer.specs.declared.cell.Cell.TheVariants.{Rigid}
 use Rattle.hol_infer.specs.declared.generate.Graph.{Graph}
 use Rattle.hol_infer.specs.Graph.{CellHolds}
 use Rattle.hol_infer.specs.Generate.{slots, IsWellFormed, IsNewCell, IsFresh, HasNoPlace, IsRigidBut, AreRigidBut, BuildsType, BuildsTypes}
-use Rattle.hol_infer.proofs.Extending.{BuildsType-rigid, BuildsTypes-more, BuildsType-app}
+use Rattle.hol_infer.proofs.Extending.{builds_type_rigid, builds_types_more, builds_type_app}
 
 pub types_step : (g g1 h : Graph) (names : List (List ℕ)) (base : ℕ) (parts parts' : List ℕ) (tys : List TypeTree) (i part : ℕ) (ty : TypeTree) → i < length tys → ty ≡ get_or tys i ty → parts' ≡ parts ++ part ∷ [] →
     BuildsTypes g g1 names base parts (take i tys) → BuildsType g1 h names base part ty → BuildsTypes g h names base parts' (take (i + 1) tys)
@@ -19,7 +19,7 @@ types_step g g1 h names base parts parts' tys i part ty lt e p b c =
     let q : take (i + 1) tys ≡ take i tys ++ ty ∷ [] = take_more tys i ty lt ∙ ap (λ (t : TypeTree). take i tys ++ t ∷ []) (sym e) in
     subst (λ (xs : List ℕ). BuildsTypes g h names base xs (take (i + 1) tys)) (sym p)
     (subst (λ (ts : List TypeTree). BuildsTypes g h names base (parts ++ part ∷ []) ts) (sym q)
-    (BuildsTypes-more g g1 h names base parts (take i tys) part ty b c))
+    (builds_types_more g g1 h names base parts (take i tys) part ty b c))
 
 pub rigid_step : (names : List (List ℕ)) (tys : List TypeTree) (i : ℕ) (ty : TypeTree) → i < length tys → ty ≡ get_or tys i ty → AreRigidBut names (type_list (drop i tys)) → IsRigidBut names ty × AreRigidBut names (type_list (drop (i + 1) tys))
 rigid_step names tys i ty lt e h = subst (λ (ts : List TypeTree). AreRigidBut names (type_list ts)) (next_of tys i ty lt e) h
@@ -28,7 +28,7 @@ pub rigid_slot : (g h : Graph) (names : List (List ℕ)) (base slot : ℕ) (ty :
 rigid_slot g h names base slot ty a b w e n rigid none fresh =
     let r : is_among names a ≡ false → IsOpen a → ⊥ = subst (λ (t : TypeTree). IsRigidBut names t) (sym e) rigid in
     subst (λ (t : TypeTree). BuildsType g h names base slot t) e
-    (BuildsType-rigid g h names base slot a w (r none.not_among) none (subst (λ (c : List ℕ). IsFresh g h slot (Rigid c)) n fresh))
+    (builds_type_rigid g h names base slot a w (r none.not_among) none (subst (λ (c : List ℕ). IsFresh g h slot (Rigid c)) n fresh))
 
 pub app_slot : (g g1 h : Graph) (names : List (List ℕ)) (base slot : ℕ) (ty : TypeTree) (c b : List ℕ) (cell : Cell) (parts : List ℕ) (args items : List TypeTree) (i : ℕ) →
     ((types : ℕ → TypeTree) (t : TypeTree) → CellHolds types t cell ↔ (t ≡ TyApp b (type_list (map types parts)))) → IsNewCell (slots g1) cell →
@@ -37,7 +37,7 @@ app_slot g g1 h names base slot ty c b cell parts args items i is new e n p len 
     let all : BuildsTypes g g1 names base parts args = subst (λ (ts : List TypeTree). BuildsTypes g g1 names base parts ts) (take_all i items len ∙ p) b' in
     subst (λ (t : TypeTree). BuildsType g h names base slot t) e
     (subst (λ (d : List ℕ). BuildsType g h names base slot (TyApp d (type_list args))) n
-    (BuildsType-app g g1 h names base slot b cell parts args is new all fresh))
+    (builds_type_app g g1 h names base slot b cell parts args is new all fresh))
 
 -- an argument has fewer nodes than the whole
 item_size : (items : List TypeTree) (i : ℕ) (d : TypeTree) → i < length items → type_size (get_or items i d) ≤ types_size (type_list items)

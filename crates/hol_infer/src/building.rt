@@ -68,13 +68,10 @@ fn slot_type(
     requires { slot < length shapes.now }
     ensures { IfOk result (λ t. t ≡ types_at shapes.now (open_type order.now) slot) }
 {
-    let ty = shapes[slot].ty(alloc, order)?;
-    Ok(ty)
+    shapes[slot].ty(alloc, order)
 }
 
 /// The term of the skeleton, under binders.
-///
-/// Answers `Memory` where memory is short, and no other error.
 pub fn build(
     alloc: Global,
     shapes: &[Shape],
@@ -90,17 +87,17 @@ pub fn build(
 {
     match term {
         Skeleton::Bound(index) => match variable_at(scope, *index) {
-            Some(variable) => Term::var(alloc, variable),
+            Some(variable) => Ok(Term::var(alloc, variable)?),
             None => Err(TermError::NotAVariable),
         },
         Skeleton::Constant(name, slot) => {
             let ty = slot_type(alloc, shapes, order, *slot)?;
-            Term::constant(alloc, name, &ty)
+            Ok(Term::constant(alloc, name, &ty)?)
         }
         Skeleton::Free(name, slot) => {
             let ty = slot_type(alloc, shapes, order, *slot)?;
             let variable = Variable::new(name, &ty)?;
-            Term::var(alloc, &variable)
+            Ok(Term::var(alloc, &variable)?)
         }
         Skeleton::Apply(function, argument) => {
             let left = build(alloc, shapes, order, &*scope, function)?;
@@ -112,7 +109,7 @@ pub fn build(
             let variable = Variable::new(name, &ty)?;
             let inside = Scope::Inside(&variable, &*scope);
             let inner = build(alloc, shapes, order, &inside, body)?;
-            Term::abstraction(alloc, &variable, &inner)
+            Ok(Term::abstraction(alloc, &variable, &inner)?)
         }
     }
 }

@@ -1,7 +1,5 @@
 //! Definitions as they are written.
-ghost use Rattle.std.specs.Prelude.{◌≡◌, map, IfOk, IfErr, true, false};
-ghost use Rattle.hol_notation_terms.specs.VariableView.{variable_text};
-ghost use Rattle.hol_notation_terms.specs.DefinitionView.{right_side_text, definition_text};
+ghost use Rattle.std.specs.Prelude.{◌≡◌, IfOk, IfErr, true, false};
 ghost use Rattle.hol_infer.specs.NamesView.{scope_names};
 ghost use Rattle.hol_infer.specs.RawView.{raw_tree};
 ghost use Rattle.hol_infer.specs.Resolving.{annotated, at_bool, right_raw, value_raw, right_has_arities, value_has_arities, definition_has_arities, without, definition_raw};
@@ -45,8 +43,8 @@ fn resolve_right(
     names: &Names<'_>,
     right: &RightSide,
 ) -> Result<RawTerm, ResolveError>
-    ensures ok { IfOk result (λ t. (raw_tree t ≡ right_raw arities.now constants.now (scope_names names.now) (right_side_text right.now)) × (right_has_arities arities.now (right_side_text right.now) ≡ true)) }
-    ensures arity { IfErr result (λ e. e ≡ ResolveError.Arity → right_has_arities arities.now (right_side_text right.now) ≡ false) }
+    ensures ok { IfOk result (λ t. (raw_tree t ≡ right_raw arities.now constants.now (scope_names names.now) right.now) × (right_has_arities arities.now right.now ≡ true)) }
+    ensures arity { IfErr result (λ e. e ≡ ResolveError.Arity → right_has_arities arities.now right.now ≡ false) }
 {
     let term = resolve(alloc, constants, arities, &*names, &right.term)?;
     let annotation = resolve_annotation(alloc, arities, &right.annotation)?;
@@ -63,8 +61,8 @@ fn resolve_value(
     variables: &[PreVariable],
     right: &RightSide,
 ) -> Result<RawTerm, ResolveError>
-    ensures ok { IfOk result (λ t. (raw_tree t ≡ value_raw arities.now constants.now (scope_names names.now) (map variable_text variables.now) (right_side_text right.now)) × (value_has_arities arities.now (map variable_text variables.now) (right_side_text right.now) ≡ true)) }
-    ensures arity { IfErr result (λ e. e ≡ ResolveError.Arity → value_has_arities arities.now (map variable_text variables.now) (right_side_text right.now) ≡ false) }
+    ensures ok { IfOk result (λ t. (raw_tree t ≡ value_raw arities.now constants.now (scope_names names.now) variables.now right.now) × (value_has_arities arities.now variables.now right.now ≡ true)) }
+    ensures arity { IfErr result (λ e. e ≡ ResolveError.Arity → value_has_arities arities.now variables.now right.now ≡ false) }
 {
     match variables.split_first() {
         None => resolve_right(alloc, constants, arities, &*names, right),
@@ -103,8 +101,8 @@ pub fn resolve_definition(
     arities: &[(Name, usize)],
     definition: &Definition,
 ) -> Result<RawTerm, ResolveError>
-    ensures ok { IfOk result (λ t. (raw_tree t ≡ definition_raw arities.now constants.now (definition_text definition.now)) × (definition_has_arities arities.now (definition_text definition.now) ≡ true)) }
-    ensures arity { IfErr result (λ e. e ≡ ResolveError.Arity → definition_has_arities arities.now (definition_text definition.now) ≡ false) }
+    ensures ok { IfOk result (λ t. (raw_tree t ≡ definition_raw arities.now constants.now definition.now) × (definition_has_arities arities.now definition.now ≡ true)) }
+    ensures arity { IfErr result (λ e. e ≡ ResolveError.Arity → definition_has_arities arities.now definition.now ≡ false) }
 {
     let defined = definition.name.as_str();
     let others = without(alloc, constants, defined)?;

@@ -4,7 +4,6 @@ ghost use Rattle.hol_types.specs.Tree.{type_size};
 ghost use Rattle.hol_terms.specs.Nameless.{nameless};
 ghost use Rattle.hol_terms.specs.Size.{term_size};
 ghost use Rattle.hol_infer.specs.Resolving.{type_of_text, has_arities, term_has_arities, raw_of, definition_has_arities, definition_raw};
-ghost use Rattle.hol_notation_terms.specs.DefinitionView.{definition_text};
 ghost use Rattle.hol_infer.specs.Typing.{HasNoTyping};
 ghost use Rattle.hol_infer.specs.Reading.{IsReading, HasLargeReading};
 
@@ -56,12 +55,12 @@ pub fn elaborate_definition(
     constants: &[(Name, Ty)],
     arities: &[(Name, usize)],
 ) -> Result<Term, ReadingError>
-    ensures arities { IfOk result (λ t. definition_has_arities arities.now (definition_text definition.now) ≡ true) }
-    ensures reading { IfOk result (λ t. IsReading (definition_raw arities.now constants.now (definition_text definition.now)) (nameless [] t)) }
+    ensures arities { IfOk result (λ t. definition_has_arities arities.now definition.now ≡ true) }
+    ensures reading { IfOk result (λ t. IsReading (definition_raw arities.now constants.now definition.now) (nameless [] t)) }
     ensures small { IfOk result (λ t. term_size [] (nameless [] t) ≤ 20000) }
-    ensures arity { IfErr result (λ e. e ≡ ReadingError.Arity → definition_has_arities arities.now (definition_text definition.now) ≡ false) }
-    ensures untypable { IfErr result (λ e. e ≡ ReadingError.Untypable → (definition_has_arities arities.now (definition_text definition.now) ≡ true) × HasNoTyping (definition_raw arities.now constants.now (definition_text definition.now))) }
-    ensures too_large { IfErr result (λ e. e ≡ ReadingError.TooLarge → (definition_has_arities arities.now (definition_text definition.now) ≡ true) × HasLargeReading (definition_raw arities.now constants.now (definition_text definition.now))) }
+    ensures arity { IfErr result (λ e. e ≡ ReadingError.Arity → definition_has_arities arities.now definition.now ≡ false) }
+    ensures untypable { IfErr result (λ e. e ≡ ReadingError.Untypable → (definition_has_arities arities.now definition.now ≡ true) × HasNoTyping (definition_raw arities.now constants.now definition.now)) }
+    ensures too_large { IfErr result (λ e. e ≡ ReadingError.TooLarge → (definition_has_arities arities.now definition.now ≡ true) × HasLargeReading (definition_raw arities.now constants.now definition.now)) }
 {
     match resolve_definition(alloc, constants, arities, definition) {
         Ok(equation) => read(alloc, &equation),

@@ -167,8 +167,6 @@ impl Graph {
     }
 
     /// Adds slots and equations for the term, whose type is that of the slot `expected`.
-    ///
-    /// Answers an error where memory is short, and nowhere else.
     pub fn generate(
         &mut self,
         alloc: Global,

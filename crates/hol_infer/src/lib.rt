@@ -1,4 +1,6 @@
 //! The types that inference gives to terms as they are written.
+//!
+//! A call that answers a `Result` answers the error of memory where memory is short, and nowhere else.
 #![tactic(auto)]
 
 mod building;

@@ -61,8 +61,8 @@ fn named(alloc: Global, shapes: &[Shape], skeleton: &Skeleton) -> Result<Term, T
 
 /// The reading of a term whose identifiers are resolved: the most general typing, its open types named as they occur.
 ///
-/// Answers `Untypable` exactly where there is no typing, `TooLarge` exactly where the most general typings, which are all of one size,
-/// have over 20,000 nodes, and `Memory` where memory is short.
+/// Answers `Untypable` exactly where there is no typing, and `TooLarge` exactly where the most general typings, which are all of one size,
+/// have over 20,000 nodes.
 pub fn read(alloc: Global, term: &RawTerm) -> Result<Term, ReadingError>
     requires scoped { IsScoped [] (raw_tree term.now) }
     requires rigid { HasRigidAnnotations (raw_tree term.now) }

@@ -142,8 +142,8 @@ fn ident_type(alloc: Global, arities: &[(Name, usize)], name: &str) -> Result<Ty
 
 /// The type that is written, among constructors of these arities.
 ///
-/// Answers `Arity` exactly where a constructor stands with another number of arguments than its arity, or arguments are given to a
-/// name that is no constructor, and `Memory` where memory is short.
+/// Answers `Arity` only where a constructor stands with another number of arguments than its arity, or arguments are given to a name
+/// that is no constructor.
 pub fn resolve_type(
     alloc: Global,
     arities: &[(Name, usize)],
@@ -157,8 +157,7 @@ pub fn resolve_type(
         PreTypeNode::Arrow(from, to) => {
             let domain = resolve_type(alloc, arities, from)?;
             let range = resolve_type(alloc, arities, to)?;
-            let ty = Ty::fun(alloc, &domain, &range)?;
-            Ok(ty)
+            Ok(Ty::fun(alloc, &domain, &range)?)
         }
         PreTypeNode::Apply(constructor, args) => {
             if !takes(arities, constructor.as_str(), args.len()) {
@@ -283,7 +282,7 @@ pub fn operator(
 
 /// The term whose identifiers are resolved, under abstractions over variables of these names.
 ///
-/// Answers `Arity` exactly where the type of an annotation has that fault, and `Memory` where memory is short.
+/// Answers `Arity` only where a type that is written has that fault.
 pub fn resolve(
     alloc: Global,
     constants: &[(Name, Ty)],
@@ -296,31 +295,26 @@ pub fn resolve(
 {
     match term.node() {
         PreTermNode::Ident(name) => {
-            let raw = identifier(alloc, constants, &*names, name.as_str())?;
-            Ok(raw)
+            identifier(alloc, constants, &*names, name.as_str())
         }
         PreTermNode::Operator(sign) => {
-            let raw = operator(alloc, constants, &*names, *sign)?;
-            Ok(raw)
+            operator(alloc, constants, &*names, *sign)
         }
         PreTermNode::Apply(function, argument) => {
             let left = resolve(alloc, constants, arities, &*names, function)?;
             let right = resolve(alloc, constants, arities, &*names, argument)?;
-            let raw = RawTerm::apply(alloc, left, right)?;
-            Ok(raw)
+            Ok(RawTerm::apply(alloc, left, right)?)
         }
         PreTermNode::Abstraction(variable, body) => {
             let annotation = resolve_annotation(alloc, arities, &variable.annotation)?;
             let inside = Names::Inside(variable.name.as_str(), &*names);
             let inner = resolve(alloc, constants, arities, &inside, body)?;
-            let raw = RawTerm::abstraction(alloc, variable.name.as_str(), annotation, inner)?;
-            Ok(raw)
+            Ok(RawTerm::abstraction(alloc, variable.name.as_str(), annotation, inner)?)
         }
         PreTermNode::Typed(inner, ty) => {
             let inner = resolve(alloc, constants, arities, &*names, inner)?;
             let ty = resolve_type(alloc, arities, ty)?;
-            let raw = RawTerm::annotated(alloc, inner, ty)?;
-            Ok(raw)
+            Ok(RawTerm::annotated(alloc, inner, ty)?)
         }
     }
 }

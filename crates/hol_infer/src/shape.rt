@@ -129,8 +129,7 @@ impl Shape {
         match &*self.node {
             ShapeNode::Open(slot) => {
                 let name = open_name(alloc, hole_index(order, *slot))?;
-                let ty = Ty::var(alloc, &name)?;
-                Ok(ty)
+                Ty::var(alloc, &name)
             }
             ShapeNode::Rigid(name) => Ty::var(alloc, name),
             ShapeNode::App(name, parts) => {
@@ -138,8 +137,7 @@ impl Shape {
                 for part in parts {
                     args.push(part.ty(alloc, order)?)?;
                 }
-                let ty = Ty::app(alloc, name, &args)?;
-                Ok(ty)
+                Ty::app(alloc, name, &args)
             }
         }
     }
@@ -185,8 +183,7 @@ fn open_name(alloc: Global, k: usize) -> Result<Name, AllocError>
     ensures { IfOk result (λ name. name ≡ open_name k) }
 {
     let text = format!(in alloc; "?{k}")?;
-    let name = Name::new(alloc, text.as_str())?;
-    Ok(name)
+    Name::new(alloc, text.as_str())
 }
 
 // The number of nodes of a constructor with these parts, or 20,001 where there are more.

@@ -3,8 +3,8 @@
 #![tactic(auto)]
 
 #[cfg(test)]
+mod infer_tests;
+#[cfg(test)]
 mod print_fixtures;
 #[cfg(test)]
 mod print_tests;
-#[cfg(test)]
-mod tests;

@@ -1,5 +1,4 @@
 use Rattle.std.proofs.Common.{◌≡◌, map, length, sym, subst, ap, ◌∙◌, rules, List, ℕ, ◌∷◌}
-use Rattle.std.proofs.lemmas.Result.{IfOk-weaker}
 use Rattle.hol_types.specs.Tree.{TypeTree}
 use Rattle.hol_terms.specs.Scope.{binders}
 use Rattle.hol_terms.specs.Nameless.{nameless, base_of, place}
@@ -67,30 +66,26 @@ build-requires-in-Abstraction t c =
       ),
     )
 
-pub returns-in-Some-clause-ok : goal.returns-in-Some-clause-ok
-returns-in-Some-clause-ok t c =
+pub returns-in_ok-var-in-Some-clause-ok : goal.returns-in_ok-var-in-Some-clause-ok
+returns-in_ok-var-in-Some-clause-ok t c =
     let e : slot_tree c.args.term.now ≡ SlotBound c.in-Bound.index = ap slot_tree c.in-Bound.is in
-    IfOk-weaker c.var.result _ _
-    (λ r same. ap (nameless (binders c.args.scope.now)) same
+    ap (nameless (binders c.args.scope.now)) c.in_ok-var-in-Some.ensures
     ∙ bound_place (binders c.args.scope.now) c.in-Bound.index c.in-Some.variable.now (subst (λ (s : SlotTree). IsSlotScoped (map (λ v. v.0) (binders c.args.scope.now)) s) e c.requires.scoped) c.in-Some.ensures
-    ∙ sym (ap (typed (types_at c.args.shapes.now (open_type c.args.order.now))) e))
-    c.var.ensures.ok
+    ∙ sym (ap (typed (types_at c.args.shapes.now (open_type c.args.order.now))) e)
 
 pub returns-in-None-clause-memory : goal.returns-in-None-clause-memory
 returns-in-None-clause-memory t c =
     let e : slot_tree c.args.term.now ≡ SlotBound c.in-Bound.index = ap slot_tree c.in-Bound.is in
     absurd (bound_there (binders c.args.scope.now) c.in-Bound.index (subst (λ (s : SlotTree). IsSlotScoped (map (λ v. v.0) (binders c.args.scope.now)) s) e c.requires.scoped) c.in-None.ensures)
 
-pub returns-in_ok-variable-in-Free-clause-ok : goal.returns-in_ok-variable-in-Free-clause-ok
-returns-in_ok-variable-in-Free-clause-ok t c =
+pub returns-in_ok-var-in-Free-clause-ok : goal.returns-in_ok-var-in-Free-clause-ok
+returns-in_ok-var-in-Free-clause-ok t c =
     let e : slot_tree c.args.term.now ≡ SlotFree c.in-Free.name c.in-Free.slot = ap slot_tree c.in-Free.is in
     let v_is : c.in_ok-variable-in-Free.variable ≡ (c.in-Free.name, types_at c.args.shapes.now (open_type c.args.order.now) c.in-Free.slot) =
     pair_same c.in_ok-variable-in-Free.variable c.in-Free.name c.in_ok-ty-in-Free.ty (types_at c.args.shapes.now (open_type c.args.order.now) c.in-Free.slot) c.in_ok-variable-in-Free.ensures c.in_ok-ty-in-Free.ensures in
-    IfOk-weaker c.var-in-Free.result _ _
-    (λ r same. ap (nameless (binders c.args.scope.now)) same ∙ ap (place (binders c.args.scope.now) 0) v_is
+    ap (nameless (binders c.args.scope.now)) c.in_ok-var-in-Free.ensures ∙ ap (place (binders c.args.scope.now) 0) v_is
     ∙ free_place (binders c.args.scope.now) c.in-Free.name (types_at c.args.shapes.now (open_type c.args.order.now) c.in-Free.slot) (subst (λ (s : SlotTree). IsSlotScoped (map (λ v. v.0) (binders c.args.scope.now)) s) e c.requires.scoped)
-    ∙ sym (ap (typed (types_at c.args.shapes.now (open_type c.args.order.now))) e))
-    c.var-in-Free.ensures.ok
+    ∙ sym (ap (typed (types_at c.args.shapes.now (open_type c.args.order.now))) e)
 
 pub returns-in_ok-right-in-Apply-clause-memory : goal.returns-in_ok-right-in-Apply-clause-memory
 returns-in_ok-right-in-Apply-clause-memory t c =

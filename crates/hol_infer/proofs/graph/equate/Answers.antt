@@ -1,21 +1,21 @@
 use Rattle.std.proofs.Common.{◌≡◌, sym, ◌∙◌, ap, arith}
 use Rattle.std.proofs.lemmas.Result.{on_ok_weaker, IfErr-weaker}
-use Rattle.hol_infer.proofs.Solving.{SameSolutions-trans, HasNoSolution-same, roots_edge, turned_edge, drop_edge}
+use Rattle.hol_infer.proofs.Solving.{same_solutions_trans, has_no_solution_same, roots_edge, turned_edge, drop_edge}
 use Rattle.hol_infer.proofs.graph.equate.Goals as goal
 
 pub returns-then-left-right-clause-untypable : goal.returns-then-left-right-clause-untypable
 returns-then-left-right-clause-untypable c = IfErr-weaker c.merge.result _ _
-    (λ e h u. HasNoSolution-same _ _ _ _ (roots_edge c.args.cells.now c.args.pending.now.items c.args.equation c.root-left.result c.root-right.result c.root-left.ensures.same c.root-right.ensures.same) (h u))
+    (λ e h u. has_no_solution_same _ _ _ _ (roots_edge c.args.cells.now c.args.pending.now.items c.args.equation c.root-left.result c.root-right.result c.root-left.ensures.same c.root-right.ensures.same) (h u))
     c.merge.ensures.untypable
 
 pub returns-then-right-left-clause-untypable : goal.returns-then-right-left-clause-untypable
 returns-then-right-left-clause-untypable c = IfErr-weaker c.merge-then-right-left.result _ _
-    (λ e h u. HasNoSolution-same _ _ _ _ (turned_edge c.args.cells.now c.args.pending.now.items c.args.equation c.root-left.result c.root-right.result c.root-left.ensures.same c.root-right.ensures.same) (h u))
+    (λ e h u. has_no_solution_same _ _ _ _ (turned_edge c.args.cells.now c.args.pending.now.items c.args.equation c.root-left.result c.root-right.result c.root-left.ensures.same c.root-right.ensures.same) (h u))
     c.merge-then-right-left.ensures.untypable
 
 pub returns-then-right-left-clause-solutions : goal.returns-then-right-left-clause-solutions
 returns-then-right-left-clause-solutions c = on_ok_weaker c.merge-then-right-left.result
-    (λ h. SameSolutions-trans _ _ _ _ _ _ h (turned_edge c.args.cells.now c.args.pending.now.items c.args.equation c.root-left.result c.root-right.result c.root-left.ensures.same c.root-right.ensures.same))
+    (λ h. same_solutions_trans _ _ _ _ _ _ h (turned_edge c.args.cells.now c.args.pending.now.items c.args.equation c.root-left.result c.root-right.result c.root-left.ensures.same c.root-right.ensures.same))
     c.merge-then-right-left.ensures.solutions
 
 pub returns-clause-solutions : goal.returns-clause-solutions

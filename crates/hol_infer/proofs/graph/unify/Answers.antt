@@ -1,7 +1,7 @@
 use Rattle.std.proofs.Common.{List, subst, ◌∙◌}
 use Rattle.hol_infer.specs.declared.cell.Equation.{Equation}
 use Rattle.hol_infer.specs.Graph.{SameSolutions}
-use Rattle.hol_infer.proofs.Solving.{SameSolutions-trans, last_first}
+use Rattle.hol_infer.proofs.Solving.{same_solutions_trans, last_first}
 use Rattle.hol_infer.proofs.graph.unify.Goals as goal
 
 pub loop-equation-preserved : goal.loop-equation-preserved
@@ -9,7 +9,7 @@ loop-equation-preserved c = record {
   graph = c.in_ok-equate.ensures.graph;
   len = c.in_ok-equate.ensures.len ∙ c.loop-equation.invariant.len;
   pending_in = c.in_ok-equate.ensures.pending_in;
-  solutions = SameSolutions-trans _ _ _ _ _ _ c.in_ok-equate.ensures.solutions
-      (SameSolutions-trans _ _ _ _ _ _ (last_first c.loop-equation.cells c.pop.new.self.items c.in-Some.equation)
+  solutions = same_solutions_trans _ _ _ _ _ _ c.in_ok-equate.ensures.solutions
+      (same_solutions_trans _ _ _ _ _ _ (last_first c.loop-equation.cells c.pop.new.self.items c.in-Some.equation)
       (subst (λ (p : List Equation). SameSolutions c.loop-equation.cells p c.args.cells.now c.args.pending.now.items) c.in-Some.ensures.items c.loop-equation.invariant.solutions));
 }
