@@ -3,3 +3,4 @@ pub mod EquationTypes
 pub mod TypeTests
 pub mod TakingApart
 pub mod PartTypes
+pub mod FormulaLaws

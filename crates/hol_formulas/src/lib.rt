@@ -7,6 +7,7 @@ mod axioms;
 mod connectives;
 mod elements;
 mod equations;
+mod laws;
 mod postulate;
 mod prelude;
 mod propositional;
@@ -22,6 +23,7 @@ pub use connectives::{
     is_truth, mk_conj, mk_disj, mk_falsity, mk_imp, mk_neg, mk_truth,
 };
 pub use equations::{Sides, dest_eq, is_eq, mk_eq, mk_iff};
+pub use laws::{formulas_have_parts, parts_make_formulas};
 pub use postulate::Postulate;
 pub use prelude::{has_constant, has_type, instances_are_substitutions, is_instance};
 pub use quantifiers::{dest_exists, dest_forall, is_exists, is_forall, mk_exists, mk_forall};

@@ -10,7 +10,7 @@ use Rattle.std.specs.FinSet as set
 use Rattle.std.proofs.lemmas.Slice.Eq.{bytes_eq-Decides}
 use Rattle.hol_kernel.specs.Item.{Item}
 use Rattle.hol_kernel.specs.Items.{Items, item_cmp, Holds, item_set, IsSubset}
-use Rattle.hol_kernel.specs.Signature.{Key, type_key, constant_key, axiom_key, key_eq, key_name, item_keys, has_key}
+use Rattle.hol_kernel.specs.Signature.{ItemKey, type_key, constant_key, axiom_key, key_eq, key_name, item_keys, has_key}
 use Rattle.hol_kernel.specs.Legal.{IsLegalSet, IsStorable, HasNewKeys, IsSound}
 use Rattle.hol_kernel.specs.Extends.{Agree, ClashesAt}
 use Rattle.hol_kernel.specs.Clashing.{name_order, shared_in, unless_same, clash_of, or_else, clash_with, clash_between}
@@ -36,7 +36,7 @@ same_no_clash x y n e is =
 pub other_clash : (x y : Item) (n : List ℕ) → shared_in (item_keys x) y ≡ Some n → (x ≡ y → ⊥) → clash_of x y ≡ Some n
 other_clash x y n e other = ap (unless_same x y) e ∙ ap (λ b. cond b None (Some n)) (differ x y other)
 
-pub key_is : (k l : Key) → key_eq k l ≡ true → k ≡ l
+pub key_is : (k l : ItemKey) → key_eq k l ≡ true → k ≡ l
 key_is (type_key c) (type_key d) e = ap type_key ((bytes_eq-Decides c d).0 e)
 key_is (constant_key c) (constant_key d) e = ap constant_key ((bytes_eq-Decides c d).0 e)
 key_is (axiom_key c) (axiom_key d) e = ap axiom_key ((bytes_eq-Decides c d).0 e)
@@ -47,23 +47,23 @@ key_is (constant_key c) (axiom_key d) e = absurd (true≢false (sym e))
 key_is (axiom_key c) (type_key d) e = absurd (true≢false (sym e))
 key_is (axiom_key c) (constant_key d) e = absurd (true≢false (sym e))
 
-pub key_itself : (k : Key) → key_eq k k ≡ true
+pub key_itself : (k : ItemKey) → key_eq k k ≡ true
 key_itself (type_key c) = (bytes_eq-Decides c c).1 refl
 key_itself (constant_key c) = (bytes_eq-Decides c c).1 refl
 key_itself (axiom_key c) = (bytes_eq-Decides c c).1 refl
 
 -- a name of the list that y has, where one is found
-abbrev Found : List Key → Item → List ℕ → Type 0
-Found ks y n = (k : Key) × (list_any (key_eq k) ks ≡ true) × (has_key y k ≡ true) × (key_name k ≡ n)
+abbrev Found : List ItemKey → Item → List ℕ → Type 0
+Found ks y n = (k : ItemKey) × (list_any (key_eq k) ks ≡ true) × (has_key y k ≡ true) × (key_name k ≡ n)
 
-later : (l : Key) (ks : List Key) (y : Item) (n : List ℕ) → Found ks y n → Found (l ∷ ks) y n
+later : (l : ItemKey) (ks : List ItemKey) (y : Item) (n : List ℕ) → Found ks y n → Found (l ∷ ks) y n
 later l ks y n f = (f.0, or_true (key_eq f.0 l) f.1, f.2, f.3)
   where
     or_true : (a : Bool) {b : Bool} → b ≡ true → (a || b) ≡ true
     or_true true e = refl
     or_true false e = e
 
-pub found : (ks : List Key) (y : Item) (n : List ℕ) → shared_in ks y ≡ Some n → Found ks y n
+pub found : (ks : List ItemKey) (y : Item) (n : List ℕ) → shared_in ks y ≡ Some n → Found ks y n
 found [] y n e = absurd (cc)
 found (l ∷ ks) y n e = by (has_key y l) refl e (found ks y n)
   where
@@ -71,7 +71,7 @@ found (l ∷ ks) y n e = by (has_key y l) refl e (found ks y n)
     by true h e rest = (l, ap (λ b. b || list_any (key_eq l) ks) (key_itself l), h, let is : key_name l ≡ n = cc in is)
     by false h e rest = later l ks y n (rest e)
 
-not_found : (ks : List Key) (y : Item) → shared_in ks y ≡ None → (k : Key) → list_any (key_eq k) ks ≡ true → has_key y k ≡ true → ⊥
+not_found : (ks : List ItemKey) (y : Item) → shared_in ks y ≡ None → (k : ItemKey) → list_any (key_eq k) ks ≡ true → has_key y k ≡ true → ⊥
 not_found [] y e k h g = true≢false (sym h)
 not_found (l ∷ ks) y e k h g = by (has_key y l) (key_eq k l) refl refl e h (λ f. not_found ks y f k)
   where
@@ -83,9 +83,9 @@ not_found (l ∷ ks) y e k h g = by (has_key y l) (key_eq k l) refl refl e h (λ
 -- ---- lists
 
 abbrev pub AgreeIn : List Item → List Item → Type 0
-AgreeIn xs ys = (x y : Item) (k : Key) → Among x xs → Among y ys → has_key x k ≡ true → has_key y k ≡ true → x ≡ y
+AgreeIn xs ys = (x y : Item) (k : ItemKey) → Among x xs → Among y ys → has_key x k ≡ true → has_key y k ≡ true → x ≡ y
 
-none_of : (x y : Item) → clash_of x y ≡ None → (k : Key) → has_key x k ≡ true → has_key y k ≡ true → x ≡ y
+none_of : (x y : Item) → clash_of x y ≡ None → (k : ItemKey) → has_key x k ≡ true → has_key y k ≡ true → x ≡ y
 none_of x y e k h g = by (shared_in (item_keys x) y) (eq_by_cmp item_cmp x y) refl refl e
   where
     by : (o : Option (List ℕ)) (b : Bool) → shared_in (item_keys x) y ≡ o → eq_by_cmp item_cmp x y ≡ b → unless_same x y o ≡ None → x ≡ y
@@ -97,7 +97,7 @@ both_none : (a b : Option (List ℕ)) → or_else a b ≡ None → (a ≡ None) 
 both_none None b e = (refl, e)
 both_none (Some n) b e = absurd (cc)
 
-none_with : (xs : List Item) (y : Item) → clash_with xs y ≡ None → (x : Item) (k : Key) → Among x xs → has_key x k ≡ true → has_key y k ≡ true → x ≡ y
+none_with : (xs : List Item) (y : Item) → clash_with xs y ≡ None → (x : Item) (k : ItemKey) → Among x xs → has_key x k ≡ true → has_key y k ≡ true → x ≡ y
 none_with [] y e x k i h g = absurd i
 none_with (z ∷ xs) y e x k (inl is) h g =
     let p = both_none (clash_of z y) (clash_with xs y) e in
@@ -117,7 +117,7 @@ none_between xs (z ∷ ys) e x y k i (inr j) h g =
 pub record ClashesIn (xs ys : List Item) (n : List ℕ) : Type 0 where
   pub first : Item
   pub second : Item
-  pub key : Key
+  pub key : ItemKey
   pub in_first : Among first xs
   pub in_second : Among second ys
   pub name_of_first : has_key first key ≡ true
@@ -187,7 +187,7 @@ pub agree_sets : (a b : Items) (xs ys : List Item) → item_set xs ≡ a → ite
 agree_sets a b xs ys p q agree x y k i j =
     agree x y k (among_from_list total only xs x (subst (λ (s : Items). Holds s x) (sym p) i)) (among_from_list total only ys y (subst (λ (s : Items). Holds s y) (sym q) j))
 
-pub clash_sets : (a b : Items) (xs ys : List Item) (n : List ℕ) → item_set xs ≡ a → item_set ys ≡ b → ClashesIn xs ys n → (k : Key) × (key_name k ≡ n) × ClashesAt a b k
+pub clash_sets : (a b : Items) (xs ys : List Item) (n : List ℕ) → item_set xs ≡ a → item_set ys ≡ b → ClashesIn xs ys n → (k : ItemKey) × (key_name k ≡ n) × ClashesAt a b k
 clash_sets a b xs ys n p q r = (
   r.key,
   r.named,
@@ -243,11 +243,3 @@ storable_insert a xs all x p l s new sound e =
       legal = subst IsLegalSet (sym (extended_set a xs all x p new e)) (IsLegalSet-insert a x l new sound);
       ordered = merged_ordered xs (x ∷ []) all (agree_new a xs x p new) e s (sorted_one total x);
     }
-
--- ---- subsets
-
-pub subset_left : (a b : Items) → IsSubset a (set.union a b)
-subset_left a b = set.contains-is_subset total a (set.union a b) (λ q h. in_union_left total only a b q h)
-
-pub subset_right : (a b : Items) → IsSubset b (set.union a b)
-subset_right a b = set.contains-is_subset total b (set.union a b) (λ q h. in_union_right total only a b q h)

@@ -10,7 +10,7 @@ use Rattle.hol_terms.specs.Nameless.{Nameless}
 use Rattle.hol_kernel.specs.Item.{Item, declared_type, declared_constant, declared_axiom}
 use Rattle.hol_kernel.specs.Items.{Items, in_order}
 use Rattle.hol_formulas.specs.Equation.{bool_type}
-use Rattle.hol_kernel.specs.Signature.{Key, type_key, constant_key, axiom_key, key_eq, has_key, prelude_has}
+use Rattle.hol_kernel.specs.Signature.{ItemKey, type_key, constant_key, axiom_key, key_eq, has_key, prelude_has}
 use Rattle.hol_kernel.specs.Typing.{is_type, is_type_at, has_type, type_over, HasType}
 use Rattle.hol_kernel.specs.Legal.{IsNew, HasNewKeys}
 use Rattle.hol_kernel.specs.Extends.{IsDeclareType, IsDeclareConst, IsDeclareAxiom}
@@ -34,12 +34,12 @@ is_false true n = absurd (n refl)
 is_false false n = refl
 
 -- the test of a name
-pub new_is : (items : Items) (k : Key) → is_new items k ≡ true → IsNew items k
+pub new_is : (items : Items) (k : ItemKey) → is_new items k ≡ true → IsNew items k
 new_is items k e =
     let p = both_not (prelude_has k) (list_any (λ x. has_key x k) (in_order items)) e in
     (p.0, λ y h. is_false (has_key y k) (λ f. true≢false (sym (any_of (λ x. has_key x k) (in_order items) y (ordered_held items y h) f) ∙ p.1)))
 
-pub is_new_of : (items : Items) (k : Key) → IsNew items k → is_new items k ≡ true
+pub is_new_of : (items : Items) (k : ItemKey) → IsNew items k → is_new items k ≡ true
 is_new_of items k n =
     neither (prelude_has k) (list_any (λ x. has_key x k) (in_order items)) n.0
     (is_false (list_any (λ x. has_key x k) (in_order items))
@@ -50,14 +50,14 @@ or_none : (a : Bool) → (a || false) ≡ true → a ≡ true
 or_none true e = refl
 or_none false e = e
 
-pub one_name : (items : Items) (x : Item) (k : Key) → ((l : Key) → has_key x l ≡ (key_eq l k || false)) → is_new items k ≡ true → HasNewKeys items x
+pub one_name : (items : Items) (x : Item) (k : ItemKey) → ((l : ItemKey) → has_key x l ≡ (key_eq l k || false)) → is_new items k ≡ true → HasNewKeys items x
 one_name items x k only e l h =
-    subst (λ (m : Key). IsNew items m) (sym (key_is l k (or_none (key_eq l k) (sym (only l) ∙ h)))) (new_is items k e)
+    subst (λ (m : ItemKey). IsNew items m) (sym (key_is l k (or_none (key_eq l k) (sym (only l) ∙ h)))) (new_is items k e)
 
-pub name_taken : (items : Items) (x : Item) (k : Key) → has_key x k ≡ true → is_new items k ≡ false → HasNewKeys items x → ⊥
+pub name_taken : (items : Items) (x : Item) (k : ItemKey) → has_key x k ≡ true → is_new items k ≡ false → HasNewKeys items x → ⊥
 name_taken items x k own e new = true≢false (sym (is_new_of items k (new k own)) ∙ e)
 
-pub own_name : (k : Key) → (key_eq k k || false) ≡ true
+pub own_name : (k : ItemKey) → (key_eq k k || false) ≡ true
 own_name k = ap (λ b. b || false) (key_itself k)
 
 -- ---- a type

@@ -18,16 +18,16 @@ use Rattle.hol_subst.specs.Variant.{is_free_in}
 use Rattle.hol_terms.specs.Named.{Named}
 use Rattle.hol_terms.specs.Alpha.{strip, alpha_eq}
 use Rattle.hol_terms.proofs.Alpha.{alpha_eq_decides}
-use Rattle.hol_terms.specs.Code.{coded_nameless}
-use Rattle.hol_subst.specs.CodeOrder.{coded_total, coded_same}
-use Rattle.hol_kernel.specs.Sequent.{Hyps, nameless_cmp, no_hyps, hyp_of, hyps_of}
+use Rattle.hol_subst.proofs.CodeOrder.{nameless_total, nameless_same}
+use Rattle.hol_kernel.specs.Sequent.{Hyps, no_hyps, hyp_of, hyps_of}
+use Rattle.hol_subst.specs.AlphaOrder.{nameless_cmp}
 use Rattle.hol_kernel.proofs.SortedSets.{sorted_none, sorted_one, sorted_filter, sorted_merged, set_merged, set_append, set_but, any_of_set, union_none_left, union_none_right, remove_none}
 
 pub hyps_total : IsTotalOrder nameless_cmp
-hyps_total = coded_total coded_nameless
+hyps_total = nameless_total
 
 pub hyps_same : set.IsAntisymmetric nameless_cmp
-hyps_same = coded_same coded_nameless
+hyps_same = nameless_same
 
 -- ---- in any order, through a key
 

@@ -1,5 +1,6 @@
 -- What INST_TYPE and INST make of theorems.
 use Rattle.std.specs.Prelude.{◌≡◌, ℕ, Bool, true, false, cond, ◌&&◌, List, [], ◌∷◌, map, Option, Some, None, refl}
+use Rattle.std.specs.Option.{option_map}
 use Rattle.std.proofs.Common.{ap, sym, ◌∙◌, subst, inl, inr}
 use mathlib.Core.Bool.{true≢false}
 use Rattle.std.specs.FinSet as set
@@ -17,12 +18,13 @@ use Rattle.hol_subst.proofs.Typing.{subst_type}
 use Rattle.hol_subst.proofs.TypeLaws.{pairs_typed, good_pairs_fit}
 use Rattle.hol_subst.proofs.TypesInst.{typed_instance}
 use Rattle.hol_kernel.specs.Items.{Items}
-use Rattle.hol_kernel.specs.Sequent.{Hyps, nameless_cmp, hyp_of, hyps_of, hyps_image}
+use Rattle.hol_kernel.specs.Sequent.{Hyps, hyp_of, hyps_of, hyps_image, Sequent}
+use Rattle.hol_subst.specs.AlphaOrder.{nameless_cmp}
 use Rattle.hol_formulas.specs.Equation.{bool_type}
 use Rattle.hol_kernel.specs.Typing.{is_known, is_typed, is_type_at, are_types_for, are_typed_for}
 use Rattle.hol_kernel.specs.Derivation.{Derives, by_inst_type, by_inst}
-use Rattle.hol_kernel.specs.Rules.{inst_type_of, inst_of, is_pair_at, are_pairs_over}
-use Rattle.hol_kernel.specs.Theorem.{Theorem, theorem_over, IsDerived}
+use Rattle.hol_kernel.specs.Rules.{sequent_image, inst_type_of, inst_of, is_pair_at, are_pairs_over}
+use Rattle.hol_kernel.specs.Theorem.{Theorem, theorem_on, theorem_over, over, IsDerived}
 use Rattle.hol_kernel.proofs.SortedSets.{map_of_set}
 use Rattle.hol_kernel.proofs.HypothesisLists.{hyps_total, hyps_same}
 use Rattle.hol_kernel.proofs.TermRules.{has_type_test}
@@ -65,16 +67,16 @@ along_nameless b own h hyps n concl p q r d t = record {
 pub types_hyps : (pairs : List (TypeTree × List ℕ)) (hs : Hyps) (ps rs : List Named) → hyps_of ps ≡ hs → map (λ r. nameless [] r) rs ≡ map (λ p. types_inst pairs (nameless [] p)) ps → hyps_of rs ≡ hyps_image (types_inst pairs) hs
 types_hyps pairs = image_hyps (types_inst pairs) (λ n. inst_alpha pairs (strip n) n (strip_strip n))
 
-pub types_derived : (pairs : List (TypeTree × List ℕ)) (th : Theorem) (t : Named) (own : Items) (hyps : Hyps) (concl : Named) → Derives th.basis th.hyps th.concl → are_types_for th.basis pairs ≡ true → nameless [] t ≡ th.concl → named_type t ≡ Some bool_type → own ≡ th.basis → hyps ≡ hyps_image (types_inst pairs) th.hyps → nameless [] concl ≡ types_inst pairs (nameless [] t) → IsDerived own hyps concl
-types_derived pairs th t own hyps concl d over is typed p q r =
-    along_nameless th.basis own (hyps_image (types_inst pairs) th.hyps) hyps (types_inst pairs th.concl) concl p q (r ∙ ap (types_inst pairs) is)
-    (by_inst_type th.hyps th.concl pairs over d)
+pub types_derived : (basis : Items) (pairs : List (TypeTree × List ℕ)) (s : Sequent) (t : Named) (own : Items) (hyps : Hyps) (concl : Named) → Derives basis s.hyps s.concl → are_types_for basis pairs ≡ true → nameless [] t ≡ s.concl → named_type t ≡ Some bool_type → own ≡ basis → hyps ≡ hyps_image (types_inst pairs) s.hyps → nameless [] concl ≡ types_inst pairs (nameless [] t) → IsDerived own hyps concl
+types_derived basis pairs s t own hyps concl d over is typed p q r =
+    along_nameless basis own (hyps_image (types_inst pairs) s.hyps) hyps (types_inst pairs s.concl) concl p q (r ∙ ap (types_inst pairs) is)
+    (by_inst_type s.hyps s.concl pairs over d)
     (typed_instance pairs t concl bool_type r typed)
 
-pub types_given : (pairs : List (TypeTree × List ℕ)) (th made : Theorem) (hyps : Hyps) (t concl : Named) → are_types_for th.basis pairs ≡ true → nameless [] t ≡ th.concl → hyps ≡ hyps_image (types_inst pairs) th.hyps → nameless [] concl ≡ types_inst pairs (nameless [] t) → made ≡ theorem_over th.basis hyps (nameless [] concl) → inst_type_of pairs th ≡ Some made
-types_given pairs th made hyps t concl over is q r e =
-    (λ i. cond (over i) (Some (theorem_over th.basis (hyps_image (types_inst pairs) th.hyps) (types_inst pairs th.concl))) None)
-    ∙ (λ i. Some (theorem_over th.basis (sym q i) (sym (r ∙ ap (types_inst pairs) is) i))) ∙ ap Some (sym e)
+pub types_given : (basis : Items) (pairs : List (TypeTree × List ℕ)) (s : Sequent) (made : Theorem) (hyps : Hyps) (t concl : Named) → are_types_for basis pairs ≡ true → nameless [] t ≡ s.concl → hyps ≡ hyps_image (types_inst pairs) s.hyps → nameless [] concl ≡ types_inst pairs (nameless [] t) → made ≡ theorem_over basis hyps (nameless [] concl) → over basis (inst_type_of basis pairs s) ≡ Some made
+types_given basis pairs s made hyps t concl fit is q r e =
+    (λ i. option_map (theorem_on basis) (cond (fit i) (Some (sequent_image (types_inst pairs) s)) None))
+    ∙ (λ i. Some (theorem_over basis (sym q i) (sym (r ∙ ap (types_inst pairs) is) i))) ∙ ap Some (sym e)
 
 -- ---- terms for variables
 
@@ -134,17 +136,17 @@ put pairs = term_subst (nameless_pairs pairs) 0
 pub terms_hyps : (pairs : List (Named × Named)) (hs : Hyps) (ps rs : List Named) → hyps_of ps ≡ hs → map (λ r. nameless [] r) rs ≡ map (λ p. term_subst (nameless_pairs pairs) 0 (nameless [] p)) ps → hyps_of rs ≡ hyps_image (term_subst (nameless_pairs pairs) 0) hs
 terms_hyps pairs = image_hyps (put pairs) (λ n. subst_alpha (nameless_pairs pairs) 0 (strip n) n (strip_strip n))
 
-pub terms_derived : (pairs : List (Named × Named)) (th : Theorem) (t : Named) (own : Items) (hyps : Hyps) (concl : Named) → Derives th.basis th.hyps th.concl → are_pairs_over th.basis pairs ≡ true → nameless [] t ≡ th.concl → named_type t ≡ Some bool_type → own ≡ th.basis → hyps ≡ hyps_image (term_subst (nameless_pairs pairs) 0) th.hyps → nameless [] concl ≡ term_subst (nameless_pairs pairs) 0 (nameless [] t) → IsDerived own hyps concl
-terms_derived pairs th t own hyps concl d over is typed p q r =
-    along_nameless th.basis own (hyps_image (put pairs) th.hyps) hyps (put pairs th.concl) concl p q (r ∙ ap (put pairs) is)
-    (by_inst th.hyps th.concl (nameless_pairs pairs) (pairs_typed_over th.basis pairs over) d)
+pub terms_derived : (basis : Items) (pairs : List (Named × Named)) (s : Sequent) (t : Named) (own : Items) (hyps : Hyps) (concl : Named) → Derives basis s.hyps s.concl → are_pairs_over basis pairs ≡ true → nameless [] t ≡ s.concl → named_type t ≡ Some bool_type → own ≡ basis → hyps ≡ hyps_image (term_subst (nameless_pairs pairs) 0) s.hyps → nameless [] concl ≡ term_subst (nameless_pairs pairs) 0 (nameless [] t) → IsDerived own hyps concl
+terms_derived basis pairs s t own hyps concl d over is typed p q r =
+    along_nameless basis own (hyps_image (put pairs) s.hyps) hyps (put pairs s.concl) concl p q (r ∙ ap (put pairs) is)
+    (by_inst s.hyps s.concl (nameless_pairs pairs) (pairs_typed_over basis pairs over) d)
     (sym (type_outside concl) ∙ ap (nameless_type []) r
-    ∙ subst_type (nameless_pairs pairs) [] 0 (nameless [] t) (pairs_typed (nameless_pairs pairs) (good_pairs_fit pairs (pairs_good th.basis pairs over)))
+    ∙ subst_type (nameless_pairs pairs) [] 0 (nameless [] t) (pairs_typed (nameless_pairs pairs) (good_pairs_fit pairs (pairs_good basis pairs over)))
     ∙ type_outside t ∙ typed)
 
-pub terms_given : (pairs : List (Named × Named)) (th made : Theorem) (hyps : Hyps) (t concl : Named) → are_pairs_over th.basis pairs ≡ true → nameless [] t ≡ th.concl → hyps ≡ hyps_image (term_subst (nameless_pairs pairs) 0) th.hyps → nameless [] concl ≡ term_subst (nameless_pairs pairs) 0 (nameless [] t) → made ≡ theorem_over th.basis hyps (nameless [] concl) → inst_of pairs th ≡ Some made
-terms_given pairs th made hyps t concl over is q r e =
-    (λ i. cond (over i) (Some (theorem_over th.basis (hyps_image (put pairs) th.hyps) (put pairs th.concl))) None)
-    ∙ (λ i. Some (theorem_over th.basis (sym q i) (sym (r ∙ ap (put pairs) is) i))) ∙ ap Some (sym e)
+pub terms_given : (basis : Items) (pairs : List (Named × Named)) (s : Sequent) (made : Theorem) (hyps : Hyps) (t concl : Named) → are_pairs_over basis pairs ≡ true → nameless [] t ≡ s.concl → hyps ≡ hyps_image (term_subst (nameless_pairs pairs) 0) s.hyps → nameless [] concl ≡ term_subst (nameless_pairs pairs) 0 (nameless [] t) → made ≡ theorem_over basis hyps (nameless [] concl) → over basis (inst_of basis pairs s) ≡ Some made
+terms_given basis pairs s made hyps t concl fit is q r e =
+    (λ i. option_map (theorem_on basis) (cond (fit i) (Some (sequent_image (put pairs) s)) None))
+    ∙ (λ i. Some (theorem_over basis (sym q i) (sym (r ∙ ap (put pairs) is) i))) ∙ ap Some (sym e)
 
 pub ruleset pairs_tested = (pair_yes, pair_no)

@@ -15,7 +15,7 @@ use Rattle.hol_terms.specs.Code.{nameless_code}
 use Rattle.hol_subst.specs.CodeOrder.{flat, coded_total, coded_same}
 use Rattle.hol_kernel.specs.Item.{Item, item_code, declared_type, declared_constant, defined_constant, defined_type, declared_axiom}
 use Rattle.hol_kernel.specs.Items.{item_cmp}
-use Rattle.hol_kernel.specs.Signature.{Key, type_key, constant_key, axiom_key, has_key}
+use Rattle.hol_kernel.specs.Signature.{ItemKey, type_key, constant_key, axiom_key, has_key}
 use Rattle.hol_kernel.specs.Clashing.{name_order}
 use Rattle.hol_kernel.proofs.Members.{Among, or_left}
 
@@ -91,7 +91,7 @@ name_order_is x y same = by (name_order x y) refl ∙ sym (item_rows x y)
 -- ---- a name of two items
 
 abbrev pub SharedName : Item → Item → Type 0
-SharedName x y = (k : Key) × (has_key x k ≡ true) × (has_key y k ≡ true)
+SharedName x y = (k : ItemKey) × (has_key x k ≡ true) × (has_key y k ≡ true)
 
 same_name : (m n : List ℕ) → name_cmp m n ≡ Equal → bytes_eq m n ≡ true
 same_name m n e = (bytes_eq-Decides m n).1 (set.slice_cmp-IsAntisymmetric set.nat_cmp-IsAntisymmetric m n e)

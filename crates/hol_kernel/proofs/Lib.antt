@@ -24,3 +24,4 @@ pub mod WellTyped
 pub mod TypeDefinitions
 pub mod Assumptions
 pub mod Subsets
+pub mod RuleLaws

@@ -15,13 +15,13 @@ use Rattle.hol_terms.specs.Alpha.{strip, alpha_eq}
 use Rattle.hol_terms.proofs.Alpha.{alpha_eq_decides}
 use Rattle.hol_terms.proofs.Typing.{type_outside}
 use Rattle.hol_kernel.specs.Items.{Items}
-use Rattle.hol_kernel.specs.Sequent.{Hyps}
-use Rattle.hol_formulas.specs.Equation.{equality_type, equation}
-use Rattle.hol_kernel.specs.Derivation.{Derives, by_trans, by_eq_mp, by_mk_comb, by_deduct_antisym}
-use Rattle.hol_kernel.specs.Theorem.{Theorem, theorem_over}
-use Rattle.hol_kernel.specs.Rules.{trans_sides, trans_of, eq_mp_sides, eq_mp_of, comb_parts, comb_sides, mk_comb_of, deduct_antisym_of}
+use Rattle.hol_kernel.specs.Sequent.{Hyps, Sequent, sequent_of}
+use Rattle.hol_formulas.specs.Equation.{bool_type, equality_type, equation}
+use Rattle.hol_kernel.specs.Derivation.{Derives, by_trans, by_eq_mp, by_mk_comb}
+use Rattle.hol_kernel.specs.Theorem.{Theorem, IsDerived}
+use Rattle.hol_kernel.specs.Rules.{trans_sides, trans_of, eq_mp_sides, eq_mp_of, comb_parts, comb_sides, mk_comb_of}
 use Rattle.hol_formulas.specs.Equation.{Sides, sides_at, dest_eq}
-use Rattle.hol_formulas.proofs.TakingApart.{fun_parts_is}
+use Rattle.hol_formulas.proofs.TypeTests.{fun_parts_is}
 
 -- ---- what tests say
 
@@ -69,60 +69,60 @@ pub sides_is : (t : Nameless) (x : Sides) → dest_eq t ≡ Some x → t ≡ equ
 sides_is (app (app (fixed c s) l) r) x e = sides_is_by c s l r x (fun_parts s) e
 sides_is t x e = absurd (cc)
 
--- ---- the rules on theorems
+-- ---- the rules on sequents
 
-abbrev pub Derived : Theorem → Type 0
-Derived t = Derives t.basis t.hyps t.concl
+abbrev pub Derived : Items → Sequent → Type 0
+Derived items s = Derives items s.hyps s.concl
 
-by_sides : (items : Items) (hs : Hyps) (t : Nameless) (x : Sides) → dest_eq t ≡ Some x → Derives items hs t → Derives items hs (equation x.sides_type x.left x.right)
-by_sides items hs t x e d = subst (λ (u : Nameless). Derives items hs u) (sides_is t x e) d
+by_sides : (items : Items) (s : Sequent) (x : Sides) → dest_eq s.concl ≡ Some x → Derived items s → Derives items s.hyps (equation x.sides_type x.left x.right)
+by_sides items s x e d = subst (λ (u : Nameless). Derives items s.hyps u) (sides_is s.concl x e) d
 
--- the second theorem over the basis of the first
-over_first : (a b : Theorem) → a.basis ≡ b.basis → Derived b → Derives a.basis b.hyps b.concl
-over_first a b one e = subst (λ (s : Items). Derives s b.hyps b.concl) (sym one) e
+module _ (items : Items) (a b t : Sequent) (d : Derived items a) (e : Derived items b) where
+  pub trans_sound : trans_of a b ≡ Some t → Derived items t
+  trans_sound is =
+      go (dest_eq a.concl) (dest_eq b.concl) refl refl is
+    where
+      go : (p q : Option Sides) → dest_eq a.concl ≡ p → dest_eq b.concl ≡ q → trans_sides (set.union a.hyps b.hyps) p q ≡ Some t → Derived items t
+      go (Some x) (Some y) p q is =
+          let v = test (alpha_eq x.right y.left) (sequent_of (set.union a.hyps b.hyps) (equation x.sides_type x.left y.right)) t is in
+          subst (Derived items) v.1
+          (by_trans a.hyps b.hyps x.sides_type y.sides_type x.left x.right y.left y.right (by_sides items a x p d) (by_sides items b y q e) (alpha x.right y.left v.0))
+      go (Some x) None p q is = absurd (cc)
+      go None q p' q' is = absurd (cc)
 
-pub trans_sound : (a b t : Theorem) → a.basis ≡ b.basis → Derived a → Derived b → trans_of a b ≡ Some t → Derived t
-trans_sound a b t one d e is =
-    go (dest_eq a.concl) (dest_eq b.concl) refl refl is
-  where
-    go : (p q : Option Sides) → dest_eq a.concl ≡ p → dest_eq b.concl ≡ q → trans_sides a.basis (set.union a.hyps b.hyps) p q ≡ Some t → Derived t
-    go (Some x) (Some y) p q is =
-        let v = test (alpha_eq x.right y.left) (theorem_over a.basis (set.union a.hyps b.hyps) (equation x.sides_type x.left y.right)) t is in
-        subst Derived v.1
-        (by_trans a.hyps b.hyps x.sides_type y.sides_type x.left x.right y.left y.right (by_sides a.basis a.hyps a.concl x p d)
-        (by_sides a.basis b.hyps b.concl y q (over_first a b one e)) (alpha x.right y.left v.0))
-    go (Some x) None p q is = absurd (cc)
-    go None q p' q' is = absurd (cc)
+  pub eq_mp_sound : eq_mp_of a b ≡ Some t → Derived items t
+  eq_mp_sound is =
+      go (dest_eq a.concl) refl is
+    where
+      go : (p : Option Sides) → dest_eq a.concl ≡ p → eq_mp_sides (set.union a.hyps b.hyps) p b.concl ≡ Some t → Derived items t
+      go (Some x) p is =
+          let v = test (alpha_eq x.left b.concl) (sequent_of (set.union a.hyps b.hyps) x.right) t is in
+          subst (Derived items) v.1
+          (by_eq_mp a.hyps b.hyps x.sides_type x.left x.right b.concl (by_sides items a x p d) e (alpha x.left b.concl v.0))
+      go None p is = absurd (cc)
 
-pub eq_mp_sound : (a b t : Theorem) → a.basis ≡ b.basis → Derived a → Derived b → eq_mp_of a b ≡ Some t → Derived t
-eq_mp_sound a b t one d e is =
-    go (dest_eq a.concl) refl is
-  where
-    go : (p : Option Sides) → dest_eq a.concl ≡ p → eq_mp_sides a.basis (set.union a.hyps b.hyps) p b.concl ≡ Some t → Derived t
-    go (Some x) p is =
-        let v = test (alpha_eq x.left b.concl) (theorem_over a.basis (set.union a.hyps b.hyps) x.right) t is in
-        subst Derived v.1
-        (by_eq_mp a.hyps b.hyps x.sides_type x.left x.right b.concl (by_sides a.basis a.hyps a.concl x p d) (over_first a b one e) (alpha x.left b.concl v.0))
-    go None p is = absurd (cc)
+  pub mk_comb_sound : mk_comb_of a b ≡ Some t → Derived items t
+  mk_comb_sound is =
+      go (dest_eq a.concl) (dest_eq b.concl) refl refl is
+    where
+      typed : (x y : Sides) (f : Option (TypeTree × TypeTree)) → fun_parts x.sides_type ≡ f → dest_eq a.concl ≡ Some x → dest_eq b.concl ≡ Some y → comb_parts (set.union a.hyps b.hyps) x y f ≡ Some t → Derived items t
+      typed x y (Some s) f p q is =
+          let v = test (type_eq s.0 y.sides_type) (sequent_of (set.union a.hyps b.hyps) (equation s.1 (app x.left y.left) (app x.right y.right))) t is in
+          subst (Derived items) v.1
+          (by_mk_comb a.hyps b.hyps s.0 s.1 x.left x.right y.left y.right
+          (subst (λ (u : TypeTree). Derives items a.hyps (equation u x.left x.right)) (fun_parts_is x.sides_type s f) (by_sides items a x p d))
+          (subst (λ (u : TypeTree). Derives items b.hyps (equation u y.left y.right)) (sym ((type_cmp_decides s.0 y.sides_type).0 v.0)) (by_sides items b y q e)))
+      typed x y None f p q is = absurd (cc)
 
-pub mk_comb_sound : (a b t : Theorem) → a.basis ≡ b.basis → Derived a → Derived b → mk_comb_of a b ≡ Some t → Derived t
-mk_comb_sound a b t one d e is =
-    go (dest_eq a.concl) (dest_eq b.concl) refl refl is
-  where
-    typed : (x y : Sides) (f : Option (TypeTree × TypeTree)) → fun_parts x.sides_type ≡ f → dest_eq a.concl ≡ Some x → dest_eq b.concl ≡ Some y → comb_parts a.basis (set.union a.hyps b.hyps) x y f ≡ Some t → Derived t
-    typed x y (Some s) f p q is =
-        let v = test (type_eq s.0 y.sides_type) (theorem_over a.basis (set.union a.hyps b.hyps) (equation s.1 (app x.left y.left) (app x.right y.right))) t is in
-        subst Derived v.1
-        (by_mk_comb a.hyps b.hyps s.0 s.1 x.left x.right y.left y.right
-        (subst (λ (u : TypeTree). Derives a.basis a.hyps (equation u x.left x.right)) (fun_parts_is x.sides_type s f) (by_sides a.basis a.hyps a.concl x p d))
-        (subst (λ (u : TypeTree). Derives a.basis b.hyps (equation u y.left y.right)) (sym ((type_cmp_decides s.0 y.sides_type).0 v.0))
-        (by_sides a.basis b.hyps b.concl y q (over_first a b one e))))
-    typed x y None f p q is = absurd (cc)
+      go : (p q : Option Sides) → dest_eq a.concl ≡ p → dest_eq b.concl ≡ q → comb_sides (set.union a.hyps b.hyps) p q ≡ Some t → Derived items t
+      go (Some x) (Some y) p q is = typed x y (fun_parts x.sides_type) refl p q is
+      go (Some x) None p q is = absurd (cc)
+      go None q p' q' is = absurd (cc)
 
-    go : (p q : Option Sides) → dest_eq a.concl ≡ p → dest_eq b.concl ≡ q → comb_sides a.basis (set.union a.hyps b.hyps) p q ≡ Some t → Derived t
-    go (Some x) (Some y) p q is = typed x y (fun_parts x.sides_type) refl p q is
-    go (Some x) None p q is = absurd (cc)
-    go None q p' q' is = absurd (cc)
+-- what a rule makes of two premises, over the basis of the first
+pub second_over : (a b : Theorem) → a.basis ≡ b.basis → Derived b.basis b.sequent → Derived a.basis b.sequent
+second_over a b one e = subst (λ (items : Items). Derived items b.sequent) (sym one) e
 
-pub deduct_antisym_sound : (a b : Theorem) → a.basis ≡ b.basis → Derived a → Derived b → Derived (deduct_antisym_of a b)
-deduct_antisym_sound a b one d e = by_deduct_antisym a.hyps b.hyps a.concl b.concl d (over_first a b one e)
+-- what the program keeps of a sequent that is derived
+pub kept : (items own : Items) (hyps : Hyps) (concl : Named) → own ≡ items → Derived items (sequent_of hyps (nameless [] concl)) → named_type concl ≡ Some bool_type → IsDerived own hyps concl
+kept items own hyps concl is d t = record { derives = subst (λ (s : Items). Derives s hyps (nameless [] concl)) (sym is) d; typed = t }

@@ -16,11 +16,11 @@ use Rattle.hol_subst.proofs.Closing.{nameless_abs, open_close, close_binds}
 use Rattle.hol_terms.specs.Nameless.{Nameless, free, app, nameless}
 use Rattle.hol_kernel.specs.Items.{Items}
 use Rattle.hol_kernel.specs.NamedTyping.{is_known_named}
-use Rattle.hol_kernel.specs.Sequent.{Hyps, no_hyps, only_hyp}
+use Rattle.hol_kernel.specs.Sequent.{Hyps, no_hyps, only_hyp, Sequent, sequent_of}
 use Rattle.hol_formulas.specs.Equation.{bool_type, equation, mk_eq}
 use Rattle.hol_kernel.specs.Typing.{is_type, is_typed, is_type_at, has_type, type_over, HasType}
 use Rattle.hol_kernel.specs.Derivation.{Derives, by_refl, by_assume, by_beta, by_abs}
-use Rattle.hol_kernel.specs.Theorem.{Theorem, theorem_over, IsDerived}
+use Rattle.hol_kernel.specs.Theorem.{IsDerived}
 use Rattle.hol_kernel.specs.Rules.{reflexive, refl_of, assume_of, reduced, beta_of, abs_sides, abs_of}
 use Rattle.hol_formulas.specs.Equation.{Sides, dest_eq}
 use Rattle.hol_kernel.proofs.Typed.{typed_type, typed_named, type_over_named}
@@ -36,9 +36,6 @@ along b b' h h' c c' p q r d t = record {
   typed = ap named_type r ∙ t;
 }
 
-pub equation_has_type : (c l r : Named) (a : TypeTree) → c ≡ mk_eq a l r → named_type l ≡ Some a → named_type r ≡ Some a → named_type c ≡ Some bool_type
-equation_has_type c l r a e f g = ap named_type e ∙ equation_right a l r f g
-
 module _ (basis : Items) (t : Named) (a : TypeTree) (has : named_type t ≡ Some a) where
   -- ---- reflexivity
 
@@ -46,8 +43,8 @@ module _ (basis : Items) (t : Named) (a : TypeTree) (has : named_type t ≡ Some
   refl_derived own hyps concl p q r typed =
       along basis own no_hyps hyps (mk_eq a t t) concl p q r (by_refl (nameless [] t) a (typed_type basis t a has typed)) (equation_right a t t has has)
 
-  pub refl_yes : is_typed basis (nameless [] t) ≡ true → refl_of basis (nameless [] t) ≡ Some (reflexive basis (nameless [] t) a)
-  refl_yes typed = ap (option_map (reflexive basis (nameless [] t))) (typed_type basis t a has typed)
+  pub refl_yes : is_typed basis (nameless [] t) ≡ true → refl_of basis (nameless [] t) ≡ Some (reflexive (nameless [] t) a)
+  refl_yes typed = ap (option_map (reflexive (nameless [] t))) (typed_type basis t a has typed)
 
   -- ---- assumption
 
@@ -60,13 +57,13 @@ module _ (basis : Items) (t : Named) (a : TypeTree) (has : named_type t ≡ Some
       ap (λ o. is_type_at o b) (type_over_named basis t a has) ∙ test_by (is_known_named basis t) b
       ∙ ap (λ k. k && type_eq a b) (sym (typed_named basis t a has))
 
-  pub assume_yes : type_eq a bool_type ≡ true → is_typed basis (nameless [] t) ≡ true → assume_of basis (nameless [] t) ≡ Some (theorem_over basis (only_hyp (nameless [] t)) (nameless [] t))
+  pub assume_yes : type_eq a bool_type ≡ true → is_typed basis (nameless [] t) ≡ true → assume_of basis (nameless [] t) ≡ Some (sequent_of (only_hyp (nameless [] t)) (nameless [] t))
   assume_yes e f =
-      ap (λ k. cond k (Some (theorem_over basis (only_hyp (nameless [] t)) (nameless [] t))) None) (has_type_test bool_type ∙ (λ i. f i && e i))
+      ap (λ k. cond k (Some (sequent_of (only_hyp (nameless [] t)) (nameless [] t))) None) (has_type_test bool_type ∙ (λ i. f i && e i))
 
   pub assume_no_bool : type_eq a bool_type ≡ false → assume_of basis (nameless [] t) ≡ None
   assume_no_bool e =
-      ap (λ k. cond k (Some (theorem_over basis (only_hyp (nameless [] t)) (nameless [] t))) None)
+      ap (λ k. cond k (Some (sequent_of (only_hyp (nameless [] t)) (nameless [] t))) None)
       (has_type_test bool_type ∙ ap (λ k. is_typed basis (nameless [] t) && k) e ∙ never (is_typed basis (nameless [] t)))
     where
       never : (k : Bool) → (k && false) ≡ false
@@ -75,7 +72,7 @@ module _ (basis : Items) (t : Named) (a : TypeTree) (has : named_type t ≡ Some
 
   pub assume_no_type : is_typed basis (nameless [] t) ≡ false → assume_of basis (nameless [] t) ≡ None
   assume_no_type f =
-      ap (λ k. cond k (Some (theorem_over basis (only_hyp (nameless [] t)) (nameless [] t))) None)
+      ap (λ k. cond k (Some (sequent_of (only_hyp (nameless [] t)) (nameless [] t))) None)
       (has_type_test bool_type ∙ ap (λ k. k && type_eq a bool_type) f)
 
   pub assume_derived : (own : Items) (hyps : Hyps) (concl : Named) → own ≡ basis → hyps ≡ only_hyp (nameless [] t) → concl ≡ t → type_eq a bool_type ≡ true → is_typed basis (nameless [] t) ≡ true → IsDerived own hyps concl
@@ -87,19 +84,19 @@ module _ (basis : Items) (t : Named) (a : TypeTree) (has : named_type t ≡ Some
 pub refl_none : (basis : Items) (t : Nameless) → is_typed basis t ≡ false → refl_of basis t ≡ None
 refl_none basis t e = by (type_over basis t) e
   where
-    by : (o : Option TypeTree) → is_some o ≡ false → option_map (reflexive basis t) o ≡ None
+    by : (o : Option TypeTree) → is_some o ≡ false → option_map (reflexive t) o ≡ None
     by None f = refl
     by (Some a) f = absurd (cc)
 
 -- ---- beta conversion
 
 -- what the rule makes of the abstraction b of v, of type a at v
-abbrev pub converted : Items → Named → Named → TypeTree → Theorem
-converted basis t b a = theorem_over basis no_hyps (equation a (nameless [] t) (nameless [] b))
+abbrev pub converted : Named → Named → TypeTree → Sequent
+converted t b a = sequent_of no_hyps (equation a (nameless [] t) (nameless [] b))
 
 module _ (basis : Items) (v w : List ℕ × TypeTree) (b : Named) where
-  beta_cond : (k : Bool) → variable_eq v w ≡ k → beta_of basis (comb (abs v b) (var w)) ≡ cond k (option_map (reduced basis v b) (type_over basis (nameless [] (comb (abs v b) (var v))))) None
-  beta_cond k e = ap (λ j. cond j (option_map (reduced basis v b) (type_over basis (nameless [] (comb (abs v b) (var v))))) None) e
+  beta_cond : (k : Bool) → variable_eq v w ≡ k → beta_of basis (comb (abs v b) (var w)) ≡ cond k (option_map (reduced v b) (type_over basis (nameless [] (comb (abs v b) (var v))))) None
+  beta_cond k e = ap (λ j. cond j (option_map (reduced v b) (type_over basis (nameless [] (comb (abs v b) (var v))))) None) e
 
   pub beta_other : variable_eq v w ≡ false → beta_of basis (comb (abs v b) (var w)) ≡ None
   beta_other e = beta_cond false e
@@ -109,17 +106,17 @@ module _ (basis : Items) (v w : List ℕ × TypeTree) (b : Named) where
 
   pub beta_untyped : variable_eq v w ≡ true → is_typed basis (nameless [] (comb (abs v b) (var w))) ≡ false → beta_of basis (comb (abs v b) (var w)) ≡ None
   beta_untyped e f =
-      beta_cond true e ∙ ap (λ (n : Nameless). option_map (reduced basis v b) (type_over basis n)) (same_redex e) ∙ by (type_over basis (nameless [] (comb (abs v b) (var w)))) f
+      beta_cond true e ∙ ap (λ (n : Nameless). option_map (reduced v b) (type_over basis n)) (same_redex e) ∙ by (type_over basis (nameless [] (comb (abs v b) (var w)))) f
     where
-      by : (o : Option TypeTree) → is_some o ≡ false → option_map (reduced basis v b) o ≡ None
+      by : (o : Option TypeTree) → is_some o ≡ false → option_map (reduced v b) o ≡ None
       by None g = refl
       by (Some a) g = absurd (cc)
 
   module _ (a : TypeTree) (e : variable_eq v w ≡ true) (typed : HasType basis (nameless [] (comb (abs v b) (var w))) a) where
-    beta_yes : beta_of basis (comb (abs v b) (var w)) ≡ Some (converted basis (comb (abs v b) (var w)) b a)
+    beta_yes : beta_of basis (comb (abs v b) (var w)) ≡ Some (converted (comb (abs v b) (var w)) b a)
     beta_yes =
-        beta_cond true e ∙ ap (λ (n : Nameless). option_map (reduced basis v b) (type_over basis n)) (same_redex e) ∙ ap (option_map (reduced basis v b)) typed
-        ∙ ap (λ (n : Nameless). Some (theorem_over basis no_hyps (equation a n (nameless [] b)))) (same_redex e)
+        beta_cond true e ∙ ap (λ (n : Nameless). option_map (reduced v b) (type_over basis n)) (same_redex e) ∙ ap (option_map (reduced v b)) typed
+        ∙ ap (λ (n : Nameless). Some (sequent_of no_hyps (equation a n (nameless [] b)))) (same_redex e)
 
     redex_is : nameless [] (comb (abs v b) (var w)) ≡ app (bind v (nameless [] b)) (free v)
     redex_is = sym (same_redex e) ∙ ap (λ (n : Nameless). app n (free v)) (nameless_abs v b)
@@ -134,8 +131,8 @@ module _ (basis : Items) (t : Named) (v w : List ℕ × TypeTree) (b : Named) (a
   redex_typed : HasType basis (nameless [] (comb (abs v b) (var w))) a
   redex_typed = subst (λ (u : Named). HasType basis (nameless [] u) a) is (typed_type basis t a has typed)
 
-  pub beta_gives : beta_of basis t ≡ Some (converted basis t b a)
-  beta_gives = ap (beta_of basis) is ∙ beta_yes basis v w b a e redex_typed ∙ ap (λ (u : Named). Some (converted basis u b a)) (sym is)
+  pub beta_gives : beta_of basis t ≡ Some (converted t b a)
+  beta_gives = ap (beta_of basis) is ∙ beta_yes basis v w b a e redex_typed ∙ ap (λ (u : Named). Some (converted u b a)) (sym is)
 
   pub beta_derived : (own : Items) (hyps : Hyps) (concl : Named) → own ≡ basis → hyps ≡ no_hyps → concl ≡ mk_eq a t b → named_type b ≡ Some a → IsDerived own hyps concl
   beta_derived own hyps concl p q r f =
@@ -164,17 +161,17 @@ body_type t v b x a is has = by (named_type b) refl parts.function
 pub abs_concl : (v : List ℕ × TypeTree) (a : TypeTree) (l r : Named) → nameless [] (mk_eq (fun_type v.1 a) (abs v l) (abs v r)) ≡ equation (fun_type v.1 a) (bind v (nameless [] l)) (bind v (nameless [] r))
 abs_concl v a l r = λ i. equation (fun_type v.1 a) (nameless_abs v l i) (nameless_abs v r i)
 
-pub abs_gives : (v : List ℕ × TypeTree) (a : Theorem) (x : Sides) → dest_eq a.concl ≡ Some x → is_type a.basis v.1 ≡ true → is_free_in (set.items a.hyps) v ≡ false → abs_of (var v) a ≡ Some (theorem_over a.basis a.hyps (equation (fun_type v.1 x.sides_type) (bind v x.left) (bind v x.right)))
-abs_gives v a x e f g =
-    ap (abs_sides v a.basis a.hyps) e
-    ∙ (λ i. cond (f i && not (g i)) (Some (theorem_over a.basis a.hyps (equation (fun_type v.1 x.sides_type) (bind v x.left) (bind v x.right)))) None)
+pub abs_gives : (basis : Items) (v : List ℕ × TypeTree) (a : Sequent) (x : Sides) → dest_eq a.concl ≡ Some x → is_type basis v.1 ≡ true → is_free_in (set.items a.hyps) v ≡ false → abs_of basis (var v) a ≡ Some (sequent_of a.hyps (equation (fun_type v.1 x.sides_type) (bind v x.left) (bind v x.right)))
+abs_gives basis v a x e f g =
+    ap (abs_sides basis v a.hyps) e
+    ∙ (λ i. cond (f i && not (g i)) (Some (sequent_of a.hyps (equation (fun_type v.1 x.sides_type) (bind v x.left) (bind v x.right)))) None)
 
-pub abs_derived : (v : List ℕ × TypeTree) (th : Theorem) (a : TypeTree) (l r : Named) → Derives th.basis th.hyps th.concl → dest_eq th.concl ≡ Some (record { sides_type = a; left = nameless [] l; right = nameless [] r }) → is_type th.basis v.1 ≡ true → is_free_in (set.items th.hyps) v ≡ false → named_type l ≡ Some a → named_type r ≡ Some a → (own : Items) (hyps : Hyps) (concl : Named) → own ≡ th.basis → hyps ≡ th.hyps → concl ≡ mk_eq (fun_type v.1 a) (abs v l) (abs v r) → IsDerived own hyps concl
-abs_derived v th a l r d e f g m n own hyps concl p q s =
-    let from : Derives th.basis th.hyps (equation a (nameless [] l) (nameless [] r)) = subst (λ (u : Nameless). Derives th.basis th.hyps u) (sides_is th.concl (record { sides_type = a; left = nameless [] l; right = nameless [] r }) e) d in
-    along th.basis own th.hyps hyps (mk_eq (fun_type v.1 a) (abs v l) (abs v r)) concl p q s
-    (subst (λ (u : Nameless). Derives th.basis th.hyps u) (sym (abs_concl v a l r))
-    (by_abs th.hyps a v (nameless [] l) (nameless [] r) f g from))
+pub abs_derived : (basis : Items) (v : List ℕ × TypeTree) (s : Sequent) (a : TypeTree) (l r : Named) → Derives basis s.hyps s.concl → dest_eq s.concl ≡ Some (record { sides_type = a; left = nameless [] l; right = nameless [] r }) → is_type basis v.1 ≡ true → is_free_in (set.items s.hyps) v ≡ false → named_type l ≡ Some a → named_type r ≡ Some a → (own : Items) (hyps : Hyps) (concl : Named) → own ≡ basis → hyps ≡ s.hyps → concl ≡ mk_eq (fun_type v.1 a) (abs v l) (abs v r) → IsDerived own hyps concl
+abs_derived basis v s a l r d e f g m n own hyps concl p q is =
+    let from : Derives basis s.hyps (equation a (nameless [] l) (nameless [] r)) = subst (λ (u : Nameless). Derives basis s.hyps u) (sides_is s.concl (record { sides_type = a; left = nameless [] l; right = nameless [] r }) e) d in
+    along basis own s.hyps hyps (mk_eq (fun_type v.1 a) (abs v l) (abs v r)) concl p q is
+    (subst (λ (u : Nameless). Derives basis s.hyps u) (sym (abs_concl v a l r))
+    (by_abs s.hyps a v (nameless [] l) (nameless [] r) f g from))
     (equation_right (fun_type v.1 a) (abs v l) (abs v r) (abs_type v l a m) (abs_type v r a n))
 
 pub ruleset betas = (beta_other, beta_untyped, beta_gives)

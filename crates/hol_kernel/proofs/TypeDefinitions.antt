@@ -13,7 +13,7 @@ use Rattle.hol_kernel.specs.Item.{defined_type}
 use Rattle.hol_kernel.specs.Items.{Items, Holds, IsSubset, IsWithin}
 use Rattle.hol_kernel.specs.Sequent.{Hyps, no_hyps, hyp_of, hyps_of}
 use Rattle.hol_formulas.specs.Equation.{bool_type}
-use Rattle.hol_kernel.specs.Signature.{Key, type_key, constant_key, key_eq, has_key, term_tyvars, new_type}
+use Rattle.hol_kernel.specs.Signature.{ItemKey, type_key, constant_key, key_eq, has_key, term_tyvars, new_type}
 use Rattle.hol_kernel.specs.Typing.{is_known, HasType}
 use Rattle.hol_kernel.specs.Bijections.{abs_rep, rep_abs}
 use Rattle.hol_kernel.specs.Derivation.{Derives, by_abs_rep, by_rep_abs}
@@ -43,8 +43,8 @@ three false false true f g h e = h refl
 three false false false f g h e = absurd (true≢false (sym e))
 
 module _ (items : Items) (c abs rep : List ℕ) (p : Nameless) where
-  new_at : (l k : Key) → is_new items l ≡ true → key_eq k l ≡ true → IsNew items k
-  new_at l k e is = subst (λ (m : Key). IsNew items m) (sym (key_is k l is)) (new_is items l e)
+  new_at : (l k : ItemKey) → is_new items l ≡ true → key_eq k l ≡ true → IsNew items k
+  new_at l k e is = subst (λ (m : ItemKey). IsNew items m) (sym (key_is k l is)) (new_is items l e)
 
   pub names_new : are_new_names items c abs rep ≡ true → HasNewKeys items (defined_type c abs rep p)
   names_new e k h =
@@ -67,13 +67,13 @@ module _ (items : Items) (c abs rep : List ℕ) (p : Nameless) where
       by true e = absurd (other ((bytes_eq-Decides abs rep).0 e))
       by false e = refl
 
-  own_key : (k : Key) → has_key (defined_type c abs rep p) k ≡ true → HasNewKeys items (defined_type c abs rep p) → is_new items k ≡ true
+  own_key : (k : ItemKey) → has_key (defined_type c abs rep p) k ≡ true → HasNewKeys items (defined_type c abs rep p) → is_new items k ≡ true
   own_key k own new = is_new_of items k (new k own)
 
   -- names that a definition has are new
   pub new_names : HasNewKeys items (defined_type c abs rep p) → abs ≢ rep → are_new_names items c abs rep ≡ true
   new_names new other =
-      let ks : (k : Key) → key_eq k k ≡ true = key_itself in
+      let ks : (k : ItemKey) → key_eq k k ≡ true = key_itself in
       let first : is_new items (type_key c) ≡ true = own_key (type_key c) (ap (λ b. b || false) (ks (type_key c))) new in
       let second : is_new items (constant_key abs) ≡ true =
       own_key (constant_key abs) (ap (λ b. b || (key_eq (constant_key abs) (constant_key rep) || false)) (ks (constant_key abs))) new in
@@ -109,7 +109,7 @@ module _ (items : Items) (c abs rep : List ℕ) (th : Theorem) where
         let is : d.predicate ≡ p = cc in
         true≢false (sym (is_closed_of d.predicate d.closed) ∙ ap is_closed is ∙ e)
 
-  module _ (within : IsSubset th.basis items) (derives : Derives th.basis th.hyps th.concl) (p : Named) (x : Nameless) (s : TypeTree) (m : IsMembership th (nameless [] p) x) (has : named_type p ≡ Some (fun_type s bool_type)) where
+  module _ (within : IsSubset th.basis items) (derives : Derives th.basis th.sequent.hyps th.sequent.concl) (p : Named) (x : Nameless) (s : TypeTree) (m : IsMembership th (nameless [] p) x) (has : named_type p ≡ Some (fun_type s bool_type)) where
     wider : IsWithin th.basis items
     wider = set.is_subset-contains total th.basis items within
 
@@ -123,7 +123,7 @@ module _ (items : Items) (c abs rep : List ℕ) (th : Theorem) where
     inhabited : Derives items no_hyps (app (nameless [] p) x)
     inhabited =
         Derives-more th.basis items wider no_hyps (app (nameless [] p) x)
-        (subst (λ (hs : Hyps). Derives th.basis hs (app (nameless [] p) x)) m.0 (subst (λ (n : Nameless). Derives th.basis th.hyps n) m.1 derives))
+        (subst (λ (hs : Hyps). Derives th.basis hs (app (nameless [] p) x)) m.0 (subst (λ (n : Nameless). Derives th.basis th.sequent.hyps n) m.1 derives))
 
     pub type_sound : are_new_names items c abs rep ≡ true → is_closed (nameless [] p) ≡ true → IsSound items (defined_type c abs rep (nameless [] p))
     type_sound new closed = (

@@ -4,7 +4,7 @@ use Rattle.std.proofs.Common.{ap, sym, ◌∙◌, inl, inr, subst}
 use Rattle.std.specs.FinSet as set
 use Rattle.hol_kernel.specs.Item.{Item}
 use Rattle.hol_kernel.specs.Items.{Items, Holds, item_set}
-use Rattle.hol_kernel.specs.Signature.{Key, has_key}
+use Rattle.hol_kernel.specs.Signature.{ItemKey, has_key}
 use Rattle.hol_kernel.specs.Legal.{HasNewKeys, IsSound, IsLegal, IsLegalSet}
 use Rattle.hol_kernel.specs.Extends.{Agree}
 use Rattle.hol_kernel.proofs.Weaken.{IsSound-more}
@@ -27,7 +27,7 @@ union_old a b x there =
       ]
     ])
 
-not_has : (x : Item) (k : Key) → (has_key x k ≡ true → ⊥) → has_key x k ≡ false
+not_has : (x : Item) (k : ItemKey) → (has_key x k ≡ true → ⊥) → has_key x k ≡ false
 not_has x k n = elim (has_key x k) as (λ b. (b ≡ true → ⊥) → b ≡ false) [ true ↦ λ f. absurd (f refl) | false ↦ λ f. refl ] n
 
 -- the first order, and then each item of the second that is not in it, in the second order

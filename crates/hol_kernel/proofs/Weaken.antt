@@ -78,14 +78,14 @@ module _ (items more : Items) (within : IsWithin items more) where
       by true e h = ap (λ b. cond b (nameless_type [] t) None) (is_known_more t e) ∙ h
       by false e h = absurd (cc)
 
-  has_type_more : (t : Nameless) (a : TypeTree) → has_type items t a ≡ true → has_type more t a ≡ true
+  pub has_type_more : (t : Nameless) (a : TypeTree) → has_type items t a ≡ true → has_type more t a ≡ true
   has_type_more t a e = by (type_over items t) refl e
     where
       by : (o : Option TypeTree) → type_over items t ≡ o → is_type_at o a ≡ true → has_type more t a ≡ true
       by None p e = absurd (true≢false (sym e))
       by (Some s) p e = ap (λ o. is_type_at o a) (HasType-more t s p) ∙ e
 
-  all_more : {X : Type 0} (p q : X → Bool) → ((x : X) → p x ≡ true → q x ≡ true) → (xs : List X) → list_all p xs ≡ true → list_all q xs ≡ true
+  pub all_more : {X : Type 0} (p q : X → Bool) → ((x : X) → p x ≡ true → q x ≡ true) → (xs : List X) → list_all p xs ≡ true → list_all q xs ≡ true
   all_more p q f [] e = refl
   all_more p q f (x ∷ xs) e = let r = both (p x) (list_all p xs) e in λ i. f x r.0 i && all_more p q f xs r.1 i
 

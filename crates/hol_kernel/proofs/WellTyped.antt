@@ -18,7 +18,8 @@ use Rattle.hol_subst.proofs.Typing.{typed_closed, subst_type, mapped_part}
 use Rattle.hol_subst.proofs.TypeLaws.{pairs_typed, inst_type, bind_type, open_type}
 use Rattle.hol_kernel.specs.Item.{Item, defined_constant, defined_type}
 use Rattle.hol_kernel.specs.Items.{Items, in_order, Holds}
-use Rattle.hol_kernel.specs.Sequent.{Hyps, nameless_cmp, no_hyps, only_hyp, hyps_image}
+use Rattle.hol_kernel.specs.Sequent.{Hyps, no_hyps, only_hyp, hyps_image}
+use Rattle.hol_subst.specs.AlphaOrder.{nameless_cmp}
 use Rattle.hol_formulas.specs.Equation.{bool_type, equality_type, equation}
 use Rattle.hol_kernel.specs.Signature.{term_tyvars, new_type, has_arity, has_constant, makes_type, makes_constant, bijections, constant_of}
 use Rattle.hol_formulas.specs.Constants.{is_constant_at, is_instance_of, prelude_generic, is_constructor, prelude_types}
@@ -299,5 +300,5 @@ module _ (items : Items) where
   derived_typed _ _ (by_rep_abs c abs rep p s h typed) = record { hyps = none_formulas; concl = rep_abs_typed c abs rep p s h typed }
 
 -- the law
-pub theorem_typed : (t : Theorem) → Derives t.basis t.hyps t.concl → IsWellTyped t
-theorem_typed t d = let p = derived_typed t.basis t.hyps t.concl d in record { hypotheses = p.hyps; conclusion = p.concl }
+pub theorem_typed : (t : Theorem) → Derives t.basis t.sequent.hyps t.sequent.concl → IsWellTyped t
+theorem_typed t d = let p = derived_typed t.basis t.sequent.hyps t.sequent.concl d in record { hypotheses = p.hyps; conclusion = p.concl }

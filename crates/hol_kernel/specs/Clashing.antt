@@ -8,18 +8,18 @@ use Rattle.hol_types.specs.Order.{name_cmp}
 use Rattle.hol_terms.specs.Nameless.{Nameless}
 use Rattle.hol_kernel.specs.Item.{Item, declared_type, declared_constant, defined_constant, defined_type, declared_axiom}
 use Rattle.hol_kernel.specs.Items.{Items, item_cmp, in_order}
-use Rattle.hol_kernel.specs.Signature.{Key, type_key, constant_key, axiom_key, key_name, item_keys, has_key, prelude_has}
-use Rattle.hol_kernel.specs.declared.kind.Kind.{Kind}
-use Rattle.hol_kernel.specs.declared.kind.Kind.TheVariants as kind
+use Rattle.hol_kernel.specs.Signature.{ItemKey, type_key, constant_key, axiom_key, key_name, item_keys, has_key, prelude_has}
+use Rattle.hol_kernel.specs.declared.item_kind.ItemKind.{ItemKind}
+use Rattle.hol_kernel.specs.declared.item_kind.ItemKind.TheVariants as kind
 
 -- the name of a kind
-abbrev pub key_at : Kind → List ℕ → Key
+abbrev pub key_at : ItemKind → List ℕ → ItemKey
 key_at kind.Type name = type_key name
 key_at kind.Constant name = constant_key name
 key_at kind.Axiom name = axiom_key name
 
 -- neither the prelude nor an item has the name, as a test
-abbrev pub is_new : Items → Key → Bool
+abbrev pub is_new : Items → ItemKey → Bool
 is_new items k = not (prelude_has k) && not (list_any (λ x. has_key x k) (in_order items))
 
 -- the items in order of their kinds, and within a kind of their names
@@ -41,7 +41,7 @@ abbrev pub name_order : Item → Item → Ordering
 name_order x y = ordering_then (nat_cmp (rank_of x) (rank_of y)) (name_cmp (name_of x) (name_of y))
 
 -- a name of the list that the item has
-abbrev pub shared_in : List Key → Item → Option (List ℕ)
+abbrev pub shared_in : List ItemKey → Item → Option (List ℕ)
 shared_in [] y = None
 shared_in (k ∷ ks) y = cond (has_key y k) (Some (key_name k)) (shared_in ks y)
 

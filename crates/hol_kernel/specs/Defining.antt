@@ -33,4 +33,4 @@ are_new_names items c abs rep = is_new items (type_key c) && (is_new items (cons
 
 -- the theorem is |- p x, without hypotheses
 abbrev pub IsMembership : Theorem → Nameless → Nameless → Type 0
-IsMembership th p x = (th.hyps ≡ no_hyps) × (th.concl ≡ app p x)
+IsMembership th p x = (th.sequent.hyps ≡ no_hyps) × (th.sequent.concl ≡ app p x)

@@ -9,7 +9,7 @@ use Rattle.hol_kernel.specs.Item.{Item, declared_type, declared_constant, define
 use Rattle.hol_kernel.specs.Items.{Items, Holds}
 use Rattle.hol_kernel.specs.Sequent.{no_hyps}
 use Rattle.hol_formulas.specs.Equation.{bool_type, equation}
-use Rattle.hol_kernel.specs.Signature.{Key, has_key, term_tyvars, new_type}
+use Rattle.hol_kernel.specs.Signature.{ItemKey, has_key, term_tyvars, new_type}
 use Rattle.hol_kernel.specs.Typing.{HasType}
 use Rattle.hol_kernel.specs.Legal.{HasNewKeys, IsSound, IsClosed, IsDefinable}
 use Rattle.hol_kernel.specs.Bijections.{abs_rep, rep_abs}
@@ -45,8 +45,8 @@ pub record IsTypeDefine (basis : Items) (c abs rep : List ℕ) (member : Theorem
   pub predicate : Nameless
   pub element : Nameless
   pub old : TypeTree
-  pub unconditional : member.hyps ≡ no_hyps
-  pub is_member : member.concl ≡ app predicate element
+  pub unconditional : member.sequent.hyps ≡ no_hyps
+  pub is_member : member.sequent.concl ≡ app predicate element
   pub new : HasNewKeys basis (defined_type c abs rep predicate)
   pub apart : abs ≢ rep
   pub typed : HasType basis predicate (fun_type old bool_type)
@@ -58,7 +58,7 @@ pub record IsTypeDefine (basis : Items) (c abs rep : List ℕ) (member : Theorem
 -- ---- clashes
 
 -- the name is that of two different items, one of each set
-pub record ClashesAt (a b : Items) (k : Key) : Type 0 where
+pub record ClashesAt (a b : Items) (k : ItemKey) : Type 0 where
   pub first : Item
   pub second : Item
   pub in_first : Holds a first
@@ -69,4 +69,4 @@ pub record ClashesAt (a b : Items) (k : Key) : Type 0 where
 
 -- two items, one of each set, that have one name in its kind are the same
 abbrev pub Agree : Items → Items → Type 0
-Agree a b = (x y : Item) (k : Key) → Holds a x → Holds b y → has_key x k ≡ true → has_key y k ≡ true → x ≡ y
+Agree a b = (x y : Item) (k : ItemKey) → Holds a x → Holds b y → has_key x k ≡ true → has_key y k ≡ true → x ≡ y

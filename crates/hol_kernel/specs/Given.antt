@@ -9,7 +9,8 @@ use Rattle.hol_terms.specs.Code.{coded_nameless}
 use Rattle.hol_kernel.specs.Items.{Items, IsSubset}
 use Rattle.hol_formulas.specs.Equation.{bool_type}
 use Rattle.hol_kernel.specs.Typing.{is_type_at}
-use Rattle.hol_kernel.specs.Theorem.{Theorem, theorem_over, theorem_code}
+use Rattle.hol_kernel.specs.Sequent.{Sequent, sequent_of, only_hyp}
+use Rattle.hol_kernel.specs.Theorem.{Theorem, theorem_on, over, theorem_code}
 use Rattle.hol_kernel.specs.Rules.{assume_of}
 use Rattle.hol_kernel.specs.declared.given.GivenNode.{GivenNode}
 use Rattle.hol_kernel.specs.declared.given.GivenNode.TheVariants as node
@@ -46,9 +47,10 @@ IsAssumable (node.Assumed p) = named_type p ≡ Some bool_type
 abbrev pub assumption_of : Nameless → Option Given
 assumption_of p = cond (is_type_at (nameless_type [] p) bool_type) (Some (assumed p)) None
 
-abbrev pub conclusion_of : Given → Nameless
-conclusion_of (proved th) = th.concl
-conclusion_of (assumed p) = p
+-- the sequent that it is read as
+abbrev pub given_sequent : Given → Sequent
+given_sequent (proved th) = th.sequent
+given_sequent (assumed p) = sequent_of (only_hyp p) p
 
 -- the basis contains the theorem's
 abbrev pub IsOver : Given → Items → Type 0
@@ -57,5 +59,5 @@ IsOver (assumed p) basis = Unit {0}
 
 -- the theorem over a basis: the same sequent, or the term's assumption where this is well typed over the basis
 abbrev pub given_over : Items → Given → Option Theorem
-given_over basis (proved th) = Some (theorem_over basis th.hyps th.concl)
-given_over basis (assumed p) = assume_of basis p
+given_over basis (proved th) = Some (theorem_on basis th.sequent)
+given_over basis (assumed p) = over basis (assume_of basis p)

@@ -10,16 +10,16 @@ use Rattle.hol_kernel.specs.Item.{Item, declared_type, declared_constant, define
 use Rattle.hol_kernel.specs.Items.{Items, item_cmp, Holds, item_set}
 use Rattle.hol_kernel.specs.Sequent.{no_hyps}
 use Rattle.hol_formulas.specs.Equation.{bool_type}
-use Rattle.hol_kernel.specs.Signature.{Key, has_key, prelude_has, term_tyvars}
+use Rattle.hol_kernel.specs.Signature.{ItemKey, has_key, prelude_has, term_tyvars}
 use Rattle.hol_kernel.specs.Typing.{is_type, HasType}
 use Rattle.hol_kernel.specs.Derivation.{Derives}
 
 -- neither the prelude nor an item has the name
-abbrev pub IsNew : Items → Key → Type 0
+abbrev pub IsNew : Items → ItemKey → Type 0
 IsNew earlier k = (prelude_has k ≡ false) × ((y : Item) → Holds earlier y → has_key y k ≡ false)
 
 abbrev pub HasNewKeys : Items → Item → Type 0
-HasNewKeys earlier x = (k : Key) → has_key x k ≡ true → IsNew earlier k
+HasNewKeys earlier x = (k : ItemKey) → has_key x k ≡ true → IsNew earlier k
 
 -- no variable is free in the term
 abbrev pub IsClosed : Nameless → Type 0

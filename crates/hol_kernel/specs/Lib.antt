@@ -15,3 +15,4 @@ pub mod Clashing
 pub mod Gives
 pub mod Defining
 pub mod Given
+pub mod Widening

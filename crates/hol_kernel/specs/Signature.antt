@@ -57,35 +57,40 @@ item_constants (declared_axiom n p) = []
 -- ---- names
 
 -- a name in its kind
-pub data Key : Type 0 where
-  type_key : List ℕ → Key
-  constant_key : List ℕ → Key
-  axiom_key : List ℕ → Key
+pub data ItemKey : Type 0 where
+  type_key : List ℕ → ItemKey
+  constant_key : List ℕ → ItemKey
+  axiom_key : List ℕ → ItemKey
 
-abbrev pub key_name : Key → List ℕ
+abbrev pub key_name : ItemKey → List ℕ
 key_name (type_key c) = c
 key_name (constant_key c) = c
 key_name (axiom_key n) = n
 
-abbrev pub item_keys : Item → List Key
+abbrev pub item_keys : Item → List ItemKey
 item_keys (declared_type c n) = type_key c ∷ []
 item_keys (declared_constant c a) = constant_key c ∷ []
 item_keys (defined_constant c r) = constant_key c ∷ []
 item_keys (defined_type c abs rep p) = type_key c ∷ constant_key abs ∷ constant_key rep ∷ []
 item_keys (declared_axiom n p) = axiom_key n ∷ []
 
-abbrev pub key_eq : Key → Key → Bool
+abbrev pub key_eq : ItemKey → ItemKey → Bool
 key_eq (type_key c) (type_key d) = bytes_eq c d
 key_eq (constant_key c) (constant_key d) = bytes_eq c d
 key_eq (axiom_key m) (axiom_key n) = bytes_eq m n
-key_eq _ _ = false
+key_eq (type_key c) (constant_key d) = false
+key_eq (type_key c) (axiom_key n) = false
+key_eq (constant_key c) (type_key d) = false
+key_eq (constant_key c) (axiom_key n) = false
+key_eq (axiom_key m) (type_key d) = false
+key_eq (axiom_key m) (constant_key d) = false
 
 -- the item has the name
-abbrev pub has_key : Item → Key → Bool
+abbrev pub has_key : Item → ItemKey → Bool
 has_key x k = list_any (key_eq k) (item_keys x)
 
 -- the prelude has the name
-abbrev pub prelude_has : Key → Bool
+abbrev pub prelude_has : ItemKey → Bool
 prelude_has (type_key c) = list_any (λ p. bytes_eq c p.0) prelude_types
 prelude_has (constant_key c) = list_any (λ p. bytes_eq c p.0) prelude_constants
 prelude_has (axiom_key n) = list_any (bytes_eq n) prelude_axioms

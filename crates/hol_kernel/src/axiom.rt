@@ -2,9 +2,9 @@
 ghost use Rattle.std.specs.Prelude.{◌≡◌, IfOk, MatchOption, Some, None, []};
 ghost use Rattle.hol_terms.specs.Nameless.{nameless};
 ghost use Rattle.hol_kernel.specs.Items.{IsSubset};
-ghost use Rattle.hol_kernel.specs.Theorem.{theorem_over};
+ghost use Rattle.hol_kernel.specs.Theorem.{theorem_on};
 ghost use Rattle.hol_kernel.specs.Extends.{IsAxiomOf};
-ghost use Rattle.hol_kernel.specs.Gives.{GivesSome};
+ghost use Rattle.hol_kernel.specs.Gives.{GivesSome, in_kernel};
 ghost use Rattle.hol_kernel.specs.Clashing.{axiom_at, axiom_in};
 ghost use Rattle.hol_kernel.specs.declared.error.Rule.TheVariants as rule;
 
@@ -13,7 +13,6 @@ use crate::error::{KernelError, Rule};
 use crate::hypotheses::Hypotheses;
 use crate::item::{Item, ItemNode};
 use crate::thm::Thm;
-use hol_formulas::copy_of;
 use hol_terms::Term;
 use hol_types::Name;
 use std::alloc::{AllocError, Global};
@@ -21,31 +20,27 @@ use std::alloc::{AllocError, Global};
 impl Thm {
     /// The axiom of the name among the basis's items (fusion.ml, new_axiom): `|- p`.
     ///
-    /// Refused by [`Rule::AxiomOf`] where there is none. The only other error is want of memory.
+    /// Refused by [`Rule::AxiomOf`] where there is none.
     pub fn axiom_of(alloc: Global, basis: &Basis, name: &Name) -> Result<Thm, KernelError>
-        ensures { GivesSome rule.AxiomOf (IsAxiomOf basis.now name.now) result }
+        ensures { GivesSome in_kernel rule.AxiomOf (IsAxiomOf basis.now name.now) result }
     {
         let Some(p) = find_axiom(basis.items(), name) else {
             return Err(KernelError::Refused(Rule::AxiomOf));
         };
-        let concl = copy_of(p)?;
-        let own = basis.copy()?;
+        let concl = p.copy()?;
         let hyps = Hypotheses::none(alloc)?;
-        Ok(Thm::made(own, hyps, concl))
+        Ok(Thm::closed(basis, hyps, concl)?)
     }
 
     /// The same sequent over a basis that contains the theorem's.
-    ///
-    /// Answers an error where memory is short, and nowhere else.
     pub fn widen(&self, basis: &Basis) -> Result<Thm, AllocError>
         requires within { IsSubset self.now.basis basis.now }
-        ensures { IfOk result (λ th. th ≡ theorem_over basis.now self.now.hyps self.now.concl) }
+        ensures { IfOk result (λ th. th ≡ theorem_on basis.now self.now.sequent) }
     {
         self.promise();
-        let own = basis.copy()?;
         let hyps = self.hypotheses().copy()?;
-        let concl = copy_of(self.concl())?;
-        Ok(Thm::made(own, hyps, concl))
+        let concl = self.concl().copy()?;
+        Thm::closed(basis, hyps, concl)
     }
 }
 
@@ -56,7 +51,10 @@ impl Item {
     {
         match self.node() {
             ItemNode::Axiom(own, p) => { if name.same(own) { Some(p) } else { None } }
-            _ => None,
+            ItemNode::DeclaredType(..) => None,
+            ItemNode::DeclaredConstant(..) => None,
+            ItemNode::DefinedConstant(..) => None,
+            ItemNode::DefinedType { .. } => None,
         }
     }
 }

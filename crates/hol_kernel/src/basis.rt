@@ -48,8 +48,6 @@ impl Basis {
     }
 
     /// The basis without items: the prelude alone.
-    ///
-    /// Answers an error where memory is short, and nowhere else.
     pub fn empty(alloc: Global) -> Result<Basis, AllocError>
         ensures { IfOk result (λ basis. basis ≡ no_items) }
     {
@@ -58,8 +56,6 @@ impl Basis {
     }
 
     /// The same basis.
-    ///
-    /// Answers an error where memory is short, and nowhere else.
     pub fn copy(&self) -> Result<Basis, AllocError>
         ensures { IfOk result (λ basis. basis ≡ self.now) }
     {
@@ -108,8 +104,6 @@ impl Basis {
     }
 
     /// Whether the constant stands, and the type is an instance of its generic type.
-    ///
-    /// Answers an error where memory is short, and nowhere else.
     pub fn has_constant(&self, alloc: Global, constant: &Name, ty: &Ty) -> Result<bool, AllocError>
         ensures { IfOk result (λ has. has ≡ has_constant self.now constant.now ty.now) }
     {
@@ -120,8 +114,6 @@ impl Basis {
     }
 
     /// Whether the term is well typed over the prelude and the items.
-    ///
-    /// Answers an error where memory is short, and nowhere else.
     #[tactic(auto, using(crate::proofs::Typed::typed_named))]
     pub fn is_typed(&self, alloc: Global, term: &Term) -> Result<bool, AllocError>
         ensures { IfOk result (λ is. is ≡ is_typed self.now (nameless [] term.now)) }

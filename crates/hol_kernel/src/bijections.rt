@@ -6,14 +6,12 @@ ghost use Rattle.hol_terms.specs.Nameless.{nameless};
 ghost use Rattle.hol_formulas.specs.Equation.{bool_type, mk_eq};
 ghost use Rattle.hol_kernel.specs.Bijections.{abs_rep, rep_abs};
 
-use hol_formulas::{application, constant, mk_eq, mk_iff, occurrence, variable};
+use hol_formulas::{constant, mk_eq, mk_iff, occurrence, variable};
 use hol_terms::Term;
 use hol_types::{Name, Ty};
 use std::alloc::{AllocError, Global};
 
 /// `abs (rep a) = a`, for a variable `a` of the new type.
-///
-/// Answers an error where memory is short, and nowhere else.
 pub fn abs_rep(
     alloc: Global,
     abs: &Name,
@@ -32,8 +30,6 @@ pub fn abs_rep(
 }
 
 /// `P r = (rep (abs r) = r)`, for a variable `r` of the type that the predicate is about.
-///
-/// Answers an error where memory is short, and nowhere else.
 #[tactic(auto, using(hol_formulas::proofs::PartTypes::applications))]
 pub fn rep_abs(
     alloc: Global,
@@ -49,7 +45,7 @@ pub fn rep_abs(
 {
     let v = variable(alloc, "r", old)?;
     let r = occurrence(alloc, &v)?;
-    let left = application(alloc, predicate, &r)?;
+    let left = Term::application(alloc, predicate, &r)?;
     let right = returns(alloc, abs, rep, old, new, &r)?;
     mk_iff(alloc, &left, &right)
 }
@@ -81,5 +77,5 @@ fn image(alloc: Global, name: &Name, domain: &Ty, range: &Ty, x: &Term) -> Resul
 {
     let ty = Ty::fun(alloc, domain, range)?;
     let function = constant(alloc, name, &ty)?;
-    application(alloc, &function, x)
+    Term::application(alloc, &function, x)
 }

@@ -4,14 +4,14 @@ ghost use Rattle.hol_types.specs.Names.{tyvars, is_among};
 ghost use Rattle.hol_terms.specs.Named.{named_type};
 ghost use Rattle.hol_terms.specs.Nameless.{nameless, fixed};
 ghost use Rattle.hol_kernel.specs.Item.{defined_constant};
-ghost use Rattle.hol_kernel.specs.Items.{Holds};
+ghost use Rattle.hol_kernel.specs.Items.{Holds, IsSubset};
 ghost use Rattle.hol_kernel.specs.Sequent.{no_hyps};
 ghost use Rattle.hol_formulas.specs.Equation.{equation};
 ghost use Rattle.hol_kernel.specs.Signature.{term_tyvars};
 ghost use Rattle.hol_kernel.specs.Typing.{HasType};
 ghost use Rattle.hol_kernel.specs.Theorem.{theorem_over};
 ghost use Rattle.hol_kernel.specs.Extends.{IsDefine};
-ghost use Rattle.hol_kernel.specs.Gives.{GivesSome};
+ghost use Rattle.hol_kernel.specs.Gives.{GivesSome, in_kernel};
 ghost use Rattle.hol_kernel.specs.Defining.{is_closed, are_among, is_definable};
 ghost use Rattle.hol_kernel.specs.declared.error.Rule.TheVariants as rule;
 
@@ -19,10 +19,10 @@ use crate::basis::Basis;
 use crate::error::{KernelError, Rule};
 use crate::hypotheses::Hypotheses;
 use crate::item::{Item, ItemNode};
-use crate::kind::Kind;
+use crate::item_kind::ItemKind;
 use crate::term_tyvars::term_tyvars;
 use crate::thm::Thm;
-use hol_formulas::{constant, copy_of, mk_eq};
+use hol_formulas::{constant, mk_eq};
 use hol_terms::Term;
 use hol_types::{Name, Ty};
 use std::alloc::{AllocError, Global};
@@ -31,16 +31,17 @@ impl Basis {
     /// The basis with the constant `c` defined as the term `r`, and `|- c = r` over it (fusion.ml, new_basic_definition).
     ///
     /// Refused by [`Rule::Define`] where the name is not new among constants, where `r` is not well typed over the basis or not
-    /// closed, and where a type variable of `r` does not occur in its type. The only other error is want of memory.
+    /// closed, and where a type variable of `r` does not occur in its type.
     pub fn define(
         &self,
         alloc: Global,
         name: &Name,
         right: &Term,
     ) -> Result<(Basis, Thm), KernelError>
-        ensures { GivesSome rule.Define (λ made. IsDefine self.now name.now (nameless [] right.now) made.0 made.1) result }
+        ensures made { GivesSome in_kernel rule.Define (λ made. IsDefine self.now name.now (nameless [] right.now) made.0 made.1) result }
+        ensures larger { IfOk result (λ made. IsSubset self.now made.0) }
     {
-        if !self.is_new(Kind::Constant, name) {
+        if !self.is_new(ItemKind::Constant, name) {
             return Err(KernelError::Refused(Rule::Define));
         }
         let ty = right.type_of();
@@ -50,7 +51,7 @@ impl Basis {
         }
         let item = Item::made(
             alloc,
-            ItemNode::DefinedConstant(name.copy()?, copy_of(right)?),
+            ItemNode::DefinedConstant(name.copy()?, right.copy()?),
         )?;
         let basis = self.extended(alloc, item)?;
         let th = basis.definition(alloc, name, right, ty)?;
@@ -87,23 +88,18 @@ impl Basis {
     {
         let left = constant(alloc, name, ty)?;
         let concl = mk_eq(alloc, ty, &left, right)?;
-        let own = self.copy()?;
         let hyps = Hypotheses::none(alloc)?;
-        Ok(Thm::made(own, hyps, concl))
+        Thm::closed(self, hyps, concl)
     }
 }
 
 /// Whether no variable is free in the term.
-///
-/// Answers an error where memory is short, and nowhere else.
 #[tactic(auto, using(crate::proofs::Definable::none_free))]
 pub fn is_closed(alloc: Global, term: &Term) -> Result<bool, AllocError>
     ensures { IfOk result (λ is. is ≡ is_closed (nameless [] term.now)) }
 {
-    match term.frees(alloc) {
-        Ok(variables) => Ok(variables.is_empty()),
-        Err(_) => Err(AllocError),
-    }
+    let variables = term.frees(alloc)?;
+    Ok(variables.is_empty())
 }
 
 // Whether each of the names is one of the others.

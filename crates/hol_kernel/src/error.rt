@@ -1,5 +1,5 @@
 //! Why a call of the kernel gives nothing.
-ghost use Rattle.std.specs.Prelude.{◌≡◌};
+ghost use Rattle.std.specs.Prelude.{◌≡◌, IfOk};
 ghost use Rattle.hol_kernel.specs.declared.error.KernelError.TheVariants.{Memory};
 
 use hol_types::Name;
@@ -24,8 +24,6 @@ pub enum Rule {
     Assume,
     /// From `l = r` and `l`, `r`.
     EqMp,
-    /// From `A |- p` and `B |- q`, `(A - q) u (B - p) |- p = q`.
-    DeductAntisym,
     /// Types for type variables.
     InstType,
     /// Terms for variables.
@@ -56,6 +54,19 @@ pub enum KernelError {
     /// Memory is short.
     #[error("out of memory")]
     Memory,
+}
+
+impl KernelError {
+    /// The same error.
+    pub fn copy(&self) -> Result<KernelError, AllocError>
+        ensures { IfOk result (λ error. error ≡ self.now) }
+    {
+        Ok(match self {
+            KernelError::Refused(rule) => KernelError::Refused(*rule),
+            KernelError::Clash(name) => KernelError::Clash(name.copy()?),
+            KernelError::Memory => KernelError::Memory,
+        })
+    }
 }
 
 impl fmt::Debug for KernelError {

@@ -8,9 +8,9 @@ ghost use Rattle.hol_terms.specs.Nameless.{nameless, free_occurrences};
 ghost use Rattle.hol_terms.specs.Scoped.{binds};
 ghost use Rattle.hol_subst.specs.Variant.{is_free_in};
 ghost use Rattle.hol_terms.specs.Alpha.{alpha_eq};
-ghost use Rattle.hol_kernel.specs.Sequent.{nameless_cmp, no_hyps, hyp_of, hyps_of};
+ghost use Rattle.hol_kernel.specs.Sequent.{no_hyps, hyp_of, hyps_of};
+ghost use Rattle.hol_subst.specs.AlphaOrder.{nameless_cmp};
 
-use hol_formulas::copy_of;
 use hol_subst::alpha_order;
 use hol_terms::{Term, Variable};
 use std::alloc::{AllocError, Global};
@@ -29,7 +29,8 @@ impl Model for Hypotheses {
     ghost use Rattle.std.specs.List.Sorted.{IsStrictlySortedBy};
     ghost use Rattle.std.specs.FinSet as set;
     ghost use Rattle.hol_terms.specs.Code.{coded_nameless};
-    ghost use Rattle.hol_kernel.specs.Sequent.{Hyps, nameless_cmp, hyp_of, hyps_of};
+    ghost use Rattle.hol_kernel.specs.Sequent.{Hyps, hyp_of, hyps_of};
+    ghost use Rattle.hol_subst.specs.AlphaOrder.{nameless_cmp};
 
     ghost Value = { Hyps };
 
@@ -52,8 +53,6 @@ impl Hypotheses {
     }
 
     /// No hypothesis.
-    ///
-    /// Answers an error where memory is short, and nowhere else.
     pub fn none(alloc: Global) -> Result<Hypotheses, AllocError>
         ensures { IfOk result (λ hyps. hyps ≡ no_hyps) }
     {
@@ -62,19 +61,15 @@ impl Hypotheses {
     }
 
     /// One hypothesis.
-    ///
-    /// Answers an error where memory is short, and nowhere else.
     pub fn one(alloc: Global, p: &Term) -> Result<Hypotheses, AllocError>
         ensures { IfOk result (λ hyps. hyps ≡ set.insert no_hyps (hyp_of p.now)) }
     {
         let mut terms = Vec::new(alloc);
-        terms.push(copy_of(p)?)?;
+        terms.push(p.copy()?)?;
         Hypotheses::made(alloc, terms)
     }
 
     /// The hypotheses of a list in any order.
-    ///
-    /// Answers an error where memory is short, and nowhere else.
     #[tactic(auto, using(crate::proofs::HypothesisLists::sorts))]
     pub fn collected(alloc: Global, terms: &[Term]) -> Result<Hypotheses, AllocError>
         ensures { IfOk result (λ hyps. hyps ≡ hyps_of terms.now) }
@@ -84,8 +79,6 @@ impl Hypotheses {
     }
 
     /// The same hypotheses.
-    ///
-    /// Answers an error where memory is short, and nowhere else.
     pub fn copy(&self) -> Result<Hypotheses, AllocError>
         ensures { IfOk result (λ hyps. hyps ≡ self.now) }
     {
@@ -103,8 +96,6 @@ impl Hypotheses {
     }
 
     /// The hypotheses of both.
-    ///
-    /// Answers an error where memory is short, and nowhere else.
     #[tactic(auto, using(crate::proofs::HypothesisLists::unions))]
     pub fn union(&self, alloc: Global, other: &Hypotheses) -> Result<Hypotheses, AllocError>
         ensures { IfOk result (λ hyps. hyps ≡ set.union self.now other.now) }
@@ -121,8 +112,6 @@ impl Hypotheses {
     }
 
     /// The hypotheses but the one that is alpha equivalent to the term.
-    ///
-    /// Answers an error where memory is short, and nowhere else.
     #[tactic(auto, using(crate::proofs::HypothesisLists::removals))]
     pub fn without(&self, alloc: Global, p: &Term) -> Result<Hypotheses, AllocError>
         ensures { IfOk result (λ hyps. hyps ≡ set.remove self.now (hyp_of p.now)) }
@@ -159,7 +148,6 @@ fn is_free_in_one(terms: &[Term], v: &Variable) -> bool
 }
 
 // The order of hypotheses.
-#[tactic(auto, using(hol_subst::proofs::AlphaOrder::alpha_codes))]
 fn hypothesis_order(p: &Term, q: &Term) -> Ordering
     ensures { result ≡ nameless_cmp (hyp_of p.now) (hyp_of q.now) }
 {
@@ -193,16 +181,16 @@ fn merged(alloc: Global, first: &[Term], second: &[Term]) -> Result<Vec<Term>, A
     while i < first.len() && j < second.len() {
         match hypothesis_order(&first[i], &second[j]) {
             Ordering::Less => {
-                all.push(copy_of(&first[i])?)?;
+                all.push(first[i].copy()?)?;
                 i += 1;
             }
             Ordering::Equal => {
-                all.push(copy_of(&first[i])?)?;
+                all.push(first[i].copy()?)?;
                 i += 1;
                 j += 1;
             }
             Ordering::Greater => {
-                all.push(copy_of(&second[j])?)?;
+                all.push(second[j].copy()?)?;
                 j += 1;
             }
         }
@@ -217,7 +205,7 @@ fn copy_to(all: &mut Vec<Term>, terms: &[Term]) -> Result<(), AllocError>
     ensures { OnOk result (all.new.items ≡ all.old.items ++ terms.now) }
 {
     for p in terms {
-        all.push(copy_of(p)?)?;
+        all.push(p.copy()?)?;
     }
     Ok(())
 }
@@ -231,7 +219,7 @@ fn left_of(alloc: Global, terms: &[Term], p: &Term) -> Result<Vec<Term>, AllocEr
         if q.alpha_equivalent(p) {
             continue;
         }
-        rest.push(copy_of(q)?)?;
+        rest.push(q.copy()?)?;
     }
     Ok(rest)
 }

@@ -6,7 +6,8 @@ ghost use Rattle.hol_subst.specs.Substitution.{types_inst, term_subst};
 ghost use Rattle.hol_subst.specs.Pairs.{nameless_pairs, HasBadPair};
 ghost use Rattle.hol_kernel.specs.Typing.{are_types_for};
 ghost use Rattle.hol_kernel.specs.Rules.{inst_type_of, inst_of, is_pair_at, are_pairs_over};
-ghost use Rattle.hol_kernel.specs.Gives.{Gives};
+ghost use Rattle.hol_kernel.specs.Theorem.{over};
+ghost use Rattle.hol_kernel.specs.Gives.{Gives, in_kernel};
 ghost use Rattle.hol_kernel.specs.declared.error.Rule.TheVariants as rule;
 
 use crate::basis::Basis;
@@ -22,10 +23,9 @@ impl Thm {
     /// The rule of instantiation of types (fusion.ml, INST_TYPE): types for type variables, in all hypotheses and the conclusion, by
     /// pairs of a type and a type variable's name, of which the first of a name counts.
     ///
-    /// Refused by [`Rule::InstType`] where a pair's type is none over the prelude and the theorem's basis. The only other error is
-    /// want of memory.
+    /// Refused by [`Rule::InstType`] where a pair's type is none over the prelude and the theorem's basis.
     pub fn inst_type(alloc: Global, pairs: &[(Ty, Name)], a: &Thm) -> Result<Thm, KernelError>
-        ensures sequent { Gives rule.InstType (inst_type_of pairs.now a.now) result }
+        ensures sequent { Gives in_kernel rule.InstType (over a.now.basis (inst_type_of a.now.basis pairs.now a.now.sequent)) result }
         ensures basis { IfOk result (λ th. th.basis ≡ a.now.basis) }
     {
         a.promise();
@@ -34,18 +34,17 @@ impl Thm {
         }
         let concl = with_types(alloc, pairs, a.concl())?;
         let terms = all_with_types(alloc, pairs, a.hyps())?;
-        let basis = a.basis().copy()?;
         let hyps = Hypotheses::collected(alloc, &terms)?;
-        Ok(Thm::made(basis, hyps, concl))
+        Ok(Thm::closed(a.basis(), hyps, concl)?)
     }
 
     /// The rule of instantiation (fusion.ml, INST): terms for variables, in all hypotheses and the conclusion, by pairs of a term and
     /// a variable, of which the first of a variable counts.
     ///
     /// Refused by [`Rule::Inst`] where a pair's second part is no variable of the first part's type, or its first part is not well
-    /// typed over the prelude and the theorem's basis. The only other error is want of memory.
+    /// typed over the prelude and the theorem's basis.
     pub fn inst(alloc: Global, pairs: &[(Term, Term)], a: &Thm) -> Result<Thm, KernelError>
-        ensures sequent { Gives rule.Inst (inst_of pairs.now a.now) result }
+        ensures sequent { Gives in_kernel rule.Inst (over a.now.basis (inst_of a.now.basis pairs.now a.now.sequent)) result }
         ensures basis { IfOk result (λ th. th.basis ≡ a.now.basis) }
     {
         a.promise();
@@ -54,9 +53,8 @@ impl Thm {
         }
         let concl = with_terms(alloc, pairs, a.concl())?;
         let terms = all_with_terms(alloc, pairs, a.hyps())?;
-        let basis = a.basis().copy()?;
         let hyps = Hypotheses::collected(alloc, &terms)?;
-        Ok(Thm::made(basis, hyps, concl))
+        Ok(Thm::closed(a.basis(), hyps, concl)?)
     }
 }
 
@@ -76,11 +74,7 @@ fn are_types(basis: &Basis, pairs: &[(Ty, Name)]) -> bool
 fn with_types(alloc: Global, pairs: &[(Ty, Name)], term: &Term) -> Result<Term, AllocError>
     ensures { IfOk result (λ r. nameless [] r ≡ types_inst pairs.now (nameless [] term.now)) }
 {
-    match hol_subst::inst(alloc, pairs, term) {
-        Ok(instance) => Ok(instance),
-        Err(SubstError::Memory) => Err(AllocError),
-        Err(SubstError::BadPair) => unreachable!(),
-    }
+    hol_subst::inst(alloc, pairs, term)
 }
 
 // The terms with types for their type variables.

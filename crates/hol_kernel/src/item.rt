@@ -1,9 +1,9 @@
 //! Items: what is declared, defined or assumed beyond the prelude.
-ghost use Rattle.std.specs.Prelude.{◌≡◌, ◌||◌, IfOk};
+ghost use Rattle.std.specs.Prelude.{◌≡◌, [], ◌∷◌, IfOk};
 ghost use Rattle.std.specs.List.{list_any};
 ghost use Rattle.hol_types.specs.Fun.{fun_type};
-ghost use Rattle.hol_kernel.specs.Signature.{makes_type, makes_constant, new_type};
-ghost use Rattle.hol_formulas.specs.Constants.{is_constant_at, is_constructor};
+ghost use Rattle.hol_kernel.specs.Signature.{item_types, item_constants, makes_type, makes_constant, new_type};
+ghost use Rattle.hol_formulas.specs.Constants.{is_constant_at};
 ghost use Rattle.hol_kernel.specs.ItemView.{item_of, HasParameters};
 
 use hol_formulas::is_instance;
@@ -75,14 +75,54 @@ impl Item {
     }
 
     /// The same item.
-    ///
-    /// Answers an error where memory is short, and nowhere else.
     pub fn copy(&self) -> Result<Item, AllocError>
         ensures { IfOk result (λ item. item ≡ self.now) }
     {
         Ok(Item {
             node: self.node.clone()?,
         })
+    }
+
+    /// The type constructors that the item makes, with their arities.
+    pub fn types(&self, alloc: Global) -> Result<Vec<(Name, usize)>, AllocError>
+        ensures { IfOk result (λ types. types.items ≡ item_types self.now) }
+    {
+        match self.node() {
+            ItemNode::DeclaredType(name, arity) => one_type(alloc, name, *arity as usize),
+            ItemNode::DefinedType {
+                name,
+                parameters,
+                ..
+            } => one_type(alloc, name, parameters.len()),
+            ItemNode::DeclaredConstant(..) => Ok(Vec::new(alloc)),
+            ItemNode::DefinedConstant(..) => Ok(Vec::new(alloc)),
+            ItemNode::Axiom(..) => Ok(Vec::new(alloc)),
+        }
+    }
+
+    /// The constants that the item makes, with their generic types.
+    pub fn constants(&self, alloc: Global) -> Result<Vec<(Name, Ty)>, AllocError>
+        ensures { IfOk result (λ constants. constants.items ≡ item_constants self.now) }
+    {
+        match self.node() {
+            ItemNode::DeclaredConstant(name, generic) => one_constant(alloc, name, generic),
+            ItemNode::DefinedConstant(name, term) => one_constant(alloc, name, term.type_of()),
+            ItemNode::DefinedType {
+                name,
+                abs,
+                rep,
+                predicate,
+                parameters,
+            } => {
+                let Some((domain, _)) = predicate.type_of().dest_fun() else {
+                    return Ok(Vec::new(alloc));
+                };
+                let new = new_type(alloc, name, parameters)?;
+                bijections(alloc, abs, rep, domain, &new)
+            }
+            ItemNode::DeclaredType(..) => Ok(Vec::new(alloc)),
+            ItemNode::Axiom(..) => Ok(Vec::new(alloc)),
+        }
     }
 
     /// Whether the item makes the type constructor at this arity.
@@ -96,14 +136,13 @@ impl Item {
                 parameters,
                 ..
             } => constructor.same(name) && arity == parameters.len(),
-            _ => false,
+            ItemNode::DeclaredConstant(..) => false,
+            ItemNode::DefinedConstant(..) => false,
+            ItemNode::Axiom(..) => false,
         }
     }
 
     /// Whether the item makes the constant, and the type is an instance of its generic type.
-    ///
-    /// Answers an error where memory is short, and nowhere else.
-    #[tactic(auto, using(hol_terms::proofs::Typing::type_outside))]
     pub fn makes_constant(
         &self,
         alloc: Global,
@@ -112,34 +151,62 @@ impl Item {
     ) -> Result<bool, AllocError>
         ensures { IfOk result (λ makes. makes ≡ makes_constant constant.now ty.now self.now) }
     {
-        match self.node() {
-            ItemNode::DeclaredConstant(name, generic) => is_constant_at(
-                alloc, constant, ty, name, generic,
-            ),
-            ItemNode::DefinedConstant(name, term) => {
-                is_constant_at(alloc, constant, ty, name, term.type_of())
-            }
-            ItemNode::DefinedType {
-                name,
-                abs,
-                rep,
-                predicate,
-                parameters,
-            } => {
-                let Some((domain, _)) = predicate.type_of().dest_fun() else {
-                    return Ok(false);
-                };
-                let new = new_type(alloc, name, parameters)?;
-                let to = Ty::fun(alloc, domain, &new)?;
-                if is_constant_at(alloc, constant, ty, abs, &to)? {
-                    return Ok(true);
-                }
-                let from = Ty::fun(alloc, &new, domain)?;
-                is_constant_at(alloc, constant, ty, rep, &from)
-            }
-            _ => Ok(false),
+        let constants = self.constants(alloc)?;
+        is_among(alloc, &constants, constant, ty)
+    }
+}
+
+// Whether the constant is one of these, and the type an instance of its generic type.
+fn is_among(
+    alloc: Global,
+    constants: &[(Name, Ty)],
+    constant: &Name,
+    ty: &Ty,
+) -> Result<bool, AllocError>
+    ensures { IfOk result (λ is. is ≡ list_any (is_constant_at constant.now ty.now) constants.now) }
+{
+    for own in constants {
+        if is_constant_at(alloc, constant, ty, &own.0, &own.1)? {
+            return Ok(true);
         }
     }
+    Ok(false)
+}
+
+// A type constructor with its arity.
+fn one_type(alloc: Global, name: &Name, arity: usize) -> Result<Vec<(Name, usize)>, AllocError>
+    ensures { IfOk result (λ types. types.items ≡ (name.now, arity) ∷ []) }
+{
+    let mut types = Vec::new(alloc);
+    types.push((name.copy()?, arity))?;
+    Ok(types)
+}
+
+// A constant with its generic type.
+fn one_constant(alloc: Global, name: &Name, generic: &Ty) -> Result<Vec<(Name, Ty)>, AllocError>
+    ensures { IfOk result (λ constants. constants.items ≡ (name.now, generic.now) ∷ []) }
+{
+    let mut constants = Vec::new(alloc);
+    constants.push((name.copy()?, generic.copy()?))?;
+    Ok(constants)
+}
+
+// The constants to and from a new type, with their generic types.
+fn bijections(
+    alloc: Global,
+    abs: &Name,
+    rep: &Name,
+    old: &Ty,
+    new: &Ty,
+) -> Result<Vec<(Name, Ty)>, AllocError>
+    ensures { IfOk result (λ constants. constants.items ≡ (abs.now, fun_type old.now new.now) ∷ (rep.now, fun_type new.now old.now) ∷ []) }
+{
+    let to = Ty::fun(alloc, old, new)?;
+    let from = Ty::fun(alloc, new, old)?;
+    let mut constants = Vec::new(alloc);
+    constants.push((abs.copy()?, to))?;
+    constants.push((rep.copy()?, from))?;
+    Ok(constants)
 }
 
 // Whether the constant has this name, and the type is an instance of this generic type.
@@ -159,8 +226,6 @@ fn is_constant_at(
 }
 
 /// The constructor over type variables of these names.
-///
-/// Answers an error where memory is short, and nowhere else.
 pub fn new_type(alloc: Global, name: &Name, parameters: &[Name]) -> Result<Ty, AllocError>
     ensures { IfOk result (λ ty. ty ≡ new_type name.now parameters.now) }
 {

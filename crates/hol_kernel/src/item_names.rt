@@ -4,25 +4,46 @@ ghost use Rattle.hol_kernel.specs.Signature.{has_key, item_keys};
 ghost use Rattle.hol_kernel.specs.Clashing.{key_at, rank_of, name_of, name_order, shared_in};
 
 use crate::item::{Item, ItemNode};
-use crate::kind::Kind;
+use crate::item_kind::ItemKind;
 use hol_types::Name;
 use std::cmp::Ordering;
 
 impl Item {
     /// Whether the item has the name, as one of this kind.
-    pub fn has_name(&self, kind: Kind, name: &Name) -> bool
+    pub fn has_name(&self, kind: ItemKind, name: &Name) -> bool
         ensures { result ≡ has_key self.now (key_at kind name.now) }
     {
-        match (self.node(), kind) {
-            (ItemNode::DeclaredType(own, _), Kind::Type) => name.same(own),
-            (ItemNode::DeclaredConstant(own, _), Kind::Constant) => name.same(own),
-            (ItemNode::DefinedConstant(own, _), Kind::Constant) => name.same(own),
-            (ItemNode::DefinedType { name: own, .. }, Kind::Type) => name.same(own),
-            (ItemNode::DefinedType { abs, rep, .. }, Kind::Constant) => {
-                name.same(abs) || name.same(rep)
-            }
-            (ItemNode::Axiom(own, _), Kind::Axiom) => name.same(own),
-            _ => false,
+        match self.node() {
+            ItemNode::DeclaredType(own, _) => match kind {
+                ItemKind::Type => name.same(own),
+                ItemKind::Constant => false,
+                ItemKind::Axiom => false,
+            },
+            ItemNode::DeclaredConstant(own, _) => match kind {
+                ItemKind::Type => false,
+                ItemKind::Constant => name.same(own),
+                ItemKind::Axiom => false,
+            },
+            ItemNode::DefinedConstant(own, _) => match kind {
+                ItemKind::Type => false,
+                ItemKind::Constant => name.same(own),
+                ItemKind::Axiom => false,
+            },
+            ItemNode::DefinedType {
+                name: own,
+                abs,
+                rep,
+                ..
+            } => match kind {
+                ItemKind::Type => name.same(own),
+                ItemKind::Constant => name.same(abs) || name.same(rep),
+                ItemKind::Axiom => false,
+            },
+            ItemNode::Axiom(own, _) => match kind {
+                ItemKind::Type => false,
+                ItemKind::Constant => false,
+                ItemKind::Axiom => name.same(own),
+            },
         }
     }
 
@@ -31,19 +52,19 @@ impl Item {
         ensures { MatchOption result (shared_in (item_keys self.now) other.now ≡ None) (λ name. shared_in (item_keys self.now) other.now ≡ Some name.now) }
     {
         match self.node() {
-            ItemNode::DeclaredType(name, _) => name_in(other, Kind::Type, name),
-            ItemNode::DeclaredConstant(name, _) => name_in(other, Kind::Constant, name),
-            ItemNode::DefinedConstant(name, _) => name_in(other, Kind::Constant, name),
+            ItemNode::DeclaredType(name, _) => name_in(other, ItemKind::Type, name),
+            ItemNode::DeclaredConstant(name, _) => name_in(other, ItemKind::Constant, name),
+            ItemNode::DefinedConstant(name, _) => name_in(other, ItemKind::Constant, name),
             ItemNode::DefinedType { name, abs, rep, .. } => {
-                if other.has_name(Kind::Type, name) {
+                if other.has_name(ItemKind::Type, name) {
                     return Some(name);
                 }
-                if other.has_name(Kind::Constant, abs) {
+                if other.has_name(ItemKind::Constant, abs) {
                     return Some(abs);
                 }
-                name_in(other, Kind::Constant, rep)
+                name_in(other, ItemKind::Constant, rep)
             }
-            ItemNode::Axiom(name, _) => name_in(other, Kind::Axiom, name),
+            ItemNode::Axiom(name, _) => name_in(other, ItemKind::Axiom, name),
         }
     }
 
@@ -51,36 +72,54 @@ impl Item {
     pub fn same(&self, other: &Item) -> bool
         ensures { IsTrue result ↔ (self.now ≡ other.now) }
     {
-        match (self.node(), other.node()) {
-            (ItemNode::DeclaredType(c, m), ItemNode::DeclaredType(d, n)) => c.same(d) && *m == *n,
-            (ItemNode::DeclaredConstant(c, a), ItemNode::DeclaredConstant(d, b)) => {
+        match self.node() {
+            ItemNode::DeclaredType(c, m) => {
+                let ItemNode::DeclaredType(d, n) = other.node() else {
+                    return false;
+                };
+                c.same(d) && *m == *n
+            }
+            ItemNode::DeclaredConstant(c, a) => {
+                let ItemNode::DeclaredConstant(d, b) = other.node() else {
+                    return false;
+                };
                 c.same(d) && a.same(b)
             }
-            (ItemNode::DefinedConstant(c, s), ItemNode::DefinedConstant(d, t)) => {
+            ItemNode::DefinedConstant(c, s) => {
+                let ItemNode::DefinedConstant(d, t) = other.node() else {
+                    return false;
+                };
                 c.same(d) && s.same(t)
             }
-            (
-                ItemNode::DefinedType {
-                    name: c,
-                    abs: to,
-                    rep: from,
-                    predicate: p,
+            ItemNode::DefinedType {
+                name: c,
+                abs: to,
+                rep: from,
+                predicate: p,
+                ..
+            } => {
+                let ItemNode::DefinedType {
+                    name,
+                    abs,
+                    rep,
+                    predicate,
                     ..
-                },
-                ItemNode::DefinedType {
-                    name: d,
-                    abs: other_to,
-                    rep: other_from,
-                    predicate: q,
-                    ..
-                },
-            ) => c.same(d) && to.same(other_to) && from.same(other_from) && p.same(q),
-            (ItemNode::Axiom(m, p), ItemNode::Axiom(n, q)) => m.same(n) && p.same(q),
-            _ => false,
+                } = other.node()
+                else {
+                    return false;
+                };
+                c.same(name) && to.same(abs) && from.same(rep) && p.same(predicate)
+            }
+            ItemNode::Axiom(m, p) => {
+                let ItemNode::Axiom(n, q) = other.node() else {
+                    return false;
+                };
+                m.same(n) && p.same(q)
+            }
         }
     }
 
-    // The order of items by kind, then by name.
+    /// The order of items by kind, then by name.
     pub(crate) fn name_order(&self, other: &Item) -> Ordering
         ensures { result ≡ name_order self.now other.now }
     {
@@ -103,8 +142,8 @@ impl Item {
         }
     }
 
-    // The item's first name.
-    fn name(&self) -> &Name
+    /// The name of what the item declares or defines: of a type definition, the type's.
+    pub fn name(&self) -> &Name
         ensures { result.now ≡ name_of self.now }
     {
         match self.node() {
@@ -118,7 +157,7 @@ impl Item {
 }
 
 // The name, where the item has it as one of this kind.
-fn name_in<'a>(item: &Item, kind: Kind, name: &'a Name) -> Option<&'a Name>
+fn name_in<'a>(item: &Item, kind: ItemKind, name: &'a Name) -> Option<&'a Name>
     ensures { MatchOption result (has_key item.now (key_at kind name.now) ≡ false) (λ own. (own.now ≡ name.now) × (has_key item.now (key_at kind name.now) ≡ true)) }
 {
     if item.has_name(kind, name) {

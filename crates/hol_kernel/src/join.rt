@@ -18,7 +18,7 @@ impl Basis {
     /// The basis of the items of both.
     ///
     /// Answers [`KernelError::Clash`] where two different items, one of each, have one name of a type, of a constant or of an axiom:
-    /// with such a name. The only other error is want of memory.
+    /// with such a name.
     pub fn join(alloc: Global, a: &Basis, b: &Basis) -> Result<Basis, KernelError>
         ensures joins { Joins a.now b.now result }
         ensures first { IfOk result (λ u. IsSubset a.now u) }
@@ -36,7 +36,8 @@ impl Basis {
     pub(crate) fn extended(&self, alloc: Global, item: Item) -> Result<Basis, AllocError>
         requires new { HasNewKeys self.now item }
         requires sound { IsSound self.now item }
-        ensures { IfOk result (λ basis. basis ≡ set.insert self.now item) }
+        ensures is { IfOk result (λ basis. basis ≡ set.insert self.now item) }
+        ensures larger { IfOk result (λ basis. IsSubset self.now basis) }
     {
         let mut one = Vec::new(alloc);
         one.push(item)?;

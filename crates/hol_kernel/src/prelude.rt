@@ -3,17 +3,17 @@ ghost use Rattle.std.specs.Prelude.{◌≡◌};
 ghost use Rattle.hol_kernel.specs.Signature.{constant_key, prelude_has};
 ghost use Rattle.hol_kernel.specs.Clashing.{key_at};
 
-use crate::kind::Kind;
+use crate::item_kind::ItemKind;
 use hol_types::Name;
 
 /// Whether the prelude has the name, as one of this kind.
-pub fn has_name(kind: Kind, name: &Name) -> bool
+pub fn has_name(kind: ItemKind, name: &Name) -> bool
     ensures { result ≡ prelude_has (key_at kind name.now) }
 {
     match kind {
-        Kind::Type => matches!(name.as_str(), "bool" | "fun" | "ind"),
-        Kind::Constant => has_constant_name(name),
-        Kind::Axiom => matches!(name.as_str(), "ETA_AX" | "SELECT_AX" | "INFINITY_AX"),
+        ItemKind::Type => matches!(name.as_str(), "bool" | "fun" | "ind"),
+        ItemKind::Constant => has_constant_name(name),
+        ItemKind::Axiom => matches!(name.as_str(), "ETA_AX" | "SELECT_AX" | "INFINITY_AX"),
     }
 }
 

@@ -1,62 +1,59 @@
 //! The primitive rules of HOL Light (fusion.ml) that need no substitution.
-ghost use Rattle.std.specs.Prelude.{◌≡◌, IfOk, Some, []};
+ghost use Rattle.std.specs.Prelude.{◌≡◌, IfOk, []};
 ghost use Rattle.hol_terms.specs.Nameless.{nameless};
 ghost use Rattle.hol_kernel.specs.Rules.{refl_of, assume_of, beta_of, trans_of, mk_comb_of, abs_of, eq_mp_of, deduct_antisym_of};
-ghost use Rattle.hol_kernel.specs.Gives.{Gives};
+ghost use Rattle.hol_kernel.specs.Theorem.{theorem_on, over};
+ghost use Rattle.hol_kernel.specs.Gives.{Gives, in_kernel};
 ghost use Rattle.hol_kernel.specs.declared.error.Rule.TheVariants as rule;
 
 use crate::basis::Basis;
 use crate::error::{KernelError, Rule};
 use crate::hypotheses::Hypotheses;
 use crate::thm::Thm;
-use hol_formulas::{abstraction, application, bool_type, copy_of, dest_eq, is_bool, mk_eq};
+use hol_formulas::{bool_type, dest_eq, is_bool, mk_eq};
 use hol_terms::{Term, TermNode};
 use hol_types::Ty;
-use std::alloc::Global;
+use std::alloc::{AllocError, Global};
 
 impl Thm {
     /// The rule of reflexivity (fusion.ml, REFL): `|- t = t` over the basis.
     ///
-    /// Refused by [`Rule::Refl`] where `t` is not well typed over the prelude and the basis. The only other error is want of memory.
+    /// Refused by [`Rule::Refl`] where `t` is not well typed over the prelude and the basis.
     #[tactic(auto, using(crate::proofs::TermRules::refls))]
     pub fn refl(alloc: Global, basis: &Basis, term: &Term) -> Result<Thm, KernelError>
-        ensures sequent { Gives rule.Refl (refl_of basis.now (nameless [] term.now)) result }
+        ensures sequent { Gives in_kernel rule.Refl (over basis.now (refl_of basis.now (nameless [] term.now))) result }
         ensures basis { IfOk result (λ th. th.basis ≡ basis.now) }
     {
         if !basis.is_typed(alloc, term)? {
             return Err(KernelError::Refused(Rule::Refl));
         }
         let concl = mk_eq(alloc, term.type_of(), term, term)?;
-        let basis = basis.copy()?;
         let hyps = Hypotheses::none(alloc)?;
-        Ok(Thm::made(basis, hyps, concl))
+        Ok(Thm::closed(basis, hyps, concl)?)
     }
 
     /// The rule of assumption (fusion.ml, ASSUME): `{p} |- p` over the basis.
     ///
-    /// Refused by [`Rule::Assume`] where `p` is not well typed over the prelude and the basis, or not of type `bool`. The only other
-    /// error is want of memory.
+    /// Refused by [`Rule::Assume`] where `p` is not well typed over the prelude and the basis, or not of type `bool`.
     #[tactic(auto, using(crate::proofs::TermRules::assumes))]
     pub fn assume(alloc: Global, basis: &Basis, p: &Term) -> Result<Thm, KernelError>
-        ensures sequent { Gives rule.Assume (assume_of basis.now (nameless [] p.now)) result }
+        ensures sequent { Gives in_kernel rule.Assume (over basis.now (assume_of basis.now (nameless [] p.now))) result }
         ensures basis { IfOk result (λ th. th.basis ≡ basis.now) }
     {
         if !is_bool(p.type_of()) || !basis.is_typed(alloc, p)? {
             return Err(KernelError::Refused(Rule::Assume));
         }
-        let concl = copy_of(p)?;
-        let basis = basis.copy()?;
+        let concl = p.copy()?;
         let hyps = Hypotheses::one(alloc, p)?;
-        Ok(Thm::made(basis, hyps, concl))
+        Ok(Thm::closed(basis, hyps, concl)?)
     }
 
     /// The rule of transitivity (fusion.ml, TRANS): from `s = m` and `n = t`, where `m` and `n` are alpha equivalent, `s = t`.
     ///
-    /// Refused by [`Rule::Trans`] where a theorem is no equation or `m` and `n` are not alpha equivalent. The only other error is
-    /// want of memory.
+    /// Refused by [`Rule::Trans`] where a theorem is no equation or `m` and `n` are not alpha equivalent.
     pub fn trans(alloc: Global, a: &Thm, b: &Thm) -> Result<Thm, KernelError>
         requires one_basis { a.now.basis ≡ b.now.basis }
-        ensures sequent { Gives rule.Trans (trans_of a.now b.now) result }
+        ensures sequent { Gives in_kernel rule.Trans (over a.now.basis (trans_of a.now.sequent b.now.sequent)) result }
         ensures basis { IfOk result (λ th. th.basis ≡ a.now.basis) }
     {
         a.promise();
@@ -71,18 +68,16 @@ impl Thm {
             return Err(KernelError::Refused(Rule::Trans));
         }
         let concl = mk_eq(alloc, x.ty, x.left, y.right)?;
-        let basis = a.basis().copy()?;
         let hyps = a.hypotheses().union(alloc, b.hypotheses())?;
-        Ok(Thm::made(basis, hyps, concl))
+        Ok(Thm::closed(a.basis(), hyps, concl)?)
     }
 
     /// The rule of application (fusion.ml, MK_COMB): from `f = g` and `x = y`, `f x = g y`.
     ///
-    /// Refused by [`Rule::MkComb`] where a theorem is no equation, or the type of `x` is not that of the argument of `f`. The only
-    /// other error is want of memory.
+    /// Refused by [`Rule::MkComb`] where a theorem is no equation, or the type of `x` is not that of the argument of `f`.
     pub fn mk_comb(alloc: Global, a: &Thm, b: &Thm) -> Result<Thm, KernelError>
         requires one_basis { a.now.basis ≡ b.now.basis }
-        ensures sequent { Gives rule.MkComb (mk_comb_of a.now b.now) result }
+        ensures sequent { Gives in_kernel rule.MkComb (over a.now.basis (mk_comb_of a.now.sequent b.now.sequent)) result }
         ensures basis { IfOk result (λ th. th.basis ≡ a.now.basis) }
     {
         a.promise();
@@ -99,21 +94,20 @@ impl Thm {
         if !domain.same(y.ty) {
             return Err(KernelError::Refused(Rule::MkComb));
         }
-        let left = application(alloc, x.left, y.left)?;
-        let right = application(alloc, x.right, y.right)?;
+        let left = Term::application(alloc, x.left, y.left)?;
+        let right = Term::application(alloc, x.right, y.right)?;
         let concl = mk_eq(alloc, range, &left, &right)?;
-        let basis = a.basis().copy()?;
         let hyps = a.hypotheses().union(alloc, b.hypotheses())?;
-        Ok(Thm::made(basis, hyps, concl))
+        Ok(Thm::closed(a.basis(), hyps, concl)?)
     }
 
     /// The rule of abstraction (fusion.ml, ABS): from `l = r`, for a variable `v` that is free in no hypothesis,
     /// `(\v. l) = (\v. r)`.
     ///
     /// Refused by [`Rule::Abs`] where the theorem is no equation, where `v` is no variable or not of a type over the theorem's basis,
-    /// and where it is free in a hypothesis. The only other error is want of memory.
+    /// and where it is free in a hypothesis.
     pub fn abs(alloc: Global, v: &Term, a: &Thm) -> Result<Thm, KernelError>
-        ensures sequent { Gives rule.Abs (abs_of v.now a.now) result }
+        ensures sequent { Gives in_kernel rule.Abs (over a.now.basis (abs_of a.now.basis v.now a.now.sequent)) result }
         ensures basis { IfOk result (λ th. th.basis ≡ a.now.basis) }
     {
         a.promise();
@@ -126,23 +120,21 @@ impl Thm {
         if !a.basis().is_type(variable.ty()) || a.hypotheses().has_free(variable) {
             return Err(KernelError::Refused(Rule::Abs));
         }
-        let left = abstraction(alloc, variable, x.left)?;
-        let right = abstraction(alloc, variable, x.right)?;
+        let left = Term::abstraction(alloc, variable, x.left)?;
+        let right = Term::abstraction(alloc, variable, x.right)?;
         let ty = Ty::fun(alloc, variable.ty(), x.ty)?;
         let concl = mk_eq(alloc, &ty, &left, &right)?;
-        let basis = a.basis().copy()?;
         let hyps = a.hypotheses().copy()?;
-        Ok(Thm::made(basis, hyps, concl))
+        Ok(Thm::closed(a.basis(), hyps, concl)?)
     }
 
     /// The rule of beta conversion (fusion.ml, BETA): `(\v. b) v = b` over the basis, for a term that is an abstraction applied to
     /// its own variable.
     ///
-    /// Refused by [`Rule::Beta`] where the term is of another form or not well typed over the prelude and the basis. The only other
-    /// error is want of memory.
+    /// Refused by [`Rule::Beta`] where the term is of another form or not well typed over the prelude and the basis.
     #[tactic(auto, using(crate::proofs::TermRules::betas))]
     pub fn beta(alloc: Global, basis: &Basis, redex: &Term) -> Result<Thm, KernelError>
-        ensures sequent { Gives rule.Beta (beta_of basis.now redex.now) result }
+        ensures sequent { Gives in_kernel rule.Beta (over basis.now (beta_of basis.now redex.now)) result }
         ensures basis { IfOk result (λ th. th.basis ≡ basis.now) }
     {
         let TermNode::Comb(function, argument) = redex.node() else {
@@ -158,18 +150,16 @@ impl Thm {
             return Err(KernelError::Refused(Rule::Beta));
         }
         let concl = mk_eq(alloc, redex.type_of(), redex, body)?;
-        let basis = basis.copy()?;
         let hyps = Hypotheses::none(alloc)?;
-        Ok(Thm::made(basis, hyps, concl))
+        Ok(Thm::closed(basis, hyps, concl)?)
     }
 
     /// The rule of modus ponens for equations (fusion.ml, EQ_MP): from `l = r` and `m`, where `l` and `m` are alpha equivalent, `r`.
     ///
-    /// Refused by [`Rule::EqMp`] where the first theorem is no equation or `l` and `m` are not alpha equivalent. The only other
-    /// error is want of memory.
+    /// Refused by [`Rule::EqMp`] where the first theorem is no equation or `l` and `m` are not alpha equivalent.
     pub fn eq_mp(alloc: Global, a: &Thm, b: &Thm) -> Result<Thm, KernelError>
         requires one_basis { a.now.basis ≡ b.now.basis }
-        ensures sequent { Gives rule.EqMp (eq_mp_of a.now b.now) result }
+        ensures sequent { Gives in_kernel rule.EqMp (over a.now.basis (eq_mp_of a.now.sequent b.now.sequent)) result }
         ensures basis { IfOk result (λ th. th.basis ≡ a.now.basis) }
     {
         a.promise();
@@ -180,19 +170,16 @@ impl Thm {
         if !x.left.alpha_equivalent(b.concl()) {
             return Err(KernelError::Refused(Rule::EqMp));
         }
-        let concl = copy_of(x.right)?;
-        let basis = a.basis().copy()?;
+        let concl = x.right.copy()?;
         let hyps = a.hypotheses().union(alloc, b.hypotheses())?;
-        Ok(Thm::made(basis, hyps, concl))
+        Ok(Thm::closed(a.basis(), hyps, concl)?)
     }
 
     /// The rule of deduction (fusion.ml, DEDUCT_ANTISYM_RULE): from `A |- p` and `B |- q`, `(A - q) u (B - p) |- p = q`.
-    ///
-    /// It applies to any two theorems. The only error is want of memory.
-    pub fn deduct_antisym(alloc: Global, a: &Thm, b: &Thm) -> Result<Thm, KernelError>
+    /// It applies to any two theorems.
+    pub fn deduct_antisym(alloc: Global, a: &Thm, b: &Thm) -> Result<Thm, AllocError>
         requires one_basis { a.now.basis ≡ b.now.basis }
-        ensures sequent { Gives rule.DeductAntisym (Some (deduct_antisym_of a.now b.now)) result }
-        ensures basis { IfOk result (λ th. th.basis ≡ a.now.basis) }
+        ensures { IfOk result (λ th. th ≡ theorem_on a.now.basis (deduct_antisym_of a.now.sequent b.now.sequent)) }
     {
         a.promise();
         b.promise();
@@ -200,8 +187,7 @@ impl Thm {
         let second = b.hypotheses().without(alloc, a.concl())?;
         let truth = bool_type(alloc)?;
         let concl = mk_eq(alloc, &truth, a.concl(), b.concl())?;
-        let basis = a.basis().copy()?;
         let hyps = first.union(alloc, &second)?;
-        Ok(Thm::made(basis, hyps, concl))
+        Thm::closed(a.basis(), hyps, concl)
     }
 }

@@ -12,8 +12,6 @@ use std::alloc::{AllocError, Global};
 use std::cmp::Ordering;
 
 /// The names of the type variables in the types of the term, each once, by bytes.
-///
-/// Answers an error where memory is short, and nowhere else.
 pub fn term_tyvars(alloc: Global, term: &Term) -> Result<Vec<Name>, AllocError>
     ensures { IfOk result (λ names. names.items ≡ term_tyvars (nameless [] term.now)) }
 {

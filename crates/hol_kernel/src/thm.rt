@@ -3,13 +3,13 @@ ghost use Rattle.std.specs.Prelude.{◌≡◌, IfOk, [], map};
 ghost use Rattle.std.specs.List.Sorted.{IsStrictlySortedBy};
 ghost use Rattle.hol_terms.specs.Named.{named_type};
 ghost use Rattle.hol_terms.specs.Nameless.{nameless};
-ghost use Rattle.hol_kernel.specs.Sequent.{nameless_cmp, hyp_of, hyps_of};
+ghost use Rattle.hol_kernel.specs.Sequent.{hyp_of, hyps_of};
+ghost use Rattle.hol_subst.specs.AlphaOrder.{nameless_cmp};
 ghost use Rattle.hol_formulas.specs.Equation.{bool_type};
 ghost use Rattle.hol_kernel.specs.Theorem.{theorem_over, IsDerived, IsTheorem, IsWellTyped};
 
 use crate::basis::Basis;
 use crate::hypotheses::Hypotheses;
-use hol_formulas::copy_of;
 use hol_terms::Term;
 use std::alloc::AllocError;
 use std::marker::Model;
@@ -37,12 +37,16 @@ impl Model for Thm {
 }
 
 impl Thm {
-    // Each rule ends here: the sequent has a derivation over the basis.
-    pub(crate) fn made(basis: Basis, hyps: Hypotheses, concl: Term) -> Thm
-        requires { IsDerived basis hyps concl }
-        ensures { result ≡ theorem_over basis hyps (nameless [] concl) }
+    /// The theorem of a sequent that has a derivation over the basis. Each rule ends here.
+    pub(crate) fn closed(basis: &Basis, hyps: Hypotheses, concl: Term) -> Result<Thm, AllocError>
+        requires { IsDerived basis.now hyps concl }
+        ensures { IfOk result (λ th. th ≡ theorem_over basis.now hyps (nameless [] concl)) }
     {
-        Thm { basis, hyps, concl }
+        Ok(Thm {
+            basis: basis.copy()?,
+            hyps,
+            concl,
+        })
     }
 
     /// The basis.
@@ -54,37 +58,35 @@ impl Thm {
 
     /// The hypotheses, each once up to the names of bound variables, in the order of their set.
     pub fn hyps(&self) -> &[Term]
-        ensures set { hyps_of result.now ≡ self.now.hyps }
+        ensures set { hyps_of result.now ≡ self.now.sequent.hyps }
         ensures ordered { IsStrictlySortedBy nameless_cmp (map hyp_of result.now) }
     {
         self.hyps.terms()
     }
 
-    // The hypotheses as one value.
+    /// The hypotheses as one value.
     pub(crate) fn hypotheses(&self) -> &Hypotheses
-        ensures { result.now ≡ self.now.hyps }
+        ensures { result.now ≡ self.now.sequent.hyps }
     {
         &self.hyps
     }
 
     /// The conclusion, of type `bool`.
     pub fn concl(&self) -> &Term
-        ensures concl { nameless [] result.now ≡ self.now.concl }
+        ensures concl { nameless [] result.now ≡ self.now.sequent.concl }
         ensures typed { named_type result.now ≡ Some bool_type }
     {
         &self.concl
     }
 
     /// The same theorem.
-    ///
-    /// Answers an error where memory is short, and nowhere else.
     pub fn copy(&self) -> Result<Thm, AllocError>
         ensures { IfOk result (λ th. th ≡ self.now) }
     {
         Ok(Thm {
             basis: self.basis.copy()?,
             hyps: self.hyps.copy()?,
-            concl: copy_of(&self.concl)?,
+            concl: self.concl.copy()?,
         })
     }
 

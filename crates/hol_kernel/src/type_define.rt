@@ -12,7 +12,7 @@ ghost use Rattle.hol_kernel.specs.Typing.{HasType};
 ghost use Rattle.hol_kernel.specs.Bijections.{abs_rep, rep_abs};
 ghost use Rattle.hol_kernel.specs.Theorem.{theorem_over};
 ghost use Rattle.hol_kernel.specs.Extends.{IsTypeDefine};
-ghost use Rattle.hol_kernel.specs.Gives.{GivesSome};
+ghost use Rattle.hol_kernel.specs.Gives.{GivesSome, in_kernel};
 ghost use Rattle.hol_kernel.specs.Defining.{are_new_names, IsMembership};
 ghost use Rattle.hol_kernel.specs.declared.error.Rule.TheVariants as rule;
 
@@ -22,11 +22,10 @@ use crate::define::is_closed;
 use crate::error::{KernelError, Rule};
 use crate::hypotheses::Hypotheses;
 use crate::item::{Item, ItemNode, new_type};
-use crate::kind::Kind;
+use crate::item_kind::ItemKind;
 use crate::term_tyvars::term_tyvars;
 use crate::thm::Thm;
 use crate::type_definition::TypeDefinition;
-use hol_formulas::copy_of;
 use hol_terms::{Term, TermNode};
 use hol_types::{Name, Ty};
 use std::alloc::{AllocError, Global};
@@ -57,7 +56,7 @@ impl Basis {
     /// parameters of the type are the type variables of `P`, by bytes.
     ///
     /// Refused by [`Rule::TypeDefine`] where the theorem has a hypothesis or its conclusion is no application, where a variable is free
-    /// in `P`, where a name is not new in its kind, and where `abs` and `rep` are the same. The only other error is want of memory.
+    /// in `P`, where a name is not new in its kind, and where `abs` and `rep` are the same.
     pub fn type_define(
         &self,
         alloc: Global,
@@ -67,7 +66,8 @@ impl Basis {
         th: &Thm,
     ) -> Result<TypeDefinition, KernelError>
         requires within { IsSubset th.now.basis self.now }
-        ensures { GivesSome rule.TypeDefine (λ made. IsTypeDefine self.now name.now abs.now rep.now th.now made.basis made.abs_rep made.rep_abs) result }
+        ensures made { GivesSome in_kernel rule.TypeDefine (λ made. IsTypeDefine self.now name.now abs.now rep.now th.now made.basis made.abs_rep made.rep_abs) result }
+        ensures larger { IfOk result (λ made. IsSubset self.now made.basis) }
     {
         th.promise();
         if !self.are_new(name, abs, rep) {
@@ -104,10 +104,10 @@ impl Basis {
     fn are_new(&self, name: &Name, abs: &Name, rep: &Name) -> bool
         ensures { result ≡ are_new_names self.now name.now abs.now rep.now }
     {
-        if !self.is_new(Kind::Type, name) || !self.is_new(Kind::Constant, abs) {
+        if !self.is_new(ItemKind::Type, name) || !self.is_new(ItemKind::Constant, abs) {
             return false;
         }
-        self.is_new(Kind::Constant, rep) && !abs.same(rep)
+        self.is_new(ItemKind::Constant, rep) && !abs.same(rep)
     }
 
     // What the type definition that the basis has says first: `|- abs (rep a) = a`.
@@ -118,9 +118,8 @@ impl Basis {
         ensures { IfOk result (λ th. th ≡ theorem_over self.now no_hyps (abs_rep new.now.abs.now new.now.rep.now new.now.predicate.domain.now new.now.ty.now)) }
     {
         let concl = bijections::abs_rep(alloc, new.abs, new.rep, new.predicate.domain, new.ty)?;
-        let own = self.copy()?;
         let hyps = Hypotheses::none(alloc)?;
-        Ok(Thm::made(own, hyps, concl))
+        Thm::closed(self, hyps, concl)
     }
 
     // What the type definition that the basis has says second: `|- P r = (rep (abs r) = r)`.
@@ -140,9 +139,8 @@ impl Basis {
             predicate.domain,
             new.ty,
         )?;
-        let own = self.copy()?;
         let hyps = Hypotheses::none(alloc)?;
-        Ok(Thm::made(own, hyps, concl))
+        Thm::closed(self, hyps, concl)
     }
 }
 
@@ -177,7 +175,7 @@ fn type_item(
         name: name.copy()?,
         abs: abs.copy()?,
         rep: rep.copy()?,
-        predicate: copy_of(predicate)?,
+        predicate: predicate.copy()?,
         parameters,
     };
     Item::made(alloc, node)

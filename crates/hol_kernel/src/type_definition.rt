@@ -18,8 +18,6 @@ pub struct TypeDefinition {
 
 impl TypeDefinition {
     /// The same type definition.
-    ///
-    /// Answers an error where memory is short, and nowhere else.
     pub fn copy(&self) -> Result<TypeDefinition, AllocError>
         ensures { IfOk result (λ made. made ≡ self.now) }
     {

@@ -4,7 +4,7 @@ use Rattle.hol_terms.specs.Nameless.{nameless, free_occurrences}
 use Rattle.hol_kernel.proofs.Definable.{none_free}
 use Rattle.hol_kernel.proofs.define.is_closed.Goals as goal
 
-pub returns-in-Ok : goal.returns-in-Ok
-returns-in-Ok c =
-    let empty : c.is_empty.result ≡ (length c.in-Ok.variables.items == 0) = search rules in
-    empty ∙ ap (λ (vs : List (List ℕ × TypeTree)). length vs == 0) c.in-Ok.ensures.ok ∙ none_free (free_occurrences (nameless [] c.args.term.now))
+pub returns : goal.returns
+returns c =
+    let empty : c.is_empty.result ≡ (length c.in_ok-variables.variables.items == 0) = search rules in
+    empty ∙ ap (λ (vs : List (List ℕ × TypeTree)). length vs == 0) c.in_ok-variables.ensures ∙ none_free (free_occurrences (nameless [] c.args.term.now))

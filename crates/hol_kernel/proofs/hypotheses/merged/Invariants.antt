@@ -1,6 +1,7 @@
 use Rattle.std.proofs.Common.{◌≡◌, ◌≤◌, ◌+◌, ◌-◌, true, ◌++◌, drop, length}
 use Rattle.std.specs.Set.{sorted_merge}
-use Rattle.hol_kernel.specs.Sequent.{nameless_cmp, hyp_of}
+use Rattle.hol_kernel.specs.Sequent.{hyp_of}
+use Rattle.hol_subst.specs.AlphaOrder.{nameless_cmp}
 use Rattle.hol_kernel.proofs.hypotheses.merged.Given as goal
 
 abbrev pub invariant-loop-i : goal.invariant-loop-i

@@ -5,11 +5,11 @@ use Rattle.hol_kernel.specs.Legal.{HasNewKeys, IsSound}
 use Rattle.hol_kernel.proofs.Declared.{constant_new, constant_taken, no_type}
 use Rattle.hol_kernel.proofs.basis.Basis.declare_const.Goals as goal
 
-pub returns-then-not-is_new : goal.returns-then-not-is_new
-returns-then-not-is_new c = (refl, λ t d. constant_taken c.args.self.now c.args.name.now c.args.ty.now t (sym c.is_new.ensures ∙ c.if-not-is_new.true) d)
+pub returns-then-not-is_new-clause-made : goal.returns-then-not-is_new-clause-made
+returns-then-not-is_new-clause-made c = (refl, λ t d. constant_taken c.args.self.now c.args.name.now c.args.ty.now t (sym c.is_new.ensures ∙ c.if-not-is_new.true) d)
 
-pub returns-then-not-is_type : goal.returns-then-not-is_type
-returns-then-not-is_type c = (refl, λ t d. no_type c.args.self.now c.args.name.now c.args.ty.now t (sym c.is_type.ensures ∙ c.if-not-is_type.true) d)
+pub returns-then-not-is_type-clause-made : goal.returns-then-not-is_type-clause-made
+returns-then-not-is_type-clause-made c = (refl, λ t d. no_type c.args.self.now c.args.name.now c.args.ty.now t (sym c.is_type.ensures ∙ c.if-not-is_type.true) d)
 
 pub extended-requires-clause-new : goal.extended-requires-clause-new
 extended-requires-clause-new c =
@@ -21,10 +21,10 @@ extended-requires-clause-sound c =
     let is : c.in_ok-item.item ≡ declared_constant c.args.name.now c.args.ty.now = c.in_ok-item.ensures ∙ (λ i. declared_constant (c.in_ok-copy.ensures i) (c.in_ok-copy-2.ensures i)) in
     subst (λ (x : Item). IsSound c.args.self.now x) (sym is) (sym c.is_type.ensures ∙ c.if-not-is_type.false)
 
-pub returns : goal.returns
-returns c =
+pub returns-clause-made : goal.returns-clause-made
+returns-clause-made c =
     let is : c.in_ok-item.item ≡ declared_constant c.args.name.now c.args.ty.now = c.in_ok-item.ensures ∙ (λ i. declared_constant (c.in_ok-copy.ensures i) (c.in_ok-copy-2.ensures i)) in (
       constant_new c.args.self.now c.args.name.now c.args.ty.now (sym c.is_new.ensures ∙ c.if-not-is_new.false),
       sym c.is_type.ensures ∙ c.if-not-is_type.false,
-      c.in_ok-extended.ensures ∙ ap (set.insert c.args.self.now) is,
+      c.in_ok-extended.ensures.is ∙ ap (set.insert c.args.self.now) is,
     )

@@ -11,4 +11,4 @@ returns-then-not-typed c = sym (untyped_is c.args.self.now (nameless [] c.args.p
 pub returns : goal.returns
 returns c =
     c.same.ensures.test ∙ ap (type_eq c.type_of.result.now) c.in_ok-truth.ensures
-    ∙ sym (typed_is c.args.self.now c.args.p.now c.type_of.result.now bool_type c.type_of.ensures (sym c.in_ok-typed.ensures ∙ c.if-not-typed.false))
+    ∙ sym (typed_is c.args.self.now c.args.p.now c.type_of.result.now bool_type c.type_of.ensures.named (sym c.in_ok-typed.ensures ∙ c.if-not-typed.false))

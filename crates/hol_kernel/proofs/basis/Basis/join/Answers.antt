@@ -2,7 +2,8 @@ use Rattle.std.proofs.Common.{List, sym, ◌∙◌, subst}
 use Rattle.std.specs.FinSet as set
 use Rattle.hol_kernel.specs.Item.{Item}
 use Rattle.hol_kernel.specs.Items.{Items, IsSubset}
-use Rattle.hol_kernel.proofs.Clashes.{none_between, some_between, agree_sets, clash_sets, merged_set, storable_union, subset_left, subset_right}
+use Rattle.hol_kernel.proofs.Clashes.{none_between, some_between, agree_sets, clash_sets, merged_set, storable_union}
+use Rattle.hol_kernel.proofs.Subsets.{subset_left, subset_right}
 use Rattle.hol_kernel.proofs.basis.Basis.join.Goals as goal
 
 pub returns-in-Some-clause-joins : goal.returns-in-Some-clause-joins

@@ -13,8 +13,8 @@ use Rattle.hol_kernel.specs.Theorem.{theorem_over}
 use Rattle.hol_kernel.proofs.TypeDefinitions.{names_new, names_taken, type_sound, predicate_typed, type_defined, type_held, typed_in_more}
 use Rattle.hol_kernel.proofs.basis.Basis.type_define.Goals as goal
 
-pub returns-then-not-are_new : goal.returns-then-not-are_new
-returns-then-not-are_new c =
+pub returns-then-not-are_new-clause-made : goal.returns-then-not-are_new-clause-made
+returns-then-not-are_new-clause-made c =
     (refl, λ t d. names_taken c.args.self.now c.args.name.now c.args.abs.now c.args.rep.now c.args.th.now t.basis t.abs_rep t.rep_abs d (sym c.are_new.ensures ∙ c.if-not-are_new.true))
 
 pub extended-requires-clause-new : goal.extended-requires-clause-new
@@ -30,31 +30,31 @@ extended-requires-clause-sound c =
 
 pub abs_rep-requires-clause-holds : goal.abs_rep-requires-clause-holds
 abs_rep-requires-clause-holds c =
-    type_held c.args.self.now c.in_ok-basis.basis c.args.name.now c.args.abs.now c.args.rep.now (nameless [] c.in-Some.predicate.term.now) (c.in_ok-basis.ensures ∙ ap (set.insert c.args.self.now) c.in_ok-item.ensures)
+    type_held c.args.self.now c.in_ok-basis.basis c.args.name.now c.args.abs.now c.args.rep.now (nameless [] c.in-Some.predicate.term.now) (c.in_ok-basis.ensures.is ∙ ap (set.insert c.args.self.now) c.in_ok-item.ensures)
 
 pub abs_rep-requires-clause-known : goal.abs_rep-requires-clause-known
 abs_rep-requires-clause-known c =
-    typed_in_more c.args.self.now c.in_ok-basis.basis c.args.name.now c.args.abs.now c.args.rep.now (nameless [] c.in-Some.predicate.term.now) (c.in_ok-basis.ensures ∙ ap (set.insert c.args.self.now) c.in_ok-item.ensures)
+    typed_in_more c.args.self.now c.in_ok-basis.basis c.args.name.now c.args.abs.now c.args.rep.now (nameless [] c.in-Some.predicate.term.now) (c.in_ok-basis.ensures.is ∙ ap (set.insert c.args.self.now) c.in_ok-item.ensures)
     (fun_type c.in-Some.predicate.domain.now bool_type)
     (predicate_typed c.args.self.now c.args.name.now c.args.abs.now c.args.rep.now c.args.th.now c.requires.within c.promise.ensures.derives c.in-Some.predicate.term.now c.in-Some.ensures.found.0 c.in-Some.predicate.domain.now
     c.in-Some.ensures.found.1 c.in-Some.ensures.typed)
 
 pub rep_abs-requires-clause-holds : goal.rep_abs-requires-clause-holds
 rep_abs-requires-clause-holds c =
-    type_held c.args.self.now c.in_ok-basis.basis c.args.name.now c.args.abs.now c.args.rep.now (nameless [] c.in-Some.predicate.term.now) (c.in_ok-basis.ensures ∙ ap (set.insert c.args.self.now) c.in_ok-item.ensures)
+    type_held c.args.self.now c.in_ok-basis.basis c.args.name.now c.args.abs.now c.args.rep.now (nameless [] c.in-Some.predicate.term.now) (c.in_ok-basis.ensures.is ∙ ap (set.insert c.args.self.now) c.in_ok-item.ensures)
 
 pub rep_abs-requires-clause-known : goal.rep_abs-requires-clause-known
 rep_abs-requires-clause-known c =
-    typed_in_more c.args.self.now c.in_ok-basis.basis c.args.name.now c.args.abs.now c.args.rep.now (nameless [] c.in-Some.predicate.term.now) (c.in_ok-basis.ensures ∙ ap (set.insert c.args.self.now) c.in_ok-item.ensures)
+    typed_in_more c.args.self.now c.in_ok-basis.basis c.args.name.now c.args.abs.now c.args.rep.now (nameless [] c.in-Some.predicate.term.now) (c.in_ok-basis.ensures.is ∙ ap (set.insert c.args.self.now) c.in_ok-item.ensures)
     (fun_type c.in-Some.predicate.domain.now bool_type)
     (predicate_typed c.args.self.now c.args.name.now c.args.abs.now c.args.rep.now c.args.th.now c.requires.within c.promise.ensures.derives c.in-Some.predicate.term.now c.in-Some.ensures.found.0 c.in-Some.predicate.domain.now
     c.in-Some.ensures.found.1 c.in-Some.ensures.typed)
 
-pub returns : goal.returns
-returns c =
+pub returns-clause-made : goal.returns-clause-made
+returns-clause-made c =
     let ty : c.in_ok-ty.ty ≡ new_type c.args.name.now (term_tyvars (nameless [] c.in-Some.predicate.term.now)) = c.in_ok-ty.ensures ∙ ap (new_type c.args.name.now) (c.deref.ensures.value ∙ c.in_ok-parameters.ensures) in
     type_defined c.args.self.now c.args.name.now c.args.abs.now c.args.rep.now c.args.th.now c.requires.within c.promise.ensures.derives c.in-Some.predicate.term.now c.in-Some.ensures.found.0 c.in-Some.predicate.domain.now
     c.in-Some.ensures.found.1 c.in-Some.ensures.typed c.in_ok-basis.basis c.in_ok-abs_rep.abs_rep c.in_ok-rep_abs.rep_abs (sym c.are_new.ensures ∙ c.if-not-are_new.false) (sym c.in_ok-closed.ensures ∙ c.if-not-closed.false)
-    (c.in_ok-basis.ensures ∙ ap (set.insert c.args.self.now) c.in_ok-item.ensures)
+    (c.in_ok-basis.ensures.is ∙ ap (set.insert c.args.self.now) c.in_ok-item.ensures)
     (c.in_ok-abs_rep.ensures ∙ ap (λ (t : TypeTree). theorem_over c.in_ok-basis.basis no_hyps (abs_rep c.args.abs.now c.args.rep.now c.in-Some.predicate.domain.now t)) ty)
     (c.in_ok-rep_abs.ensures ∙ ap (λ (t : TypeTree). theorem_over c.in_ok-basis.basis no_hyps (rep_abs c.args.abs.now c.args.rep.now (nameless [] c.in-Some.predicate.term.now) c.in-Some.predicate.domain.now t)) ty)

@@ -11,15 +11,15 @@ pub returns-in_default : goal.returns-in_default
 returns-in_default c =
     (refl, λ th d. no_axiom c.args.basis.now c.args.name.now th (ap (axiom_in c.args.name.now) (sym c.items.ensures.items) ∙ c.in_default.ensures) d)
 
-pub made-requires : goal.made-requires
-made-requires c =
+pub closed-requires : goal.closed-requires
+closed-requires c =
     let there : Holds c.args.basis.now (declared_axiom c.args.name.now (nameless [] c.in-Some.p.now)) =
     axiom_found c.args.basis.now c.args.name.now (nameless [] c.in-Some.p.now) (ap (axiom_in c.args.name.now) (sym c.items.ensures.items) ∙ c.in-Some.ensures) in
-    axiom_derived c.args.basis.now c.args.name.now c.in_ok-own.own c.in_ok-hyps.hyps c.in-Some.p.now c.in_ok-concl.concl c.items.ensures.legal c.in_ok-own.ensures
+    axiom_derived c.args.basis.now c.args.name.now c.args.basis.now c.in_ok-hyps.hyps c.in-Some.p.now c.in_ok-concl.concl c.items.ensures.legal refl
     c.in_ok-hyps.ensures c.in_ok-concl.ensures there
 
 pub returns : goal.returns
 returns c =
     let there : Holds c.args.basis.now (declared_axiom c.args.name.now (nameless [] c.in-Some.p.now)) =
     axiom_found c.args.basis.now c.args.name.now (nameless [] c.in-Some.p.now) (ap (axiom_in c.args.name.now) (sym c.items.ensures.items) ∙ c.in-Some.ensures) in
-    (nameless [] c.in-Some.p.now, there, c.made.ensures ∙ (λ i. theorem_over (c.in_ok-own.ensures i) (c.in_ok-hyps.ensures i) (nameless [] (c.in_ok-concl.ensures i))))
+    (nameless [] c.in-Some.p.now, there, c.in_ok-closed.ensures ∙ (λ i. theorem_over c.args.basis.now (c.in_ok-hyps.ensures i) (nameless [] (c.in_ok-concl.ensures i))))

@@ -1,7 +1,8 @@
-use Rattle.std.proofs.Common.{◌≡◌, [], true, ◌∙◌, rules}
+use Rattle.std.proofs.Common.{◌≡◌, [], true, ap, ◌∙◌, rules}
 use Rattle.hol_terms.specs.Nameless.{nameless}
 use Rattle.hol_subst.specs.Pairs.{nameless_pairs}
 use Rattle.hol_subst.specs.Substitution.{term_subst}
+use Rattle.hol_kernel.specs.Items.{Items}
 use Rattle.hol_kernel.specs.Sequent.{hyps_of, hyps_image}
 use Rattle.hol_kernel.specs.Rules.{are_pairs_over}
 use Rattle.hol_kernel.specs.Theorem.{theorem_over}
@@ -18,21 +19,21 @@ all_with_terms-requires c =
     let over : are_pairs_over c.args.a.now.basis c.args.pairs.now ≡ true = search rules in
     pairs_good c.args.a.now.basis c.args.pairs.now over
 
-pub made-requires : goal.made-requires
-made-requires c =
+pub closed-requires : goal.closed-requires
+closed-requires c =
     let over : are_pairs_over c.args.a.now.basis c.args.pairs.now ≡ true = search rules in
     let all : c.in_ok-hyps.hyps ≡ hyps_of c.in_ok-terms.terms.items = search rules in
-    let hyps : c.in_ok-hyps.hyps ≡ hyps_image (term_subst (nameless_pairs c.args.pairs.now) 0) c.args.a.now.hyps =
-    all ∙ terms_hyps c.args.pairs.now c.args.a.now.hyps c.hyps.result.now c.in_ok-terms.terms.items c.hyps.ensures.set c.in_ok-terms.ensures in
-    terms_derived c.args.pairs.now c.args.a.now c.concl.result.now c.in_ok-basis.basis c.in_ok-hyps.hyps c.in_ok-concl.concl
+    let hyps : c.in_ok-hyps.hyps ≡ hyps_image (term_subst (nameless_pairs c.args.pairs.now) 0) c.args.a.now.sequent.hyps =
+    all ∙ terms_hyps c.args.pairs.now c.args.a.now.sequent.hyps c.hyps.result.now c.in_ok-terms.terms.items c.hyps.ensures.set c.in_ok-terms.ensures in
+    terms_derived c.args.a.now.basis c.args.pairs.now c.args.a.now.sequent c.concl.result.now c.basis-2.result.now c.in_ok-hyps.hyps c.in_ok-concl.concl
     c.promise.ensures.derives over c.concl.ensures.concl c.concl.ensures.typed (search rules) hyps c.in_ok-concl.ensures
 
 pub returns-clause-sequent : goal.returns-clause-sequent
 returns-clause-sequent c =
     let over : are_pairs_over c.args.a.now.basis c.args.pairs.now ≡ true = search rules in
     let all : c.in_ok-hyps.hyps ≡ hyps_of c.in_ok-terms.terms.items = search rules in
-    let hyps : c.in_ok-hyps.hyps ≡ hyps_image (term_subst (nameless_pairs c.args.pairs.now) 0) c.args.a.now.hyps =
-    all ∙ terms_hyps c.args.pairs.now c.args.a.now.hyps c.hyps.result.now c.in_ok-terms.terms.items c.hyps.ensures.set c.in_ok-terms.ensures in
-    let made : c.made.result ≡ theorem_over c.args.a.now.basis c.in_ok-hyps.hyps (nameless [] c.in_ok-concl.concl) = search rules in
-    terms_given c.args.pairs.now c.args.a.now c.made.result c.in_ok-hyps.hyps c.concl.result.now c.in_ok-concl.concl
+    let hyps : c.in_ok-hyps.hyps ≡ hyps_image (term_subst (nameless_pairs c.args.pairs.now) 0) c.args.a.now.sequent.hyps =
+    all ∙ terms_hyps c.args.pairs.now c.args.a.now.sequent.hyps c.hyps.result.now c.in_ok-terms.terms.items c.hyps.ensures.set c.in_ok-terms.ensures in
+    let made = c.in_ok-closed.ensures ∙ ap (λ (b : Items). theorem_over b c.in_ok-hyps.hyps (nameless [] c.in_ok-concl.concl)) c.basis-2.ensures in
+    terms_given c.args.a.now.basis c.args.pairs.now c.args.a.now.sequent _ c.in_ok-hyps.hyps c.concl.result.now c.in_ok-concl.concl
     over c.concl.ensures.concl hyps c.in_ok-concl.ensures made

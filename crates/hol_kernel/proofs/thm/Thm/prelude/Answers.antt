@@ -9,11 +9,7 @@ use Rattle.hol_formulas.proofs.PartTypes.{postulated_typed}
 use Rattle.hol_kernel.proofs.TermRules.{along}
 use Rattle.hol_kernel.proofs.thm.Thm.prelude.Goals as goal
 
-pub made-requires : goal.made-requires
-made-requires c =
+pub closed-requires : goal.closed-requires
+closed-requires c =
     along no_items c.in_ok-basis.basis no_hyps c.in_ok-hyps.hyps (postulated c.args.which) c.in_ok-concl.concl c.in_ok-basis.ensures c.in_ok-hyps.ensures c.in_ok-concl.ensures
     (by_postulate c.args.which) (postulated_typed c.args.which)
-
-pub returns-clause-theorem : goal.returns-clause-theorem
-returns-clause-theorem c =
-    c.made.ensures ∙ (λ i. theorem_over (c.in_ok-basis.ensures i) (c.in_ok-hyps.ensures i) (nameless [] (c.in_ok-concl.ensures i)))
