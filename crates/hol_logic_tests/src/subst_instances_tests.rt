@@ -1,12 +1,12 @@
 //! Instances of abstractions: a bound variable is renamed where a free one would become equal to it, and nowhere else.
 use crate::written::{term, words};
-use crate::{SubstError, inst};
+use hol_subst::inst;
 use hol_types::{Name, Ty};
-use std::alloc::{AllocError, Global};
+use std::alloc::Global;
 use std::test::Fail;
 
 // The type bool for these type variables.
-fn pairs(alloc: Global, names: &str) -> Result<Vec<(Ty, Name)>, AllocError> {
+fn pairs(alloc: Global, names: &str) -> Result<Vec<(Ty, Name)>, Fail> {
     let ty = Ty::app(alloc, &Name::new(alloc, "bool")?, &[])?;
     let mut pairs = Vec::new(alloc);
     for name in names.split_whitespace() {
@@ -16,11 +16,11 @@ fn pairs(alloc: Global, names: &str) -> Result<Vec<(Ty, Name)>, AllocError> {
 }
 
 // The words of the instance.
-fn instance(alloc: Global, names: &str, t: &str) -> Result<String, SubstError> {
+fn instance(alloc: Global, names: &str, t: &str) -> Result<String, Fail> {
     let pairs = pairs(alloc, names)?;
     let t = term(alloc, t)?;
     let instance = inst(alloc, &pairs, &t)?;
-    Ok(words(alloc, &instance)?)
+    words(alloc, &instance)
 }
 
 #[test]

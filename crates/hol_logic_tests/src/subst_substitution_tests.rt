@@ -1,16 +1,23 @@
 //! Names of bound variables are compared with those that HOL Light's vsubst chooses.
 use crate::written::{term, words};
-use crate::{SubstError, vsubst};
-use std::alloc::{AllocError, Global};
+use hol_subst::{SubstError, vsubst};
+use hol_terms::Term;
+use std::alloc::Global;
 use std::test::Fail;
 
 // The words of the term with the new one for the old one.
-fn replaced(alloc: Global, t: &str, new: &str, old: &str) -> Result<String, SubstError> {
+fn replaced(alloc: Global, t: &str, new: &str, old: &str) -> Result<String, Fail> {
     let t = term(alloc, t)?;
+    let pairs = pair(alloc, new, old)?;
+    let found = vsubst(alloc, &pairs, &t)?;
+    words(alloc, &found)
+}
+
+// The pair of the new term for the old one, alone in a list.
+fn pair(alloc: Global, new: &str, old: &str) -> Result<Vec<(Term, Term)>, Fail> {
     let mut pairs = Vec::new(alloc);
     pairs.push((term(alloc, new)?, term(alloc, old)?))?;
-    let found = vsubst(alloc, &pairs, &t)?;
-    Ok(words(alloc, &found)?)
+    Ok(pairs)
 }
 
 #[test]
@@ -20,7 +27,7 @@ fn bound_variables_that_would_capture_are_renamed(rt: HostRuntime) -> Result<(),
         ("nothing is captured", "y:A \\x:A", "z:A", " z:A \\x:A"),
         (
             "the renamed variable is captured",
-            "f:A>A>B x:A @ y:A @ \\x':A \\x:A",
+            "f:A>A>A x:A @ y:A @ \\x':A \\x:A",
             "x:A",
             " f:fun x':A @ x:A @ \\x'':A \\x':A",
         ),
@@ -33,13 +40,16 @@ fn bound_variables_that_would_capture_are_renamed(rt: HostRuntime) -> Result<(),
 }
 
 #[test]
-fn a_pair_of_no_variable_is_refused(rt: HostRuntime) {
-    let found = replaced(rt.alloc(), "x:A", "x:A", "x:A \\x:A");
-    assert!(rt; matches!(found, Err(SubstError::BadPair)));
+fn a_pair_of_no_variable_is_refused(rt: HostRuntime) -> Result<(), Fail> {
+    let x = term(rt.alloc(), "x:A")?;
+    let pairs = pair(rt.alloc(), "x:A", "x:A \\x:A")?;
+    let refusal = vsubst(rt.alloc(), &pairs, &x).err();
+    assert_eq!(rt; refusal, Some(SubstError::BadPair));
+    Ok(())
 }
 
 // The words of a body under so many binders of x with primes at its end: the innermost with the most, and each further one with one less.
-fn nested(alloc: Global, body: &str, count: usize, most: usize) -> Result<String, AllocError> {
+fn nested(alloc: Global, body: &str, count: usize, most: usize) -> Result<String, Fail> {
     let mut text = String::from_str(alloc, body)?;
     for outside in 0..count {
         add_binder(&mut text, most.saturating_sub(outside))?;
@@ -47,18 +57,18 @@ fn nested(alloc: Global, body: &str, count: usize, most: usize) -> Result<String
     Ok(text)
 }
 
-fn add_binder(text: &mut String, primes: usize) -> Result<(), AllocError> {
+fn add_binder(text: &mut String, primes: usize) -> Result<(), Fail> {
     text.push_str(" \\x")?;
     for _ in 0..primes {
         text.push_str("'")?;
     }
-    text.push_str(":A")
+    Ok(text.push_str(":A")?)
 }
 
 // The two outermost would capture, the second x' only since the first is renamed so; the others keep their names.
 #[test]
 fn nested_captures_are_renamed_once(rt: HostRuntime) -> Result<(), Fail> {
-    let t = nested(rt.alloc(), "f:A>A>B x:A @ y:A @", 100, 99)?;
+    let t = nested(rt.alloc(), "f:A>A>A x:A @ y:A @", 100, 99)?;
     let mut wanted = nested(rt.alloc(), " f:fun x':A @ x:A @", 98, 99)?;
     wanted.push_str(" \\x'':A \\x':A")?;
     let found = replaced(rt.alloc(), t.as_str(), "x:A", "y:A")?;

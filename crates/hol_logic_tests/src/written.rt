@@ -2,40 +2,40 @@
 //! the term before the last to the last, and `\x:A` the abstraction of a variable in the last.
 use hol_terms::{Term, TermError, TermNode, Variable};
 use hol_types::{Name, Ty, TyNode};
-use std::alloc::{AllocError, Global};
+use std::alloc::Global;
+use std::test::Fail;
 
 // The type that is written so: some types of functions, bool, or a type variable.
-fn ty(alloc: Global, text: &str) -> Result<Ty, AllocError> {
+fn ty(alloc: Global, text: &str) -> Result<Ty, Fail> {
     match text {
-        "bool" => Ty::app(alloc, &Name::new(alloc, text)?, &[]),
+        "bool" => Ok(Ty::app(alloc, &Name::new(alloc, text)?, &[])?),
         "A>A" => {
             let a = ty_variable(alloc, "A")?;
-            Ty::fun(alloc, &a, &a)
+            Ok(Ty::fun(alloc, &a, &a)?)
         }
-        "A>A>B" => {
+        "A>A>A" => {
             let a = ty_variable(alloc, "A")?;
-            let unary = Ty::fun(alloc, &a, &ty_variable(alloc, "B")?)?;
-            Ty::fun(alloc, &a, &unary)
+            Ok(Ty::fun(alloc, &a, &Ty::fun(alloc, &a, &a)?)?)
         }
         name => ty_variable(alloc, name),
     }
 }
 
-fn ty_variable(alloc: Global, name: &str) -> Result<Ty, AllocError> {
-    Ty::var(alloc, &Name::new(alloc, name)?)
+fn ty_variable(alloc: Global, name: &str) -> Result<Ty, Fail> {
+    Ok(Ty::var(alloc, &Name::new(alloc, name)?)?)
 }
 
 /// The variable that a word is.
-pub fn variable(alloc: Global, word: &str) -> Result<Variable, TermError> {
+pub fn variable(alloc: Global, word: &str) -> Result<Variable, Fail> {
     let Some((name, written)) = word.split_once(':') else {
-        return Err(TermError::NotAVariable);
+        return Err(TermError::NotAVariable.into());
     };
     let ty = ty(alloc, written)?;
     Ok(Variable::new(&Name::new(alloc, name)?, &ty)?)
 }
 
 /// The term that is written so.
-pub fn term(alloc: Global, words: &str) -> Result<Term, TermError> {
+pub fn term(alloc: Global, words: &str) -> Result<Term, Fail> {
     let mut stack = Vec::new(alloc);
     for word in words.split_whitespace() {
         let made = made(alloc, &mut stack, word)?;
@@ -45,15 +45,15 @@ pub fn term(alloc: Global, words: &str) -> Result<Term, TermError> {
 }
 
 // Takes the last term.
-fn last(stack: &mut Vec<Term>) -> Result<Term, TermError> {
+fn last(stack: &mut Vec<Term>) -> Result<Term, Fail> {
     match stack.pop() {
         Some(term) => Ok(term),
-        None => Err(TermError::TypesDontFit),
+        None => Err(TermError::TypesDontFit.into()),
     }
 }
 
 // What the word makes of the last terms, which it takes.
-fn made(alloc: Global, stack: &mut Vec<Term>, word: &str) -> Result<Term, TermError> {
+fn made(alloc: Global, stack: &mut Vec<Term>, word: &str) -> Result<Term, Fail> {
     if word == "@" {
         return applied(alloc, stack);
     }
@@ -63,46 +63,46 @@ fn made(alloc: Global, stack: &mut Vec<Term>, word: &str) -> Result<Term, TermEr
     }
 }
 
-fn applied(alloc: Global, stack: &mut Vec<Term>) -> Result<Term, TermError> {
+fn applied(alloc: Global, stack: &mut Vec<Term>) -> Result<Term, Fail> {
     let argument = last(stack)?;
     let function = last(stack)?;
-    Term::comb(alloc, &function, &argument)
+    Ok(Term::comb(alloc, &function, &argument)?)
 }
 
-fn abstracted(alloc: Global, stack: &mut Vec<Term>, word: &str) -> Result<Term, TermError> {
+fn abstracted(alloc: Global, stack: &mut Vec<Term>, word: &str) -> Result<Term, Fail> {
     let body = last(stack)?;
     let v = variable(alloc, word)?;
-    Term::abstraction(alloc, &v, &body)
+    Ok(Term::abstraction(alloc, &v, &body)?)
 }
 
-fn leaf(alloc: Global, word: &str) -> Result<Term, TermError> {
+fn leaf(alloc: Global, word: &str) -> Result<Term, Fail> {
     match word.strip_prefix('.') {
         Some(constant) => {
             let v = variable(alloc, constant)?;
-            Term::constant(alloc, v.name(), v.ty())
+            Ok(Term::constant(alloc, v.name(), v.ty())?)
         }
         None => {
             let v = variable(alloc, word)?;
-            Term::var(alloc, &v)
+            Ok(Term::var(alloc, &v)?)
         }
     }
 }
 
 /// The words of a term, of which the type of functions is `fun`.
-pub fn words(alloc: Global, t: &Term) -> Result<String, AllocError> {
+pub fn words(alloc: Global, t: &Term) -> Result<String, Fail> {
     let mut text = String::new(alloc);
     add_words(t, &mut text)?;
     Ok(text)
 }
 
-fn add_words(t: &Term, text: &mut String) -> Result<(), AllocError> {
+fn add_words(t: &Term, text: &mut String) -> Result<(), Fail> {
     match t.node() {
         TermNode::Var(v) => add_word(text, "", v.name(), v.ty()),
         TermNode::Const(name, ty) => add_word(text, ".", name, ty),
         TermNode::Comb(f, x) => {
             add_words(f, text)?;
             add_words(x, text)?;
-            text.push_str(" @")
+            Ok(text.push_str(" @")?)
         }
         TermNode::Abs(v, b) => {
             add_words(b, text)?;
@@ -111,7 +111,7 @@ fn add_words(t: &Term, text: &mut String) -> Result<(), AllocError> {
     }
 }
 
-fn add_word(text: &mut String, mark: &str, name: &Name, ty: &Ty) -> Result<(), AllocError> {
+fn add_word(text: &mut String, mark: &str, name: &Name, ty: &Ty) -> Result<(), Fail> {
     let head = match ty.node() {
         TyNode::Var(name) => name,
         TyNode::App(name, _) => name,
@@ -120,5 +120,5 @@ fn add_word(text: &mut String, mark: &str, name: &Name, ty: &Ty) -> Result<(), A
     text.push_str(mark)?;
     text.push_str(name.as_str())?;
     text.push_str(":")?;
-    text.push_str(head.as_str())
+    Ok(text.push_str(head.as_str())?)
 }

@@ -16,7 +16,8 @@ use Rattle.hol_terms.proofs.Same.{IsPlace, place_is}
 use Rattle.hol_subst.specs.AlphaOrder.{nameless_cmp, alpha_cmp}
 use Rattle.hol_subst.specs.CodeOrder.{coded_cmp}
 use Rattle.hol_subst.specs.Ordered.{place_cmp, named_cmp}
-use Rattle.hol_subst.proofs.CodeOrder.{then_equal_right, nameless_total, nameless_same, code_order}
+use Rattle.hol_types.proofs.OrderLaws.{then_equal_right}
+use Rattle.hol_subst.proofs.CodeOrder.{nameless_total, nameless_same, code_order}
 
 abbrev Variables : Type 0
 Variables = List (List ℕ × TypeTree)

@@ -1,5 +1,6 @@
 -- What becomes of the names of bound variables in a substitution.
 use Rattle.std.proofs.Common.{◌≡◌, ℕ, ◌<◌, List, [], ◌∷◌, refl, ap, sym, ◌∙◌, subst, Bool, true, false, cond, not, ◌&&◌, ◌||◌, arith}
+use Rattle.std.proofs.lemmas.Bool.{or_left, or_right, or_parts, and_parts}
 use Rattle.hol_types.specs.Tree.{TypeTree}
 use Rattle.hol_types.specs.Equal.{variable_eq}
 use Rattle.hol_terms.specs.Named.{Named, var, constant, comb, abs}
@@ -9,8 +10,7 @@ use Rattle.hol_terms.proofs.Primes.{fewest_other}
 use Rattle.hol_terms.proofs.Same.{variable_eq_decides}
 use Rattle.hol_subst.specs.Substituted.{Captures, IsBinder, put, IsSubstituted}
 use Rattle.hol_subst.specs.Capture.{given_or, given, has_pair, Fit, comes_in, is_taken, IsRenaming, IsRest}
-use Rattle.hol_subst.proofs.Closing.{eq_same, eq_flip, or_false}
-use Rattle.hol_subst.proofs.TypesInst.{or_left, or_right}
+use Rattle.hol_subst.proofs.Closing.{eq_same, eq_flip}
 
 abbrev Var : Type 0
 Var = List ℕ × TypeTree
@@ -117,7 +117,7 @@ stays f g (abs v b) s e = (
 -- ---- pairs
 pub none_given : (ps : List (Named × (List ℕ × TypeTree))) (w : List ℕ × TypeTree) (o : Named) → has_pair ps w ≡ false → given_or ps w o ≡ o
 none_given [] w o e = refl
-none_given (p ∷ ps) w o e = let z = or_false (variable_eq p.1 w) (has_pair ps w) e in rw z.0 (none_given ps w o z.1)
+none_given (p ∷ ps) w o e = let z = or_parts (variable_eq p.1 w) (has_pair ps w) e in rw z.0 (none_given ps w o z.1)
 
 -- what comes in for a variable that has a pair
 pair_comes : (ps : Pairs) (w u : Var) (b o : Named) → occurs_in w b ≡ true → has_pair ps w ≡ true → occurs_in u (given_or ps w o) ≡ true → comes_in ps u b ≡ true
@@ -161,10 +161,6 @@ pub record IsComing (ps : List (Named × (List ℕ × TypeTree))) (u : List ℕ 
   pub in_body : occurs_in of b ≡ true
   pub comes : occurs_in u (given ps of) ≡ true
 
-both_true : (a b : Bool) → (a && b) ≡ true → (a ≡ true) × (b ≡ true)
-both_true true b e = (refl, e)
-both_true false b e = absurd (cc)
-
 coming : (ps : Pairs) (u : Var) (b : Named) → Fit ps → comes_in ps u b ≡ true → IsComing ps u b
 coming [] u b f e = absurd (cc)
 coming (p ∷ ps) u b f e = by (occurs_in u p.0 && occurs_in p.1 b) refl e (coming ps u b f.2)
@@ -183,7 +179,7 @@ coming (p ∷ ps) u b f e = by (occurs_in u p.0 && occurs_in p.1 b) refl e (comi
 
     by : (t : Bool) → (occurs_in u p.0 && occurs_in p.1 b) ≡ t → (t || comes_in ps u b) ≡ true → (comes_in ps u b ≡ true → IsComing ps u b) → IsComing (p ∷ ps) u b
     by true q k r =
-        let z = both_true (occurs_in u p.0) (occurs_in p.1 b) q in
+        let z = and_parts (occurs_in u p.0) (occurs_in p.1 b) q in
         record {
           of = p.1;
           has = or_left (variable_eq p.1 p.1) (has_pair ps p.1) (eq_same p.1);
@@ -214,7 +210,7 @@ taken_captured ps v u b f n e k = by (variable_eq v u) refl (occurs_in u b && no
     by : (s : Bool) → variable_eq v u ≡ s → (t : Bool) → (occurs_in u b && not (has_pair ps u)) ≡ t → (t || comes_in ps u b) ≡ true → Captures (given ps) v b u
     by true p t q z = coming_captured ps v u b f n (ap (λ x. comes_in ps x b) (sym ((variable_eq_decides v u).0 p)) ∙ e)
     by false p true q z =
-        let parts = both_true (occurs_in u b) (not (has_pair ps u)) q in
+        let parts = and_parts (occurs_in u b) (not (has_pair ps u)) q in
         record {
           other = u;
           in_body = parts.0;

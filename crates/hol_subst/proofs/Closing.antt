@@ -1,5 +1,6 @@
 -- Closing and opening. The nameless term of an abstraction is the closed one of its body, and opening undoes closing.
 use Rattle.std.proofs.Common.{◌≡◌, ℕ, suc, ◌+◌, ◌<◌, ◌≤◌, List, [], ◌∷◌, ◌++◌, length, refl, ap, sym, ◌∙◌, Bool, true, false, cond, ◌||◌, nat_lt, ◌==◌, arith}
+use Rattle.std.proofs.lemmas.Bool.{or_parts}
 use Rattle.std.proofs.lemmas.Bool.Decides.{nat_tests}
 use Rattle.hol_types.specs.Tree.{TypeTree}
 use Rattle.hol_types.specs.Equal.{variable_eq}
@@ -7,7 +8,7 @@ use Rattle.hol_terms.specs.Named.{Named, var, constant, comb, abs}
 use Rattle.hol_terms.specs.Nameless.{Nameless, free, bound, fixed, app, lam, base_of, place, nameless, free_occurrences}
 use Rattle.hol_terms.specs.Scoped.{binds}
 use Rattle.hol_terms.proofs.Same.{variable_eq_decides}
-use Rattle.hol_terms.proofs.Occurs.{binds-append}
+use Rattle.hol_terms.proofs.Occurs.{binds_append}
 use Rattle.hol_subst.specs.Shift.{shift}
 use Rattle.hol_subst.specs.Closing.{close, open_with, bind}
 
@@ -29,10 +30,6 @@ eq_flip v w = by (variable_eq v w) refl (variable_eq w v) refl
     by false p false q = p ∙ sym q
     by true p false q = p ∙ sym ((variable_eq_decides w v).1 (sym ((variable_eq_decides v w).0 p)))
     by false p true q = (let z : variable_eq v w ≡ variable_eq w v = (variable_eq_decides v w).1 (sym ((variable_eq_decides w v).0 q)) ∙ sym q in z)
-
-pub or_false : (a b : Bool) → (a || b) ≡ false → (a ≡ false) × (b ≡ false)
-or_false true b e = absurd (cc)
-or_false false b e = (refl, e)
 
 pub below : (i k : ℕ) → i < k → nat_lt i k ≡ true
 below i k h = grind (arith, nat_tests)
@@ -121,11 +118,11 @@ nameless_abs v b = ap (lam (base_of v.0) v.1) (close_under [] v b)
 
 -- closing a term that v is not free in is a shift
 pub close_absent : (v : List ℕ × TypeTree) (k : ℕ) (n : Nameless) → binds (free_occurrences n) v ≡ false → close v k n ≡ shift 1 k n
-close_absent v k (free w) e = rw (eq_flip v w, (or_false (variable_eq w v) false e).0) refl
+close_absent v k (free w) e = rw (eq_flip v w, (or_parts (variable_eq w v) false e).0) refl
 close_absent v k (bound i) e = refl
 close_absent v k (fixed c s) e = refl
 close_absent v k (app f x) e =
-    let p = or_false _ _ (sym (binds-append (free_occurrences f) (free_occurrences x) v) ∙ e) in
+    let p = or_parts _ _ (sym (binds_append (free_occurrences f) (free_occurrences x) v) ∙ e) in
     λ i. app (close_absent v k f p.0 i) (close_absent v k x p.1 i)
 close_absent v k (lam a s b) e = ap (lam a s) (close_absent v (k + 1) b e)
 
@@ -142,7 +139,7 @@ close_binds v k (free w) = by (variable_eq v w) refl
     by false e = rw (eq_flip w v, e) refl
 close_binds v k (bound i) = refl
 close_binds v k (fixed c s) = refl
-close_binds v k (app f x) = binds-append (free_occurrences (close v k f)) (free_occurrences (close v k x)) v ∙ rw (close_binds v k f, close_binds v k x) refl
+close_binds v k (app f x) = binds_append (free_occurrences (close v k f)) (free_occurrences (close v k x)) v ∙ rw (close_binds v k f, close_binds v k x) refl
 close_binds v k (lam a s b) = close_binds v (k + 1) b
 
 -- ---- opening

@@ -9,20 +9,11 @@ use Rattle.std.specs.declared.cmp.Ordering.TheVariants.{Less, Equal, Greater}
 use Rattle.hol_types.specs.Tree.{TypeTree, TypeList, TyVar, TyApp, no_types, more_types}
 use Rattle.hol_types.specs.Code.{name_code, type_code, types_code}
 use Rattle.hol_types.specs.Order.{name_cmp, type_cmp, types_cmp}
+use Rattle.hol_types.proofs.OrderLaws.{then_then, then_equal_right}
 use Rattle.hol_terms.specs.Nameless.{Nameless, free, bound, fixed, app, lam}
 use Rattle.hol_terms.specs.Code.{coded_nameless, nameless_code}
 use Rattle.hol_subst.specs.AlphaOrder.{nameless_cmp}
 use Rattle.hol_subst.specs.CodeOrder.{flat, coded_cmp, coded_total, coded_same}
-
-pub then_then : (r s t : Ordering) → ordering_then r (ordering_then s t) ≡ ordering_then (ordering_then r s) t
-then_then Less s t = refl
-then_then Equal s t = refl
-then_then Greater s t = refl
-
-pub then_equal_right : (r : Ordering) → ordering_then r Equal ≡ r
-then_equal_right Less = refl
-then_equal_right Equal = refl
-then_equal_right Greater = refl
 
 -- two rows of numbers
 abbrev rows_cmp : List ℕ → List ℕ → Ordering

@@ -1,11 +1,12 @@
 -- Substitution under a binder, where the binder's variable may be renamed.
 use Rattle.std.proofs.Common.{◌≡◌, ℕ, ◌+◌, List, [], refl, ap, sym, ◌∙◌, Bool, true, false, cond, ◌||◌, arith}
+use Rattle.std.proofs.lemmas.Bool.{or_left, or_right}
 use Rattle.hol_types.specs.Tree.{TypeTree}
 use Rattle.hol_types.specs.Equal.{variable_eq}
 use Rattle.hol_terms.specs.Nameless.{Nameless, free, bound, fixed, app, lam, free_occurrences}
 use Rattle.hol_terms.specs.Scoped.{binds}
 use Rattle.hol_terms.proofs.Same.{variable_eq_decides}
-use Rattle.hol_terms.proofs.Occurs.{binds-append}
+use Rattle.hol_terms.proofs.Occurs.{binds_append}
 use Rattle.hol_subst.specs.Shift.{shift}
 use Rattle.hol_subst.specs.Closing.{close}
 use Rattle.hol_subst.specs.Substitution.{term_for, term_subst}
@@ -21,19 +22,11 @@ Pairs = List (Nameless × (List ℕ × TypeTree))
 abbrev pub IsFreeIn : List ℕ × TypeTree → Nameless → Type 0
 IsFreeIn w n = binds (free_occurrences n) w ≡ true
 
-or_left : (a b : Bool) → a ≡ true → (a || b) ≡ true
-or_left true b e = refl
-or_left false b e = absurd (cc)
-
-or_right : (a b : Bool) → b ≡ true → (a || b) ≡ true
-or_right true b e = refl
-or_right false b e = e
-
 pub free_left : (w : Var) (f x : Nameless) → IsFreeIn w f → IsFreeIn w (app f x)
-free_left w f x h = binds-append (free_occurrences f) (free_occurrences x) w ∙ or_left _ _ h
+free_left w f x h = binds_append (free_occurrences f) (free_occurrences x) w ∙ or_left _ _ h
 
 pub free_right : (w : Var) (f x : Nameless) → IsFreeIn w x → IsFreeIn w (app f x)
-free_right w f x h = binds-append (free_occurrences f) (free_occurrences x) w ∙ or_right _ _ h
+free_right w f x h = binds_append (free_occurrences f) (free_occurrences x) w ∙ or_right _ _ h
 
 pub free_itself : (w : Var) → IsFreeIn w (free w)
 free_itself w = or_left (variable_eq w w) false (eq_same w)

@@ -1,5 +1,6 @@
 -- Instantiation of types in a named term, which renames bound variables, is instantiation in its nameless term.
 use Rattle.std.proofs.Common.{◌≡◌, ℕ, ◌+◌, List, [], ◌∷◌, ◌++◌, map, refl, ap, sym, ◌∙◌, subst, Bool, true, false, cond, ◌||◌, Option, Some, None, IsSome, is_some, unwrap_or}
+use Rattle.std.proofs.lemmas.Bool.{or_left, or_right, or_parts}
 use Rattle.std.specs.Option.{option_map, option_and_then}
 use Rattle.hol_types.specs.Tree.{TypeTree}
 use Rattle.hol_types.specs.Fun.{fun_type}
@@ -9,16 +10,16 @@ use Rattle.hol_terms.specs.Named.{Named, var, constant, comb, abs, named_type, a
 use Rattle.hol_terms.specs.Nameless.{Nameless, bound, app, lam, base_of, place, nameless, free_occurrences}
 use Rattle.hol_terms.specs.Scoped.{binds, occurs_in, add_new, add_all}
 use Rattle.hol_terms.proofs.Same.{variable_eq_decides}
-use Rattle.hol_terms.proofs.Occurs.{binds-append, occurs_is}
+use Rattle.hol_terms.proofs.Occurs.{binds_append, occurs_is}
 use Rattle.hol_terms.proofs.Primes.{base_with_primes, fewest_other}
 use Rattle.hol_terms.proofs.Typing.{comb_type, abs_type}
 use Rattle.hol_subst.specs.Variant.{is_free_in, IsVariant}
 use Rattle.hol_subst.specs.Substitution.{variable_inst, types_inst}
 use Rattle.hol_subst.specs.Substituted.{Captures, IsBinder, put, IsInst}
 use Rattle.hol_subst.specs.Renaming.{image, images_without, KeepsTypes, KeepsPlaces, IsInstance}
-use Rattle.hol_subst.proofs.Closing.{eq_same, eq_flip, or_false}
+use Rattle.hol_subst.proofs.Closing.{eq_same, eq_flip}
 use Rattle.hol_subst.proofs.Binders.{substituted_agree}
-use Rattle.hol_subst.proofs.TypesInst.{applied_inst, or_left, or_right}
+use Rattle.hol_subst.proofs.TypesInst.{applied_inst}
 
 abbrev Var : Type 0
 Var = List ℕ × TypeTree
@@ -36,14 +37,14 @@ still_there vs (x ∷ ws) w h = still_there (add_new vs x) ws w (by (binds vs x)
   where
     by : (b : Bool) → binds (cond b vs (vs ++ x ∷ [])) w ≡ true
     by true = h
-    by false = binds-append vs (x ∷ []) w ∙ or_left (binds vs w) (binds (x ∷ []) w) h
+    by false = binds_append vs (x ∷ []) w ∙ or_left (binds vs w) (binds (x ∷ []) w) h
 
 now_there : (vs : Variables) (x w : Var) → variable_eq x w ≡ true → binds (add_new vs x) w ≡ true
 now_there vs x w e = by (binds vs x) refl
   where
     by : (b : Bool) → binds vs x ≡ b → binds (cond b vs (vs ++ x ∷ [])) w ≡ true
     by true h = ap (binds vs) (sym ((variable_eq_decides x w).0 e)) ∙ h
-    by false h = binds-append vs (x ∷ []) w ∙ or_right (binds vs w) (variable_eq x w || false) (or_left (variable_eq x w) false e)
+    by false h = binds_append vs (x ∷ []) w ∙ or_right (binds vs w) (variable_eq x w || false) (or_left (variable_eq x w) false e)
 
 -- each of the added variables is there
 pub all_there : (vs ws : Variables) (w : Var) → binds ws w ≡ true → binds (add_all vs ws) w ≡ true
@@ -68,9 +69,9 @@ module _ (pairs : List (TypeTree × List ℕ)) (old new : Variables) (v u : Var)
       by true p true q f g r = let z : true ≡ false = sym ((variable_eq_decides v w).1 (sym ((variable_eq_decides x v).0 p) ∙ (variable_eq_decides x w).0 q)) ∙ d in absurd (cc)
       by true p false q f g r = r f g
       by false p true q f g r =
-          let own : variable_eq (image pairs old new x) u ≡ false = (or_false _ _ (or_false _ _ f).0).0 in
+          let own : variable_eq (image pairs old new x) u ≡ false = (or_parts _ _ (or_parts _ _ f).0).0 in
           ap (λ y. variable_eq u (image pairs old new y)) (sym ((variable_eq_decides x w).0 q)) ∙ eq_flip u (image pairs old new x) ∙ own
-      by false p false q f g r = r (or_false _ _ f).1 g
+      by false p false q f g r = r (or_parts _ _ f).1 g
 
   -- the same for the free variables of a body
   pub apart_in : (b : Named) → is_free_in (map (λ t. nameless [] t) (images_without pairs old new v (add_all [] (free_occurrences (nameless [] b))))) u ≡ false → (w : Var) → occurs_in w b ≡ true → variable_eq v w ≡ false → variable_eq u (image pairs old new w) ≡ false
@@ -87,7 +88,7 @@ was_there vs x w h = by (binds vs x) h
 
     by : (t : Bool) → binds (cond t vs (vs ++ x ∷ [])) w ≡ true → (binds vs w || variable_eq x w) ≡ true
     by true e = or_left (binds vs w) (variable_eq x w) e
-    by false e = one (binds vs w) (variable_eq x w) (sym (binds-append vs (x ∷ []) w) ∙ e)
+    by false e = one (binds vs w) (variable_eq x w) (sym (binds_append vs (x ∷ []) w) ∙ e)
 
 all_from : (vs ws : Variables) (w : Var) → binds (add_all vs ws) w ≡ true → (binds vs w || binds ws w) ≡ true
 all_from vs [] w h = or_left (binds vs w) false h

@@ -1,5 +1,6 @@
 -- A term whose types have none of the pairs' variables, and whose free variables stand for themselves, is its own instance.
 use Rattle.std.proofs.Common.{◌≡◌, ℕ, zero, suc, ◌<◌, arith, List, [], ◌∷◌, refl, ap, sym, ◌∙◌, subst, Bool, true, false, cond, ◌||◌, Option, Some, None, ◌⊎◌, inl, inr}
+use Rattle.std.proofs.lemmas.Bool.{or_left, or_right}
 use Rattle.std.specs.Option.{option_map, option_and_then}
 use Rattle.std.specs.Int.{bit_at}
 use Rattle.std.proofs.lemmas.Nat.Bits.{bit_at_and, bit_at-lt, bit_at-zero, same_from_bits}
@@ -21,7 +22,7 @@ use Rattle.hol_subst.specs.Renaming.{image, KeepsPlaces, IsInstance, HasRenamed}
 use Rattle.hol_subst.proofs.Closing.{eq_same}
 use Rattle.hol_subst.proofs.InstSteps.{keeps_inside}
 use Rattle.hol_subst.proofs.Binders.{TypesStay, stays}
-use Rattle.hol_subst.proofs.TypesInst.{applied_is, or_left, or_right}
+use Rattle.hol_subst.proofs.TypesInst.{applied_is}
 
 abbrev Var : Type 0
 Var = List ℕ × TypeTree

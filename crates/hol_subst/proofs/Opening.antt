@@ -1,25 +1,26 @@
 -- Opening an abstraction's body with a variable that is not free in it, and what substitution, closing and opening make of that.
 use Rattle.std.proofs.Common.{◌≡◌, ℕ, ◌+◌, ◌-◌, ◌<◌, ◌≤◌, List, [], ◌∷◌, refl, ap, sym, ◌∙◌, Bool, true, false, cond, ◌||◌, nat_lt, ◌==◌, Some, None, unwrap_or, arith}
+use Rattle.std.proofs.lemmas.Bool.{or_parts}
 use Rattle.std.proofs.lemmas.Bool.Decides.{nat_tests}
 use Rattle.hol_types.specs.Tree.{TypeTree}
 use Rattle.hol_types.specs.Equal.{variable_eq}
 use Rattle.hol_terms.specs.Nameless.{Nameless, free, bound, fixed, app, lam, free_occurrences}
 use Rattle.hol_terms.specs.Scoped.{binds}
-use Rattle.hol_terms.proofs.Occurs.{binds-append}
+use Rattle.hol_terms.proofs.Occurs.{binds_append}
 use Rattle.hol_subst.specs.Shift.{shift}
 use Rattle.hol_subst.specs.Closing.{close, open_with}
 use Rattle.hol_subst.specs.Substitution.{term_subst}
-use Rattle.hol_subst.proofs.Closing.{eq_same, eq_flip, or_false, not_below, not_below_is, equal_test, unequal_test}
+use Rattle.hol_subst.proofs.Closing.{eq_same, eq_flip, not_below, not_below_is, equal_test, unequal_test}
 
 abbrev Var : Type 0
 Var = List ℕ × TypeTree
 
 -- neither part has the variable
 parts_without : (v : Var) (f x : Nameless) → binds (free_occurrences (app f x)) v ≡ false → (binds (free_occurrences f) v ≡ false) × (binds (free_occurrences x) v ≡ false)
-parts_without v f x e = or_false _ _ (sym (binds-append (free_occurrences f) (free_occurrences x) v) ∙ e)
+parts_without v f x e = or_parts _ _ (sym (binds_append (free_occurrences f) (free_occurrences x) v) ∙ e)
 
 other_free : (v w : Var) → binds (free_occurrences (free w)) v ≡ false → variable_eq v w ≡ false
-other_free v w e = eq_flip v w ∙ (or_false (variable_eq w v) false e).0
+other_free v w e = eq_flip v w ∙ (or_parts (variable_eq w v) false e).0
 
 subst_index : (v : Var) (t : Nameless) (k i : ℕ) → term_subst ((t, v) ∷ []) k (open_with (free v) k (bound i)) ≡ open_with t k (bound i)
 subst_index v t k i = by (nat_lt i k) (i == k)

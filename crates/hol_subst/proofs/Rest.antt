@@ -1,33 +1,25 @@
 -- Lists of pairs that are built one after another.
 use Rattle.std.proofs.Common.{◌≡◌, ℕ, zero, suc, ◌+◌, ◌<◌, ◌≤◌, List, [], ◌∷◌, ◌++◌, length, drop, get_or, drop-cons, add-one, refl, ap, sym, ◌∙◌, Bool, true, false, cond, ◌||◌, subst, Option, Some, None, inl, inr, ◌⊎◌, arith}
-use Rattle.std.proofs.lemmas.List.{append-nil, append_assoc}
+use Rattle.std.proofs.lemmas.Bool.{or_parts, or_from}
+use Rattle.std.proofs.lemmas.List.{append-nil, append_assoc, drop_all}
 use Rattle.std.specs.Bool.{Decides}
 use Rattle.hol_types.specs.Tree.{TypeTree}
 use Rattle.hol_types.specs.Equal.{type_eq, variable_eq}
 use Rattle.hol_types.proofs.OrderLaws.{type_cmp_decides}
+use Rattle.hol_types.proofs.Steps.{next_of}
 use Rattle.hol_terms.specs.Named.{Named, var, constant, comb, abs, named_type}
 use Rattle.hol_terms.specs.Scoped.{occurs_in}
 use Rattle.hol_terms.proofs.Same.{variable_eq_decides}
 use Rattle.hol_subst.specs.Pairs.{IsGoodPair, HasBadPair}
 use Rattle.hol_subst.specs.Capture.{given_or, given, Fit, has_pair, IsRest}
 use Rattle.hol_subst.specs.Substituted.{named_at, named_for}
-use Rattle.hol_subst.proofs.Closing.{or_false, eq_flip}
+use Rattle.hol_subst.proofs.Closing.{eq_flip}
 
 abbrev Var : Type 0
 Var = List ℕ × TypeTree
 
 abbrev NamedPairs : Type 0
 NamedPairs = List (Named × (List ℕ × TypeTree))
-
--- ---- one element more of a list
-pub next_pair : {T : Type 0} (xs : List T) (i : ℕ) (x : T) → i < length xs → x ≡ get_or xs i x → drop i xs ≡ x ∷ drop (i + 1) xs
-next_pair xs i x l e = drop-cons xs i x l ∙ rw (← add-one) (ap (λ y. y ∷ drop (i + 1) xs) (sym e))
-
-pub drop-all : {T : Type 0} (xs : List T) (i : ℕ) → length xs ≤ i → drop i xs ≡ []
-drop-all [] zero l = refl
-drop-all [] (suc i) l = refl
-drop-all (x ∷ xs) zero l = absurd (omega arith)
-drop-all (x ∷ xs) (suc i) l = drop-all xs i (omega arith)
 
 -- ---- appended pairs
 pub has_append : (ps qs : List (Named × (List ℕ × TypeTree))) (w : List ℕ × TypeTree) → has_pair (ps ++ qs) w ≡ (has_pair ps w || has_pair qs w)
@@ -37,10 +29,6 @@ has_append (p ∷ ps) qs w = by (variable_eq p.1 w) (has_append ps qs w)
     by : (b : Bool) → has_pair (ps ++ qs) w ≡ (has_pair ps w || has_pair qs w) → (b || has_pair (ps ++ qs) w) ≡ ((b || has_pair ps w) || has_pair qs w)
     by true e = refl
     by false e = e
-
-or_none : (a b : Bool) → a ≡ false → b ≡ false → (a || b) ≡ false
-or_none true b p q = absurd (cc)
-or_none false b p q = q
 
 given_append : (ps qs : NamedPairs) (w : Var) (o : Named) → given_or (ps ++ qs) w o ≡ given_or ps w (given_or qs w o)
 given_append [] qs w o = refl
@@ -52,8 +40,8 @@ other_pair p [] qs w o e = rw e refl
 other_pair p (q ∷ ps) qs w o e = ap (λ x. cond (variable_eq q.1 w) q.0 x) (other_pair p ps qs w o e)
 
 fewer : (p : Named × Var) (ps qs : NamedPairs) (w : Var) → has_pair (ps ++ p ∷ qs) w ≡ false → has_pair (ps ++ qs) w ≡ false
-fewer p [] qs w e = (or_false _ _ e).1
-fewer p (q ∷ ps) qs w e = let z = or_false (variable_eq q.1 w) (has_pair (ps ++ p ∷ qs) w) e in or_none (variable_eq q.1 w) (has_pair (ps ++ qs) w) z.0 (fewer p ps qs w z.1)
+fewer p [] qs w e = (or_parts _ _ e).1
+fewer p (q ∷ ps) qs w e = let z = or_parts (variable_eq q.1 w) (has_pair (ps ++ p ∷ qs) w) e in or_from (variable_eq q.1 w) (has_pair (ps ++ qs) w) z.0 (fewer p ps qs w z.1)
 
 fit_fewer : (p : Named × Var) (ps qs : NamedPairs) → Fit (ps ++ p ∷ qs) → Fit (ps ++ qs)
 fit_fewer p [] qs h = h.2
@@ -63,9 +51,9 @@ fit_fewer p (q ∷ ps) qs h = (h.0, fewer p ps qs q.1 h.1, fit_fewer p ps qs h.2
 fit_more : (p : Named × Var) (ps : NamedPairs) → named_type p.0 ≡ Some p.1.1 → has_pair ps p.1 ≡ false → Fit ps → Fit (ps ++ p ∷ [])
 fit_more p [] t n h = (t, refl, tt)
 fit_more p (q ∷ ps) t n h =
-    let z = or_false (variable_eq q.1 p.1) (has_pair ps p.1) n in
+    let z = or_parts (variable_eq q.1 p.1) (has_pair ps p.1) n in
     let apart : variable_eq p.1 q.1 ≡ false = eq_flip p.1 q.1 ∙ z.0 in
-    (h.0, has_append ps (p ∷ []) q.1 ∙ or_none (has_pair ps q.1) (variable_eq p.1 q.1 || false) h.1 (or_none (variable_eq p.1 q.1) false apart refl), fit_more p ps t z.1 h.2)
+    (h.0, has_append ps (p ∷ []) q.1 ∙ or_from (has_pair ps q.1) (variable_eq p.1 q.1 || false) h.1 (or_from (variable_eq p.1 q.1) false apart refl), fit_more p ps t z.1 h.2)
 
 -- ---- the pairs that are left under a binder
 -- with the first pairs sorted out and more to come
@@ -98,7 +86,7 @@ rest_absent v b pairs rest more p h e = rest_dropped v b pairs rest more p h (λ
 
 pub rest_kept : (v : List ℕ × TypeTree) (b : Named) (pairs rest more : List (Named × (List ℕ × TypeTree))) (p : Named × (List ℕ × TypeTree)) → IsRestSoFar v b pairs rest (p ∷ more) → variable_eq p.1 v ≡ false → IsRestSoFar v b pairs (rest ++ p ∷ []) more
 rest_kept v b pairs rest more p h e = record {
-  own = has_append rest (p ∷ []) v ∙ or_none (has_pair rest v) (variable_eq p.1 v || false) h.own (or_none (variable_eq p.1 v) false e refl);
+  own = has_append rest (p ∷ []) v ∙ or_from (has_pair rest v) (variable_eq p.1 v || false) h.own (or_from (variable_eq p.1 v) false e refl);
   others = λ w d o. ap (λ x. given x w) (append_assoc rest (p ∷ []) more) ∙ h.others w d o;
   fit = λ f. subst Fit (sym (append_assoc rest (p ∷ []) more)) (h.fit f);
 }
@@ -175,7 +163,7 @@ pub rest_yes : (v : List ℕ × TypeTree) (b : Named) (pairs rest new : List (Na
     → IsRestSoFar v b pairs rest (drop i pairs) → i < length pairs → p ≡ get_or pairs i p
     → (variable_eq p.1 v ≡ true → r ≡ false) → r ≡ true → new ≡ rest ++ (p.0, p.1) ∷ [] → IsRestSoFar v b pairs new (drop (i + 1) pairs)
 rest_yes v b pairs rest new i p r h l e own t n =
-    subst (λ x. IsRestSoFar v b pairs x (drop (i + 1) pairs)) (sym n) (rest_kept v b pairs rest (drop (i + 1) pairs) p (subst (IsRestSoFar v b pairs rest) (next_pair pairs i p l e) h) (differs (variable_eq p.1 v) refl))
+    subst (λ x. IsRestSoFar v b pairs x (drop (i + 1) pairs)) (sym n) (rest_kept v b pairs rest (drop (i + 1) pairs) p (subst (IsRestSoFar v b pairs rest) (next_of pairs i p l e) h) (differs (variable_eq p.1 v) refl))
   where
     differs : (q : Bool) → variable_eq p.1 v ≡ q → variable_eq p.1 v ≡ false
     differs true q = let z : true ≡ false = sym t ∙ own q in absurd (cc)
@@ -188,7 +176,7 @@ rest_no v b pairs rest new i p r h l e others t n =
     subst (λ x. IsRestSoFar v b pairs x (drop (i + 1) pairs)) (sym n) (by (variable_eq p.1 v) refl)
   where
     now : IsRestSoFar v b pairs rest (p ∷ drop (i + 1) pairs)
-    now = subst (IsRestSoFar v b pairs rest) (next_pair pairs i p l e) h
+    now = subst (IsRestSoFar v b pairs rest) (next_of pairs i p l e) h
 
     by : (q : Bool) → variable_eq p.1 v ≡ q → IsRestSoFar v b pairs rest (drop (i + 1) pairs)
     by true q = rest_own v b pairs rest (drop (i + 1) pairs) p now q
@@ -201,7 +189,7 @@ pub first_step : (pairs : List (Named × Named)) (found new : List (Named × (Li
 first_step pairs found new i p h l e n = by p.1 refl
   where
     now : IsFirstSoFar pairs found (p ∷ drop (i + 1) pairs)
-    now = subst (IsFirstSoFar pairs found) (next_pair pairs i p l e) h
+    now = subst (IsFirstSoFar pairs found) (next_of pairs i p l e) h
 
     never : ((v : Var) → p.1 ≡ var v → ⊥) → IsFirstSoFar pairs new (drop (i + 1) pairs)
     never f = absurd (now.good (inl (λ g. f g.0 g.1)))
@@ -217,7 +205,7 @@ first_step pairs found new i p h l e n = by p.1 refl
     by (abs w b) q = never (λ v f. let z : abs w b ≡ var v = sym q ∙ f in absurd (cc))
 
 pub first_all : (pairs : List (Named × Named)) (found : List (Named × (List ℕ × TypeTree))) (i : ℕ) → IsFirstSoFar pairs found (drop i pairs) → length pairs ≤ i → IsFirstSoFar pairs found []
-first_all pairs found i h l = subst (IsFirstSoFar pairs found) (drop-all pairs i l) h
+first_all pairs found i h l = subst (IsFirstSoFar pairs found) (drop_all i pairs l) h
 
 pub rest_all : (v : List ℕ × TypeTree) (b : Named) (pairs rest : List (Named × (List ℕ × TypeTree))) (i : ℕ) → IsRestSoFar v b pairs rest (drop i pairs) → length pairs ≤ i → IsRest v b pairs rest
-rest_all v b pairs rest i h l = rest_done v b pairs rest (subst (IsRestSoFar v b pairs rest) (drop-all pairs i l) h)
+rest_all v b pairs rest i h l = rest_done v b pairs rest (subst (IsRestSoFar v b pairs rest) (drop_all i pairs l) h)

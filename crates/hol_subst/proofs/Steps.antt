@@ -1,5 +1,8 @@
 -- The cases of substitution in a named term, for what the code has at its ends.
 use Rattle.std.proofs.Common.{◌≡◌, ℕ, ◌+◌, ◌<◌, ◌≤◌, List, [], ◌∷◌, length, drop, get_or, refl, ap, sym, ◌∙◌, Bool, true, false, cond, subst, Option, Some, None, unwrap_or, inl, inr, ◌⊎◌, ◌↔◌}
+use Rattle.std.proofs.lemmas.Bool.{or_parts}
+use Rattle.std.proofs.lemmas.List.{drop_all}
+use Rattle.hol_types.proofs.Steps.{next_of}
 use Rattle.hol_types.specs.Tree.{TypeTree}
 use Rattle.hol_types.specs.Equal.{variable_eq}
 use Rattle.hol_terms.specs.Named.{Named, var, constant, comb, abs, named_type}
@@ -12,10 +15,9 @@ use Rattle.hol_subst.specs.Substitution.{term_lookup, term_for, term_subst}
 use Rattle.hol_subst.specs.Pairs.{nameless_pairs, pair_before, IsGoodPair, HasBadPair}
 use Rattle.hol_subst.specs.Capture.{named_pairs, given, has_pair, Fit, touches, comes_in, IsRest, IsRenaming, IsResult}
 use Rattle.hol_subst.specs.Substituted.{named_at, named_for, IsVsubst}
-use Rattle.hol_subst.proofs.Closing.{shift_whole, or_false}
+use Rattle.hol_subst.proofs.Closing.{shift_whole}
 use Rattle.hol_subst.proofs.Commute.{subst_agree, subst_nothing}
 use Rattle.hol_subst.proofs.Typing.{AllTyped, subst_type}
-use Rattle.hol_subst.proofs.Rest.{next_pair, drop-all}
 use Rattle.hol_subst.proofs.Binders.{stays, same_types_stay, substituted_agree, names_kept, names_renamed}
 use Rattle.hol_subst.proofs.Taken.{closed_pairs, kept, nameless_given, renamed}
 
@@ -53,10 +55,10 @@ renaming_fits rest pairs v u h t n e = subst Fit (sym e) (ap Some t, n, h)
 -- ---- no variable of a pair is free
 untouched_given : (ps : NamedPairs) (t : Named) (w : Var) → touches ps t ≡ false → occurs_in w t ≡ true → given ps w ≡ var w
 untouched_given [] t w e o = refl
-untouched_given (p ∷ ps) t w e o = by (variable_eq p.1 w) refl (untouched_given ps t w (or_false _ _ e).1 o)
+untouched_given (p ∷ ps) t w e o = by (variable_eq p.1 w) refl (untouched_given ps t w (or_parts _ _ e).1 o)
   where
     by : (b : Bool) → variable_eq p.1 w ≡ b → given ps w ≡ var w → cond b p.0 (given ps w) ≡ var w
-    by true q r = let z : true ≡ false = sym o ∙ ap (λ x. occurs_in x t) (sym ((variable_eq_decides p.1 w).0 q)) ∙ (or_false _ _ e).0 in absurd (cc)
+    by true q r = let z : true ≡ false = sym o ∙ ap (λ x. occurs_in x t) (sym ((variable_eq_decides p.1 w).0 q)) ∙ (or_parts _ _ e).0 in absurd (cc)
     by false q r = r
 
 pub untouched : (ps : List (Named × (List ℕ × TypeTree))) (t : Named) → touches ps t ≡ false → IsResult ps t t
@@ -118,16 +120,16 @@ names_at_top pairs found t r q h e f = subst (λ (x : Named). IsVsubst pairs t x
 
 -- ---- bad pairs
 pub bad_here : (pairs : List (Named × Named)) (i : ℕ) (p : Named × Named) → (HasBadPair pairs ↔ HasBadPair (drop i pairs)) → i < length pairs → p ≡ get_or pairs i p → (IsGoodPair p → ⊥) → HasBadPair pairs
-bad_here pairs i p h l e b = h.1 (subst HasBadPair (sym (next_pair pairs i p l e)) (inl b))
+bad_here pairs i p h l e b = h.1 (subst HasBadPair (sym (next_of pairs i p l e)) (inl b))
 
 pub bad_later : (pairs : List (Named × Named)) (i : ℕ) (p : Named × Named) → (HasBadPair pairs ↔ HasBadPair (drop i pairs)) → i < length pairs → p ≡ get_or pairs i p → IsGoodPair p → HasBadPair pairs ↔ HasBadPair (drop (i + 1) pairs)
-bad_later pairs i p h l e g = (λ b. by (subst HasBadPair (next_pair pairs i p l e) (h.0 b)), λ b. h.1 (subst HasBadPair (sym (next_pair pairs i p l e)) (inr b)))
+bad_later pairs i p h l e g = (λ b. by (subst HasBadPair (next_of pairs i p l e) (h.0 b)), λ b. h.1 (subst HasBadPair (sym (next_of pairs i p l e)) (inr b)))
   where
     by : (IsGoodPair p → ⊥) ⊎ HasBadPair (drop (i + 1) pairs) → HasBadPair (drop (i + 1) pairs)
     by (inl b) = absurd (b g)
     by (inr b) = b
 
 pub bad_nowhere : (pairs : List (Named × Named)) (i : ℕ) → (HasBadPair pairs ↔ HasBadPair (drop i pairs)) → length pairs ≤ i → HasBadPair pairs → ⊥
-bad_nowhere pairs i h l b = subst HasBadPair (drop-all pairs i l) (h.0 b)
+bad_nowhere pairs i h l b = subst HasBadPair (drop_all i pairs l) (h.0 b)
 
 pub ruleset bad_pairs = (bad_here, bad_later, bad_nowhere)

@@ -1,5 +1,6 @@
 -- What a bound variable must not be called, and that a name is found.
 use Rattle.std.proofs.Common.{◌≡◌, ℕ, ◌≤◌, List, [], ◌∷◌, length, max, refl, ap, sym, ◌∙◌, Bool, true, false, cond, not, ◌&&◌, ◌||◌, Some, unwrap_or, arith}
+use Rattle.std.proofs.lemmas.Bool.{or_parts, and_parts}
 use Rattle.hol_types.specs.Tree.{TypeTree}
 use Rattle.hol_types.specs.Equal.{variable_eq}
 use Rattle.hol_terms.specs.Named.{Named, var, abs}
@@ -11,7 +12,7 @@ use Rattle.hol_terms.proofs.Primes.{base_with_primes}
 use Rattle.hol_subst.specs.Closing.{close}
 use Rattle.hol_subst.specs.Substitution.{term_lookup, term_for, term_subst}
 use Rattle.hol_subst.specs.Capture.{named_pairs, given, has_pair, comes_in, is_taken, IsRest, IsRenaming}
-use Rattle.hol_subst.proofs.Closing.{IsClosed, closed_named, nameless_abs, eq_same, eq_flip, or_false}
+use Rattle.hol_subst.proofs.Closing.{IsClosed, closed_named, nameless_abs, eq_same, eq_flip}
 use Rattle.hol_subst.proofs.Commute.{AllClosed, Renames, commute}
 use Rattle.hol_subst.proofs.Binders.{none_given}
 use Rattle.hol_subst.proofs.Longest.{longest, binds_short}
@@ -34,17 +35,13 @@ longest_coming : NamedPairs → ℕ
 longest_coming [] = 0
 longest_coming (p ∷ ps) = max (longest_named p.0) (longest_coming ps)
 
-and_left : (a b : Bool) → (a && b) ≡ true → a ≡ true
-and_left true b e = refl
-and_left false b e = absurd (cc)
-
 comes_short : (ps : NamedPairs) (b : Named) (u : Var) → comes_in ps u b ≡ true → length u.0 ≤ longest_coming ps
 unfolding longest_coming
 comes_short [] b u e = absurd (cc)
 comes_short (p ∷ ps) b u e = by (occurs_in u p.0 && occurs_in p.1 b) refl e (comes_short ps b u)
   where
     by : (t : Bool) → (occurs_in u p.0 && occurs_in p.1 b) ≡ t → (t || comes_in ps u b) ≡ true → (comes_in ps u b ≡ true → length u.0 ≤ longest_coming ps) → length u.0 ≤ max (longest_named p.0) (longest_coming ps)
-    by true q g r = let h : length u.0 ≤ longest_named p.0 = occurs_short p.0 u (and_left (occurs_in u p.0) (occurs_in p.1 b) q) in omega arith
+    by true q g r = let h : length u.0 ≤ longest_named p.0 = occurs_short p.0 u (and_parts (occurs_in u p.0) (occurs_in p.1 b) q).0 in omega arith
     by false q g r = let h : length u.0 ≤ longest_coming ps = r g in omega arith
 
 pub longest_taken : List (Named × (List ℕ × TypeTree)) → Named → ℕ
@@ -55,7 +52,7 @@ unfolding longest_taken
 taken_short ps b u e = by (occurs_in u b && not (has_pair ps u)) refl e
   where
     by : (t : Bool) → (occurs_in u b && not (has_pair ps u)) ≡ t → (t || comes_in ps u b) ≡ true → length u.0 ≤ max (longest_named b) (longest_coming ps)
-    by true q g = let h : length u.0 ≤ longest_named b = occurs_short b u (and_left (occurs_in u b) (not (has_pair ps u)) q) in omega arith
+    by true q g = let h : length u.0 ≤ longest_named b = occurs_short b u (and_parts (occurs_in u b) (not (has_pair ps u)) q).0 in omega arith
     by false q g = let h : length u.0 ≤ longest_coming ps = comes_short ps b u g in omega arith
 
 untaken : (ps : NamedPairs) (b : Named) (v u : Var) → IsRenaming ps b v u → is_taken ps b u ≡ false
@@ -72,10 +69,10 @@ and_false false b e f = refl
 
 stands_fresh : (ps : NamedPairs) (w u : Var) (b : Named) → comes_in ps u b ≡ false → occurs_in w b ≡ true → (has_pair ps w ≡ false → variable_eq w u ≡ false) → binds (free_occurrences (term_for (named_pairs ps) w)) u ≡ false
 stands_fresh [] w u b e o h = rw (h refl) refl
-stands_fresh (p ∷ ps) w u b e o h = by (variable_eq p.1 w) refl (λ g. stands_fresh ps w u b (or_false _ _ e).1 o g) h
+stands_fresh (p ∷ ps) w u b e o h = by (variable_eq p.1 w) refl (λ g. stands_fresh ps w u b (or_parts _ _ e).1 o g) h
   where
     by : (t : Bool) → variable_eq p.1 w ≡ t → ((has_pair ps w ≡ false → variable_eq w u ≡ false) → binds (free_occurrences (term_for (named_pairs ps) w)) u ≡ false) → ((t || has_pair ps w) ≡ false → variable_eq w u ≡ false) → binds (free_occurrences (unwrap_or (cond t (Some (nameless [] p.0)) (term_lookup (named_pairs ps) w)) (free w))) u ≡ false
-    by true q r g = sym (occurs_is u p.0) ∙ and_false (occurs_in u p.0) (occurs_in p.1 b) (or_false _ _ e).0 (ap (λ x. occurs_in x b) ((variable_eq_decides p.1 w).0 q) ∙ o)
+    by true q r g = sym (occurs_is u p.0) ∙ and_false (occurs_in u p.0) (occurs_in p.1 b) (or_parts _ _ e).0 (ap (λ x. occurs_in x b) ((variable_eq_decides p.1 w).0 q) ∙ o)
     by false q r g = r g
 
 pub closed_pairs : (ps : List (Named × (List ℕ × TypeTree))) → AllClosed (named_pairs ps)
@@ -119,7 +116,7 @@ renamed v u b r ps rest g i h =
     let names : Renames v u (named_pairs ps) (named_pairs ((var u, v) ∷ rest)) (nameless [] b) = record {
       own = rw (eq_same v) refl;
       others = λ w d f. rw d (others v b ps rest g w d f);
-      fresh = λ w d f. ap (λ x. binds (free_occurrences x) u) (sym (others v b ps rest g w d f)) ∙ stands_fresh rest w u b (or_false _ _ free_name).1 (occurs_is w b ∙ f) (λ n. differs w (occurs_is w b ∙ f) n (variable_eq w u) refl);
+      fresh = λ w d f. ap (λ x. binds (free_occurrences x) u) (sym (others v b ps rest g w d f)) ∙ stands_fresh rest w u b (or_parts _ _ free_name).1 (occurs_is w b ∙ f) (λ n. differs w (occurs_is w b ∙ f) n (variable_eq w u) refl);
     } in
     let same_base : base_of u.0 ≡ base_of v.0 = ap base_of i.name.is ∙ base_with_primes i.name.primes v.0 in
     let same_type : u.1 ≡ v.1 = i.same_type in
@@ -130,7 +127,7 @@ renamed v u b r ps rest g i h =
     differs : (w : Var) → occurs_in w b ≡ true → has_pair rest w ≡ false → (t : Bool) → variable_eq w u ≡ t → variable_eq w u ≡ false
     differs w o n true q =
         let same : w ≡ u = (variable_eq_decides w u).0 q in
-        let z : (occurs_in w b && not (has_pair rest w)) ≡ false = ap (λ x. occurs_in x b && not (has_pair rest x)) same ∙ (or_false _ _ (untaken rest b v u i)).0 in
+        let z : (occurs_in w b && not (has_pair rest w)) ≡ false = ap (λ x. occurs_in x b && not (has_pair rest x)) same ∙ (or_parts _ _ (untaken rest b v u i)).0 in
         let y : true ≡ false = sym (rw (o, n) refl) ∙ z in
         absurd (cc)
     differs w o n false q = q

@@ -60,15 +60,6 @@ inst_type pairs env (lam a t b) s e = by (nameless_type (t ∷ env) b) refl e (i
     by None h g l = absurd (cc)
     by (Some r) h g l = ap (option_map (λ q. fun_type (type_subst pairs t) q)) (l r h) ∙ ap (option_map (type_subst pairs)) g
 
--- ---- tests
-pub or_left : (a b : Bool) → a ≡ true → (a || b) ≡ true
-or_left true b e = refl
-or_left false b e = absurd (cc)
-
-pub or_right : (a b : Bool) → b ≡ true → (a || b) ≡ true
-or_right true b e = refl
-or_right false b e = e
-
 -- ---- what a caller of inst has: r, whose nameless term is the instance of that of t
 pub typed_instance : (pairs : List (TypeTree × List ℕ)) (t r : Named) (s : TypeTree) → nameless [] r ≡ types_inst pairs (nameless [] t) → named_type t ≡ Some s → named_type r ≡ Some (type_subst pairs s)
 typed_instance pairs t r s e h = sym (type_outside r) ∙ ap (nameless_type []) e ∙ inst_type pairs [] (nameless [] t) s (type_outside t ∙ h)

@@ -5,9 +5,9 @@ use Rattle.hol_terms.specs.Nameless.{place, free_occurrences}
 use Rattle.hol_types.specs.Equal.{variable_eq}
 use Rattle.hol_terms.specs.Scoped.{binds, add_new, add_all}
 
-pub add_all-append : (vs xs ys : List (List ℕ × TypeTree)) → add_all vs (xs ++ ys) ≡ add_all (add_all vs xs) ys
-add_all-append vs [] ys = refl
-add_all-append vs (x ∷ xs) ys = add_all-append (add_new vs x) xs ys
+pub add_all_append : (vs xs ys : List (List ℕ × TypeTree)) → add_all vs (xs ++ ys) ≡ add_all (add_all vs xs) ys
+add_all_append vs [] ys = refl
+add_all_append vs (x ∷ xs) ys = add_all_append (add_new vs x) xs ys
 
 -- an occurrence is free where no binder is over its variable
 pub place_free : (env : List (List ℕ × TypeTree)) (i : ℕ) (v : List ℕ × TypeTree) → free_occurrences (place env i v) ≡ cond (binds env v) [] (v ∷ [])
@@ -18,4 +18,4 @@ place_free (u ∷ env) i v = by (variable_eq u v) (place_free env (i + 1) v) ref
     by true r e = rw e refl
     by false r e = rw e r
 
-pub ruleset collecting = (add_all-append, place_free)
+pub ruleset collecting = (add_all_append, place_free)

@@ -11,9 +11,9 @@ use Rattle.hol_terms.proofs.Same.{variable_eq_decides}
 abbrev Variables : Type 0
 Variables = List (List ℕ × TypeTree)
 
-pub binds-append : (xs ys : Variables) (v : List ℕ × TypeTree) → binds (xs ++ ys) v ≡ (binds xs v || binds ys v)
-binds-append [] ys v = refl
-binds-append (x ∷ xs) ys v = by (variable_eq x v) (binds-append xs ys v)
+pub binds_append : (xs ys : Variables) (v : List ℕ × TypeTree) → binds (xs ++ ys) v ≡ (binds xs v || binds ys v)
+binds_append [] ys v = refl
+binds_append (x ∷ xs) ys v = by (variable_eq x v) (binds_append xs ys v)
   where
     by : (b : Bool) → binds (xs ++ ys) v ≡ (binds xs v || binds ys v) → (b || binds (xs ++ ys) v) ≡ ((b || binds xs v) || binds ys v)
     by true e = refl
@@ -51,7 +51,7 @@ occurs_under env v (constant c s) = by (binds env v)
     by : (b : Bool) → false ≡ cond b false false
     by true = refl
     by false = refl
-occurs_under env v (comb f x) = binds-append (free_occurrences (nameless env f)) (free_occurrences (nameless env x)) v ∙ (rw (occurs_under env v f, occurs_under env v x) (or_outside (binds env v) (occurs_in v f) (occurs_in v x)))
+occurs_under env v (comb f x) = binds_append (free_occurrences (nameless env f)) (free_occurrences (nameless env x)) v ∙ (rw (occurs_under env v f, occurs_under env v x) (or_outside (binds env v) (occurs_in v f) (occurs_in v x)))
 occurs_under env v (abs w b) = occurs_under (w ∷ env) v b ∙ under_binder (variable_eq w v) (binds env v) (occurs_in v b)
 
 -- the same outside all binders

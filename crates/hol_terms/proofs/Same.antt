@@ -1,7 +1,7 @@
 -- The comparison under binders decides equality of nameless terms.
 use Rattle.std.proofs.Common.{◌≡◌, ℕ, ◌+◌, ◌<◌, List, [], ◌∷◌, length, refl, ap, sym, Bool, true, false, cond, ◌&&◌, bytes_eq, arith, subst}
 use Rattle.std.specs.Bool.{Decides}
-use Rattle.std.proofs.lemmas.Bool.{and_parts}
+use Rattle.std.proofs.lemmas.Bool.{and_parts, and_from}
 use Rattle.std.proofs.lemmas.Slice.Eq.{bytes_eq-Decides}
 use Rattle.hol_types.specs.Tree.{TypeTree}
 use Rattle.hol_types.specs.Equal.{type_eq, variable_eq}
@@ -13,13 +13,9 @@ use Rattle.hol_terms.specs.Scoped.{same_place, same_named}
 abbrev Variables : Type 0
 Variables = List (List ℕ × TypeTree)
 
-both_true : (a b : Bool) → a ≡ true → b ≡ true → (a && b) ≡ true
-both_true true b p q = q
-both_true false b p q = absurd (cc)
-
 -- both tests hold where both facts do
 pub and_decides : {P Q : Type 0} (a b : Bool) → Decides a P → Decides b Q → Decides (a && b) (P × Q)
-and_decides a b p q = (λ e. let t = and_parts a b e in (p.0 t.0, q.0 t.1), λ h. both_true a b (p.1 h.0) (q.1 h.1))
+and_decides a b p q = (λ e. let t = and_parts a b e in (p.0 t.0, q.0 t.1), λ h. and_from a b (p.1 h.0) (q.1 h.1))
 
 -- a test of one fact is a test of another that says the same
 pub decides_other : {P Q : Type 0} (b : Bool) → (P → Q) → (Q → P) → Decides b P → Decides b Q

@@ -1,24 +1,11 @@
 -- How the logic stores a variable, a named term and a nameless term: as trees of numbers, by functions that map no two to one tree.
 use Rattle.std.specs.Coded.{Coded, coded×}
-use Rattle.std.proofs.Common.{◌≡◌, ◌≢◌, ℕ, List, ap, arith}
-use base.Stored.{Gv, gnil, gnum, gcons}
+use Rattle.std.proofs.Common.{◌≡◌, ℕ, List, ap, arith}
+use base.Stored.{Gv, gnum, gcons}
 use Rattle.hol_types.specs.Tree.{TypeTree}
-use Rattle.hol_types.specs.Code.{coded_name, coded_type}
+use Rattle.hol_types.specs.Code.{head, tail, apart, coded_name, coded_type}
 use Rattle.hol_terms.specs.Named.{Named, var, constant, comb, abs}
 use Rattle.hol_terms.specs.Nameless.{Nameless, free, bound, fixed, app, lam}
-
-abbrev head : Gv → Gv
-head gnil = gnil
-head (gnum n) = gnil
-head (gcons a b) = a
-
-abbrev tail : Gv → Gv
-tail gnil = gnil
-tail (gnum n) = gnil
-tail (gcons a b) = b
-
-apart : (m n : ℕ) {a b : Gv} → gcons (gnum m) a ≡ gcons (gnum n) b → m ≢ n → ⊥
-apart m n p other = other (cc)
 
 abbrev pub coded_variable : Coded (List ℕ × TypeTree)
 coded_variable = coded× coded_name coded_type

@@ -74,12 +74,12 @@ abbrev mutual
   types_key no_types rest = 0 ∷ rest
   types_key (more_types t ts) rest = 1 ∷ type_key t (types_key ts rest)
 
-then_then : (r s t : Ordering) → ordering_then r (ordering_then s t) ≡ ordering_then (ordering_then r s) t
+pub then_then : (r s t : Ordering) → ordering_then r (ordering_then s t) ≡ ordering_then (ordering_then r s) t
 then_then Less s t = refl
 then_then Equal s t = refl
 then_then Greater s t = refl
 
-then_equal_right : (r : Ordering) → ordering_then r Equal ≡ r
+pub then_equal_right : (r : Ordering) → ordering_then r Equal ≡ r
 then_equal_right Less = refl
 then_equal_right Equal = refl
 then_equal_right Greater = refl

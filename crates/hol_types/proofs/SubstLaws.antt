@@ -1,5 +1,6 @@
 -- Laws of substitution for type variables.
 use Rattle.std.proofs.Common.{◌≡◌, ℕ, List, [], ◌∷◌, ◌++◌, map, refl, ap, ◌∙◌, Bool, true, false, cond, ◌||◌, bytes_eq, Option, Some, None, unwrap_or}
+use Rattle.std.proofs.lemmas.Bool.{or_left, or_right}
 use Rattle.std.proofs.lemmas.Slice.Eq.{bytes_eq-Decides}
 use Rattle.hol_types.specs.Tree.{TypeTree, TypeList, TyVar, TyApp, no_types, more_types}
 use Rattle.hol_types.specs.Subst.{type_lookup, type_for, type_subst, types_subst, types_composed, TypeUntouched}
@@ -27,14 +28,6 @@ mutual
 
 among_itself : (a : List ℕ) → (bytes_eq a a || false) ≡ true
 among_itself a = rw ((bytes_eq-Decides a a).1 refl) refl
-
-or_left : (a b : Bool) → a ≡ true → (a || b) ≡ true
-or_left true b e = refl
-or_left false b e = absurd (cc)
-
-or_right : (a b : Bool) → b ≡ true → (a || b) ≡ true
-or_right true b e = refl
-or_right false b e = e
 
 mutual
   -- a type of whose variables none has a pair stays as it is
