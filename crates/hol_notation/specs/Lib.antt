@@ -1,7 +1,7 @@
 -- The definitions of the crates of the notation that contracts above speak of. `TermText`, `TacText` and `CommandText` hold the values of what is
 -- written, `TermCode`, `TacCode` and `CommandCode` how the logic stores them.
 pub use Rattle.hol_notation_tokens.specs.Token
-pub use Rattle.hol_notation_tokens.specs.LexErrors
+pub use Rattle.hol_notation_tokens.specs.Lexing
 pub use Rattle.hol_notation_terms.specs.Text as TermText
 pub use Rattle.hol_notation_terms.specs.Code as TermCode
 pub use Rattle.hol_notation_terms.specs.TypeView

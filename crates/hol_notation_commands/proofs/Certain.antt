@@ -15,39 +15,39 @@ still : (after : List Lexeme) → IsTextEnd after → IsTextEnd after
 still after k = k
 
 -- where the text ends, tactic expressions and quotations do
-pub end-tactic : (after : List Lexeme) → IsTextEnd after → IsEnding after
-end-tactic [] k = tt
-end-tactic (x ∷ after) k = absurd k
+pub end_tactic : (after : List Lexeme) → IsTextEnd after → IsEnding after
+end_tactic [] k = tt
+end_tactic (x ∷ after) k = absurd k
 
-pub end-quotation : (after : List Lexeme) → IsTextEnd after → term_grammar.Closes a_quotation after
-end-quotation [] k = tt
-end-quotation (x ∷ after) k = absurd k
+pub end_quotation : (after : List Lexeme) → IsTextEnd after → term_grammar.Closes a_quotation after
+end_quotation [] k = tt
+end_quotation (x ∷ after) k = absurd k
 
-pub end-type : (after : List Lexeme) → IsTextEnd after → term_grammar.Closes a_type_quotation after
-end-type [] k = tt
-end-type (x ∷ after) k = absurd k
+pub end_type : (after : List Lexeme) → IsTextEnd after → term_grammar.Closes a_type_quotation after
+end_type [] k = tt
+end_type (x ∷ after) k = absurd k
 
-pub end-definition : (after : List Lexeme) → IsTextEnd after → term_grammar.Closes a_definition after
-end-definition [] k = tt
-end-definition (x ∷ after) k = absurd k
+pub end_definition : (after : List Lexeme) → IsTextEnd after → term_grammar.Closes a_definition after
+end_definition [] k = tt
+end_definition (x ∷ after) k = absurd k
 
-inside-number : (b : Bool) → Inside command_grammar IsTextEnd (cond b nothing (has no_text nothing))
-inside-number true = tt
-inside-number false = (still, tt)
+inside_number : (b : Bool) → Inside command_grammar IsTextEnd (cond b nothing (has no_text nothing))
+inside_number true = tt
+inside_number false = (still, tt)
 
 pub inside : {n : Nonterminal} (p : Production n) → Inside command_grammar IsTextEnd (parts p)
-inside open_goal = λ _. λ _. (end-quotation, tt)
-inside run_tactic = λ _. (end-tactic, tt)
+inside open_goal = λ _. λ _. (end_quotation, tt)
+inside run_tactic = λ _. (end_tactic, tt)
 inside undo = λ _. tt
 inside rotate = λ _. λ _. tt
 inside finish = λ _. tt
 inside give_up = λ _. tt
 inside import_theory = λ _. λ _. tt
 inside declare = (still, tt)
-inside new_type = λ _. λ _. λ x. inside-number (nat_le (number_value x.text) 16)
-inside new_constant = λ _. λ _. (end-type, tt)
-inside new_axiom = λ _. λ _. (end-quotation, tt)
-inside new_definition = λ _. λ _. (end-definition, tt)
+inside new_type = λ _. λ _. λ x. inside_number (nat_le (number_value x.text) 16)
+inside new_constant = λ _. λ _. (end_type, tt)
+inside new_axiom = λ _. λ _. (end_quotation, tt)
+inside new_definition = λ _. λ _. (end_definition, tt)
 inside new_basic_type_definition = λ _. (still, tt)
 inside six_names = λ _. λ _. λ _. λ _. λ _. λ _. tt
 

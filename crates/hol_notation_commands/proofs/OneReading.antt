@@ -8,7 +8,7 @@ use Rattle.hol_notation_commands.specs.Reading.{IsCommand, IsBeginning, IsBreak,
 use Rattle.hol_notation_grammar.proofs.Laws.{same}
 use Rattle.hol_notation_commands.specs.Value.{command_value}
 use Rattle.hol_notation_commands.proofs.Certain.{certain}
-use Rattle.hol_notation_tokens.proofs.OneLexing.{GoesOn, compare, nothing-after, one-lexing}
+use Rattle.hol_notation_tokens.proofs.OneLexing.{GoesOn, compare, nothing_after, one_token_list}
 
 -- what begins with more tokens begins with fewer
 fewer : (text : List ℕ) (ts us : List Token) (u : Token) (later : List Token) → us ≡ ts ++ u ∷ later → IsBeginning (lexemes text us) → IsBeginning (lexemes text (ts ++ u ∷ []))
@@ -29,36 +29,36 @@ fewer text ts us u later e b = record {
 begins : (words : List Lexeme) (command : CommandText) → IsCommand words command → IsBeginning words
 begins words command h = record { later = []; command = command; is = record { written = h.written; whole = append-nil words ∙ h.whole; stands = h.stands; says = h.says } }
 
-one-command : (words : List Lexeme) (a b : CommandText) → IsCommand words a → IsCommand words b → a ≡ b
-one-command words a b h k = h.says ∙ ap command_value (same certain h.written k.written [] [] h.stands k.stands (sym h.whole ∙ k.whole)).0 ∙ sym k.says
+one_command : (words : List Lexeme) (a b : CommandText) → IsCommand words a → IsCommand words b → a ≡ b
+one_command words a b h k = h.says ∙ ap command_value (same certain h.written k.written [] [] h.stands k.stands (sym h.whole ∙ k.whole)).0 ∙ sym k.says
 
 -- the token at a break is none with which a command goes on
-stops-there : (text : List ℕ) (place : ℕ) (us : List Token) (b : IsBreak text place) → GoesOn text [] b.tokens us place → IsBeginning (lexemes text us) → ⊥
-stops-there text place us b g h = b.stops g.next g.stands (fewer text b.tokens us g.next g.later g.whole h)
+stops_there : (text : List ℕ) (place : ℕ) (us : List Token) (b : IsBreak text place) → GoesOn text [] b.tokens us place → IsBeginning (lexemes text us) → ⊥
+stops_there text place us b g h = b.stops g.next g.stands (fewer text b.tokens us g.next g.later g.whole h)
 
-command-or-break : (text : List ℕ) (command : CommandText) (place : ℕ) → IsCommandText text command → IsBreak text place → ⊥
-command-or-break text command place c b =
+command_or_break : (text : List ℕ) (command : CommandText) (place : ℕ) → IsCommandText text command → IsBreak text place → ⊥
+command_or_break text command place c b =
     elim (compare text [] 0 c.tokens b.tokens (length text) place c.lexed b.before) [
       | inl p ↦ b.ends (sym p.1) command (subst (λ (ts : List Token). IsCommand (lexemes text ts) command) p.0 c.is)
       | inr q ↦ elim q [
-        | inl g ↦ nothing-after text c.tokens b.tokens g
-        | inr g ↦ stops-there text place c.tokens b g (begins (lexemes text c.tokens) command c.is)
+        | inl g ↦ nothing_after text c.tokens b.tokens g
+        | inr g ↦ stops_there text place c.tokens b g (begins (lexemes text c.tokens) command c.is)
       ]
     ]
 
-one-break : (text : List ℕ) (p q : ℕ) → IsBreak text p → IsBreak text q → p ≡ q
-one-break text p q a b =
+one_break : (text : List ℕ) (p q : ℕ) → IsBreak text p → IsBreak text q → p ≡ q
+one_break text p q a b =
     elim (compare text [] 0 a.tokens b.tokens p q a.before b.before) [
       | inl h ↦ h.1
       | inr h ↦ elim h [
-        | inl g ↦ absurd (stops-there text p b.tokens a g b.begins)
-        | inr g ↦ absurd (stops-there text q a.tokens b g a.begins)
+        | inl g ↦ absurd (stops_there text p b.tokens a g b.begins)
+        | inr g ↦ absurd (stops_there text q a.tokens b g a.begins)
       ]
     ]
 
 pub one-reading : (text : List ℕ) (a b : ReadText) → IsRead text a → IsRead text b → a ≡ b
 one-reading text (Reads c) (Reads d) h k =
-    ap Reads (one-command (lexemes text h.tokens) c d h.is (subst (λ (ts : List Token). IsCommand (lexemes text ts) d) (one-lexing text k.tokens h.tokens k.lexed h.lexed) k.is))
-one-reading text (Reads c) (Breaks q) h k = absurd (command-or-break text c q h k)
-one-reading text (Breaks p) (Reads d) h k = absurd (command-or-break text d p k h)
-one-reading text (Breaks p) (Breaks q) h k = ap Breaks (one-break text p q h k)
+    ap Reads (one_command (lexemes text h.tokens) c d h.is (subst (λ (ts : List Token). IsCommand (lexemes text ts) d) (one_token_list text k.tokens h.tokens k.lexed h.lexed) k.is))
+one-reading text (Reads c) (Breaks q) h k = absurd (command_or_break text c q h k)
+one-reading text (Breaks p) (Reads d) h k = absurd (command_or_break text d p k h)
+one-reading text (Breaks p) (Breaks q) h k = ap Breaks (one_break text p q h k)

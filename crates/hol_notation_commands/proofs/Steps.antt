@@ -10,8 +10,8 @@ use Rattle.hol_notation_grammar.specs.Class.{Taken}
 use Rattle.hol_notation_grammar.specs.Syntax.{nothing, token, Tree, node, Trees, done, leaf, tree, all_then, AllStand}
 use Rattle.hol_notation_grammar.specs.Reading.{Stuck, Fails, Found}
 use Rattle.hol_notation_grammar.specs.Over.{below, above, lowered}
-use Rattle.hol_notation_grammar.proofs.Steps.{FailsAll, stuck-here}
-use Rattle.hol_notation_grammar.proofs.Raising.{found-raised, fails-raised}
+use Rattle.hol_notation_grammar.proofs.Steps.{FailsAll, stuck_here}
+use Rattle.hol_notation_grammar.proofs.Raising.{found_raised, fails_raised}
 use Rattle.hol_notation_grammar.proofs.Walk.{Path}
 use Rattle.hol_notation_terms.specs.Grammar.{Nonterminal as TermNonterminal, term_grammar}
 use Rattle.hol_notation_tactics.specs.Number.{number_value}
@@ -23,94 +23,94 @@ use Rattle.hol_notation_commands.specs.Text.{TypeDefinitionText, CommandText}
 use Rattle.hol_notation_commands.specs.Value.{declaration_value}
 use Rattle.hol_notation_commands.proofs.Picks.{pick, looks, choose_command, choose_declaration}
 use Rattle.hol_notation_commands.proofs.Certain.{certain}
-use Rattle.hol_notation_commands.proofs.Some.{some-declaration, fills-arity}
+use Rattle.hol_notation_commands.proofs.Some.{some_declaration, fills_arity}
 
 pub both : {A B C : Type 0} (f : A → B → C) {a b : A} {u w : B} → a ≡ b → u ≡ w → f a u ≡ f b w
 both f {a} {b} {u} {w} p q = ap (λ x. f x u) p ∙ ap (f b) q
 
-pub none-left : (words : List Word) → length words ≡ 0 → map seen words ≡ []
-none-left [] h = refl
-none-left (w ∷ ws) h = absurd (omega arith)
+pub none_left : (words : List Word) → length words ≡ 0 → map seen words ≡ []
+none_left [] h = refl
+none_left (w ∷ ws) h = absurd (omega arith)
 
 -- what is read by the grammar of terms is read by that of commands
-pub term-found : {n : TermNonterminal} {V : Type 0} (value : Tree term_grammar n → V) (lexemes : List Lexeme) (v : V) (rest : List Lexeme)
+pub term_found : {n : TermNonterminal} {V : Type 0} (value : Tree term_grammar n → V) (lexemes : List Lexeme) (v : V) (rest : List Lexeme)
     → Found value lexemes v rest → Found {G = command_grammar} {n = below (below n)} (λ t. value (lowered term_grammar tactics_over_terms (lowered tactic_grammar commands_over_tactics t))) lexemes v rest
-term-found value lexemes v rest f =
-    found-raised tactic_grammar commands_over_tactics (λ t. value (lowered term_grammar tactics_over_terms t)) lexemes v rest (found-raised term_grammar tactics_over_terms value lexemes v rest f)
+term_found value lexemes v rest f =
+    found_raised tactic_grammar commands_over_tactics (λ t. value (lowered term_grammar tactics_over_terms t)) lexemes v rest (found_raised term_grammar tactics_over_terms value lexemes v rest f)
 
-pub term-fails : (n : TermNonterminal) (end : ℕ) (lexemes : List Lexeme) (e : SyntaxError) → Fails term_grammar n end lexemes e → Fails command_grammar (below (below n)) end lexemes e
-term-fails n end lexemes e h = fails-raised tactic_grammar commands_over_tactics (below n) end lexemes e (fails-raised term_grammar tactics_over_terms n end lexemes e h)
+pub term_fails : (n : TermNonterminal) (end : ℕ) (lexemes : List Lexeme) (e : SyntaxError) → Fails term_grammar n end lexemes e → Fails command_grammar (below (below n)) end lexemes e
+term_fails n end lexemes e h = fails_raised tactic_grammar commands_over_tactics (below n) end lexemes e (fails_raised term_grammar tactics_over_terms n end lexemes e h)
 
 -- no production is picked
-pub no-declaration : (end : ℕ) (words : List Lexeme) (place : ℕ) → place ≡ place_at end words → pick a_declaration words ≡ None → Fails command_grammar (above a_declaration) end words (Syntax place)
-no-declaration end words place here none =
+pub no_declaration : (end : ℕ) (words : List Lexeme) (place : ℕ) → place ≡ place_at end words → pick a_declaration words ≡ None → Fails command_grammar (above a_declaration) end words (Syntax place)
+no_declaration end words place here none =
     subst (λ (p : ℕ). Stuck command_grammar (above a_declaration) end words p) (sym here)
-    (stuck-here certain (above a_declaration) end words (looks a_declaration) none
-    (λ after k. let t = some-declaration after in record { written = t.0; more = _; whole = refl; stands = t.1 }))
+    (stuck_here certain (above a_declaration) end words (looks a_declaration) none
+    (λ after k. let t = some_declaration after in record { written = t.0; more = _; whole = refl; stands = t.1 }))
 
-pub rest-command : (w : CommandWord) → (w ≡ Goal → ⊥) → (w ≡ Apply → ⊥) → (w ≡ Back → ⊥) → (w ≡ Rotate → ⊥) → (w ≡ Qed → ⊥) → (w ≡ Oops → ⊥) → (w ≡ Import → ⊥) → choose_command w ≡ Some declare
-rest-command Goal a b c d e f g = absurd (a refl)
-rest-command Apply a b c d e f g = absurd (b refl)
-rest-command Back a b c d e f g = absurd (c refl)
-rest-command Rotate a b c d e f g = absurd (d refl)
-rest-command Qed a b c d e f g = absurd (e refl)
-rest-command Oops a b c d e f g = absurd (f refl)
-rest-command Import a b c d e f g = absurd (g refl)
-rest-command _ a b c d e f g = refl
+pub rest_command : (w : CommandWord) → (w ≡ Goal → ⊥) → (w ≡ Apply → ⊥) → (w ≡ Back → ⊥) → (w ≡ Rotate → ⊥) → (w ≡ Qed → ⊥) → (w ≡ Oops → ⊥) → (w ≡ Import → ⊥) → choose_command w ≡ Some declare
+rest_command Goal a b c d e f g = absurd (a refl)
+rest_command Apply a b c d e f g = absurd (b refl)
+rest_command Back a b c d e f g = absurd (c refl)
+rest_command Rotate a b c d e f g = absurd (d refl)
+rest_command Qed a b c d e f g = absurd (e refl)
+rest_command Oops a b c d e f g = absurd (f refl)
+rest_command Import a b c d e f g = absurd (g refl)
+rest_command _ a b c d e f g = refl
 
-pub none-declaration : (w : CommandWord) → (w ≡ NewType → ⊥) → (w ≡ NewConstant → ⊥) → (w ≡ NewAxiom → ⊥) → (w ≡ NewDefinition → ⊥) → (w ≡ NewBasicTypeDefinition → ⊥) → choose_declaration w ≡ None
-none-declaration NewType a b c d e = absurd (a refl)
-none-declaration NewConstant a b c d e = absurd (b refl)
-none-declaration NewAxiom a b c d e = absurd (c refl)
-none-declaration NewDefinition a b c d e = absurd (d refl)
-none-declaration NewBasicTypeDefinition a b c d e = absurd (e refl)
-none-declaration _ a b c d e = refl
+pub none_declaration : (w : CommandWord) → (w ≡ NewType → ⊥) → (w ≡ NewConstant → ⊥) → (w ≡ NewAxiom → ⊥) → (w ≡ NewDefinition → ⊥) → (w ≡ NewBasicTypeDefinition → ⊥) → choose_declaration w ≡ None
+none_declaration NewType a b c d e = absurd (a refl)
+none_declaration NewConstant a b c d e = absurd (b refl)
+none_declaration NewAxiom a b c d e = absurd (c refl)
+none_declaration NewDefinition a b c d e = absurd (d refl)
+none_declaration NewBasicTypeDefinition a b c d e = absurd (e refl)
+none_declaration _ a b c d e = refl
 
 -- no text is written after a number over 16
 abbrev IsWritten : Nonterminal → Type 0
 IsWritten no_text = ⊥
 IsWritten _ = Unit {0}
 
-is-written : {n : Nonterminal} → Production n → IsWritten n
-is-written open_goal = tt
-is-written run_tactic = tt
-is-written undo = tt
-is-written rotate = tt
-is-written finish = tt
-is-written give_up = tt
-is-written import_theory = tt
-is-written declare = tt
-is-written new_type = tt
-is-written new_constant = tt
-is-written new_axiom = tt
-is-written new_definition = tt
-is-written new_basic_type_definition = tt
-is-written six_names = tt
+is_written : {n : Nonterminal} → Production n → IsWritten n
+is_written open_goal = tt
+is_written run_tactic = tt
+is_written undo = tt
+is_written rotate = tt
+is_written finish = tt
+is_written give_up = tt
+is_written import_theory = tt
+is_written declare = tt
+is_written new_type = tt
+is_written new_constant = tt
+is_written new_axiom = tt
+is_written new_definition = tt
+is_written new_basic_type_definition = tt
+is_written six_names = tt
 
-no-tree : Tree command_grammar (above no_text) → ⊥
-no-tree (node p ts) = is-written p
+no_tree : Tree command_grammar (above no_text) → ⊥
+no_tree (node p ts) = is_written p
 
-large-parts : (b : Bool) → b ≡ false → (ts : Trees command_grammar (cond b nothing (has no_text nothing))) → ⊥
-large-parts true e ts = true≢false e
-large-parts false e (tree t ts) = no-tree t
+large_parts : (b : Bool) → b ≡ false → (ts : Trees command_grammar (cond b nothing (has no_text nothing))) → ⊥
+large_parts true e ts = true≢false e
+large_parts false e (tree t ts) = no_tree t
 
-large-stops : (x : Lexeme) (later : List Lexeme) → nat_le (number_value x.text) 16 ≡ false → (ts : Trees command_grammar (token number (λ y. at_most_16 y))) (after more : List Lexeme)
+large_stops : (x : Lexeme) (later : List Lexeme) → nat_le (number_value x.text) 16 ≡ false → (ts : Trees command_grammar (token number (λ y. at_most_16 y))) (after more : List Lexeme)
     → SameNext more (x ∷ later) → more ≡ all_then ts after → ⊥
-large-stops x later big (leaf y ts) after more next q =
+large_stops x later big (leaf y ts) after more next q =
     let e : y ≡ x = subst (λ (l : List Lexeme). SameNext l (x ∷ later)) q next in
-    large-parts (nat_le (number_value y.text) 16) (ap (λ (z : Lexeme). nat_le (number_value z.text) 16) e ∙ big) ts
+    large_parts (nat_le (number_value y.text) 16) (ap (λ (z : Lexeme). nat_le (number_value z.text) 16) e ∙ big) ts
 
-pub large-number : {rest later : List Lexeme} {x : Lexeme} (n : ℕ) (end : ℕ) → Taken (Is number) rest x later → n ≡ number_value x.text → 16 < n
+pub large_number : {rest later : List Lexeme} {x : Lexeme} (n : ℕ) (end : ℕ) → Taken (Is number) rest x later → n ≡ number_value x.text → 16 < n
     → FailsAll command_grammar (above a_declaration) (token number (λ y. at_most_16 y)) end rest (Syntax x.place)
-large-number {rest} {later} {x} n end t e h = record {
+large_number {rest} {later} {x} n end t e h = record {
   front = [];
   rest = rest;
   whole = refl;
   here = sym (ap (place_at end) t.whole);
   begins = λ after k.
-      let b = fills-arity a_declaration after k in
+      let b = fills_arity a_declaration after k in
       record { written = b.written; more = all_then b.written after; whole = refl; stands = b.stands };
-  stops = λ ts after more s next q. large-stops x later (ap (λ (m : ℕ). nat_le m 16) (sym e) ∙ lt-leb n 16 h) ts after more (subst (SameNext more) t.whole next) q;
+  stops = λ ts after more s next q. large_stops x later (ap (λ (m : ℕ). nat_le m 16) (sym e) ∙ lt-leb n 16 h) ts after more (subst (SameNext more) t.whole next) q;
 }
 
 -- a number of at most 16
@@ -121,9 +121,9 @@ few : (b : Bool) → b ≡ true → Few b
 few true e = (done, (λ later. refl, λ later. tt))
 few false e = absurd (false≢true e)
 
-pub small-found : {words rest : List Lexeme} {v : CommandText} (x : Lexeme) (n : ℕ) (p : Path command_grammar (above a_declaration) (at_most_16 x) words rest) → n ≡ number_value x.text → n ≤ 16
+pub small_found : {words rest : List Lexeme} {v : CommandText} (x : Lexeme) (n : ℕ) (p : Path command_grammar (above a_declaration) (at_most_16 x) words rest) → n ≡ number_value x.text → n ≤ 16
     → ((ts : Trees command_grammar (at_most_16 x)) → v ≡ declaration_value (p.up ts)) → Found declaration_value words v rest
-small-found {words} {rest} x n p e h says =
+small_found {words} {rest} x n p e h says =
     let f = few (nat_le (number_value x.text) 16) (ap (λ (m : ℕ). nat_le m 16) (sym e) ∙ le-leb n 16 h) in
     record {
       written = p.up f.0;

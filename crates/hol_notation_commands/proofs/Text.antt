@@ -12,27 +12,27 @@ use Rattle.hol_notation_grammar.specs.Terminal.{SameNext, place_at}
 use Rattle.hol_notation_grammar.specs.Syntax.{Tree, then, Stands}
 use Rattle.hol_notation_grammar.specs.Over.{above}
 use Rattle.hol_notation_grammar.specs.Reading.{Stuck, Found, Fails}
-use Rattle.hol_notation_grammar.proofs.Laws.{then-append, stands-next, closed-stands, same}
+use Rattle.hol_notation_grammar.proofs.Laws.{then_append, stands_next, closed_stands, same}
 use Rattle.hol_notation_commands.specs.Grammar.{command_grammar, a_command}
 use Rattle.hol_notation_commands.specs.Value.{command_value}
 use Rattle.hol_notation_commands.proofs.Certain.{certain}
 use Rattle.hol_notation_commands.specs.Reading.{IsCommand, IsBeginning, IsBreak, IsCommandText}
 use Rattle.hol_notation_commands.specs.Errors.{IsDead, IsFaultAt, IsAnswer, IsSyntaxError}
 use Rattle.std.proofs.lemmas.List.{map-append}
-use Rattle.hol_notation_tokens.proofs.Tokens.{none-not_some, some-same}
-use Rattle.hol_notation_tokens.proofs.OneLexing.{token-within}
+use Rattle.hol_notation_tokens.proofs.Tokens.{none_not_some, some_same}
+use Rattle.hol_notation_tokens.proofs.OneLexing.{token_within}
 
 abbrev ACommand : Type 0
 ACommand = Tree command_grammar (above a_command)
 
 -- dead, from what no command does
-dead-from : (front rest : List Lexeme)
+dead_from : (front rest : List Lexeme)
     → ((d : ACommand) (more : List Lexeme) → Stands d [] → SameNext more rest → front ++ more ≡ then d [] → ⊥) → IsDead front rest
-dead-from front [] none = λ v h. none h.written [] h.stands tt (append-nil front ∙ h.whole)
-dead-from front (x ∷ rest) none = λ h. none h.is.written (x ∷ h.later) h.is.stands refl (sym (append_assoc front (x ∷ []) h.later) ∙ h.is.whole)
+dead_from front [] none = λ v h. none h.written [] h.stands tt (append-nil front ∙ h.whole)
+dead_from front (x ∷ rest) none = λ h. none h.is.written (x ∷ h.later) h.is.stands refl (sym (append_assoc front (x ∷ []) h.later) ∙ h.is.whole)
 
-fault-from_stuck : (end : ℕ) (words : List Lexeme) (place : ℕ) → Stuck command_grammar (above a_command) end words place → IsFaultAt end words place
-fault-from_stuck end words place s =
+fault_from_stuck : (end : ℕ) (words : List Lexeme) (place : ℕ) → Stuck command_grammar (above a_command) end words place → IsFaultAt end words place
+fault_from_stuck end words place s =
     let b = s.begins [] tt in
     record {
       front = s.front;
@@ -40,27 +40,27 @@ fault-from_stuck end words place s =
       whole = s.whole;
       here = s.here;
       viable = record { later = b.more; command = command_value b.written; is = record { written = b.written; whole = sym b.whole; stands = b.stands; says = refl } };
-      dead = dead-from s.front s.rest (λ d more h next e. s.stops d [] more h next e);
+      dead = dead_from s.front s.rest (λ d more h next e. s.stops d [] more h next e);
     }
 
-pub answer-err : (end : ℕ) (words : List Lexeme) (e : SyntaxError) → Fails command_grammar (above a_command) end words e → IsAnswer end words (Err e)
-answer-err end words Memory h = tt
-answer-err end words (Syntax place) h = fault-from_stuck end words place h
+pub answer_err : (end : ℕ) (words : List Lexeme) (e : SyntaxError) → Fails command_grammar (above a_command) end words e → IsAnswer end words (Err e)
+answer_err end words Memory h = tt
+answer_err end words (Syntax place) h = fault_from_stuck end words place h
 
-pub answer-ok : (end : ℕ) (words rest : List Lexeme) (command : CommandText) → Found command_value words command rest → rest ≡ [] → IsAnswer end words (Ok command)
-answer-ok end words rest command f e = record { written = f.written; whole = f.whole ∙ ap (then f.written) e; stands = subst (Stands f.written) e f.stands; says = f.says }
+pub answer_ok : (end : ℕ) (words rest : List Lexeme) (command : CommandText) → Found command_value words command rest → rest ≡ [] → IsAnswer end words (Ok command)
+answer_ok end words rest command f e = record { written = f.written; whole = f.whole ∙ ap (then f.written) e; stands = subst (Stands f.written) e f.stands; says = f.says }
 
 -- a command is read whole, and goes on with nothing
-pub fault-after : (end : ℕ) (words : List Lexeme) (v : CommandText) (rest : List Lexeme) → Found command_value words v rest → (x : Lexeme) (xs : List Lexeme) → rest ≡ x ∷ xs → IsFaultAt end words x.place
-fault-after end words v rest f x xs e = record {
+pub fault_after : (end : ℕ) (words : List Lexeme) (v : CommandText) (rest : List Lexeme) → Found command_value words v rest → (x : Lexeme) (xs : List Lexeme) → rest ≡ x ∷ xs → IsFaultAt end words x.place
+fault_after end words v rest f x xs e = record {
   front = then f.written [];
   rest = x ∷ xs;
-  whole = f.whole ∙ ap (then f.written) e ∙ then-append f.written [] (x ∷ xs);
+  whole = f.whole ∙ ap (then f.written) e ∙ then_append f.written [] (x ∷ xs);
   here = refl;
-  viable = record { later = []; command = v; is = record { written = f.written; whole = append-nil (then f.written []); stands = closed-stands certain f.written rest [] f.stands tt; says = f.says } };
-  dead = dead-from (then f.written []) (x ∷ xs) (λ d more h next q.
-      let stands : Stands f.written more = stands-next f.written more (x ∷ xs) next (subst (Stands f.written) e f.stands) in
-      let s = same certain f.written d more [] stands h (then-append f.written [] more ∙ q) in
+  viable = record { later = []; command = v; is = record { written = f.written; whole = append-nil (then f.written []); stands = closed_stands certain f.written rest [] f.stands tt; says = f.says } };
+  dead = dead_from (then f.written []) (x ∷ xs) (λ d more h next q.
+      let stands : Stands f.written more = stands_next f.written more (x ∷ xs) next (subst (Stands f.written) e f.stands) in
+      let s = same certain f.written d more [] stands h (then_append f.written [] more ∙ q) in
       subst (λ (y : List Lexeme). SameNext y (x ∷ xs)) s.1 next);
 }
 
@@ -76,75 +76,75 @@ split text (t ∷ tokens) (x ∷ front) rest e =
     let s = split text tokens front rest (cc) in
     (t ∷ s.0, s.1, ap (λ (ts : List Token). t ∷ ts) s.2, ap (λ (y : Lexeme). y ∷ lexemes text s.0) first ∙ ap (λ (ys : List Lexeme). x ∷ ys) s.3, s.4)
 
-token-start : (o : Option (Kind × ℕ)) (place : ℕ) (t : Token) → option_map (λ x. record { kind = x.0; start = place; length = x.1 }) o ≡ Some t → t.start ≡ place
-token-start None place t e = absurd (none-not_some t e)
-token-start (Some x) place t e = ap (λ (u : Token). u.start) (sym (some-same e))
+token_start : (o : Option (Kind × ℕ)) (place : ℕ) (t : Token) → option_map (λ x. record { kind = x.0; start = place; length = x.1 }) o ≡ Some t → t.start ≡ place
+token_start None place t e = absurd (none_not_some t e)
+token_start (Some x) place t e = ap (λ (u : Token). u.start) (sym (some_same e))
 
 abbrev start_of : ℕ → List Token → ℕ
 start_of end [] = end
 start_of end (t ∷ tokens) = t.start
 
 -- the tokens go up to the first of the later ones
-lexed-front : (text : List ℕ) (before : List Token) (place : ℕ) (a b : List Token) (end : ℕ) → IsLexed text before place (a ++ b) end → IsLexed text before place a (start_of end b)
-lexed-front text before place [] [] end e = e
-lexed-front text before place [] (t ∷ b) end e = token-start _ (skip text place) t e.0
-lexed-front text before place (t ∷ a) b end e = (e.0, lexed-front text (before ++ t ∷ []) (t.start + t.length) a b end e.1)
+lexed_front : (text : List ℕ) (before : List Token) (place : ℕ) (a b : List Token) (end : ℕ) → IsLexed text before place (a ++ b) end → IsLexed text before place a (start_of end b)
+lexed_front text before place [] [] end e = e
+lexed_front text before place [] (t ∷ b) end e = token_start _ (skip text place) t e.0
+lexed_front text before place (t ∷ a) b end e = (e.0, lexed_front text (before ++ t ∷ []) (t.start + t.length) a b end e.1)
 
 -- and that one stands there
-lexed-next : (text : List ℕ) (before : List Token) (place : ℕ) (a : List Token) (t : Token) (b : List Token) (end : ℕ) → IsLexed text before place (a ++ t ∷ b) end
+lexed_next : (text : List ℕ) (before : List Token) (place : ℕ) (a : List Token) (t : Token) (b : List Token) (end : ℕ) → IsLexed text before place (a ++ t ∷ b) end
     → token_after text (before ++ a) t.start ≡ Some t
-lexed-next text before place [] t b end e =
-    rw (append-nil before) (subst (λ (p : ℕ). token_after text before p ≡ Some t) (sym (token-start _ (skip text place) t e.0)) e.0)
-lexed-next text before place (u ∷ a) t b end e =
-    subst (λ (ts : List Token). token_after text ts t.start ≡ Some t) (append_assoc before (u ∷ []) a) (lexed-next text (before ++ u ∷ []) (u.start + u.length) a t b end e.1)
+lexed_next text before place [] t b end e =
+    rw (append-nil before) (subst (λ (p : ℕ). token_after text before p ≡ Some t) (sym (token_start _ (skip text place) t e.0)) e.0)
+lexed_next text before place (u ∷ a) t b end e =
+    subst (λ (ts : List Token). token_after text ts t.start ≡ Some t) (append_assoc before (u ∷ []) a) (lexed_next text (before ++ u ∷ []) (u.start + u.length) a t b end e.1)
 
-break-at : (text : List ℕ) (a b : List Token) (end place : ℕ) → IsLexed text [] 0 (a ++ b) end → token_after text (a ++ b) end ≡ None → end ≤ length text
+break_at : (text : List ℕ) (a b : List Token) (end place : ℕ) → IsLexed text [] 0 (a ++ b) end → token_after text (a ++ b) end ≡ None → end ≤ length text
     → place ≡ place_at end (lexemes text b) → IsBeginning (lexemes text a) → IsDead (lexemes text a) (lexemes text b) → IsBreak text place
-break-at text a [] end place lexed stops within here viable dead = record {
+break_at text a [] end place lexed stops within here viable dead = record {
   tokens = a;
-  before = subst (IsLexed text [] 0 a) (sym here) (lexed-front text [] 0 a [] end lexed);
+  before = subst (IsLexed text [] 0 a) (sym here) (lexed_front text [] 0 a [] end lexed);
   within = subst (λ (p : ℕ). p ≤ length text) (sym here) within;
   begins = viable;
-  stops = λ t h. let n : None ≡ Some t = sym stops ∙ ap (λ (ts : List Token). token_after text ts end) (append-nil a) ∙ ap (token_after text a) (sym here) ∙ h in absurd (none-not_some t n);
+  stops = λ t h. let n : None ≡ Some t = sym stops ∙ ap (λ (ts : List Token). token_after text ts end) (append-nil a) ∙ ap (token_after text a) (sym here) ∙ h in absurd (none_not_some t n);
   ends = λ _ command h. dead command h;
 }
-break-at text a (u ∷ b) end place lexed stops within here viable dead =
-    let next : token_after text a place ≡ Some u = subst (λ (p : ℕ). token_after text a p ≡ Some u) (sym here) (lexed-next text [] 0 a u b end lexed) in
-    let l = token-within text a place u next in
+break_at text a (u ∷ b) end place lexed stops within here viable dead =
+    let next : token_after text a place ≡ Some u = subst (λ (p : ℕ). token_after text a p ≡ Some u) (sym here) (lexed_next text [] 0 a u b end lexed) in
+    let l = token_within text a place u next in
     record {
       tokens = a;
-      before = subst (IsLexed text [] 0 a) (sym here) (lexed-front text [] 0 a (u ∷ b) end lexed);
+      before = subst (IsLexed text [] 0 a) (sym here) (lexed_front text [] 0 a (u ∷ b) end lexed);
       within = omega (arith, l);
       begins = viable;
-      stops = λ t h i. dead (subst IsBeginning (map-append (lexeme_of text) a (u ∷ [])) (subst (λ (x : Token). IsBeginning (lexemes text (a ++ x ∷ []))) (some-same (sym h ∙ next)) i));
+      stops = λ t h i. dead (subst IsBeginning (map-append (lexeme_of text) a (u ∷ [])) (subst (λ (x : Token). IsBeginning (lexemes text (a ++ x ∷ []))) (some_same (sym h ∙ next)) i));
       ends = λ e command h. absurd (omega (arith, l, e));
     }
 
 -- the place of a fault among the words is where the text breaks
-fault-breaks : (text : List ℕ) (words : List Word) (end place : ℕ) → IsScan text words end → IsFaultAt end (map seen words) place → IsBreak text place
-fault-breaks text words end place scan fault =
+fault_breaks : (text : List ℕ) (words : List Word) (end place : ℕ) → IsScan text words end → IsFaultAt end (map seen words) place → IsBreak text place
+fault_breaks text words end place scan fault =
     let s = split text (map token_of words) fault.front fault.rest (sym scan.texts ∙ fault.whole) in
-    break-at text s.0 s.1 end place (subst (λ (ts : List Token). IsLexed text [] 0 ts end) s.2 scan.lexed) (subst (λ (ts : List Token). token_after text ts end ≡ None) s.2 scan.stops) scan.within
+    break_at text s.0 s.1 end place (subst (λ (ts : List Token). IsLexed text [] 0 ts end) s.2 scan.lexed) (subst (λ (ts : List Token). token_after text ts end ≡ None) s.2 scan.stops) scan.within
     (fault.here ∙ ap (place_at end) (sym s.4)) (subst IsBeginning (sym s.3) fault.viable)
     (subst (λ (x : List Lexeme). IsDead x (lexemes text s.1)) (sym s.3) (subst (IsDead fault.front) (sym s.4) fault.dead))
 
-pub error-breaks : (text : List ℕ) (words : List Word) (end : ℕ) (e : SyntaxError) → IsScan text words end → IsAnswer end (map seen words) (Err e) → IsSyntaxError text e
-error-breaks text words end Memory scan h = tt
-error-breaks text words end (Syntax place) scan h = fault-breaks text words end place scan h
+pub error_breaks : (text : List ℕ) (words : List Word) (end : ℕ) (e : SyntaxError) → IsScan text words end → IsAnswer end (map seen words) (Err e) → IsSyntaxError text e
+error_breaks text words end Memory scan h = tt
+error_breaks text words end (Syntax place) scan h = fault_breaks text words end place scan h
 
 -- a command after which the text goes on with what is no token
-pub break-after : (text : List ℕ) (words : List Word) (end : ℕ) (command : CommandText) → IsScan text words end → end < length text → IsCommand (map seen words) command → IsBreak text end
-break-after text words end command scan l h = record {
+pub break_after : (text : List ℕ) (words : List Word) (end : ℕ) (command : CommandText) → IsScan text words end → end < length text → IsCommand (map seen words) command → IsBreak text end
+break_after text words end command scan l h = record {
   tokens = map token_of words;
   before = scan.lexed;
   within = omega arith;
   begins = record { later = []; command = command; is = record { written = h.written; whole = append-nil (lexemes text (map token_of words)) ∙ sym scan.texts ∙ h.whole; stands = h.stands; says = h.says } };
-  stops = λ t n. absurd (none-not_some t (sym scan.stops ∙ n));
+  stops = λ t n. absurd (none_not_some t (sym scan.stops ∙ n));
   ends = λ e. absurd (omega (arith, l, e));
 }
 
-pub whole-command : (text : List ℕ) (words : List Word) (end : ℕ) (command : CommandText) → IsScan text words end → length text ≤ end → IsCommand (map seen words) command → IsCommandText text command
-whole-command text words end command scan l h = record {
+pub whole_command : (text : List ℕ) (words : List Word) (end : ℕ) (command : CommandText) → IsScan text words end → length text ≤ end → IsCommand (map seen words) command → IsCommandText text command
+whole_command text words end command scan l h = record {
   tokens = map token_of words;
   lexed = let w = scan.within in let e : end ≡ length text = omega (arith, l, w) in subst (IsLexed text [] 0 (map token_of words)) e scan.lexed;
   is = record { written = h.written; whole = sym scan.texts ∙ h.whole; stands = h.stands; says = h.says };

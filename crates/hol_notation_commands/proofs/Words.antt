@@ -32,37 +32,37 @@ IsWord Other = ⊥
 IsWord _ = Unit {0}
 
 -- a token of the sort is what it should be
-pub word-found : (x : Lexeme) (w : List ℕ) → Is (the_word w) x → word_of x ≡ text_word w
-word-found x w h = ap (λ (k : Kind). kind_word k x.text) h.0 ∙ ap text_word h.1
+pub word_found : (x : Lexeme) (w : List ℕ) → Is (the_word w) x → word_of x ≡ text_word w
+word_found x w h = ap (λ (k : Kind). kind_word k x.text) h.0 ∙ ap text_word h.1
 
 -- what the code found is a token of the sort
 abbrev WordIs : CommandWord → Lexeme → Type 0
 WordIs Other x = Unit {0}
 WordIs w x = Is (the_word (text_of w)) x
 
-bytes-same : (a b : List ℕ) → bytes_eq a b ≡ true → a ≡ b
-bytes-same a b h = (bytes_eq-Decides a b).0 h
+bytes_same : (a b : List ℕ) → bytes_eq a b ≡ true → a ≡ b
+bytes_same a b h = (bytes_eq-Decides a b).0 h
 
 abbrev AllRight : List (List ℕ × CommandWord) → Type 0
 AllRight [] = Unit {0}
 AllRight (w ∷ ws) = ((x : Lexeme) → x.kind ≡ Ident → x.text ≡ w.0 → WordIs w.1 x) × AllRight ws
 
-table-says : (table : List (List ℕ × CommandWord)) → AllRight table → (x : Lexeme) → x.kind ≡ Ident → WordIs (first_word table x.text) x
-table-says [] a x e = tt
-table-says (w ∷ ws) a x e = go (table-says ws a.1 x e) (bytes_eq x.text w.0) refl
+table_says : (table : List (List ℕ × CommandWord)) → AllRight table → (x : Lexeme) → x.kind ≡ Ident → WordIs (first_word table x.text) x
+table_says [] a x e = tt
+table_says (w ∷ ws) a x e = go (table_says ws a.1 x e) (bytes_eq x.text w.0) refl
   where
     go : WordIs (first_word ws x.text) x → (b : Bool) → bytes_eq x.text w.0 ≡ b → WordIs (first_word (w ∷ ws) x.text) x
-    go later true f = subst (λ (l : CommandWord). WordIs l x) (sym (ap (λ (t : Bool). cond t w.1 (first_word ws x.text)) f)) (a.0 x e (bytes-same x.text w.0 f))
+    go later true f = subst (λ (l : CommandWord). WordIs l x) (sym (ap (λ (t : Bool). cond t w.1 (first_word ws x.text)) f)) (a.0 x e (bytes_same x.text w.0 f))
     go later false f = subst (λ (l : CommandWord). WordIs l x) (sym (ap (λ (t : Bool). cond t w.1 (first_word ws x.text)) f)) later
 
-all-right : AllRight command_words
-all-right = (λ x e f. (e, f), (λ x e f. (e, f), (λ x e f. (e, f), (λ x e f. (e, f), (λ x e f. (e, f), (λ x e f. (e, f), (λ x e f. (e, f), (λ x e f. (e, f), (λ x e f. (e, f), (λ x e f. (e, f), (λ x e f. (e, f), (λ x e f. (e, f), tt))))))))))))
+all_right : AllRight command_words
+all_right = (λ x e f. (e, f), (λ x e f. (e, f), (λ x e f. (e, f), (λ x e f. (e, f), (λ x e f. (e, f), (λ x e f. (e, f), (λ x e f. (e, f), (λ x e f. (e, f), (λ x e f. (e, f), (λ x e f. (e, f), (λ x e f. (e, f), (λ x e f. (e, f), tt))))))))))))
 
-word-says : (x : Lexeme) → WordIs (word_of x) x
-word-says x = go x.kind refl
+word_says : (x : Lexeme) → WordIs (word_of x) x
+word_says x = go x.kind refl
   where
     go : (k : Kind) → x.kind ≡ k → WordIs (kind_word k x.text) x
-    go Ident e = table-says command_words all-right x e
+    go Ident e = table_says command_words all_right x e
     go _ e = tt
 
 -- the next lexeme; after the last one any
@@ -70,20 +70,20 @@ abbrev pub next_lexeme : List Lexeme → Lexeme
 next_lexeme [] = record { kind = Number; text = []; place = 0 }
 next_lexeme (x ∷ rest) = x
 
-word-is : (w : CommandWord) (x : Lexeme) → IsWord w → WordIs w x → Is (the_word (text_of w)) x
-word-is Other x i h = absurd i
-word-is _ x i h = h
+word_is : (w : CommandWord) (x : Lexeme) → IsWord w → WordIs w x → Is (the_word (text_of w)) x
+word_is Other x i h = absurd i
+word_is _ x i h = h
 
 -- what the code takes
 pub worded : {m : CommandWord} {rest : List Lexeme} (w : CommandWord) (words : List Lexeme) → IsWord w → m ≡ next_word words → m ≡ w → rest ≡ after_next words → Taken (Is (the_word (text_of w))) words (next_lexeme words) rest
 worded w [] i e f r = absurd (subst IsWord (sym f ∙ e) i)
 worded w (x ∷ words) i e f r = record {
-  is = word-is w x i (subst (λ (n : CommandWord). WordIs n x) (sym e ∙ f) (word-says x));
+  is = word_is w x i (subst (λ (n : CommandWord). WordIs n x) (sym e ∙ f) (word_says x));
   whole = ap (λ (t : List Lexeme). x ∷ t) (sym r);
 }
 
-pub word-same : (u w : List Lexeme) → SameNext u w → next_word u ≡ next_word w
-word-same [] [] h = refl
-word-same [] (y ∷ ys) h = absurd h
-word-same (x ∷ xs) [] h = absurd h
-word-same (x ∷ xs) (y ∷ ys) h = ap word_of h
+pub word_same : (u w : List Lexeme) → SameNext u w → next_word u ≡ next_word w
+word_same [] [] h = refl
+word_same [] (y ∷ ys) h = absurd h
+word_same (x ∷ xs) [] h = absurd h
+word_same (x ∷ xs) (y ∷ ys) h = ap word_of h

@@ -9,3 +9,4 @@ pub mod Value
 pub mod Reading
 pub mod Errors
 pub mod Words
+pub mod Equal

@@ -3,12 +3,8 @@
 
 mod command;
 mod command_reader;
-#[cfg(test)]
-mod command_tests;
 mod laws;
 mod text_reader;
-#[cfg(test)]
-mod texts_tests;
 mod type_definition;
 mod word;
 

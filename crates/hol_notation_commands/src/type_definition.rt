@@ -1,5 +1,5 @@
 //! Definitions of types.
-ghost use Rattle.std.specs.Prelude.{◌≡◌, IfOk};
+ghost use Rattle.std.specs.Prelude.{◌≡◌, ◌↔◌, IfOk, IsTrue};
 
 use std::alloc::{AllocError, Global};
 use std::marker::Model;
@@ -48,5 +48,17 @@ impl TypeDefinition {
             rep_abs: String::from_str(alloc, self.rep_abs.as_str())?,
             theorem: String::from_str(alloc, self.theorem.as_str())?,
         })
+    }
+
+    /// Whether the two definitions are the same.
+    pub fn same(&self, other: &TypeDefinition) -> bool
+        ensures { IsTrue result ↔ (self.now ≡ other.now) }
+    {
+        self.ty.as_str() == other.ty.as_str()
+            && self.abs.as_str() == other.abs.as_str()
+            && self.rep.as_str() == other.rep.as_str()
+            && self.abs_rep.as_str() == other.abs_rep.as_str()
+            && self.rep_abs.as_str() == other.rep_abs.as_str()
+            && self.theorem.as_str() == other.theorem.as_str()
     }
 }

@@ -1,12 +1,12 @@
 -- Reading a part of a text: what is found there, and where reading is stuck.
-use Rattle.std.specs.Prelude.{◌≡◌, ℕ, List, [], ◌∷◌, ◌++◌, map, Result, Ok, Err}
+use Rattle.std.specs.Prelude.{◌≡◌, ℕ, List, ◌++◌, map, Result, Ok, Err}
 use Rattle.std.specs.Borrow.{Bor}
 use Rattle.hol_notation_tokens.specs.declared.error.SyntaxError.{SyntaxError}
 use Rattle.hol_notation_tokens.specs.declared.error.SyntaxError.TheVariants.{Memory, Syntax}
 use Rattle.hol_notation_tokens.specs.declared.lexer.Word.{Word}
 use Rattle.hol_notation_tokens.specs.Lexeme.{Lexeme, seen}
 use Rattle.hol_notation_grammar.specs.Terminal.{Terminal, Is, IsNotNext, SameNext, place_at}
-use Rattle.hol_notation_grammar.specs.Syntax.{Grammar, Parts, Tree, Trees, then, all_then, Stands, AllStand}
+use Rattle.hol_notation_grammar.specs.Syntax.{Grammar, Tree, then, Stands}
 
 -- before these lexemes stands a tree that begins with the front
 pub record Begins (G : Grammar) (n : G.Nonterminal) (front after : List Lexeme) : Type 0 where

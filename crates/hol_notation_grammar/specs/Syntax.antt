@@ -1,6 +1,6 @@
 -- Grammars, and what is written by one: a tree of productions with its tokens. An optional part is written wherever the
 -- next token can begin it, so that a text is read in one way.
-use Rattle.std.specs.Prelude.{List, [], ◌∷◌}
+use Rattle.std.specs.Prelude.{List, ◌∷◌}
 use Rattle.hol_notation_tokens.specs.Lexeme.{Lexeme}
 use Rattle.hol_notation_grammar.specs.Terminal.{Terminal, Is, IsNotNext}
 

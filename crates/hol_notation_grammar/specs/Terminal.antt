@@ -1,6 +1,5 @@
 -- The classes of tokens that productions speak of, and what comes next.
 use Rattle.std.specs.Prelude.{◌≡◌, Bool, true, false, IsTrue, ℕ, List, [], ◌∷◌, Option, Some, None}
-use Rattle.std.specs.List.{list_any}
 use Rattle.hol_notation_tokens.specs.declared.token.Kind.{Kind}
 use Rattle.hol_notation_tokens.specs.declared.token.Kind.TheVariants.{Ident as IdentKind, Number as NumberKind, Iff, Implies, Or, And, ExistsUnique, Equals, Not, Lambda, ForAll, Exists, Choice}
 use Rattle.hol_notation_tokens.specs.Token.{is_among, is_reserved}

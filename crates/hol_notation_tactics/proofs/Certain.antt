@@ -15,9 +15,9 @@ still : (after : List Lexeme) → IsEnding after → IsEnding after
 still after k = k
 
 -- what ends a tactic expression closes a term
-pub ending-closing : (after : List Lexeme) → IsEnding after → term_grammar.Closes a_quotation after
-ending-closing [] k = tt
-ending-closing (x ∷ after) k = go x.kind k
+pub ending_closing : (after : List Lexeme) → IsEnding after → term_grammar.Closes a_quotation after
+ending_closing [] k = tt
+ending_closing (x ∷ after) k = go x.kind k
   where
     go : (k : Kind) → IsTrue (ends k) → IsTrue (closes k)
     go Close h = refl
@@ -46,7 +46,7 @@ inside combined = (still, tt)
 inside discharge = λ _. (still, tt)
 inside pop = λ _. (still, tt)
 inside first_assumption = λ _. (still, tt)
-inside subgoal = λ _. (ending-closing, (still, tt))
+inside subgoal = λ _. (ending_closing, (still, tt))
 inside named_tactic = λ _. tt
 inside bracketed_tactic = λ _. (still, λ _. tt)
 inside listed_tactics = λ _. (still, tt)
@@ -58,19 +58,19 @@ inside named_theorem_tactic = λ _. tt
 inside bracketed_theorem_tactic = λ _. λ _. (still, λ _. tt)
 inside no_argument = tt
 inside one_argument = (still, (still, tt))
-inside term_argument = (ending-closing, tt)
+inside term_argument = (ending_closing, tt)
 inside named_argument = λ _. tt
 inside grouped_argument = λ _. (still, tt)
 inside listed_argument = λ _. (still, tt)
-inside two_terms = (ending-closing, λ _. (ending-closing, λ _. tt))
+inside two_terms = (ending_closing, λ _. (ending_closing, λ _. tt))
 inside one_theorem = (still, λ _. tt)
 inside empty_theorems = λ _. tt
 inside first_theorem = (still, (still, tt))
 inside next_theorem = λ _. (still, (still, tt))
 inside last_theorem = λ _. tt
-inside assume = λ _. (ending-closing, tt)
-inside reflexivity = λ _. (ending-closing, tt)
-inside specialise = λ _. (ending-closing, (still, tt))
+inside assume = λ _. (ending_closing, tt)
+inside reflexivity = λ _. (ending_closing, tt)
+inside specialise = λ _. (ending_closing, (still, tt))
 inside instantiate = λ _. (still, (still, tt))
 inside derived = (still, tt)
 inside symmetry = λ _. (still, tt)
@@ -81,7 +81,7 @@ inside simple = (still, tt)
 inside named_theorem = λ _. tt
 inside bracketed_theorem = λ _. (still, λ _. tt)
 inside listed_pairs = λ _. (still, (still, tt))
-inside two_types = (ending-closing, λ _. (ending-closing, tt))
+inside two_types = (ending_closing, λ _. (ending_closing, tt))
 inside next_pair = λ _. (still, (still, tt))
 inside last_pair = λ _. tt
 

@@ -6,10 +6,10 @@ abbrev pub cap : ℕ → ℕ
 cap zero = 0
 cap (suc n) = 10 * cap n + 255
 
-pub cap-bound : (n : ℕ) → n ≤ 4 → cap n ≤ 283305
-cap-bound zero h = omega arith
-cap-bound (suc zero) h = omega arith
-cap-bound (suc (suc zero)) h = omega arith
-cap-bound (suc (suc (suc zero))) h = omega arith
-cap-bound (suc (suc (suc (suc zero)))) h = omega arith
-cap-bound (suc (suc (suc (suc (suc n))))) h = omega (arith, h)
+pub cap_bound : (n : ℕ) → n ≤ 4 → cap n ≤ 283305
+cap_bound zero h = omega arith
+cap_bound (suc zero) h = omega arith
+cap_bound (suc (suc zero)) h = omega arith
+cap_bound (suc (suc (suc zero))) h = omega arith
+cap_bound (suc (suc (suc (suc zero)))) h = omega arith
+cap_bound (suc (suc (suc (suc (suc n))))) h = omega (arith, h)

@@ -4,3 +4,4 @@ pub mod Picks
 pub mod Certain
 pub mod Some
 pub mod Steps
+pub mod SameTactics

@@ -8,3 +8,4 @@ pub mod Number
 pub mod Grammar
 pub mod Value
 pub mod Lead
+pub mod Leading

@@ -6,15 +6,11 @@ mod laws;
 mod lead;
 mod number;
 mod pair_reader;
-#[cfg(test)]
-mod reader_tests;
 mod tac_arg;
 mod tac_call;
 mod tac_expr;
 mod tactic_reader;
 mod tactical_reader;
-#[cfg(test)]
-mod tests;
 mod theorem_reader;
 mod thm_expr;
 mod type_pair;

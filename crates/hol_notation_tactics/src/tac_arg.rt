@@ -1,5 +1,5 @@
 //! What is written after the name of a TAC.
-ghost use Rattle.std.specs.Prelude.{◌≡◌, IfOk};
+ghost use Rattle.std.specs.Prelude.{◌≡◌, ◌↔◌, IfOk, IsTrue};
 ghost use Rattle.hol_notation_tactics.specs.ArgumentView.{argument_of_node};
 
 use crate::thm_expr::ThmExpr;
@@ -76,4 +76,51 @@ impl TacArg {
         };
         Ok(TacArg { node })
     }
+
+    /// Whether the two arguments are the same, their places included.
+    pub fn same(&self, other: &TacArg) -> bool
+        ensures { IsTrue result ↔ (self.now ≡ other.now) }
+    {
+        match &self.node {
+            TacArgNode::Term(quotation) => {
+                let TacArgNode::Term(other_quotation) = &other.node else {
+                    return false;
+                };
+                quotation.same(other_quotation)
+            }
+            TacArgNode::Theorem(theorem) => {
+                let TacArgNode::Theorem(other_theorem) = &other.node else {
+                    return false;
+                };
+                theorem.same(other_theorem)
+            }
+            TacArgNode::Pair(first, second) => {
+                let TacArgNode::Pair(other_first, other_second) = &other.node else {
+                    return false;
+                };
+                first.same(other_first) && second.same(other_second)
+            }
+            TacArgNode::Theorems(theorems) => {
+                let TacArgNode::Theorems(other_theorems) = &other.node else {
+                    return false;
+                };
+                same_theorems(theorems, other_theorems)
+            }
+        }
+    }
+}
+
+// Whether the theorems are the same, one by one.
+fn same_theorems(theorems: &[ThmExpr], others: &[ThmExpr]) -> bool
+    ensures { IsTrue result ↔ (theorems.now ≡ others.now) }
+{
+    if theorems.len() != others.len() {
+        return false;
+    }
+    for (i, theorem) in theorems.iter().enumerate() {
+        if !theorem.same(&others[i]) {
+            return false;
+        }
+    }
+    true
 }

@@ -1,5 +1,5 @@
 //! A TAC with its arguments, as they are written.
-ghost use Rattle.std.specs.Prelude.{◌≡◌, IfOk};
+ghost use Rattle.std.specs.Prelude.{◌≡◌, ◌↔◌, IfOk, IsTrue};
 
 use crate::tac_arg::TacArg;
 use std::alloc::{AllocError, Global};
@@ -38,4 +38,27 @@ impl TacCall {
         let name = String::from_str(alloc, self.name.as_str())?;
         Ok(TacCall { name, arguments })
     }
+
+    /// Whether the two calls are the same, their places included.
+    pub fn same(&self, other: &TacCall) -> bool
+        ensures { IsTrue result ↔ (self.now ≡ other.now) }
+    {
+        self.name.as_str() == other.name.as_str()
+            && same_arguments(&self.arguments, &other.arguments)
+    }
+}
+
+// Whether the arguments are the same, one by one.
+fn same_arguments(arguments: &[TacArg], others: &[TacArg]) -> bool
+    ensures { IsTrue result ↔ (arguments.now ≡ others.now) }
+{
+    if arguments.len() != others.len() {
+        return false;
+    }
+    for (i, argument) in arguments.iter().enumerate() {
+        if !argument.same(&others[i]) {
+            return false;
+        }
+    }
+    true
 }

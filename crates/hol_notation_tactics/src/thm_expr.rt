@@ -1,5 +1,5 @@
 //! Theorem expressions as they are written.
-ghost use Rattle.std.specs.Prelude.{◌≡◌, IfOk};
+ghost use Rattle.std.specs.Prelude.{◌≡◌, ◌↔◌, IfOk, IsTrue};
 ghost use Rattle.hol_notation_tactics.specs.ThmView.{thm_of_node};
 
 use crate::type_pair::TypePair;
@@ -86,4 +86,81 @@ impl ThmExpr {
             node: self.node.clone()?,
         })
     }
+
+    /// Whether the two theorem expressions are the same, the places of their quotations included.
+    pub fn same(&self, other: &ThmExpr) -> bool
+        ensures { IsTrue result ↔ (self.now ≡ other.now) }
+    {
+        match self.node() {
+            ThmExprNode::Name(name) => {
+                let ThmExprNode::Name(other_name) = other.node() else {
+                    return false;
+                };
+                name.as_str() == other_name.as_str()
+            }
+            ThmExprNode::Assume(quotation) => {
+                let ThmExprNode::Assume(other_quotation) = other.node() else {
+                    return false;
+                };
+                quotation.same(other_quotation)
+            }
+            ThmExprNode::Refl(quotation) => {
+                let ThmExprNode::Refl(other_quotation) = other.node() else {
+                    return false;
+                };
+                quotation.same(other_quotation)
+            }
+            ThmExprNode::Spec(quotation, theorem) => {
+                let ThmExprNode::Spec(other_quotation, other_theorem) = other.node() else {
+                    return false;
+                };
+                quotation.same(other_quotation) && theorem.same(other_theorem)
+            }
+            ThmExprNode::Sym(theorem) => {
+                let ThmExprNode::Sym(other_theorem) = other.node() else {
+                    return false;
+                };
+                theorem.same(other_theorem)
+            }
+            ThmExprNode::Conjunct1(theorem) => {
+                let ThmExprNode::Conjunct1(other_theorem) = other.node() else {
+                    return false;
+                };
+                theorem.same(other_theorem)
+            }
+            ThmExprNode::Conjunct2(theorem) => {
+                let ThmExprNode::Conjunct2(other_theorem) = other.node() else {
+                    return false;
+                };
+                theorem.same(other_theorem)
+            }
+            ThmExprNode::Mp(implication, premise) => {
+                let ThmExprNode::Mp(other_implication, other_premise) = other.node() else {
+                    return false;
+                };
+                implication.same(other_implication) && premise.same(other_premise)
+            }
+            ThmExprNode::InstType(pairs, theorem) => {
+                let ThmExprNode::InstType(other_pairs, other_theorem) = other.node() else {
+                    return false;
+                };
+                same_pairs(pairs, other_pairs) && theorem.same(other_theorem)
+            }
+        }
+    }
+}
+
+// Whether the pairs are the same, one by one.
+fn same_pairs(pairs: &[TypePair], others: &[TypePair]) -> bool
+    ensures { IsTrue result ↔ (pairs.now ≡ others.now) }
+{
+    if pairs.len() != others.len() {
+        return false;
+    }
+    for (i, pair) in pairs.iter().enumerate() {
+        if !pair.same(&others[i]) {
+            return false;
+        }
+    }
+    true
 }

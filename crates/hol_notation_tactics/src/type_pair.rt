@@ -1,5 +1,5 @@
 //! What a type variable is instantiated by.
-ghost use Rattle.std.specs.Prelude.{◌≡◌, IfOk};
+ghost use Rattle.std.specs.Prelude.{◌≡◌, ◌↔◌, IfOk, IsTrue};
 
 use hol_notation_terms::TypeQuotation;
 use std::alloc::AllocError;
@@ -36,5 +36,12 @@ impl TypePair {
             new_type: self.new_type.copy()?,
             old_type: self.old_type.copy()?,
         })
+    }
+
+    /// Whether the two pairs are the same, their places included.
+    pub fn same(&self, other: &TypePair) -> bool
+        ensures { IsTrue result ↔ (self.now ≡ other.now) }
+    {
+        self.new_type.same(&other.new_type) && self.old_type.same(&other.old_type)
     }
 }

@@ -11,13 +11,13 @@ abbrev zeros : ℕ → List ℕ
 zeros zero = []
 zeros (suc n) = 0 ∷ zeros n
 
-length-zeros : (n : ℕ) → length (zeros n) ≡ n
-length-zeros zero = refl
-length-zeros (suc n) = ap suc (length-zeros n)
+length_zeros : (n : ℕ) → length (zeros n) ≡ n
+length_zeros zero = refl
+length_zeros (suc n) = ap suc (length_zeros n)
 
-not-among : (names : List (List ℕ)) (text : List ℕ) → total names ≤ length text → is_among names text ≡ false
-not-among [] text h = refl
-not-among (name ∷ names) text h = go (bytes_eq text name) refl (not-among names text (omega (arith, h)))
+not_among : (names : List (List ℕ)) (text : List ℕ) → total names ≤ length text → is_among names text ≡ false
+not_among [] text h = refl
+not_among (name ∷ names) text h = go (bytes_eq text name) refl (not_among names text (omega (arith, h)))
   where
     go : (b : Bool) → bytes_eq text name ≡ b → is_among names text ≡ false → b || is_among names text ≡ false
     go true e r =
@@ -28,5 +28,5 @@ not-among (name ∷ names) text h = go (bytes_eq text name) refl (not-among name
 abbrev pub fresh : List (List ℕ) → List ℕ
 fresh names = zeros (total names)
 
-pub fresh-new : (names : List (List ℕ)) → is_among names (fresh names) ≡ false
-fresh-new names = not-among names (fresh names) (omega (arith, length-zeros (total names)))
+pub fresh_new : (names : List (List ℕ)) → is_among names (fresh names) ≡ false
+fresh_new names = not_among names (fresh names) (omega (arith, length_zeros (total names)))

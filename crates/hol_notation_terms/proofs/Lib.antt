@@ -8,3 +8,4 @@ pub mod Inside
 pub mod Fresh
 pub mod DefinitionSteps
 pub mod OneReading
+pub mod SameTypes

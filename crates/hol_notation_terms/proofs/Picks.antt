@@ -106,17 +106,17 @@ pick (a_parameters names) words = choose_parameter names (next_kind words)
 pick a_right_side words = choose_side (next_kind words)
 pick an_equation words = choose_equation (next_kind words)
 
-pub kind-same : (u w : List Lexeme) → SameNext u w → next_kind u ≡ next_kind w
-kind-same [] [] h = refl
-kind-same [] (y ∷ ys) h = absurd h
-kind-same (x ∷ xs) [] h = absurd h
-kind-same (x ∷ xs) (y ∷ ys) h = ap (λ (z : Lexeme). Some z.kind) h
+pub kind_same : (u w : List Lexeme) → SameNext u w → next_kind u ≡ next_kind w
+kind_same [] [] h = refl
+kind_same [] (y ∷ ys) h = absurd h
+kind_same (x ∷ xs) [] h = absurd h
+kind_same (x ∷ xs) (y ∷ ys) h = ap (λ (z : Lexeme). Some z.kind) h
 
-opens-same : (n : Nonterminal) (u w : List Lexeme) → SameNext u w → next_opens n u ≡ next_opens n w
-opens-same n [] [] h = refl
-opens-same n [] (y ∷ ys) h = absurd h
-opens-same n (x ∷ xs) [] h = absurd h
-opens-same n (x ∷ xs) (y ∷ ys) h = ap (λ (z : Lexeme). opens n z.kind) h
+opens_same : (n : Nonterminal) (u w : List Lexeme) → SameNext u w → next_opens n u ≡ next_opens n w
+opens_same n [] [] h = refl
+opens_same n [] (y ∷ ys) h = absurd h
+opens_same n (x ∷ xs) [] h = absurd h
+opens_same n (x ∷ xs) (y ∷ ys) h = ap (λ (z : Lexeme). opens n z.kind) h
 
 abbrev pub NotInside : Nonterminal → Type 0
 NotInside an_inside = ⊥
@@ -125,55 +125,55 @@ NotInside _ = Unit {0}
 -- one token is enough but for what stands in parentheses
 pub looks : (n : Nonterminal) → NotInside n → (u w : List Lexeme) → SameNext u w → pick n u ≡ pick n w
 looks a_type m u w h = refl
-looks an_arrow m u w h = ap (λ (b : Bool). cond b (Some to_type) (Some no_arrow)) (opens-same an_arrow u w h)
-looks an_applied_type m u w h = ap choose_applied (kind-same u w h)
-looks a_type_list m u w h = ap choose_list (kind-same u w h)
-looks a_type_rest m u w h = ap choose_rest (kind-same u w h)
-looks a_postfix m u w h = ap (λ (b : Bool). cond b (Some postfix_name) (Some no_postfix)) (opens-same a_postfix u w h)
+looks an_arrow m u w h = ap (λ (b : Bool). cond b (Some to_type) (Some no_arrow)) (opens_same an_arrow u w h)
+looks an_applied_type m u w h = ap choose_applied (kind_same u w h)
+looks a_type_list m u w h = ap choose_list (kind_same u w h)
+looks a_type_rest m u w h = ap choose_rest (kind_same u w h)
+looks a_postfix m u w h = ap (λ (b : Bool). cond b (Some postfix_name) (Some no_postfix)) (opens_same a_postfix u w h)
 looks (a_level zero) m u w h = refl
 looks (a_level (suc n)) m u w h = refl
-looks (a_tail n) m u w h = ap (λ (b : Bool). cond b (Some infixed) (Some no_infix)) (opens-same (a_tail n) u w h)
-looks a_unary m u w h = ap choose_unary (kind-same u w h)
+looks (a_tail n) m u w h = ap (λ (b : Bool). cond b (Some infixed) (Some no_infix)) (opens_same (a_tail n) u w h)
+looks a_unary m u w h = ap choose_unary (kind_same u w h)
 looks a_typed m u w h = refl
-looks an_arguments m u w h = ap (λ (b : Bool). cond b (Some argument) (Some no_argument)) (opens-same an_arguments u w h)
-looks an_annotation m u w h = ap (λ (b : Bool). cond b (Some annotated) (Some no_annotation)) (opens-same an_annotation u w h)
-looks an_atom m u w h = ap choose_atom (kind-same u w h)
+looks an_arguments m u w h = ap (λ (b : Bool). cond b (Some argument) (Some no_argument)) (opens_same an_arguments u w h)
+looks an_annotation m u w h = ap (λ (b : Bool). cond b (Some annotated) (Some no_annotation)) (opens_same an_annotation u w h)
+looks an_atom m u w h = ap choose_atom (kind_same u w h)
 looks an_inside m u w h = absurd m
 looks a_closed m u w h = refl
 looks a_variable m u w h = refl
 looks an_ascription m u w h = refl
-looks a_bound m u w h = ap choose_bound (kind-same u w h)
-looks an_after_name m u w h = ap choose_after_name (kind-same u w h)
-looks an_after_bound m u w h = ap choose_after_bound (kind-same u w h)
+looks a_bound m u w h = ap choose_bound (kind_same u w h)
+looks an_after_name m u w h = ap choose_after_name (kind_same u w h)
+looks an_after_bound m u w h = ap choose_after_bound (kind_same u w h)
 looks a_quotation m u w h = refl
 looks a_type_quotation m u w h = refl
 looks a_definition m u w h = refl
-looks (a_parameters names) m u w h = ap (choose_parameter names) (kind-same u w h)
-looks a_right_side m u w h = ap choose_side (kind-same u w h)
-looks an_equation m u w h = ap choose_equation (kind-same u w h)
+looks (a_parameters names) m u w h = ap (choose_parameter names) (kind_same u w h)
+looks a_right_side m u w h = ap choose_side (kind_same u w h)
+looks an_equation m u w h = ap choose_equation (kind_same u w h)
 
-not-true : (b : Bool) → (IsTrue b → ⊥) → b ≡ false
-not-true true h = absurd (h refl)
-not-true false h = refl
+not_true : (b : Bool) → (IsTrue b → ⊥) → b ≡ false
+not_true true h = absurd (h refl)
+not_true false h = refl
 
-pub not-opens : (n : Nonterminal) (rest : List Lexeme) → IsNotNext (λ x. IsTrue (opens n x.kind)) rest → next_opens n rest ≡ false
-not-opens n [] h = refl
-not-opens n (x ∷ rest) h = not-true (opens n x.kind) h
+pub not_opens : (n : Nonterminal) (rest : List Lexeme) → IsNotNext (λ x. IsTrue (opens n x.kind)) rest → next_opens n rest ≡ false
+not_opens n [] h = refl
+not_opens n (x ∷ rest) h = not_true (opens n x.kind) h
 
-pub infix-opens : (h : ℕ) → is_infix_at h (infix_at h) ≡ true
-infix-opens zero = refl
-infix-opens (suc zero) = refl
-infix-opens (suc (suc zero)) = refl
-infix-opens (suc (suc (suc zero))) = refl
-infix-opens (suc (suc (suc (suc h)))) = refl
+pub infix_opens : (h : ℕ) → is_infix_at h (infix_at h) ≡ true
+infix_opens zero = refl
+infix_opens (suc zero) = refl
+infix_opens (suc (suc zero)) = refl
+infix_opens (suc (suc (suc zero))) = refl
+infix_opens (suc (suc (suc (suc h)))) = refl
 
-pub binder-chosen : (k : Kind) → IsTrue (is_binder k) → choose_unary (Some k) ≡ Some binding
-binder-chosen Lambda h = refl
-binder-chosen ForAll h = refl
-binder-chosen Exists h = refl
-binder-chosen ExistsUnique h = refl
-binder-chosen Choice h = refl
-binder-chosen _ h = absurd (false≢true h)
+pub binder_chosen : (k : Kind) → IsTrue (is_binder k) → choose_unary (Some k) ≡ Some binding
+binder_chosen Lambda h = refl
+binder_chosen ForAll h = refl
+binder_chosen Exists h = refl
+binder_chosen ExistsUnique h = refl
+binder_chosen Choice h = refl
+binder_chosen _ h = absurd (false≢true h)
 
 -- the next kind opens an atom
 abbrev IsAtomKind : Option Kind → Type 0
@@ -181,19 +181,19 @@ IsAtomKind (Some Ident) = Unit {0}
 IsAtomKind (Some Open) = Unit {0}
 IsAtomKind _ = ⊥
 
-atom-opens : (a : Tree term_grammar an_atom) (w : List Lexeme) → Stands a w → IsAtomKind (next_kind (then a w))
-atom-opens (node identifier_atom (leaf x done)) w s = subst (λ (k : Kind). IsAtomKind (Some k)) (sym s.1.0) tt
-atom-opens (node parenthesised (leaf x (tree t done))) w s = subst (λ (k : Kind). IsAtomKind (Some k)) (sym s.1.0) tt
+atom_opens : (a : Tree term_grammar an_atom) (w : List Lexeme) → Stands a w → IsAtomKind (next_kind (then a w))
+atom_opens (node identifier_atom (leaf x done)) w s = subst (λ (k : Kind). IsAtomKind (Some k)) (sym s.1.0) tt
+atom_opens (node parenthesised (leaf x (tree t done))) w s = subst (λ (k : Kind). IsAtomKind (Some k)) (sym s.1.0) tt
 
-typed-opens : (t : Tree term_grammar a_typed) (w : List Lexeme) → Stands t w → IsAtomKind (next_kind (then t w))
-typed-opens (node typed_term (tree a (tree xs (tree n done)))) w s = atom-opens a (then xs (then n w)) s.1.0
+typed_opens : (t : Tree term_grammar a_typed) (w : List Lexeme) → Stands t w → IsAtomKind (next_kind (then t w))
+typed_opens (node typed_term (tree a (tree xs (tree n done)))) w s = atom_opens a (then xs (then n w)) s.1.0
 
-variable-opens : (v : Tree term_grammar a_variable) (w : List Lexeme) → Stands v w → next_kind (then v w) ≡ Some Open
-variable-opens (node typed_variable (leaf x ts)) w s = ap (λ (k : Kind). Some k) s.1.0
+variable_opens : (v : Tree term_grammar a_variable) (w : List Lexeme) → Stands v w → next_kind (then v w) ≡ Some Open
+variable_opens (node typed_variable (leaf x ts)) w s = ap (λ (k : Kind). Some k) s.1.0
 
-bound-opens : (b : Tree term_grammar a_bound) (w : List Lexeme) → Stands b w → IsAtomKind (next_kind (then b w))
-bound-opens (node named_bound (leaf x ts)) w s = subst (λ (k : Kind). IsAtomKind (Some k)) (sym s.1.0) tt
-bound-opens (node typed_bound (tree v (tree r done))) w s = subst IsAtomKind (sym (variable-opens v (then r w) s.1.0)) tt
+bound_opens : (b : Tree term_grammar a_bound) (w : List Lexeme) → Stands b w → IsAtomKind (next_kind (then b w))
+bound_opens (node named_bound (leaf x ts)) w s = subst (λ (k : Kind). IsAtomKind (Some k)) (sym s.1.0) tt
+bound_opens (node typed_bound (tree v (tree r done))) w s = subst IsAtomKind (sym (variable_opens v (then r w) s.1.0)) tt
 
 -- the next kind opens a term below the infixes
 abbrev IsUnaryKind : Option Kind → Type 0
@@ -207,95 +207,95 @@ IsUnaryKind (Some ExistsUnique) = Unit {0}
 IsUnaryKind (Some Choice) = Unit {0}
 IsUnaryKind _ = ⊥
 
-atom-unary : (k : Option Kind) → IsAtomKind k → IsUnaryKind k
-atom-unary (Some Ident) h = tt
-atom-unary (Some Open) h = tt
-atom-unary _ h = absurd h
+atom_unary : (k : Option Kind) → IsAtomKind k → IsUnaryKind k
+atom_unary (Some Ident) h = tt
+atom_unary (Some Open) h = tt
+atom_unary _ h = absurd h
 
-binder-unary : (k : Kind) → IsTrue (is_binder k) → IsUnaryKind (Some k)
-binder-unary Lambda h = tt
-binder-unary ForAll h = tt
-binder-unary Exists h = tt
-binder-unary ExistsUnique h = tt
-binder-unary Choice h = tt
-binder-unary _ h = absurd (false≢true h)
+binder_unary : (k : Kind) → IsTrue (is_binder k) → IsUnaryKind (Some k)
+binder_unary Lambda h = tt
+binder_unary ForAll h = tt
+binder_unary Exists h = tt
+binder_unary ExistsUnique h = tt
+binder_unary Choice h = tt
+binder_unary _ h = absurd (false≢true h)
 
-pub unary-opens : (t : Tree term_grammar a_unary) (w : List Lexeme) → Stands t w → IsUnaryKind (next_kind (then t w))
-unary-opens (node negation (leaf x ts)) w s = subst (λ (k : Kind). IsUnaryKind (Some k)) (sym s.1.0) tt
-unary-opens (node binding (leaf x ts)) w s = binder-unary x.kind s.1.0
-unary-opens (node plain (tree t done)) w s = atom-unary _ (typed-opens t w s.1.0)
+pub unary_opens : (t : Tree term_grammar a_unary) (w : List Lexeme) → Stands t w → IsUnaryKind (next_kind (then t w))
+unary_opens (node negation (leaf x ts)) w s = subst (λ (k : Kind). IsUnaryKind (Some k)) (sym s.1.0) tt
+unary_opens (node binding (leaf x ts)) w s = binder_unary x.kind s.1.0
+unary_opens (node plain (tree t done)) w s = atom_unary _ (typed_opens t w s.1.0)
 
-unary-no_close : (k : Option Kind) → IsUnaryKind k → closes_next k ≡ false
-unary-no_close (Some Close) h = absurd h
-unary-no_close _ h = refl
+unary_no_close : (k : Option Kind) → IsUnaryKind k → closes_next k ≡ false
+unary_no_close (Some Close) h = absurd h
+unary_no_close _ h = refl
 
-atom-plain : (k : Option Kind) → IsAtomKind k → choose_unary k ≡ Some plain
-atom-plain (Some Ident) h = refl
-atom-plain (Some Open) h = refl
-atom-plain _ h = absurd h
+atom_plain : (k : Option Kind) → IsAtomKind k → choose_unary k ≡ Some plain
+atom_plain (Some Ident) h = refl
+atom_plain (Some Open) h = refl
+atom_plain _ h = absurd h
 
-atom-argument : (rest : List Lexeme) → IsAtomKind (next_kind rest) → next_opens an_arguments rest ≡ true
-atom-argument [] h = absurd h
-atom-argument (x ∷ rest) h = go x.kind h
+atom_argument : (rest : List Lexeme) → IsAtomKind (next_kind rest) → next_opens an_arguments rest ≡ true
+atom_argument [] h = absurd h
+atom_argument (x ∷ rest) h = go x.kind h
   where
     go : (k : Kind) → IsAtomKind (Some k) → opens an_arguments k ≡ true
     go Ident h = refl
     go Open h = refl
     go _ h = absurd h
 
-atom-more : (k : Option Kind) → IsAtomKind k → choose_after_name k ≡ Some name_alone
-atom-more (Some Ident) h = refl
-atom-more (Some Open) h = refl
-atom-more _ h = absurd h
+atom_more : (k : Option Kind) → IsAtomKind k → choose_after_name k ≡ Some name_alone
+atom_more (Some Ident) h = refl
+atom_more (Some Open) h = refl
+atom_more _ h = absurd h
 
-after-bound-more : (r : Tree term_grammar an_after_bound) (w : List Lexeme) → Stands r w → choose_after_name (next_kind (then r w)) ≡ Some name_alone
-after-bound-more (node bound_body (leaf x ts)) w s = ap (λ (k : Kind). choose_after_name (Some k)) s.1.0
-after-bound-more (node bound_more (tree b done)) w s = atom-more _ (bound-opens b w s.1.0)
+after_bound_more : (r : Tree term_grammar an_after_bound) (w : List Lexeme) → Stands r w → choose_after_name (next_kind (then r w)) ≡ Some name_alone
+after_bound_more (node bound_body (leaf x ts)) w s = ap (λ (k : Kind). choose_after_name (Some k)) s.1.0
+after_bound_more (node bound_more (tree b done)) w s = atom_more _ (bound_opens b w s.1.0)
 
-atom-bound_more : (k : Option Kind) → IsAtomKind k → choose_after_bound k ≡ Some bound_more
-atom-bound_more (Some Ident) h = refl
-atom-bound_more (Some Open) h = refl
-atom-bound_more _ h = absurd h
+atom_bound_more : (k : Option Kind) → IsAtomKind k → choose_after_bound k ≡ Some bound_more
+atom_bound_more (Some Ident) h = refl
+atom_bound_more (Some Open) h = refl
+atom_bound_more _ h = absurd h
 
 -- a kind that opens a term, and is no constant or is followed by no closing parenthesis
-binder-inner : (k : Kind) → IsTrue (is_binder k) → choose_inside k false ≡ Some inner
-binder-inner Lambda h = refl
-binder-inner ForAll h = refl
-binder-inner Exists h = refl
-binder-inner ExistsUnique h = refl
-binder-inner Choice h = refl
-binder-inner _ h = absurd (false≢true h)
+binder_inner : (k : Kind) → IsTrue (is_binder k) → choose_inside k false ≡ Some inner
+binder_inner Lambda h = refl
+binder_inner ForAll h = refl
+binder_inner Exists h = refl
+binder_inner ExistsUnique h = refl
+binder_inner Choice h = refl
+binder_inner _ h = absurd (false≢true h)
 
-atom-inner : (words : List Lexeme) → IsAtomKind (next_kind words) → pick_inside words ≡ Some inner
-atom-inner [] h = refl
-atom-inner (x ∷ rest) h = go x.kind (closes_next (next_kind rest)) h
+atom_inner : (words : List Lexeme) → IsAtomKind (next_kind words) → pick_inside words ≡ Some inner
+atom_inner [] h = refl
+atom_inner (x ∷ rest) h = go x.kind (closes_next (next_kind rest)) h
   where
     go : (k : Kind) (b : Bool) → IsAtomKind (Some k) → choose_inside k b ≡ Some inner
     go Ident b h = refl
     go Open b h = refl
     go _ b h = absurd h
 
-unary-inner : (t : Tree term_grammar a_unary) (w : List Lexeme) → Stands t w → pick_inside (then t w) ≡ Some inner
-unary-inner (node negation (leaf x (tree t done))) w s =
+unary_inner : (t : Tree term_grammar a_unary) (w : List Lexeme) → Stands t w → pick_inside (then t w) ≡ Some inner
+unary_inner (node negation (leaf x (tree t done))) w s =
     ap (λ (k : Kind). choose_inside k (closes_next (next_kind (then t w)))) s.1.0
-    ∙ ap (choose_inside Not) (unary-no_close (next_kind (then t w)) (unary-opens t w s.1.1.0))
-unary-inner (node binding (leaf x (tree b done))) w s =
-    ap (choose_inside x.kind) (unary-no_close (next_kind (then b w)) (atom-unary _ (bound-opens b w s.1.1.0))) ∙ binder-inner x.kind s.1.0
-unary-inner (node plain (tree t done)) w s = atom-inner _ (typed-opens t w s.1.0)
+    ∙ ap (choose_inside Not) (unary_no_close (next_kind (then t w)) (unary_opens t w s.1.1.0))
+unary_inner (node binding (leaf x (tree b done))) w s =
+    ap (choose_inside x.kind) (unary_no_close (next_kind (then b w)) (atom_unary _ (bound_opens b w s.1.1.0))) ∙ binder_inner x.kind s.1.0
+unary_inner (node plain (tree t done)) w s = atom_inner _ (typed_opens t w s.1.0)
 
-level-inner : {h : ℕ} (t : Tree term_grammar (a_level h)) (w : List Lexeme) → Stands t w → pick_inside (then t w) ≡ Some inner
-level-inner (node level_zero (tree t done)) w s = unary-inner t w s.1.0
-level-inner (node level_up (tree l (tree r done))) w s = level-inner l (then r w) s.1.0
+level_inner : {h : ℕ} (t : Tree term_grammar (a_level h)) (w : List Lexeme) → Stands t w → pick_inside (then t w) ≡ Some inner
+level_inner (node level_zero (tree t done)) w s = unary_inner t w s.1.0
+level_inner (node level_up (tree l (tree r done))) w s = level_inner l (then r w) s.1.0
 
-or-true : (b : Bool) → b || true ≡ true
-or-true true = refl
-or-true false = refl
+or_true : (b : Bool) → b || true ≡ true
+or_true true = refl
+or_true false = refl
 
-operator-picked : (k : Kind) (c : Bool) → IsTrue (is_operator k) → c ≡ true → choose_inside k c ≡ Some operator_alone
-operator-picked k c h e =
+operator_picked : (k : Kind) (c : Bool) → IsTrue (is_operator k) → c ≡ true → choose_inside k c ≡ Some operator_alone
+operator_picked k c h e =
     ap (λ (b : Bool). cond b (cond (is_infix k || c) (Some operator_alone) (Some inner)) (Some inner)) h
     ∙ ap (λ (b : Bool). cond (is_infix k || b) (Some operator_alone) (Some inner)) e
-    ∙ ap (λ (b : Bool). cond b (Some operator_alone) (Some inner)) (or-true (is_infix k))
+    ∙ ap (λ (b : Bool). cond b (Some operator_alone) (Some inner)) (or_true (is_infix k))
 
 -- the next kind opens the right side of a definition
 abbrev IsEquationKind : Option Kind → Type 0
@@ -307,34 +307,34 @@ abbrev IsSideKind : Option Kind → Type 0
 IsSideKind (Some Colon) = Unit {0}
 IsSideKind k = IsEquationKind k
 
-equation-opens : (e : Tree term_grammar an_equation) (w : List Lexeme) → Stands e w → IsEquationKind (next_kind (then e w))
-equation-opens (node equals_side (leaf x ts)) w s = subst (λ (k : Kind). IsEquationKind (Some k)) (sym s.1.0) tt
-equation-opens (node iff_side (leaf x ts)) w s = subst (λ (k : Kind). IsEquationKind (Some k)) (sym s.1.0) tt
+equation_opens : (e : Tree term_grammar an_equation) (w : List Lexeme) → Stands e w → IsEquationKind (next_kind (then e w))
+equation_opens (node equals_side (leaf x ts)) w s = subst (λ (k : Kind). IsEquationKind (Some k)) (sym s.1.0) tt
+equation_opens (node iff_side (leaf x ts)) w s = subst (λ (k : Kind). IsEquationKind (Some k)) (sym s.1.0) tt
 
-equation-plain : (k : Option Kind) → IsEquationKind k → choose_side k ≡ Some plain_side
-equation-plain (Some Equals) h = refl
-equation-plain (Some Iff) h = refl
-equation-plain _ h = absurd h
+equation_plain : (k : Option Kind) → IsEquationKind k → choose_side k ≡ Some plain_side
+equation_plain (Some Equals) h = refl
+equation_plain (Some Iff) h = refl
+equation_plain _ h = absurd h
 
-equation-side : (k : Option Kind) → IsEquationKind k → IsSideKind k
-equation-side (Some Equals) h = tt
-equation-side (Some Iff) h = tt
-equation-side _ h = absurd h
+equation_side : (k : Option Kind) → IsEquationKind k → IsSideKind k
+equation_side (Some Equals) h = tt
+equation_side (Some Iff) h = tt
+equation_side _ h = absurd h
 
-side-opens : (r : Tree term_grammar a_right_side) (w : List Lexeme) → Stands r w → IsSideKind (next_kind (then r w))
-side-opens (node typed_side (leaf x ts)) w s = subst (λ (k : Kind). IsSideKind (Some k)) (sym s.1.0) tt
-side-opens (node plain_side (tree e done)) w s = equation-side _ (equation-opens e w s.1.0)
+side_opens : (r : Tree term_grammar a_right_side) (w : List Lexeme) → Stands r w → IsSideKind (next_kind (then r w))
+side_opens (node typed_side (leaf x ts)) w s = subst (λ (k : Kind). IsSideKind (Some k)) (sym s.1.0) tt
+side_opens (node plain_side (tree e done)) w s = equation_side _ (equation_opens e w s.1.0)
 
-side-alone : (names : List (List ℕ)) (k : Option Kind) → IsSideKind k → choose_parameter names k ≡ Some no_parameter
-side-alone names (Some Colon) h = refl
-side-alone names (Some Equals) h = refl
-side-alone names (Some Iff) h = refl
-side-alone names _ h = absurd h
+side_alone : (names : List (List ℕ)) (k : Option Kind) → IsSideKind k → choose_parameter names k ≡ Some no_parameter
+side_alone names (Some Colon) h = refl
+side_alone names (Some Equals) h = refl
+side_alone names (Some Iff) h = refl
+side_alone names _ h = absurd h
 
 -- what is written is picked
 pub picks : {n : Nonterminal} (p : Production n) (ts : Trees term_grammar (parts p)) (rest : List Lexeme) → Stands {G = term_grammar} (node p ts) rest → pick n (all_then ts rest) ≡ Some p
 picks applied_first ts rest s = refl
-picks no_arrow done rest s = ap (λ (b : Bool). cond b (Some to_type) (Some no_arrow)) (not-opens an_arrow rest s.0)
+picks no_arrow done rest s = ap (λ (b : Bool). cond b (Some to_type) (Some no_arrow)) (not_opens an_arrow rest s.0)
 picks to_type (leaf x ts) rest s = ap (λ (k : Kind). cond (opens an_arrow k) (Some to_type) (Some no_arrow)) s.1.0
 picks named_type (leaf x ts) rest s = ap (λ (k : Kind). choose_applied (Some k)) s.1.0
 picks listed_type (leaf x ts) rest s = ap (λ (k : Kind). choose_applied (Some k)) s.1.0
@@ -342,56 +342,56 @@ picks one_type (leaf x ts) rest s = ap (λ (k : Kind). choose_list (Some k)) s.1
 picks two_types (leaf x ts) rest s = ap (λ (k : Kind). choose_list (Some k)) s.1.0
 picks more_type (leaf x ts) rest s = ap (λ (k : Kind). choose_rest (Some k)) s.1.0
 picks last_type (leaf x ts) rest s = ap (λ (k : Kind). choose_rest (Some k)) s.1.0
-picks no_postfix done rest s = ap (λ (b : Bool). cond b (Some postfix_name) (Some no_postfix)) (not-opens a_postfix rest s.0)
+picks no_postfix done rest s = ap (λ (b : Bool). cond b (Some postfix_name) (Some no_postfix)) (not_opens a_postfix rest s.0)
 picks postfix_name (leaf x ts) rest s = ap (λ (k : Kind). cond (opens a_postfix k) (Some postfix_name) (Some no_postfix)) s.1.0
 picks level_zero ts rest s = refl
 picks level_up ts rest s = refl
-picks (no_infix {h}) done rest s = ap (λ (b : Bool). cond b (Some infixed) (Some no_infix)) (not-opens (a_tail h) rest s.0)
-picks (infixed {h}) (leaf x ts) rest s = ap (λ (k : Kind). cond (is_infix_at h k) (Some infixed) (Some no_infix)) s.1.0 ∙ ap (λ (b : Bool). cond b (Some infixed) (Some no_infix)) (infix-opens h)
+picks (no_infix {h}) done rest s = ap (λ (b : Bool). cond b (Some infixed) (Some no_infix)) (not_opens (a_tail h) rest s.0)
+picks (infixed {h}) (leaf x ts) rest s = ap (λ (k : Kind). cond (is_infix_at h k) (Some infixed) (Some no_infix)) s.1.0 ∙ ap (λ (b : Bool). cond b (Some infixed) (Some no_infix)) (infix_opens h)
 picks negation (leaf x ts) rest s = ap (λ (k : Kind). choose_unary (Some k)) s.1.0
-picks binding (leaf x ts) rest s = binder-chosen x.kind s.1.0
-picks plain (tree t done) rest s = atom-plain _ (typed-opens t rest s.1.0)
+picks binding (leaf x ts) rest s = binder_chosen x.kind s.1.0
+picks plain (tree t done) rest s = atom_plain _ (typed_opens t rest s.1.0)
 picks typed_term ts rest s = refl
-picks no_argument done rest s = ap (λ (b : Bool). cond b (Some argument) (Some no_argument)) (not-opens an_arguments rest s.0)
-picks argument (tree a (tree xs done)) rest s = ap (λ (b : Bool). cond b (Some argument) (Some no_argument)) (atom-argument (then a (then xs rest)) (atom-opens a (then xs rest) s.1.0))
-picks no_annotation done rest s = ap (λ (b : Bool). cond b (Some annotated) (Some no_annotation)) (not-opens an_annotation rest s.0)
+picks no_argument done rest s = ap (λ (b : Bool). cond b (Some argument) (Some no_argument)) (not_opens an_arguments rest s.0)
+picks argument (tree a (tree xs done)) rest s = ap (λ (b : Bool). cond b (Some argument) (Some no_argument)) (atom_argument (then a (then xs rest)) (atom_opens a (then xs rest) s.1.0))
+picks no_annotation done rest s = ap (λ (b : Bool). cond b (Some annotated) (Some no_annotation)) (not_opens an_annotation rest s.0)
 picks annotated (leaf x ts) rest s = ap (λ (k : Kind). cond (opens an_annotation k) (Some annotated) (Some no_annotation)) s.1.0
 picks identifier_atom (leaf x ts) rest s = ap (λ (k : Kind). choose_atom (Some k)) s.1.0
 picks parenthesised (leaf x ts) rest s = ap (λ (k : Kind). choose_atom (Some k)) s.1.0
-picks operator_alone (leaf x (leaf y done)) rest s = operator-picked x.kind (closes_next (Some y.kind)) s.1.0 (ap (λ (k : Kind). closes_next (Some k)) s.1.1.0)
-picks inner (tree (node closed_term (tree t (leaf y done))) done) rest s = level-inner t (y ∷ rest) s.1.0.1.0
+picks operator_alone (leaf x (leaf y done)) rest s = operator_picked x.kind (closes_next (Some y.kind)) s.1.0 (ap (λ (k : Kind). closes_next (Some k)) s.1.1.0)
+picks inner (tree (node closed_term (tree t (leaf y done))) done) rest s = level_inner t (y ∷ rest) s.1.0.1.0
 picks closed_term ts rest s = refl
 picks named_bound (leaf x ts) rest s = ap (λ (k : Kind). choose_bound (Some k)) s.1.0
-picks typed_bound (tree v (tree r done)) rest s = ap choose_bound (variable-opens v (then r rest) s.1.0)
+picks typed_bound (tree v (tree r done)) rest s = ap choose_bound (variable_opens v (then r rest) s.1.0)
 picks typed_variable ts rest s = refl
 picks ascription ts rest s = refl
 picks last_typed (leaf x ts) rest s = ap (λ (k : Kind). choose_after_name (Some k)) s.1.0
-picks name_alone (tree r done) rest s = after-bound-more r rest s.1.0
+picks name_alone (tree r done) rest s = after_bound_more r rest s.1.0
 picks bound_body (leaf x ts) rest s = ap (λ (k : Kind). choose_after_bound (Some k)) s.1.0
-picks bound_more (tree b done) rest s = atom-bound_more _ (bound-opens b rest s.1.0)
+picks bound_more (tree b done) rest s = atom_bound_more _ (bound_opens b rest s.1.0)
 picks quoted ts rest s = refl
 picks type_quoted ts rest s = refl
 picks defined ts rest s = refl
 picks (named_parameter {names}) (leaf x ts) rest s = ap (λ (k : Kind). choose_parameter names (Some k)) s.1.0.0
 picks (typed_parameter {names}) (leaf x ts) rest s = ap (λ (k : Kind). choose_parameter names (Some k)) s.1.0
-picks (no_parameter {names}) (tree r done) rest s = side-alone names _ (side-opens r rest s.1.0)
+picks (no_parameter {names}) (tree r done) rest s = side_alone names _ (side_opens r rest s.1.0)
 picks typed_side (leaf x ts) rest s = ap (λ (k : Kind). choose_side (Some k)) s.1.0
-picks plain_side (tree e done) rest s = equation-plain _ (equation-opens e rest s.1.0)
+picks plain_side (tree e done) rest s = equation_plain _ (equation_opens e rest s.1.0)
 picks equals_side (leaf x ts) rest s = ap (λ (k : Kind). choose_equation (Some k)) s.1.0
 picks iff_side (leaf x ts) rest s = ap (λ (k : Kind). choose_equation (Some k)) s.1.0
 
-closed-shut : (n : Nonterminal) (k : Kind) → IsTrue (closing n k) → opens n k ≡ false
-closed-shut an_arrow k h = go k h
+closed_shut : (n : Nonterminal) (k : Kind) → IsTrue (closing n k) → opens n k ≡ false
+closed_shut an_arrow k h = go k h
   where
     go : (k : Kind) → IsTrue (closes_type k) → opens an_arrow k ≡ false
     go Arrow h = absurd (false≢true h)
     go _ h = refl
-closed-shut a_postfix k h = go k h
+closed_shut a_postfix k h = go k h
   where
     go : (k : Kind) → IsTrue (closes_type k) → opens a_postfix k ≡ false
     go Ident h = absurd (false≢true h)
     go _ h = refl
-closed-shut (a_tail n) k h = go n k h
+closed_shut (a_tail n) k h = go n k h
   where
     go : (n : ℕ) (k : Kind) → IsTrue (closes k) → is_infix_at n k ≡ false
     go zero Equals h = absurd (false≢true h)
@@ -400,19 +400,19 @@ closed-shut (a_tail n) k h = go n k h
     go (suc (suc (suc zero))) Implies h = absurd (false≢true h)
     go (suc (suc (suc (suc n)))) Iff h = absurd (false≢true h)
     go _ _ h = refl
-closed-shut an_arguments k h = go k h
+closed_shut an_arguments k h = go k h
   where
     go : (k : Kind) → IsTrue (closes k) → opens an_arguments k ≡ false
     go Ident h = absurd (false≢true h)
     go Open h = absurd (false≢true h)
     go _ h = refl
-closed-shut an_annotation k h = go k h
+closed_shut an_annotation k h = go k h
   where
     go : (k : Kind) → IsTrue (closes k) → opens an_annotation k ≡ false
     go Colon h = absurd (false≢true h)
     go _ h = refl
-closed-shut _ k h = refl
+closed_shut _ k h = refl
 
 pub shut : (n : Nonterminal) (after : List Lexeme) → Closes n after → IsNotNext (λ x. IsTrue (opens n x.kind)) after
 shut n [] k = tt
-shut n (x ∷ after) k = λ o. false≢true (sym (closed-shut n x.kind k) ∙ o)
+shut n (x ∷ after) k = λ o. false≢true (sym (closed_shut n x.kind k) ∙ o)

@@ -13,57 +13,57 @@ use Rattle.hol_notation_terms.proofs.Picks.{shut}
 abbrev pub mark : Kind → Lexeme
 mark k = record { kind = k; text = codes "x"; place = 0 }
 
-abbrev pub Some-tree : Nonterminal → List Lexeme → Type 0
-Some-tree n after = (t : Tree term_grammar n) × Stands t after
+abbrev pub Some_tree : Nonterminal → List Lexeme → Type 0
+Some_tree n after = (t : Tree term_grammar n) × Stands t after
 
-pub some-postfix : (after : List Lexeme) → Closes a_postfix after → Some-tree a_postfix after
-some-postfix after k = (node no_postfix done, (shut a_postfix after k, tt))
+pub some_postfix : (after : List Lexeme) → Closes a_postfix after → Some_tree a_postfix after
+some_postfix after k = (node no_postfix done, (shut a_postfix after k, tt))
 
-pub some-arrow : (after : List Lexeme) → Closes an_arrow after → Some-tree an_arrow after
-some-arrow after k = (node no_arrow done, (shut an_arrow after k, tt))
+pub some_arrow : (after : List Lexeme) → Closes an_arrow after → Some_tree an_arrow after
+some_arrow after k = (node no_arrow done, (shut an_arrow after k, tt))
 
 -- what closes a part closes another
 abbrev pub ClosesToo : Nonterminal → Nonterminal → Type 0
 ClosesToo n m = (after : List Lexeme) → Closes n after → Closes m after
 
-pub fit-nothing : (n m : Nonterminal) → ClosesToo n m → Fits term_grammar n m nothing
-fit-nothing n m f after k = record { written = done; stands = tt; closes = f after k }
+pub fit_nothing : (n m : Nonterminal) → ClosesToo n m → Fits term_grammar n m nothing
+fit_nothing n m f after k = record { written = done; stands = tt; closes = f after k }
 
-pub fit-arrow : Fits term_grammar a_type an_applied_type (part an_arrow nothing)
-fit-arrow after k = record { written = tree (node no_arrow done) done; stands = ((shut an_arrow after k, tt), tt); closes = k }
+pub fit_arrow : Fits term_grammar a_type an_applied_type (part an_arrow nothing)
+fit_arrow after k = record { written = tree (node no_arrow done) done; stands = ((shut an_arrow after k, tt), tt); closes = k }
 
-pub fit-list : Fits term_grammar an_applied_type a_type (part a_type_list nothing)
-fit-list after k = record {
+pub fit_list : Fits term_grammar an_applied_type a_type (part a_type_list nothing)
+fit_list after k = record {
   written = tree (node one_type (leaf (mark Close) (tree (node no_postfix done) done))) done;
   stands = ((tt, (refl, ((shut a_postfix after k, tt), tt))), tt);
   closes = refl;
 }
 
-pub fit-rest : (n : Nonterminal) → ClosesToo n a_postfix → Fits term_grammar n a_type (part a_type_rest nothing)
-fit-rest n f after k = record {
+pub fit_rest : (n : Nonterminal) → ClosesToo n a_postfix → Fits term_grammar n a_type (part a_type_rest nothing)
+fit_rest n f after k = record {
   written = tree (node last_type (leaf (mark Close) (leaf (mark Ident) (tree (node no_postfix done) done)))) done;
   stands = ((tt, (refl, (refl, ((shut a_postfix after (f after k), tt), tt)))), tt);
   closes = refl;
 }
 
-pub begins-applied : (after : List Lexeme) → Closes a_type after → Begins term_grammar an_applied_type [] after
-begins-applied after k = record {
+pub begins_applied : (after : List Lexeme) → Closes a_type after → Begins term_grammar an_applied_type [] after
+begins_applied after k = record {
   written = node named_type (leaf (mark Ident) (tree (node no_postfix done) done));
   more = mark Ident ∷ after;
   whole = refl;
   stands = (tt, (refl, ((shut a_postfix after k, tt), tt)));
 }
 
-pub begins-list : (after : List Lexeme) → Closes a_type after → Begins term_grammar a_type_list [] after
-begins-list after k = record {
+pub begins_list : (after : List Lexeme) → Closes a_type after → Begins term_grammar a_type_list [] after
+begins_list after k = record {
   written = node one_type (leaf (mark Close) (tree (node no_postfix done) done));
   more = mark Close ∷ after;
   whole = refl;
   stands = (tt, (refl, ((shut a_postfix after k, tt), tt)));
 }
 
-pub begins-rest : (after : List Lexeme) → Closes a_type after → Begins term_grammar a_type_rest [] after
-begins-rest after k = record {
+pub begins_rest : (after : List Lexeme) → Closes a_type after → Begins term_grammar a_type_rest [] after
+begins_rest after k = record {
   written = node last_type (leaf (mark Close) (leaf (mark Ident) (tree (node no_postfix done) done)));
   more = mark Close ∷ mark Ident ∷ after;
   whole = refl;
@@ -71,20 +71,20 @@ begins-rest after k = record {
 }
 
 -- some type
-abbrev pub some-type : (after : List Lexeme) → Closes a_type after → Some-tree a_type after
-some-type after k = (
+abbrev pub some_type : (after : List Lexeme) → Closes a_type after → Some_tree a_type after
+some_type after k = (
   node applied_first (tree (node named_type (leaf (mark Ident) (tree (node no_postfix done) done))) (tree (node no_arrow done) done)),
   (tt, ((tt, (refl, ((shut a_postfix after k, tt), tt))), ((shut an_arrow after k, tt), tt))),
 )
 
 -- some term without infix, and of each level
-abbrev pub some-unary : (after : List Lexeme) → Closes a_term after → Some-tree a_unary after
-some-unary after k = (
+abbrev pub some_unary : (after : List Lexeme) → Closes a_term after → Some_tree a_unary after
+some_unary after k = (
   node plain (tree (node typed_term (tree (node identifier_atom (leaf (mark Ident) done)) (tree (node no_argument done) (tree (node no_annotation done) done)))) done),
   (tt, ((tt, ((tt, (refl, tt)), ((shut an_arguments after k, tt), ((shut an_annotation after k, tt), tt)))), tt)),
 )
 
-abbrev pub some-level : (h : ℕ) (after : List Lexeme) → Closes a_term after → Some-tree (a_level h) after
-some-level zero after k = let u = some-unary after k in (node level_zero (tree u.0 done), (tt, (u.1, tt)))
-some-level (suc h) after k =
-    let l = some-level h after k in (node level_up (tree l.0 (tree (node no_infix done) done)), (tt, (l.1, ((shut (a_tail h) after k, tt), tt))))
+abbrev pub some_level : (h : ℕ) (after : List Lexeme) → Closes a_term after → Some_tree (a_level h) after
+some_level zero after k = let u = some_unary after k in (node level_zero (tree u.0 done), (tt, (u.1, tt)))
+some_level (suc h) after k =
+    let l = some_level h after k in (node level_up (tree l.0 (tree (node no_infix done) done)), (tt, (l.1, ((shut (a_tail h) after k, tt), tt))))

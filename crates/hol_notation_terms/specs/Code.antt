@@ -1,4 +1,5 @@
--- How the logic stores a type and a term: as trees of numbers, by functions that map no two to one tree.
+-- How the logic stores types, terms, quotations and definitions: as trees of numbers, by functions that map no two to one tree.
+-- Source: this project.
 use Rattle.std.specs.Coded.{Coded, coded×, coded_ℕ, coded_bool, coded_list, coded_option, code_by}
 use Rattle.std.proofs.Common.{◌≡◌, ◌≢◌, ◌==◌, ℕ, Bool, List, Option, ap, arith, refl, if◌then◌else◌}
 use base.Stored.{Gv, gnil, gnum, gcons}

@@ -1,8 +1,8 @@
 //! Definitions of constants, as they are written between backquotes.
-ghost use Rattle.std.specs.Prelude.{◌≡◌, IfOk};
+ghost use Rattle.std.specs.Prelude.{◌≡◌, ◌↔◌, IfOk, IsTrue};
 
 use crate::pre_term::PreTerm;
-use crate::pre_type::PreType;
+use crate::pre_type::{PreType, same_annotations};
 use crate::pre_variable::PreVariable;
 use std::alloc::{AllocError, Global};
 use std::marker::Model;
@@ -59,6 +59,15 @@ impl RightSide {
             term: self.term.copy()?,
         })
     }
+
+    /// Whether the two right sides are the same.
+    pub fn same(&self, other: &RightSide) -> bool
+        ensures { IsTrue result ↔ (self.now ≡ other.now) }
+    {
+        self.is_iff == other.is_iff
+            && same_annotations(&self.annotation, &other.annotation)
+            && self.term.same(&other.term)
+    }
 }
 
 impl Model for Definition {
@@ -86,6 +95,16 @@ impl Definition {
             right: self.right.copy()?,
         })
     }
+
+    /// Whether the two definitions are the same, their places included.
+    pub fn same(&self, other: &Definition) -> bool
+        ensures { IsTrue result ↔ (self.now ≡ other.now) }
+    {
+        self.place == other.place
+            && self.name.as_str() == other.name.as_str()
+            && same_variables(&self.parameters, &other.parameters)
+            && self.right.same(&other.right)
+    }
 }
 
 /// The same variables.
@@ -97,4 +116,19 @@ fn copies(alloc: Global, variables: &[PreVariable]) -> Result<Vec<PreVariable>, 
         copied.push(variable.copy(alloc)?)?;
     }
     Ok(copied)
+}
+
+// Whether the variables are the same, one by one.
+fn same_variables(variables: &[PreVariable], others: &[PreVariable]) -> bool
+    ensures { IsTrue result ↔ (variables.now ≡ others.now) }
+{
+    if variables.len() != others.len() {
+        return false;
+    }
+    for (i, variable) in variables.iter().enumerate() {
+        if !variable.same(&others[i]) {
+            return false;
+        }
+    }
+    true
 }

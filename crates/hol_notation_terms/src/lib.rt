@@ -9,8 +9,6 @@
 
 mod definition;
 mod definition_reader;
-#[cfg(test)]
-mod definition_tests;
 mod laws;
 mod operator;
 mod pre_term;
@@ -19,10 +17,6 @@ mod pre_variable;
 mod quotation;
 mod quotation_reader;
 mod term_reader;
-#[cfg(test)]
-mod term_tests;
-#[cfg(test)]
-mod tests;
 mod type_reader;
 
 pub use definition::{Definition, RightSide};

@@ -1,5 +1,5 @@
 //! Terms as they are written.
-ghost use Rattle.std.specs.Prelude.{◌≡◌, IfOk};
+ghost use Rattle.std.specs.Prelude.{◌≡◌, ◌↔◌, IfOk, IsTrue};
 ghost use Rattle.hol_notation_terms.specs.TermView.{term_of_node};
 
 use crate::operator::Operator;
@@ -80,5 +80,43 @@ impl PreTerm {
         Ok(PreTerm {
             node: self.node.clone()?,
         })
+    }
+
+    /// Whether the two terms are the same as they are written.
+    pub fn same(&self, other: &PreTerm) -> bool
+        ensures { IsTrue result ↔ (self.now ≡ other.now) }
+    {
+        match self.node() {
+            PreTermNode::Ident(name) => {
+                let PreTermNode::Ident(other_name) = other.node() else {
+                    return false;
+                };
+                name.as_str() == other_name.as_str()
+            }
+            PreTermNode::Operator(operator) => {
+                let PreTermNode::Operator(other_operator) = other.node() else {
+                    return false;
+                };
+                *operator == *other_operator
+            }
+            PreTermNode::Apply(function, argument) => {
+                let PreTermNode::Apply(other_function, other_argument) = other.node() else {
+                    return false;
+                };
+                function.same(other_function) && argument.same(other_argument)
+            }
+            PreTermNode::Abstraction(variable, body) => {
+                let PreTermNode::Abstraction(other_variable, other_body) = other.node() else {
+                    return false;
+                };
+                variable.same(other_variable) && body.same(other_body)
+            }
+            PreTermNode::Typed(term, ty) => {
+                let PreTermNode::Typed(other_term, other_ty) = other.node() else {
+                    return false;
+                };
+                term.same(other_term) && ty.same(other_ty)
+            }
+        }
     }
 }

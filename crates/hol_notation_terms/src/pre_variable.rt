@@ -1,7 +1,7 @@
 //! Variables where they are bound.
-ghost use Rattle.std.specs.Prelude.{◌≡◌, IfOk};
+ghost use Rattle.std.specs.Prelude.{◌≡◌, ◌↔◌, IfOk, IsTrue};
 
-use crate::pre_type::PreType;
+use crate::pre_type::{PreType, same_annotations};
 use std::alloc::{AllocError, Global};
 use std::marker::Model;
 
@@ -39,5 +39,13 @@ impl PreVariable {
             name: String::from_str(alloc, self.name.as_str())?,
             annotation,
         })
+    }
+
+    /// Whether the two variables are the same: their names, and the types that are written for them.
+    pub fn same(&self, other: &PreVariable) -> bool
+        ensures { IsTrue result ↔ (self.now ≡ other.now) }
+    {
+        self.name.as_str() == other.name.as_str()
+            && same_annotations(&self.annotation, &other.annotation)
     }
 }

@@ -1,5 +1,5 @@
 //! Terms and types between backquotes.
-ghost use Rattle.std.specs.Prelude.{◌≡◌, IfOk};
+ghost use Rattle.std.specs.Prelude.{◌≡◌, ◌↔◌, IfOk, IsTrue};
 
 use crate::pre_term::PreTerm;
 use crate::pre_type::PreType;
@@ -47,6 +47,13 @@ impl Quotation {
             term: self.term.copy()?,
         })
     }
+
+    /// Whether the two quotations are the same, their places included.
+    pub fn same(&self, other: &Quotation) -> bool
+        ensures { IsTrue result ↔ (self.now ≡ other.now) }
+    {
+        self.place == other.place && self.term.same(&other.term)
+    }
 }
 
 impl Model for TypeQuotation {
@@ -71,5 +78,12 @@ impl TypeQuotation {
             place: self.place,
             ty: self.ty.copy()?,
         })
+    }
+
+    /// Whether the two quotations are the same, their places included.
+    pub fn same(&self, other: &TypeQuotation) -> bool
+        ensures { IsTrue result ↔ (self.now ≡ other.now) }
+    {
+        self.place == other.place && self.ty.same(&other.ty)
     }
 }

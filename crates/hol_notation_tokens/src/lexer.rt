@@ -3,8 +3,8 @@ ghost use Rattle.std.specs.Prelude.{◌≡◌, ◌<◌, ◌≤◌, ◌+◌, leng
 ghost use Rattle.hol_notation_tokens.specs.declared.token.Token.{Token};
 ghost use Rattle.hol_notation_tokens.specs.Token.{opened, limited, AreTokens};
 ghost use Rattle.hol_notation_tokens.specs.Token.{word_at as text_word};
-ghost use Rattle.hol_notation_tokens.specs.LexErrors.{IsLexError};
-ghost use Rattle.hol_notation_tokens.specs.Lexeme.{IsScan, token_of};
+ghost use Rattle.hol_notation_tokens.specs.Lexing.{counted_word, AreTextTokens, IsLexError};
+ghost use Rattle.hol_notation_tokens.specs.Lexeme.{IsScan};
 
 use crate::bytes::{skip, word_at};
 use crate::error::SyntaxError;
@@ -74,26 +74,41 @@ pub fn scan(alloc: Global, text: &str) -> Result<(Vec<Word<'_>>, usize), AllocEr
     Ok((words, place))
 }
 
-/// The tokens of a text.
-///
-/// Answers `Syntax` at the first byte that begins no token, or that begins the token after the last one that
-/// `MAX_TOKENS` allows or the bracket after the last one that `MAX_OPEN` allows; and `Memory` where memory is short.
-pub fn lex(alloc: Global, text: &str) -> Result<Vec<Token>, SyntaxError>
-    ensures { MatchResult result (λ tokens. AreTokens text.now tokens.items) (IsLexError text.now) }
+// The token with which the bytes begin, and its length, where so many tokens before it may be followed by one more.
+fn counted_word(bytes: &[u8], count: usize) -> Option<(Kind, usize)>
+    ensures value { result ≡ counted_word count bytes.now }
+    ensures bound { IfSome result (λ x. (0 < x.1) × (x.1 ≤ length bytes.now)) }
 {
-    let (words, end) = scan(alloc, text)?;
-    if end < text.len() {
-        return Err(SyntaxError::Syntax(end));
+    if count < MAX_TOKENS {
+        word_at(bytes)
+    } else {
+        None
     }
-    let mut tokens = Vec::with_capacity(alloc, words.len())?;
-    for word in &words {
+}
+
+/// The tokens of a text, with the bytes that each spans. Brackets are not counted.
+///
+/// Answers `Syntax` at the first byte that begins no token, or that begins the token after the last one that `MAX_TOKENS` allows; and
+/// `Memory` where memory is short.
+pub fn lex(alloc: Global, text: &str) -> Result<Vec<Token>, SyntaxError>
+    ensures { MatchResult result (λ tokens. AreTextTokens text.now tokens.items) (IsLexError text.now) }
+{
+    let bytes = text.as_bytes();
+    let mut tokens = Vec::new(alloc);
+    let mut place = skip(bytes, 0);
+    while let Some((kind, length)) = counted_word(&bytes[place..], tokens.len()) {
         tokens.push(Token {
-            kind: word.kind,
-            start: word.place,
-            length: word.text.len(),
+            kind,
+            start: place,
+            length,
         })?;
+        place = skip(bytes, place + length);
     }
-    Ok(tokens)
+    if place < bytes.len() {
+        Err(SyntaxError::Syntax(place))
+    } else {
+        Ok(tokens)
+    }
 }
 
 /// A text has one list of tokens.

@@ -1,29 +1,29 @@
 use Rattle.std.proofs.Common.{map}
 use Rattle.std.proofs.lemmas.Result.{err_from_is_err_and}
 use Rattle.hol_notation_tokens.specs.Lexeme.{seen}
-use Rattle.hol_notation_terms.proofs.QuotationSteps.{type_open-missing, type_colon-missing, type_inside-fails, type_close-missing, type_quotation-found}
+use Rattle.hol_notation_terms.proofs.QuotationSteps.{type_open_missing, type_colon_missing, type_inside_fails, type_close_missing, type_quotation_found}
 use Rattle.hol_notation_terms.proofs.quotation_reader.read_type_quotation.Goals as goal
 
 pub returns-in_err-open-clause-reads : goal.returns-in_err-open-clause-reads
 returns-in_err-open-clause-reads c =
     let p = err_from_is_err_and c.from_residual.result c.from_residual.ensures.1 in
-    rw (p.1, p.2) (type_open-missing c.args.end (map seen c.args.words.now) _ c.in_err-open.ensures.taken)
+    rw (p.1, p.2) (type_open_missing c.args.end (map seen c.args.words.now) _ c.in_err-open.ensures.taken)
 
 pub returns-in_err-_colon-clause-reads : goal.returns-in_err-_colon-clause-reads
 returns-in_err-_colon-clause-reads c =
     let p = err_from_is_err_and c.from_residual-in_err-_colon.result c.from_residual-in_err-_colon.ensures.1 in
-    rw (p.1, p.2) (type_colon-missing c.args.end (map seen c.args.words.now) (map seen c.in_ok-open.after.now) _ (seen c.in_ok-open.open) c.in_ok-open.ensures.taken c.in_err-_colon.ensures.taken)
+    rw (p.1, p.2) (type_colon_missing c.args.end (map seen c.args.words.now) (map seen c.in_ok-open.after.now) _ (seen c.in_ok-open.open) c.in_ok-open.ensures.taken c.in_err-_colon.ensures.taken)
 
 pub returns-in_err-ty-clause-reads : goal.returns-in_err-ty-clause-reads
 returns-in_err-ty-clause-reads c =
     let p = err_from_is_err_and c.from_residual-in_err-ty.result c.from_residual-in_err-ty.ensures.1 in
-    rw (p.1, p.2) (type_inside-fails c.args.end (map seen c.args.words.now) (map seen c.in_ok-open.after.now) (map seen c.in_ok-_colon.inside.now) _ (seen c.in_ok-open.open) (seen c.in_ok-_colon._colon) c.in_ok-open.ensures.taken c.in_ok-_colon.ensures.taken c.in_err-ty.ensures.reads)
+    rw (p.1, p.2) (type_inside_fails c.args.end (map seen c.args.words.now) (map seen c.in_ok-open.after.now) (map seen c.in_ok-_colon.inside.now) _ (seen c.in_ok-open.open) (seen c.in_ok-_colon._colon) c.in_ok-open.ensures.taken c.in_ok-_colon.ensures.taken c.in_err-ty.ensures.reads)
 
 pub returns-in_err-_close-clause-reads : goal.returns-in_err-_close-clause-reads
 returns-in_err-_close-clause-reads c =
     let p = err_from_is_err_and c.from_residual-in_err-_close.result c.from_residual-in_err-_close.ensures.1 in
-    rw (p.1, p.2) (type_close-missing c.args.end (map seen c.args.words.now) (map seen c.in_ok-open.after.now) (map seen c.in_ok-_colon.inside.now) (map seen c.in_ok-ty.behind.now) _ (seen c.in_ok-open.open) (seen c.in_ok-_colon._colon) _ c.in_ok-open.ensures.taken c.in_ok-_colon.ensures.taken c.in_ok-ty.ensures.reads c.in_err-_close.ensures.taken)
+    rw (p.1, p.2) (type_close_missing c.args.end (map seen c.args.words.now) (map seen c.in_ok-open.after.now) (map seen c.in_ok-_colon.inside.now) (map seen c.in_ok-ty.behind.now) _ (seen c.in_ok-open.open) (seen c.in_ok-_colon._colon) _ c.in_ok-open.ensures.taken c.in_ok-_colon.ensures.taken c.in_ok-ty.ensures.reads c.in_err-_close.ensures.taken)
 
 pub returns-clause-reads : goal.returns-clause-reads
 returns-clause-reads c =
-    type_quotation-found (map seen c.args.words.now) (map seen c.in_ok-open.after.now) (map seen c.in_ok-_colon.inside.now) (map seen c.in_ok-ty.behind.now) (map seen c.in_ok-_close.rest.now) (seen c.in_ok-open.open) (seen c.in_ok-_colon._colon) (seen c.in_ok-_close._close) _ c.in_ok-open.ensures.taken c.in_ok-_colon.ensures.taken c.in_ok-ty.ensures.reads c.in_ok-_close.ensures.taken
+    type_quotation_found (map seen c.args.words.now) (map seen c.in_ok-open.after.now) (map seen c.in_ok-_colon.inside.now) (map seen c.in_ok-ty.behind.now) (map seen c.in_ok-_close.rest.now) (seen c.in_ok-open.open) (seen c.in_ok-_colon._colon) (seen c.in_ok-_close._close) _ c.in_ok-open.ensures.taken c.in_ok-_colon.ensures.taken c.in_ok-ty.ensures.reads c.in_ok-_close.ensures.taken
