@@ -1,5 +1,5 @@
 -- What the steps of an answer come to, over plain variables.
-use Rattle.std.proofs.Common.{◌≡◌, ◌≢◌, ◌<◌, ◌≤◌, ℕ, List, [], ◌∷◌, length, Option, Some, None, Result, Ok, Err, refl, sym, ◌∙◌, subst, arith}
+use Rattle.std.proofs.Common.{◌≡◌, ◌≢◌, ◌<◌, ◌≤◌, ℕ, List, [], ◌∷◌, length, Option, Some, None, Result, Ok, Err, refl, sym, ◌∙◌, ap, subst, arith}
 use Rattle.std.specs.Str.{IsUtf8}
 use Rattle.serde_json.specs.Data.{Data}
 use Rattle.serde_json.specs.Read.{read}
@@ -40,7 +40,7 @@ line_no_json old line reply short none says =
 
 pub line_no_memory : (old new : Documents) (line : List ℕ) (reply : Reply) → length line ≤ line_limit → line ≢ [] → new ≡ old → Says (Refused Memory) reply
     → MayAnswer old line (reply_bytes reply.text) reply.closes new
-line_no_memory old new line reply short some same says = (Refused Memory, no_memory short some refl same, says.0, says.1)
+line_no_memory old new line reply short some same says = (Refused Memory, no_memory short some refl (ap (λ (d : Documents). d.theories) same), says.0, says.1)
 
 pub line_shape : (old : Documents) (line : List ℕ) (d : Data) (reply : Reply) → length line ≤ line_limit → ReadsAs line d → request_of d ≡ None → Says (Refused Shape) reply
     → MayAnswer old line (reply_bytes reply.text) reply.closes old

@@ -1,15 +1,15 @@
 -- Every run of the machine shows proved theorems alone.
-use Rattle.std.proofs.Common.{◌≡◌, ℕ, List, [], ◌∷◌, ◌++◌, Bool, true, false, inl, inr, sym, ◌∙◌}
-use Rattle.std.specs.Prelude.{◌⊎◌, Result, Ok, Err, Option, Some, None}
+use Rattle.std.proofs.Common.{◌≡◌, ℕ, List, [], ◌∷◌, ◌++◌, Bool, false, inl, inr, sym, ◌∙◌}
+use Rattle.std.specs.Prelude.{Result, Ok, Err, Option, Some, None}
 use Rattle.hol_exec.specs.ReportValue.{ReportValue, ShowsGoals, HasMade, WasRefused}
 use Rattle.hol_document.specs.declared.error.Refusal.{Refusal}
-use Rattle.hol_document.specs.Documents.{Documents, TheoryText, find_theory}
+use Rattle.hol_document.specs.Documents.{Documents}
 use Rattle.hol_document.specs.Asked.{Reported, BasisOf}
 use Rattle.hol_document.proofs.Proved.{asked_theorems, told_theorems}
 use Rattle.serde_json.specs.Data.{Data}
 use Rattle.hol_serve.specs.Machine.{ReadsAs, Machine, too_long, no_json, served, no_memory, reply_to, Serves, ServesIf, MayAnswer}
 use Rattle.hol_serve.specs.Requests.{RequestText, NewTheory, Insert, Report, Basis, request_of}
-use Rattle.hol_serve.specs.Replies.{RequestRefusal, ReplyValue, Refused, Reports, RestsOn, reply_line, closes}
+use Rattle.hol_serve.specs.Replies.{RequestRefusal, ReplyValue, Refused, Reports, RestsOn, closes}
 use Rattle.hol_serve.specs.Session.{Answers, AnswersInPart}
 use Rattle.hol_serve.specs.Promise.{ReportsProved, ShowsOnlyProved, ShowsIf, AnswersProved}
 

@@ -11,6 +11,10 @@ use Rattle.hol_serve.specs.Lines.{line_limit}
 use Rattle.hol_serve.specs.Requests.{RequestText, NewTheory, Insert, Report, Basis, request_of}
 use Rattle.hol_serve.specs.Replies.{LineTooLong, NotJson, Shape, ByDocuments, Memory, ReplyValue, Refused, Done, Reports, RestsOn, reply_line, closes}
 
+-- documents without theories, over which a session begins
+abbrev pub no_documents : Documents
+no_documents = record { theories = [] }
+
 -- the line is this JSON value, as `serde_json`'s `Value` reads it
 abbrev pub ReadsAs : List ℕ → Data → Type 0
 ReadsAs line d = IsUtf8 line × (read line ≡ Some d)
@@ -43,7 +47,7 @@ pub data Machine (old : Documents) (line : List ℕ) (reply : ReplyValue) (new :
   too_long : line_limit < length line → reply ≡ Refused LineTooLong → new ≡ old → Machine old line reply new
   no_json : length line ≤ line_limit → ((d : Data) → ReadsAs line d → ⊥) → reply ≡ Refused NotJson → new ≡ old → Machine old line reply new
   served : length line ≤ line_limit → (d : Data) → ReadsAs line d → ServesIf old (request_of d) reply new → Machine old line reply new
-  no_memory : length line ≤ line_limit → line ≢ [] → reply ≡ Refused Memory → new ≡ old → Machine old line reply new
+  no_memory : length line ≤ line_limit → line ≢ [] → reply ≡ Refused Memory → new.theories ≡ old.theories → Machine old line reply new
 
 -- the same of a reply's bytes
 abbrev pub MayAnswer : Documents → List ℕ → List ℕ → Bool → Documents → Type 0

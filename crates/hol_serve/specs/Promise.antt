@@ -6,7 +6,7 @@ use Rattle.hol_document.specs.Documents.{Documents, find_theory}
 use Rattle.hol_document.specs.Shown.{ShowsProvedIn, TellsOfProvedIn}
 use Rattle.hol_serve.specs.Machine.{ReadsAs, Machine}
 use Rattle.hol_serve.specs.Requests.{RequestText, NewTheory, Insert, Report, Basis, request_of}
-use Rattle.hol_serve.specs.Replies.{ReplyValue, Refused, Done, Reports, RestsOn, Closed, reply_line, closes}
+use Rattle.hol_serve.specs.Replies.{ReplyValue, Reports, RestsOn, reply_line, closes}
 
 -- the theorems of a report on what the command at the place made are proved
 abbrev pub ReportsProved : Documents → List ℕ → ℕ → ReportValue → Type 0

@@ -1,10 +1,11 @@
 //! One line and its reply.
 
-ghost use Rattle.std.specs.Prelude.{◌≡◌, ◌≤◌, IfOk, OnErr, length};
+ghost use Rattle.std.specs.Prelude.{◌≡◌, ◌≤◌, ◌⊎◌, IfOk, OnErr, length};
 ghost use Rattle.hol_document.specs.declared.error.Refusal.{Refusal};
+ghost use Rattle.serde_json.specs.Errors.{IsMemory};
 ghost use Rattle.hol_serve.specs.Lines.{line_limit};
 ghost use Rattle.hol_serve.specs.Machine.{Serves, MayAnswer};
-ghost use Rattle.hol_serve.specs.Replies.{ReplyValue, Refused, ByDocuments};
+ghost use Rattle.hol_serve.specs.Replies.{ReplyValue, Refused, ByDocuments, Memory, NotJson};
 ghost use Rattle.hol_serve.specs.ReplyBytes.{reply_bytes};
 ghost use Rattle.hol_serve.specs.Texts.{Says};
 ghost use Rattle.hol_serve.specs.Views.{request_text};
@@ -15,12 +16,13 @@ use crate::reading::request_of;
 use crate::replies::{reports, rests_on};
 use crate::requests::Request;
 use hol_document::{Docs, DocsError};
-use serde_json::Value;
+use serde_json::{Error, Value};
 use std::alloc::{AllocError, Global};
 
-/// The reply to a refusal of the documents.
+// The reply to a refusal of the documents. It takes no memory: the error is theirs.
 fn refusal_reply(error: DocsError) -> Result<Reply, AllocError>
-    ensures { IfOk result (λ reply. (refusal : Refusal) × (error ≡ DocsError.Refused refusal) × Says (Refused (ByDocuments refusal)) reply) }
+    ensures refused { IfOk result (λ reply. (refusal : Refusal) × (error ≡ DocsError.Refused refusal) × Says (Refused (ByDocuments refusal)) reply) }
+    ensures memory { OnErr result (error ≡ DocsError.Memory) }
 {
     match error {
         DocsError::Refused(refusal) => Ok(refused(refusal)),
@@ -28,7 +30,7 @@ fn refusal_reply(error: DocsError) -> Result<Reply, AllocError>
     }
 }
 
-/// Serves a request over the documents. Where it finds no memory they stay as they were.
+// Serves a request over the documents. Where it finds no memory they stay as they were.
 fn served(alloc: Global, docs: &mut Docs, request: Request<'_>) -> Result<Reply, AllocError>
     ensures ok { IfOk result (λ reply. (value : ReplyValue) × Says value reply × Serves docs.old (request_text request.entry) value docs.new) }
     ensures kept { OnErr result (docs.new ≡ docs.old) }
@@ -53,6 +55,16 @@ fn served(alloc: Global, docs: &mut Docs, request: Request<'_>) -> Result<Reply,
     }
 }
 
+// The reply to a line that isn't read, because of this error. It takes no memory: the memory line stands for the reader's want of it alone.
+fn unread_reply(error: &Error) -> Reply
+    ensures { (IsMemory error.now × Says (Refused Memory) result) ⊎ (¬ IsMemory error.now × Says (Refused NotJson) result) }
+{
+    if error.is_memory() {
+        return memory();
+    }
+    not_json()
+}
+
 /// The reply to a line, with its newline.
 pub fn answer(alloc: Global, docs: &mut Docs, line: &[u8]) -> Reply
     requires { length line.now ≤ line_limit }
@@ -60,8 +72,7 @@ pub fn answer(alloc: Global, docs: &mut Docs, line: &[u8]) -> Reply
 {
     let value = match Value::from_slice(alloc, line) {
         Ok(value) => value,
-        Err(error) if error.is_memory() => return memory(),
-        Err(_) => return not_json(),
+        Err(error) => return unread_reply(&error),
     };
     let Some(request) = request_of(&value) else {
         return shape();

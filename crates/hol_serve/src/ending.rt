@@ -1,27 +1,22 @@
 //! How the program ends.
 
 ghost use Rattle.std.specs.Prelude.{◌≡◌};
-ghost use Rattle.hol_serve.specs.Ending.{status_of};
+ghost use Rattle.hol_serve.specs.Ending.{status_of, told_of};
 
 use crate::lines::Fault;
 use crate::settings::Words;
 use std::alloc::AllocError;
-use thiserror::Error;
 
-/// Why the program ends before the end of its input. Its line on standard error says so after `hol-serve: `.
-#[derive(Clone, Copy, Debug, Drop, PartialEq, Eq, Error)]
+/// Why the program ends before the end of its input.
+#[derive(Clone, Copy, Debug, Drop, PartialEq, Eq)]
 pub enum Ending {
     /// The program's words were refused.
-    #[error("bad words")]
     BadWords,
     /// Standard input failed.
-    #[error("read fault")]
     Read,
     /// Standard output failed.
-    #[error("write fault")]
     Write,
     /// There was no memory to begin with.
-    #[error("no memory")]
     Memory,
 }
 
@@ -33,6 +28,18 @@ impl Ending {
         match self {
             Ending::BadWords => 2,
             Ending::Read | Ending::Write | Ending::Memory => 1,
+        }
+    }
+
+    /// Its line on standard error, with its newline.
+    pub fn line(self) -> &'static [u8]
+        ensures { result.now ≡ told_of self }
+    {
+        match self {
+            Ending::BadWords => b"hol-serve: bad words\n",
+            Ending::Read => b"hol-serve: read fault\n",
+            Ending::Write => b"hol-serve: write fault\n",
+            Ending::Memory => b"hol-serve: no memory\n",
         }
     }
 }

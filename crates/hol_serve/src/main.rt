@@ -6,6 +6,7 @@ mod constants;
 mod ending;
 mod laws;
 mod lines;
+mod program;
 mod reading;
 mod replies;
 mod requests;
@@ -14,42 +15,40 @@ mod settings;
 #[cfg(test)]
 mod tests;
 
-use crate::ending::Ending;
 use crate::lines::Watched;
-use crate::serving::run;
-use crate::settings::settings;
-use hol_document::Docs;
+use crate::program::program;
+use crate::settings::Words;
+use std::alloc::Global;
 use std::process::ExitCode;
 use std::{env, io};
 
-/// The program's words, its name first.
-fn program_words(rt: &HostRuntime) -> Result<Vec<String>, Ending> {
+// The program's words, its name first.
+fn program_words(rt: &HostRuntime) -> Result<Vec<String>, Words> {
     match env::args(rt) {
         Ok(words) => Ok(words.collect(rt.alloc())?),
-        Err(error) if error.kind() == io::ErrorKind::OutOfMemory => Err(Ending::Memory),
-        Err(_) => Err(Ending::BadWords),
+        Err(error) if error.kind() == io::ErrorKind::OutOfMemory => Err(Words::Memory),
+        Err(_) => Err(Words::Bad),
     }
 }
 
-/// Serves standard input as the words say.
-fn serve(rt: &HostRuntime) -> Result<(), Ending> {
-    let alloc = rt.alloc();
-    let words = program_words(rt)?;
-    let texts: Vec<&str> = words.iter().map(String::as_str).collect(alloc)?;
-    let (turns, cache) = settings(alloc, &texts)?;
-    let mut docs = Docs::new(alloc, turns, cache);
-    let mut reader = Watched::new(rt.reader());
-    let mut writer = Watched::new(io::writer(rt));
-    run(alloc, &mut reader, &mut writer, &mut docs)?;
-    Ok(())
+// The words as the program takes them.
+fn texts(alloc: Global, words: &Result<Vec<String>, Words>) -> Result<Vec<&str>, Words> {
+    match words {
+        Ok(words) => Ok(words.iter().map(String::as_str).collect(alloc)?),
+        Err(words) => Err(*words),
+    }
 }
 
 fn main(rt: HostRuntime) -> ExitCode {
-    match serve(&rt) {
-        Ok(()) => ExitCode::SUCCESS,
-        Err(ending) => {
-            let _ = eprintln!(rt; "hol-serve: {ending}");
-            ExitCode::from(ending.status())
-        }
-    }
+    let alloc = rt.alloc();
+    let words = program_words(&rt);
+    let texts = texts(alloc, &words);
+    let status = program(
+        alloc,
+        texts.as_ref().map(Vec::as_slice).map_err(|words| *words),
+        &mut Watched::new(rt.reader()),
+        &mut Watched::new(io::writer(&rt)),
+        &mut Watched::new(rt.stderr()),
+    );
+    ExitCode::from(status)
 }

@@ -1,10 +1,9 @@
 //! The lines of a reader, answered over documents.
 
-ghost use Rattle.std.specs.Prelude.{◌≡◌, ◌⊎◌, ◌≤◌, ℕ, List, Bool, false, length, Err, OnOk};
-ghost use Rattle.std.specs.Io.KnownBytes.{Appends, Consumes, IsAtEnd};
-ghost use Rattle.hol_serve.specs.Lines.{lines_of, whole_lines, read_limit};
+ghost use Rattle.std.specs.Prelude.{◌≡◌, ◌≢◌, ◌⊎◌, Err, OnOk};
+ghost use Rattle.hol_serve.specs.Lines.{read_limit};
 ghost use Rattle.hol_serve.specs.Machine.{MayAnswer};
-ghost use Rattle.hol_serve.specs.Session.{Answers, AnswersInPart};
+ghost use Rattle.hol_serve.specs.Session.{CountsUp, Finishes, StopsReading, StopsWriting};
 
 use crate::answering::answer;
 use crate::constants::line_too_long;
@@ -43,23 +42,19 @@ pub fn run<R: Source, W: Sink>(
     docs: &mut Docs,
 ) -> Result<(), Fault>
     // The replies of a run of the machine over the lines of what was read, and nothing else.
-    ensures ok { OnOk result ((read : List ℕ) × (replies : List ℕ) × (closed : Bool)
-        × Consumes (R.remaining reader.old) (R.remaining reader.new) read
-        × Appends (W.contents writer.old) (W.contents writer.new) replies
-        × Answers MayAnswer docs.old (lines_of read) replies closed docs.new
-        × (closed ≡ false → IsAtEnd (R.remaining reader.new))) }
+    ensures ok { OnOk result (Finishes MayAnswer docs.old docs.new
+        (R.remaining reader.old) (R.remaining reader.new) (W.contents writer.old) (W.contents writer.new)) }
     // The replies to the whole lines of what was read.
-    ensures read_fault { result ≡ Err Fault.Read → (read : List ℕ) × (replies : List ℕ)
-        × Consumes (R.remaining reader.old) (R.remaining reader.new) read
-        × Appends (W.contents writer.old) (W.contents writer.new) replies
-        × Answers MayAnswer docs.old (whole_lines read) replies false docs.new
-        × (R.has_failed reader.new ⊎ (read_limit ≤ length read)) }
+    ensures read_fault { result ≡ Err Fault.Read → StopsReading MayAnswer docs.old docs.new
+        (R.remaining reader.old) (R.remaining reader.new) (W.contents writer.old) (W.contents writer.new)
+        × (R.has_failed reader.new ⊎ CountsUp read_limit (R.reads reader.old) (R.reads reader.new)) }
     // The replies but for an end of the last, which was served.
-    ensures write_fault { result ≡ Err Fault.Write → (read : List ℕ) × (written : List ℕ)
-        × Consumes (R.remaining reader.old) (R.remaining reader.new) read
-        × Appends (W.contents writer.old) (W.contents writer.new) written
-        × AnswersInPart MayAnswer docs.old (lines_of read) written docs.new
+    ensures write_fault { result ≡ Err Fault.Write → StopsWriting MayAnswer docs.old docs.new
+        (R.remaining reader.old) (R.remaining reader.new) (W.contents writer.old) (W.contents writer.new)
         × W.has_failed writer.new }
+    // No fault is passed over.
+    ensures reads { result ≢ Err Fault.Read → R.has_failed reader.new → R.has_failed reader.old }
+    ensures writes { result ≢ Err Fault.Write → W.has_failed writer.new → W.has_failed writer.old }
     ensures memory { result ≡ Err Fault.Memory
         → (reader.new ≡ reader.old) × (writer.new ≡ writer.old) × (docs.new ≡ docs.old) }
 {

@@ -1,7 +1,7 @@
 //! The words of the program.
 
-ghost use Rattle.std.specs.Prelude.{◌≡◌, ◌≤◌, ◌<◌, ◌⊎◌, ◌^◌, map, false, true, codes, IfOk, IfSome, IsNone, Err, option_map};
-ghost use Rattle.hol_serve.specs.Settings.{is_taken, option_text, IsValue, IsOutside};
+ghost use Rattle.std.specs.Prelude.{◌≡◌, ◌≤◌, ◌<◌, ◌^◌, map, false, true, codes, IfOk, IfSome, IsNone, Err, option_map};
+ghost use Rattle.hol_serve.specs.Settings.{is_taken, option_text, IsValue, IsOutside, AreBad};
 
 use clap::error::ErrorKind;
 use clap::{Arg, Command};
@@ -81,9 +81,7 @@ pub fn settings<'a>(alloc: Global, words: &'a [&'a str]) -> Result<(u32, u32), W
     ensures cache { IfOk result (λ s. IsValue 1 4096 DEFAULT_CACHE (option_text (codes "cache") (map (λ w. w.now) words.now)) s.1) }
     ensures turns_range { IfOk result (λ s. (1 ≤ s.0) × (s.0 ≤ 100000)) }
     ensures cache_range { IfOk result (λ s. (1 ≤ s.1) × (s.1 ≤ 4096)) }
-    ensures bad { result ≡ Err Words.Bad → (is_taken (map (λ w. w.now) words.now) ≡ false)
-        ⊎ (IsOutside 1 100000 (option_text (codes "turns") (map (λ w. w.now) words.now))
-        ⊎ IsOutside 1 4096 (option_text (codes "cache") (map (λ w. w.now) words.now))) }
+    ensures bad { result ≡ Err Words.Bad → AreBad (map (λ w. w.now) words.now) }
 {
     let (turns, cache) = option_texts(alloc, words)?;
     let Some(turns) = value_in(turns, 1, 100_000, DEFAULT_TURNS) else {

@@ -1,7 +1,7 @@
 ghost use Rattle.std.specs.Prelude.{◌≡◌, ◌≢◌, ◌⊎◌, ◌≤◌, ◌++◌, ℕ, List, [], Bool, true, false, length, Ok, Err, IfOk, OnOk, OnErr};
-ghost use Rattle.std.specs.Io.KnownBytes.{Appends, Consumes, IsAtEnd};
-ghost use Rattle.hol_serve.specs.Lines.{StandsFor, ended_lines, begun_line, unless_empty, whole_lines, lines_of, read_limit};
-ghost use Rattle.hol_serve.specs.Session.{Answers, AnswersInPart};
+ghost use Rattle.std.specs.Io.KnownBytes.{Appends};
+ghost use Rattle.hol_serve.specs.Lines.{StandsFor, ended_lines, begun_line, unless_empty, read_limit};
+ghost use Rattle.hol_serve.specs.Session.{Answers, AnswersInPart, CountsUp, Finishes, StopsReading, StopsWriting};
 
 use crate::lines::line::Line;
 use crate::lines::service::{Service, Sink, Source};
@@ -43,6 +43,7 @@ fn serve_line<W: Sink, D, S: Service<D>>(
         → (part : List ℕ) × (missing : List ℕ) × (closes : Bool) × Appends (W.contents writer.old) (W.contents writer.new) part
         × S.may_answer state.old text (part ++ missing) closes state.new × (missing ≢ [])) }
     ensures failed { OnErr result (W.has_failed writer.new) }
+    ensures only { OnOk result (W.has_failed writer.new → W.has_failed writer.old) }
 {
     let reply = if line.overlong {
         service.answer_overlong(state)
@@ -73,6 +74,7 @@ fn serve_chunk<W: Sink, D, S: Service<D>>(
         → (written : List ℕ) × Appends (W.contents writer.old) (W.contents writer.new) written
         × AnswersInPart S.may_answer state.old (ended_lines begun chunk.now) written state.new) }
     ensures failed { OnErr result (W.has_failed writer.new) }
+    ensures only { OnOk result (W.has_failed writer.new → W.has_failed writer.old) }
 {
     for byte in chunk {
         if *byte != NEWLINE {
@@ -103,6 +105,7 @@ fn serve_last<W: Sink, D, S: Service<D>>(
         → (written : List ℕ) × Appends (W.contents writer.old) (W.contents writer.new) written
         × AnswersInPart S.may_answer state.old (unless_empty text) written state.new) }
     ensures failed { OnErr result (W.has_failed writer.new) }
+    ensures only { OnOk result (W.has_failed writer.new → W.has_failed writer.old) }
 {
     if line.is_empty() {
         return Ok(());
@@ -120,23 +123,19 @@ pub fn run_lines<R: Source, W: Sink, D, S: Service<D>>(
     state: &mut D,
 ) -> Result<(), Fault>
     // The replies to the lines of what was read, up to the end or to a close, and nothing else.
-    ensures ok { OnOk result ((read : List ℕ) × (replies : List ℕ) × (closed : Bool)
-        × Consumes (R.remaining reader.old) (R.remaining reader.new) read
-        × Appends (W.contents writer.old) (W.contents writer.new) replies
-        × Answers S.may_answer state.old (lines_of read) replies closed state.new
-        × (closed ≡ false → IsAtEnd (R.remaining reader.new))) }
+    ensures ok { OnOk result (Finishes S.may_answer state.old state.new
+        (R.remaining reader.old) (R.remaining reader.new) (W.contents writer.old) (W.contents writer.new)) }
     // The replies to the whole lines of what was read.
-    ensures read_fault { result ≡ Err Fault.Read → (read : List ℕ) × (replies : List ℕ)
-        × Consumes (R.remaining reader.old) (R.remaining reader.new) read
-        × Appends (W.contents writer.old) (W.contents writer.new) replies
-        × Answers S.may_answer state.old (whole_lines read) replies false state.new
-        × (R.has_failed reader.new ⊎ (read_limit ≤ length read)) }
+    ensures read_fault { result ≡ Err Fault.Read → StopsReading S.may_answer state.old state.new
+        (R.remaining reader.old) (R.remaining reader.new) (W.contents writer.old) (W.contents writer.new)
+        × (R.has_failed reader.new ⊎ CountsUp read_limit (R.reads reader.old) (R.reads reader.new)) }
     // The replies but for an end of the last.
-    ensures write_fault { result ≡ Err Fault.Write → (read : List ℕ) × (written : List ℕ)
-        × Consumes (R.remaining reader.old) (R.remaining reader.new) read
-        × Appends (W.contents writer.old) (W.contents writer.new) written
-        × AnswersInPart S.may_answer state.old (lines_of read) written state.new
+    ensures write_fault { result ≡ Err Fault.Write → StopsWriting S.may_answer state.old state.new
+        (R.remaining reader.old) (R.remaining reader.new) (W.contents writer.old) (W.contents writer.new)
         × W.has_failed writer.new }
+    // No fault is passed over.
+    ensures reads { result ≢ Err Fault.Read → R.has_failed reader.new → R.has_failed reader.old }
+    ensures writes { result ≢ Err Fault.Write → W.has_failed writer.new → W.has_failed writer.old }
     ensures memory { result ≡ Err Fault.Memory
         → (reader.new ≡ reader.old) × (writer.new ≡ writer.old) × (state.new ≡ state.old) }
 {

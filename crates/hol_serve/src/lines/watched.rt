@@ -11,17 +11,21 @@ pub struct Watched<T> {
     pub inner: T,
     /// Whether a call of it failed, or took no byte of some.
     pub failed: bool,
+    /// How often it was read, up to 2^64 - 1.
+    pub reads: u64,
 }
 
 impl<T> Watched<T> {
-    /// One that hasn't failed.
+    /// One that hasn't failed and wasn't read.
     pub fn new(inner: T) -> Watched<T>
         ensures inner { result.inner ≡ inner }
         ensures fresh { result.failed ≡ false }
+        ensures unread { result.reads ≡ 0 }
     {
         Watched {
             inner,
             failed: false,
+            reads: 0,
         }
     }
 }
@@ -37,8 +41,11 @@ impl<R: Read> Read for Watched<R> {
 impl<R: Read> Source for Watched<R> {
     ghost has_failed = { λ w. w.failed ≡ true };
 
+    ghost reads = { λ w. w.reads };
+
     fn read_some(&mut self, buffer: &mut [u8]) -> io::Result<usize> {
         let result = self.inner.read(buffer);
+        self.reads = self.reads.saturating_add(1);
         if result.is_err() {
             self.failed = true;
         }

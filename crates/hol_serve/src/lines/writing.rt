@@ -15,13 +15,17 @@ pub fn write_reply<W: Sink>(writer: &mut W, bytes: &[u8]) -> Result<(), WriteFau
     ensures part { OnErr result ((part : List ℕ) × (missing : List ℕ) × (bytes.now ≡ part ++ missing) × (missing ≢ [])
         × Appends (W.contents writer.old) (W.contents writer.new) part) }
     ensures failed { OnErr result (W.has_failed writer.new) }
+    ensures only { OnOk result (W.has_failed writer.new → W.has_failed writer.old) }
 {
     let mut rest = bytes;
     while !rest.is_empty() {
-        match writer.write_some(rest) {
-            Ok(0) | Err(_) => return Err(WriteFault),
-            Ok(count) => rest = &rest[count..],
+        let Ok(count) = writer.write_some(rest) else {
+            return Err(WriteFault);
+        };
+        if count == 0 {
+            return Err(WriteFault);
         }
+        rest = &rest[count..];
     }
     Ok(())
 }

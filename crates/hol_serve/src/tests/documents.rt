@@ -1,6 +1,7 @@
 //! Theories of commands, and what is told of them.
 
-use crate::tests::support::{REFL1_LINES, REFL1_REPLIES, expect_replies};
+use crate::tests::support::{REFL1_LINES, REFL1_REPLIES, expect_replies, reply_to_command};
+use std::fmt::Write;
 use std::test::Fail;
 
 #[test]
@@ -114,4 +115,25 @@ fn tells_of_commands_that_dont_fit(rt: HostRuntime) -> Result<(), Fail> {
 {"arg":"0","ok":true,"refusal":1,"text":"syntax"}
 "#,
     )
+}
+
+// 60 variables of one type with a long name, which is shown at each of them.
+#[test]
+fn tells_of_goals_in_over_65536_bytes(rt: HostRuntime) -> Result<(), Fail> {
+    let name = "A".repeat(rt.alloc(), 1_200)?;
+    let mut command = format!(in rt.alloc(); "g N `(x0:{name}) = x1")?;
+    for k in 2..60u32 {
+        let before = k - 1;
+        write!(command, r" /\\ x{before} = x{k}")?;
+    }
+    command.push_str("`")?;
+    let reply = reply_to_command(rt.alloc(), command.as_str())?;
+    assert!(rt; reply.len() > 65_536);
+    assert!(rt;
+        reply
+            .as_str()
+            .starts_with("{\"goals\":[{\"asl\":[],\"free\":[\"x0:AAAA")
+    );
+    assert!(rt; reply.as_str().ends_with("\"}],\"ok\":true}"));
+    Ok(())
 }

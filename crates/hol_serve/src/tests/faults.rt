@@ -1,83 +1,27 @@
-//! Readers and writers that fail.
+//! Readers and writers that fail, and a client that waits for each reply.
 
 use crate::lines::{Fault, Watched};
 use crate::serving::run;
+use crate::tests::readers::{CountingWriter, FaultyReader, FaultyWriter, WaitingReader};
 use crate::tests::support::{REFL1_LINES, REFL1_REPLIES, no_theories};
 use std::alloc::Global;
-use std::io;
-use std::io::{Read, Write};
+use std::cell::Cell;
 use std::test::Fail;
 
-/// A reader of a text, a byte a read, that fails after some reads.
-#[derive(Drop)]
-struct FailingReader<'t> {
-    text: &'t [u8],
-    reads: usize,
-}
-
-impl Read for FailingReader<'_> {
-    fn read(&mut self, buffer: &mut [u8]) -> io::Result<usize> {
-        if self.reads == 0 {
-            return Err(io::Error::from(io::ErrorKind::Other));
-        }
-        self.reads -= 1;
-        let Some((byte, rest)) = self.text.split_first() else {
-            return Ok(0);
-        };
-        if buffer.is_empty() {
-            return Ok(0);
-        }
-        buffer[0] = *byte;
-        self.text = rest;
-        Ok(1)
-    }
-}
-
-/// A writer that takes some bytes, and then fails or takes none.
-#[derive(Drop)]
-struct FailingWriter {
-    held: Vec<u8>,
-    room: usize,
-    fails: bool,
-}
-
-impl Write for FailingWriter {
-    fn write(&mut self, buffer: &[u8]) -> io::Result<usize> {
-        if self.room == 0 && self.fails {
-            return Err(io::Error::from(io::ErrorKind::Other));
-        }
-        let count = self.room.min(buffer.len());
-        self.held.extend_from_slice(&buffer[..count])?;
-        self.room -= count;
-        Ok(count)
-    }
-
-    fn flush(&mut self) -> io::Result<()> {
-        Ok(())
-    }
-}
-
-/// How a session ends whose reader fails after some reads, and what it wrote.
+// How a session ends whose reader fails once, after some reads, and what it wrote.
 fn with_failing_reader(alloc: Global, reads: usize) -> (Result<(), Fault>, Vec<u8>) {
     let mut docs = no_theories(alloc);
-    let mut reader = Watched::new(FailingReader {
-        text: REFL1_LINES.as_bytes(),
-        reads,
-    });
+    let mut reader = Watched::new(FaultyReader::new(REFL1_LINES.as_bytes(), Some(reads)));
     let mut writer = Watched::new(Vec::new(alloc));
     let outcome = run(alloc, &mut reader, &mut writer, &mut docs);
     (outcome, writer.inner)
 }
 
-/// How a session ends whose writer takes some bytes, and what it wrote.
-fn with_failing_writer(alloc: Global, room: usize, fails: bool) -> (Result<(), Fault>, Vec<u8>) {
+// How a session ends whose writer stops once, after some bytes, and what it wrote.
+fn with_failing_writer(alloc: Global, writer: FaultyWriter) -> (Result<(), Fault>, Vec<u8>) {
     let mut docs = no_theories(alloc);
     let mut reader = Watched::new(REFL1_LINES.as_bytes());
-    let mut writer = Watched::new(FailingWriter {
-        held: Vec::new(alloc),
-        room,
-        fails,
-    });
+    let mut writer = Watched::new(writer);
     let outcome = run(alloc, &mut reader, &mut writer, &mut docs);
     (outcome, writer.inner.held)
 }
@@ -102,8 +46,11 @@ fn answers_the_whole_lines_before_a_failed_read(rt: HostRuntime) -> Result<(), F
 fn stops_at_the_first_byte_that_isnt_taken(rt: HostRuntime) -> Result<(), Fail> {
     let alloc = rt.alloc();
     for room in 0..REFL1_REPLIES.len() {
-        for fails in [true, false] {
-            let (outcome, written) = with_failing_writer(alloc, room, fails);
+        for writer in [
+            FaultyWriter::new(alloc, Some(room)),
+            FaultyWriter::stuck(alloc, room),
+        ] {
+            let (outcome, written) = with_failing_writer(alloc, writer);
             assert_eq!(rt; outcome, Err(Fault::Write));
             assert_eq!(rt;
                 Some(written.as_slice()),
@@ -119,11 +66,7 @@ fn keeps_the_edit_whose_reply_didnt_get_out(rt: HostRuntime) -> Result<(), Fail>
     let alloc = rt.alloc();
     let mut docs = no_theories(alloc);
     let mut reader = Watched::new(REFL1_LINES.as_bytes());
-    let mut writer = Watched::new(FailingWriter {
-        held: Vec::new(alloc),
-        room: 3,
-        fails: true,
-    });
+    let mut writer = Watched::new(FaultyWriter::new(alloc, Some(3)));
     assert_eq!(rt;
         run(alloc, &mut reader, &mut writer, &mut docs),
         Err(Fault::Write)
@@ -135,5 +78,16 @@ fn keeps_the_edit_whose_reply_didnt_get_out(rt: HostRuntime) -> Result<(), Fail>
         replies.inner.as_slice(),
         b"{\"error\":7,\"ok\":false,\"text\":\"position out of range\"}\n".as_slice()
     );
+    Ok(())
+}
+
+#[test]
+fn replies_before_it_reads_on(rt: HostRuntime) -> Result<(), Fail> {
+    let replies = Cell::new(0);
+    let mut docs = no_theories(rt.alloc());
+    let mut reader = Watched::new(WaitingReader::new(REFL1_LINES.as_bytes(), &replies));
+    let mut writer = Watched::new(CountingWriter::new(&replies));
+    run(rt.alloc(), &mut reader, &mut writer, &mut docs)?;
+    assert_eq!(rt; replies.get(), 8);
     Ok(())
 }

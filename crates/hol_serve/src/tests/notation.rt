@@ -147,6 +147,34 @@ fn finds_the_theorems_that_are_cited(rt: HostRuntime) -> Result<(), Fail> {
             r#"{"arg":"NOPE","ok":true,"refusal":5,"text":"unknown theorem"}"#,
         ),
         (
+            "e ACCEPT_TAC (CONJUNCT1 NOPE)",
+            r#"{"arg":"NOPE","ok":true,"refusal":5,"text":"unknown theorem"}"#,
+        ),
+        (
+            "e ACCEPT_TAC (CONJUNCT2 NOPE)",
+            r#"{"arg":"NOPE","ok":true,"refusal":5,"text":"unknown theorem"}"#,
+        ),
+        (
+            "e ACCEPT_TAC (SYM NOPE)",
+            r#"{"arg":"NOPE","ok":true,"refusal":5,"text":"unknown theorem"}"#,
+        ),
+        (
+            "e ACCEPT_TAC (SPEC `p` NOPE)",
+            r#"{"arg":"NOPE","ok":true,"refusal":5,"text":"unknown theorem"}"#,
+        ),
+        (
+            "e ACCEPT_TAC (INST_TYPE [`:A`, `:B`] NOPE)",
+            r#"{"arg":"NOPE","ok":true,"refusal":5,"text":"unknown theorem"}"#,
+        ),
+        (
+            "e ACCEPT_TAC (ASSUME `p`)",
+            r#"{"arg":"ACCEPT_TAC","ok":true,"refusal":6,"text":"unknown TAC or wrong arguments"}"#,
+        ),
+        (
+            "e ACCEPT_TAC (REFL `p`)",
+            r#"{"arg":"ACCEPT_TAC","ok":true,"refusal":6,"text":"unknown TAC or wrong arguments"}"#,
+        ),
+        (
             "e ACCEPT_TAC N",
             r#"{"arg":"ACCEPT_TAC","ok":true,"refusal":6,"text":"unknown TAC or wrong arguments"}"#,
         ),

@@ -1,16 +1,13 @@
-use Rattle.std.proofs.Common.{sym, refl}
-use Rattle.std.proofs.lemmas.Bool.{false≢true}
+use Rattle.std.proofs.Common.{sym, refl, inl, inr}
 use Rattle.hol_serve.specs.Views.{request_text}
 use Rattle.hol_serve.proofs.Machines.{empty_is_no_json, line_no_json, line_no_memory, line_shape, line_served, some_line}
 use Rattle.hol_serve.proofs.answering.answer.Goals as goal
 
 pub returns-in-Err : goal.returns-in-Err
-returns-in-Err c =
-    line_no_memory _ _ c.args.line.now c.memory.result c.requires (some_line c.args.line.now (c.in-Err.ensures.memory (c.if-is_memory.ensures.0 refl))) refl c.memory.ensures
-
-pub returns-in-Err-2 : goal.returns-in-Err-2
-returns-in-Err-2 c =
-    line_no_json _ c.args.line.now c.not_json.result c.requires (c.in-Err.ensures.err (λ m. false≢true (c.if-is_memory.ensures.1 m))) c.not_json.ensures
+returns-in-Err c = elim c.unread_reply.ensures [
+  | inl (memory, says) ↦ line_no_memory _ _ c.args.line.now c.unread_reply.result c.requires (some_line c.args.line.now (c.in-Err.ensures.memory memory)) refl says
+  | inr (other, says) ↦ line_no_json _ c.args.line.now c.unread_reply.result c.requires (c.in-Err.ensures.err other) says
+]
 
 pub returns-in_default : goal.returns-in_default
 returns-in_default c =
@@ -22,4 +19,4 @@ returns-in-Ok-served c =
 
 pub returns : goal.returns
 returns c =
-    line_no_memory _ _ c.args.line.now c.memory-in-Err-served.result c.requires (empty_is_no_json _ _ c.in-Ok.ensures.ok.1) c.in-Err-served.ensures.kept c.memory-in-Err-served.ensures
+    line_no_memory _ _ c.args.line.now c.memory.result c.requires (empty_is_no_json _ _ c.in-Ok.ensures.ok.1) c.in-Err-served.ensures.kept c.memory.ensures
