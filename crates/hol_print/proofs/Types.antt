@@ -1,8 +1,6 @@
 -- Steps of showing types.
-use Rattle.std.proofs.Common.{◌≡◌, ◌≢◌, ℕ, zero, suc, ◌+◌, ◌<◌, ◌≤◌, List, [], ◌∷◌, ◌++◌, length, get_or, drop, refl, ap, sym, ◌∙◌, Bool, true, false, cond, Option, Some, None, unwrap_or, codes, append_assoc, arith, bytes_eq}
+use Rattle.std.proofs.Common.{◌≡◌, ℕ, zero, suc, ◌+◌, ◌<◌, ◌≤◌, List, [], ◌∷◌, ◌++◌, length, get_or, drop, refl, ap, sym, ◌∙◌, Bool, true, false, cond, Option, Some, None, unwrap_or, codes, append_assoc, arith, bytes_eq}
 use Rattle.hol_types.specs.Tree.{TypeTree, TypeList, TyVar, TyApp, no_types, more_types, type_list, type_size, types_size}
-use Rattle.hol_types.specs.Equal.{type_eq}
-use Rattle.hol_types.proofs.OrderLaws.{type_cmp_decides}
 use Rattle.hol_types.specs.Fun.{fun_type, fun_parts, both_of}
 use Rattle.std.proofs.lemmas.Slice.Eq.{bytes_eq-Decides}
 use Rattle.hol_print.specs.ShowType.{in_parentheses, is_function, show_type, show_arguments, show_others}
@@ -99,21 +97,3 @@ rest_size (t ∷ ts) zero = omega arith
 rest_size (t ∷ ts) (suc i) = omega (arith, rest_size ts i)
 
 pub ruleset sizes = (part_size, rest_size)
-
--- the type of propositions is the constructor `bool` without arguments
-pub bool_empty : (c : List ℕ) (ts : List TypeTree) → c ≡ codes "bool" → length ts ≡ 0 → type_eq (TyApp c (type_list ts)) (TyApp (codes "bool") no_types) ≡ true
-bool_empty c [] e h = rw e refl
-bool_empty c (t ∷ ts) e h = absurd (omega arith)
-
-pub bool_applied : (c : List ℕ) (ts : List TypeTree) → c ≡ codes "bool" → 1 ≤ length ts → type_eq (TyApp c (type_list ts)) (TyApp (codes "bool") no_types) ≡ false
-bool_applied c [] e h = absurd (omega arith)
-bool_applied c (t ∷ ts) e h = rw e refl
-
-pub bool_other : (c : List ℕ) (ts : TypeList) → c ≢ codes "bool" → type_eq (TyApp c ts) (TyApp (codes "bool") no_types) ≡ false
-bool_other c ts other = by (type_eq (TyApp c ts) (TyApp (codes "bool") no_types)) refl
-  where
-    by : (b : Bool) → type_eq (TyApp c ts) (TyApp (codes "bool") no_types) ≡ b → b ≡ false
-    by true e = let same : TyApp c ts ≡ TyApp (codes "bool") no_types = (type_cmp_decides (TyApp c ts) (TyApp (codes "bool") no_types)).0 e in absurd (other (cc))
-    by false e = refl
-
-pub ruleset bool_tests = (bool_empty, bool_applied, bool_other)

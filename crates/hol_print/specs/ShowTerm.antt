@@ -1,11 +1,12 @@
 -- The text of a nameless term.
 -- Source: the notation of HOL Light (parser.ml, printer.ml) for the connectives, `=` and the binders; the exact text is this project's.
 use Rattle.std.specs.Prelude.{ℕ, zero, suc, ◌+◌, ◌-◌, List, [], ◌∷◌, ◌++◌, length, codes, Bool, false, cond, ◌&&◌, ◌||◌, nat_lt, bytes_eq, Option, Some, None, is_some, slice_get, unwrap_or}
-use Rattle.hol_types.specs.Tree.{TypeTree, TyApp, no_types}
+use Rattle.hol_types.specs.Tree.{TypeTree}
 use Rattle.hol_types.specs.Fun.{fun_parts}
 use Rattle.hol_types.specs.Equal.{type_eq}
 use Rattle.hol_types.specs.Names.{is_among}
 use Rattle.hol_terms.specs.Nameless.{Nameless, free, bound, fixed, app, lam}
+use Rattle.hol_formulas.specs.Equation.{bool_type}
 use Rattle.hol_print.specs.ShowType.{in_parentheses}
 
 -- ---- The names of bound variables. `env` has the shown names of the enclosing binders, the innermost first.
@@ -36,7 +37,7 @@ shown_name env a b = let names = names_in 1 env b in primed (length names) names
 -- `=` at bool is `<=>`
 abbrev pub first_is_bool : Option (TypeTree × TypeTree) → Bool
 first_is_bool None = false
-first_is_bool (Some p) = type_eq p.0 (TyApp (codes "bool") no_types)
+first_is_bool (Some p) = type_eq p.0 bool_type
 
 abbrev pub symbol : List ℕ → TypeTree → List ℕ
 symbol c s = cond (bytes_eq c (codes "=") && first_is_bool (fun_parts s)) (codes "<=>") c

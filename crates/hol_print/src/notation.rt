@@ -1,10 +1,9 @@
 //! The operators that have a notation.
-ghost use Rattle.std.specs.Prelude.{◌≡◌, codes};
-ghost use Rattle.hol_types.specs.Tree.{TyApp, no_types};
-ghost use Rattle.hol_types.specs.Equal.{type_eq};
+ghost use Rattle.std.specs.Prelude.{◌≡◌};
 ghost use Rattle.hol_print.specs.ShowTerm.{symbol, infix_number, is_not, is_quantifier, is_operator};
 
-use hol_types::{Name, Ty, TyNode};
+use hol_formulas::is_bool;
+use hol_types::{Name, Ty};
 
 /// The text of a constant: `=` at bool is `<=>`.
 pub(crate) fn symbol<'a>(name: &'a Name, ty: &Ty) -> &'a str
@@ -18,24 +17,6 @@ pub(crate) fn symbol<'a>(name: &'a Name, ty: &Ty) -> &'a str
         }
     }
     name.as_str()
-}
-
-#[tactic(auto, using(crate::proofs::Types::bool_tests))]
-fn is_bool(ty: &Ty) -> bool
-    ensures { result ≡ type_eq ty.now (TyApp (codes "bool") no_types) }
-{
-    match ty.node() {
-        TyNode::App(name, args) => {
-            if name.as_str() != "bool" {
-                return false;
-            }
-            match args.as_slice() {
-                [] => true,
-                _ => false,
-            }
-        }
-        TyNode::Var(_) => false,
-    }
 }
 
 /// How strongly an infix binds.
