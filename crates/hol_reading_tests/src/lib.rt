@@ -5,6 +5,12 @@
 #[cfg(test)]
 mod infer_tests;
 #[cfg(test)]
+mod notation_limits_tests;
+#[cfg(test)]
+mod notation_spelling;
+#[cfg(test)]
+mod notation_texts_tests;
+#[cfg(test)]
 mod print_fixtures;
 #[cfg(test)]
 mod print_tests;
