@@ -1,4 +1,5 @@
 //! The rules of the kernel, over the basis without items.
+ghost use Rattle.std.specs.Prelude.{◌≡◌, IfOk};
 
 use crate::failure::Failure;
 use crate::terms::{tower, type_a, variable};
@@ -25,19 +26,48 @@ pub fn rules(alloc: Global, job: &str, height: u32, times: u32) -> Result<u32, F
     }
 }
 
+// The theorem that the term equals itself. The functions that follow say nothing of what the rules promise, so that their loops are cheap to prove.
+fn reflexive(alloc: Global, basis: &Basis, t: &Term) -> Result<Thm, Failure>
+    ensures { IfOk result (λ th. th.basis ≡ basis.now) }
+{
+    Ok(Thm::refl(alloc, basis, t)?)
+}
+
+fn chained(alloc: Global, th: &Thm) -> Result<u32, Failure> {
+    Ok(Thm::trans(alloc, th, th)?.concl().size())
+}
+
+fn combined(alloc: Global, f: &Thm, x: &Thm) -> Result<u32, Failure>
+    requires { f.now.basis ≡ x.now.basis }
+{
+    Ok(Thm::mk_comb(alloc, f, x)?.concl().size())
+}
+
+fn reduced(alloc: Global, basis: &Basis, redex: &Term) -> Result<u32, Failure> {
+    Ok(Thm::beta(alloc, basis, redex)?.concl().size())
+}
+
+fn with_terms(alloc: Global, pairs: &[(Term, Term)], th: &Thm) -> Result<u32, Failure> {
+    Ok(Thm::inst(alloc, pairs, th)?.concl().size())
+}
+
+fn with_types(alloc: Global, pairs: &[(Ty, Name)], th: &Thm) -> Result<u32, Failure> {
+    Ok(Thm::inst_type(alloc, pairs, th)?.concl().size())
+}
+
 fn reflexivity(alloc: Global, basis: &Basis, t: &Term, times: u32) -> Result<u32, Failure> {
     let mut size = 0;
     for _ in 0..times {
-        size = Thm::refl(alloc, basis, t)?.concl().size();
+        size = reflexive(alloc, basis, t)?.concl().size();
     }
     Ok(size)
 }
 
 fn transitivity(alloc: Global, basis: &Basis, t: &Term, times: u32) -> Result<u32, Failure> {
-    let th = Thm::refl(alloc, basis, t)?;
+    let th = reflexive(alloc, basis, t)?;
     let mut size = 0;
     for _ in 0..times {
-        size = Thm::trans(alloc, &th, &th)?.concl().size();
+        size = chained(alloc, &th)?;
     }
     Ok(size)
 }
@@ -45,33 +75,39 @@ fn transitivity(alloc: Global, basis: &Basis, t: &Term, times: u32) -> Result<u3
 fn congruence(alloc: Global, basis: &Basis, t: &Term, times: u32) -> Result<u32, Failure> {
     let a = type_a(alloc)?;
     let f = variable(alloc, "f", &Ty::fun(alloc, &a, &a)?)?;
-    let functions = Thm::refl(alloc, basis, &f)?;
-    let arguments = Thm::refl(alloc, basis, t)?;
+    let functions = reflexive(alloc, basis, &f)?;
+    let arguments = reflexive(alloc, basis, t)?;
     let mut size = 0;
     for _ in 0..times {
-        size = Thm::mk_comb(alloc, &functions, &arguments)?.concl().size();
+        size = combined(alloc, &functions, &arguments)?;
     }
     Ok(size)
 }
 
 fn beta(alloc: Global, basis: &Basis, t: &Term, times: u32) -> Result<u32, Failure> {
-    let x = variable(alloc, "x", &type_a(alloc)?)?;
-    let redex = Term::comb(alloc, &Term::abs(alloc, &x, t)?, &x)?;
+    let redex = own_redex(alloc, t)?;
     let mut size = 0;
     for _ in 0..times {
-        size = Thm::beta(alloc, basis, &redex)?.concl().size();
+        size = reduced(alloc, basis, &redex)?;
     }
     Ok(size)
+}
+
+// `(\x. t) x`.
+fn own_redex(alloc: Global, t: &Term) -> Result<Term, Failure> {
+    let x = variable(alloc, "x", &type_a(alloc)?)?;
+    let function = Term::abs(alloc, &x, t)?;
+    Ok(Term::comb(alloc, &function, &x)?)
 }
 
 fn instance(alloc: Global, basis: &Basis, t: &Term, times: u32) -> Result<u32, Failure> {
     let a = type_a(alloc)?;
     let mut pairs = Vec::new(alloc);
     pairs.push((variable(alloc, "y", &a)?, variable(alloc, "x", &a)?))?;
-    let th = Thm::refl(alloc, basis, t)?;
+    let th = reflexive(alloc, basis, t)?;
     let mut size = 0;
     for _ in 0..times {
-        size = Thm::inst(alloc, &pairs, &th)?.concl().size();
+        size = with_terms(alloc, &pairs, &th)?;
     }
     Ok(size)
 }
@@ -80,10 +116,10 @@ fn type_instance(alloc: Global, basis: &Basis, t: &Term, times: u32) -> Result<u
     let mut pairs = Vec::new(alloc);
     let b = Ty::var(alloc, &Name::new(alloc, "B")?)?;
     pairs.push((b, Name::new(alloc, "A")?))?;
-    let th = Thm::refl(alloc, basis, t)?;
+    let th = reflexive(alloc, basis, t)?;
     let mut size = 0;
     for _ in 0..times {
-        size = Thm::inst_type(alloc, &pairs, &th)?.concl().size();
+        size = with_types(alloc, &pairs, &th)?;
     }
     Ok(size)
 }

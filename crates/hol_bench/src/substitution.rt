@@ -41,6 +41,15 @@ pub fn substitution(alloc: Global, job: &str, size: u32, times: u32) -> Result<u
     }
 }
 
+// The sizes of what substitution gives: these two say nothing of what it promises, so that the loops over them are cheap to prove.
+fn substituted(alloc: Global, pairs: &[(Term, Term)], t: &Term) -> Result<u32, Failure> {
+    Ok(vsubst(alloc, pairs, t)?.size())
+}
+
+fn instantiated(alloc: Global, pairs: &[(Ty, Name)], t: &Term) -> Result<u32, Failure> {
+    Ok(inst(alloc, pairs, t)?.size())
+}
+
 // The term with the new one for a variable of the type A, so many times.
 fn replaced(alloc: Global, t: &Term, name: &str, new: &Term, times: u32) -> Result<u32, Failure> {
     let x = variable(alloc, name, &type_a(alloc)?)?;
@@ -48,7 +57,7 @@ fn replaced(alloc: Global, t: &Term, name: &str, new: &Term, times: u32) -> Resu
     pairs.push((new.copy()?, x))?;
     let mut size = 0;
     for _ in 0..times {
-        size = vsubst(alloc, &pairs, t)?.size();
+        size = substituted(alloc, &pairs, t)?;
     }
     Ok(size)
 }
@@ -60,7 +69,7 @@ fn retyped(alloc: Global, t: &Term, name: &str, times: u32) -> Result<u32, Failu
     pairs.push((b, Name::new(alloc, name)?))?;
     let mut size = 0;
     for _ in 0..times {
-        size = inst(alloc, &pairs, t)?.size();
+        size = instantiated(alloc, &pairs, t)?;
     }
     Ok(size)
 }

@@ -145,6 +145,7 @@ impl Basis {
 }
 
 // The predicate of a theorem `|- P x` without hypotheses.
+#[tactic(auto, using(crate::proofs::TypeDefinitions::listed_hyps))]
 fn predicate_of(th: &Thm) -> Option<Predicate<'_>>
     ensures found { MatchOption result ((p x : Nameless) → IsMembership th.now p x → ⊥) (λ predicate. (x : Nameless) × IsMembership th.now (nameless [] predicate.term.now) x) }
     ensures typed { IfSome result (λ predicate. named_type predicate.term.now ≡ Some (fun_type predicate.domain.now bool_type)) }
