@@ -15,12 +15,12 @@ use hol_notation_terms::{read_definition_quotation, read_quotation, read_type_qu
 use hol_notation_tokens::{SyntaxError, Word};
 use std::alloc::Global;
 
-/// The most arguments that `new_type` gives a type constructor.
+// The most arguments that `new_type` gives a type constructor.
 const MAX_ARITY: usize = 16;
 
 /// A command.
 ///
-/// Answers `Syntax` exactly at the first word with which no command goes on, and `Memory` where memory is short.
+/// Answers `Syntax` exactly at the first word with which no command goes on.
 pub(crate) fn read_words<'a, 't>(
     alloc: Global,
     words: &'a [Word<'t>],
@@ -57,7 +57,7 @@ pub(crate) fn read_words<'a, 't>(
     }
 }
 
-/// A command that declares something.
+// A command that declares something.
 fn read_declaration<'a, 't>(
     alloc: Global,
     words: &'a [Word<'t>],
@@ -100,7 +100,7 @@ fn read_declaration<'a, 't>(
     }
 }
 
-/// The six names of a definition of a type.
+// The six names of a definition of a type.
 fn read_names<'a, 't>(
     alloc: Global,
     words: &'a [Word<'t>],

@@ -1,4 +1,6 @@
 //! Commands as they are written, and their reader: from any text to its command, or to the byte where it fails.
+//!
+//! Calls that answer a `Result` answer its memory error where memory is short, and nowhere else.
 #![tactic(auto)]
 
 mod command;

@@ -9,7 +9,7 @@ use crate::command_reader::read_words;
 use hol_notation_tokens::{SyntaxError, Word, scan};
 use std::alloc::Global;
 
-/// The command that all the words say.
+// The command that all the words say.
 fn read_all(alloc: Global, words: &[Word<'_>], end: usize) -> Result<Command, SyntaxError>
     ensures { IsAnswer end (map seen words.now) result }
 {
@@ -22,9 +22,8 @@ fn read_all(alloc: Global, words: &[Word<'_>], end: usize) -> Result<Command, Sy
 
 /// The command that the text says.
 ///
-/// Answers `Syntax` at the leftmost byte where a byte begins no token, a token is one more than `MAX_TOKENS`, a bracket
-/// would be one more than `MAX_OPEN`, or no command goes on, and at the text's length where the text ends too soon;
-/// and `Memory` where memory is short.
+/// Answers `Syntax` at the leftmost byte where a byte begins no token, a token is one more than `MAX_TOKENS`, a bracket would be one more
+/// than `MAX_OPEN`, or no command goes on, and at the text's length where the text ends too soon.
 pub fn read_command(alloc: Global, text: &str) -> Result<Command, SyntaxError>
     ensures { MatchResult result (λ command. IsRead text.now (Reads command)) (IsSyntaxError text.now) }
 {

@@ -36,7 +36,7 @@ impl Model for TypeDefinition {
 }
 
 impl TypeDefinition {
-    /// The same names. Answers an error where memory is short, and nowhere else.
+    /// The same names.
     pub fn copy(&self, alloc: Global) -> Result<TypeDefinition, AllocError>
         ensures { IfOk result (λ definition. definition ≡ self.now) }
     {

@@ -39,7 +39,7 @@ pub(crate) struct NextWord<'a, 't> {
     pub rest: &'a [Word<'t>],
 }
 
-/// What an identifier is.
+// What an identifier is.
 fn text_word(text: &str) -> CommandWord
     ensures { result ≡ text_word text.now }
 {

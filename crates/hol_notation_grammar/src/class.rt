@@ -25,7 +25,7 @@ pub enum Class {
     Operator,
 }
 
-/// Whether the word is one of those that the grammar of theorems and tactics reserves.
+// Whether the word is one of those that the grammar of theorems and tactics reserves.
 fn is_reserved(text: &str) -> bool
     ensures { result ≡ is_reserved text.now }
 {

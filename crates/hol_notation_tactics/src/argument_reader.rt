@@ -15,7 +15,7 @@ use hol_notation_terms::read_quotation;
 use hol_notation_tokens::{Kind, SyntaxError, Word};
 use std::alloc::Global;
 
-/// What follows a theorem in square brackets: the other theorems, up to the closing bracket.
+// What follows a theorem in square brackets: the other theorems, up to the closing bracket.
 fn read_more_theorems<'a, 't>(
     alloc: Global,
     theorems: Vec<ThmExpr>,
@@ -40,7 +40,7 @@ fn read_more_theorems<'a, 't>(
     }
 }
 
-/// What follows an opening square bracket: theorems, none or more, up to the closing bracket.
+// What follows an opening square bracket: theorems, none or more, up to the closing bracket.
 fn read_theorem_list<'a, 't>(
     alloc: Global,
     words: &'a [Word<'t>],
@@ -61,7 +61,7 @@ fn read_theorem_list<'a, 't>(
     }
 }
 
-/// What follows an opening parenthesis: two terms with a comma between them, or a theorem, up to the closing one.
+// What follows an opening parenthesis: two terms with a comma between them, or a theorem, up to the closing one.
 fn read_group<'a, 't>(
     alloc: Global,
     words: &'a [Word<'t>],
@@ -89,7 +89,7 @@ fn read_group<'a, 't>(
     }
 }
 
-/// An argument of a TAC.
+// An argument of a TAC.
 fn read_argument<'a, 't>(
     alloc: Global,
     words: &'a [Word<'t>],
@@ -124,7 +124,7 @@ fn read_argument<'a, 't>(
     }
 }
 
-/// Whether an argument stands next.
+// Whether an argument stands next.
 fn is_argument_next(words: &[Word<'_>], end: usize) -> bool
     ensures { result ≡ opens_argument (next_lead (map seen words.now)) }
 {

@@ -56,7 +56,7 @@ pub(crate) struct NextWord<'a, 't> {
     pub rest: &'a [Word<'t>],
 }
 
-/// What an identifier is.
+// What an identifier is.
 fn word_lead(text: &str) -> Lead
     ensures { result ≡ word_lead text.now }
 {

@@ -1,4 +1,6 @@
 //! Theorem and tactic expressions as they are written, and their readers.
+//!
+//! Calls that answer a `Result` answer its memory error where memory is short, and nowhere else.
 #![tactic(auto)]
 
 mod argument_reader;

@@ -26,7 +26,7 @@ pub(crate) fn read_pairs<'a, 't>(
     Ok((all, rest))
 }
 
-/// Two quotations of types, with a comma between them.
+// Two quotations of types, with a comma between them.
 fn read_pair<'a, 't>(
     alloc: Global,
     words: &'a [Word<'t>],
@@ -41,7 +41,7 @@ fn read_pair<'a, 't>(
     Ok((TypePair { new_type, old_type }, rest))
 }
 
-/// What follows a pair in square brackets: the other pairs, up to the closing bracket.
+// What follows a pair in square brackets: the other pairs, up to the closing bracket.
 fn read_more_pairs<'a, 't>(
     alloc: Global,
     pairs: Vec<TypePair>,

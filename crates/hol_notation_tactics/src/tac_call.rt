@@ -27,7 +27,7 @@ impl Model for TacCall {
 }
 
 impl TacCall {
-    /// The same call, sharing the nodes of its arguments. Answers an error where memory is short, and nowhere else.
+    /// The same call, sharing the nodes of its arguments.
     pub fn copy(&self, alloc: Global) -> Result<TacCall, AllocError>
         ensures { IfOk result (λ call. call ≡ self.now) }
     {

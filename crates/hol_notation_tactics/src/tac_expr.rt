@@ -72,7 +72,7 @@ impl Model for TacExpr {
 }
 
 impl TacExpr {
-    /// The tactic expression with this top node. Answers an error where memory is short, and nowhere else.
+    /// The tactic expression with this top node.
     pub fn new(alloc: Global, node: TacExprNode) -> Result<TacExpr, AllocError>
         ensures { IfOk result (λ tactic. tactic ≡ tac_of_node node) }
     {
@@ -89,8 +89,6 @@ impl TacExpr {
     }
 
     /// The same tactic expression, sharing its nodes.
-    ///
-    /// Answers an error where memory is short (no count is left for one more copy), and nowhere else.
     pub fn copy(&self) -> Result<TacExpr, AllocError>
         ensures { IfOk result (λ tactic. tactic ≡ self.now) }
     {

@@ -18,7 +18,7 @@ use std::alloc::Global;
 
 /// A tactic expression.
 ///
-/// Answers `Syntax` exactly at the first word with which no tactic expression goes on, and `Memory` where memory is short.
+/// Answers `Syntax` exactly at the first word with which no tactic expression goes on.
 #[cycle(read_tactic)]
 pub fn read_tactic<'a, 't>(
     alloc: Global,
@@ -40,7 +40,7 @@ pub fn read_tactic<'a, 't>(
     }
 }
 
-/// Tactic expressions with `THEN` and `THENL` between them.
+// Tactic expressions with `THEN` and `THENL` between them.
 #[cycle(read_tactic)]
 fn read_sequence<'a, 't>(
     alloc: Global,
@@ -55,7 +55,7 @@ fn read_sequence<'a, 't>(
     Ok((tactic, rest))
 }
 
-/// What `THEN` and `THENL` add to a tactic expression.
+// What `THEN` and `THENL` add to a tactic expression.
 #[cycle(read_tactic)]
 fn read_steps<'a, 't>(
     alloc: Global,
@@ -84,7 +84,7 @@ fn read_steps<'a, 't>(
     }
 }
 
-/// A TAC with its arguments, a tactical with what it takes, or a tactic expression in parentheses.
+// A TAC with its arguments, a tactical with what it takes, or a tactic expression in parentheses.
 #[cycle(read_tactic)]
 fn read_application<'a, 't>(
     alloc: Global,
@@ -122,7 +122,7 @@ fn read_application<'a, 't>(
     }
 }
 
-/// A tactical that takes one tactic expression, or theorem tactics.
+// A tactical that takes one tactic expression, or theorem tactics.
 #[cycle(read_tactic)]
 fn read_modified<'a, 't>(
     alloc: Global,
@@ -159,7 +159,7 @@ fn read_modified<'a, 't>(
     }
 }
 
-/// A TAC without arguments, or a tactic expression in parentheses.
+// A TAC without arguments, or a tactic expression in parentheses.
 #[cycle(read_tactic)]
 fn read_atom<'a, 't>(
     alloc: Global,
@@ -186,7 +186,7 @@ fn read_atom<'a, 't>(
     }
 }
 
-/// Tactic expressions in square brackets, none or more.
+// Tactic expressions in square brackets, none or more.
 #[cycle(read_tactic)]
 fn read_tactics<'a, 't>(
     alloc: Global,
@@ -201,7 +201,7 @@ fn read_tactics<'a, 't>(
     Ok((tactics, rest))
 }
 
-/// What follows an opening square bracket, up to the closing one.
+// What follows an opening square bracket, up to the closing one.
 #[cycle(read_tactic)]
 fn read_tactic_list<'a, 't>(
     alloc: Global,
@@ -223,7 +223,7 @@ fn read_tactic_list<'a, 't>(
     }
 }
 
-/// What follows a tactic expression in square brackets: the others, up to the closing bracket.
+// What follows a tactic expression in square brackets: the others, up to the closing bracket.
 #[cycle(read_tactic)]
 fn read_more_tactics<'a, 't>(
     alloc: Global,

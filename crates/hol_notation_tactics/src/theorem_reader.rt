@@ -16,7 +16,7 @@ use std::alloc::Global;
 
 /// A theorem expression.
 ///
-/// Answers `Syntax` exactly at the first word with which no theorem expression goes on, and `Memory` where memory is short.
+/// Answers `Syntax` exactly at the first word with which no theorem expression goes on.
 #[cycle(read_theorem)]
 pub fn read_theorem<'a, 't>(
     alloc: Global,
@@ -55,7 +55,7 @@ pub fn read_theorem<'a, 't>(
     }
 }
 
-/// A theorem expression that begins with no quotation: a rule that takes theorems alone, or none.
+// A theorem expression that begins with no quotation: a rule that takes theorems alone, or none.
 #[cycle(read_theorem)]
 fn read_derived<'a, 't>(
     alloc: Global,
@@ -92,7 +92,7 @@ fn read_derived<'a, 't>(
     }
 }
 
-/// A theorem's name, or a theorem expression in parentheses.
+// A theorem's name, or a theorem expression in parentheses.
 #[cycle(read_theorem)]
 fn read_simple<'a, 't>(
     alloc: Global,

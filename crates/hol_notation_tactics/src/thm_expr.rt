@@ -60,7 +60,7 @@ impl Model for ThmExpr {
 }
 
 impl ThmExpr {
-    /// The theorem expression with this top node. Answers an error where memory is short, and nowhere else.
+    /// The theorem expression with this top node.
     pub fn new(alloc: Global, node: ThmExprNode) -> Result<ThmExpr, AllocError>
         ensures { IfOk result (λ theorem. theorem ≡ thm_of_node node) }
     {
@@ -77,8 +77,6 @@ impl ThmExpr {
     }
 
     /// The same theorem expression, sharing its nodes.
-    ///
-    /// Answers an error where memory is short (no count is left for one more copy), and nowhere else.
     pub fn copy(&self) -> Result<ThmExpr, AllocError>
         ensures { IfOk result (λ theorem. theorem ≡ self.now) }
     {

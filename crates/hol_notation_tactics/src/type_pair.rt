@@ -27,8 +27,6 @@ impl Model for TypePair {
 
 impl TypePair {
     /// The same pair, sharing the nodes of its types.
-    ///
-    /// Answers an error where memory is short (no count is left for one more copy), and nowhere else.
     pub fn copy(&self) -> Result<TypePair, AllocError>
         ensures { IfOk result (λ pair. pair ≡ self.now) }
     {

@@ -44,8 +44,6 @@ impl Model for RightSide {
 
 impl RightSide {
     /// The same right side, sharing the nodes of its type and term.
-    ///
-    /// Answers an error where memory is short (no count is left for one more copy), and nowhere else.
     pub fn copy(&self) -> Result<RightSide, AllocError>
         ensures { IfOk result (λ right. right ≡ self.now) }
     {
@@ -83,8 +81,7 @@ impl Model for Definition {
 }
 
 impl Definition {
-    /// The same definition, sharing the nodes of its types and its term. Answers an error where memory is short, and
-    /// nowhere else.
+    /// The same definition, sharing the nodes of its types and its term.
     pub fn copy(&self, alloc: Global) -> Result<Definition, AllocError>
         ensures { IfOk result (λ definition. definition ≡ self.now) }
     {
@@ -107,7 +104,7 @@ impl Definition {
     }
 }
 
-/// The same variables.
+// The same variables.
 fn copies(alloc: Global, variables: &[PreVariable]) -> Result<Vec<PreVariable>, AllocError>
     ensures { IfOk result (λ copied. copied.items ≡ variables.now) }
 {

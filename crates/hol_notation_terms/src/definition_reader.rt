@@ -20,8 +20,8 @@ use std::alloc::Global;
 
 /// A definition between backquotes: a constant's name, its parameters, and after `=` or `<=>` what it is to be equal to.
 ///
-/// Answers `Syntax` exactly at the first word with which no definition goes on, which may be an identifier that is the
-/// constant's name or an earlier parameter's, and `Memory` where memory is short.
+/// Answers `Syntax` exactly at the first word with which no definition goes on, which may be an identifier that is the constant's name or
+/// an earlier parameter's.
 pub fn read_definition_quotation<'a, 't>(
     alloc: Global,
     words: &'a [Word<'t>],
@@ -47,7 +47,7 @@ pub fn read_definition_quotation<'a, 't>(
     ))
 }
 
-/// The parameters that follow those before them, and the right side.
+// The parameters that follow those before them, and the right side.
 fn read_parameters<'a, 't>(
     alloc: Global,
     constant: &str,
@@ -87,7 +87,7 @@ fn read_parameters<'a, 't>(
     }
 }
 
-/// The next word, where it is an identifier that is neither the constant's name nor an earlier parameter's.
+// The next word, where it is an identifier that is neither the constant's name nor an earlier parameter's.
 fn expect_parameter<'a, 't>(
     constant: &str,
     before: &[PreVariable],
@@ -105,14 +105,14 @@ fn expect_parameter<'a, 't>(
     }
 }
 
-/// Whether the name is the constant's or a parameter's.
+// Whether the name is the constant's or a parameter's.
 fn is_taken(constant: &str, parameters: &[PreVariable], name: &str) -> bool
     ensures { result ≡ is_among (taken_names constant.now parameters.now) name.now }
 {
     name == constant || is_parameter(parameters, name)
 }
 
-/// Whether a parameter has the name.
+// Whether a parameter has the name.
 fn is_parameter(parameters: &[PreVariable], name: &str) -> bool
     ensures { result ≡ list_any (λ parameter. bytes_eq name.now parameter.name) parameters.now }
 {
@@ -121,7 +121,7 @@ fn is_parameter(parameters: &[PreVariable], name: &str) -> bool
         .any(|parameter| name == parameter.name.as_str())
 }
 
-/// The type that is written for a right side, if one is, and the right side.
+// The type that is written for a right side, if one is, and the right side.
 fn read_right_side<'a, 't>(
     alloc: Global,
     words: &'a [Word<'t>],
@@ -143,7 +143,7 @@ fn read_right_side<'a, 't>(
     }
 }
 
-/// The sign and the term of a right side, and the backquote that ends the definition.
+// The sign and the term of a right side, and the backquote that ends the definition.
 fn read_equation<'a, 't>(
     alloc: Global,
     annotation: Option<PreType>,

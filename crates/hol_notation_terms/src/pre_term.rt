@@ -55,7 +55,7 @@ impl Model for PreTerm {
 }
 
 impl PreTerm {
-    /// The term with this top node. Answers an error where memory is short, and nowhere else.
+    /// The term with this top node.
     pub fn new(alloc: Global, node: PreTermNode) -> Result<PreTerm, AllocError>
         ensures { IfOk result (λ term. term ≡ term_of_node node) }
     {
@@ -72,8 +72,6 @@ impl PreTerm {
     }
 
     /// The same term, sharing its nodes.
-    ///
-    /// Answers an error where memory is short (no count is left for one more copy), and nowhere else.
     pub fn copy(&self) -> Result<PreTerm, AllocError>
         ensures { IfOk result (λ term. term ≡ self.now) }
     {

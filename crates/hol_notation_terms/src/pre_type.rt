@@ -46,7 +46,7 @@ impl Model for PreType {
 }
 
 impl PreType {
-    /// The type with this top node. Answers an error where memory is short, and nowhere else.
+    /// The type with this top node.
     pub fn new(alloc: Global, node: PreTypeNode) -> Result<PreType, AllocError>
         ensures { IfOk result (λ ty. ty ≡ type_of_node node) }
     {
@@ -63,8 +63,6 @@ impl PreType {
     }
 
     /// The same type, sharing its nodes.
-    ///
-    /// Answers an error where memory is short (no count is left for one more copy), and nowhere else.
     pub fn copy(&self) -> Result<PreType, AllocError>
         ensures { IfOk result (λ ty. ty ≡ self.now) }
     {

@@ -27,7 +27,7 @@ impl Model for PreVariable {
 }
 
 impl PreVariable {
-    /// The same variable. Answers an error where memory is short, and nowhere else.
+    /// The same variable.
     pub fn copy(&self, alloc: Global) -> Result<PreVariable, AllocError>
         ensures { IfOk result (λ variable. variable ≡ self.now) }
     {

@@ -37,8 +37,6 @@ impl Model for Quotation {
 
 impl Quotation {
     /// The same quotation, sharing the nodes of its term.
-    ///
-    /// Answers an error where memory is short (no count is left for one more copy), and nowhere else.
     pub fn copy(&self) -> Result<Quotation, AllocError>
         ensures { IfOk result (λ quotation. quotation ≡ self.now) }
     {
@@ -69,8 +67,6 @@ impl Model for TypeQuotation {
 
 impl TypeQuotation {
     /// The same quotation, sharing the nodes of its type.
-    ///
-    /// Answers an error where memory is short (no count is left for one more copy), and nowhere else.
     pub fn copy(&self) -> Result<TypeQuotation, AllocError>
         ensures { IfOk result (λ quotation. quotation ≡ self.now) }
     {

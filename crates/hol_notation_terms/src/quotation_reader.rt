@@ -12,7 +12,7 @@ use std::alloc::Global;
 
 /// A term between backquotes.
 ///
-/// Answers `Syntax` exactly at the first word with which no such quotation goes on, and `Memory` where memory is short.
+/// Answers `Syntax` exactly at the first word with which no such quotation goes on.
 pub fn read_quotation<'a, 't>(
     alloc: Global,
     words: &'a [Word<'t>],
@@ -30,7 +30,7 @@ pub fn read_quotation<'a, 't>(
 
 /// A type between backquotes, with a colon before it.
 ///
-/// Answers `Syntax` exactly at the first word with which no such quotation goes on, and `Memory` where memory is short.
+/// Answers `Syntax` exactly at the first word with which no such quotation goes on.
 pub fn read_type_quotation<'a, 't>(
     alloc: Global,
     words: &'a [Word<'t>],

@@ -20,7 +20,7 @@ use hol_notation_grammar::{Class, accept, expect, is_infix};
 use hol_notation_tokens::{Kind, SyntaxError, Word};
 use std::alloc::{AllocError, Global};
 
-/// The infix of a level, the tightest first.
+// The infix of a level, the tightest first.
 fn infix_at(level: usize) -> Kind
     ensures { result ≡ infix_at level }
 {
@@ -33,7 +33,7 @@ fn infix_at(level: usize) -> Kind
     }
 }
 
-/// The constant of a symbol.
+// The constant of a symbol.
 fn operator_of(kind: Kind) -> Operator
     ensures { result ≡ operator_of kind }
 {
@@ -57,7 +57,7 @@ fn constant(alloc: Global, kind: Kind) -> Result<PreTerm, AllocError>
     PreTerm::new(alloc, PreTermNode::Operator(operator_of(kind)))
 }
 
-/// An infix between two terms.
+// An infix between two terms.
 fn infixed(alloc: Global, kind: Kind, left: PreTerm, right: PreTerm) -> Result<PreTerm, AllocError>
     ensures { IfOk result (λ t. t ≡ infix_value kind left right) }
 {
@@ -65,7 +65,7 @@ fn infixed(alloc: Global, kind: Kind, left: PreTerm, right: PreTerm) -> Result<P
     PreTerm::new(alloc, PreTermNode::Apply(function, right))
 }
 
-/// A variable bound by a binder.
+// A variable bound by a binder.
 fn bind(
     alloc: Global,
     binder: Kind,
@@ -86,7 +86,7 @@ fn bind(
 
 /// A term.
 ///
-/// Answers `Syntax` exactly at the first word with which no term goes on, and `Memory` where memory is short.
+/// Answers `Syntax` exactly at the first word with which no term goes on.
 pub fn read_term<'a, 't>(
     alloc: Global,
     words: &'a [Word<'t>],
@@ -126,7 +126,7 @@ pub(crate) fn read_level<'a, 't>(
     }
 }
 
-/// A term without infix.
+// A term without infix.
 #[cycle(read_level)]
 fn read_unary<'a, 't>(
     alloc: Global,
@@ -155,7 +155,7 @@ fn read_unary<'a, 't>(
     }
 }
 
-/// A function with its arguments, and the type that is written after it.
+// A function with its arguments, and the type that is written after it.
 #[cycle(read_level)]
 fn read_typed<'a, 't>(
     alloc: Global,
@@ -176,7 +176,7 @@ fn read_typed<'a, 't>(
     }
 }
 
-/// A function applied to the arguments that follow.
+// A function applied to the arguments that follow.
 #[cycle(read_level)]
 fn read_arguments<'a, 't>(
     alloc: Global,
@@ -197,7 +197,7 @@ fn read_arguments<'a, 't>(
     }
 }
 
-/// Whether the next word begins an atom.
+// Whether the next word begins an atom.
 fn begins_atom(words: &[Word<'_>]) -> bool
     ensures { result ≡ next_opens an_arguments (map seen words.now) }
 {
@@ -207,7 +207,7 @@ fn begins_atom(words: &[Word<'_>]) -> bool
     }
 }
 
-/// An identifier, or what stands in parentheses.
+// An identifier, or what stands in parentheses.
 #[cycle(read_level)]
 fn read_atom<'a, 't>(
     alloc: Global,
@@ -230,7 +230,7 @@ fn read_atom<'a, 't>(
     }
 }
 
-/// What follows an open parenthesis: a constant that has a notation, or a term.
+// What follows an open parenthesis: a constant that has a notation, or a term.
 #[cycle(read_level)]
 fn read_inside<'a, 't>(
     alloc: Global,
@@ -249,7 +249,7 @@ fn read_inside<'a, 't>(
     }
 }
 
-/// The constant that stands alone before a closing parenthesis, if one does.
+// The constant that stands alone before a closing parenthesis, if one does.
 fn operator_in<'a, 't>(
     words: &'a [Word<'t>],
     end: usize,
@@ -272,7 +272,7 @@ fn operator_in<'a, 't>(
     }
 }
 
-/// A term, and the parenthesis that closes it.
+// A term, and the parenthesis that closes it.
 #[cycle(read_level)]
 fn read_closed<'a, 't>(
     alloc: Global,
@@ -287,7 +287,7 @@ fn read_closed<'a, 't>(
     Ok((term, rest))
 }
 
-/// The variables that a binder binds, and the body.
+// The variables that a binder binds, and the body.
 #[cycle(read_level)]
 fn read_bound<'a, 't>(
     alloc: Global,
@@ -311,7 +311,7 @@ fn read_bound<'a, 't>(
     }
 }
 
-/// A variable in parentheses, with its type.
+// A variable in parentheses, with its type.
 fn read_variable<'a, 't>(
     alloc: Global,
     words: &'a [Word<'t>],
@@ -343,7 +343,7 @@ pub(crate) fn read_ascription<'a, 't>(
     Ok((ty, rest))
 }
 
-/// What follows a variable that a binder binds: its type and the body, the body, or more variables.
+// What follows a variable that a binder binds: its type and the body, the body, or more variables.
 #[cycle(read_level)]
 fn read_after_name<'a, 't>(
     alloc: Global,
@@ -379,7 +379,7 @@ fn read_after_name<'a, 't>(
     }
 }
 
-/// What follows a variable with its type: the body, or more variables.
+// What follows a variable with its type: the body, or more variables.
 #[cycle(read_level)]
 fn read_after_bound<'a, 't>(
     alloc: Global,

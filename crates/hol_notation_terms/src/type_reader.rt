@@ -14,7 +14,7 @@ use std::alloc::{AllocError, Global};
 
 /// A type.
 ///
-/// Answers `Syntax` exactly at the first word with which no type goes on, and `Memory` where memory is short.
+/// Answers `Syntax` exactly at the first word with which no type goes on.
 #[cycle(read_type)]
 pub fn read_type<'a, 't>(
     alloc: Global,
@@ -34,7 +34,7 @@ pub fn read_type<'a, 't>(
     }
 }
 
-/// A type whose outermost part is no arrow.
+// A type whose outermost part is no arrow.
 #[cycle(read_type)]
 fn read_applied<'a, 't>(
     alloc: Global,
@@ -62,7 +62,7 @@ fn read_applied<'a, 't>(
     }
 }
 
-/// What follows the first type in parentheses.
+// What follows the first type in parentheses.
 #[cycle(read_type)]
 fn read_type_list<'a, 't>(
     alloc: Global,
@@ -90,7 +90,7 @@ fn read_type_list<'a, 't>(
     }
 }
 
-/// What follows two or more types in parentheses.
+// What follows two or more types in parentheses.
 #[cycle(read_type)]
 fn read_type_rest<'a, 't>(
     alloc: Global,
@@ -120,7 +120,7 @@ fn read_type_rest<'a, 't>(
     }
 }
 
-/// The constructors that are written after a type, applied to it.
+// The constructors that are written after a type, applied to it.
 fn read_postfix<'a, 't>(
     alloc: Global,
     first: PreType,
