@@ -3,10 +3,13 @@
 
 #[cfg(test)]
 mod basis_tests;
+pub mod chains;
 #[cfg(test)]
 mod define_tests;
 #[cfg(test)]
 mod fixtures;
+#[cfg(test)]
+mod formulas_tests;
 #[cfg(test)]
 mod given_tests;
 #[cfg(test)]
