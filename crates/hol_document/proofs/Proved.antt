@@ -7,6 +7,7 @@ use Rattle.hol_kernel.specs.Items.{Items, no_items}
 use Rattle.hol_formulas.specs.Equation.{equation}
 use Rattle.hol_kernel.specs.Legal.{IsLegalSet}
 use Rattle.hol_kernel.specs.Derivation.{by_refl}
+use Rattle.hol_kernel.specs.Sequent.{no_hyps, sequent_of}
 use Rattle.hol_kernel.specs.Theorem.{IsTheorem}
 use Rattle.hol_kernel.proofs.Sound.{trans_sound}
 use Rattle.hol_notation_terms.specs.Text.{QuotationText}
@@ -44,7 +45,7 @@ reflexive_theorem basis t e h =
     let j = joins basis t h.left h.right h h.equates in
     record {
       legal = rw e no_items_legal;
-      derives = trans_sound (proved basis (equation j.ty h.left h.left)) (proved basis (equation j.ty h.right h.right)) (proved basis t) refl (by_refl h.left j.ty j.left) (by_refl h.right j.ty j.right) j.gives;
+      derives = trans_sound basis (sequent_of no_hyps (equation j.ty h.left h.left)) (sequent_of no_hyps (equation j.ty h.right h.right)) (sequent_of no_hyps t) (by_refl h.left j.ty j.left) (by_refl h.right j.ty j.right) j.gives;
     }
 
 -- ---- more commands
@@ -66,7 +67,7 @@ goal_more texts text name t h = record {
 all_more : (texts : List (List ℕ)) (text : List ℕ) (es : List EntryValue) → AllProved texts es → AllProved (texts ++ text ∷ []) es
 all_more texts text [] h = tt
 all_more texts text (e ∷ es) h =
-    (record { derived = h.0.derived; on_prelude = h.0.on_prelude; without_hypotheses = h.0.without_hypotheses; goal = goal_more texts text e.name e.theorem.concl h.0.goal }, all_more texts text es h.1)
+    (record { derived = h.0.derived; on_prelude = h.0.on_prelude; without_hypotheses = h.0.without_hypotheses; goal = goal_more texts text e.name e.theorem.sequent.concl h.0.goal }, all_more texts text es h.1)
 
 all_append : (texts : List (List ℕ)) (es fs : List EntryValue) → AllProved texts es → AllProved texts fs → AllProved texts (es ++ fs)
 all_append texts [] fs h k = k

@@ -34,8 +34,8 @@ pub record IsGoalOf (commands : List (List ℕ)) (name : List ℕ) (statement : 
 pub record IsProved (commands : List (List ℕ)) (e : EntryValue) : Type 0 where
   pub derived : IsTheorem e.theorem
   pub on_prelude : e.theorem.basis ≡ no_items
-  pub without_hypotheses : e.theorem.hyps ≡ no_hyps
-  pub goal : IsGoalOf commands e.name e.theorem.concl
+  pub without_hypotheses : e.theorem.sequent.hyps ≡ no_hyps
+  pub goal : IsGoalOf commands e.name e.theorem.sequent.concl
 
 abbrev pub AllProved : List (List ℕ) → List EntryValue → Type 0
 AllProved commands [] = Unit {0}

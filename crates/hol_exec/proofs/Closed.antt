@@ -15,13 +15,13 @@ use Rattle.hol_kernel.specs.declared.error.Rule.{Rule}
 use Rattle.hol_kernel.specs.declared.error.Rule.TheVariants.{Trans}
 use Rattle.hol_kernel.specs.declared.error.KernelError.{KernelError}
 use Rattle.hol_kernel.specs.declared.error.KernelError.TheVariants.{Refused}
-use Rattle.hol_kernel.specs.Gives.{Gives}
+use Rattle.hol_kernel.specs.Gives.{Gives, in_kernel}
 use Rattle.hol_kernel.specs.Items.{Items}
-use Rattle.hol_kernel.specs.Sequent.{no_hyps}
+use Rattle.hol_kernel.specs.Sequent.{no_hyps, sequent_of}
 use Rattle.hol_formulas.specs.Equation.{bool_type, equality_type, equation}
 use Rattle.hol_kernel.specs.Rules.{trans_sides, trans_of}
-use Rattle.hol_formulas.specs.Equation.{sides_of}
-use Rattle.hol_kernel.specs.Theorem.{Theorem, theorem_over}
+use Rattle.hol_formulas.specs.Equation.{dest_eq}
+use Rattle.hol_kernel.specs.Theorem.{Theorem, theorem_over, over}
 use Rattle.hol_kernel.specs.Typing.{is_known, type_over, HasType}
 use Rattle.hol_kernel.proofs.HypothesisLists.{hyps_total, hyps_same}
 use Rattle.hol_kernel.proofs.SortedSets.{union_none_left}
@@ -107,7 +107,7 @@ are_sides basis t l r h e =
 type_same : (a : TypeTree) → type_eq a a ≡ true
 type_same a = (type_cmp_decides a a).1 refl
 
-equation_sides : (a : TypeTree) (l r : Nameless) → sides_of (equation a l r) ≡ Some (record { sides_type = a; left = l; right = r })
+equation_sides : (a : TypeTree) (l r : Nameless) → dest_eq (equation a l r) ≡ Some (record { sides_type = a; left = l; right = r })
 equation_sides a l r = rw (type_same (equality_type a)) refl
 
 -- what a reflexive statement says of the sides that are found in it
@@ -115,7 +115,7 @@ pub record Joins (basis : Items) (t l r : Nameless) : Type 0 where
   pub ty : TypeTree
   pub left : type_over basis l ≡ Some ty
   pub right : type_over basis r ≡ Some ty
-  pub gives : trans_of (proved basis (equation ty l l)) (proved basis (equation ty r r)) ≡ Some (proved basis t)
+  pub gives : trans_of (sequent_of no_hyps (equation ty l l)) (sequent_of no_hyps (equation ty r r)) ≡ Some (sequent_of no_hyps t)
 
 pub joins : (basis : Items) (t l r : Nameless) → IsReflexive basis t → sides t ≡ Some (l, r) → Joins basis t l r
 joins basis t l r h e =
@@ -126,9 +126,9 @@ joins basis t l r h e =
       left = s.left;
       right = s.right;
       gives =
-          (λ i. trans_sides basis (set.union no_hyps no_hyps) (equation_sides s.ty l l i) (equation_sides s.ty r r i))
-          ∙ (λ i. cond (same i) (Some (theorem_over basis (union_none_left hyps_total hyps_same no_hyps i) (equation s.ty l r))) None)
-          ∙ (λ i. Some (theorem_over basis no_hyps (sym s.is i)));
+          (λ i. trans_sides (set.union no_hyps no_hyps) (equation_sides s.ty l l i) (equation_sides s.ty r r i))
+          ∙ (λ i. cond (same i) (Some (sequent_of (union_none_left hyps_total hyps_same no_hyps i) (equation s.ty l r))) None)
+          ∙ (λ i. Some (sequent_of no_hyps (sym s.is i)));
     }
 
 -- ---- as the sides are found: the theorems of their reflexivity
@@ -161,11 +161,11 @@ one_basis basis one two t l r first second h e p q m n =
     ap (λ th. th.basis) b.left ∙ sym (ap (λ th. th.basis) b.right)
 
 pub gives_statement : (basis one two : Items) (t l r : Nameless) (first second : Theorem) → IsReflexive basis t → sides t ≡ Some (l, r) → one ≡ basis → two ≡ basis →
-    IfSome (type_over one l) (λ a. first ≡ proved one (equation a l l)) → IfSome (type_over two r) (λ a. second ≡ proved two (equation a r r)) → trans_of first second ≡ Some (proved basis t)
+    IfSome (type_over one l) (λ a. first ≡ proved one (equation a l l)) → IfSome (type_over two r) (λ a. second ≡ proved two (equation a r r)) → over first.basis (trans_of first.sequent second.sequent) ≡ Some (proved basis t)
 gives_statement basis one two t l r first second h e p q m n =
     let b : AreReflexive basis t l r first second = both_reflexive basis one two t l r first second h e p q m n in
-    (λ i. trans_of (b.left i) (b.right i)) ∙ b.joins.gives
+    (λ i. over (b.left i).basis (trans_of (b.left i).sequent (b.right i).sequent)) ∙ ap (over basis) b.joins.gives
 
 -- a refusal says that nothing is given
-pub refused_none : (expected : Option Theorem) (e : KernelError) (r : Rule) → e ≡ Refused r → Gives Trans expected (Err e) → expected ≡ None
+pub refused_none : (expected : Option Theorem) (e : KernelError) (r : Rule) → e ≡ Refused r → Gives in_kernel Trans expected (Err e) → expected ≡ None
 refused_none expected e r f h = let g : (r ≡ Trans) × (expected ≡ None) = rw f at h in g.1

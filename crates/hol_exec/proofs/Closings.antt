@@ -1,5 +1,5 @@
 -- A proof without open goals is closed by reflexivity.
-use Rattle.std.specs.Prelude.{◌≡◌, ◌⊎◌, List, [], ◌∷◌, length, Result, Ok, IfOk}
+use Rattle.std.specs.Prelude.{◌≡◌, ◌⊎◌, List, [], ◌∷◌, length}
 use Rattle.std.proofs.Common.{ap, ◌∙◌, arith, inl, inr}
 use Rattle.hol_terms.specs.Nameless.{Nameless}
 use Rattle.hol_kernel.specs.Items.{Items}
@@ -13,7 +13,3 @@ closes_where_none p h goals basis t e f g none = by h.goals
     by : ((p.newest.goals ≡ record { assumptions = []; conclusion = p.statement } ∷ []) ⊎ ((p.newest.goals ≡ []) × IsReflexive p.newest.basis p.statement)) → IsReflexive basis t
     by (inl one) = absurd (omega (ap length (e ∙ one), none, arith))
     by (inr closed) = rw (f, g) closed.1
-
--- an answer that is known to be right
-pub copied : {A E : Type 0} (outcome : Result A E) (t u : A) → outcome ≡ Ok t → IfOk outcome (λ s. s ≡ u) → t ≡ u
-copied outcome t u e h = rw e at h

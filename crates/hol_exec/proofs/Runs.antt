@@ -1,5 +1,10 @@
 -- A text that is a command without a body is refused at its first word.
-use Rattle.std.specs.Prelude.{◌≡◌, ◌≤◌, ◌+◌, ℕ, List, length, not, true, false, refl}
+use Rattle.std.specs.Prelude.{◌≡◌, ◌≤◌, ◌+◌, ℕ, List, Bool, length, not, true, false, refl}
+use Rattle.hol_terms.specs.Nameless.{Nameless}
+use Rattle.hol_notation_terms.specs.Text.{QuotationText}
+use Rattle.hol_exec.specs.Reading.{Statement, IsReadAs}
+use Rattle.hol_exec.specs.OutcomeValue.{OutcomeValue}
+use Rattle.hol_exec.specs.Local.{IsOpening, opens}
 use Rattle.std.proofs.Common.{ap, arith, inl, inr}
 use Rattle.std.proofs.lemmas.List.{drop_all}
 use Rattle.hol_notation_tokens.specs.Token.{skip}
@@ -35,3 +40,8 @@ bracket_past text e =
     let place : ℕ = skip text (first_word text + 1) in
     let beyond : length text ≤ place = omega (e, arith) in
     ap begins_with_bracket (drop_all place text beyond)
+
+-- a quotation that reads as a statement opens it
+pub opens_statement : (in_proof taken : Bool) (name : List ℕ) (q : QuotationText) (p : Nameless) (outcome : OutcomeValue) →
+    in_proof ≡ false → IsReadAs q.term (Statement p) → outcome ≡ opens name taken p → IsOpening in_proof name q taken outcome
+opens_statement in_proof taken name q p outcome e h f = rw e (Statement p, h, f)

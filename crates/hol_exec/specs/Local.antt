@@ -4,7 +4,7 @@ use Rattle.std.specs.Prelude.{◌≡◌, ℕ, List, [], ◌∷◌, ◌++◌, cod
 use Rattle.hol_terms.specs.Nameless.{Nameless}
 use Rattle.hol_kernel.specs.Items.{Items, no_items}
 use Rattle.hol_kernel.specs.Sequent.{no_hyps}
-use Rattle.hol_kernel.specs.Theorem.{Theorem}
+use Rattle.hol_kernel.specs.Theorem.{Theorem, theorem_over}
 use Rattle.hol_notation_terms.specs.Text.{QuotationText}
 use Rattle.hol_notation_tactics.specs.Text.{CallText, TacText, Call}
 use Rattle.hol_notation_commands.specs.Text.{CommandText, Goal, Apply, Qed}
@@ -76,7 +76,7 @@ runs_call call reads = cond reads.in_proof (runs_citing (first_unknown reads.the
 
 -- the theorem of a statement without hypotheses
 abbrev pub proved : Items → Nameless → Theorem
-proved basis statement = record { basis = basis; hyps = no_hyps; concl = statement }
+proved basis statement = theorem_over basis no_hyps statement
 
 -- the theorem is the statement of the `g`, without hypotheses, on the proof's basis
 abbrev pub finishes : Option ClosingValue → OutcomeValue

@@ -22,7 +22,7 @@ theorem_text p = codes "|- " ++ show p
 
 -- `thm N |- p`
 abbrev pub entry_text : EntryValue → List ℕ
-entry_text e = codes "thm " ++ e.name ++ codes " " ++ theorem_text e.theorem.concl
+entry_text e = codes "thm " ++ e.name ++ codes " " ++ theorem_text e.theorem.sequent.concl
 
 abbrev pub open_goals : Option ProofValue → List GoalValue
 open_goals None = []

@@ -1,14 +1,13 @@
 //! The theorems that a call of a TAC cites.
 ghost use Rattle.std.specs.Prelude.{◌≡◌, ◌++◌, IfOk, OnOk, map, string_bytes};
-ghost use Rattle.hol_notation_tactics.specs.CallView.{argument_text};
 ghost use Rattle.hol_exec.specs.Cited.{cited, cited_in, cited_in_all, cited_by};
 
-use hol_notation_tactics::{TacArg, ThmExpr, ThmExprNode};
+use hol_notation_tactics::{TacArg, TacArgNode, ThmExpr, ThmExprNode};
 use std::alloc::{AllocError, Global};
 
 /// The names of the theorems that the arguments cite, from left to right.
 pub fn cited_names(alloc: Global, arguments: &[TacArg]) -> Result<Vec<String>, AllocError>
-    ensures { IfOk result (λ names. map string_bytes names.items ≡ cited_by (map argument_text arguments.now)) }
+    ensures { IfOk result (λ names. map string_bytes names.items ≡ cited_by arguments.now) }
 {
     let mut names = Vec::new(alloc);
     for argument in arguments {
@@ -18,12 +17,12 @@ pub fn cited_names(alloc: Global, arguments: &[TacArg]) -> Result<Vec<String>, A
 }
 
 fn add_argument(alloc: Global, names: &mut Vec<String>, argument: &TacArg) -> Result<(), AllocError>
-    ensures { OnOk result (map string_bytes names.new.items ≡ map string_bytes names.old.items ++ cited_in (argument_text argument.now)) }
+    ensures { OnOk result (map string_bytes names.new.items ≡ map string_bytes names.old.items ++ cited_in argument.now) }
 {
-    match argument {
-        TacArg::Term(_) | TacArg::Pair(_, _) => Ok(()),
-        TacArg::Theorem(theorem) => add_theorem(alloc, names, theorem),
-        TacArg::Theorems(theorems) => add_theorems(alloc, names, theorems),
+    match argument.node() {
+        TacArgNode::Term(_) | TacArgNode::Pair(_, _) => Ok(()),
+        TacArgNode::Theorem(theorem) => add_theorem(alloc, names, theorem),
+        TacArgNode::Theorems(theorems) => add_theorems(alloc, names, theorems),
     }
 }
 

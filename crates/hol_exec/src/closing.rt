@@ -8,7 +8,6 @@ ghost use Rattle.hol_formulas.specs.Equation.{equation};
 ghost use Rattle.hol_kernel.specs.Typing.{type_over};
 
 use crate::equation::sides;
-use crate::made::made;
 use crate::proof::Proof;
 use hol_kernel::{Basis, KernelError, Thm};
 use hol_terms::Term;
@@ -47,7 +46,7 @@ impl Closing {
     {
         proof.promise();
         let name = String::from_str(alloc, proof.name())?;
-        let statement = made(proof.statement().copy())?;
+        let statement = proof.statement().copy()?;
         let basis = proof.basis().copy()?;
         let open_goals = proof.goals().len();
         Ok(Closing {

@@ -3,7 +3,6 @@ ghost use Rattle.std.specs.Prelude.{◌≡◌, ◌++◌, IfOk, OnOk, map, []};
 ghost use Rattle.hol_terms.specs.Nameless.{nameless};
 ghost use Rattle.hol_exec.specs.Goal.{GoalValue};
 
-use crate::made::made;
 use hol_terms::Term;
 use std::alloc::{AllocError, Global};
 use std::marker::Model;
@@ -60,7 +59,7 @@ impl Goal {
         ensures { IfOk result (λ g. g ≡ self.now) }
     {
         let assumptions = copies(alloc, self.assumptions.as_slice())?;
-        let conclusion = made(self.conclusion.copy())?;
+        let conclusion = self.conclusion.copy()?;
         Ok(Goal {
             assumptions,
             conclusion,
@@ -73,7 +72,7 @@ fn copies(alloc: Global, terms: &[Term]) -> Result<Vec<Term>, AllocError>
 {
     let mut copied = Vec::with_capacity(alloc, terms.len())?;
     for term in terms {
-        copied.push(made(term.copy())?)?;
+        copied.push(term.copy()?)?;
     }
     Ok(copied)
 }

@@ -7,7 +7,6 @@ mod entry;
 mod equation;
 mod goal;
 mod laws;
-mod made;
 mod next;
 mod outcome;
 mod proof;

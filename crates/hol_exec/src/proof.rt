@@ -8,7 +8,6 @@ ghost use Rattle.hol_exec.specs.ReadsValue.{first_of};
 ghost use Rattle.hol_exec.specs.Sound.{IsStatement, IsReflexive, IsSoundProof};
 
 use crate::goal::{Goal, add_copies};
-use crate::made::made;
 use hol_kernel::Basis;
 use hol_terms::Term;
 use std::alloc::{AllocError, Global};
@@ -71,8 +70,8 @@ impl Proof {
     {
         let name = String::from_str(alloc, name)?;
         let mut goals = Vec::new(alloc);
-        goals.push(Goal::new(Vec::new(alloc), made(statement.copy())?))?;
-        let statement = made(statement.copy())?;
+        goals.push(Goal::new(Vec::new(alloc), statement.copy()?))?;
+        let statement = statement.copy()?;
         let basis = basis.copy()?;
         Ok(Proof {
             name,

@@ -1,6 +1,5 @@
 //! What a command reads of a state.
 ghost use Rattle.std.specs.Prelude.{◌≡◌, IfOk, map, string_bytes, option_copied, Some, is_some};
-ghost use Rattle.hol_notation_commands.specs.View.{command_text};
 ghost use Rattle.hol_exec.specs.ReadsValue.{ReadsValue, named_theorems, tactic_names, theorem_names, goal_for, closing_for, reads_of, first_goal};
 ghost use Rattle.hol_exec.specs.StateValue.{theorem_in};
 ghost use Rattle.hol_exec.specs.Local.{is_taken, first_unknown};
@@ -10,7 +9,7 @@ use crate::closing::Closing;
 use crate::goal::Goal;
 use crate::state::State;
 use hol_kernel::Thm;
-use hol_notation_commands::Command;
+use hol_notation_commands::{Command, CommandNode};
 use hol_notation_tactics::{TacExpr, TacExprNode};
 use std::alloc::{AllocError, Global};
 use std::marker::Model;
@@ -39,7 +38,7 @@ impl Model for Reads {
 impl Reads {
     /// What the command reads of the state.
     pub fn of(alloc: Global, command: &Command, state: &State) -> Result<Reads, AllocError>
-        ensures { IfOk result (λ r. r ≡ reads_of (command_text command.now) state.now) }
+        ensures { IfOk result (λ r. r ≡ reads_of command.now state.now) }
     {
         let names = theorem_names(alloc, command)?;
         let theorems = named_theorems(alloc, &names, state)?;
@@ -102,15 +101,15 @@ impl Reads {
 
 // The names of theorems that the command cites or makes.
 fn theorem_names(alloc: Global, command: &Command) -> Result<Vec<String>, AllocError>
-    ensures { IfOk result (λ names. map string_bytes names.items ≡ theorem_names (command_text command.now)) }
+    ensures { IfOk result (λ names. map string_bytes names.items ≡ theorem_names command.now) }
 {
-    match command {
-        Command::Goal { name, quotation: _ } => {
+    match command.node() {
+        CommandNode::Goal { name, quotation: _ } => {
             let mut names = Vec::new(alloc);
             names.push(String::from_str(alloc, name.as_str())?)?;
             Ok(names)
         }
-        Command::Apply(tactic) => tactic_names(alloc, tactic),
+        CommandNode::Apply(tactic) => tactic_names(alloc, tactic),
         _ => Ok(Vec::new(alloc)),
     }
 }
@@ -154,9 +153,9 @@ fn named_theorem(
 }
 
 fn goal_for(alloc: Global, command: &Command, state: &State) -> Result<Option<Goal>, AllocError>
-    ensures { IfOk result (λ goal. goal ≡ goal_for (command_text command.now) state.now.proof) }
+    ensures { IfOk result (λ goal. goal ≡ goal_for command.now state.now.proof) }
 {
-    let Command::Apply(_) = command else {
+    let CommandNode::Apply(_) = command.node() else {
         return Ok(None);
     };
     let Some(proof) = state.proof() else {
@@ -173,9 +172,9 @@ fn closing_for(
     command: &Command,
     state: &State,
 ) -> Result<Option<Closing>, AllocError>
-    ensures { IfOk result (λ closing. closing ≡ closing_for (command_text command.now) state.now.proof) }
+    ensures { IfOk result (λ closing. closing ≡ closing_for command.now state.now.proof) }
 {
-    let Command::Qed = command else {
+    let CommandNode::Qed = command.node() else {
         return Ok(None);
     };
     let Some(proof) = state.proof() else {

@@ -1,9 +1,6 @@
 //! The outcome of a command from what it reads.
 ghost use Rattle.std.specs.Prelude.{◌≡◌, IfOk, true, string_bytes, decimal, []};
 ghost use Rattle.hol_terms.specs.Nameless.{nameless};
-ghost use Rattle.hol_notation_terms.specs.QuotationView.{quotation_text};
-ghost use Rattle.hol_notation_tactics.specs.CallView.{call_text};
-ghost use Rattle.hol_notation_commands.specs.View.{command_text};
 ghost use Rattle.hol_exec.specs.Running.{is_running};
 ghost use Rattle.hol_exec.specs.Local.{IsLocal, IsOpening, direct, opens, is_taken, theorem_key, runs_call, finishes};
 ghost use Rattle.hol_exec.specs.OutcomeValue.{Refuses};
@@ -16,7 +13,7 @@ use crate::reads::Reads;
 use crate::refusal::RefusalKind;
 use crate::tac::{goals_left, tac_called};
 use hol_kernel::Basis;
-use hol_notation_commands::Command;
+use hol_notation_commands::{Command, CommandNode};
 use hol_notation_tactics::{TacCall, TacExprNode};
 use hol_notation_terms::Quotation;
 use hol_terms::Term;
@@ -24,16 +21,16 @@ use std::alloc::{AllocError, Global};
 
 /// The outcome of a command that runs: it is determined by the command and by what it reads.
 pub fn run_local(alloc: Global, command: &Command, reads: &Reads) -> Result<Outcome, AllocError>
-    requires { is_running (command_text command.now) ≡ true }
-    ensures { IfOk result (λ outcome. IsLocal (command_text command.now) reads.now (outcome_value outcome)) }
+    requires { is_running command.now ≡ true }
+    ensures { IfOk result (λ outcome. IsLocal command.now reads.now (outcome_value outcome)) }
 {
-    match command {
-        Command::Goal { name, quotation } => open_goal(alloc, name.as_str(), quotation, reads),
-        Command::Apply(tactic) => match tactic.node() {
+    match command.node() {
+        CommandNode::Goal { name, quotation } => open_goal(alloc, name.as_str(), quotation, reads),
+        CommandNode::Apply(tactic) => match tactic.node() {
             TacExprNode::Call(call) => run_call(alloc, call, reads),
             _ => unreachable!(),
         },
-        Command::Qed => finish(alloc, reads),
+        CommandNode::Qed => finish(alloc, reads),
         _ => unreachable!(),
     }
 }
@@ -75,13 +72,14 @@ fn name_taken(alloc: Global, name: &str) -> Result<Outcome, AllocError>
 }
 
 // `g`: in a proof; arity; untypable; too large; not bool; name taken.
+#[tactic(auto, using(crate::proofs::Runs::opens_statement))]
 fn open_goal(
     alloc: Global,
     name: &str,
     quotation: &Quotation,
     reads: &Reads,
 ) -> Result<Outcome, AllocError>
-    ensures { IfOk result (λ outcome. IsOpening reads.now.in_proof name.now (quotation_text quotation.now) (is_taken reads.now.theorems) (outcome_value outcome)) }
+    ensures { IfOk result (λ outcome. IsOpening reads.now.in_proof name.now quotation.now (is_taken reads.now.theorems) (outcome_value outcome)) }
 {
     if reads.in_proof() {
         return Ok(refused(alloc, RefusalKind::InProof));
@@ -91,7 +89,7 @@ fn open_goal(
         Reading::NoTyping => Ok(refused_at(alloc, RefusalKind::Untypable, quotation.place)?),
         Reading::LargeReading => Ok(refused(alloc, RefusalKind::TooLarge)),
         Reading::NotBool => Ok(refused_at(alloc, RefusalKind::NotBool, quotation.place)?),
-        Reading::Statement(statement) => Ok(open_statement(alloc, name, statement, reads)?),
+        Reading::Statement(statement) => open_statement(alloc, name, statement, reads),
     }
 }
 
@@ -113,7 +111,7 @@ fn open_statement(
 
 // `e` with a call: no proof open; unknown theorem; unknown TAC or wrong arguments; no goal open; refused.
 fn run_call(alloc: Global, call: &TacCall, reads: &Reads) -> Result<Outcome, AllocError>
-    ensures { IfOk result (λ outcome. outcome_value outcome ≡ runs_call (call_text call.now) reads.now) }
+    ensures { IfOk result (λ outcome. outcome_value outcome ≡ runs_call call.now reads.now) }
 {
     if !reads.in_proof() {
         return Ok(refused(alloc, RefusalKind::NoProofOpen));

@@ -1,11 +1,10 @@
 //! The commands that run.
 ghost use Rattle.std.specs.Prelude.{◌≡◌, MatchResult, IfOk, true};
-ghost use Rattle.hol_notation_commands.specs.View.{command_text};
 ghost use Rattle.hol_notation_commands.specs.Reading.{Reads};
 ghost use Rattle.hol_exec.specs.Running.{is_running, is_call, is_bracketed, runs, IsReadToRun};
 ghost use Rattle.hol_exec.specs.ReadError.{IsReadError};
 
-use hol_notation_commands::{Command, read_command};
+use hol_notation_commands::{Command, CommandNode, read_command};
 use hol_notation_tactics::{TacExpr, TacExprNode};
 use hol_notation_tokens::{SyntaxError, skip};
 use std::alloc::Global;
@@ -16,8 +15,8 @@ use std::alloc::Global;
 /// (`b`, `r`, `oops`, `import`, those that begin with `new_`, and `e` with a tactical or with brackets); and `Memory` where memory is
 /// short.
 pub fn read_running(alloc: Global, text: &str) -> Result<Command, SyntaxError>
-    ensures read { MatchResult result (λ command. IsReadToRun text.now (Reads (command_text command))) (IsReadError text.now) }
-    ensures running { IfOk result (λ command. is_running (command_text command) ≡ true) }
+    ensures read { MatchResult result (λ command. IsReadToRun text.now (Reads command)) (IsReadError text.now) }
+    ensures running { IfOk result (λ command. is_running command ≡ true) }
 {
     let command = read_command(alloc, text)?;
     if runs(&command, text) {
@@ -29,15 +28,15 @@ pub fn read_running(alloc: Global, text: &str) -> Result<Command, SyntaxError>
 
 // Whether the command, written so, runs: `g`, `e` with a call of a TAC, `qed`.
 fn runs(command: &Command, text: &str) -> bool
-    ensures { result ≡ runs text.now (command_text command.now) }
+    ensures { result ≡ runs text.now command.now }
 {
-    match command {
-        Command::Goal {
+    match command.node() {
+        CommandNode::Goal {
             name: _,
             quotation: _,
         } => true,
-        Command::Apply(tactic) => is_call(tactic) && !is_bracketed(text),
-        Command::Qed => true,
+        CommandNode::Apply(tactic) => is_call(tactic) && !is_bracketed(text),
+        CommandNode::Qed => true,
         _ => false,
     }
 }

@@ -1,6 +1,5 @@
 //! The known TACs, and what each leaves of a goal.
 ghost use Rattle.std.specs.Prelude.{◌≡◌, map, option_map};
-ghost use Rattle.hol_notation_tactics.specs.CallView.{argument_text};
 ghost use Rattle.hol_exec.specs.Tac.{tac_named, tac_called, goals_left, refl_tac};
 
 use crate::equation::sides;
@@ -17,7 +16,7 @@ pub enum TacCode {
 
 /// The TAC of a name, where it may be called with these arguments: REFL_TAC takes none.
 pub fn tac_called(name: &str, arguments: &[TacArg]) -> Option<TacCode>
-    ensures { result ≡ tac_called name.now (map argument_text arguments.now) }
+    ensures { result ≡ tac_called name.now arguments.now }
 {
     if arguments.is_empty() {
         tac_named(name)

@@ -1,6 +1,5 @@
 //! Each call that takes memory is seen to have an answer, which no clause can promise.
 ghost use Rattle.std.specs.Prelude.{◌≡◌, IfOk, true};
-ghost use Rattle.hol_notation_commands.specs.View.{command_text};
 ghost use Rattle.hol_exec.specs.Running.{is_running};
 ghost use Rattle.hol_exec.specs.Local.{IsLocal};
 ghost use Rattle.hol_exec.specs.At.{IsOutcomeAt};
@@ -24,7 +23,7 @@ use std::test::Fail;
 // The outcome of a command that runs.
 #[tactic(auto, using(crate::proofs::Outcomes::local_is_at))]
 fn outcome_of(alloc: Global, command: &Command, state: &State) -> Result<Outcome, AllocError>
-    requires { is_running (command_text command.now) ≡ true }
+    requires { is_running command.now ≡ true }
     ensures { IfOk result (λ outcome. IsOutcomeAt state.now (outcome_value outcome)) }
 {
     let reads = Reads::of(alloc, command, state)?;

@@ -1,6 +1,7 @@
 use Rattle.std.proofs.Common.{◌≡◌, ap, sym, ◌∙◌, Some}
 use Rattle.std.specs.Prelude.{None}
 use Rattle.hol_kernel.specs.Rules.{trans_of}
+use Rattle.hol_kernel.specs.Theorem.{over}
 use Rattle.hol_exec.specs.Local.{proved}
 use Rattle.hol_exec.specs.Tac.{sides}
 use Rattle.hol_exec.proofs.Closed.{left_typed, right_typed, one_basis, gives_statement, refused_none}
@@ -28,6 +29,6 @@ returns-in-Ok c =
 pub unreachable-requires-in-Err-Refused : goal.unreachable-requires-in-Err-Refused
 unreachable-requires-in-Err-Refused c =
     let expected = gives_statement _ _ _ _ _ _ _ _ (c.promise.ensures c.requires) (ap sides (sym c.statement.ensures) ∙ c.in-Some.ensures) c.basis.ensures c.basis-2.ensures c.in_ok-first.ensures c.in_ok-second.ensures in
-    let none : trans_of c.in_ok-first.first c.in_ok-second.second ≡ None = refused_none _ _ _ c.in-Err-Refused.field-0-is c.in-Err-Refused.ensures.sequent in
+    let none : over c.in_ok-first.first.basis (trans_of c.in_ok-first.first.sequent c.in_ok-second.second.sequent) ≡ None = refused_none _ _ _ c.in-Err-Refused.field-0-is c.in-Err-Refused.ensures.sequent in
     let same : None ≡ Some (proved c.args.self.now.basis c.args.self.now.statement) = sym none ∙ expected in
     absurd (cc)
