@@ -14,12 +14,12 @@ fn variable(alloc: Global, name: &str, ty: &str) -> Result<Variable, AllocError>
 }
 
 // The term of a variable of type A.
-fn leaf(alloc: Global, name: &str) -> Result<Term, TermError> {
+fn leaf(alloc: Global, name: &str) -> Result<Term, AllocError> {
     Term::var(alloc, &variable(alloc, name, "A")?)
 }
 
 // The abstraction of a variable of type A in the body.
-fn lambda(alloc: Global, name: &str, body: &Term) -> Result<Term, TermError> {
+fn lambda(alloc: Global, name: &str, body: &Term) -> Result<Term, AllocError> {
     Term::abstraction(alloc, &variable(alloc, name, "A")?, body)
 }
 
@@ -41,13 +41,13 @@ fn f_of_x_and_y(alloc: Global) -> Result<Term, TermError> {
 }
 
 // The free x of type B under a binder of x of type A.
-fn two_types(alloc: Global) -> Result<Term, TermError> {
+fn two_types(alloc: Global) -> Result<Term, AllocError> {
     let body = Term::var(alloc, &variable(alloc, "x", "B")?)?;
     lambda(alloc, "x", &body)
 }
 
 // The term with `bool` for A and B.
-fn at_bool(alloc: Global, t: &Term) -> Result<Term, SubstError> {
+fn at_bool(alloc: Global, t: &Term) -> Result<Term, AllocError> {
     let mut pairs = Vec::new(alloc);
     for name in ["A", "B"] {
         let truth = Ty::app(alloc, &Name::new(alloc, "bool")?, &[])?;
