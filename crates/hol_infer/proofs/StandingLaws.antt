@@ -129,8 +129,8 @@ module _ (takes : List ℕ → ℕ → Bool) (has : List ℕ → TypeTree → Bo
   value_stands constants s names [] r h =
       at_bool_stands constants s r.is_iff (annotated (option_map (type_of_text arities) r.annotation) (raw_of arities constants names r.term))
       (annotated_stands (option_map (type_of_text arities) r.annotation) (raw_of arities constants names r.term)
-          (option_stands constants s r.annotation ((and_parts (term_has_arities arities r.term) (option_has_arities arities r.annotation) h).1))
-          (raw_stands constants s names r.term ((and_parts (term_has_arities arities r.term) (option_has_arities arities r.annotation) h).0)))
+      (option_stands constants s r.annotation ((and_parts (term_has_arities arities r.term) (option_has_arities arities r.annotation) h).1))
+      (raw_stands constants s names r.term ((and_parts (term_has_arities arities r.term) (option_has_arities arities r.annotation) h).0)))
   value_stands constants s names (v ∷ vs) r h =
       (option_stands constants s v.annotation ((and_parts (option_has_arities arities v.annotation) (value_has_arities arities vs r) h).0), value_stands constants s (v.name ∷ names) vs r ((and_parts (option_has_arities arities v.annotation) (value_has_arities arities vs r) h).1))
 

@@ -11,11 +11,7 @@ use hol_types::{Name, Ty};
 use std::alloc::{AllocError, Global};
 
 // The term with the type that is written for it, if there is one.
-fn annotated(
-    alloc: Global,
-    annotation: Option<Ty>,
-    term: RawTerm,
-) -> Result<RawTerm, AllocError>
+fn annotated(alloc: Global, annotation: Option<Ty>, term: RawTerm) -> Result<RawTerm, AllocError>
     ensures { IfOk result (λ t. raw_tree t ≡ annotated annotation (raw_tree term)) }
 {
     match annotation {

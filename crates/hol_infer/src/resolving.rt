@@ -294,12 +294,8 @@ pub fn resolve(
     ensures arity { IfErr result (λ e. e ≡ ResolveError.Arity → term_has_arities arities.now term.now ≡ false) }
 {
     match term.node() {
-        PreTermNode::Ident(name) => {
-            identifier(alloc, constants, &*names, name.as_str())
-        }
-        PreTermNode::Operator(sign) => {
-            operator(alloc, constants, &*names, *sign)
-        }
+        PreTermNode::Ident(name) => { identifier(alloc, constants, &*names, name.as_str()) }
+        PreTermNode::Operator(sign) => { operator(alloc, constants, &*names, *sign) }
         PreTermNode::Apply(function, argument) => {
             let left = resolve(alloc, constants, arities, &*names, function)?;
             let right = resolve(alloc, constants, arities, &*names, argument)?;
