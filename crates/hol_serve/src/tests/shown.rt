@@ -23,11 +23,16 @@ fn lambda(alloc: Global, name: &str, body: &Term) -> Result<Term, AllocError> {
     Term::abstraction(alloc, &variable(alloc, name, "A")?, body)
 }
 
-// The term with x for y.
-fn with_x_for_y(alloc: Global, t: &Term) -> Result<Term, SubstError> {
+// The pair of x for y.
+fn x_for_y(alloc: Global) -> Result<Vec<(Term, Term)>, AllocError> {
     let mut pairs = Vec::new(alloc);
     pairs.push((leaf(alloc, "x")?, leaf(alloc, "y")?))?;
-    vsubst(alloc, &pairs, t)
+    Ok(pairs)
+}
+
+// The term with x for y.
+fn with_x_for_y(alloc: Global, t: &Term) -> Result<Term, SubstError> {
+    vsubst(alloc, &x_for_y(alloc)?, t)
 }
 
 // f x y, f of type A->A->B.
