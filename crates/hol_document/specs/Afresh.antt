@@ -1,24 +1,57 @@
--- Running a theory afresh: its commands in order, each at the state that the ones before it lead to, from the prelude alone. No
--- command of this language looks at another theory.
+-- Running documents afresh: the theories in order, each from the prelude alone, and in each the commands in order, each at the state that
+-- the ones before it lead to. A theory sees the names and the last entries of those that stand earlier.
 -- Source: this project.
-use Rattle.std.specs.Prelude.{◌≡◌, ℕ, List, [], ◌∷◌}
-use Rattle.hol_notation_commands.specs.Reading.{ReadText}
-use Rattle.hol_exec.specs.Running.{IsReadToRun}
-use Rattle.hol_exec.specs.StateValue.{StateValue, start}
-use Rattle.hol_exec.specs.At.{IsOutcome}
+use Rattle.std.specs.Prelude.{◌≡◌, ℕ, List, [], ◌∷◌, ◌++◌, map, Option}
+use Rattle.hol_exec.specs.Setup.{SetupValue}
+use Rattle.hol_exec.specs.Parsed.{ParsedValue, IsParsed}
+use Rattle.hol_exec.specs.StateValue.{StateValue, EndedTheory, start}
+use Rattle.hol_exec.specs.ReadsValue.{ReadsValue, reads_at}
 use Rattle.hol_exec.specs.OutcomeValue.{OutcomeValue, after}
+use Rattle.hol_exec.specs.At.{IsOutcome}
+use Rattle.hol_document.specs.Documents.{TheoryText, Documents}
 
--- The outcome of a text at a state: that of what it reads as.
-pub record IsOutcomeOf (s : StateValue) (text : List ℕ) (outcome : OutcomeValue) : Type 0 where
-  pub read : ReadText
-  pub reads : IsReadToRun text read
-  pub gets : IsOutcome s read outcome
+-- what running a text comes to: what it is to the engine, what that reads, and its outcome
+pub record Row : Type 0 where
+  pub value : ParsedValue
+  pub reads : Option ReadsValue
+  pub outcome : OutcomeValue
 
--- The texts have outcomes in turn, each at the state that the one before it gives, and so lead from the first state to the last.
-abbrev pub Leads : StateValue → List (List ℕ) → StateValue → Type 0
-Leads s [] last = last ≡ s
-Leads s (text ∷ texts) last = (outcome : OutcomeValue) × IsOutcomeOf s text outcome × Leads (after s outcome) texts last
+-- the row of a text at a state
+pub record IsRow (setup : SetupValue) (earlier : List EndedTheory) (s : StateValue) (text : List ℕ) (row : Row) : Type 0 where
+  pub parsed : IsParsed text row.value
+  pub read : row.reads ≡ reads_at row.value s
+  pub gets : IsOutcome setup earlier s row.value row.outcome
+
+-- The texts have these rows, each at the state that the one before it gives, and so lead from the first state to the last.
+abbrev pub AreRows : SetupValue → List EndedTheory → StateValue → List (List ℕ) → List Row → StateValue → Type 0
+AreRows setup earlier s [] [] last = last ≡ s
+AreRows setup earlier s [] (row ∷ rows) last = ⊥
+AreRows setup earlier s (text ∷ texts) [] last = ⊥
+AreRows setup earlier s (text ∷ texts) (row ∷ rows) last =
+    IsRow setup earlier s text row × AreRows setup earlier (after s row.outcome) texts rows last
+
+-- what running a theory comes to: its name, its rows and its last state
+pub record TheoryRun : Type 0 where
+  pub name : List ℕ
+  pub rows : List Row
+  pub last : StateValue
+
+abbrev pub ended : TheoryRun → EndedTheory
+ended run = record { name = run.name; entries = run.last.entries }
 
 -- a theory starts from the prelude alone
-abbrev pub LeadTo : List (List ℕ) → StateValue → Type 0
-LeadTo texts last = Leads start texts last
+pub record IsRun (setup : SetupValue) (earlier : List EndedTheory) (theory : TheoryText) (run : TheoryRun) : Type 0 where
+  pub named : run.name ≡ theory.name
+  pub are : AreRows setup earlier start theory.commands run.rows run.last
+
+-- The theories have these runs, each after those before it.
+abbrev pub AreRuns : SetupValue → List EndedTheory → List TheoryText → List TheoryRun → Type 0
+AreRuns setup earlier [] [] = Unit {0}
+AreRuns setup earlier [] (run ∷ runs) = ⊥
+AreRuns setup earlier (theory ∷ theories) [] = ⊥
+AreRuns setup earlier (theory ∷ theories) (run ∷ runs) =
+    IsRun setup earlier theory run × AreRuns setup (earlier ++ ended run ∷ []) theories runs
+
+-- what running the documents afresh comes to
+abbrev pub AreRunsOf : Documents → List TheoryRun → Type 0
+AreRunsOf docs runs = AreRuns docs.setup [] docs.theories runs

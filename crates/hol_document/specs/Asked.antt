@@ -1,60 +1,75 @@
 -- What is answered to a question about the documents: what running them afresh says.
 -- Source: this project.
-use Rattle.std.specs.Prelude.{◌≡◌, ℕ, List, [], ◌≤◌, ◌<◌, ⊤, length, take, Option, Some, None, Result, Ok, Err, slice_index_or}
-use Rattle.hol_kernel.specs.Theorem.{Theorem}
+use Rattle.std.specs.Prelude.{◌≡◌, ℕ, List, [], ◌≤◌, ◌<◌, ⊤, length, map, take, Option, Some, None, Result, Ok, Err, slice_index_or}
+use Rattle.hol_exec.specs.Key.{theorem_key}
+use Rattle.hol_exec.specs.Entry.{EntryValue, ATheorem, entry_at}
 use Rattle.hol_exec.specs.OutcomeValue.{OutcomeValue, after}
 use Rattle.hol_exec.specs.ReportValue.{ReportValue}
 use Rattle.hol_exec.specs.ReportOf.{report_of}
-use Rattle.hol_exec.specs.StateValue.{StateValue, theorem_in}
+use Rattle.hol_exec.specs.StateValue.{StateValue, EndedTheory, start}
 use Rattle.hol_document.specs.declared.error.Refusal.{Refusal}
 use Rattle.hol_document.specs.declared.error.Refusal.TheVariants.{UnknownTheory, PositionOutOfRange}
 use Rattle.hol_document.specs.declared.error.DocsError.{DocsError}
-use Rattle.hol_document.specs.Documents.{TheoryText, find_theory, no_theory}
-use Rattle.hol_document.specs.Afresh.{IsOutcomeOf, LeadTo}
+use Rattle.hol_document.specs.Documents.{TheoryText, Documents, find_theory, no_theory}
+use Rattle.hol_document.specs.Afresh.{Row, IsRow, AreRows, TheoryRun, AreRuns, ended}
 use Rattle.hol_document.specs.ItemTexts.{AreItemTexts}
+
+-- the commands of the theory at a place
+abbrev pub commands_at : Documents → ℕ → List (List ℕ)
+commands_at docs i = (slice_index_or docs.theories i no_theory).commands
+
+-- The first so many commands of the theory at a place, run afresh after the theories before it: the runs of these, the rows of the commands,
+-- and the state that they lead to.
+pub record IsRunUpTo (docs : Documents) (i count : ℕ) (before : List TheoryRun) (rows : List Row) (state : StateValue) : Type 0 where
+  pub runs : AreRuns docs.setup [] (take i docs.theories) before
+  pub leads : AreRows docs.setup (map ended before) start (take count (commands_at docs i)) rows state
 
 -- ---- the report on the command at a place of a theory, or the first refusal that fits
 
--- The commands before the place lead to a state, and the report is that on the outcome which the command there has at it.
-pub record IsReport (commands : List (List ℕ)) (at : ℕ) (report : ReportValue) : Type 0 where
+-- What comes before the place is run afresh; the command there has a row after it, and the report is that on its outcome.
+pub record IsReport (docs : Documents) (i at : ℕ) (report : ReportValue) : Type 0 where
+  pub before : List TheoryRun
+  pub rows : List Row
   pub state : StateValue
-  pub before : LeadTo (take at commands) state
-  pub outcome : OutcomeValue
-  pub here : IsOutcomeOf state (slice_index_or commands at []) outcome
-  pub says : report ≡ report_of outcome (after state outcome)
+  pub run : IsRunUpTo docs i at before rows state
+  pub row : Row
+  pub here : IsRow docs.setup (map ended before) state (slice_index_or (commands_at docs i) at []) row
+  pub says : report ≡ report_of row.outcome (after state row.outcome)
 
-abbrev pub ReportedOf : List (List ℕ) → ℕ → Result ReportValue Refusal → Type 0
-ReportedOf commands at (Err refusal) = (refusal ≡ PositionOutOfRange) × (length commands ≤ at)
-ReportedOf commands at (Ok report) = (at < length commands) × IsReport commands at report
+abbrev pub ReportedAt : Documents → ℕ → ℕ → Result ReportValue Refusal → Type 0
+ReportedAt docs i at (Err refusal) = (refusal ≡ PositionOutOfRange) × (length (commands_at docs i) ≤ at)
+ReportedAt docs i at (Ok report) = (at < length (commands_at docs i)) × IsReport docs i at report
 
-abbrev pub ReportedIn : List TheoryText → Option ℕ → ℕ → Result ReportValue Refusal → Type 0
-ReportedIn theories None at answer = answer ≡ Err UnknownTheory
-ReportedIn theories (Some i) at answer = ReportedOf (slice_index_or theories i no_theory).commands at answer
+abbrev pub ReportedIn : Documents → Option ℕ → ℕ → Result ReportValue Refusal → Type 0
+ReportedIn docs None at answer = answer ≡ Err UnknownTheory
+ReportedIn docs (Some i) at answer = ReportedAt docs i at answer
 
-abbrev pub Reported : List TheoryText → List ℕ → ℕ → Result ReportValue Refusal → Type 0
-Reported theories name at answer = ReportedIn theories (find_theory name theories) at answer
+abbrev pub Reported : Documents → List ℕ → ℕ → Result ReportValue Refusal → Type 0
+Reported docs name at answer = ReportedIn docs (find_theory name docs.theories) at answer
 
 -- ---- the items of a theorem's basis at the end of a theory: nothing where no theorem of that name stands there
 
-abbrev pub BasisTexts : Option Theorem → Option (List (List ℕ)) → Type 0
+abbrev pub BasisTexts : Option EntryValue → Option (List (List ℕ)) → Type 0
 BasisTexts None None = Unit {0}
 BasisTexts None (Some texts) = ⊥
-BasisTexts (Some th) None = ⊥
-BasisTexts (Some th) (Some texts) = AreItemTexts th.basis texts
+BasisTexts (Some (ATheorem th)) None = ⊥
+BasisTexts (Some (ATheorem th)) (Some texts) = AreItemTexts th.basis texts
 
--- The commands lead to a state, and the theorem of this name there has this basis.
-pub record IsBasis (commands : List (List ℕ)) (name : List ℕ) (answer : Option (List (List ℕ))) : Type 0 where
+-- The theory is run afresh, and the theorem of this name in its last state has this basis.
+pub record IsBasis (docs : Documents) (i : ℕ) (name : List ℕ) (answer : Option (List (List ℕ))) : Type 0 where
+  pub before : List TheoryRun
+  pub rows : List Row
   pub state : StateValue
-  pub run : LeadTo commands state
-  pub texts : BasisTexts (theorem_in state.entries name) answer
+  pub run : IsRunUpTo docs i (length (commands_at docs i)) before rows state
+  pub texts : BasisTexts (entry_at (theorem_key name) state.entries) answer
 
-abbrev pub BasisIn : List TheoryText → Option ℕ → List ℕ → Result (Option (List (List ℕ))) Refusal → Type 0
-BasisIn theories None name answer = answer ≡ Err UnknownTheory
-BasisIn theories (Some i) name (Ok answer) = IsBasis (slice_index_or theories i no_theory).commands name answer
-BasisIn theories (Some i) name (Err refusal) = ⊥
+abbrev pub BasisIn : Documents → Option ℕ → List ℕ → Result (Option (List (List ℕ))) Refusal → Type 0
+BasisIn docs None name answer = answer ≡ Err UnknownTheory
+BasisIn docs (Some i) name (Ok answer) = IsBasis docs i name answer
+BasisIn docs (Some i) name (Err refusal) = ⊥
 
-abbrev pub BasisOf : List TheoryText → List ℕ → List ℕ → Result (Option (List (List ℕ))) Refusal → Type 0
-BasisOf theories theory name answer = BasisIn theories (find_theory theory theories) name answer
+abbrev pub BasisOf : Documents → List ℕ → List ℕ → Result (Option (List (List ℕ))) Refusal → Type 0
+BasisOf docs theory name answer = BasisIn docs (find_theory theory docs.theories) name answer
 
 -- ---- an error is a refusal with this fact, or want of memory
 abbrev pub IfRefused : (Refusal → Type 0) → DocsError → Type 0

@@ -1,8 +1,9 @@
--- Documents: theories in order, each a name and the texts of its commands, and what an edit makes of them.
+-- Documents: theories in order, each a name and the texts of its commands; what they are run by; and what an edit makes of them.
 -- Source: this project.
 use Rattle.std.specs.Prelude.{ℕ, List, [], ◌&&◌, length, Bool, not, nat_lt, nat_le, if◌then◌else◌, Option, Some, None, Result, Ok, Err, is_some, position, slice_set, slice_index_or, bytes_eq}
 use Rattle.std.specs.List.{insert}
 use Rattle.hol_notation_tokens.specs.Token.{is_identifier}
+use Rattle.hol_exec.specs.Setup.{SetupValue}
 use Rattle.hol_document.specs.declared.error.Refusal.{Refusal}
 use Rattle.hol_document.specs.declared.error.Refusal.TheVariants.{UnknownTheory, TheoryNameTaken, BadTheoryName, PositionOutOfRange, TooMany}
 
@@ -10,9 +11,10 @@ pub record TheoryText : Type 0 where
   pub name : List ℕ
   pub commands : List (List ℕ)
 
--- what the documents are, as the machine sees them
+-- what the documents are, as the machine sees them: the theories, and the set-up that they are run by
 pub record Documents : Type 0 where
   pub theories : List TheoryText
+  pub setup : SetupValue
 
 abbrev pub theory_limit : ℕ
 theory_limit = 64
@@ -58,3 +60,7 @@ with_command_in theories (Some i) at text = put_theory theories i (with_command_
 -- the theories with a new command in the one of that name, or the first refusal that fits
 abbrev pub with_command : List TheoryText → List ℕ → ℕ → List ℕ → Result (List TheoryText) Refusal
 with_command theories name at text = with_command_in theories (find_theory name theories) at text
+
+-- the documents with these theories: every edit keeps the set-up
+abbrev pub with_theories : Documents → List TheoryText → Documents
+with_theories docs theories = record { theories = theories; setup = docs.setup }

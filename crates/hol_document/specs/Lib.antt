@@ -1,6 +1,6 @@
 pub mod Documents
+pub mod DocsView
 pub mod Afresh
 pub mod ItemTexts
 pub mod Asked
-pub mod ReadingView
 pub mod Shown

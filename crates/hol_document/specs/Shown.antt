@@ -1,68 +1,91 @@
--- What is true of every theorem that a theory holds, and of every one that a report shows.
-use Rattle.std.specs.Prelude.{◌≡◌, ℕ, List, [], ◌∷◌, ◌++◌, map, take, Option, Some, None, slice_index_or}
+-- What is true of the theorems that documents show: each is that of a `Thm`, so has a derivation over its basis, which is legal; and what a
+-- `qed` made is the goal of the last accepted `g`, without hypotheses.
+use Rattle.std.specs.Prelude.{◌≡◌, ℕ, List, [], ◌∷◌, ◌++◌, Option, Some, None, Result, Ok, Err}
 use Rattle.hol_terms.specs.Nameless.{Nameless}
-use Rattle.hol_kernel.specs.Items.{no_items}
+use Rattle.hol_kernel.specs.Items.{Items, no_items}
 use Rattle.hol_kernel.specs.Sequent.{no_hyps}
-use Rattle.hol_kernel.specs.Theorem.{IsTheorem}
-use Rattle.hol_notation_terms.specs.Text.{QuotationText}
-use Rattle.hol_notation_commands.specs.Text.{Goal}
-use Rattle.hol_notation_commands.specs.Reading.{IsCommandText}
-use Rattle.hol_exec.specs.Reading.{Statement, IsReadAs}
-use Rattle.hol_exec.specs.StateValue.{EntryValue, StateValue, theorem_in}
-use Rattle.hol_exec.specs.OutcomeValue.{Opens, Proves}
-use Rattle.hol_exec.specs.ReportOf.{entry_text}
-use Rattle.hol_document.specs.Documents.{TheoryText, no_theory}
-use Rattle.hol_document.specs.Afresh.{IsOutcomeOf, LeadTo}
-use Rattle.hol_document.specs.Asked.{BasisTexts}
+use Rattle.hol_kernel.specs.Theorem.{Theorem, IsTheorem}
+use Rattle.hol_exec.specs.Key.{KeyValue, theorem_key}
+use Rattle.hol_exec.specs.Entry.{EntryValue, ATheorem, Entries, EachIsEntry}
+use Rattle.hol_exec.specs.OutcomeValue.{OutcomeValue, Opens, Leaves, Makes, Refuses, MakesTheorems}
+use Rattle.hol_exec.specs.ReportValue.{ReportValue}
+use Rattle.hol_document.specs.declared.error.Refusal.{Refusal}
+use Rattle.hol_document.specs.Documents.{Documents, find_theory}
+use Rattle.hol_document.specs.Afresh.{Row}
+use Rattle.hol_document.specs.Asked.{IsReport, IsBasis}
 
--- One of the commands is the `g` that opens the proof of that name and statement: it does so at the state to which the commands before it
--- lead, and the statement is what its quotation reads as.
-pub record IsGoalOf (commands : List (List ℕ)) (name : List ℕ) (statement : Nameless) : Type 0 where
-  pub before : List (List ℕ)
-  pub text : List ℕ
-  pub later : List (List ℕ)
-  pub are : commands ≡ before ++ text ∷ later
-  pub state : StateValue
-  pub leads : LeadTo before state
-  pub opens : IsOutcomeOf state text (Opens name statement no_items)
-  pub quotation : QuotationText
-  pub says : IsCommandText text (Goal name quotation)
-  pub reads : IsReadAs quotation.term (Statement statement)
+-- ---- derivations: by the type of theorems
 
--- The entry's theorem has a derivation from the prelude alone, since no command of this language makes an axiom or a definition; it has no
--- hypotheses; and its conclusion is the goal that the proof of its name was opened with.
-pub record IsProved (commands : List (List ℕ)) (e : EntryValue) : Type 0 where
-  pub derived : IsTheorem e.theorem
-  pub on_prelude : e.theorem.basis ≡ no_items
-  pub without_hypotheses : e.theorem.sequent.hyps ≡ no_hyps
-  pub goal : IsGoalOf commands e.name e.theorem.sequent.concl
+-- It is the report on an outcome, and every theorem which that makes has a derivation over its basis, which is legal.
+pub record IsProvedReport (docs : Documents) (i at : ℕ) (report : ReportValue) : Type 0 where
+  pub is : IsReport docs i at report
+  pub proved : MakesTheorems is.row.outcome
 
-abbrev pub AllProved : List (List ℕ) → List EntryValue → Type 0
-AllProved commands [] = Unit {0}
-AllProved commands (e ∷ entries) = IsProved commands e × AllProved commands entries
+-- It is the answer from a state, and so has every theorem of that state.
+pub record IsProvedBasis (docs : Documents) (i : ℕ) (name : List ℕ) (answer : Option (List (List ℕ))) : Type 0 where
+  pub is : IsBasis docs i name answer
+  pub proved : EachIsEntry is.state.entries
 
--- The texts are those of the entries that the command at the place makes, at the state to which the commands before it lead, and these
--- are proved.
-pub record ShowsProved (commands : List (List ℕ)) (at : ℕ) (texts : List (List ℕ)) : Type 0 where
-  pub state : StateValue
-  pub before : LeadTo (take at commands) state
-  pub entries : List EntryValue
-  pub made : IsOutcomeOf state (slice_index_or commands at []) (Proves entries)
-  pub shown : texts ≡ map entry_text entries
-  pub proved : AllProved (take at commands) entries
+abbrev pub ShowsProvedIn : Documents → Option ℕ → ℕ → ReportValue → Type 0
+ShowsProvedIn docs None at report = ⊥
+ShowsProvedIn docs (Some i) at report = IsProvedReport docs i at report
 
--- the same of the theory at a place, which there is
-abbrev pub ShowsProvedIn : List TheoryText → Option ℕ → ℕ → List (List ℕ) → Type 0
-ShowsProvedIn theories None at texts = ⊥
-ShowsProvedIn theories (Some i) at texts = ShowsProved (slice_index_or theories i no_theory).commands at texts
+abbrev pub ShowsProved : Documents → List ℕ → ℕ → ReportValue → Type 0
+ShowsProved docs theory at report = ShowsProvedIn docs (find_theory theory docs.theories) at report
 
--- The answer tells of the theorem of the name in the state to which the commands lead, all of whose theorems are proved.
-pub record TellsOfProved (commands : List (List ℕ)) (name : List ℕ) (answer : Option (List (List ℕ))) : Type 0 where
-  pub state : StateValue
-  pub run : LeadTo commands state
-  pub texts : BasisTexts (theorem_in state.entries name) answer
-  pub proved : AllProved commands state.entries
+abbrev pub TellsOfProvedIn : Documents → Option ℕ → List ℕ → Option (List (List ℕ)) → Type 0
+TellsOfProvedIn docs None name answer = ⊥
+TellsOfProvedIn docs (Some i) name answer = IsProvedBasis docs i name answer
 
-abbrev pub TellsOfProvedIn : List TheoryText → Option ℕ → List ℕ → Option (List (List ℕ)) → Type 0
-TellsOfProvedIn theories None name answer = ⊥
-TellsOfProvedIn theories (Some i) name answer = TellsOfProved (slice_index_or theories i no_theory).commands name answer
+abbrev pub TellsOfProved : Documents → List ℕ → List ℕ → Option (List (List ℕ)) → Type 0
+TellsOfProved docs theory name answer = TellsOfProvedIn docs (find_theory theory docs.theories) name answer
+
+-- ---- goals: laws over rows
+
+-- the name and the statement of the `g` whose proof is open after an outcome
+abbrev pub goal_after : Option (List ℕ × Nameless) → OutcomeValue → Option (List ℕ × Nameless)
+goal_after goal (Opens name statement basis) = Some (name, statement)
+goal_after goal (Leaves first goals basis) = goal
+goal_after goal (Makes entries) = None
+goal_after goal (Refuses kind arg) = goal
+
+-- the same after rows: the last `g` that was accepted, if no `qed` came after it
+abbrev pub open_goal : Option (List ℕ × Nameless) → List Row → Option (List ℕ × Nameless)
+open_goal goal [] = goal
+open_goal goal (row ∷ rows) = open_goal (goal_after goal row.outcome) rows
+
+-- The entry is the theorem of the last `g` that the rows accepted: of its name, with its statement and without hypotheses. It rests on the
+-- items that stand, of which there are none yet but the prelude's.
+pub record IsFinished (rows : List Row) (key : KeyValue) (th : Theorem) : Type 0 where
+  pub name : List ℕ
+  pub under : key ≡ theorem_key name
+  pub goal : open_goal None rows ≡ Some (name, th.sequent.concl)
+  pub without_hypotheses : th.sequent.hyps ≡ no_hyps
+  pub on_prelude : th.basis ≡ no_items
+
+abbrev pub IsFinishedEntry : List Row → KeyValue × EntryValue → Type 0
+IsFinishedEntry rows (key, ATheorem th) = IsFinished rows key th
+
+abbrev pub EachFinished : List Row → Entries → Type 0
+EachFinished rows [] = Unit {0}
+EachFinished rows (e ∷ entries) = IsFinishedEntry rows e × EachFinished rows entries
+
+-- what an outcome after the rows makes
+abbrev pub MakesFinished : List Row → OutcomeValue → Type 0
+MakesFinished rows (Opens name statement basis) = Unit {0}
+MakesFinished rows (Leaves goal goals basis) = Unit {0}
+MakesFinished rows (Makes entries) = EachFinished rows entries
+MakesFinished rows (Refuses kind arg) = Unit {0}
+
+-- one of the rows made the entry, as the theorem of the last `g` that those before it accepted
+pub record IsMadeIn (rows : List Row) (e : KeyValue × EntryValue) : Type 0 where
+  pub before : List Row
+  pub row : Row
+  pub later : List Row
+  pub are : rows ≡ before ++ row ∷ later
+  pub made : row.outcome ≡ Makes (e ∷ [])
+  pub finished : IsFinishedEntry before e
+
+abbrev pub EachMadeIn : List Row → Entries → Type 0
+EachMadeIn rows [] = Unit {0}
+EachMadeIn rows (e ∷ entries) = IsMadeIn rows e × EachMadeIn rows entries

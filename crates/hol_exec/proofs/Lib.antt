@@ -1,7 +1,9 @@
+pub mod Parsing
+pub mod Steps
+pub mod Standing
+pub mod Statements
 pub mod Closed
-pub mod Closings
-pub mod Readings
-pub mod Runs
-pub mod Stands
-pub mod Unique
 pub mod Outcomes
+pub mod Runs
+pub mod Unique
+pub mod Comparing

@@ -1,47 +1,57 @@
--- A text that is a command without a body is refused at its first word.
-use Rattle.std.specs.Prelude.{◌≡◌, ◌≤◌, ◌+◌, ℕ, List, Bool, length, not, true, false, refl}
+-- Outcomes, from what the steps of a command found.
+use Rattle.std.specs.Prelude.{◌≡◌, ℕ, Bool, true, false, not, List, [], Option, Some, None, Result, Ok, Err, IfOk, refl}
+use Rattle.std.proofs.Common.{ap, sym, ◌∙◌}
 use Rattle.hol_terms.specs.Nameless.{Nameless}
+use Rattle.hol_kernel.specs.Items.{no_items}
+use Rattle.hol_kernel.specs.Typing.{HasType}
+use Rattle.hol_formulas.specs.Equation.{bool_type}
 use Rattle.hol_notation_terms.specs.Text.{QuotationText}
-use Rattle.hol_exec.specs.Reading.{Statement, IsReadAs}
-use Rattle.hol_exec.specs.OutcomeValue.{OutcomeValue}
-use Rattle.hol_exec.specs.Local.{IsOpening, opens}
-use Rattle.std.proofs.Common.{ap, arith, inl, inr}
-use Rattle.std.proofs.lemmas.List.{drop_all}
-use Rattle.hol_notation_tokens.specs.Token.{skip}
-use Rattle.std.proofs.lemmas.Bool.{and_parts}
-use Rattle.hol_notation_commands.specs.Text.{CommandText, Goal, Apply, Back, Rotate, Qed, Oops, Import, NewType, NewConstant, NewAxiom, NewDefinition, NewBasicTypeDefinition}
-use Rattle.hol_notation_commands.specs.Reading.{Breaks, IsCommandText, IsBreak}
-use Rattle.hol_exec.specs.Running.{is_running, runs, is_call, is_bracketed, begins_with_bracket, first_word, IsReadToRun}
+use Rattle.hol_notation_tactics.specs.Text.{CallText}
+use Rattle.hol_exec.specs.declared.refusal.RefusalKind.TheVariants as refusal
+use Rattle.hol_exec.specs.declared.tac.TacCode.{TacCode}
+use Rattle.hol_exec.specs.Setup.{SetupValue}
+use Rattle.hol_exec.specs.Lookups.{lookups_of, reading_basis}
+use Rattle.hol_exec.specs.Reading.{ReadingValue, Statement, IsReadAs}
+use Rattle.hol_exec.specs.ReadsValue.{ReadsValue}
+use Rattle.hol_exec.specs.Tac.{CalledText, Plain, called, Nothing}
+use Rattle.hol_exec.specs.OutcomeValue.{OutcomeValue, Refuses}
+use Rattle.hol_exec.specs.Local.{first_unknown, first_taken, opens, opens_read, IsOpening, ResolvedTac, Resolved, Unresolved, IsResolution, applied, resolved_outcome, IsApplying}
+use Rattle.hol_exec.proofs.Standing.{same_lookups, no_basis, statement_typed}
 
-pub idle_text : (text : List ℕ) (command : CommandText) (place : ℕ) → IsCommandText text command → runs text command ≡ false → place ≡ first_word text → IsReadToRun text (Breaks place)
-idle_text text command place read idle first = inr (record { command = command; read = read; idle = idle; first = first })
+-- ---- `g`
 
-pub broken_text : (text : List ℕ) (place : ℕ) → IsBreak text place → IsReadToRun text (Breaks place)
-broken_text text place broken = inl broken
+pub opens_by : (in_proof : Bool) (name : List ℕ) (q : QuotationText) (reads : ReadsValue) (reading : ReadingValue) (outcome : OutcomeValue) →
+    in_proof ≡ false → IsReadAs (lookups_of []) q.term reading → outcome ≡ opens_read name q.place reads reading → IsOpening in_proof name q reads outcome
+opens_by in_proof name q reads reading outcome e h f =
+    rw e (reading, rw (← same_lookups reads.cited) h, f)
 
--- a command that runs as it is written is one that runs
-pub runs_running : (text : List ℕ) (command : CommandText) → runs text command ≡ true → is_running command ≡ true
-runs_running text (Goal name quotation) e = refl
-runs_running text (Apply tactic) e = (and_parts (is_call tactic) (not (is_bracketed text)) e).0
-runs_running text Back e = absurd (cc)
-runs_running text (Rotate n) e = absurd (cc)
-runs_running text Qed e = refl
-runs_running text Oops e = absurd (cc)
-runs_running text (Import name) e = absurd (cc)
-runs_running text (NewType name n) e = absurd (cc)
-runs_running text (NewConstant name ty) e = absurd (cc)
-runs_running text (NewAxiom name s) e = absurd (cc)
-runs_running text (NewDefinition name d) e = absurd (cc)
-runs_running text (NewBasicTypeDefinition d) e = absurd (cc)
+pub opens_statement : (in_proof : Bool) (name : List ℕ) (q : QuotationText) (reads : ReadsValue) (p : Nameless) (outcome : OutcomeValue) →
+    in_proof ≡ false → IsReadAs (lookups_of []) q.term (Statement p) → outcome ≡ opens name p no_items (first_taken reads.made) → IsOpening in_proof name q reads outcome
+opens_statement in_proof name q reads p outcome e h f =
+    opens_by in_proof name q reads (Statement p) outcome e h (f ∙ ap (λ b. opens name p b (first_taken reads.made)) (sym (no_basis reads.cited p)))
 
--- after the end stands no bracket
-pub bracket_past : (text : List ℕ) → first_word text ≡ length text → is_bracketed text ≡ false
-bracket_past text e =
-    let place : ℕ = skip text (first_word text + 1) in
-    let beyond : length text ≤ place = omega (e, arith) in
-    ap begins_with_bracket (drop_all place text beyond)
+pub typed : (q : QuotationText) (reading : ReadingValue) (p : Nameless) → IsReadAs (lookups_of []) q.term reading → reading ≡ Statement p → HasType no_items p bool_type
+typed q reading p h e = statement_typed q.term p (rw e at h)
 
--- a quotation that reads as a statement opens it
-pub opens_statement : (in_proof taken : Bool) (name : List ℕ) (q : QuotationText) (p : Nameless) (outcome : OutcomeValue) →
-    in_proof ≡ false → IsReadAs q.term (Statement p) → outcome ≡ opens name taken p → IsOpening in_proof name q taken outcome
-opens_statement in_proof taken name q p outcome e h f = rw e (Statement p, h, f)
+-- ---- `e`
+
+pub unknown_theorem : (in_proof : Bool) (setup : SetupValue) (call : CallText) (reads : ReadsValue) (name : List ℕ) (outcome : OutcomeValue) →
+    in_proof ≡ true → first_unknown reads.cited ≡ Some name → outcome ≡ Refuses refusal.UnknownTheorem name → IsApplying in_proof setup call reads outcome
+unknown_theorem in_proof setup call reads name outcome e f g =
+    rw e (Unresolved refusal.UnknownTheorem name, rw f refl, g)
+
+pub unknown_tac : (in_proof : Bool) (setup : SetupValue) (call : CallText) (reads : ReadsValue) (outcome : OutcomeValue) →
+    in_proof ≡ true → first_unknown reads.cited ≡ None → called setup call ≡ None → outcome ≡ Refuses refusal.UnknownTac call.name → IsApplying in_proof setup call reads outcome
+unknown_tac in_proof setup call reads outcome e f g h =
+    rw e (Unresolved refusal.UnknownTac call.name, rw (f, g) refl, h)
+
+pub applies : (in_proof : Bool) (setup : SetupValue) (call : CallText) (reads : ReadsValue) (name : List ℕ) (code : TacCode) (outcome : OutcomeValue) →
+    in_proof ≡ true → first_unknown reads.cited ≡ None → called setup call ≡ Some (Plain code) → name ≡ call.name →
+    outcome ≡ applied reads.goal setup.turns (record { name = name; code = code; args = Nothing; basis = no_items }) → IsApplying in_proof setup call reads outcome
+applies in_proof setup call reads name code outcome e f g n h =
+    rw e (Resolved (record { name = call.name; code = code; args = Nothing; basis = no_items }), rw (f, g) refl, rw n at h)
+
+-- ---- what is known of a result that is passed on
+pub if_ok : {A E : Type 0} (r : Result A E) (P Q : A → Type 0) → ((x : A) → P x → Q x) → IfOk r P → IfOk r Q
+if_ok (Ok x) P Q f h = f x h
+if_ok (Err e) P Q f h = tt

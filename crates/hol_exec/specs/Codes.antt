@@ -1,27 +1,62 @@
--- How the logic stores goals, entries, proofs, states and reads.
-use Rattle.std.specs.Prelude.{ℕ, List, Option, Bool, refl}
-use Rattle.std.specs.Coded.{Coded, code_by, coded×, coded_ℕ, coded_bool, coded_list, coded_option}
+-- How the logic stores keys, entries, goals, proofs, states, reads and outcomes.
+use Rattle.std.specs.Prelude.{◌≡◌, ◌⊎◌, ◌==◌, ℕ, List, Option, Bool, if◌then◌else◌, refl}
+use Rattle.std.proofs.Common.{inl, inr}
+use Rattle.std.specs.Coded.{Coded, code_by, coded×, coded⊎, coded_ℕ, coded_bool, coded_list, coded_option}
 use Rattle.hol_types.specs.Code.{coded_name}
 use Rattle.hol_terms.specs.Nameless.{Nameless}
 use Rattle.hol_terms.specs.Code.{coded_nameless}
 use Rattle.hol_kernel.specs.Items.{Items, items_code}
 use Rattle.hol_kernel.specs.Theorem.{Theorem, theorem_code}
+use Rattle.hol_exec.specs.declared.key.Kind.{Kind}
+use Rattle.hol_exec.specs.declared.key.Kind.TheVariants as kind
+use Rattle.hol_exec.specs.declared.refusal.RefusalKind.{RefusalKind}
+use Rattle.hol_exec.specs.declared.refusal.RefusalKind.TheVariants.{Syntax, InProof, NoProofOpen, UnknownTheorem, UnknownTac, Untypable, NotBool, Arity, NameTaken, TooLarge, NoGoalOpen, Refused, GoalsRemain}
+use Rattle.hol_exec.specs.Key.{KeyValue, kind_rank}
+use Rattle.hol_exec.specs.Entry.{EntryValue, ATheorem, Entries}
 use Rattle.hol_exec.specs.Goal.{GoalValue}
-use Rattle.hol_exec.specs.StateValue.{EntryValue, StepValue, ProofValue, StateValue}
-use Rattle.hol_exec.specs.ReadsValue.{ClosingValue, ReadsValue}
+use Rattle.hol_exec.specs.StateValue.{StepValue, ProofValue, StateValue}
+use Rattle.hol_exec.specs.ReadsValue.{ClosingValue, Values, ReadsValue}
+use Rattle.hol_exec.specs.OutcomeValue.{OutcomeValue, Opens, Leaves, Makes, Refuses}
+use Rattle.hol_exec.specs.Refusal.{kind_number}
+
+-- ---- keys
+
+abbrev kind_at : ℕ → Kind
+kind_at n = if n == 0 then kind.Type else if n == 1 then kind.Constant else kind.Theorem
+
+pub kind_back : (k : Kind) → kind_at (kind_rank k) ≡ k
+kind_back kind.Type = refl
+kind_back kind.Constant = refl
+kind_back kind.Theorem = refl
+
+abbrev pub coded_key : Coded KeyValue
+coded_key =
+    code_by (Kind × List ℕ) (coded× (code_by ℕ coded_ℕ kind_rank kind_at kind_back) coded_name)
+    (λ k. (k.kind, k.name))
+    (λ p. record { kind = p.0; name = p.1 })
+    (λ _. refl)
+
+-- ---- entries
+
+abbrev theorem_in : EntryValue → Theorem
+theorem_in (ATheorem th) = th
+
+pub entry_back : (e : EntryValue) → ATheorem (theorem_in e) ≡ e
+entry_back (ATheorem th) = refl
+
+abbrev pub coded_entry : Coded EntryValue
+coded_entry = code_by Theorem theorem_code theorem_in ATheorem entry_back
+
+abbrev pub coded_entries : Coded Entries
+coded_entries = coded_list (coded× coded_key coded_entry)
+
+-- ---- states
 
 abbrev pub coded_goal : Coded GoalValue
 coded_goal =
     code_by (List Nameless × Nameless) (coded× (coded_list coded_nameless) coded_nameless)
     (λ g. (g.assumptions, g.conclusion))
     (λ p. record { assumptions = p.0; conclusion = p.1 })
-    (λ _. refl)
-
-abbrev pub coded_entry : Coded EntryValue
-coded_entry =
-    code_by (List ℕ × Theorem) (coded× coded_name theorem_code)
-    (λ e. (e.name, e.theorem))
-    (λ p. record { name = p.0; theorem = p.1 })
     (λ _. refl)
 
 abbrev pub coded_step : Coded StepValue
@@ -41,10 +76,12 @@ coded_proof =
 
 abbrev pub coded_state : Coded StateValue
 coded_state =
-    code_by (List EntryValue × Option ProofValue) (coded× (coded_list coded_entry) (coded_option coded_proof))
+    code_by (Entries × Option ProofValue) (coded× coded_entries (coded_option coded_proof))
     (λ s. (s.entries, s.proof))
     (λ p. record { entries = p.0; proof = p.1 })
     (λ _. refl)
+
+-- ---- reads
 
 abbrev pub coded_closing : Coded ClosingValue
 coded_closing =
@@ -53,10 +90,65 @@ coded_closing =
     (λ p. record { name = p.0.0; statement = p.0.1; basis = p.1.0; open_goals = p.1.1 })
     (λ _. refl)
 
+abbrev coded_values : Coded Values
+coded_values = coded_list (coded× coded_key (coded_option coded_entry))
+
 abbrev pub coded_reads : Coded ReadsValue
 coded_reads =
-    code_by ((List (List ℕ × Option Theorem) × Bool) × (Option GoalValue × Option ClosingValue))
-    (coded× (coded× (coded_list (coded× coded_name (coded_option theorem_code))) coded_bool) (coded× (coded_option coded_goal) (coded_option coded_closing)))
-    (λ r. ((r.theorems, r.in_proof), (r.goal, r.closing)))
-    (λ p. record { theorems = p.0.0; in_proof = p.0.1; goal = p.1.0; closing = p.1.1 })
+    code_by ((Values × Values) × (Bool × (Option GoalValue × Option ClosingValue)))
+    (coded× (coded× coded_values coded_values) (coded× coded_bool (coded× (coded_option coded_goal) (coded_option coded_closing))))
+    (λ r. ((r.cited, r.made), (r.in_proof, (r.goal, r.closing))))
+    (λ p. record { cited = p.0.0; made = p.0.1; in_proof = p.1.0; goal = p.1.1.0; closing = p.1.1.1 })
     (λ _. refl)
+
+-- ---- outcomes
+
+abbrev refusal_at : ℕ → RefusalKind
+refusal_at n =
+    if n == 1 then Syntax else if n == 2 then InProof else if n == 3 then NoProofOpen else if n == 5 then UnknownTheorem else if n == 6 then UnknownTac
+    else if n == 7 then Untypable else if n == 8 then NotBool else if n == 9 then Arity else if n == 10 then NameTaken else if n == 13 then TooLarge
+    else if n == 16 then NoGoalOpen else if n == 17 then Refused else GoalsRemain
+
+pub refusal_back : (k : RefusalKind) → refusal_at (kind_number k) ≡ k
+refusal_back Syntax = refl
+refusal_back InProof = refl
+refusal_back NoProofOpen = refl
+refusal_back UnknownTheorem = refl
+refusal_back UnknownTac = refl
+refusal_back Untypable = refl
+refusal_back NotBool = refl
+refusal_back Arity = refl
+refusal_back NameTaken = refl
+refusal_back TooLarge = refl
+refusal_back NoGoalOpen = refl
+refusal_back Refused = refl
+refusal_back GoalsRemain = refl
+
+abbrev Cases : Type 0
+Cases = (List ℕ × (Nameless × Items)) ⊎ ((GoalValue × (List GoalValue × Items)) ⊎ (Entries ⊎ (RefusalKind × List ℕ)))
+
+abbrev cases : OutcomeValue → Cases
+cases (Opens name statement basis) = inl (name, (statement, basis))
+cases (Leaves goal goals basis) = inr (inl (goal, (goals, basis)))
+cases (Makes entries) = inr (inr (inl entries))
+cases (Refuses kind arg) = inr (inr (inr (kind, arg)))
+
+abbrev outcome : Cases → OutcomeValue
+outcome (inl o) = Opens o.0 o.1.0 o.1.1
+outcome (inr (inl o)) = Leaves o.0 o.1.0 o.1.1
+outcome (inr (inr (inl entries))) = Makes entries
+outcome (inr (inr (inr o))) = Refuses o.0 o.1
+
+pub outcome_back : (o : OutcomeValue) → outcome (cases o) ≡ o
+outcome_back (Opens name statement basis) = refl
+outcome_back (Leaves goal goals basis) = refl
+outcome_back (Makes entries) = refl
+outcome_back (Refuses kind arg) = refl
+
+abbrev pub coded_outcome : Coded OutcomeValue
+coded_outcome =
+    code_by Cases
+    (coded⊎ (coded× coded_name (coded× coded_nameless items_code))
+    (coded⊎ (coded× coded_goal (coded× (coded_list coded_goal) items_code))
+    (coded⊎ coded_entries (coded× (code_by ℕ coded_ℕ kind_number refusal_at refusal_back) coded_name))))
+    cases outcome outcome_back

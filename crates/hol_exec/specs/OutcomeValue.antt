@@ -1,18 +1,24 @@
 -- What a command does to a state, and the state after it.
 -- Source: HOL Light's goal stacks (tactics.ml), and the scheme of goals and subgoals of Edinburgh LCF (LNCS 78).
 use Rattle.std.specs.Prelude.{ℕ, List, [], ◌∷◌, ◌++◌, Option, Some, None, drop}
+use Rattle.std.specs.FinSet as set
+use Rattle.indexmap.specs.IndexMap.{insert_all}
 use Rattle.hol_terms.specs.Nameless.{Nameless}
 use Rattle.hol_kernel.specs.Items.{Items}
 use Rattle.hol_exec.specs.declared.refusal.RefusalKind.{RefusalKind}
 use Rattle.hol_exec.specs.Goal.{GoalValue}
-use Rattle.hol_exec.specs.StateValue.{EntryValue, ProofValue, StateValue}
+use Rattle.hol_exec.specs.Key.{key_eq}
+use Rattle.hol_exec.specs.Entry.{Entries, EachIsEntry}
+use Rattle.hol_exec.specs.StateValue.{ProofValue, StateValue}
 
--- an opened proof with its name, statement and basis; the goals that stand in the place of the first; the entries made by a
--- finished proof; or a refusal with what it speaks of
 pub data OutcomeValue : Type 0 where
+  -- a proof is opened, of this name, statement and basis
   Opens : List ℕ → Nameless → Items → OutcomeValue
-  Leaves : List GoalValue → OutcomeValue
-  Proves : List EntryValue → OutcomeValue
+  -- the first goal, which is this one, gives way to these; the basis is that of all that was resolved
+  Leaves : GoalValue → List GoalValue → Items → OutcomeValue
+  -- these entries are made, and no proof is open any more
+  Makes : Entries → OutcomeValue
+  -- the command is refused, with what the refusal speaks of
   Refuses : RefusalKind → List ℕ → OutcomeValue
 
 abbrev pub opened : List ℕ → Nameless → Items → ProofValue
@@ -23,22 +29,29 @@ opened name statement basis = record {
   earlier = [];
 }
 
--- the first goal gives way to the goals left: a new element of the history, with the same basis
-abbrev pub stepped : List GoalValue → ProofValue → ProofValue
-stepped goals p = record {
+-- a new element of the history: the goals in the place of the first, and the basis joined with the proof's
+abbrev pub stepped : List GoalValue → Items → ProofValue → ProofValue
+stepped goals basis p = record {
   name = p.name;
   statement = p.statement;
-  newest = record { goals = goals ++ drop 1 p.newest.goals; basis = p.newest.basis };
-  earlier = p.earlier ++ p.newest ∷ [];
+  newest = record { goals = goals ++ drop 1 p.newest.goals; basis = set.union p.newest.basis basis };
+  earlier = p.newest ∷ p.earlier;
 }
 
-abbrev pub stepped_in : List GoalValue → Option ProofValue → Option ProofValue
-stepped_in goals None = None
-stepped_in goals (Some p) = Some (stepped goals p)
+abbrev pub stepped_in : List GoalValue → Items → Option ProofValue → Option ProofValue
+stepped_in goals basis None = None
+stepped_in goals basis (Some p) = Some (stepped goals basis p)
 
 -- the next state: the same one for a refusal
 abbrev pub after : StateValue → OutcomeValue → StateValue
 after s (Opens name statement basis) = record { entries = s.entries; proof = Some (opened name statement basis) }
-after s (Leaves goals) = record { entries = s.entries; proof = stepped_in goals s.proof }
-after s (Proves entries) = record { entries = s.entries ++ entries; proof = None }
+after s (Leaves goal goals basis) = record { entries = s.entries; proof = stepped_in goals basis s.proof }
+after s (Makes entries) = record { entries = insert_all key_eq s.entries entries; proof = None }
 after s (Refuses kind arg) = s
+
+-- each theorem that is made has a derivation over its basis, which is legal
+abbrev pub MakesTheorems : OutcomeValue → Type 0
+MakesTheorems (Opens name statement basis) = Unit {0}
+MakesTheorems (Leaves goal goals basis) = Unit {0}
+MakesTheorems (Makes entries) = EachIsEntry entries
+MakesTheorems (Refuses kind arg) = Unit {0}

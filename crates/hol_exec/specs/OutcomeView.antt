@@ -1,12 +1,12 @@
 -- The outcome that the program's value stands for.
 use Rattle.std.specs.Prelude.{[], string_bytes}
 use Rattle.hol_terms.specs.Nameless.{nameless}
-use Rattle.hol_exec.specs.declared.outcome.Outcome.{Outcome}
-use Rattle.hol_exec.specs.declared.outcome.Outcome.TheVariants as code
-use Rattle.hol_exec.specs.OutcomeValue.{OutcomeValue, Opens, Leaves, Proves, Refuses}
+use Rattle.hol_exec.specs.declared.outcome.Change.{Change}
+use Rattle.hol_exec.specs.declared.outcome.Change.TheVariants as change
+use Rattle.hol_exec.specs.OutcomeValue.{OutcomeValue, Opens, Leaves, Makes, Refuses}
 
-abbrev pub outcome_value : Outcome → OutcomeValue
-outcome_value (code.Opens name statement basis) = Opens (string_bytes name) (nameless [] statement) basis
-outcome_value (code.Leaves goals) = Leaves goals.items
-outcome_value (code.Proves entries) = Proves entries.items
-outcome_value (code.Refuses kind arg) = Refuses kind (string_bytes arg)
+abbrev pub outcome_of : Change → OutcomeValue
+outcome_of (change.Opens name statement basis) = Opens (string_bytes name) (nameless [] statement) basis
+outcome_of (change.Leaves goal goals basis) = Leaves goal goals.items basis
+outcome_of (change.Makes entries) = Makes entries.items
+outcome_of (change.Refuses kind arg) = Refuses kind (string_bytes arg)

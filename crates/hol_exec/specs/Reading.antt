@@ -5,22 +5,22 @@ use Rattle.std.specs.Prelude.{◌≡◌, ◌≢◌, ◌≤◌, [], true, false, 
 use Rattle.hol_terms.specs.Nameless.{Nameless, nameless_type}
 use Rattle.hol_terms.specs.Size.{term_size}
 use Rattle.hol_formulas.specs.Equation.{bool_type}
-use Rattle.hol_formulas.specs.Constants.{prelude_types, prelude_constants}
 use Rattle.hol_notation_terms.specs.Text.{TermText}
 use Rattle.hol_infer.specs.Raw.{RawTree}
 use Rattle.hol_infer.specs.Resolving.{raw_of, term_has_arities}
 use Rattle.hol_infer.specs.Typing.{HasNoTyping}
 use Rattle.hol_infer.specs.Reading.{IsReading, HasLargeReading}
+use Rattle.hol_exec.specs.Lookups.{LookupsValue}
 
--- the term with its identifiers resolved, where the prelude alone stands: no command of this language makes a type or constant
-abbrev pub over_prelude : TermText → RawTree
-over_prelude t = raw_of prelude_types prelude_constants [] t
+-- the term with its identifiers resolved
+abbrev pub resolved : LookupsValue → TermText → RawTree
+resolved over t = raw_of over.types over.constants [] t
 
--- The reading of a term: the typing of which every other is an instance, of at most 20,000 nodes. It is well typed over the prelude, as the
+-- The reading of a term: the typing of which every other is an instance, of at most 20,000 nodes. It is well typed over what stands, as the
 -- law `readings_stand` of hol_infer says.
-pub record IsSmallReading (t : TermText) (p : Nameless) : Type 0 where
-  pub arities : term_has_arities prelude_types t ≡ true
-  pub reading : IsReading (over_prelude t) p
+pub record IsSmallReading (over : LookupsValue) (t : TermText) (p : Nameless) : Type 0 where
+  pub arities : term_has_arities over.types t ≡ true
+  pub reading : IsReading (resolved over t) p
   pub small : term_size [] p ≤ 20000
 
 pub data ReadingValue : Type 0 where
@@ -31,14 +31,14 @@ pub data ReadingValue : Type 0 where
   Statement : Nameless → ReadingValue
 
 -- A reading of another type than bool. That of a quotation that leaves its type open, as `x` does, is one too.
-pub record IsNotBool (t : TermText) : Type 0 where
+pub record IsNotBool (over : LookupsValue) (t : TermText) : Type 0 where
   pub term : Nameless
-  pub reads : IsSmallReading t term
+  pub reads : IsSmallReading over t term
   pub other : nameless_type [] term ≢ Some bool_type
 
-abbrev pub IsReadAs : TermText → ReadingValue → Type 0
-IsReadAs t WrongArity = term_has_arities prelude_types t ≡ false
-IsReadAs t NoTyping = (term_has_arities prelude_types t ≡ true) × HasNoTyping (over_prelude t)
-IsReadAs t LargeReading = (term_has_arities prelude_types t ≡ true) × HasLargeReading (over_prelude t)
-IsReadAs t NotBool = IsNotBool t
-IsReadAs t (Statement p) = IsSmallReading t p × (nameless_type [] p ≡ Some bool_type)
+abbrev pub IsReadAs : LookupsValue → TermText → ReadingValue → Type 0
+IsReadAs over t WrongArity = term_has_arities over.types t ≡ false
+IsReadAs over t NoTyping = (term_has_arities over.types t ≡ true) × HasNoTyping (resolved over t)
+IsReadAs over t LargeReading = (term_has_arities over.types t ≡ true) × HasLargeReading (resolved over t)
+IsReadAs over t NotBool = IsNotBool over t
+IsReadAs over t (Statement p) = IsSmallReading over t p × (nameless_type [] p ≡ Some bool_type)

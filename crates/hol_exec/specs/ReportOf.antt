@@ -2,8 +2,10 @@
 use Rattle.std.specs.Prelude.{ℕ, List, [], ◌++◌, codes, map, Option, Some, None}
 use Rattle.hol_terms.specs.Nameless.{Nameless}
 use Rattle.hol_exec.specs.Goal.{GoalValue}
-use Rattle.hol_exec.specs.StateValue.{EntryValue, ProofValue, StateValue}
-use Rattle.hol_exec.specs.OutcomeValue.{OutcomeValue, Opens, Leaves, Proves, Refuses}
+use Rattle.hol_exec.specs.Key.{KeyValue}
+use Rattle.hol_exec.specs.Entry.{EntryValue, ATheorem}
+use Rattle.hol_exec.specs.StateValue.{StateValue, open_goals}
+use Rattle.hol_exec.specs.OutcomeValue.{OutcomeValue, Opens, Leaves, Makes, Refuses}
 use Rattle.hol_exec.specs.ReportValue.{ShownGoalText, ReportValue, ShowsGoals, HasMade, WasRefused}
 use Rattle.hol_print.specs.ShowTerm.{show}
 use Rattle.hol_print.specs.ShowGoal.{show_goal}
@@ -20,17 +22,16 @@ shown_goal goal = let shown = show_goal goal.assumptions goal.conclusion in reco
 abbrev pub theorem_text : Nameless → List ℕ
 theorem_text p = codes "|- " ++ show p
 
--- `thm N |- p`
-abbrev pub entry_text : EntryValue → List ℕ
-entry_text e = codes "thm " ++ e.name ++ codes " " ++ theorem_text e.theorem.sequent.concl
+-- an entry as clients see it: `thm N |- p`
+abbrev pub entry_text_at : KeyValue → EntryValue → List ℕ
+entry_text_at key (ATheorem th) = codes "thm " ++ key.name ++ codes " " ++ theorem_text th.sequent.concl
 
-abbrev pub open_goals : Option ProofValue → List GoalValue
-open_goals None = []
-open_goals (Some p) = p.newest.goals
+abbrev pub entry_text : KeyValue × EntryValue → List ℕ
+entry_text e = entry_text_at e.0 e.1
 
 -- the report on an outcome, `s` being the state after it
 abbrev pub report_of : OutcomeValue → StateValue → ReportValue
 report_of (Opens name statement basis) s = ShowsGoals (map shown_goal (open_goals s.proof))
-report_of (Leaves goals) s = ShowsGoals (map shown_goal (open_goals s.proof))
-report_of (Proves entries) s = HasMade (map entry_text entries)
+report_of (Leaves goal goals basis) s = ShowsGoals (map shown_goal (open_goals s.proof))
+report_of (Makes entries) s = HasMade (map entry_text entries)
 report_of (Refuses kind arg) s = WasRefused kind arg

@@ -1,23 +1,18 @@
 -- The state of a theory while it is run: its entries, and the open proof, if there is one.
 -- Source: HOL Light's goal stacks (tactics.ml); entries are this project's.
-use Rattle.std.specs.Prelude.{ℕ, List, [], ◌∷◌, cond, bytes_eq, Option, Some, None}
+use Rattle.std.specs.Prelude.{ℕ, List, [], ◌∷◌, Option, Some, None}
 use Rattle.hol_terms.specs.Nameless.{Nameless}
 use Rattle.hol_kernel.specs.Items.{Items}
-use Rattle.hol_kernel.specs.Theorem.{Theorem}
 use Rattle.hol_exec.specs.Goal.{GoalValue}
-
--- an entry: a theorem's name, and the theorem
-pub record EntryValue : Type 0 where
-  pub name : List ℕ
-  pub theorem : Theorem
+use Rattle.hol_exec.specs.Entry.{Entries}
 
 -- an element of a proof's history: the open goals, and the basis of all that the proof resolved so far
 pub record StepValue : Type 0 where
   pub goals : List GoalValue
   pub basis : Items
 
--- an open proof: the name and the statement that it was opened with, and its history, the newest element apart from the
--- earlier ones, which stand in the order in which they came
+-- an open proof: the name and the statement of the `g` that opened it, and its history, the newest element apart from the
+-- earlier ones, of which the newest comes first
 pub record ProofValue : Type 0 where
   pub name : List ℕ
   pub statement : Nameless
@@ -25,14 +20,19 @@ pub record ProofValue : Type 0 where
   pub earlier : List StepValue
 
 pub record StateValue : Type 0 where
-  pub entries : List EntryValue
+  pub entries : Entries
   pub proof : Option ProofValue
 
 -- a theory starts from the prelude alone
 abbrev pub start : StateValue
 start = record { entries = []; proof = None }
 
--- the entry of that name
-abbrev pub theorem_in : List EntryValue → List ℕ → Option Theorem
-theorem_in [] name = None
-theorem_in (e ∷ entries) name = cond (bytes_eq e.name name) (Some e.theorem) (theorem_in entries name)
+-- the open goals, in order
+abbrev pub open_goals : Option ProofValue → List GoalValue
+open_goals None = []
+open_goals (Some p) = p.newest.goals
+
+-- a theory that stands earlier, as an import sees it: its name, and the entries of its last state
+pub record EndedTheory : Type 0 where
+  pub name : List ℕ
+  pub entries : Entries

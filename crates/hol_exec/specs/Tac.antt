@@ -1,34 +1,52 @@
--- The functions on goals whose names end in `_TAC` (HOL Light Reference Manual): the known names, and what each leaves of a goal.
-use Rattle.std.specs.Prelude.{ℕ, List, [], ◌∷◌, codes, cond, bytes_eq, Option, Some, None}
-use Rattle.hol_terms.specs.Nameless.{Nameless, fixed, app}
+-- The functions on goals whose names end in `_TAC` (HOL Light Reference Manual), by code: what arguments each takes, and what it leaves of
+-- a goal.
+use Rattle.std.specs.Prelude.{ℕ, List, [], ◌∷◌, cond, bytes_eq, Option, Some, None}
+use Rattle.std.specs.Map.{lookup}
 use Rattle.hol_terms.specs.Alpha.{alpha_eq}
-use Rattle.hol_notation_tactics.specs.Text.{ArgumentText}
+use Rattle.hol_formulas.specs.Equation.{Sides, dest_eq}
+use Rattle.hol_notation_tactics.specs.Text.{ArgumentText, CallText}
 use Rattle.hol_exec.specs.Goal.{GoalValue}
+use Rattle.hol_exec.specs.Setup.{SetupValue}
 use Rattle.hol_exec.specs.declared.tac.TacCode.{TacCode}
 use Rattle.hol_exec.specs.declared.tac.TacCode.TheVariants.{ReflTac}
 
--- the TAC of a name
-abbrev pub tac_named : List ℕ → Option TacCode
-tac_named name = cond (bytes_eq name (codes "REFL_TAC")) (Some ReflTac) None
+-- ---- calls
 
--- the TAC that is called, where its name is known and its arguments are of its kind: REFL_TAC takes none
-abbrev pub tac_called : List ℕ → List ArgumentText → Option TacCode
-tac_called name [] = tac_named name
-tac_called name (a ∷ arguments) = None
+-- a registered TAC with arguments of its kind, before these are resolved: so far one that takes none
+pub data CalledText : Type 0 where
+  Plain : TacCode → CalledText
 
--- the sides of an equation
-abbrev pub sides : Nameless → Option (Nameless × Nameless)
-sides (app (app (fixed c s) l) r) = cond (bytes_eq c (codes "=")) (Some (l, r)) None
-sides t = None
+abbrev pub called_as : TacCode → List ArgumentText → Option CalledText
+called_as ReflTac [] = Some (Plain ReflTac)
+called_as ReflTac (a ∷ arguments) = None
 
-abbrev pub closes_sides : Option (Nameless × Nameless) → Option (List GoalValue)
-closes_sides None = None
-closes_sides (Some p) = cond (alpha_eq p.0 p.1) (Some []) None
+abbrev pub called_by : Option TacCode → List ArgumentText → Option CalledText
+called_by None arguments = None
+called_by (Some code) arguments = called_as code arguments
+
+-- what is called, where the name is registered and its arguments are of the code's kind
+abbrev pub called : SetupValue → CallText → Option CalledText
+called setup call = called_by (lookup (bytes_eq call.name) setup.table) call.arguments
+
+-- ---- what a TAC leaves
+
+-- the arguments of a TAC, resolved
+pub data TacArgsValue : Type 0 where
+  Nothing : TacArgsValue
+
+-- the goals that are left, or the TAC doesn't fit the goal
+pub data AnswerValue : Type 0 where
+  Left : List GoalValue → AnswerValue
+  Unfit : AnswerValue
+
+abbrev pub closes_sides : Option Sides → AnswerValue
+closes_sides None = Unfit
+closes_sides (Some s) = cond (alpha_eq s.left s.right) (Left []) Unfit
 
 -- REFL_TAC closes a goal `s = s`, up to bound names
-abbrev pub refl_tac : GoalValue → Option (List GoalValue)
-refl_tac goal = closes_sides (sides goal.conclusion)
+abbrev pub refl_tac : GoalValue → AnswerValue
+refl_tac goal = closes_sides (dest_eq goal.conclusion)
 
--- the goals that a TAC leaves, or nothing where it is refused
-abbrev pub goals_left : TacCode → GoalValue → Option (List GoalValue)
-goals_left ReflTac goal = refl_tac goal
+-- what the TAC answers on a goal
+abbrev pub tac : TacCode → TacArgsValue → GoalValue → AnswerValue
+tac ReflTac Nothing goal = refl_tac goal

@@ -1,14 +1,15 @@
 //! What the end of a proof reads of it.
-ghost use Rattle.std.specs.Prelude.{◌≡◌, [], IfOk, IfSome, IsSome, string_bytes, Some};
+ghost use Rattle.std.specs.Prelude.{◌≡◌, [], IfOk, IfSome, IsSome, Some};
 ghost use Rattle.hol_terms.specs.Nameless.{nameless};
-ghost use Rattle.hol_exec.specs.ReadsValue.{ClosingValue, closing_of};
-ghost use Rattle.hol_exec.specs.Sound.{IsSoundClosing};
-ghost use Rattle.hol_exec.specs.Local.{proved};
 ghost use Rattle.hol_formulas.specs.Equation.{equation};
 ghost use Rattle.hol_kernel.specs.Typing.{type_over};
+ghost use Rattle.hol_exec.specs.ReadsValue.{ClosingValue, closing_of};
+ghost use Rattle.hol_exec.specs.Valid.{IsSoundClosing};
+ghost use Rattle.hol_exec.specs.Local.{proved};
 
-use crate::equation::sides;
 use crate::proof::Proof;
+use crate::same::{Same, same_basis};
+use hol_formulas::dest_eq;
 use hol_kernel::{Basis, KernelError, Thm};
 use hol_terms::Term;
 use std::alloc::{AllocError, Global};
@@ -16,7 +17,7 @@ use std::marker::Model;
 
 /// What the end of a proof reads of it: its name, statement and basis, and how many goals are open.
 #[derive(Drop)]
-pub struct Closing {
+pub(crate) struct Closing {
     name: String,
     statement: Term,
     basis: Basis,
@@ -28,7 +29,7 @@ impl Model for Closing {
     ghost use Rattle.hol_terms.specs.Nameless.{nameless};
     ghost use Rattle.hol_exec.specs.ReadsValue.{ClosingValue};
     ghost use Rattle.hol_exec.specs.Codes.{coded_closing};
-    ghost use Rattle.hol_exec.specs.Sound.{IsSoundClosing};
+    ghost use Rattle.hol_exec.specs.Valid.{IsSoundClosing};
 
     ghost Value = { ClosingValue };
 
@@ -39,9 +40,18 @@ impl Model for Closing {
     ghost invariant = { λ c. IsSoundClosing (record { name = string_bytes c.name; statement = nameless [] c.statement; basis = c.basis; open_goals = c.open_goals }) };
 }
 
+impl Same for Closing {
+    fn same_as(&self, other: &Closing) -> bool {
+        self.name.as_str() == other.name.as_str()
+            && self.statement.same(&other.statement)
+            && same_basis(&self.basis, &other.basis)
+            && self.open_goals == other.open_goals
+    }
+}
+
 impl Closing {
     /// What the end of the proof reads of it.
-    pub fn of(alloc: Global, proof: &Proof) -> Result<Closing, AllocError>
+    pub(crate) fn of(alloc: Global, proof: &Proof) -> Result<Closing, AllocError>
         ensures { IfOk result (λ c. closing_of (Some proof.now) ≡ Some c) }
     {
         proof.promise();
@@ -58,44 +68,56 @@ impl Closing {
     }
 
     /// The theorem's name.
-    pub fn name(&self) -> &str
+    pub(crate) fn name(&self) -> &str
         ensures { result.now ≡ self.now.name }
     {
         self.name.as_str()
     }
 
     /// The statement.
-    pub fn statement(&self) -> &Term
+    pub(crate) fn statement(&self) -> &Term
         ensures { nameless [] result.now ≡ self.now.statement }
     {
         &self.statement
     }
 
     /// The proof's basis.
-    pub fn basis(&self) -> &Basis
+    pub(crate) fn basis(&self) -> &Basis
         ensures { result.now ≡ self.now.basis }
     {
         &self.basis
     }
 
     /// How many goals are open.
-    pub fn open_goals(&self) -> usize
+    pub(crate) fn open_goals(&self) -> usize
         ensures { result ≡ self.now.open_goals }
     {
         self.open_goals
     }
 
+    /// An equal value.
+    pub(crate) fn copy(&self, alloc: Global) -> Result<Closing, AllocError>
+        ensures { IfOk result (λ c. c ≡ self.now) }
+    {
+        Ok(Closing {
+            name: String::from_str(alloc, self.name.as_str())?,
+            statement: self.statement.copy()?,
+            basis: self.basis.copy()?,
+            open_goals: self.open_goals,
+        })
+    }
+
     /// The theorem of the statement, without hypotheses, on the proof's basis.
-    pub fn theorem(&self, alloc: Global) -> Result<Thm, AllocError>
+    pub(crate) fn theorem(&self, alloc: Global) -> Result<Thm, AllocError>
         requires { self.now.open_goals ≡ 0 }
         ensures { IfOk result (λ th. th ≡ proved self.now.basis self.now.statement) }
     {
         self.promise();
-        let Some((left, right)) = sides(self.statement()) else {
+        let Some(sides) = dest_eq(self.statement()) else {
             unreachable!()
         };
-        let first = reflexive(alloc, self.basis(), left)?;
-        let second = reflexive(alloc, self.basis(), right)?;
+        let first = reflexive(alloc, self.basis(), sides.left)?;
+        let second = reflexive(alloc, self.basis(), sides.right)?;
         match Thm::trans(alloc, &first, &second) {
             Ok(theorem) => Ok(theorem),
             Err(KernelError::Memory) => Err(AllocError),
@@ -104,8 +126,8 @@ impl Closing {
         }
     }
 
-    /// Where no goal is open the statement is proved by reflexivity.
-    pub fn promise(&self)
+    /// The statement is a well typed term of type `bool`, and where no goal is open it is proved by reflexivity.
+    pub(crate) fn promise(&self)
         ensures { IsSoundClosing self.now }
     {
         let _ = &self.name;

@@ -1,58 +1,96 @@
-//! Entries: theorems under their names.
-ghost use Rattle.std.specs.Prelude.{◌≡◌, IfOk, string_bytes};
-ghost use Rattle.hol_exec.specs.StateValue.{EntryValue};
+//! Entries of theories.
+ghost use Rattle.std.specs.Prelude.{◌≡◌, IfOk};
+ghost use Rattle.hol_exec.specs.Key.{KeyValue};
+ghost use Rattle.hol_exec.specs.Entry.{EntryValue, ATheorem, IsEntry, EachIsEntry};
+ghost use Rattle.hol_exec.specs.EntryView.{entry_of_node};
 
+use crate::key::Key;
 use hol_kernel::Thm;
 use std::alloc::{AllocError, Global};
 use std::marker::Model;
 
-/// A theorem under its name.
+/// What stands under a key.
 #[derive(Drop)]
 pub struct Entry {
-    name: String,
-    theorem: Thm,
+    node: EntryNode,
+}
+
+/// The kinds of entries.
+#[derive(Drop)]
+pub enum EntryNode {
+    /// A theorem.
+    Theorem(Thm),
 }
 
 impl Model for Entry {
-    ghost use Rattle.std.specs.Prelude.{string_bytes};
-    ghost use Rattle.hol_exec.specs.StateValue.{EntryValue};
+    ghost use Rattle.hol_exec.specs.Entry.{EntryValue};
+    ghost use Rattle.hol_exec.specs.EntryView.{entry_of_node};
     ghost use Rattle.hol_exec.specs.Codes.{coded_entry};
 
     ghost Value = { EntryValue };
 
     ghost coded = { coded_entry };
 
-    ghost view = { λ e. record { name = string_bytes e.name; theorem = e.theorem } };
+    ghost view = { λ e. entry_of_node e.node };
 }
 
 impl Entry {
-    /// The theorem under this name.
-    pub fn new(name: String, theorem: Thm) -> Entry
-        ensures { result ≡ record { name = string_bytes name; theorem = theorem } }
+    /// The entry of a theorem.
+    pub(crate) fn theorem(theorem: Thm) -> Entry
+        ensures { result ≡ ATheorem theorem }
     {
-        Entry { name, theorem }
+        Entry {
+            node: EntryNode::Theorem(theorem),
+        }
     }
 
-    /// The name.
-    pub fn name(&self) -> &str
-        ensures { result.now ≡ self.now.name }
+    /// What it is.
+    pub fn node(&self) -> &EntryNode
+        ensures { entry_of_node result.now ≡ self.now }
     {
-        self.name.as_str()
-    }
-
-    /// The theorem.
-    pub fn theorem(&self) -> &Thm
-        ensures { result.now ≡ self.now.theorem }
-    {
-        &self.theorem
+        &self.node
     }
 
     /// An equal entry.
-    pub fn copy(&self, alloc: Global) -> Result<Entry, AllocError>
+    pub fn copy(&self) -> Result<Entry, AllocError>
         ensures { IfOk result (λ e. e ≡ self.now) }
     {
-        let name = String::from_str(alloc, self.name.as_str())?;
-        let theorem = self.theorem.copy()?;
-        Ok(Entry { name, theorem })
+        match &self.node {
+            EntryNode::Theorem(theorem) => Ok(Entry {
+                node: EntryNode::Theorem(theorem.copy()?),
+            }),
+        }
+    }
+
+    /// The theorem of an entry has a derivation over its basis, which is legal.
+    pub fn promise(&self)
+        ensures { IsEntry self.now }
+    {
+        match &self.node {
+            EntryNode::Theorem(theorem) => theorem.promise(),
+        }
+    }
+}
+
+/// Entries with their keys, as a command makes them.
+pub(crate) type Made = Vec<(Key, Entry)>;
+
+/// A copy of the entries with their keys.
+pub(crate) fn copies(alloc: Global, entries: &[(Key, Entry)]) -> Result<Made, AllocError>
+    ensures { IfOk result (λ copied. copied.items ≡ entries.now) }
+{
+    let mut copied = Vec::with_capacity(alloc, entries.len())?;
+    for entry in entries {
+        copied.push((entry.0.copy(alloc)?, entry.1.copy()?))?;
+    }
+    Ok(copied)
+}
+
+/// Each of the entries keeps its promise.
+pub(crate) fn promise_each(entries: &[(Key, Entry)])
+    ensures { EachIsEntry entries.now }
+{
+    for entry in entries {
+        entry.1.promise();
     }
 }

@@ -3,6 +3,7 @@ ghost use Rattle.std.specs.Prelude.{◌≡◌, ◌++◌, IfOk, OnOk, map, []};
 ghost use Rattle.hol_terms.specs.Nameless.{nameless};
 ghost use Rattle.hol_exec.specs.Goal.{GoalValue};
 
+use crate::same::{Same, same_terms};
 use hol_terms::Term;
 use std::alloc::{AllocError, Global};
 use std::marker::Model;
@@ -25,6 +26,12 @@ impl Model for Goal {
     ghost coded = { coded_goal };
 
     ghost view = { λ g. record { assumptions = map (nameless []) g.assumptions.items; conclusion = nameless [] g.conclusion } };
+}
+
+impl Same for Goal {
+    fn same_as(&self, other: &Goal) -> bool {
+        same_terms(&self.assumptions, &other.assumptions) && self.conclusion.same(&other.conclusion)
+    }
 }
 
 impl Goal {
@@ -51,14 +58,12 @@ impl Goal {
     {
         &self.conclusion
     }
-}
 
-impl Goal {
     /// An equal goal.
     pub fn copy(&self, alloc: Global) -> Result<Goal, AllocError>
         ensures { IfOk result (λ g. g ≡ self.now) }
     {
-        let assumptions = copies(alloc, self.assumptions.as_slice())?;
+        let assumptions = term_copies(alloc, self.assumptions.as_slice())?;
         let conclusion = self.conclusion.copy()?;
         Ok(Goal {
             assumptions,
@@ -67,7 +72,7 @@ impl Goal {
     }
 }
 
-fn copies(alloc: Global, terms: &[Term]) -> Result<Vec<Term>, AllocError>
+fn term_copies(alloc: Global, terms: &[Term]) -> Result<Vec<Term>, AllocError>
     ensures { IfOk result (λ copied. copied.items ≡ terms.now) }
 {
     let mut copied = Vec::with_capacity(alloc, terms.len())?;
@@ -77,8 +82,17 @@ fn copies(alloc: Global, terms: &[Term]) -> Result<Vec<Term>, AllocError>
     Ok(copied)
 }
 
+/// Copies of the goals.
+pub(crate) fn copies(alloc: Global, goals: &[Goal]) -> Result<Vec<Goal>, AllocError>
+    ensures { IfOk result (λ copied. copied.items ≡ goals.now) }
+{
+    let mut copied = Vec::with_capacity(alloc, goals.len())?;
+    add_copies(alloc, &mut copied, goals)?;
+    Ok(copied)
+}
+
 /// Puts copies of the goals at the end.
-pub fn add_copies(alloc: Global, to: &mut Vec<Goal>, goals: &[Goal]) -> Result<(), AllocError>
+pub(crate) fn add_copies(alloc: Global, to: &mut Vec<Goal>, goals: &[Goal]) -> Result<(), AllocError>
     ensures { OnOk result (to.new.items ≡ to.old.items ++ goals.now) }
 {
     for goal in goals {

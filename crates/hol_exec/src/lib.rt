@@ -1,14 +1,18 @@
 //! Commands: what one reads of a theory's state, its outcome, the next state, and the report on it.
+//!
+//! A call that answers a `Result` answers its memory error where memory is short, and nowhere else.
 #![tactic(auto)]
 
-mod cited;
 mod closing;
+mod direct_outcome;
 mod entry;
-mod equation;
 mod goal;
+mod key;
+mod keys;
 mod laws;
 mod next;
 mod outcome;
+mod parsed;
 mod proof;
 mod reading;
 mod reads;
@@ -16,20 +20,23 @@ mod refusal;
 mod report;
 mod reporting;
 mod run;
-mod running;
+mod same;
+mod setup;
 mod state;
 mod tac;
-#[cfg(test)]
-mod tests;
 
-pub use goal::Goal;
+pub use direct_outcome::{Ended, direct};
+pub use entry::{Entry, EntryNode};
+pub use key::{Key, Kind};
 pub use laws::{one_outcome, one_text};
 pub use next::apply;
 pub use outcome::Outcome;
+pub use parsed::{DirectCommand, LocalCommand, Parsed, parse};
 pub use reads::Reads;
 pub use refusal::RefusalKind;
 pub use report::{Report, ShownGoal};
 pub use reporting::report_of;
-pub use run::{direct, run_local};
-pub use running::read_running;
+pub use run::run_local;
+pub use setup::{Setup, set_up};
 pub use state::State;
+pub use tac::TacCode;

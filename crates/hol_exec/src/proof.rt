@@ -1,11 +1,9 @@
 //! Open proofs.
-ghost use Rattle.std.specs.Prelude.{◌≡◌, ◌++◌, ◌∷◌, [], OnOk, OnErr, IfOk, string_bytes, drop, option_map, List};
+ghost use Rattle.std.specs.Prelude.{◌≡◌, ◌++◌, [], OnOk, OnErr, IfOk, string_bytes, drop};
 ghost use Rattle.hol_terms.specs.Nameless.{nameless};
-ghost use Rattle.hol_exec.specs.Goal.{GoalValue};
-ghost use Rattle.hol_exec.specs.StateValue.{StepValue, ProofValue};
+ghost use Rattle.hol_kernel.specs.Items.{no_items};
 ghost use Rattle.hol_exec.specs.OutcomeValue.{opened, stepped};
-ghost use Rattle.hol_exec.specs.ReadsValue.{first_of};
-ghost use Rattle.hol_exec.specs.Sound.{IsStatement, IsReflexive, IsSoundProof};
+ghost use Rattle.hol_exec.specs.Valid.{IsStatement, IsReflexive, IsSoundProof};
 
 use crate::goal::{Goal, add_copies};
 use hol_kernel::Basis;
@@ -32,9 +30,9 @@ impl Model for Step {
     ghost view = { λ s. record { goals = s.goals.items; basis = s.basis } };
 }
 
-/// An open proof: the name and the statement that it was opened with, and its history.
+/// An open proof: the name and the statement that it was opened with, and its history. Of the earlier elements the newest stands last.
 #[derive(Drop)]
-pub struct Proof {
+pub(crate) struct Proof {
     name: String,
     statement: Term,
     newest: Step,
@@ -42,24 +40,24 @@ pub struct Proof {
 }
 
 impl Model for Proof {
-    ghost use Rattle.std.specs.Prelude.{string_bytes, []};
+    ghost use Rattle.std.specs.Prelude.{string_bytes, [], reverse};
     ghost use Rattle.hol_terms.specs.Nameless.{nameless};
     ghost use Rattle.hol_exec.specs.StateValue.{ProofValue};
     ghost use Rattle.hol_exec.specs.Codes.{coded_proof};
-    ghost use Rattle.hol_exec.specs.Sound.{IsSoundProof};
+    ghost use Rattle.hol_exec.specs.Valid.{IsSoundProof};
 
     ghost Value = { ProofValue };
 
     ghost coded = { coded_proof };
 
-    ghost view = { λ p. record { name = string_bytes p.name; statement = nameless [] p.statement; newest = p.newest; earlier = p.earlier.items } };
+    ghost view = { λ p. record { name = string_bytes p.name; statement = nameless [] p.statement; newest = p.newest; earlier = reverse p.earlier.items } };
 
-    ghost invariant = { λ p. IsSoundProof (record { name = string_bytes p.name; statement = nameless [] p.statement; newest = p.newest; earlier = p.earlier.items }) };
+    ghost invariant = { λ p. IsSoundProof (record { name = string_bytes p.name; statement = nameless [] p.statement; newest = p.newest; earlier = reverse p.earlier.items }) };
 }
 
 impl Proof {
     /// A proof of a statement, which is its one open goal.
-    pub fn begin(
+    pub(crate) fn begin(
         alloc: Global,
         name: &str,
         statement: &Term,
@@ -82,21 +80,21 @@ impl Proof {
     }
 
     /// The theorem's name.
-    pub fn name(&self) -> &str
+    pub(crate) fn name(&self) -> &str
         ensures { result.now ≡ self.now.name }
     {
         self.name.as_str()
     }
 
     /// The statement that the proof was opened with.
-    pub fn statement(&self) -> &Term
+    pub(crate) fn statement(&self) -> &Term
         ensures { nameless [] result.now ≡ self.now.statement }
     {
         &self.statement
     }
 
     /// The open goals, in order.
-    pub fn goals(&self) -> &[Goal]
+    pub(crate) fn goals(&self) -> &[Goal]
         ensures { result.now ≡ self.now.newest.goals }
     {
         let newest = &self.newest;
@@ -104,26 +102,26 @@ impl Proof {
     }
 
     /// The basis of all that the proof resolved.
-    pub fn basis(&self) -> &Basis
+    pub(crate) fn basis(&self) -> &Basis
         ensures { result.now ≡ self.now.newest.basis }
     {
         let newest = &self.newest;
         &newest.basis
     }
 
-    /// The statement is a well typed term of type `bool`, and where no goal is open it is an equation of terms that differ in bound names
-    /// at most.
-    pub fn promise(&self)
+    /// The statement is a well typed term of type `bool`, and is the one open goal or is proved by reflexivity.
+    pub(crate) fn promise(&self)
         ensures { IsSoundProof self.now }
     {
         let _ = &self.name;
     }
 
-    /// The goals left stand in the place of the first goal, in a new element of the history.
-    pub fn step(&mut self, alloc: Global, left: &[Goal]) -> Result<(), AllocError>
+    /// The goals left stand in the place of the first goal, in a new element of the history. What closes the goal rests on no items.
+    #[tactic(auto, using(crate::proofs::Steps::reverse_push, crate::proofs::Steps::union_none))]
+    pub(crate) fn step(&mut self, alloc: Global, left: &[Goal]) -> Result<(), AllocError>
         requires closes { left.now ≡ [] }
-        requires proved { IsReflexive self.old.newest.basis self.old.statement }
-        ensures ok { OnOk result (self.new ≡ stepped left.now self.old) }
+        requires proved { IsReflexive self.old.statement }
+        ensures ok { OnOk result (self.new ≡ stepped left.now no_items self.old) }
         ensures err { OnErr result (self.new ≡ self.old) }
     {
         let goals = replaced_first(alloc, left, self.goals())?;

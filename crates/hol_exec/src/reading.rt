@@ -3,19 +3,20 @@ ghost use Rattle.std.specs.Prelude.{◌≡◌, IfOk, []};
 ghost use Rattle.hol_terms.specs.Nameless.{nameless, nameless_type};
 ghost use Rattle.hol_formulas.specs.Equation.{bool_type};
 ghost use Rattle.hol_kernel.specs.Typing.{is_type_at};
+ghost use Rattle.hol_exec.specs.Lookups.{lookups_of};
 ghost use Rattle.hol_exec.specs.Reading.{IsReadAs};
 ghost use Rattle.hol_exec.specs.ReadingView.{reading_value};
 
 use hol_infer::{ReadingError, elaborate};
+use hol_formulas::is_bool;
 use hol_kernel::{prelude_constants, prelude_types};
 use hol_notation_terms::PreTerm;
 use hol_terms::Term;
-use hol_types::{Name, Ty};
 use std::alloc::{AllocError, Global};
 
 /// What a quotation reads as where a statement is wanted.
 #[derive(Drop)]
-pub enum Reading {
+pub(crate) enum Reading {
     /// A type constructor has another number of arguments than its arity.
     WrongArity,
     /// No types make it well typed.
@@ -29,14 +30,14 @@ pub enum Reading {
 }
 
 /// What the term reads as, the prelude's constants and types standing.
-pub fn read_statement(alloc: Global, written: &PreTerm) -> Result<Reading, AllocError>
-    ensures { IfOk result (λ reading. IsReadAs written.now (reading_value reading)) }
+pub(crate) fn read_statement(alloc: Global, written: &PreTerm) -> Result<Reading, AllocError>
+    ensures { IfOk result (λ reading. IsReadAs (lookups_of []) written.now (reading_value reading)) }
 {
     let constants = prelude_constants(alloc)?;
     let arities = prelude_types(alloc)?;
     match elaborate(alloc, written, &constants, &arities) {
         Ok(term) => {
-            if is_bool(alloc, &term)? {
+            if is_statement(&term) {
                 Ok(Reading::Statement(term))
             } else {
                 Ok(Reading::NotBool)
@@ -51,9 +52,8 @@ pub fn read_statement(alloc: Global, written: &PreTerm) -> Result<Reading, Alloc
 
 // Whether the term is of type `bool`.
 #[tactic(auto, using(hol_terms::proofs::Typing::type_outside))]
-fn is_bool(alloc: Global, term: &Term) -> Result<bool, AllocError>
-    ensures { IfOk result (λ b. b ≡ is_type_at (nameless_type [] (nameless [] term.now)) bool_type) }
+fn is_statement(term: &Term) -> bool
+    ensures { result ≡ is_type_at (nameless_type [] (nameless [] term.now)) bool_type }
 {
-    let truth = Ty::app(alloc, &Name::new(alloc, "bool")?, &[])?;
-    Ok(term.type_of().same(&truth))
+    is_bool(term.type_of())
 }

@@ -1,30 +1,34 @@
 //! What a command reads of a state.
-ghost use Rattle.std.specs.Prelude.{◌≡◌, IfOk, map, string_bytes, option_copied, Some, is_some};
-ghost use Rattle.hol_exec.specs.ReadsValue.{ReadsValue, named_theorems, tactic_names, theorem_names, goal_for, closing_for, reads_of, first_goal};
-ghost use Rattle.hol_exec.specs.StateValue.{theorem_in};
-ghost use Rattle.hol_exec.specs.Local.{is_taken, first_unknown};
+ghost use Rattle.std.specs.Prelude.{◌≡◌, ◌↔◌, IsTrue, IfOk, option_copied};
+ghost use Rattle.hol_exec.specs.Entry.{entry_at};
+ghost use Rattle.hol_exec.specs.Local.{first_taken, first_unknown};
+ghost use Rattle.hol_exec.specs.ParsedView.{local_text};
+ghost use Rattle.hol_exec.specs.SameReads.{same_reads};
+ghost use Rattle.hol_exec.specs.ReadsValue.{ReadsValue, values_of, goal_for, closing_for, reads_of};
 
-use crate::cited::cited_names;
 use crate::closing::Closing;
+use crate::entry::Entry;
 use crate::goal::Goal;
+use crate::key::{Key, Kind};
+use crate::keys::{cited_keys, made_keys};
+use crate::parsed::LocalCommand;
+use crate::same::{same_each, same_options};
 use crate::state::State;
-use hol_kernel::Thm;
-use hol_notation_commands::{Command, CommandNode};
-use hol_notation_tactics::{TacExpr, TacExprNode};
 use std::alloc::{AllocError, Global};
+use std::hash::{Hash, Hasher};
 use std::marker::Model;
 
 /// What a command reads of a state: with the command it determines the outcome.
 #[derive(Drop)]
 pub struct Reads {
-    theorems: Vec<(String, Option<Thm>)>,
+    cited: Vec<(Key, Option<Entry>)>,
+    made: Vec<(Key, Option<Entry>)>,
     in_proof: bool,
     goal: Option<Goal>,
     closing: Option<Closing>,
 }
 
 impl Model for Reads {
-    ghost use Rattle.std.specs.Prelude.{map, string_bytes};
     ghost use Rattle.hol_exec.specs.ReadsValue.{ReadsValue};
     ghost use Rattle.hol_exec.specs.Codes.{coded_reads};
 
@@ -32,153 +36,232 @@ impl Model for Reads {
 
     ghost coded = { coded_reads };
 
-    ghost view = { λ r. record { theorems = map (λ p. (string_bytes p.0, p.1)) r.theorems.items; in_proof = r.in_proof; goal = r.goal; closing = r.closing } };
+    ghost view = { λ r. record { cited = r.cited.items; made = r.made.items; in_proof = r.in_proof; goal = r.goal; closing = r.closing } };
+}
+
+impl PartialEq for Reads {
+    ghost use Rattle.hol_exec.specs.SameReads.{same_reads, same_reads_partial_laws};
+
+    ghost eq = { same_reads };
+
+    ghost laws = { same_reads_partial_laws };
+
+    fn eq(&self, other: &Reads) -> bool {
+        self.same(other)
+    }
+}
+
+impl Eq for Reads {
+    ghost use Rattle.hol_exec.specs.SameReads.{same_reads_laws};
+
+    ghost laws = { same_reads_laws };
+}
+
+// Reads of the same command mostly differ in the values of their keys, or not at all: the hash is of what costs nothing.
+impl Hash for Reads {
+    ghost use Rattle.std.specs.Prelude.{◌++◌, length};
+    ghost use Rattle.std.specs.Hash as fed;
+    ghost use Rattle.hol_exec.specs.SameReads.{reads_fed};
+
+    ghost hash_input = { λ r. fed.bool r.in_proof ++ fed.usize (length r.cited) };
+
+    ghost respects_eq = { reads_fed };
+
+    fn hash<H: Hasher>(&self, state: &mut H) {
+        self.in_proof.hash(state);
+        self.cited.len().hash(state);
+    }
 }
 
 impl Reads {
     /// What the command reads of the state.
-    pub fn of(alloc: Global, command: &Command, state: &State) -> Result<Reads, AllocError>
-        ensures { IfOk result (λ r. r ≡ reads_of command.now state.now) }
+    pub fn of(alloc: Global, command: &LocalCommand, state: &State) -> Result<Reads, AllocError>
+        ensures { IfOk result (λ r. r ≡ reads_of (local_text command.now) state.now) }
     {
-        let names = theorem_names(alloc, command)?;
-        let theorems = named_theorems(alloc, &names, state)?;
+        let cited = values_of(alloc, cited_keys(alloc, command)?, state)?;
+        let made = values_of(alloc, made_keys(alloc, command)?, state)?;
         let in_proof = state.proof().is_some();
         let goal = goal_for(alloc, command, state)?;
         let closing = closing_for(alloc, command, state)?;
         Ok(Reads {
-            theorems,
+            cited,
+            made,
             in_proof,
             goal,
             closing,
         })
     }
 
-    /// The first name that has no theorem, of those that the command cites or makes.
-    pub fn first_unknown(&self) -> Option<&str>
-        ensures { option_copied result ≡ first_unknown self.now.theorems }
+    /// The first theorem's name that is cited and under which nothing stands.
+    pub(crate) fn first_unknown(&self) -> Option<&str>
+        ensures { option_copied result ≡ first_unknown self.now.cited }
     {
-        for pair in &self.theorems {
-            if pair.1.is_none() {
-                return Some(pair.0.as_str());
+        for value in &self.cited {
+            if let (Kind::Theorem, None) = (value.0.kind(), &value.1) {
+                return Some(value.0.name());
             }
         }
         None
     }
 
-    /// Whether one of the names that the command makes has a theorem already.
-    pub fn is_taken(&self) -> bool
-        ensures { result ≡ is_taken self.now.theorems }
+    /// The first key that the command makes and under which something stands.
+    pub(crate) fn first_taken(&self) -> Option<&Key>
+        ensures { option_copied result ≡ first_taken self.now.made }
     {
-        for pair in &self.theorems {
-            if pair.1.is_some() {
-                return true;
+        for value in &self.made {
+            if value.1.is_some() {
+                return Some(&value.0);
             }
         }
-        false
+        None
     }
 
     /// Whether a proof is open.
-    pub fn in_proof(&self) -> bool
+    pub(crate) fn in_proof(&self) -> bool
         ensures { result ≡ self.now.in_proof }
     {
         self.in_proof
     }
 
     /// The first open goal, for a command that runs a TAC.
-    pub fn goal(&self) -> Option<&Goal>
+    pub(crate) fn goal(&self) -> Option<&Goal>
         ensures { option_copied result ≡ self.now.goal }
     {
         self.goal.as_ref()
     }
 
     /// What the end of the proof reads of it.
-    pub fn closing(&self) -> Option<&Closing>
+    pub(crate) fn closing(&self) -> Option<&Closing>
         ensures { option_copied result ≡ self.now.closing }
     {
         self.closing.as_ref()
     }
-}
 
-// The names of theorems that the command cites or makes.
-fn theorem_names(alloc: Global, command: &Command) -> Result<Vec<String>, AllocError>
-    ensures { IfOk result (λ names. map string_bytes names.items ≡ theorem_names command.now) }
-{
-    match command.node() {
-        CommandNode::Goal { name, quotation: _ } => {
-            let mut names = Vec::new(alloc);
-            names.push(String::from_str(alloc, name.as_str())?)?;
-            Ok(names)
-        }
-        CommandNode::Apply(tactic) => tactic_names(alloc, tactic),
-        _ => Ok(Vec::new(alloc)),
+    /// Whether both are the same: terms with their base names, and theorems with their bases.
+    #[tactic(auto, using(crate::proofs::Comparing::test_is))]
+    pub fn same(&self, other: &Reads) -> bool
+        ensures equal { IsTrue result ↔ (self.now ≡ other.now) }
+        ensures test { result ≡ same_reads self.now other.now }
+    {
+        self.has_same_parts(other)
+    }
+
+    // Whether the parts are the same, one by one.
+    fn has_same_parts(&self, other: &Reads) -> bool
+        ensures { IsTrue result ↔ (self.now ≡ other.now) }
+    {
+        same_each(&self.cited, &other.cited)
+            && same_each(&self.made, &other.made)
+            && self.in_proof == other.in_proof
+            && same_options(&self.goal, &other.goal)
+            && same_options(&self.closing, &other.closing)
+    }
+
+    /// Equal reads.
+    pub fn copy(&self, alloc: Global) -> Result<Reads, AllocError>
+        ensures { IfOk result (λ r. r ≡ self.now) }
+    {
+        let goal = match &self.goal {
+            Some(goal) => Some(goal.copy(alloc)?),
+            None => None,
+        };
+        let closing = match &self.closing {
+            Some(closing) => Some(closing.copy(alloc)?),
+            None => None,
+        };
+        Ok(Reads {
+            cited: value_copies(alloc, &self.cited)?,
+            made: value_copies(alloc, &self.made)?,
+            in_proof: self.in_proof,
+            goal,
+            closing,
+        })
     }
 }
 
-fn tactic_names(alloc: Global, tactic: &TacExpr) -> Result<Vec<String>, AllocError>
-    ensures { IfOk result (λ names. map string_bytes names.items ≡ tactic_names tactic.now) }
-{
-    match tactic.node() {
-        TacExprNode::Call(call) => cited_names(alloc, &call.arguments),
-        _ => Ok(Vec::new(alloc)),
-    }
-}
-
-// The names, each with its theorem, if there is one.
-fn named_theorems(
+// The keys, each with what stands under it, if anything does.
+fn values_of(
     alloc: Global,
-    names: &[String],
+    keys: Vec<Key>,
     state: &State,
-) -> Result<Vec<(String, Option<Thm>)>, AllocError>
-    ensures { IfOk result (λ pairs. map (λ p. (string_bytes p.0, p.1)) pairs.items ≡ named_theorems state.now.entries (map string_bytes names.now)) }
+) -> Result<Vec<(Key, Option<Entry>)>, AllocError>
+    ensures { IfOk result (λ values. values.items ≡ values_of state.now.entries keys.items) }
 {
-    let mut pairs = Vec::with_capacity(alloc, names.len())?;
-    for name in names {
-        pairs.push(named_theorem(alloc, name.as_str(), state)?)?;
+    let mut values = Vec::with_capacity(alloc, keys.len())?;
+    for key in &keys {
+        values.push(value_of(alloc, key, state)?)?;
     }
-    Ok(pairs)
+    Ok(values)
 }
 
-fn named_theorem(
-    alloc: Global,
-    name: &str,
-    state: &State,
-) -> Result<(String, Option<Thm>), AllocError>
-    ensures { IfOk result (λ p. (string_bytes p.0 ≡ name.now) × (p.1 ≡ theorem_in state.now.entries name.now)) }
+fn value_of(alloc: Global, key: &Key, state: &State) -> Result<(Key, Option<Entry>), AllocError>
+    ensures { IfOk result (λ value. value ≡ (key.now, entry_at key.now state.now.entries)) }
 {
-    let theorem = match state.thm(name) {
-        Some(theorem) => Some(theorem.copy()?),
+    let entry = match state.entry(key) {
+        Some(entry) => Some(entry.copy()?),
         None => None,
     };
-    Ok((String::from_str(alloc, name)?, theorem))
+    Ok((key.copy(alloc)?, entry))
 }
 
-fn goal_for(alloc: Global, command: &Command, state: &State) -> Result<Option<Goal>, AllocError>
-    ensures { IfOk result (λ goal. goal ≡ goal_for command.now state.now.proof) }
+fn entry_copy(entry: &Option<Entry>) -> Result<Option<Entry>, AllocError>
+    ensures { IfOk result (λ copied. copied ≡ entry.now) }
 {
-    let CommandNode::Apply(_) = command.node() else {
-        return Ok(None);
-    };
-    let Some(proof) = state.proof() else {
-        return Ok(None);
-    };
-    match proof.goals() {
-        [first, ..] => Ok(Some(first.copy(alloc)?)),
-        [] => Ok(None),
+    match entry {
+        Some(entry) => Ok(Some(entry.copy()?)),
+        None => Ok(None),
+    }
+}
+
+fn value_copies(
+    alloc: Global,
+    values: &[(Key, Option<Entry>)],
+) -> Result<Vec<(Key, Option<Entry>)>, AllocError>
+    ensures { IfOk result (λ copied. copied.items ≡ values.now) }
+{
+    let mut copied = Vec::with_capacity(alloc, values.len())?;
+    for value in values {
+        copied.push((value.0.copy(alloc)?, entry_copy(&value.1)?))?;
+    }
+    Ok(copied)
+}
+
+fn goal_for(
+    alloc: Global,
+    command: &LocalCommand,
+    state: &State,
+) -> Result<Option<Goal>, AllocError>
+    ensures { IfOk result (λ goal. goal ≡ goal_for (local_text command.now) state.now.proof) }
+{
+    match command {
+        LocalCommand::Apply(_) => match state.goals() {
+            [first, ..] => Ok(Some(first.copy(alloc)?)),
+            [] => Ok(None),
+        },
+        LocalCommand::Goal {
+            name: _,
+            quotation: _,
+        }
+        | LocalCommand::Qed => Ok(None),
     }
 }
 
 fn closing_for(
     alloc: Global,
-    command: &Command,
+    command: &LocalCommand,
     state: &State,
 ) -> Result<Option<Closing>, AllocError>
-    ensures { IfOk result (λ closing. closing ≡ closing_for command.now state.now.proof) }
+    ensures { IfOk result (λ closing. closing ≡ closing_for (local_text command.now) state.now.proof) }
 {
-    let CommandNode::Qed = command.node() else {
-        return Ok(None);
-    };
-    let Some(proof) = state.proof() else {
-        return Ok(None);
-    };
-    Ok(Some(Closing::of(alloc, proof)?))
+    match command {
+        LocalCommand::Qed => match state.proof() {
+            Some(proof) => Ok(Some(Closing::of(alloc, proof)?)),
+            None => Ok(None),
+        },
+        LocalCommand::Goal {
+            name: _,
+            quotation: _,
+        }
+        | LocalCommand::Apply(_) => Ok(None),
+    }
 }

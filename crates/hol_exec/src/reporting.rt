@@ -1,13 +1,12 @@
 //! The report on a command.
 ghost use Rattle.std.specs.Prelude.{◌≡◌, IfOk, map, string_bytes};
-ghost use Rattle.hol_exec.specs.StateValue.{ProofValue};
-ghost use Rattle.hol_exec.specs.OutcomeView.{outcome_value};
-ghost use Rattle.hol_exec.specs.ReportOf.{report_of, open_goals, entry_text, shown_goal};
+ghost use Rattle.hol_exec.specs.ReportOf.{report_of, entry_text, shown_goal};
 ghost use Rattle.hol_exec.specs.ReportView.{report_value, shown_goal_text};
 
-use crate::entry::Entry;
+use crate::entry::{Entry, EntryNode};
 use crate::goal::Goal;
-use crate::outcome::Outcome;
+use crate::key::Key;
+use crate::outcome::{Change, Outcome};
 use crate::report::{Report, ShownGoal};
 use crate::state::State;
 use hol_print::{show_goal, show_term};
@@ -15,15 +14,14 @@ use std::alloc::{AllocError, Global};
 
 /// The report on an outcome, the state being that after it.
 pub fn report_of(alloc: Global, outcome: &Outcome, state: &State) -> Result<Report, AllocError>
-    ensures { IfOk result (λ report. report_value report ≡ report_of (outcome_value outcome.now) state.now) }
+    ensures { IfOk result (λ report. report_value report ≡ report_of outcome.now state.now) }
 {
-    match outcome {
-        Outcome::Opens(_, _, _) | Outcome::Leaves(_) => Ok(Report::Goals(shown_goals(
-            alloc,
-            state.goals(),
-        )?)),
-        Outcome::Proves(entries) => Ok(Report::Made(entry_texts(alloc, entries)?)),
-        Outcome::Refuses(no, arg) => Ok(Report::Refusal {
+    match outcome.change() {
+        Change::Opens(_, _, _) | Change::Leaves(_, _, _) => {
+            Ok(Report::Goals(shown_goals(alloc, state.goals())?))
+        }
+        Change::Makes(entries) => Ok(Report::Made(entry_texts(alloc, entries)?)),
+        Change::Refuses(no, arg) => Ok(Report::Refusal {
             no: *no,
             arg: String::from_str(alloc, arg.as_str())?,
         }),
@@ -51,23 +49,27 @@ fn shown_goal(alloc: Global, goal: &Goal) -> Result<ShownGoal, AllocError>
     })
 }
 
-fn entry_text(alloc: Global, entry: &Entry) -> Result<String, AllocError>
-    ensures { IfOk result (λ text. string_bytes text ≡ entry_text entry.now) }
+fn entry_text(alloc: Global, key: &Key, entry: &Entry) -> Result<String, AllocError>
+    ensures { IfOk result (λ text. string_bytes text ≡ entry_text (key.now, entry.now)) }
 {
-    let mut text = String::from_str(alloc, "thm ")?;
-    text.push_str(entry.name())?;
-    text.push_str(" |- ")?;
-    let conclusion = show_term(alloc, entry.theorem().concl())?;
-    text.push_str(conclusion.as_str())?;
-    Ok(text)
+    match entry.node() {
+        EntryNode::Theorem(theorem) => {
+            let mut text = String::from_str(alloc, "thm ")?;
+            text.push_str(key.name())?;
+            text.push_str(" |- ")?;
+            let conclusion = show_term(alloc, theorem.concl())?;
+            text.push_str(conclusion.as_str())?;
+            Ok(text)
+        }
+    }
 }
 
-fn entry_texts(alloc: Global, entries: &[Entry]) -> Result<Vec<String>, AllocError>
+fn entry_texts(alloc: Global, entries: &[(Key, Entry)]) -> Result<Vec<String>, AllocError>
     ensures { IfOk result (λ texts. map string_bytes texts.items ≡ map entry_text entries.now) }
 {
     let mut texts = Vec::with_capacity(alloc, entries.len())?;
     for entry in entries {
-        texts.push(entry_text(alloc, entry)?)?;
+        texts.push(entry_text(alloc, &entry.0, &entry.1)?)?;
     }
     Ok(texts)
 }

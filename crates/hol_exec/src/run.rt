@@ -1,74 +1,72 @@
 //! The outcome of a command from what it reads.
-ghost use Rattle.std.specs.Prelude.{◌≡◌, IfOk, true, string_bytes, decimal, []};
+ghost use Rattle.std.specs.Prelude.{◌≡◌, ℕ, IfOk, decimal, []};
 ghost use Rattle.hol_terms.specs.Nameless.{nameless};
-ghost use Rattle.hol_exec.specs.Running.{is_running};
-ghost use Rattle.hol_exec.specs.Local.{IsLocal, IsOpening, direct, opens, is_taken, theorem_key, runs_call, finishes};
+ghost use Rattle.hol_kernel.specs.Items.{no_items};
+ghost use Rattle.hol_exec.specs.ParsedView.{local_text};
+ghost use Rattle.hol_exec.specs.SetupView.{setup_value};
+ghost use Rattle.hol_exec.specs.TacView.{args_value};
+ghost use Rattle.hol_exec.specs.Key.{key_text};
+ghost use Rattle.hol_exec.specs.Local.{IsLocal, IsOpening, IsApplying, opens, first_taken, applied, finishes, finished};
 ghost use Rattle.hol_exec.specs.OutcomeValue.{Refuses};
-ghost use Rattle.hol_exec.specs.OutcomeView.{outcome_value};
+ghost use Rattle.hol_exec.specs.Valid.{IsStatement};
 
+use crate::closing::Closing;
 use crate::entry::Entry;
+use crate::key::{Key, Kind};
 use crate::outcome::Outcome;
+use crate::parsed::LocalCommand;
 use crate::reading::{Reading, read_statement};
 use crate::reads::Reads;
 use crate::refusal::RefusalKind;
-use crate::tac::{goals_left, tac_called};
+use crate::setup::Setup;
+use crate::tac::{Answer, TacArgs, TacCode, resolve_call, tac};
 use hol_kernel::Basis;
-use hol_notation_commands::{Command, CommandNode};
-use hol_notation_tactics::{TacCall, TacExprNode};
+use hol_notation_tactics::TacCall;
 use hol_notation_terms::Quotation;
 use hol_terms::Term;
 use std::alloc::{AllocError, Global};
 
-/// The outcome of a command that runs: it is determined by the command and by what it reads.
-pub fn run_local(alloc: Global, command: &Command, reads: &Reads) -> Result<Outcome, AllocError>
-    requires { is_running command.now ≡ true }
-    ensures { IfOk result (λ outcome. IsLocal command.now reads.now (outcome_value outcome)) }
+/// The outcome of a command: it is determined by the set-up, the command and what it reads.
+pub fn run_local(
+    alloc: Global,
+    setup: &Setup,
+    command: &LocalCommand,
+    reads: &Reads,
+) -> Result<Outcome, AllocError>
+    ensures { IfOk result (λ outcome. IsLocal (setup_value setup.now) (local_text command.now) reads.now outcome) }
 {
-    match command.node() {
-        CommandNode::Goal { name, quotation } => open_goal(alloc, name.as_str(), quotation, reads),
-        CommandNode::Apply(tactic) => match tactic.node() {
-            TacExprNode::Call(call) => run_call(alloc, call, reads),
-            _ => unreachable!(),
-        },
-        CommandNode::Qed => finish(alloc, reads),
-        _ => unreachable!(),
+    match command {
+        LocalCommand::Goal { name, quotation } => {
+            open_goal(alloc, name.as_str(), quotation, reads)
+        }
+        LocalCommand::Apply(call) => apply_call(alloc, setup, call, reads),
+        LocalCommand::Qed => finish(alloc, reads),
     }
-}
-
-/// The outcome of a text that is no command, by the place of its refusal.
-pub fn direct(alloc: Global, place: usize) -> Result<Outcome, AllocError>
-    ensures { IfOk result (λ outcome. outcome_value outcome ≡ direct place) }
-{
-    Ok(refused_at(alloc, RefusalKind::Syntax, place)?)
 }
 
 // A refusal that speaks of nothing.
 fn refused(alloc: Global, kind: RefusalKind) -> Outcome
-    ensures { outcome_value result ≡ Refuses kind [] }
+    ensures { result ≡ Refuses kind [] }
 {
-    Outcome::Refuses(kind, String::new(alloc))
+    Outcome::refuses(kind, String::new(alloc))
 }
 
-// A refusal that speaks of a place.
-fn refused_at(alloc: Global, kind: RefusalKind, place: usize) -> Result<Outcome, AllocError>
-    ensures { IfOk result (λ outcome. outcome_value outcome ≡ Refuses kind (decimal place)) }
+/// A refusal that speaks of a place.
+pub(crate) fn refused_at(
+    alloc: Global,
+    kind: RefusalKind,
+    place: usize,
+) -> Result<Outcome, AllocError>
+    ensures { IfOk result (λ outcome. outcome ≡ Refuses kind (decimal place)) }
 {
-    Ok(Outcome::Refuses(kind, place.to_string(alloc)?))
+    Ok(Outcome::refuses(kind, place.to_string(alloc)?))
 }
 
 // A refusal that speaks of a name.
 fn refused_for(alloc: Global, kind: RefusalKind, name: &str) -> Result<Outcome, AllocError>
-    ensures { IfOk result (λ outcome. outcome_value outcome ≡ Refuses kind name.now) }
+    ensures { IfOk result (λ outcome. outcome ≡ Refuses kind name.now) }
 {
-    Ok(Outcome::Refuses(kind, String::from_str(alloc, name)?))
-}
-
-fn name_taken(alloc: Global, name: &str) -> Result<Outcome, AllocError>
-    ensures { IfOk result (λ outcome. outcome_value outcome ≡ Refuses RefusalKind.NameTaken (theorem_key name.now)) }
-{
-    let mut key = String::from_str(alloc, "thm:")?;
-    key.push_str(name)?;
-    Ok(Outcome::Refuses(RefusalKind::NameTaken, key))
+    Ok(Outcome::refuses(kind, String::from_str(alloc, name)?))
 }
 
 // `g`: in a proof; arity; untypable; too large; not bool; name taken.
@@ -79,62 +77,85 @@ fn open_goal(
     quotation: &Quotation,
     reads: &Reads,
 ) -> Result<Outcome, AllocError>
-    ensures { IfOk result (λ outcome. IsOpening reads.now.in_proof name.now quotation.now (is_taken reads.now.theorems) (outcome_value outcome)) }
+    ensures { IfOk result (λ outcome. IsOpening reads.now.in_proof name.now quotation.now reads.now outcome) }
 {
     if reads.in_proof() {
         return Ok(refused(alloc, RefusalKind::InProof));
     }
     match read_statement(alloc, &quotation.term)? {
-        Reading::WrongArity => Ok(refused_at(alloc, RefusalKind::Arity, quotation.place)?),
-        Reading::NoTyping => Ok(refused_at(alloc, RefusalKind::Untypable, quotation.place)?),
+        Reading::WrongArity => refused_at(alloc, RefusalKind::Arity, quotation.place),
+        Reading::NoTyping => refused_at(alloc, RefusalKind::Untypable, quotation.place),
         Reading::LargeReading => Ok(refused(alloc, RefusalKind::TooLarge)),
-        Reading::NotBool => Ok(refused_at(alloc, RefusalKind::NotBool, quotation.place)?),
+        Reading::NotBool => refused_at(alloc, RefusalKind::NotBool, quotation.place),
         Reading::Statement(statement) => open_statement(alloc, name, statement, reads),
     }
 }
 
-// A goal that reads as a statement: name taken.
+// A goal that reads as a statement: name taken. Nothing that it resolves rests on items.
 fn open_statement(
     alloc: Global,
     name: &str,
     statement: Term,
     reads: &Reads,
 ) -> Result<Outcome, AllocError>
-    ensures { IfOk result (λ outcome. outcome_value outcome ≡ opens name.now (is_taken reads.now.theorems) (nameless [] statement)) }
+    requires { IsStatement no_items (nameless [] statement) }
+    ensures { IfOk result (λ outcome. outcome ≡ opens name.now (nameless [] statement) no_items (first_taken reads.now.made)) }
 {
-    if reads.is_taken() {
-        return Ok(name_taken(alloc, name)?);
+    if let Some(key) = reads.first_taken() {
+        return Ok(Outcome::refuses(RefusalKind::NameTaken, key.text(alloc)?));
     }
     let name = String::from_str(alloc, name)?;
-    Ok(Outcome::Opens(name, statement, Basis::empty(alloc)?))
+    Ok(Outcome::opens(name, statement, Basis::empty(alloc)?))
 }
 
-// `e` with a call: no proof open; unknown theorem; unknown TAC or wrong arguments; no goal open; refused.
-fn run_call(alloc: Global, call: &TacCall, reads: &Reads) -> Result<Outcome, AllocError>
-    ensures { IfOk result (λ outcome. outcome_value outcome ≡ runs_call call.now reads.now) }
+// `e`: no proof open; unknown theorem; unknown TAC or wrong arguments; then the run.
+#[tactic(auto, using(crate::proofs::Runs::unknown_theorem, crate::proofs::Runs::unknown_tac))]
+fn apply_call(
+    alloc: Global,
+    setup: &Setup,
+    call: &TacCall,
+    reads: &Reads,
+) -> Result<Outcome, AllocError>
+    ensures { IfOk result (λ outcome. IsApplying reads.now.in_proof (setup_value setup.now) call.now reads.now outcome) }
 {
     if !reads.in_proof() {
         return Ok(refused(alloc, RefusalKind::NoProofOpen));
     }
     if let Some(unknown) = reads.first_unknown() {
-        return Ok(refused_for(alloc, RefusalKind::UnknownTheorem, unknown)?);
+        return refused_for(alloc, RefusalKind::UnknownTheorem, unknown);
     }
     let name = call.name.as_str();
-    let Some(code) = tac_called(name, &call.arguments) else {
-        return Ok(refused_for(alloc, RefusalKind::UnknownTac, name)?);
-    };
+    match resolve_call(setup, call) {
+        Some(called) => run_tac(alloc, name, called.code(), TacArgs::Nothing, reads),
+        None => refused_for(alloc, RefusalKind::UnknownTac, name),
+    }
+}
+
+// A resolved TAC: no goal open; refused. Nothing that it resolved rests on items.
+fn run_tac(
+    alloc: Global,
+    name: &str,
+    code: TacCode,
+    args: TacArgs,
+    reads: &Reads,
+) -> Result<Outcome, AllocError>
+    ensures { (turns : ℕ) → IfOk result (λ outcome. outcome ≡ applied reads.now.goal turns (record { name = name.now; code = code; args = args_value args; basis = no_items })) }
+{
     let Some(goal) = reads.goal() else {
         return Ok(refused(alloc, RefusalKind::NoGoalOpen));
     };
-    match goals_left(alloc, code, goal) {
-        Some(goals) => Ok(Outcome::Leaves(goals)),
-        None => Ok(refused_for(alloc, RefusalKind::Refused, name)?),
+    match tac(alloc, code, args, goal) {
+        Answer::Left(goals) => {
+            let goal = goal.copy(alloc)?;
+            Ok(Outcome::leaves(goal, goals, Basis::empty(alloc)?))
+        }
+        Answer::Unfit => refused_for(alloc, RefusalKind::Refused, name),
     }
 }
 
 // `qed`: no proof open; goals remain.
 fn finish(alloc: Global, reads: &Reads) -> Result<Outcome, AllocError>
-    ensures { IfOk result (λ outcome. outcome_value outcome ≡ finishes reads.now.closing) }
+    ensures { IfOk result (λ outcome. outcome ≡ finishes reads.now.closing) }
 {
     let Some(closing) = reads.closing() else {
         return Ok(refused(alloc, RefusalKind::NoProofOpen));
@@ -142,9 +163,16 @@ fn finish(alloc: Global, reads: &Reads) -> Result<Outcome, AllocError>
     if closing.open_goals() > 0 {
         return Ok(refused(alloc, RefusalKind::GoalsRemain));
     }
+    finished(alloc, closing)
+}
+
+fn finished(alloc: Global, closing: &Closing) -> Result<Outcome, AllocError>
+    requires { closing.now.open_goals ≡ 0 }
+    ensures { IfOk result (λ outcome. outcome ≡ finished closing.now) }
+{
     let theorem = closing.theorem(alloc)?;
-    let name = String::from_str(alloc, closing.name())?;
+    let key = Key::new(alloc, Kind::Theorem, closing.name())?;
     let mut entries = Vec::new(alloc);
-    entries.push(Entry::new(name, theorem))?;
-    Ok(Outcome::Proves(entries))
+    entries.push((key, Entry::theorem(theorem)))?;
+    Ok(Outcome::makes(entries))
 }

@@ -1,25 +1,31 @@
 //! The state of a theory while it is run.
-ghost use Rattle.std.specs.Prelude.{◌≡◌, ◌++◌, OnOk, OnErr, IfOk, IfSome, Some, None, [], option_copied};
-ghost use Rattle.hol_exec.specs.StateValue.{StateValue, start, theorem_in};
+ghost use Rattle.std.specs.Prelude.{◌≡◌, OnOk, OnErr, IfSome, Some, None, [], option_copied};
+ghost use Rattle.indexmap.specs.IndexMap.{insert_all, IsUnique};
+ghost use Rattle.hol_kernel.specs.Items.{no_items};
+ghost use Rattle.hol_exec.specs.Key.{key_eq};
+ghost use Rattle.hol_exec.specs.Entry.{entry_at, EachIsEntry};
+ghost use Rattle.hol_exec.specs.StateValue.{StateValue, start, open_goals};
 ghost use Rattle.hol_exec.specs.OutcomeValue.{stepped_in};
-ghost use Rattle.hol_exec.specs.ReportOf.{open_goals};
-ghost use Rattle.hol_exec.specs.Sound.{IsReflexive, IsSoundProof};
+ghost use Rattle.hol_exec.specs.Valid.{IsReflexive, IsSoundProof};
 
-use crate::entry::Entry;
+use crate::entry::{Entry, Made, copies};
 use crate::goal::Goal;
+use crate::key::Key;
 use crate::proof::Proof;
-use hol_kernel::Thm;
+use indexmap::IndexMap;
 use std::alloc::{AllocError, Global};
 use std::marker::Model;
 
-/// The state of a theory while it is run: its entries in order, and at most one open proof.
+/// The state of a theory while it is run: its entries in order, each under its key, and at most one open proof.
 #[derive(Drop)]
 pub struct State {
-    entries: Vec<Entry>,
+    entries: IndexMap<Key, Entry>,
     proof: Option<Proof>,
 }
 
 impl Model for State {
+    ghost use Rattle.indexmap.specs.IndexMap.{IsUnique};
+    ghost use Rattle.hol_exec.specs.Key.{key_eq};
     ghost use Rattle.hol_exec.specs.StateValue.{StateValue};
     ghost use Rattle.hol_exec.specs.Codes.{coded_state};
 
@@ -27,7 +33,9 @@ impl Model for State {
 
     ghost coded = { coded_state };
 
-    ghost view = { λ s. record { entries = s.entries.items; proof = s.proof } };
+    ghost view = { λ s. record { entries = s.entries.entries; proof = s.proof } };
+
+    ghost invariant = { λ s. IsUnique key_eq s.entries };
 }
 
 impl State {
@@ -36,32 +44,27 @@ impl State {
         ensures { result ≡ start }
     {
         State {
-            entries: Vec::new(alloc),
+            entries: IndexMap::new(alloc),
             proof: None,
         }
     }
 
-    /// The theorem of the entry of that name.
-    pub fn thm(&self, name: &str) -> Option<&Thm>
-        ensures { option_copied result ≡ theorem_in self.now.entries name.now }
+    /// What stands under the key.
+    pub fn entry(&self, key: &Key) -> Option<&Entry>
+        ensures { option_copied result ≡ entry_at key.now self.now.entries }
     {
-        for entry in self.entries.as_slice() {
-            if entry.name() == name {
-                return Some(entry.theorem());
-            }
-        }
-        None
+        self.entries.get(key)
     }
 
     /// The open proof.
-    pub fn proof(&self) -> Option<&Proof>
+    pub(crate) fn proof(&self) -> Option<&Proof>
         ensures { option_copied result ≡ self.now.proof }
     {
         self.proof.as_ref()
     }
 
     /// The open goals, in order.
-    pub fn goals(&self) -> &[Goal]
+    pub(crate) fn goals(&self) -> &[Goal]
         ensures { result.now ≡ open_goals self.now.proof }
     {
         match self.proof() {
@@ -70,9 +73,17 @@ impl State {
         }
     }
 
-    /// The statement of the open proof is a well typed term of type `bool`, and where no goal is open it is an equation of terms that differ
-    /// in bound names at most.
+    /// Each theorem of its entries has a derivation over its basis, which is legal.
     pub fn promise(&self)
+        ensures { EachIsEntry self.now.entries }
+    {
+        for (_, entry) in &self.entries {
+            entry.promise();
+        }
+    }
+
+    /// The statement of the open proof is a well typed term of type `bool`, and is the one open goal or is proved by reflexivity.
+    pub(crate) fn proof_promise(&self)
         ensures { IfSome self.now.proof IsSoundProof }
     {
         match self.proof() {
@@ -82,16 +93,17 @@ impl State {
     }
 
     /// Opens the proof, in the place of one that is open.
-    pub fn begin(&mut self, proof: Proof)
+    pub(crate) fn begin(&mut self, proof: Proof)
         ensures { self.new ≡ record { entries = self.old.entries; proof = Some proof } }
     {
         self.proof = Some(proof);
     }
 
     /// The goals left stand in the place of the open proof's first goal.
-    pub fn step(&mut self, alloc: Global, left: &[Goal]) -> Result<(), AllocError>
-        requires closes { IfSome self.old.proof (λ p. (left.now ≡ []) × IsReflexive p.newest.basis p.statement) }
-        ensures ok { OnOk result (self.new ≡ record { entries = self.old.entries; proof = stepped_in left.now self.old.proof }) }
+    pub(crate) fn step(&mut self, alloc: Global, left: &[Goal]) -> Result<(), AllocError>
+        requires closes { left.now ≡ [] }
+        requires proved { IfSome self.old.proof (λ p. IsReflexive p.statement) }
+        ensures ok { OnOk result (self.new ≡ record { entries = self.old.entries; proof = stepped_in left.now no_items self.old.proof }) }
         ensures err { OnErr result (self.new ≡ self.old) }
     {
         match &mut self.proof {
@@ -101,16 +113,26 @@ impl State {
     }
 
     /// Makes the entries and drops the proof.
-    pub fn close(&mut self, alloc: Global, entries: &[Entry]) -> Result<(), AllocError>
-        ensures ok { OnOk result (self.new ≡ record { entries = self.old.entries ++ entries.now; proof = None }) }
+    pub(crate) fn make(&mut self, alloc: Global, entries: &[(Key, Entry)]) -> Result<(), AllocError>
+        ensures ok { OnOk result (self.new ≡ record { entries = insert_all key_eq self.old.entries entries.now; proof = None }) }
         ensures err { OnErr result (self.new ≡ self.old) }
     {
-        let mut made = Vec::with_capacity(alloc, entries.len())?;
-        for entry in entries {
-            made.push(entry.copy(alloc)?)?;
-        }
-        self.entries.append(&mut made)?;
+        let made = copies(alloc, entries)?;
+        insert_each(&mut self.entries, made)?;
         self.proof = None;
         Ok(())
     }
+}
+
+// Inserts the entries in their order: all of them, or none.
+fn insert_each(entries: &mut IndexMap<Key, Entry>, made: Made) -> Result<(), AllocError>
+    ensures ok { OnOk result (entries.new.entries ≡ insert_all key_eq entries.old.entries made.items) }
+    ensures err { OnErr result (entries.new.entries ≡ entries.old.entries) }
+    ensures unique { IsUnique key_eq entries.old → IsUnique key_eq entries.new }
+{
+    entries.reserve(made.len())?;
+    for (key, entry) in made {
+        entries.insert(key, entry)?;
+    }
+    Ok(())
 }

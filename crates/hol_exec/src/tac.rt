@@ -1,57 +1,102 @@
-//! The known TACs, and what each leaves of a goal.
-ghost use Rattle.std.specs.Prelude.{◌≡◌, map, option_map};
-ghost use Rattle.hol_exec.specs.Tac.{tac_named, tac_called, goals_left, refl_tac};
+//! TACs by code: what arguments each takes, and what it leaves of a goal.
+ghost use Rattle.std.specs.Prelude.{◌≡◌, map};
+ghost use Rattle.hol_exec.specs.SetupView.{setup_value};
+ghost use Rattle.hol_exec.specs.Tac.{called, called_as, tac, refl_tac};
+ghost use Rattle.hol_exec.specs.TacView.{called_option, args_value, answer_value};
 
-use crate::equation::sides;
 use crate::goal::Goal;
-use hol_notation_tactics::TacArg;
+use crate::setup::{Setup, code_of};
+use hol_formulas::dest_eq;
+use hol_notation_tactics::{TacArg, TacCall};
 use std::alloc::Global;
 
-/// The known TACs, by the names of the HOL Light Reference Manual.
+/// The TACs, by the names of the HOL Light Reference Manual.
 #[derive(Clone, Copy, Debug, PartialEq, Eq)]
 pub enum TacCode {
     /// REFL_TAC closes a goal `s = s`.
     ReflTac,
 }
 
-/// The TAC of a name, where it may be called with these arguments: REFL_TAC takes none.
-pub fn tac_called(name: &str, arguments: &[TacArg]) -> Option<TacCode>
-    ensures { result ≡ tac_called name.now arguments.now }
-{
-    if arguments.is_empty() {
-        tac_named(name)
-    } else {
-        None
+/// A registered TAC with arguments of its kind.
+#[derive(Clone, Copy)]
+pub(crate) enum Called {
+    /// One that takes none.
+    Plain(TacCode),
+}
+
+impl Called {
+    ghost use Rattle.std.specs.Prelude.{◌≡◌};
+    ghost use Rattle.hol_exec.specs.Tac.{Plain};
+    ghost use Rattle.hol_exec.specs.TacView.{called_value};
+
+    /// The code of a TAC that takes no arguments.
+    pub(crate) fn code(self) -> TacCode
+        ensures { called_value self ≡ Plain result }
+    {
+        match self {
+            Called::Plain(code) => code,
+        }
     }
 }
 
-// The TAC of a name.
-fn tac_named(name: &str) -> Option<TacCode>
-    ensures { result ≡ tac_named name.now }
-{
-    if name == "REFL_TAC" {
-        Some(TacCode::ReflTac)
-    } else {
-        None
-    }
+/// The arguments of a TAC, resolved.
+#[derive(Clone, Copy)]
+pub(crate) enum TacArgs {
+    /// None.
+    Nothing,
 }
 
-/// The goals that a TAC leaves, or nothing where it is refused.
-pub fn goals_left(alloc: Global, code: TacCode, goal: &Goal) -> Option<Vec<Goal>>
-    ensures { option_map (λ goals. goals.items) result ≡ goals_left code goal.now }
+/// What a TAC answers on a goal.
+#[derive(Drop)]
+pub(crate) enum Answer {
+    /// The goals that are left.
+    Left(Vec<Goal>),
+    /// It doesn't fit the goal.
+    Unfit,
+}
+
+/// What is called, where the name is registered and its arguments are of the code's kind.
+pub(crate) fn resolve_call(setup: &Setup, call: &TacCall) -> Option<Called>
+    ensures { called_option result ≡ called (setup_value setup.now) call.now }
+{
+    let code = code_of(setup, call.name.as_str())?;
+    called_as(code, &call.arguments)
+}
+
+fn called_as(code: TacCode, arguments: &[TacArg]) -> Option<Called>
+    ensures { called_option result ≡ called_as code arguments.now }
 {
     match code {
-        TacCode::ReflTac => refl_tac(alloc, goal),
+        TacCode::ReflTac => {
+            if arguments.is_empty() {
+                Some(Called::Plain(code))
+            } else {
+                None
+            }
+        }
     }
 }
 
-fn refl_tac(alloc: Global, goal: &Goal) -> Option<Vec<Goal>>
-    ensures { option_map (λ goals. goals.items) result ≡ refl_tac goal.now }
+/// What the TAC answers on the goal.
+pub(crate) fn tac(alloc: Global, code: TacCode, args: TacArgs, goal: &Goal) -> Answer
+    ensures { answer_value result ≡ tac code (args_value args) goal.now }
 {
-    let (left, right) = sides(goal.conclusion())?;
-    if left.alpha_equivalent(right) {
-        Some(Vec::new(alloc))
-    } else {
-        None
+    match (code, args) {
+        (TacCode::ReflTac, TacArgs::Nothing) => refl_tac(alloc, goal),
+    }
+}
+
+fn refl_tac(alloc: Global, goal: &Goal) -> Answer
+    ensures { answer_value result ≡ refl_tac goal.now }
+{
+    match dest_eq(goal.conclusion()) {
+        Some(sides) => {
+            if sides.left.alpha_equivalent(sides.right) {
+                Answer::Left(Vec::new(alloc))
+            } else {
+                Answer::Unfit
+            }
+        }
+        None => Answer::Unfit,
     }
 }

@@ -1,0 +1,136 @@
+-- What stands for readings today is the prelude alone, and what a quotation reads as is well typed over it.
+use Rattle.std.specs.Prelude.{◌≡◌, ℕ, Bool, true, false, cond, ◌&&◌, ◌||◌, ◌==◌, List, [], ◌∷◌, ◌++◌, bytes_eq, codes, Option, Some, None, refl, suc}
+use Rattle.std.specs.List.{list_any, list_all}
+use Rattle.std.proofs.Common.{ap, sym, ◌∙◌}
+use Rattle.std.proofs.lemmas.Bool.{and_parts, eq-eqb}
+use Rattle.std.proofs.lemmas.Slice.Eq.{bytes_eq-Decides}
+use Rattle.hol_types.specs.Tree.{TypeTree, TypeList, TyVar, TyApp, no_types, more_types}
+use Rattle.hol_types.specs.Subst.{type_subst}
+use Rattle.hol_terms.specs.Nameless.{Nameless, free, bound, fixed, app, lam, base_of}
+use Rattle.hol_kernel.specs.Items.{Items, no_items, in_order}
+use Rattle.hol_formulas.specs.Equation.{bool_type, equality_type}
+use Rattle.hol_kernel.specs.Signature.{makes_type, makes_constant, has_arity, has_constant}
+use Rattle.hol_formulas.specs.Constants.{prelude_types, prelude_constants, is_constructor, generic_in, is_instance_of}
+use Rattle.hol_kernel.specs.Typing.{types_count, is_type, are_types, is_known, HasType}
+use Rattle.hol_formulas.proofs.Instance.{instance_of_subst}
+use Rattle.hol_kernel.proofs.Variables.{typed_known}
+use Rattle.hol_notation_terms.specs.Text.{TermText}
+use Rattle.hol_infer.specs.Resolving.{arity_of, generic_type_of}
+use Rattle.hol_infer.specs.Standing.{stands, all_stand, TermStands, AreStanding, types_count as count}
+use Rattle.hol_infer.proofs.StandingLaws.{reading_stands}
+use Rattle.hol_exec.specs.Entry.{ATheorem}
+use Rattle.hol_exec.specs.ReadsValue.{Values}
+use Rattle.hol_exec.specs.Lookups.{cited_constants, cited_types, lookups_of, reading_basis}
+use Rattle.hol_exec.specs.Reading.{IsReadAs, Statement}
+
+abbrev takes : List ℕ → ℕ → Bool
+takes c n = has_arity no_items c n
+
+abbrev has : List ℕ → TypeTree → Bool
+has c a = has_constant no_items c a
+
+-- ---- the prelude stands
+
+same_bytes : (a b : List ℕ) → bytes_eq a b ≡ bytes_eq b a
+same_bytes a b = by (bytes_eq a b) (bytes_eq b a) refl refl
+  where
+    by : (x y : Bool) → bytes_eq a b ≡ x → bytes_eq b a ≡ y → x ≡ y
+    by true true p q = refl
+    by false false p q = refl
+    by true false p q = let e : true ≡ false = sym ((bytes_eq-Decides b a).1 (sym ((bytes_eq-Decides a b).0 p))) ∙ q in e
+    by false true p q = let e : true ≡ false = sym ((bytes_eq-Decides a b).1 (sym ((bytes_eq-Decides b a).0 q))) ∙ p in sym e
+
+generics_same : (constants : List (List ℕ × TypeTree)) (c : List ℕ) → generic_type_of constants c ≡ generic_in constants c
+generics_same [] c = refl
+generics_same (p ∷ more) c = λ i. cond (same_bytes p.0 c i) (Some p.1) (generics_same more c i)
+
+all_of : (P : List ℕ × TypeTree → Bool) (constants : List (List ℕ × TypeTree)) (c : List ℕ) (generic : TypeTree) → list_all P constants ≡ true → generic_type_of constants c ≡ Some generic → (name : List ℕ) × (P (name, generic) ≡ true)
+all_of P [] c generic all e = absurd (cc)
+all_of P (p ∷ more) c generic all e = by (bytes_eq p.0 c) e (all_of P more c generic (and_parts (P p) (list_all P more) all).1)
+  where
+    by : (b : Bool) → cond b (Some p.1) (generic_type_of more c) ≡ Some generic → (generic_type_of more c ≡ Some generic → (name : List ℕ) × (P (name, generic) ≡ true)) → (name : List ℕ) × (P (name, generic) ≡ true)
+    by true f others = let h : p.1 ≡ generic = cc in (p.0, ap (λ a. P (p.0, a)) (sym h) ∙ (and_parts (P p) (list_all P more) all).0)
+    by false f others = others f
+
+or_true : (b : Bool) → (b || true) ≡ true
+or_true true = refl
+or_true false = refl
+
+eqb_same : (n : ℕ) → (n == n) ≡ true
+eqb_same n = eq-eqb n n refl
+
+any_of : (arities : List (List ℕ × ℕ)) (c : List ℕ) (n : ℕ) → arity_of arities c ≡ Some n → list_any (is_constructor c n) arities ≡ true
+any_of [] c n e = absurd (cc)
+any_of (p ∷ more) c n e = by (bytes_eq p.0 c) refl e (any_of more c n)
+  where
+    by : (b : Bool) → bytes_eq p.0 c ≡ b → cond b (Some p.1) (arity_of more c) ≡ Some n → (arity_of more c ≡ Some n → list_any (is_constructor c n) more ≡ true) → (is_constructor c n p || list_any (is_constructor c n) more) ≡ true
+    by true f g others =
+        let h : p.1 ≡ n = cc in
+        let here : is_constructor c n p ≡ true = (λ i. (sym (same_bytes p.0 c) ∙ f) i && (n == h i)) ∙ eqb_same n in
+        ap (λ b. b || list_any (is_constructor c n) more) here
+    by false f g others = ap (λ b. is_constructor c n p || b) (others g) ∙ or_true (is_constructor c n p)
+
+has_instance : (c : List ℕ) (generic : TypeTree) (pairs : List (TypeTree × List ℕ)) → generic_type_of prelude_constants c ≡ Some generic → has c (type_subst pairs generic) ≡ true
+has_instance c generic pairs e =
+    ap (λ (o : Option TypeTree). is_instance_of o (type_subst pairs generic) || list_any (makes_constant c (type_subst pairs generic)) (in_order no_items)) (sym (generics_same prelude_constants c) ∙ e)
+    ∙ ap (λ b. b || list_any (makes_constant c (type_subst pairs generic)) (in_order no_items)) (instance_of_subst generic (type_subst pairs generic) pairs refl)
+
+has_type : (c : List ℕ) (n : ℕ) → arity_of prelude_types c ≡ Some n → takes c n ≡ true
+has_type c n e = ap (λ b. b || list_any (makes_type c n) (in_order no_items)) (any_of prelude_types c n e)
+
+prelude_stands : AreStanding takes has prelude_types prelude_constants
+prelude_stands = record {
+  functions = refl;
+  truth = refl;
+  equality = has_instance (codes "=") (equality_type (TyVar (codes "A"))) ((bool_type, codes "A") ∷ []) refl;
+  constructors = has_type;
+  generics = λ c generic e. ((all_of (λ p. stands takes p.1) prelude_constants c generic refl e).1, λ pairs. has_instance c generic pairs e);
+}
+
+-- ---- what stands is known to the kernel
+
+counts_same : (ts : TypeList) → count ts ≡ types_count ts
+counts_same no_types = refl
+counts_same (more_types t ts) = ap suc (counts_same ts)
+
+mutual
+  type_same : (t : TypeTree) → stands takes t ≡ is_type no_items t
+  type_same (TyVar a) = refl
+  type_same (TyApp c ts) = λ i. has_arity no_items c (counts_same ts i) && types_same ts i
+
+  types_same : (ts : TypeList) → all_stand takes ts ≡ are_types no_items ts
+  types_same no_types = refl
+  types_same (more_types t ts) = λ i. type_same t i && types_same ts i
+
+known : (p : Nameless) → TermStands takes has p → is_known no_items p ≡ true
+known (free v) h = sym (type_same v.1) ∙ h
+known (bound i) h = refl
+known (fixed c s) h = λ i. (sym (type_same s) ∙ h.0) i && h.1 i
+known (app f x) h = λ i. known f h.0 i && known x h.1 i
+known (lam a s b) h = λ i. (bytes_eq-Decides (base_of a) a).1 h.0 i && ((sym (type_same s) ∙ h.1) i && known b h.2 i)
+
+pub statement_typed : (t : TermText) (p : Nameless) → IsReadAs (lookups_of []) t (Statement p) → HasType no_items p bool_type
+statement_typed t p h =
+    typed_known no_items p bool_type
+    (known p (reading_stands takes has prelude_types prelude_constants t p prelude_stands h.0.arities h.0.reading))
+    h.1
+
+-- ---- no entry adds to what stands
+
+no_constants : (cited : Values) → cited_constants cited ≡ []
+no_constants [] = refl
+no_constants ((key, None) ∷ more) = no_constants more
+no_constants ((key, Some (ATheorem th)) ∷ more) = no_constants more
+
+no_type_entries : (cited : Values) → cited_types cited ≡ []
+no_type_entries [] = refl
+no_type_entries ((key, None) ∷ more) = no_type_entries more
+no_type_entries ((key, Some (ATheorem th)) ∷ more) = no_type_entries more
+
+pub same_lookups : (cited : Values) → lookups_of [] ≡ lookups_of cited
+same_lookups cited = λ i. record { constants = prelude_constants ++ sym (no_constants cited) i; types = prelude_types ++ sym (no_type_entries cited) i }
+
+pub no_basis : (cited : Values) (p : Nameless) → reading_basis cited p ≡ no_items
+no_basis [] p = refl
+no_basis ((key, None) ∷ more) p = no_basis more p
+no_basis ((key, Some (ATheorem th)) ∷ more) p = no_basis more p

@@ -1,0 +1,92 @@
+-- What a text is to the engine: a command whose outcome is a function of what it reads, or one that is answered directly. This is the one
+-- place where commands are told apart. Until a command runs, its text is refused as `syntax`, at its first word.
+-- Source: this project.
+use Rattle.std.specs.Prelude.{◌≡◌, ◌⊎◌, ◌+◌, ◌==◌, ℕ, List, [], ◌∷◌, drop, Bool, true, false}
+use Rattle.hol_notation_tokens.specs.Token.{skip}
+use Rattle.hol_notation_terms.specs.Text.{QuotationText}
+use Rattle.hol_notation_tactics.specs.Text.{CallText, TacText, Call, Then, ThenL, OrElse, Repeat, Try, Changed, Every, First, Replicate, DischThen, PopAssum, FirstAssum, SubgoalThen}
+use Rattle.hol_notation_commands.specs.Text.{CommandText, Goal as AGoal, Apply as AnApply, Back, Rotate, Qed as AQed, Oops, Import, NewType, NewConstant, NewAxiom, NewDefinition, NewBasicTypeDefinition}
+use Rattle.hol_notation_commands.specs.Reading.{IsCommandText, IsBreak}
+
+-- the commands whose outcomes are functions of what they read
+pub data LocalText : Type 0 where
+  Goal : List ℕ → QuotationText → LocalText
+  Apply : CallText → LocalText
+  Qed : LocalText
+
+-- what is answered directly: a text that is refused at a place
+pub data DirectText : Type 0 where
+  Unread : ℕ → DirectText
+
+pub data ParsedValue : Type 0 where
+  Local : LocalText → ParsedValue
+  Direct : DirectText → ParsedValue
+
+-- ---- a command, as it is written in a text
+
+-- the place of the first word
+abbrev pub first_word : List ℕ → ℕ
+first_word text = skip text 0
+
+abbrev pub idle : List ℕ → ParsedValue
+idle text = Direct (Unread (first_word text))
+
+abbrev pub begins_with_bracket : List ℕ → Bool
+begins_with_bracket [] = false
+begins_with_bracket (b ∷ bytes) = b == 40
+
+-- what stands after the one letter of `e` begins with a bracket
+abbrev pub is_bracketed : List ℕ → Bool
+is_bracketed text = begins_with_bracket (drop (skip text (first_word text + 1)) text)
+
+-- a call in brackets does not run, since brackets are for tacticals
+abbrev pub parsed_call : List ℕ → CallText → Bool → ParsedValue
+parsed_call text call true = idle text
+parsed_call text call false = Local (Apply call)
+
+-- no tactical runs
+abbrev pub parsed_tactic : List ℕ → TacText → ParsedValue
+parsed_tactic text (Call call) = parsed_call text call (is_bracketed text)
+parsed_tactic text (Then t u) = idle text
+parsed_tactic text (ThenL t us) = idle text
+parsed_tactic text (OrElse t u) = idle text
+parsed_tactic text (Repeat t) = idle text
+parsed_tactic text (Try t) = idle text
+parsed_tactic text (Changed t) = idle text
+parsed_tactic text (Every ts) = idle text
+parsed_tactic text (First ts) = idle text
+parsed_tactic text (Replicate n t) = idle text
+parsed_tactic text (DischThen call) = idle text
+parsed_tactic text (PopAssum call) = idle text
+parsed_tactic text (FirstAssum call) = idle text
+parsed_tactic text (SubgoalThen p call) = idle text
+
+abbrev pub parsed : List ℕ → CommandText → ParsedValue
+parsed text (AGoal name quotation) = Local (Goal name quotation)
+parsed text (AnApply tactic) = parsed_tactic text tactic
+parsed text Back = idle text
+parsed text (Rotate n) = idle text
+parsed text AQed = Local Qed
+parsed text Oops = idle text
+parsed text (Import name) = idle text
+parsed text (NewType name arity) = idle text
+parsed text (NewConstant name quotation) = idle text
+parsed text (NewAxiom name quotation) = idle text
+parsed text (NewDefinition name definition) = idle text
+parsed text (NewBasicTypeDefinition definition) = idle text
+
+-- ---- texts
+
+pub record ParsesAs (text : List ℕ) (value : ParsedValue) : Type 0 where
+  pub command : CommandText
+  pub written : IsCommandText text command
+  pub is : value ≡ parsed text command
+
+-- the text is no command, and this is the place of its refusal
+pub record BreaksAs (text : List ℕ) (value : ParsedValue) : Type 0 where
+  pub place : ℕ
+  pub breaks : IsBreak text place
+  pub is : value ≡ Direct (Unread place)
+
+abbrev pub IsParsed : List ℕ → ParsedValue → Type 0
+IsParsed text value = ParsesAs text value ⊎ BreaksAs text value

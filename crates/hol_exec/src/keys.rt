@@ -1,0 +1,164 @@
+//! The keys that a command cites and makes.
+ghost use Rattle.std.specs.Prelude.{◌≡◌, ◌++◌, IfOk, OnOk, map};
+ghost use Rattle.hol_exec.specs.ParsedView.{local_text};
+ghost use Rattle.hol_exec.specs.Keys.{keys_of_type, keys_of_types, keys_of_annotation, keys_of_term, keys_of_pairs, keys_of_theorem, keys_of_theorems, keys_of_argument, keys_of_arguments, cited_keys, made_keys};
+
+use crate::key::{Key, Kind};
+use crate::parsed::LocalCommand;
+use hol_notation_tactics::{TacArg, TacArgNode, ThmExpr, ThmExprNode, TypePair};
+use hol_notation_terms::{PreTerm, PreTermNode, PreType, PreTypeNode};
+use std::alloc::{AllocError, Global};
+
+// The nesting of what is written is bounded by its tokens, of which there are 4,096 at most: no deeper do these go.
+
+fn add_type(alloc: Global, keys: &mut Vec<Key>, ty: &PreType) -> Result<(), AllocError>
+    ensures { OnOk result (keys.new.items ≡ keys.old.items ++ keys_of_type ty.now) }
+{
+    match ty.node() {
+        PreTypeNode::Ident(name) => Ok(keys.push(Key::new(alloc, Kind::Type, name.as_str())?)?),
+        PreTypeNode::Arrow(domain, codomain) => {
+            add_type(alloc, keys, domain)?;
+            add_type(alloc, keys, codomain)
+        }
+        PreTypeNode::Apply(name, arguments) => {
+            for argument in arguments {
+                add_type(alloc, keys, argument)?;
+            }
+            Ok(keys.push(Key::new(alloc, Kind::Type, name.as_str())?)?)
+        }
+    }
+}
+
+fn add_annotation(
+    alloc: Global,
+    keys: &mut Vec<Key>,
+    annotation: &Option<PreType>,
+) -> Result<(), AllocError>
+    ensures { OnOk result (keys.new.items ≡ keys.old.items ++ keys_of_annotation annotation.now) }
+{
+    match annotation {
+        Some(ty) => add_type(alloc, keys, ty),
+        None => Ok(()),
+    }
+}
+
+fn add_term(alloc: Global, keys: &mut Vec<Key>, term: &PreTerm) -> Result<(), AllocError>
+    ensures { OnOk result (keys.new.items ≡ keys.old.items ++ keys_of_term term.now) }
+{
+    match term.node() {
+        PreTermNode::Ident(name) => {
+            Ok(keys.push(Key::new(alloc, Kind::Constant, name.as_str())?)?)
+        }
+        PreTermNode::Operator(_) => Ok(()),
+        PreTermNode::Apply(function, argument) => {
+            add_term(alloc, keys, function)?;
+            add_term(alloc, keys, argument)
+        }
+        PreTermNode::Abstraction(variable, body) => {
+            add_annotation(alloc, keys, &variable.annotation)?;
+            add_term(alloc, keys, body)
+        }
+        PreTermNode::Typed(term, ty) => {
+            add_term(alloc, keys, term)?;
+            add_type(alloc, keys, ty)
+        }
+    }
+}
+
+fn add_pairs(alloc: Global, keys: &mut Vec<Key>, pairs: &[TypePair]) -> Result<(), AllocError>
+    ensures { OnOk result (keys.new.items ≡ keys.old.items ++ keys_of_pairs pairs.now) }
+{
+    for pair in pairs {
+        add_type(alloc, keys, &pair.new_type.ty)?;
+        add_type(alloc, keys, &pair.old_type.ty)?;
+    }
+    Ok(())
+}
+
+fn add_theorem(alloc: Global, keys: &mut Vec<Key>, theorem: &ThmExpr) -> Result<(), AllocError>
+    ensures { OnOk result (keys.new.items ≡ keys.old.items ++ keys_of_theorem theorem.now) }
+{
+    match theorem.node() {
+        ThmExprNode::Name(name) => Ok(keys.push(Key::new(alloc, Kind::Theorem, name.as_str())?)?),
+        ThmExprNode::Assume(quotation) | ThmExprNode::Refl(quotation) => {
+            add_term(alloc, keys, &quotation.term)
+        }
+        ThmExprNode::Spec(quotation, part) => {
+            add_term(alloc, keys, &quotation.term)?;
+            add_theorem(alloc, keys, part)
+        }
+        ThmExprNode::Sym(part) | ThmExprNode::Conjunct1(part) | ThmExprNode::Conjunct2(part) => {
+            add_theorem(alloc, keys, part)
+        }
+        ThmExprNode::Mp(implication, premise) => {
+            add_theorem(alloc, keys, implication)?;
+            add_theorem(alloc, keys, premise)
+        }
+        ThmExprNode::InstType(pairs, part) => {
+            add_pairs(alloc, keys, pairs)?;
+            add_theorem(alloc, keys, part)
+        }
+    }
+}
+
+fn add_theorems(alloc: Global, keys: &mut Vec<Key>, theorems: &[ThmExpr]) -> Result<(), AllocError>
+    ensures { OnOk result (keys.new.items ≡ keys.old.items ++ keys_of_theorems theorems.now) }
+{
+    for theorem in theorems {
+        add_theorem(alloc, keys, theorem)?;
+    }
+    Ok(())
+}
+
+fn add_argument(alloc: Global, keys: &mut Vec<Key>, argument: &TacArg) -> Result<(), AllocError>
+    ensures { OnOk result (keys.new.items ≡ keys.old.items ++ keys_of_argument argument.now) }
+{
+    match argument.node() {
+        TacArgNode::Term(quotation) => add_term(alloc, keys, &quotation.term),
+        TacArgNode::Theorem(theorem) => add_theorem(alloc, keys, theorem),
+        TacArgNode::Pair(first, second) => {
+            add_term(alloc, keys, &first.term)?;
+            add_term(alloc, keys, &second.term)
+        }
+        TacArgNode::Theorems(theorems) => add_theorems(alloc, keys, theorems),
+    }
+}
+
+fn keys_of_arguments(alloc: Global, arguments: &[TacArg]) -> Result<Vec<Key>, AllocError>
+    ensures { IfOk result (λ keys. keys.items ≡ keys_of_arguments arguments.now) }
+{
+    let mut keys = Vec::new(alloc);
+    for argument in arguments {
+        add_argument(alloc, &mut keys, argument)?;
+    }
+    Ok(keys)
+}
+
+/// The keys that the command cites, in text order.
+pub(crate) fn cited_keys(alloc: Global, command: &LocalCommand) -> Result<Vec<Key>, AllocError>
+    ensures { IfOk result (λ keys. keys.items ≡ cited_keys (local_text command.now)) }
+{
+    match command {
+        LocalCommand::Goal { name: _, quotation } => {
+            let mut keys = Vec::new(alloc);
+            add_term(alloc, &mut keys, &quotation.term)?;
+            Ok(keys)
+        }
+        LocalCommand::Apply(call) => keys_of_arguments(alloc, &call.arguments),
+        LocalCommand::Qed => Ok(Vec::new(alloc)),
+    }
+}
+
+/// The keys that the command makes, in text order.
+pub(crate) fn made_keys(alloc: Global, command: &LocalCommand) -> Result<Vec<Key>, AllocError>
+    ensures { IfOk result (λ keys. keys.items ≡ made_keys (local_text command.now)) }
+{
+    let mut keys = Vec::new(alloc);
+    match command {
+        LocalCommand::Goal { name, quotation: _ } => {
+            keys.push(Key::new(alloc, Kind::Theorem, name.as_str())?)?;
+        }
+        LocalCommand::Apply(_) | LocalCommand::Qed => {}
+    }
+    Ok(keys)
+}

@@ -1,0 +1,134 @@
+//! What a text is to the engine.
+ghost use Rattle.std.specs.Prelude.{◌≡◌, IfOk};
+ghost use Rattle.hol_exec.specs.Parsed.{IsParsed, parsed, parsed_tactic, idle, is_bracketed};
+ghost use Rattle.hol_exec.specs.ParsedView.{local_text, direct_text, parsed_value};
+
+use hol_notation_commands::{Command, CommandNode, read_command};
+use hol_notation_tactics::{TacCall, TacExpr, TacExprNode};
+use hol_notation_terms::Quotation;
+use hol_notation_tokens::{SyntaxError, skip};
+use std::alloc::{AllocError, Global};
+
+/// A command whose outcome is a function of what it reads.
+#[derive(Drop)]
+pub enum LocalCommand {
+    /// `g NAME` and a quotation: opens a proof of a goal.
+    Goal {
+        /// The theorem's name.
+        name: String,
+        /// What it is to say.
+        quotation: Quotation,
+    },
+    /// `e` with a TAC and its arguments: runs it on the first goal.
+    Apply(TacCall),
+    /// `qed`: ends the proof.
+    Qed,
+}
+
+/// What is answered directly.
+#[derive(Clone, Copy)]
+pub enum DirectCommand {
+    /// A text that is refused as `syntax` at the byte where it is no command any more, or at its first word where it is a command that
+    /// doesn't run yet.
+    Unread(usize),
+}
+
+/// What a text is to the engine.
+#[derive(Drop)]
+pub enum Parsed {
+    /// A command whose outcome is a function of what it reads.
+    Local(LocalCommand),
+    /// What is answered directly.
+    Direct(DirectCommand),
+}
+
+/// What the text is to the engine.
+pub fn parse(alloc: Global, text: &str) -> Result<Parsed, AllocError>
+    ensures { IfOk result (λ value. IsParsed text.now (parsed_value value)) }
+{
+    match read_command(alloc, text) {
+        Ok(command) => classified(alloc, text, &command),
+        Err(SyntaxError::Syntax(place)) => Ok(Parsed::Direct(DirectCommand::Unread(place))),
+        Err(SyntaxError::Memory) => Err(AllocError),
+    }
+}
+
+// The command, as it is written in the text.
+fn classified(alloc: Global, text: &str, command: &Command) -> Result<Parsed, AllocError>
+    ensures { IfOk result (λ value. parsed_value value ≡ parsed text.now command.now) }
+{
+    match command.node() {
+        CommandNode::Goal { name, quotation } => Ok(Parsed::Local(LocalCommand::Goal {
+            name: String::from_str(alloc, name.as_str())?,
+            quotation: quotation.copy()?,
+        })),
+        CommandNode::Apply(tactic) => parsed_tactic(alloc, text, tactic),
+        CommandNode::Qed => Ok(Parsed::Local(LocalCommand::Qed)),
+        CommandNode::Back
+        | CommandNode::Rotate(_)
+        | CommandNode::Oops
+        | CommandNode::Import(_)
+        | CommandNode::NewType { name: _, arity: _ }
+        | CommandNode::NewConstant {
+            name: _,
+            quotation: _,
+        }
+        | CommandNode::NewAxiom {
+            name: _,
+            quotation: _,
+        }
+        | CommandNode::NewDefinition {
+            name: _,
+            definition: _,
+        }
+        | CommandNode::NewBasicTypeDefinition(_) => Ok(idle(text)),
+    }
+}
+
+fn parsed_tactic(alloc: Global, text: &str, tactic: &TacExpr) -> Result<Parsed, AllocError>
+    ensures { IfOk result (λ value. parsed_value value ≡ parsed_tactic text.now tactic.now) }
+{
+    match tactic.node() {
+        TacExprNode::Call(call) => {
+            if is_bracketed(text) {
+                Ok(idle(text))
+            } else {
+                Ok(Parsed::Local(LocalCommand::Apply(call.copy(alloc)?)))
+            }
+        }
+        TacExprNode::Then(_, _)
+        | TacExprNode::ThenL(_, _)
+        | TacExprNode::OrElse(_, _)
+        | TacExprNode::Repeat(_)
+        | TacExprNode::Try(_)
+        | TacExprNode::Changed(_)
+        | TacExprNode::Every(_)
+        | TacExprNode::First(_)
+        | TacExprNode::Replicate(_, _)
+        | TacExprNode::DischThen(_)
+        | TacExprNode::PopAssum(_)
+        | TacExprNode::FirstAssum(_)
+        | TacExprNode::SubgoalThen(_, _) => Ok(idle(text)),
+    }
+}
+
+// A command that doesn't run yet.
+fn idle(text: &str) -> Parsed
+    ensures { parsed_value result ≡ idle text.now }
+{
+    Parsed::Direct(DirectCommand::Unread(skip(text.as_bytes(), 0)))
+}
+
+// Whether a bracket stands after the one letter of `e`.
+#[tactic(auto, using(crate::proofs::Parsing::bracket_past))]
+fn is_bracketed(text: &str) -> bool
+    ensures { result ≡ is_bracketed text.now }
+{
+    let bytes = text.as_bytes();
+    let first = skip(bytes, 0);
+    if first == bytes.len() {
+        return false;
+    }
+    let place = skip(bytes, first + 1);
+    matches!(&bytes[place..], [b'(', ..])
+}
