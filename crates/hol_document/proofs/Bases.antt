@@ -1,5 +1,5 @@
 -- A basis's texts are the only ones.
-use Rattle.std.proofs.Common.{◌≡◌, ℕ, suc, List, [], ◌∷◌, refl, ap, sym, ◌∙◌, Bool, true, false, bytes_eq, arith, add-one}
+use Rattle.std.proofs.Common.{◌≡◌, ℕ, suc, length, List, [], ◌∷◌, refl, ap, sym, ◌∙◌, Bool, true, false, bytes_eq, arith, add-one}
 use Rattle.std.specs.Prelude.{Option, Some, None, Result, Ok, Err, sum_by}
 use Rattle.std.specs.List.Sorted.{IsSorted}
 use Rattle.std.specs.Ordering.{is_lt, ordering_reverse}
@@ -12,13 +12,13 @@ use Rattle.std.proofs.lemmas.List.Sorted.{sum_by-IsPermutation}
 use Rattle.hol_types.specs.Order.{name_cmp}
 use Rattle.hol_types.proofs.OrderLaws.{name_equal, name_same}
 use Rattle.hol_kernel.specs.Items.{Items}
-use Rattle.hol_kernel.specs.Theorem.{Theorem}
-use Rattle.hol_exec.specs.StateValue.{theorem_in}
+use Rattle.hol_exec.specs.Key.{theorem_key}
+use Rattle.hol_exec.specs.Entry.{EntryValue, ATheorem, entry_at}
 use Rattle.hol_document.specs.declared.error.Refusal.{Refusal}
-use Rattle.hol_document.specs.Documents.{TheoryText, find_theory}
+use Rattle.hol_document.specs.Documents.{Documents, find_theory}
 use Rattle.hol_document.specs.ItemTexts.{AreItemTexts}
-use Rattle.hol_document.specs.Asked.{BasisTexts, IsBasis, BasisIn, BasisOf}
-use Rattle.hol_document.proofs.Unique.{one_state}
+use Rattle.hol_document.specs.Asked.{commands_at, BasisTexts, IsBasis, BasisIn, BasisOf}
+use Rattle.hol_document.proofs.Unique.{state_is_one}
 
 -- ---- lists in the order of bytes, in which each text stands as often, are equal
 
@@ -93,24 +93,24 @@ one_order (x ∷ xs) (y ∷ ys) h k e =
 one_list : (items : Items) (a b : List (List ℕ)) → AreItemTexts items a → AreItemTexts items b → a ≡ b
 one_list items a b h k = one_order a b h.sorted k.sorted (λ t. sum_by-IsPermutation (same t) _ a h.each ∙ sym (sum_by-IsPermutation (same t) _ b k.each))
 
-one_texts : (th : Option Theorem) (a b : Option (List (List ℕ))) → BasisTexts th a → BasisTexts th b → a ≡ b
+one_texts : (e : Option EntryValue) (a b : Option (List (List ℕ))) → BasisTexts e a → BasisTexts e b → a ≡ b
 one_texts None None None h k = refl
 one_texts None None (Some ys) h k = absurd k
 one_texts None (Some xs) b h k = absurd h
-one_texts (Some th) None b h k = absurd h
-one_texts (Some th) (Some xs) None h k = absurd k
-one_texts (Some th) (Some xs) (Some ys) h k = ap Some (one_list th.basis xs ys h k)
+one_texts (Some (ATheorem th)) None b h k = absurd h
+one_texts (Some (ATheorem th)) (Some xs) None h k = absurd k
+one_texts (Some (ATheorem th)) (Some xs) (Some ys) h k = ap Some (one_list th.basis xs ys h k)
 
-one_basis : (commands : List (List ℕ)) (name : List ℕ) (a b : Option (List (List ℕ))) → IsBasis commands name a → IsBasis commands name b → a ≡ b
-one_basis commands name a b h k =
-    let states : h.state ≡ k.state = one_state commands h.state k.state h.run k.run in
-    one_texts (theorem_in k.state.entries name) a b (rw states at h.texts) k.texts
+one_basis : (docs : Documents) (i : ℕ) (name : List ℕ) (a b : Option (List (List ℕ))) → IsBasis docs i name a → IsBasis docs i name b → a ≡ b
+one_basis docs i name a b h k =
+    let states : h.state ≡ k.state = state_is_one docs i (length (commands_at docs i)) h.before k.before h.rows k.rows h.state k.state h.run k.run in
+    one_texts (entry_at (theorem_key name) k.state.entries) a b (rw states at h.texts) k.texts
 
-one_basis_in : (theories : List TheoryText) (o : Option ℕ) (name : List ℕ) (r q : Result (Option (List (List ℕ))) Refusal) → BasisIn theories o name r → BasisIn theories o name q → r ≡ q
-one_basis_in theories None name r q h k = h ∙ sym k
-one_basis_in theories (Some i) name (Ok a) (Ok b) h k = ap Ok (one_basis _ name a b h k)
-one_basis_in theories (Some i) name (Ok a) (Err f) h k = absurd k
-one_basis_in theories (Some i) name (Err e) q h k = absurd h
+one_basis_in : (docs : Documents) (o : Option ℕ) (name : List ℕ) (r q : Result (Option (List (List ℕ))) Refusal) → BasisIn docs o name r → BasisIn docs o name q → r ≡ q
+one_basis_in docs None name r q h k = h ∙ sym k
+one_basis_in docs (Some i) name (Ok a) (Ok b) h k = ap Ok (one_basis docs i name a b h k)
+one_basis_in docs (Some i) name (Ok a) (Err f) h k = absurd k
+one_basis_in docs (Some i) name (Err e) q h k = absurd h
 
-pub one_basis_answer : (theories : List TheoryText) (theory name : List ℕ) (r q : Result (Option (List (List ℕ))) Refusal) → BasisOf theories theory name r → BasisOf theories theory name q → r ≡ q
-one_basis_answer theories theory name r q h k = one_basis_in theories (find_theory theory theories) name r q h k
+pub one_basis_answer : (docs : Documents) (theory name : List ℕ) (r q : Result (Option (List (List ℕ))) Refusal) → BasisOf docs theory name r → BasisOf docs theory name q → r ≡ q
+one_basis_answer docs theory name r q h k = one_basis_in docs (find_theory theory docs.theories) name r q h k

@@ -1,5 +1,5 @@
 pub mod Running
 pub mod Sorting
-pub mod Proved
 pub mod Unique
 pub mod Bases
+pub mod Goals

@@ -1,34 +1,139 @@
--- Running one command more.
-use Rattle.std.proofs.Common.{◌≡◌, ℕ, ◌+◌, ◌<◌, List, [], ◌∷◌, ◌++◌, take, length, get_or, refl, add-one}
+-- Running one text more, or one theory more.
+use Rattle.std.proofs.Common.{◌≡◌, ℕ, ◌+◌, ◌<◌, List, [], ◌∷◌, ◌++◌, map, take, length, get_or, refl, sym, ◌∙◌, ap, add-one, append_assoc, arith}
+use Rattle.std.specs.Prelude.{Result, Ok, Err, IfOk, Option, slice_index_or, string_bytes}
 use Rattle.std.proofs.lemmas.List.{get_or_default}
-use Rattle.std.proofs.Math.Seq.{take-suc}
-use Rattle.hol_exec.specs.At.{IsOutcomeAt}
+use Rattle.std.proofs.Math.Seq.{take-suc, take-length}
+use Rattle.std.proofs.lemmas.Grind.{common_steps}
+use Rattle.hol_exec.specs.Setup.{SetupValue}
+use Rattle.hol_exec.specs.At.{direct, IsOutcome, IsOutcomeAt}
+use Rattle.hol_exec.specs.OutcomeValue.{OutcomeValue, after, MakesTheorems}
+use Rattle.hol_exec.specs.Parsed.{LocalText, DirectText, ParsedValue, Local, Direct, IsParsed}
+use Rattle.hol_exec.specs.ReadsValue.{ReadsValue, reads_of, reads_at}
+use Rattle.hol_exec.specs.Key.{KeyValue, theorem_key}
+use Rattle.hol_exec.specs.Entry.{EntryValue, entry_at, EachIsEntry}
+use Rattle.hol_exec.specs.Local.{IsLocal}
 use Rattle.hol_exec.specs.ReportValue.{ReportValue}
 use Rattle.hol_exec.specs.ReportOf.{report_of}
-use Rattle.hol_exec.specs.OutcomeValue.{OutcomeValue, after}
-use Rattle.hol_exec.specs.StateValue.{StateValue, start}
-use Rattle.hol_document.specs.Afresh.{IsOutcomeOf, Leads, LeadTo}
-use Rattle.hol_document.specs.Asked.{IsReport}
+use Rattle.hol_exec.specs.StateValue.{StateValue, EndedTheory, start}
+use Rattle.hol_document.specs.declared.end.End.{End}
+use Rattle.hol_document.specs.Asked.{commands_at, BasisTexts}
+use Rattle.hol_document.specs.Documents.{TheoryText, Documents, no_theory}
+use Rattle.hol_document.specs.EndView.{end_value}
+use Rattle.hol_document.specs.Shown.{IsProvedReport, IsProvedBasis}
+use Rattle.hol_document.specs.Afresh.{Row, IsRow, AreRows, TheoryRun, IsRun, AreRuns, ended}
+use Rattle.hol_document.specs.Run.{HasOutcome, LeadTo, EndSo}
 
-pub outcome_at : (s : StateValue) (text : List ℕ) (outcome : OutcomeValue) → IsOutcomeOf s text outcome → IsOutcomeAt s outcome
-outcome_at s text outcome h = (h.read, h.gets)
+-- the outcome of what a text is, is that of a row
+pub row_of : (setup : SetupValue) (earlier : List EndedTheory) (s : StateValue) (text : List ℕ) (value : ParsedValue) (outcome : OutcomeValue)
+    → IsParsed text value → IsOutcome setup earlier s value outcome → HasOutcome setup earlier s text outcome
+row_of setup earlier s text value outcome parsed gets =
+    (record { value = value; reads = reads_at value s; outcome = outcome }, record { parsed = parsed; read = refl; gets = gets }, refl)
 
-leads_more : (s mid : StateValue) (texts : List (List ℕ)) (text : List ℕ) (outcome : OutcomeValue) → Leads s texts mid → IsOutcomeOf mid text outcome → Leads s (texts ++ text ∷ []) (after mid outcome)
-leads_more s mid [] text outcome h k = (outcome, rw h at k, rw h refl)
-leads_more s mid (t ∷ texts) text outcome h k = (h.0, h.1, leads_more (after s h.0) mid texts text outcome h.2 k)
+pub outcome_at : (setup : SetupValue) (earlier : List EndedTheory) (s : StateValue) (text : List ℕ) (outcome : OutcomeValue)
+    → HasOutcome setup earlier s text outcome → IsOutcomeAt s outcome
+outcome_at setup earlier s text outcome (row, is, same) = (setup, earlier, row.value, rw same at is.gets)
 
--- one turn of the loop over the lines
-pub leads_next : (lines : List (List ℕ)) (i : ℕ) (line : List ℕ) (s s' : StateValue) (outcome : OutcomeValue) → i < length lines → line ≡ get_or lines i line → LeadTo (take i lines) s → IsOutcomeOf s line outcome → s' ≡ after s outcome → LeadTo (take (i + 1) lines) s'
-leads_next lines i line s s' outcome h is leads made e =
-    let more : take (i + 1) lines ≡ take i lines ++ line ∷ [] = rw (add-one, take-suc lines i line h, ← is) refl in
-    rw (more, e) (leads_more start s (take i lines) line outcome leads made)
+rows_more : (setup : SetupValue) (earlier : List EndedTheory) (s mid : StateValue) (texts : List (List ℕ)) (text : List ℕ) (rows : List Row) (row : Row)
+    → AreRows setup earlier s texts rows mid → IsRow setup earlier mid text row → AreRows setup earlier s (texts ++ text ∷ []) (rows ++ row ∷ []) (after mid row.outcome)
+rows_more setup earlier s mid [] text [] row h k = (rw h at k, rw h refl)
+rows_more setup earlier s mid [] text (r ∷ rows) row h k = absurd h
+rows_more setup earlier s mid (t ∷ texts) text [] row h k = absurd h
+rows_more setup earlier s mid (t ∷ texts) text (r ∷ rows) row h k = (h.0, rows_more setup earlier (after s r.outcome) mid texts text rows row h.1 k)
 
--- the report on a line after those before it
-pub report_is : (lines front : List (List ℕ)) (at : ℕ) (line : List ℕ) (s s' : StateValue) (outcome : OutcomeValue) (report : ReportValue) → at < length lines → line ≡ get_or lines at line → front ≡ take at lines → LeadTo front s → IsOutcomeOf s line outcome → s' ≡ after s outcome → report ≡ report_of outcome s' → IsReport lines at report
-report_is lines front at line s s' outcome report h is e leads made n w = record {
-  state = s;
-  before = rw e at leads;
-  outcome = outcome;
-  here = rw (get_or_default lines at [] line h, ← is) made;
-  says = rw n at w;
-}
+-- one turn of the loop over a theory's texts
+pub leads_next : (setup : SetupValue) (earlier : List EndedTheory) (texts : List (List ℕ)) (i : ℕ) (text : List ℕ) (s s' : StateValue) (outcome : OutcomeValue)
+    → i < length texts → text ≡ get_or texts i text → LeadTo setup earlier (take i texts) s → HasOutcome setup earlier s text outcome → s' ≡ after s outcome
+    → LeadTo setup earlier (take (i + 1) texts) s'
+leads_next setup earlier texts i text s s' outcome h is (rows, are) (row, one, same) e =
+    let more : take (i + 1) texts ≡ take i texts ++ text ∷ [] = rw (add-one, take-suc texts i text h, ← is) refl in
+    let state : s' ≡ after s row.outcome = e ∙ ap (after s) (sym same) in
+    (rows ++ row ∷ [], rw (more, state) (rows_more setup earlier start s (take i texts) text rows row are one))
+
+runs_more : (setup : SetupValue) (earlier : List EndedTheory) (theories : List TheoryText) (runs : List TheoryRun) (theory : TheoryText) (run : TheoryRun)
+    → AreRuns setup earlier theories runs → IsRun setup (earlier ++ map ended runs) theory run → AreRuns setup earlier (theories ++ theory ∷ []) (runs ++ run ∷ [])
+runs_more setup earlier [] [] theory run h k =
+    let none : earlier ++ [] ≡ earlier = grind (arith, common_steps) in
+    (rw none at k, tt)
+runs_more setup earlier [] (r ∷ runs) theory run h k = absurd h
+runs_more setup earlier (t ∷ theories) [] theory run h k = absurd h
+runs_more setup earlier (t ∷ theories) (r ∷ runs) theory run h k =
+    (h.0, runs_more setup (earlier ++ ended r ∷ []) theories runs theory run h.1 (rw (append_assoc earlier (ended r ∷ []) (map ended runs)) k))
+
+map_more : {X Y : Type 0} (f : X → Y) (xs : List X) (x : X) → map f (xs ++ x ∷ []) ≡ map f xs ++ f x ∷ []
+map_more f [] x = refl
+map_more f (y ∷ xs) x = ap (λ ys. f y ∷ ys) (map_more f xs x)
+
+-- one turn of the loop over theories
+pub ends_next : (setup : SetupValue) (theories : List TheoryText) (i : ℕ) (theory : TheoryText) (ends ends' : List EndedTheory) (s : StateValue)
+    → i < length theories → theory ≡ get_or theories i theory → EndSo setup (take i theories) ends → LeadTo setup ends theory.commands s
+    → ends' ≡ ends ++ record { name = theory.name; entries = s.entries } ∷ []
+    → EndSo setup (take (i + 1) theories) ends'
+ends_next setup theories i theory ends ends' s h is (runs, are, same) (rows, leads) e =
+    let more : take (i + 1) theories ≡ take i theories ++ theory ∷ [] = rw (add-one, take-suc theories i theory h, ← is) refl in
+    let run : TheoryRun = record { name = theory.name; rows = rows; last = s } in (
+      runs ++ run ∷ [],
+      rw more (runs_more setup [] (take i theories) runs theory run are (record { named = refl; are = rw same at leads })),
+      e ∙ (ap (λ xs. xs ++ ended run ∷ []) same ∙ sym (map_more ended runs run)),
+    )
+
+-- the outcomes of a command, or of what is answered directly, are those of rows
+pub local_rows : {E : Type 0} (setup : SetupValue) (earlier : List EndedTheory) (s : StateValue) (text : List ℕ) (value : ParsedValue) (command : LocalText) (reads : ReadsValue) (r : Result OutcomeValue E)
+    → IsParsed text value → value ≡ Local command → reads ≡ reads_of command s → IfOk r (IsLocal setup command reads) → IfOk r (HasOutcome setup earlier s text)
+local_rows setup earlier s text value command reads (Ok outcome) parsed is read gets =
+    row_of setup earlier s text value outcome parsed (rw is (rw read at gets))
+local_rows setup earlier s text value command reads (Err e) parsed is read gets = tt
+
+pub direct_rows : {E : Type 0} (setup : SetupValue) (earlier : List EndedTheory) (s : StateValue) (text : List ℕ) (value : ParsedValue) (command : DirectText) (r : Result OutcomeValue E)
+    → IsParsed text value → value ≡ Direct command → IfOk r (λ outcome. outcome ≡ direct command s earlier) → IfOk r (HasOutcome setup earlier s text)
+direct_rows setup earlier s text value command (Ok outcome) parsed is gets = row_of setup earlier s text value outcome parsed (rw is gets)
+direct_rows setup earlier s text value command (Err e) parsed is gets = tt
+
+-- one theory's end more
+pub end_pushed : (ends ends' : List End) (e : End) (name : List ℕ) → ends' ≡ ends ++ e ∷ [] → string_bytes e.name ≡ name
+    → map end_value ends' ≡ map end_value ends ++ record { name = name; entries = e.state.entries } ∷ []
+end_pushed ends ends' e name are named = rw (are, ← named) (map_more end_value ends e)
+
+theory_found : (theories : List TheoryText) (i : ℕ) (theory : TheoryText) → i < length theories → theory ≡ get_or theories i theory → slice_index_or theories i no_theory ≡ theory
+theory_found theories i theory h is = get_or_default theories i no_theory theory h ∙ sym is
+
+-- the report on a command after what comes before it
+pub report_is : (docs : Documents) (i at : ℕ) (theory : TheoryText) (front : List TheoryText) (ends : List EndedTheory) (lines heads : List (List ℕ)) (line : List ℕ) (s s' : StateValue) (outcome : OutcomeValue) (report : ReportValue)
+    → i < length docs.theories → theory ≡ get_or docs.theories i theory → front ≡ take i docs.theories
+    → lines ≡ theory.commands → at < length (commands_at docs i) → line ≡ get_or lines at line → heads ≡ take at lines
+    → EndSo docs.setup front ends → LeadTo docs.setup ends heads s → HasOutcome docs.setup ends s line outcome
+    → s' ≡ after s outcome → MakesTheorems outcome → report ≡ report_of outcome s' → IsProvedReport docs i at report
+report_is docs i at theory front ends lines heads line s s' outcome report h theory_is front_is lines_are within line_is heads_are (runs, are, same) (rows, leads) (row, one, own) next makes says =
+    let commands : commands_at docs i ≡ lines = ap (λ (t : TheoryText). t.commands) (theory_found docs.theories i theory h theory_is) ∙ sym lines_are in
+    let k : at < length lines = rw commands at within in
+    let text : slice_index_or (commands_at docs i) at [] ≡ line = ap (λ (texts : List (List ℕ)). slice_index_or texts at []) commands ∙ (get_or_default lines at [] line k ∙ sym line_is) in
+    let texts : take at (commands_at docs i) ≡ heads = ap (take at) commands ∙ sym heads_are in
+    record {
+      is = record {
+        before = runs;
+        rows = rows;
+        state = s;
+        run = record { runs = rw front_is at are; leads = rw (texts, ← same) leads };
+        row = row;
+        here = rw (text, ← same) one;
+        says = says ∙ (ap (report_of outcome) next ∙ ap (λ o. report_of o (after s o)) (sym own));
+      };
+      proved = rw own makes;
+    }
+
+-- the answer from the last state of a theory
+pub basis_is : (docs : Documents) (i : ℕ) (name : List ℕ) (key : KeyValue) (theory : TheoryText) (front : List TheoryText) (ends : List EndedTheory) (lines : List (List ℕ)) (s : StateValue) (found : Option EntryValue) (answer : Option (List (List ℕ)))
+    → i < length docs.theories → theory ≡ get_or docs.theories i theory → front ≡ take i docs.theories → lines ≡ theory.commands
+    → EndSo docs.setup front ends → LeadTo docs.setup ends lines s → EachIsEntry s.entries
+    → key ≡ theorem_key name → found ≡ entry_at key s.entries → BasisTexts found answer → IsProvedBasis docs i name answer
+basis_is docs i name key theory front ends lines s found answer h theory_is front_is lines_are (runs, are, same) (rows, leads) proved key_is found_is texts =
+    let commands : commands_at docs i ≡ lines = ap (λ (t : TheoryText). t.commands) (theory_found docs.theories i theory h theory_is) ∙ sym lines_are in
+    record {
+      is = record {
+        before = runs;
+        rows = rows;
+        state = s;
+        run = record { runs = rw front_is at are; leads = rw (take-length (commands_at docs i), commands, ← same) leads };
+        texts = rw (← key_is, ← found_is) texts;
+      };
+      proved = proved;
+    }

@@ -4,3 +4,5 @@ pub mod Afresh
 pub mod ItemTexts
 pub mod Asked
 pub mod Shown
+pub mod EndView
+pub mod Run

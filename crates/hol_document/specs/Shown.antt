@@ -1,18 +1,17 @@
 -- What is true of the theorems that documents show: each is that of a `Thm`, so has a derivation over its basis, which is legal; and what a
 -- `qed` made is the goal of the last accepted `g`, without hypotheses.
-use Rattle.std.specs.Prelude.{◌≡◌, ℕ, List, [], ◌∷◌, ◌++◌, Option, Some, None, Result, Ok, Err}
+use Rattle.std.specs.Prelude.{◌≡◌, ◌<◌, ℕ, List, [], ◌∷◌, ◌++◌, length, Option, Some, None}
 use Rattle.hol_terms.specs.Nameless.{Nameless}
-use Rattle.hol_kernel.specs.Items.{Items, no_items}
 use Rattle.hol_kernel.specs.Sequent.{no_hyps}
-use Rattle.hol_kernel.specs.Theorem.{Theorem, IsTheorem}
+use Rattle.hol_kernel.specs.Theorem.{Theorem}
+use Rattle.hol_exec.specs.Parsed.{ParsedValue, Local, Direct, Goal, Apply, Qed}
 use Rattle.hol_exec.specs.Key.{KeyValue, theorem_key}
 use Rattle.hol_exec.specs.Entry.{EntryValue, ATheorem, Entries, EachIsEntry}
 use Rattle.hol_exec.specs.OutcomeValue.{OutcomeValue, Opens, Leaves, Makes, Refuses, MakesTheorems}
 use Rattle.hol_exec.specs.ReportValue.{ReportValue}
-use Rattle.hol_document.specs.declared.error.Refusal.{Refusal}
 use Rattle.hol_document.specs.Documents.{Documents, find_theory}
 use Rattle.hol_document.specs.Afresh.{Row}
-use Rattle.hol_document.specs.Asked.{IsReport, IsBasis}
+use Rattle.hol_document.specs.Asked.{commands_at, IsReport, IsBasis}
 
 -- ---- derivations: by the type of theorems
 
@@ -28,7 +27,7 @@ pub record IsProvedBasis (docs : Documents) (i : ℕ) (name : List ℕ) (answer 
 
 abbrev pub ShowsProvedIn : Documents → Option ℕ → ℕ → ReportValue → Type 0
 ShowsProvedIn docs None at report = ⊥
-ShowsProvedIn docs (Some i) at report = IsProvedReport docs i at report
+ShowsProvedIn docs (Some i) at report = (at < length (commands_at docs i)) × IsProvedReport docs i at report
 
 abbrev pub ShowsProved : Documents → List ℕ → ℕ → ReportValue → Type 0
 ShowsProved docs theory at report = ShowsProvedIn docs (find_theory theory docs.theories) at report
@@ -54,14 +53,12 @@ abbrev pub open_goal : Option (List ℕ × Nameless) → List Row → Option (Li
 open_goal goal [] = goal
 open_goal goal (row ∷ rows) = open_goal (goal_after goal row.outcome) rows
 
--- The entry is the theorem of the last `g` that the rows accepted: of its name, with its statement and without hypotheses. It rests on the
--- items that stand, of which there are none yet but the prelude's.
+-- The entry is the theorem of the last `g` that the rows accepted: of its name, with its statement and without hypotheses.
 pub record IsFinished (rows : List Row) (key : KeyValue) (th : Theorem) : Type 0 where
   pub name : List ℕ
   pub under : key ≡ theorem_key name
   pub goal : open_goal None rows ≡ Some (name, th.sequent.concl)
   pub without_hypotheses : th.sequent.hyps ≡ no_hyps
-  pub on_prelude : th.basis ≡ no_items
 
 abbrev pub IsFinishedEntry : List Row → KeyValue × EntryValue → Type 0
 IsFinishedEntry rows (key, ATheorem th) = IsFinished rows key th
@@ -70,22 +67,21 @@ abbrev pub EachFinished : List Row → Entries → Type 0
 EachFinished rows [] = Unit {0}
 EachFinished rows (e ∷ entries) = IsFinishedEntry rows e × EachFinished rows entries
 
--- what an outcome after the rows makes
+-- what an outcome of `qed` after the rows makes
 abbrev pub MakesFinished : List Row → OutcomeValue → Type 0
 MakesFinished rows (Opens name statement basis) = Unit {0}
 MakesFinished rows (Leaves goal goals basis) = Unit {0}
 MakesFinished rows (Makes entries) = EachFinished rows entries
 MakesFinished rows (Refuses kind arg) = Unit {0}
 
--- one of the rows made the entry, as the theorem of the last `g` that those before it accepted
-pub record IsMadeIn (rows : List Row) (e : KeyValue × EntryValue) : Type 0 where
-  pub before : List Row
-  pub row : Row
-  pub later : List Row
-  pub are : rows ≡ before ++ row ∷ later
-  pub made : row.outcome ≡ Makes (e ∷ [])
-  pub finished : IsFinishedEntry before e
+-- the same of what a text is: it says nothing of what isn't `qed`
+abbrev pub FinishesBy : List Row → ParsedValue → OutcomeValue → Type 0
+FinishesBy rows (Local (Goal name quotation)) outcome = Unit {0}
+FinishesBy rows (Local (Apply call)) outcome = Unit {0}
+FinishesBy rows (Local Qed) outcome = MakesFinished rows outcome
+FinishesBy rows (Direct command) outcome = Unit {0}
 
-abbrev pub EachMadeIn : List Row → Entries → Type 0
-EachMadeIn rows [] = Unit {0}
-EachMadeIn rows (e ∷ entries) = IsMadeIn rows e × EachMadeIn rows entries
+-- each of the rows that is a `qed` made the theorem of the last `g` that the rows before it accepted
+abbrev pub EachFinishes : List Row → List Row → Type 0
+EachFinishes before [] = Unit {0}
+EachFinishes before (row ∷ rows) = FinishesBy before row.value row.outcome × EachFinishes (before ++ row ∷ []) rows

@@ -1,68 +1,127 @@
-//! Running a theory afresh.
-ghost use Rattle.std.specs.Prelude.{◌≡◌, ◌<◌, IfOk, length, map, string_bytes};
+//! Running documents afresh.
+ghost use Rattle.std.specs.Prelude.{◌≡◌, ◌<◌, IfOk, length, map, string_bytes, slice_index_or};
 ghost use Rattle.std.specs.Option.{option_map};
 ghost use Rattle.hol_exec.specs.OutcomeValue.{after};
-ghost use Rattle.hol_exec.specs.OutcomeView.{outcome_value};
 ghost use Rattle.hol_exec.specs.ReportView.{report_value};
-ghost use Rattle.hol_document.specs.Afresh.{IsOutcomeOf, LeadTo};
-ghost use Rattle.hol_document.specs.Asked.{IsReport, IsBasis};
+ghost use Rattle.hol_exec.specs.SetupView.{setup_value};
+ghost use Rattle.hol_document.specs.Documents.{no_theory};
+ghost use Rattle.hol_document.specs.EndView.{end_value};
+ghost use Rattle.hol_document.specs.Run.{HasOutcome, LeadTo, EndSo};
+ghost use Rattle.hol_document.specs.Shown.{IsProvedReport, IsProvedBasis};
 
+use crate::end::End;
 use crate::items::item_texts;
-use crate::line::{Line, Reading};
-use hol_exec::{Outcome, Reads, Report, State, apply, direct, report_of, run_local};
+use crate::line::Line;
+use crate::theory::Theory;
+use hol_exec::{
+    EntryNode, Key, Kind, Outcome, Parsed, Reads, Report, Setup, State, apply, direct, report_of,
+    run_local,
+};
 use std::alloc::{AllocError, Global};
 
 // The outcome of a text at a state.
-fn outcome_of(alloc: Global, line: &Line, state: &State) -> Result<Outcome, AllocError>
-    ensures { IfOk result (λ outcome. IsOutcomeOf state.now line.now (outcome_value outcome)) }
+fn outcome_of(
+    alloc: Global,
+    setup: &Setup,
+    earlier: &[End],
+    line: &Line,
+    state: &State,
+) -> Result<Outcome, AllocError>
+    ensures { IfOk result (HasOutcome (setup_value setup.now) (map end_value earlier.now) state.now line.now) }
 {
-    match line.reading() {
-        Reading::Command(command) => {
+    match line.parsed() {
+        Parsed::Local(command) => {
             let reads = Reads::of(alloc, command, state)?;
-            Ok(run_local(alloc, command, &reads)?)
+            run_local(alloc, setup, command, &reads)
         }
-        Reading::Fault(place) => Ok(direct(alloc, *place)?),
+        Parsed::Direct(command) => direct(alloc, *command, state, earlier),
     }
 }
 
 // Runs a text, and gives its outcome.
-fn run(alloc: Global, line: &Line, state: &mut State) -> Result<Outcome, AllocError>
-    ensures outcome { IfOk result (λ outcome. IsOutcomeOf state.old line.now (outcome_value outcome)) }
-    ensures state { IfOk result (λ outcome. state.new ≡ after state.old (outcome_value outcome)) }
+fn run(
+    alloc: Global,
+    setup: &Setup,
+    earlier: &[End],
+    line: &Line,
+    state: &mut State,
+) -> Result<Outcome, AllocError>
+    ensures outcome { IfOk result (HasOutcome (setup_value setup.now) (map end_value earlier.now) state.old line.now) }
+    ensures state { IfOk result (λ outcome. state.new ≡ after state.old outcome) }
 {
-    let outcome = outcome_of(alloc, line, state)?;
+    let outcome = outcome_of(alloc, setup, earlier, line, state)?;
     apply(alloc, state, &outcome)?;
     Ok(outcome)
 }
 
-// The state after the texts.
-fn state_after(alloc: Global, lines: &[Line]) -> Result<State, AllocError>
-    ensures { IfOk result (LeadTo lines.now) }
+// The state after the texts of a theory.
+fn state_after(
+    alloc: Global,
+    setup: &Setup,
+    earlier: &[End],
+    lines: &[Line],
+) -> Result<State, AllocError>
+    ensures { IfOk result (LeadTo (setup_value setup.now) (map end_value earlier.now) lines.now) }
 {
     let mut state = State::new(alloc);
     for line in lines {
-        run(alloc, line, &mut state)?;
+        run(alloc, setup, earlier, line, &mut state)?;
     }
     Ok(state)
 }
 
-/// The report on the command at a place.
-pub fn report(alloc: Global, lines: &[Line], at: usize) -> Result<Report, AllocError>
-    requires { at < length lines.now }
-    ensures { IfOk result (λ report. IsReport lines.now at (report_value report)) }
+// The ends of theories, each run after those before it.
+fn ends(alloc: Global, setup: &Setup, theories: &[Theory]) -> Result<Vec<End>, AllocError>
+    ensures { IfOk result (λ ends. EndSo (setup_value setup.now) theories.now (map end_value ends.items)) }
 {
-    let mut state = state_after(alloc, &lines[..at])?;
-    let outcome = run(alloc, &lines[at], &mut state)?;
-    Ok(report_of(alloc, &outcome, &state)?)
+    let mut ends = Vec::with_capacity(alloc, theories.len())?;
+    for theory in theories {
+        let state = state_after(alloc, setup, &ends, theory.lines())?;
+        let name = String::from_str(alloc, theory.name())?;
+        ends.push(End { name, state })?;
+    }
+    Ok(ends)
 }
 
-/// The items of the basis of a theorem that stands after the commands.
-pub fn basis(alloc: Global, lines: &[Line], name: &str) -> Result<Option<Vec<String>>, AllocError>
-    ensures { IfOk result (λ texts. IsBasis lines.now name.now (option_map (λ ts. map string_bytes ts.items) texts)) }
+/// The report on the command at a place of the theory at a place.
+pub(crate) fn report(
+    alloc: Global,
+    setup: &Setup,
+    theories: &[Theory],
+    i: usize,
+    at: usize,
+) -> Result<Report, AllocError>
+    requires theory { i < length theories.now }
+    requires command { at < length (slice_index_or theories.now i no_theory).commands }
+    ensures { IfOk result (λ report. IsProvedReport (record { theories = theories.now; setup = setup_value setup.now }) i at (report_value report)) }
 {
-    let state = state_after(alloc, lines)?;
-    match state.thm(name) {
-        Some(theorem) => Ok(Some(item_texts(alloc, theorem.basis())?)),
+    let earlier = ends(alloc, setup, &theories[..i])?;
+    let lines = theories[i].lines();
+    let mut state = state_after(alloc, setup, &earlier, &lines[..at])?;
+    let outcome = run(alloc, setup, &earlier, &lines[at], &mut state)?;
+    outcome.promise();
+    report_of(alloc, &outcome, &state)
+}
+
+/// The items of the basis of a theorem that stands at the end of the theory at a place.
+pub(crate) fn basis(
+    alloc: Global,
+    setup: &Setup,
+    theories: &[Theory],
+    i: usize,
+    name: &str,
+) -> Result<Option<Vec<String>>, AllocError>
+    requires { i < length theories.now }
+    ensures { IfOk result (λ texts. IsProvedBasis (record { theories = theories.now; setup = setup_value setup.now }) i name.now (option_map (λ ts. map string_bytes ts.items) texts)) }
+{
+    let earlier = ends(alloc, setup, &theories[..i])?;
+    let state = state_after(alloc, setup, &earlier, theories[i].lines())?;
+    state.promise();
+    let key = Key::new(alloc, Kind::Theorem, name)?;
+    match state.entry(&key) {
+        Some(entry) => match entry.node() {
+            EntryNode::Theorem(theorem) => Ok(Some(item_texts(alloc, theorem.basis())?)),
+        },
         None => Ok(None),
     }
 }

@@ -1,16 +1,21 @@
 //! The documents.
-ghost use Rattle.std.specs.Prelude.{◌≡◌, ◌≤◌, Ok, Err, IfOk, IfErr, OnOk, OnErr, []};
-ghost use Rattle.hol_document.specs.Documents.{find_theory, with_theory, with_command};
-ghost use Rattle.hol_document.specs.Asked.{IfRefused, Reported, BasisOf};
+ghost use Rattle.std.specs.Prelude.{◌≡◌, ◌≤◌, ◌<◌, Ok, Err, Some, IfOk, IfErr, OnOk, OnErr, [], ℕ, List, length, string_bytes, map, slice_index_or};
+ghost use Rattle.std.specs.List.{insert};
+ghost use Rattle.std.specs.Option.{option_map};
+ghost use Rattle.hol_exec.specs.ReportView.{report_value};
+ghost use Rattle.hol_exec.specs.SetupView.{setup_value};
+ghost use Rattle.hol_document.specs.Asked.{IfRefused, Reported, BasisOf, commands_at};
+ghost use Rattle.hol_document.specs.DocsView.{documents, cache_of};
+ghost use Rattle.hol_document.specs.Documents.{find_theory, with_theory, with_command, command_limit};
+ghost use Rattle.hol_document.specs.Shown.{ShowsProved, TellsOfProved};
 
+use crate::afresh;
 use crate::error::{DocsError, Refusal};
 use crate::line::Line;
 use crate::theory::Theory;
-use crate::{afresh, items};
-use hol_exec::Report;
+use hol_exec::{Report, Setup};
 use hol_notation_tokens::is_identifier;
 use std::alloc::Global;
-use std::marker::Model;
 
 /// The most theories that may stand.
 pub const THEORY_LIMIT: usize = 64;
@@ -18,47 +23,31 @@ pub const THEORY_LIMIT: usize = 64;
 /// The most commands that may stand in a theory.
 pub const COMMAND_LIMIT: usize = 1000;
 
-/// The most bytes of a theory's name.
+// The most bytes of a theory's name.
 const NAME_LIMIT: usize = 64;
 
-/// Documents under edit: theories in order, each a name and the texts of its commands.
+/// Documents under edit: theories in order, each a name and the texts of its commands, and what they are run by.
 ///
-/// What is asked of them is what running them afresh says. A refused call changes nothing.
+/// What is asked of them is what running them afresh says. An edit runs nothing, and a refused call changes nothing.
 #[derive(Drop)]
 pub struct Docs {
     alloc: Global,
-    theories: Vec<Theory>,
-    turns: u32,
+    setup: Setup,
     cache: u32,
-}
-
-impl Model for Docs {
-    ghost use Rattle.hol_document.specs.Documents.{Documents};
-
-    ghost Value = { Documents };
-
-    ghost view = { λ d. record { theories = d.theories.items } };
+    theories: Vec<Theory>,
 }
 
 impl Docs {
-    ghost use Rattle.std.specs.Prelude.{string_bytes, map};
-    ghost use Rattle.std.specs.Option.{option_map};
-    ghost use Rattle.hol_exec.specs.ReportView.{report_value};
-
-    /// Documents without theories. `turns` is the number of turns that a command has, and `cache` that of the outcomes that
-    /// are kept after they have left the documents; no command of this language takes a turn, and nothing is kept yet.
-    pub fn new(alloc: Global, turns: u32, cache: u32) -> Docs
-        requires turns_low { 1 ≤ turns }
-        requires turns_high { turns ≤ 100000 }
-        requires cache_low { 1 ≤ cache }
-        requires cache_high { cache ≤ 4096 }
-        ensures { result.theories ≡ [] }
+    /// Documents without theories, run by this set-up. `cache` is the number of outcomes that are kept after they have left the documents.
+    pub fn new(alloc: Global, setup: Setup, cache: u32) -> Docs
+        ensures documents { documents result ≡ record { theories = []; setup = setup_value setup } }
+        ensures cache { cache_of result ≡ cache }
     {
         Docs {
             alloc,
-            theories: Vec::new(alloc),
-            turns,
+            setup,
             cache,
+            theories: Vec::new(alloc),
         }
     }
 
@@ -66,22 +55,13 @@ impl Docs {
     ///
     /// Refused where the name is taken, is bad, the place is above the number of theories, or 64 theories stand: in this order.
     pub fn new_theory(&mut self, name: &str, at: usize) -> Result<(), DocsError>
-        ensures ok { OnOk result (with_theory self.old.theories name.now at ≡ Ok self.new.theories) }
-        ensures refused { IfErr result (IfRefused (λ refusal. with_theory self.old.theories name.now at ≡ Err refusal)) }
-        ensures kept { OnErr result (self.new ≡ self.old) }
+        ensures ok { OnOk result (with_theory (documents self.old).theories name.now at ≡ Ok (documents self.new).theories) }
+        ensures refused { IfErr result (IfRefused (λ refusal. with_theory (documents self.old).theories name.now at ≡ Err refusal)) }
+        ensures kept { OnErr result (documents self.new ≡ documents self.old) }
+        ensures setup { (documents self.new).setup ≡ (documents self.old).setup }
+        ensures cache { cache_of self.new ≡ cache_of self.old }
     {
-        if self.find(name).is_some() {
-            return Err(DocsError::Refused(Refusal::TheoryNameTaken));
-        }
-        if !(is_identifier(name) && name.len() <= NAME_LIMIT) {
-            return Err(DocsError::Refused(Refusal::BadTheoryName));
-        }
-        if at > self.theories.len() {
-            return Err(DocsError::Refused(Refusal::PositionOutOfRange));
-        }
-        if self.theories.len() >= THEORY_LIMIT {
-            return Err(DocsError::Refused(Refusal::TooMany));
-        }
+        self.check_theory(name, at)?;
         let theory = Theory::new(self.alloc, name)?;
         self.theories.insert(at, theory)?;
         Ok(())
@@ -91,41 +71,29 @@ impl Docs {
     ///
     /// Refused where the theory is unknown, the place is above the number of its commands, or 1,000 commands stand: in this order.
     pub fn insert(&mut self, theory: &str, at: usize, text: &str) -> Result<(), DocsError>
-        ensures ok { OnOk result (with_command self.old.theories theory.now at text.now ≡ Ok self.new.theories) }
-        ensures refused { IfErr result (IfRefused (λ refusal. with_command self.old.theories theory.now at text.now ≡ Err refusal)) }
-        ensures kept { OnErr result (self.new ≡ self.old) }
+        ensures ok { OnOk result (with_command (documents self.old).theories theory.now at text.now ≡ Ok (documents self.new).theories) }
+        ensures refused { IfErr result (IfRefused (λ refusal. with_command (documents self.old).theories theory.now at text.now ≡ Err refusal)) }
+        ensures kept { OnErr result (documents self.new ≡ documents self.old) }
+        ensures setup { (documents self.new).setup ≡ (documents self.old).setup }
+        ensures cache { cache_of self.new ≡ cache_of self.old }
     {
-        let Some(i) = self.find(theory) else {
-            return Err(DocsError::Refused(Refusal::UnknownTheory));
-        };
-        let count = self.theories[i].lines().len();
-        if at > count {
-            return Err(DocsError::Refused(Refusal::PositionOutOfRange));
-        }
-        if count >= COMMAND_LIMIT {
-            return Err(DocsError::Refused(Refusal::TooMany));
-        }
+        let i = self.place_to_insert(theory, at)?;
         let line = Line::new(self.alloc, text)?;
-        let theory = &mut self.theories[i];
-        theory.insert(at, line)?;
+        self.theories[i].insert(at, line)?;
         Ok(())
     }
 
-    /// The report on the command at a place of a theory: what running the documents afresh says.
+    /// The report on the command at a place of a theory: what running the documents afresh says. The theorems that it shows are those of
+    /// `Thm`s, so each has a derivation.
     ///
     /// Refused where the theory is unknown or no command stands at the place: in this order.
     pub fn report(&self, theory: &str, at: usize) -> Result<Report, DocsError>
-        ensures ok { IfOk result (λ report. Reported self.now.theories theory.now at (Ok (report_value report))) }
-        ensures refused { IfErr result (IfRefused (λ refusal. Reported self.now.theories theory.now at (Err refusal))) }
+        ensures ok { IfOk result (λ report. Reported (documents self.now) theory.now at (Ok (report_value report))) }
+        ensures proved { IfOk result (λ report. ShowsProved (documents self.now) theory.now at (report_value report)) }
+        ensures refused { IfErr result (IfRefused (λ refusal. Reported (documents self.now) theory.now at (Err refusal))) }
     {
-        let Some(i) = self.find(theory) else {
-            return Err(DocsError::Refused(Refusal::UnknownTheory));
-        };
-        let lines = self.theories[i].lines();
-        if at >= lines.len() {
-            return Err(DocsError::Refused(Refusal::PositionOutOfRange));
-        }
-        Ok(afresh::report(self.alloc, lines, at)?)
+        let i = self.place_to_report(theory, at)?;
+        Ok(afresh::report(self.alloc, &self.setup, &self.theories, i, at)?)
     }
 
     /// The items of the basis of a theorem that stands at the end of a theory, as texts in the order of their bytes; nothing
@@ -133,19 +101,82 @@ impl Docs {
     ///
     /// Refused where the theory is unknown.
     pub fn basis(&self, theory: &str, name: &str) -> Result<Option<Vec<String>>, DocsError>
-        ensures ok { IfOk result (λ texts. BasisOf self.now.theories theory.now name.now (Ok (option_map (λ ts. map string_bytes ts.items) texts))) }
-        ensures refused { IfErr result (IfRefused (λ refusal. BasisOf self.now.theories theory.now name.now (Err refusal))) }
+        ensures ok { IfOk result (λ texts. BasisOf (documents self.now) theory.now name.now (Ok (option_map (λ ts. map string_bytes ts.items) texts))) }
+        ensures proved { IfOk result (λ texts. TellsOfProved (documents self.now) theory.now name.now (option_map (λ ts. map string_bytes ts.items) texts)) }
+        ensures refused { IfErr result (IfRefused (λ refusal. BasisOf (documents self.now) theory.now name.now (Err refusal))) }
     {
-        let Some(i) = self.find(theory) else {
-            return Err(DocsError::Refused(Refusal::UnknownTheory));
-        };
-        let lines = self.theories[i].lines();
-        Ok(afresh::basis(self.alloc, lines, name)?)
+        let i = self.place_of(theory)?;
+        Ok(afresh::basis(self.alloc, &self.setup, &self.theories, i, name)?)
+    }
+
+    // Whether a theory of the name may stand at the place. It takes no memory.
+    fn check_theory(&self, name: &str, at: usize) -> Result<(), Refusal>
+        ensures ok { OnOk result (with_theory (documents self.now).theories name.now at
+            ≡ Ok (insert (documents self.now).theories at (record { name = name.now; commands = [] }))) }
+        ensures place { OnOk result (at ≤ length (documents self.now).theories) }
+        ensures refused { IfErr result (λ refusal. with_theory (documents self.now).theories name.now at ≡ Err refusal) }
+    {
+        if self.find(name).is_some() {
+            return Err(Refusal::TheoryNameTaken);
+        }
+        if !(is_identifier(name) && name.len() <= NAME_LIMIT) {
+            return Err(Refusal::BadTheoryName);
+        }
+        if at > self.theories.len() {
+            return Err(Refusal::PositionOutOfRange);
+        }
+        if self.theories.len() >= THEORY_LIMIT {
+            return Err(Refusal::TooMany);
+        }
+        Ok(())
+    }
+
+    // The place of a theory where a command may stand at the place. It takes no memory.
+    fn place_to_insert(&self, theory: &str, at: usize) -> Result<usize, Refusal>
+        ensures found { IfOk result (λ i. find_theory theory.now (documents self.now).theories ≡ Some i) }
+        ensures within { IfOk result (λ i. i < length (documents self.now).theories) }
+        ensures place { IfOk result (λ i. at ≤ length (commands_at (documents self.now) i)) }
+        ensures room { IfOk result (λ i. length (commands_at (documents self.now) i) < command_limit) }
+        ensures refused { IfErr result (λ refusal. (text : List ℕ) → with_command (documents self.now).theories theory.now at text ≡ Err refusal) }
+    {
+        let i = self.place_of(theory)?;
+        let count = self.theories[i].lines().len();
+        if at > count {
+            return Err(Refusal::PositionOutOfRange);
+        }
+        if count >= COMMAND_LIMIT {
+            return Err(Refusal::TooMany);
+        }
+        Ok(i)
+    }
+
+    // The place of a theory where a command stands at the place. It takes no memory.
+    fn place_to_report(&self, theory: &str, at: usize) -> Result<usize, Refusal>
+        ensures found { IfOk result (λ i. find_theory theory.now (documents self.now).theories ≡ Some i) }
+        ensures within { IfOk result (λ i. i < length (documents self.now).theories) }
+        ensures stands { IfOk result (λ i. at < length (commands_at (documents self.now) i)) }
+        ensures refused { IfErr result (λ refusal. Reported (documents self.now) theory.now at (Err refusal)) }
+    {
+        let i = self.place_of(theory)?;
+        if at >= self.theories[i].lines().len() {
+            return Err(Refusal::PositionOutOfRange);
+        }
+        Ok(i)
+    }
+
+    // The place of the theory of that name. It takes no memory.
+    fn place_of(&self, name: &str) -> Result<usize, Refusal>
+        ensures found { IfOk result (λ i. find_theory name.now (documents self.now).theories ≡ Some i) }
+        ensures within { IfOk result (λ i. i < length (documents self.now).theories) }
+        ensures none { OnErr result (find_theory name.now (documents self.now).theories ≡ None) }
+        ensures unknown { IfErr result (λ refusal. refusal ≡ Refusal.UnknownTheory) }
+    {
+        self.find(name).ok_or(Refusal::UnknownTheory)
     }
 
     // The place of the theory of that name.
     fn find(&self, name: &str) -> Option<usize>
-        ensures { result ≡ find_theory name.now self.now.theories }
+        ensures { result ≡ find_theory name.now (documents self.now).theories }
     {
         self.theories
             .iter()

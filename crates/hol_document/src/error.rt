@@ -35,6 +35,17 @@ pub enum DocsError {
     Memory,
 }
 
+impl From<Refusal> for DocsError {
+    ghost use Rattle.hol_document.specs.declared.error.DocsError.{DocsError};
+    ghost use Rattle.std.specs.Prelude.{◌≡◌};
+
+    ghost from_gives = { λ refusal e. e ≡ DocsError.Refused refusal };
+
+    fn from(refusal: Refusal) -> DocsError {
+        DocsError::Refused(refusal)
+    }
+}
+
 impl From<AllocError> for DocsError {
     ghost use Rattle.hol_document.specs.declared.error.DocsError.TheVariants.{Memory};
     ghost use Rattle.std.specs.Prelude.{◌≡◌};

@@ -1,19 +1,19 @@
-//! Documents: theories whose commands are edited, and what running them afresh says.
+//! Documents under edit, and what running them afresh says.
+//!
+//! A call that answers a `Result` answers its memory error where memory is short, and nowhere else.
 #![tactic(auto)]
 
 mod afresh;
 mod docs;
+mod end;
 mod error;
 mod items;
 mod laws;
 mod line;
-#[cfg(test)]
-mod tests;
 mod theory;
 
 pub use docs::{COMMAND_LIMIT, Docs, THEORY_LIMIT};
 pub use error::{DocsError, Refusal};
 pub use laws::{
-    bases_are_unique, reports_are_unique, shown_theorems_are_proved, states_are_unique,
-    theorems_are_proved,
+    bases_are_unique, finished_proofs_have_their_goals, reports_are_unique, rows_are_unique,
 };

@@ -9,7 +9,7 @@ use std::marker::Model;
 
 /// A theory: its name and its commands' texts, in order.
 #[derive(Drop)]
-pub struct Theory {
+pub(crate) struct Theory {
     name: String,
     lines: Vec<Line>,
 }
@@ -25,7 +25,7 @@ impl Model for Theory {
 
 impl Theory {
     /// A theory without commands.
-    pub fn new(alloc: Global, name: &str) -> Result<Theory, AllocError>
+    pub(crate) fn new(alloc: Global, name: &str) -> Result<Theory, AllocError>
         ensures { IfOk result (λ theory. theory ≡ record { name = name.now; commands = [] }) }
     {
         Ok(Theory {
@@ -35,21 +35,21 @@ impl Theory {
     }
 
     /// Its name.
-    pub fn name(&self) -> &str
+    pub(crate) fn name(&self) -> &str
         ensures { result.now ≡ self.now.name }
     {
         self.name.as_str()
     }
 
     /// Its commands, in order.
-    pub fn lines(&self) -> &[Line]
+    pub(crate) fn lines(&self) -> &[Line]
         ensures { result.now ≡ self.now.commands }
     {
         self.lines.as_slice()
     }
 
     /// Puts a command at a place.
-    pub fn insert(&mut self, at: usize, line: Line) -> Result<(), AllocError>
+    pub(crate) fn insert(&mut self, at: usize, line: Line) -> Result<(), AllocError>
         requires { at ≤ length self.old.commands }
         ensures ok { OnOk result (self.new ≡ record { name = self.old.name; commands = insert self.old.commands at line }) }
         ensures err { OnErr result (self.new ≡ self.old) }

@@ -6,5 +6,4 @@ pub mod Runs
 pub mod Literals
 pub mod Floats
 pub mod Machines
-pub mod Promises
 pub mod Once

@@ -1,12 +1,12 @@
 -- What the steps of an answer come to, over plain variables.
-use Rattle.std.proofs.Common.{◌≡◌, ◌≢◌, ◌<◌, ◌≤◌, ℕ, List, [], ◌∷◌, length, Option, Some, None, Result, Ok, Err, refl, sym, ◌∙◌, ap, subst, arith}
+use Rattle.std.proofs.Common.{◌≡◌, ◌≢◌, ◌<◌, ◌≤◌, ℕ, List, [], ◌∷◌, length, Option, Some, None, Result, Ok, Err, refl, sym, ◌∙◌, subst, arith}
 use Rattle.std.specs.Str.{IsUtf8}
 use Rattle.serde_json.specs.Data.{Data}
 use Rattle.serde_json.specs.Read.{read}
 use Rattle.serde_json.proofs.OnLiterals.{serde_json_on_literals}
 use Rattle.hol_document.specs.declared.error.Refusal.{Refusal}
 use Rattle.hol_document.specs.declared.error.DocsError.{DocsError}
-use Rattle.hol_document.specs.Documents.{Documents, TheoryText}
+use Rattle.hol_document.specs.Documents.{Documents, TheoryText, with_theories}
 use Rattle.hol_document.specs.Asked.{IfRefused}
 use Rattle.hol_serve.specs.Lines.{line_limit}
 use Rattle.hol_serve.specs.declared.lines.service.Reply.{Reply}
@@ -21,7 +21,7 @@ pub told : (P : Refusal → Type 0) (error : DocsError) (refusal : Refusal) → 
 told P error refusal is h = subst (IfRefused P) is h
 
 pub made_edit : (old new : Documents) (edit : Result (List TheoryText) Refusal) (theories : List TheoryText)
-    → edit ≡ Ok theories → new ≡ record old { theories = theories } → Edits old edit Done new
+    → edit ≡ Ok theories → new ≡ with_theories old theories → Edits old edit Done new
 made_edit old new edit theories made is = subst (λ (e : Result (List TheoryText) Refusal). Edits old e Done new) (sym made) (refl, is)
 
 pub refused_edit : (old new : Documents) (edit : Result (List TheoryText) Refusal) (refusal : Refusal)
@@ -40,7 +40,7 @@ line_no_json old line reply short none says =
 
 pub line_no_memory : (old new : Documents) (line : List ℕ) (reply : Reply) → length line ≤ line_limit → line ≢ [] → new ≡ old → Says (Refused Memory) reply
     → MayAnswer old line (reply_bytes reply.text) reply.closes new
-line_no_memory old new line reply short some same says = (Refused Memory, no_memory short some refl (ap (λ (d : Documents). d.theories) same), says.0, says.1)
+line_no_memory old new line reply short some same says = (Refused Memory, no_memory short some refl same, says.0, says.1)
 
 pub line_shape : (old : Documents) (line : List ℕ) (d : Data) (reply : Reply) → length line ≤ line_limit → ReadsAs line d → request_of d ≡ None → Says (Refused Shape) reply
     → MayAnswer old line (reply_bytes reply.text) reply.closes old

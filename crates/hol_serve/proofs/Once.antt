@@ -6,10 +6,10 @@ use Rattle.hol_document.specs.Documents.{Documents, TheoryText, with_theory, wit
 use Rattle.hol_document.proofs.Unique.{one_answer}
 use Rattle.hol_document.proofs.Bases.{one_basis_answer}
 use Rattle.hol_serve.specs.Lines.{line_limit}
-use Rattle.hol_serve.specs.Machine.{Machine, too_long, no_json, served, no_memory, Edits, reply_to, Serves, ServesIf}
+use Rattle.serde_json.specs.Data.{Data}
+use Rattle.hol_serve.specs.Machine.{ReadsAs, Machine, too_long, no_json, served, no_memory, Edits, reply_to, Serves, ServesIf}
 use Rattle.hol_serve.specs.Requests.{RequestText, NewTheory, Insert, Report, Basis, request_of}
 use Rattle.hol_serve.specs.Replies.{Memory, ReplyValue, Refused, Reports, RestsOn}
-use Rattle.hol_serve.proofs.Promises.{same_data}
 
 edits_once : (old : Documents) (r : Result (List TheoryText) Refusal) (a b : ReplyValue) (m n : Documents) → Edits old r a m → Edits old r b n → (a ≡ b) × (m ≡ n)
 edits_once old (Ok theories) a b m n h k = (h.0 ∙ sym k.0, h.1 ∙ sym k.1)
@@ -19,13 +19,16 @@ serves_once : (old : Documents) (request : RequestText) (a b : ReplyValue) (m n 
 serves_once old (NewTheory name at) a b m n h k = edits_once old (with_theory old.theories name at) a b m n h k
 serves_once old (Insert theory at text) a b m n h k = edits_once old (with_command old.theories theory at text) a b m n h k
 serves_once old (Report theory at) a b m n h k =
-    (h.2 ∙ (ap (reply_to Reports) (one_answer old.theories theory at h.0 k.0 h.1 k.1) ∙ sym k.2), h.3 ∙ sym k.3)
+    (h.3 ∙ (ap (reply_to Reports) (one_answer old theory at h.0 k.0 h.1 k.1) ∙ sym k.3), h.4 ∙ sym k.4)
 serves_once old (Basis theory name) a b m n h k =
-    (h.2 ∙ (ap (reply_to RestsOn) (one_basis_answer old.theories theory name h.0 k.0 h.1 k.1) ∙ sym k.2), h.3 ∙ sym k.3)
+    (h.3 ∙ (ap (reply_to RestsOn) (one_basis_answer old theory name h.0 k.0 h.1 k.1) ∙ sym k.3), h.4 ∙ sym k.4)
 
 serves_if_once : (old : Documents) (request : Option RequestText) (a b : ReplyValue) (m n : Documents) → ServesIf old request a m → ServesIf old request b n → (a ≡ b) × (m ≡ n)
 serves_if_once old None a b m n h k = (h.0 ∙ sym k.0, h.1 ∙ sym k.1)
 serves_if_once old (Some request) a b m n h k = serves_once old request a b m n h k
+
+same_data : (line : List ℕ) (d e : Data) → ReadsAs line d → ReadsAs line e → d ≡ e
+same_data line d e h k = let f : Some d ≡ Some e = sym h.1 ∙ k.1 in cc
 
 apart : (line : List ℕ) → line_limit < length line → length line ≤ line_limit → ⊥
 apart line h k = omega (arith, h, k)

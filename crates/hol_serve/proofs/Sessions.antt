@@ -1,7 +1,8 @@
 -- Sessions go on.
-use Rattle.std.proofs.Common.{Result, Ok, Err, OnErr, ◌≢◌, inl, inr, ℕ, List, [], ◌∷◌, ◌++◌, Bool, true, false, refl, sym, ◌∙◌, ap, subst, append_assoc, arith}
+use Rattle.std.proofs.Common.{Result, Ok, Err, OnErr, ◌≢◌, inl, inr, ℕ, List, [], ◌∷◌, ◌++◌, Bool, true, false, refl, sym, ◌∙◌, ap, subst, append_assoc, arith, Option}
 use Rattle.std.proofs.lemmas.Grind.{common_steps}
-use Rattle.hol_serve.specs.Session.{Answers, AnswersInPart}
+use Rattle.hol_serve.specs.Lines.{whole_lines, lines_of}
+use Rattle.hol_serve.specs.Session.{Answers, AnswersInPart, Finishes, StopsReading, StopsWriting}
 
 abbrev pub Machine : Type 0 → Type 1
 Machine S = S → List ℕ → List ℕ → Bool → S → Type 0
@@ -75,3 +76,22 @@ pub part_seen : {S T : Type 0} (f : S → T) (may : Machine T) (old new : S) (li
     → AnswersInPart (λ o l t c n. may (f o) l t c (f n)) old lines xs new → AnswersInPart may (f old) lines xs (f new)
 part_seen f may old new lines xs (served, last, more, e, replies, mid, run, part, missing, closes, step, some, w) =
     (served, last, more, e, replies, f mid, answers_seen f may old mid served replies false run, part, missing, closes, step, some, w)
+
+pub finishes_seen : {S T : Type 0} (f : S → T) (may : Machine T) (old new : S) (left left' held held' : Option (List ℕ))
+    → Finishes (λ o l t c n. may (f o) l t c (f n)) old new left left' held held' → Finishes may (f old) (f new) left left' held held'
+finishes_seen f may old new left left' held held' (read, replies, consumes, appends, inl (end, closed, answers)) =
+    (read, replies, consumes, appends, inl (end, closed, answers_seen f may old new (lines_of read) replies closed answers))
+finishes_seen f may old new left left' held held' (read, replies, consumes, appends, inr answers) =
+    (read, replies, consumes, appends, inr (answers_seen f may old new (whole_lines read) replies true answers))
+
+pub stops_reading_seen : {S T : Type 0} (f : S → T) (may : Machine T) (old new : S) (left left' held held' : Option (List ℕ))
+    → StopsReading (λ o l t c n. may (f o) l t c (f n)) old new left left' held held' → StopsReading may (f old) (f new) left left' held held'
+stops_reading_seen f may old new left left' held held' (read, replies, consumes, appends, answers) =
+    (read, replies, consumes, appends, answers_seen f may old new (whole_lines read) replies false answers)
+
+pub stops_writing_seen : {S T : Type 0} (f : S → T) (may : Machine T) (old new : S) (left left' held held' : Option (List ℕ))
+    → StopsWriting (λ o l t c n. may (f o) l t c (f n)) old new left left' held held' → StopsWriting may (f old) (f new) left left' held held'
+stops_writing_seen f may old new left left' held held' (read, written, consumes, appends, inl part) =
+    (read, written, consumes, appends, inl (part_seen f may old new (whole_lines read) written part))
+stops_writing_seen f may old new left left' held held' (read, written, consumes, appends, inr (end, part)) =
+    (read, written, consumes, appends, inr (end, part_seen f may old new (lines_of read) written part))

@@ -8,4 +8,5 @@ pub mod Replies
 pub mod Texts
 pub mod Machine
 pub mod Ending
-pub mod Promise
+pub mod Begun
+pub mod Over

@@ -1,6 +1,7 @@
 //! One line and its reply.
 
 ghost use Rattle.std.specs.Prelude.{◌≡◌, ◌≤◌, ◌⊎◌, IfOk, OnErr, length};
+ghost use Rattle.hol_document.specs.DocsView.{documents};
 ghost use Rattle.hol_document.specs.declared.error.Refusal.{Refusal};
 ghost use Rattle.serde_json.specs.Errors.{IsMemory};
 ghost use Rattle.hol_serve.specs.Lines.{line_limit};
@@ -32,8 +33,8 @@ fn refusal_reply(error: DocsError) -> Result<Reply, AllocError>
 
 // Serves a request over the documents. Where it finds no memory they stay as they were.
 fn served(alloc: Global, docs: &mut Docs, request: Request<'_>) -> Result<Reply, AllocError>
-    ensures ok { IfOk result (λ reply. (value : ReplyValue) × Says value reply × Serves docs.old (request_text request.entry) value docs.new) }
-    ensures kept { OnErr result (docs.new ≡ docs.old) }
+    ensures ok { IfOk result (λ reply. (value : ReplyValue) × Says value reply × Serves (documents docs.old) (request_text request.entry) value (documents docs.new)) }
+    ensures kept { OnErr result (documents docs.new ≡ documents docs.old) }
 {
     match request {
         Request::NewTheory { name, at } => match docs.new_theory(name, at as usize) {
@@ -68,7 +69,7 @@ fn unread_reply(error: &Error) -> Reply
 /// The reply to a line, with its newline.
 pub fn answer(alloc: Global, docs: &mut Docs, line: &[u8]) -> Reply
     requires { length line.now ≤ line_limit }
-    ensures { MayAnswer docs.old line.now (reply_bytes result.text) result.closes docs.new }
+    ensures { MayAnswer (documents docs.old) line.now (reply_bytes result.text) result.closes (documents docs.new) }
 {
     let value = match Value::from_slice(alloc, line) {
         Ok(value) => value,

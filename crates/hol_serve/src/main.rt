@@ -2,6 +2,7 @@
 #![tactic(auto)]
 
 mod answering;
+mod begun;
 mod constants;
 mod ending;
 mod laws;

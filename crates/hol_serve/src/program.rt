@@ -1,35 +1,35 @@
 //! The program, as a function of its words, its input and its outputs.
 
-ghost use Rattle.std.specs.Prelude.{◌≡◌, ◌≢◌, ◌⊎◌, ◌≤◌, ℕ, List, [], Ok, Err, IfOk, OnOk, map};
-ghost use Rattle.hol_document.specs.Documents.{Documents};
+ghost use Rattle.std.specs.Prelude.{◌≡◌, ◌≢◌, ◌⊎◌, ◌≤◌, Err, IfOk, IsOkAnd, OnOk, map};
+ghost use Rattle.hol_serve.specs.Begun.{Begins};
 ghost use Rattle.hol_serve.specs.Ending.{Tells};
 ghost use Rattle.hol_serve.specs.Lines.{read_limit};
-ghost use Rattle.hol_serve.specs.Machine.{MayAnswer, no_documents};
+ghost use Rattle.hol_serve.specs.Machine.{MayAnswer};
 ghost use Rattle.hol_serve.specs.Session.{CountsUp, Finishes, StopsReading, StopsWriting};
 ghost use Rattle.hol_serve.specs.Settings.{AreBad};
 ghost use Rattle.hol_serve.specs.declared.ending.Ending.TheVariants as ending;
 
+use crate::begun::begun;
 use crate::ending::Ending;
 use crate::lines::{Fault, Sink, Source, write_reply};
 use crate::serving::run;
-use crate::settings::{Words, settings};
-use hol_document::Docs;
+use crate::settings::Words;
 use std::alloc::Global;
 
-// Serves the reader's lines as the words say, from documents without theories.
+// Serves the reader's lines as the words say, over documents that begin so.
 fn serve<'a, R: Source, W: Sink>(
     alloc: Global,
     words: Result<&'a [&'a str], Words>,
     reader: &mut R,
     writer: &mut W,
 ) -> Result<(), Ending>
-    ensures ok { OnOk result ((new : Documents) × Finishes MayAnswer no_documents new
-        (R.remaining reader.old) (R.remaining reader.new) (W.contents writer.old) (W.contents writer.new)) }
-    ensures read_fault { result ≡ Err Ending.Read → ((new : Documents) × StopsReading MayAnswer no_documents new
-        (R.remaining reader.old) (R.remaining reader.new) (W.contents writer.old) (W.contents writer.new))
+    ensures ok { OnOk result (IsOkAnd words.entry (λ texts. Begins (map (λ w. w.now) texts.now) (λ old new. Finishes MayAnswer old new
+        (R.remaining reader.old) (R.remaining reader.new) (W.contents writer.old) (W.contents writer.new)))) }
+    ensures read_fault { result ≡ Err Ending.Read → (IsOkAnd words.entry (λ texts. Begins (map (λ w. w.now) texts.now) (λ old new. StopsReading MayAnswer old new
+        (R.remaining reader.old) (R.remaining reader.new) (W.contents writer.old) (W.contents writer.new))))
         × (R.has_failed reader.new ⊎ CountsUp read_limit (R.reads reader.old) (R.reads reader.new)) }
-    ensures write_fault { result ≡ Err Ending.Write → ((new : Documents) × StopsWriting MayAnswer no_documents new
-        (R.remaining reader.old) (R.remaining reader.new) (W.contents writer.old) (W.contents writer.new))
+    ensures write_fault { result ≡ Err Ending.Write → (IsOkAnd words.entry (λ texts. Begins (map (λ w. w.now) texts.now) (λ old new. StopsWriting MayAnswer old new
+        (R.remaining reader.old) (R.remaining reader.new) (W.contents writer.old) (W.contents writer.new))))
         × W.has_failed writer.new }
     ensures memory { result ≡ Err Ending.Memory → (reader.new ≡ reader.old) × (writer.new ≡ writer.old) }
     ensures untouched { result ≡ Err Ending.BadWords → (reader.new ≡ reader.old) × (writer.new ≡ writer.old) }
@@ -37,8 +37,7 @@ fn serve<'a, R: Source, W: Sink>(
     ensures reads { result ≢ Err Ending.Read → R.has_failed reader.new → R.has_failed reader.old }
     ensures writes { result ≢ Err Ending.Write → W.has_failed writer.new → W.has_failed writer.old }
 {
-    let (turns, cache) = settings(alloc, words?)?;
-    let mut docs = Docs::new(alloc, turns, cache);
+    let mut docs = begun(alloc, words?)?;
     match run(alloc, reader, writer, &mut docs) {
         Ok(()) => Ok(()),
         Err(Fault::Read) => Err(Ending::Read),
@@ -58,18 +57,18 @@ pub fn program<'a, R: Source, W: Sink, E: Sink>(
 ) -> u8
     ensures range { result ≤ 2 }
     // The session came to its end, and no fault was passed over.
-    ensures served { result ≡ 0 → ((new : Documents) × Finishes MayAnswer no_documents new
-        (R.remaining reader.old) (R.remaining reader.new) (W.contents writer.old) (W.contents writer.new))
+    ensures served { result ≡ 0 → (IsOkAnd words.entry (λ texts. Begins (map (λ w. w.now) texts.now) (λ old new. Finishes MayAnswer old new
+        (R.remaining reader.old) (R.remaining reader.new) (W.contents writer.old) (W.contents writer.new))))
         × (R.has_failed reader.new → R.has_failed reader.old) × (W.has_failed writer.new → W.has_failed writer.old)
         × (errors.new ≡ errors.old) }
     // A fault of the reader, one of the writer, or no memory to begin with.
     ensures failed { result ≡ 1
-        → (((new : Documents) × StopsReading MayAnswer no_documents new
-        (R.remaining reader.old) (R.remaining reader.new) (W.contents writer.old) (W.contents writer.new))
+        → ((IsOkAnd words.entry (λ texts. Begins (map (λ w. w.now) texts.now) (λ old new. StopsReading MayAnswer old new
+        (R.remaining reader.old) (R.remaining reader.new) (W.contents writer.old) (W.contents writer.new))))
         × (R.has_failed reader.new ⊎ CountsUp read_limit (R.reads reader.old) (R.reads reader.new))
         × Tells ending.Read (E.contents errors.old) (E.contents errors.new) (E.has_failed errors.new))
-        ⊎ ((((new : Documents) × StopsWriting MayAnswer no_documents new
-        (R.remaining reader.old) (R.remaining reader.new) (W.contents writer.old) (W.contents writer.new))
+        ⊎ (((IsOkAnd words.entry (λ texts. Begins (map (λ w. w.now) texts.now) (λ old new. StopsWriting MayAnswer old new
+        (R.remaining reader.old) (R.remaining reader.new) (W.contents writer.old) (W.contents writer.new))))
         × W.has_failed writer.new
         × Tells ending.Write (E.contents errors.old) (E.contents errors.new) (E.has_failed errors.new))
         ⊎ ((reader.new ≡ reader.old) × (writer.new ≡ writer.old)

@@ -3,6 +3,7 @@
 ghost use Rattle.std.specs.Prelude.{◌≡◌, ◌≢◌, ◌⊎◌, Err, OnOk};
 ghost use Rattle.hol_serve.specs.Lines.{read_limit};
 ghost use Rattle.hol_serve.specs.Machine.{MayAnswer};
+ghost use Rattle.hol_document.specs.DocsView.{documents};
 ghost use Rattle.hol_serve.specs.Session.{CountsUp, Finishes, StopsReading, StopsWriting};
 
 use crate::answering::answer;
@@ -16,7 +17,9 @@ use std::alloc::Global;
 struct JsonLines;
 
 impl Service<Docs> for JsonLines {
-    ghost may_answer = { MayAnswer };
+    ghost use Rattle.hol_serve.specs.Over.{MayAnswerOver};
+
+    ghost may_answer = { MayAnswerOver };
 
     fn answer(&self, alloc: Global, state: &mut Docs, line: &[u8]) -> Reply {
         answer(alloc, state, line)
@@ -42,21 +45,21 @@ pub fn run<R: Source, W: Sink>(
     docs: &mut Docs,
 ) -> Result<(), Fault>
     // The replies of a run of the machine over the lines of what was read, and nothing else.
-    ensures ok { OnOk result (Finishes MayAnswer docs.old docs.new
+    ensures ok { OnOk result (Finishes MayAnswer (documents docs.old) (documents docs.new)
         (R.remaining reader.old) (R.remaining reader.new) (W.contents writer.old) (W.contents writer.new)) }
     // The replies to the whole lines of what was read.
-    ensures read_fault { result ≡ Err Fault.Read → StopsReading MayAnswer docs.old docs.new
+    ensures read_fault { result ≡ Err Fault.Read → StopsReading MayAnswer (documents docs.old) (documents docs.new)
         (R.remaining reader.old) (R.remaining reader.new) (W.contents writer.old) (W.contents writer.new)
         × (R.has_failed reader.new ⊎ CountsUp read_limit (R.reads reader.old) (R.reads reader.new)) }
     // The replies but for an end of the last, which was served.
-    ensures write_fault { result ≡ Err Fault.Write → StopsWriting MayAnswer docs.old docs.new
+    ensures write_fault { result ≡ Err Fault.Write → StopsWriting MayAnswer (documents docs.old) (documents docs.new)
         (R.remaining reader.old) (R.remaining reader.new) (W.contents writer.old) (W.contents writer.new)
         × W.has_failed writer.new }
     // No fault is passed over.
     ensures reads { result ≢ Err Fault.Read → R.has_failed reader.new → R.has_failed reader.old }
     ensures writes { result ≢ Err Fault.Write → W.has_failed writer.new → W.has_failed writer.old }
     ensures memory { result ≡ Err Fault.Memory
-        → (reader.new ≡ reader.old) × (writer.new ≡ writer.old) × (docs.new ≡ docs.old) }
+        → (reader.new ≡ reader.old) × (writer.new ≡ writer.old) × (documents docs.new ≡ documents docs.old) }
 {
     run_lines(alloc, reader, writer, &JsonLines, docs)
 }

@@ -1,13 +1,8 @@
-//! Sessions over texts, and over readers and writers that fail.
+//! Sessions over texts, and over readers and writers that fail. Expected replies come from docs/PROTOCOL.md, RFC 8259 and HOL Light.
 
-mod documents;
+mod commands;
 mod endings;
 mod faults;
-mod json;
-mod lines;
-mod notation;
 mod readers;
-mod refusals;
-mod shown;
+mod sessions;
 mod support;
-mod words;

@@ -2,78 +2,93 @@
 
 use crate::lines::Watched;
 use crate::program::program;
-use crate::settings::Words;
+use crate::settings::{Words, settings};
 use crate::tests::readers::{FaultyReader, FaultyWriter};
 use crate::tests::support::{REFL1_LINES, REFL1_REPLIES};
 use std::alloc::Global;
 use std::test::Fail;
 
-// The program's ends: what it reads, and how much of it before a read fails once; and how many bytes are taken before a write fails once.
-#[derive(Drop)]
-struct Ends<'t> {
-    text: &'t str,
+// What the program comes to where a read or a write fails once, if any does: its status, what it writes, and what it tells.
+fn outcome(
+    alloc: Global,
+    words: Result<&[&str], Words>,
     reads: Option<usize>,
     room: Option<usize>,
-}
-
-// What the program comes to: its status, what it writes, and what it tells on standard error.
-fn outcome(alloc: Global, words: Result<&[&str], Words>, ends: Ends<'_>) -> (u8, Vec<u8>, Vec<u8>) {
-    let mut reader = Watched::new(FaultyReader::new(ends.text.as_bytes(), ends.reads));
-    let mut writer = Watched::new(FaultyWriter::new(alloc, ends.room));
+) -> (u8, Vec<u8>, Vec<u8>) {
+    let mut reader = Watched::new(FaultyReader::new(REFL1_LINES.as_bytes(), reads));
+    let mut writer = Watched::new(FaultyWriter::new(alloc, room));
     let mut errors = Watched::new(Vec::new(alloc));
     let status = program(alloc, words, &mut reader, &mut writer, &mut errors);
     (status, writer.inner.held, errors.inner)
 }
 
 #[test]
-fn ends_with_status_0_at_the_end_of_the_input(rt: HostRuntime) {
-    let ends = Ends {
-        text: REFL1_LINES,
-        reads: None,
-        room: None,
-    };
-    let (status, written, told) = outcome(rt.alloc(), Ok(&["hol-serve"]), ends);
-    assert_eq!(rt; status, 0);
-    assert_eq!(rt; written.as_slice(), REFL1_REPLIES.as_bytes());
-    assert!(rt; told.is_empty());
-}
-
-#[test]
-fn ends_with_status_1_at_a_fault(rt: HostRuntime) {
-    for (reads, room, line) in [
-        (Some(50), None, "hol-serve: read fault\n"),
-        (None, Some(13), "hol-serve: write fault\n"),
-    ] {
-        let ends = Ends {
-            text: REFL1_LINES,
-            reads,
-            room,
-        };
-        let (status, _written, told) = outcome(rt.alloc(), Ok(&["hol-serve"]), ends);
-        assert_eq!(rt; status, 1);
-        assert_eq!(rt; told.as_slice(), line.as_bytes());
-    }
-}
-
-#[test]
-fn ends_without_words_before_anything_is_read(rt: HostRuntime) {
-    for (words, status, line) in [
-        (Err(Words::Bad), 2u8, "hol-serve: bad words\n"),
-        (Err(Words::Memory), 1, "hol-serve: no memory\n"),
+fn ends_with_a_status_and_a_line(rt: HostRuntime) {
+    let alloc = rt.alloc();
+    let good: &[&str] = &["hol-serve"];
+    for (words, reads, room, status, written, told) in [
+        (Ok(good), None, None, 0u8, REFL1_REPLIES, ""),
         (
-            Ok(["hol-serve", "--turns", "0"].as_slice()),
+            Ok(good),
+            Some(50),
+            None,
+            1,
+            "{\"ok\":true}\n",
+            "hol-serve: read fault\n",
+        ),
+        (
+            Ok(good),
+            None,
+            Some(13),
+            1,
+            "{\"ok\":true}\n{",
+            "hol-serve: write fault\n",
+        ),
+        (Err(Words::Bad), None, None, 2, "", "hol-serve: bad words\n"),
+        (
+            Err(Words::Memory),
+            None,
+            None,
+            1,
+            "",
+            "hol-serve: no memory\n",
+        ),
+        (
+            Ok(["hol-serve", "more"].as_slice()),
+            None,
+            None,
             2,
+            "",
             "hol-serve: bad words\n",
         ),
     ] {
-        let ends = Ends {
-            text: REFL1_LINES,
-            reads: None,
-            room: None,
-        };
-        let (found, written, told) = outcome(rt.alloc(), words, ends);
+        let (found, replies, line) = outcome(alloc, words, reads, room);
         assert_eq!(rt; found, status);
-        assert!(rt; written.is_empty());
-        assert_eq!(rt; told.as_slice(), line.as_bytes());
+        assert_eq!(rt; replies.as_slice(), written.as_bytes());
+        assert_eq!(rt; line.as_slice(), told.as_bytes());
     }
+}
+
+#[test]
+fn takes_turns_and_cache(rt: HostRuntime) -> Result<(), Fail> {
+    let alloc = rt.alloc();
+    for (words, want) in [
+        (["--cache=256", "--turns", "4"], Ok((4, 256))),
+        (["--cache=4096", "--turns", "100000"], Ok((100_000, 4_096))),
+        (["--cache=1", "--turns", "0"], Err(Words::Bad)),
+        (["--cache=1", "--turns", "100001"], Err(Words::Bad)),
+        (["--cache=1", "--turns", "x"], Err(Words::Bad)),
+        (["--cache=0", "--turns", "1"], Err(Words::Bad)),
+        (["--cache=4097", "--turns", "1"], Err(Words::Bad)),
+        (["--cache=1", "--turns", "--help"], Err(Words::Bad)),
+    ] {
+        let [cache, turns, number] = words;
+        assert_eq!(rt;
+            settings(alloc, &["hol-serve", cache, turns, number]),
+            want,
+            "at {words:?}"
+        );
+    }
+    assert_eq!(rt; settings(alloc, &["hol-serve"])?, (10_000, 256));
+    Ok(())
 }

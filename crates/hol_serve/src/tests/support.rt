@@ -1,8 +1,8 @@
 //! Sessions over a text.
 
-use crate::lines::Watched;
+use crate::begun::begun;
+use crate::lines::{Fault, Sink, Source, Watched};
 use crate::serving::run;
-use hol_document::Docs;
 use std::alloc::Global;
 use std::fmt::Write;
 use std::process::Abort;
@@ -30,47 +30,76 @@ pub const REFL1_REPLIES: &str = r#"{"ok":true}
 {"items":[],"ok":true}
 "#;
 
-/// Documents without theories.
-pub fn no_theories(alloc: Global) -> Docs {
-    Docs::new(alloc, 10_000, 256)
+/// Runs a session from no theories over this reader and writer.
+pub fn session<R: Source, W: Sink>(
+    alloc: Global,
+    reader: &mut R,
+    writer: &mut W,
+) -> Result<(), Fault> {
+    let Ok(mut docs) = begun(alloc, &["hol-serve"]) else {
+        return Err(Fault::Memory);
+    };
+    run(alloc, reader, writer, &mut docs)
 }
 
-/// What a session over the text writes, beginning with no theories.
+/// What a session over the text writes.
 pub fn replies_to(alloc: Global, text: &[u8]) -> Result<Vec<u8>, Fail> {
-    let mut docs = no_theories(alloc);
     let mut reader = Watched::new(text);
     let mut writer = Watched::new(Vec::new(alloc));
-    run(alloc, &mut reader, &mut writer, &mut docs)?;
+    session(alloc, &mut reader, &mut writer)?;
     Ok(writer.inner)
 }
 
-/// That a session over the text writes these replies.
-pub fn expect_replies<R: Abort + AllocGlobal>(rt: &R, text: &str, want: &str) -> Result<(), Fail> {
-    let replies = String::from_utf8(replies_to(rt.alloc(), text.as_bytes())?)?;
-    assert_eq!(rt; replies.as_str(), want);
+/// That a session goes like this: lines after `> ` are sent, and lines after `< ` come back.
+pub fn expect_session<R: Abort + AllocGlobal>(rt: &R, session: &str) -> Result<(), Fail> {
+    let mut sent = String::new(rt.alloc());
+    let mut want = String::new(rt.alloc());
+    for line in session.lines() {
+        if let Some(request) = line.strip_prefix("> ") {
+            writeln!(sent, "{request}")?;
+        } else if let Some(reply) = line.strip_prefix("< ") {
+            writeln!(want, "{reply}")?;
+        }
+    }
+    let replies = String::from_utf8(replies_to(rt.alloc(), sent.as_bytes())?)?;
+    assert_eq!(rt; replies.as_str(), want.as_str());
     Ok(())
 }
 
-/// The reply to a report on the last of these commands, which stand in a theory of their own. They are written as in a JSON
-/// string.
-pub fn reply_to_last(alloc: Global, commands: &[&str]) -> Result<String, Fail> {
+/// The reply to a report on the last of these commands, one a line, which stand in a theory of their own. They are written as in a JSON string.
+pub fn reply_to_last(alloc: Global, commands: &str) -> Result<String, Fail> {
     let mut lines = String::from_str(alloc, "{\"op\":\"new_theory\",\"name\":\"A\",\"at\":0}\n")?;
-    for (at, command) in commands.iter().enumerate() {
-        write!(
+    let mut count = 0usize;
+    for (at, command) in commands.lines().enumerate() {
+        writeln!(
             lines,
-            "{{\"op\":\"insert\",\"theory\":\"A\",\"at\":{at},\"text\":\"{command}\"}}\n"
+            "{{\"op\":\"insert\",\"theory\":\"A\",\"at\":{at},\"text\":\"{command}\"}}"
         )?;
+        count = at;
     }
-    let last = commands.len().saturating_sub(1);
-    write!(
+    writeln!(
         lines,
-        "{{\"op\":\"report\",\"theory\":\"A\",\"at\":{last}}}\n"
+        "{{\"op\":\"report\",\"theory\":\"A\",\"at\":{count}}}"
     )?;
     let replies = String::from_utf8(replies_to(alloc, lines.as_bytes())?)?;
     Ok(String::from_str(alloc, replies.lines().last().unwrap_or(""))?)
 }
 
-/// The reply to a report on this command, which stands in a theory of its own.
-pub fn reply_to_command(alloc: Global, command: &str) -> Result<String, Fail> {
-    reply_to_last(alloc, &[command])
+/// That commands have these reports: each line after `> ` is a command, put after those in `before`, and the line after it its report.
+pub fn expect_reports<R: Abort + AllocGlobal>(
+    rt: &R,
+    before: &str,
+    reports: &str,
+) -> Result<(), Fail> {
+    let mut commands = String::from_str(rt.alloc(), before)?;
+    for line in reports.lines() {
+        if let Some(command) = line.strip_prefix("> ") {
+            commands = String::from_str(rt.alloc(), before)?;
+            commands.push_str(command)?;
+        } else if let Some(want) = line.strip_prefix("< ") {
+            let reply = reply_to_last(rt.alloc(), commands.as_str())?;
+            assert_eq!(rt; reply.as_str(), want, "after {commands}");
+        }
+    }
+    Ok(())
 }

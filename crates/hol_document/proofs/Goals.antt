@@ -1,0 +1,64 @@
+-- What a `qed` makes is the goal of the last `g` that was accepted.
+use Rattle.std.proofs.Common.{◌≡◌, ℕ, List, [], ◌∷◌, ◌++◌, length, Bool, true, false, cond, nat_eq, refl, ap, sym, ◌∙◌}
+use Rattle.std.specs.Prelude.{Option, Some, None}
+use Rattle.hol_terms.specs.Nameless.{Nameless}
+use Rattle.hol_kernel.specs.Items.{Items}
+use Rattle.hol_exec.specs.declared.refusal.RefusalKind.TheVariants as refusal
+use Rattle.hol_exec.specs.At.{IsOutcome}
+use Rattle.hol_exec.specs.Goal.{GoalValue}
+use Rattle.hol_exec.specs.Local.{finished, finishes}
+use Rattle.hol_exec.specs.OutcomeValue.{OutcomeValue, Opens, Leaves, Makes, Refuses, stepped_in, after}
+use Rattle.hol_exec.specs.Parsed.{ParsedValue, Local, Direct, Goal, Apply, Qed}
+use Rattle.hol_exec.specs.ReadsValue.{ClosingValue, closing_of}
+use Rattle.hol_exec.specs.Setup.{SetupValue}
+use Rattle.hol_exec.specs.StateValue.{ProofValue, StateValue, EndedTheory, start}
+use Rattle.hol_document.specs.Afresh.{Row, AreRows}
+use Rattle.hol_document.specs.Shown.{goal_after, open_goal, MakesFinished, FinishesBy, EachFinishes}
+
+-- the name and the statement of an open proof
+abbrev goal_of : Option ProofValue → Option (List ℕ × Nameless)
+goal_of None = None
+goal_of (Some p) = Some (p.name, p.statement)
+
+step_keeps_goal : (goals : List GoalValue) (basis : Items) (p : Option ProofValue) → goal_of (stepped_in goals basis p) ≡ goal_of p
+step_keeps_goal goals basis None = refl
+step_keeps_goal goals basis (Some p) = refl
+
+goal_next : (s : StateValue) (o : OutcomeValue) → goal_of (after s o).proof ≡ goal_after (goal_of s.proof) o
+goal_next s (Opens name statement basis) = refl
+goal_next s (Leaves goal goals basis) = step_keeps_goal goals basis s.proof
+goal_next s (Makes entries) = refl
+goal_next s (Refuses kind arg) = refl
+
+open_goal_more : (goal : Option (List ℕ × Nameless)) (rows : List Row) (row : Row) → open_goal goal (rows ++ row ∷ []) ≡ goal_after (open_goal goal rows) row.outcome
+open_goal_more goal [] row = refl
+open_goal_more goal (r ∷ rows) row = open_goal_more (goal_after goal r.outcome) rows row
+
+qed_finishes : (before : List Row) (p : Option ProofValue) → goal_of p ≡ open_goal None before → MakesFinished before (finishes (closing_of p))
+qed_finishes before None k = tt
+qed_finishes before (Some p) k =
+    let c : ClosingValue = record { name = p.name; statement = p.statement; basis = p.newest.basis; open_goals = length p.newest.goals } in
+    elim (nat_eq (length p.newest.goals) 0) as (λ (t : Bool). MakesFinished before (cond t (finished c) (Refuses refusal.GoalsRemain [])))
+    [ true ↦ (record { name = p.name; under = refl; goal = sym k; without_hypotheses = refl }, tt) | false ↦ tt ]
+
+row_finishes : (setup : SetupValue) (earlier : List EndedTheory) (before : List Row) (s : StateValue) (value : ParsedValue) (outcome : OutcomeValue)
+    → IsOutcome setup earlier s value outcome → goal_of s.proof ≡ open_goal None before → FinishesBy before value outcome
+row_finishes setup earlier before s (Local (Goal name quotation)) outcome h k = tt
+row_finishes setup earlier before s (Local (Apply call)) outcome h k = tt
+row_finishes setup earlier before s (Local Qed) outcome h k = rw h (qed_finishes before s.proof k)
+row_finishes setup earlier before s (Direct command) outcome h k = tt
+
+rows_finish : (setup : SetupValue) (earlier : List EndedTheory) (before : List Row) (s : StateValue) (texts : List (List ℕ)) (rows : List Row) (last : StateValue)
+    → AreRows setup earlier s texts rows last → goal_of s.proof ≡ open_goal None before → EachFinishes before rows
+rows_finish setup earlier before s [] [] last h k = tt
+rows_finish setup earlier before s [] (row ∷ rows) last h k = absurd h
+rows_finish setup earlier before s (text ∷ texts) [] last h k = absurd h
+rows_finish setup earlier before s (text ∷ texts) (row ∷ rows) last h k = (
+  row_finishes setup earlier before s row.value row.outcome h.0.gets k,
+  rows_finish setup earlier (before ++ row ∷ []) (after s row.outcome) texts rows last h.1
+      (goal_next s row.outcome ∙ (ap (λ g. goal_after g row.outcome) k ∙ sym (open_goal_more None before row))),
+)
+
+pub finished_goals : (setup : SetupValue) (earlier : List EndedTheory) (texts : List (List ℕ)) (rows : List Row) (last : StateValue)
+    → AreRows setup earlier start texts rows last → EachFinishes [] rows
+finished_goals setup earlier texts rows last h = rows_finish setup earlier [] start texts rows last h refl

@@ -1,0 +1,25 @@
+//! A theory that was run to its end.
+ghost use Rattle.std.specs.Prelude.{◌≡◌};
+
+use hol_exec::{Ended, State};
+
+/// A theory that was run to its end: its name and its last state.
+#[derive(Drop)]
+pub(crate) struct End {
+    pub(crate) name: String,
+    pub(crate) state: State,
+}
+
+impl Ended for End {
+    ghost use Rattle.hol_document.specs.EndView.{end_value};
+
+    ghost ended = { end_value };
+
+    fn name(&self) -> &str {
+        self.name.as_str()
+    }
+
+    fn state(&self) -> &State {
+        &self.state
+    }
+}

@@ -1,0 +1,20 @@
+-- The documents over which the program begins, from its words.
+use Rattle.std.specs.Prelude.{◌≡◌, ℕ, List, [], ◌∷◌, codes}
+use Rattle.clap.specs.Words.{Text}
+use Rattle.hol_exec.specs.declared.tac.TacCode.{TacCode}
+use Rattle.hol_exec.specs.declared.tac.TacCode.TheVariants.{ReflTac}
+use Rattle.hol_document.specs.Documents.{Documents}
+use Rattle.hol_serve.specs.Settings.{option_text, IsValue}
+
+-- the functions on goals that the program knows, by name and code
+abbrev pub tacs : List (List ℕ × TacCode)
+tacs = (codes "REFL_TAC", ReflTac) ∷ []
+
+-- no theories stand; what they are run by is the table above, and the number of turns that the words name, or 10,000
+abbrev pub IsBegun : List Text → Documents → Type 0
+IsBegun words docs = (turns : ℕ) × IsValue 1 100000 10000 (option_text (codes "turns") words) turns
+    × (docs ≡ record { theories = []; setup = record { table = tacs; turns = turns } })
+
+-- this holds of documents that the program begins with, as the words say, and of those that it ends with
+abbrev pub Begins : List Text → (Documents → Documents → Type 0) → Type 0
+Begins words P = (old : Documents) × (new : Documents) × IsBegun words old × P old new

@@ -1,0 +1,153 @@
+//! Commands, and the reports on them.
+
+use crate::tests::support::{expect_reports, reply_to_last};
+use std::fmt::Write;
+use std::test::Fail;
+
+#[test]
+fn shows_statements(rt: HostRuntime) -> Result<(), Fail> {
+    expect_reports(
+        &rt,
+        "",
+        r#"
+> g N `(p /\\ q) /\\ r`
+< {"goals":[{"asl":[],"free":["p:bool","q:bool","r:bool"],"goal":"(p /\\ q) /\\ r"}],"ok":true}
+> g N `~(p:bool = q)`
+< {"goals":[{"asl":[],"free":["p:bool","q:bool"],"goal":"~(p <=> q)"}],"ok":true}
+> g N `(!) (\\x. x)`
+< {"goals":[{"asl":[],"free":[],"goal":"!x. x"}],"ok":true}
+> g F `f x = y`
+< {"goals":[{"asl":[],"free":["f:?1->?0","x:?1","y:?0"],"goal":"f x = y"}],"ok":true}
+> g V `(\\x. y) = z`
+< {"goals":[{"asl":[],"free":["y:?1","z:?0->?1"],"goal":"(\\x. y) = z"}],"ok":true}
+"#,
+    )
+}
+
+#[test]
+fn refuses_in_the_order_of_numbers(rt: HostRuntime) -> Result<(), Fail> {
+    expect_reports(
+        &rt,
+        "",
+        r#"
+> qedx
+< {"arg":"0","ok":true,"refusal":1,"text":"syntax"}
+> g N `p /\\ `
+< {"arg":"10","ok":true,"refusal":1,"text":"syntax"}
+>   oops
+< {"arg":"2","ok":true,"refusal":1,"text":"syntax"}
+> e REPEAT REFL_TAC
+< {"arg":"0","ok":true,"refusal":1,"text":"syntax"}
+> e (REFL_TAC)
+< {"arg":"0","ok":true,"refusal":1,"text":"syntax"}
+> new_type t 17
+< {"arg":"11","ok":true,"refusal":1,"text":"syntax"}
+> e REFL_TAC
+< {"arg":"","ok":true,"refusal":3,"text":"no proof open"}
+> qed
+< {"arg":"","ok":true,"refusal":3,"text":"no proof open"}
+> g N `x:bool bool = y y`
+< {"arg":"4","ok":true,"refusal":9,"text":"type constructor's arity"}
+> g U `(\\x. x x) = y`
+< {"arg":"4","ok":true,"refusal":7,"text":"untypable"}
+> g N  `x`
+< {"arg":"5","ok":true,"refusal":8,"text":"not bool"}
+"#,
+    )
+}
+
+#[test]
+fn runs_after_a_theorem_in_a_proof(rt: HostRuntime) -> Result<(), Fail> {
+    expect_reports(
+        &rt,
+        r"g N `(\\x:A. x) = (\\y. y)`
+e REFL_TAC
+qed
+g M `p = p`
+",
+        r#"
+> g N `x = x`
+< {"arg":"","ok":true,"refusal":2,"text":"in a proof"}
+> qed
+< {"arg":"","ok":true,"refusal":19,"text":"goals remain"}
+> e ACCEPT_TAC NOPE
+< {"arg":"NOPE","ok":true,"refusal":5,"text":"unknown theorem"}
+> e REFL_TAC [N; NOPE; NONE]
+< {"arg":"NOPE","ok":true,"refusal":5,"text":"unknown theorem"}
+> e ACCEPT_TAC (MP N NOPE)
+< {"arg":"NOPE","ok":true,"refusal":5,"text":"unknown theorem"}
+> e ACCEPT_TAC (CONJUNCT1 NOPE)
+< {"arg":"NOPE","ok":true,"refusal":5,"text":"unknown theorem"}
+> e ACCEPT_TAC (CONJUNCT2 NOPE)
+< {"arg":"NOPE","ok":true,"refusal":5,"text":"unknown theorem"}
+> e ACCEPT_TAC (SYM NOPE)
+< {"arg":"NOPE","ok":true,"refusal":5,"text":"unknown theorem"}
+> e ACCEPT_TAC (SPEC `p` NOPE)
+< {"arg":"NOPE","ok":true,"refusal":5,"text":"unknown theorem"}
+> e ACCEPT_TAC (INST_TYPE [`:A`, `:B`] NOPE)
+< {"arg":"NOPE","ok":true,"refusal":5,"text":"unknown theorem"}
+> e ACCEPT_TAC (ASSUME `p`)
+< {"arg":"ACCEPT_TAC","ok":true,"refusal":6,"text":"unknown TAC or wrong arguments"}
+> e ACCEPT_TAC (REFL `p`)
+< {"arg":"ACCEPT_TAC","ok":true,"refusal":6,"text":"unknown TAC or wrong arguments"}
+> e REFL_TAC N
+< {"arg":"REFL_TAC","ok":true,"refusal":6,"text":"unknown TAC or wrong arguments"}
+> e REFL_TAC
+< {"goals":[],"ok":true}
+"#,
+    )?;
+    expect_reports(
+        &rt,
+        "g N `p = p`\ne REFL_TAC\n",
+        r#"
+> qed
+< {"made":["thm N |- p = p"],"ok":true}
+> e REFL_TAC
+< {"arg":"","ok":true,"refusal":16,"text":"no goal open"}
+"#,
+    )?;
+    expect_reports(
+        &rt,
+        "g N `p = p`\ne REFL_TAC\nqed\n",
+        r#"
+> g N `x = x`
+< {"arg":"thm:N","ok":true,"refusal":10,"text":"name taken"}
+"#,
+    )
+}
+
+// In each equation a variable is twice in the next one, so its types double.
+#[test]
+fn refuses_a_reading_over_20000_nodes(rt: HostRuntime) -> Result<(), Fail> {
+    let mut text = String::from_str(rt.alloc(), "g N `x1 = (\\\\g. g x0 x0)")?;
+    for k in 2..=8u32 {
+        let before = k - 1;
+        write!(text, r" /\\ x{k} = (\\g. g x{before} x{before})")?;
+    }
+    let small = format!(in rt.alloc(); "{text}`")?;
+    let reply = reply_to_last(rt.alloc(), small.as_str())?;
+    assert!(rt; reply.as_str().starts_with("{\"goals\":[{\"asl\":[],"));
+    text.push_str(r" /\\ x9 = (\\g. g x8 x8)`")?;
+    let reply = reply_to_last(rt.alloc(), text.as_str())?;
+    assert_eq!(rt;
+        reply.as_str(),
+        r#"{"arg":"","ok":true,"refusal":13,"text":"too large"}"#
+    );
+    Ok(())
+}
+
+// 60 variables of one type with a long name, which is shown at each of them.
+#[test]
+fn tells_of_goals_in_over_65536_bytes(rt: HostRuntime) -> Result<(), Fail> {
+    let name = "A".repeat(rt.alloc(), 1_200)?;
+    let mut command = format!(in rt.alloc(); "g N `(x0:{name}) = x1")?;
+    for k in 2..60u32 {
+        let before = k - 1;
+        write!(command, r" /\\ x{before} = x{k}")?;
+    }
+    command.push_str("`")?;
+    let reply = reply_to_last(rt.alloc(), command.as_str())?;
+    assert!(rt; reply.len() > 65_536);
+    assert!(rt; reply.as_str().ends_with("\"}],\"ok\":true}"));
+    Ok(())
+}
