@@ -146,7 +146,9 @@ fn reads_and_shows_300_binders(rt: HostRuntime) -> Result<(), Fail> {
     term.push_str(". x0")?;
     let command = format!(in rt.alloc(); "g N `{term}`")?;
     let reply = reply_to_last(rt.alloc(), command.as_str())?;
-    let want = format!(in rt.alloc(); "{{\"goals\":[{{\"asl\":[],\"free\":[],\"goal\":\"{term}\"}}],\"ok\":true}}")?;
+    let want = format!(in rt.alloc();
+        "{{\"goals\":[{{\"asl\":[],\"free\":[],\"goal\":\"{term}\"}}],\"ok\":true}}"
+    )?;
     assert_eq!(rt; reply.as_str(), want.as_str());
     Ok(())
 }
