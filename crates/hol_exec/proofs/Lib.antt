@@ -4,6 +4,8 @@ pub mod Standing
 pub mod Statements
 pub mod Closed
 pub mod Outcomes
+pub mod Entries
+pub mod Resolving
 pub mod Runs
 pub mod Unique
 pub mod Comparing

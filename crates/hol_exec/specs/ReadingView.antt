@@ -9,4 +9,4 @@ abbrev pub reading_value : Reading → ReadingValue
 reading_value code.WrongArity = WrongArity
 reading_value code.NoTyping = NoTyping
 reading_value code.LargeReading = LargeReading
-reading_value (code.Term t) = ReadsAs (nameless [] t)
+reading_value (code.ReadsAs t) = ReadsAs (nameless [] t)

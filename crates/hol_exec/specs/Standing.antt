@@ -1,6 +1,6 @@
 -- Under which keys something stands, and the first keys of a command that refuse it.
 -- Source: this project.
-use Rattle.std.specs.Prelude.{◌||◌, ℕ, List, [], ◌∷◌, Bool, false, not, cond, bytes_eq, Option, Some, None, is_some}
+use Rattle.std.specs.Prelude.{◌||◌, ◌++◌, ℕ, List, [], ◌∷◌, Bool, false, not, cond, bytes_eq, Option, Some, None, is_some}
 use Rattle.std.specs.List.{list_any}
 use Rattle.hol_formulas.specs.Constants.{prelude_types, prelude_constants}
 use Rattle.hol_exec.specs.declared.key.Kind.{Kind}
@@ -30,8 +30,8 @@ abbrev pub first_unknown : Values → Option (List ℕ)
 first_unknown [] = None
 first_unknown ((key, value) ∷ more) = cond (is_unknown key.kind (is_standing key value)) (Some key.name) (first_unknown more)
 
--- the first of the keys that a command makes under which something stands, or which it makes twice, these being the keys that it makes before
+-- the first of the keys that a command makes under which something stands, or which it makes twice; `before` are those that it makes before
 abbrev pub first_taken : List KeyValue → Values → Option KeyValue
 first_taken before [] = None
 first_taken before ((key, value) ∷ more) =
-    cond (is_standing key value || list_any (key_eq key) before) (Some key) (first_taken (key ∷ before) more)
+    cond (is_standing key value || list_any (key_eq key) before) (Some key) (first_taken (before ++ key ∷ []) more)
