@@ -23,11 +23,11 @@ entry_under a b (ATheorem th) e h = record { theorem = h.theorem; under = same_k
 
 one_inserted : (es : Entries) (key : KeyValue) (value : EntryValue) → EachIsEntry es → IsEntry key value → EachIsEntry (insert_entry key_eq es key value)
 one_inserted [] key value all h = (h, tt)
-one_inserted (e ∷ es) key value all h = by (key_eq key e.0) refl
+one_inserted (e ∷ es) key value all h = by (key_eq key e.0) refl (one_inserted es key value all.1 h)
   where
-    by : (b : Bool) → key_eq key e.0 ≡ b → EachIsEntry (if b then (e.0, value) ∷ es else e ∷ insert_entry key_eq es key value)
-    by true same = (entry_under key e.0 value same h, all.1)
-    by false same = (all.0, one_inserted es key value all.1 h)
+    by : (b : Bool) → key_eq key e.0 ≡ b → EachIsEntry (insert_entry key_eq es key value) → EachIsEntry (if b then (e.0, value) ∷ es else e ∷ insert_entry key_eq es key value)
+    by true same rest = (entry_under key e.0 value same h, all.1)
+    by false same rest = (all.0, rest)
 
 pub each_inserted : (es made : Entries) → EachIsEntry es → EachIsEntry made → EachIsEntry (insert_all key_eq es made)
 each_inserted es [] all h = all

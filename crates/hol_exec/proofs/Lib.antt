@@ -1,6 +1,6 @@
 pub mod Parsing
 pub mod Steps
-pub mod Standing
+pub mod PreludeStands
 pub mod Statements
 pub mod Closed
 pub mod Outcomes

@@ -26,7 +26,7 @@ module _ (setup : SetupValue) (call : CallText) (cited : Values) where
   pub resolves : (name : List ℕ) (code : TacCode) (basis : Items) (r : ResolutionValue) → first_unknown cited ≡ None → called setup call ≡ Some code → name ≡ call.name → basis ≡ no_items →
       r ≡ Resolved (Calls name code Nothing) basis → IsResolution setup call cited r
   resolves name code basis r e f n b g =
-      rw g (rw (e, f, b) (n, refl, no_arguments (arguments_of code) call.arguments))
+      rw g (rw (e, f, b) (n, f, no_arguments (arguments_of code) call.arguments))
 
   -- ---- nothing that is resolved rests on items
 

@@ -1,6 +1,6 @@
 -- A text is one thing, and has one outcome at a state.
 use Rattle.std.specs.Prelude.{◌≡◌, ℕ, List, [], Bool, true, false, Option, Some, None, refl}
-use Rattle.std.proofs.Common.{ap, sym, ◌∙◌, inl, inr}
+use Rattle.std.proofs.Common.{ap, sym, ◌∙◌, subst, inl, inr}
 use Rattle.hol_notation_terms.specs.Text.{TermText, QuotationText}
 use Rattle.hol_notation_tactics.specs.Text.{ArgumentText, CallText}
 use Rattle.hol_notation_commands.specs.Reading.{Reads, Breaks}
@@ -17,6 +17,7 @@ use Rattle.hol_exec.specs.StateValue.{StateValue, EndedTheory}
 use Rattle.hol_exec.specs.ReadsValue.{ReadsValue, reads_of}
 use Rattle.hol_exec.specs.declared.tac.ArgumentKind.{ArgumentKind}
 use Rattle.hol_exec.specs.declared.tac.ArgumentKind.TheVariants.{NoArguments}
+use Rattle.hol_exec.specs.declared.tac.TacCode.{TacCode}
 use Rattle.hol_exec.specs.Standing.{first_unknown}
 use Rattle.hol_exec.specs.Tac.{arguments_of, called, TacArgsValue, Nothing}
 use Rattle.hol_exec.specs.Expr.{ExprValue, Calls, AreArguments, IsExpr, ResolutionValue, Resolved, Unresolved, calls_of, first_unfit, IsResolvedFitting, IsResolvedKnown, IsResolvedCited, IsResolution}
@@ -74,7 +75,7 @@ one_expr setup call (Calls m c s) (Calls n d t) x y p q =
     let names : m ≡ n = p.0 ∙ sym q.0 in
     let some : Some c ≡ Some d = sym p.1 ∙ q.1 in
     let codes : c ≡ d = cc in
-    let same = one_arguments (arguments_of c) call.arguments s t x y p.2 (rw (← codes) q.2) in
+    let same = one_arguments (arguments_of c) call.arguments s t x y p.2 (subst (λ (code : TacCode). AreArguments (arguments_of code) call.arguments t y) (sym codes) q.2) in
     (λ i. Calls (names i) (codes i) (same.0 i), same.1)
 
 one_fitting : (setup : SetupValue) (call : CallText) (a b : ResolutionValue) → IsResolvedFitting setup call a → IsResolvedFitting setup call b → a ≡ b

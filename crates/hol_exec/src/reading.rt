@@ -28,7 +28,6 @@ pub(crate) enum Reading {
 }
 
 /// What the term reads as, the prelude's constants and types standing.
-#[tactic(auto, using(crate::proofs::Statements::reads_as, crate::proofs::Statements::no_typing, crate::proofs::Statements::large, crate::proofs::Statements::wrong_arity))]
 pub(crate) fn read_term(alloc: Global, written: &PreTerm) -> Result<Reading, AllocError>
     ensures { IfOk result (λ reading. IsTermReadAs (lookups_of []) written.now (reading_value reading)) }
 {

@@ -62,7 +62,6 @@ pub(crate) fn refused_at(
 }
 
 // `g`: in a proof; arity; untypable; too large; then what is read.
-#[tactic(auto, using(crate::proofs::Runs::opens_by))]
 fn open_goal(
     alloc: Global,
     name: &str,
@@ -83,7 +82,7 @@ fn open_goal(
 }
 
 // A goal that reads as a term: not bool; name taken. Nothing that it resolves rests on items.
-#[tactic(auto, using(crate::proofs::Standing::no_basis, crate::proofs::Standing::known_typed))]
+#[tactic(auto, using(crate::proofs::PreludeStands::no_basis, crate::proofs::Statements::statement_typed))]
 fn open_term(
     alloc: Global,
     name: &str,

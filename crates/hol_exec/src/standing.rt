@@ -13,7 +13,18 @@ fn in_prelude(kind: Kind, name: &str) -> bool
         Kind::Type => matches!(name, "bool" | "fun" | "ind"),
         Kind::Constant => matches!(
             name,
-            "=" | "@" | "T" | "F" | "/\\" | "\\/" | "==>" | "~" | "!" | "?" | "?!" | "ONE_ONE" | "ONTO"
+            "=" | "@"
+                | "T"
+                | "F"
+                | "/\\"
+                | "\\/"
+                | "==>"
+                | "~"
+                | "!"
+                | "?"
+                | "?!"
+                | "ONE_ONE"
+                | "ONTO"
         ),
         Kind::Theorem => false,
     }
