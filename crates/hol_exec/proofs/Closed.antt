@@ -1,11 +1,11 @@
 -- A statement that is an equation of terms equal up to bound names is what TRANS gives of the reflexivity of its sides.
-use Rattle.std.specs.Prelude.{◌≡◌, ℕ, Bool, true, false, cond, ◌&&◌, List, [], codes, Option, Some, None, IsSome, IfSome, Err, refl}
+use Rattle.std.specs.Prelude.{◌≡◌, true, cond, ◌&&◌, [], codes, Option, Some, None, IsSome, IfSome, Err, refl}
 use Rattle.std.specs.FinSet as set
 use Rattle.std.proofs.Common.{ap, sym, ◌∙◌, subst}
 use Rattle.std.proofs.lemmas.Bool.{and_parts}
 use Rattle.hol_types.specs.Tree.{TypeTree}
 use Rattle.hol_types.specs.Fun.{fun_type}
-use Rattle.hol_terms.specs.Nameless.{Nameless, fixed, app, nameless_type}
+use Rattle.hol_terms.specs.Nameless.{Nameless, fixed, app}
 use Rattle.hol_terms.specs.Alpha.{alpha_eq}
 use Rattle.hol_kernel.specs.declared.error.Rule.{Rule}
 use Rattle.hol_kernel.specs.declared.error.Rule.TheVariants.{Trans}

@@ -1,6 +1,5 @@
 -- What is inserted among entries is an entry under the key that it comes to stand under.
-use Rattle.std.specs.Prelude.{◌≡◌, ◌==◌, ◌&&◌, ℕ, Bool, true, false, List, [], ◌∷◌, bytes_eq, if◌then◌else◌, refl}
-use Rattle.std.proofs.Common.{ap, sym, ◌∙◌}
+use Rattle.std.specs.Prelude.{◌≡◌, ◌==◌, Bool, true, false, [], ◌∷◌, bytes_eq, if◌then◌else◌, refl}
 use Rattle.std.proofs.lemmas.Bool.{and_parts}
 use Rattle.indexmap.specs.IndexMap.{insert_entry, insert_all}
 use Rattle.hol_exec.specs.declared.key.Kind.{Kind}

@@ -1,6 +1,6 @@
 -- What the outcomes that a state may get say of it: a step runs on the first goal, and so closes the goal only where reflexivity proves the
 -- statement.
-use Rattle.std.proofs.Common.{◌≡◌, ℕ, List, [], ◌∷◌, refl, ap, sym, ◌∙◌, Bool, true, false, cond, decimal, zero, suc, inl, inr, nat_eq, length, arith}
+use Rattle.std.proofs.Common.{◌≡◌, ℕ, List, [], ◌∷◌, refl, ap, ◌∙◌, Bool, true, false, cond, decimal, zero, suc, inl, inr, nat_eq, length, arith}
 use Rattle.std.specs.Prelude.{◌⊎◌, Option, Some, None, IfSome}
 use Rattle.hol_terms.specs.Nameless.{Nameless, nameless_type}
 use Rattle.hol_notation_terms.specs.Text.{QuotationText}
@@ -20,7 +20,7 @@ use Rattle.hol_exec.specs.OutcomeValue.{OutcomeValue, Opens, Leaves, Makes, Refu
 use Rattle.hol_exec.specs.Local.{opens, opens_read, IsOpening, run_outcome, applied, resolved_outcome, IsApplying, finishes, IsLocalOutcome}
 use Rattle.hol_exec.specs.Lookups.{reading_basis}
 use Rattle.hol_exec.specs.Standing.{first_taken}
-use Rattle.hol_exec.specs.Expr.{ExprValue, Calls, ResolutionValue, Resolved, Unresolved, RunValue, Leaving, RefusedBy, OutOfTurns, run_answer, run_call, run_expr}
+use Rattle.hol_exec.specs.Expr.{ExprValue, Calls, ResolutionValue, Resolved, Unresolved, RunValue, Leaving, RefusedBy, OutOfTurns, run_answer, run_expr}
 use Rattle.hol_exec.specs.declared.refusal.RefusalKind.TheVariants as refusal
 use Rattle.hol_exec.specs.Entry.{Entries, EachIsEntry}
 use Rattle.hol_exec.specs.At.{IsOutcome, IsOutcomeAt}

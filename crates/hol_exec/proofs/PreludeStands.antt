@@ -7,7 +7,7 @@ use Rattle.std.proofs.lemmas.Slice.Eq.{bytes_eq-Decides}
 use Rattle.hol_types.specs.Tree.{TypeTree, TypeList, TyVar, TyApp, no_types, more_types}
 use Rattle.hol_types.specs.Subst.{type_subst}
 use Rattle.hol_terms.specs.Nameless.{Nameless, free, bound, fixed, app, lam, base_of}
-use Rattle.hol_kernel.specs.Items.{Items, no_items, in_order}
+use Rattle.hol_kernel.specs.Items.{no_items, in_order}
 use Rattle.hol_formulas.specs.Equation.{bool_type, equality_type}
 use Rattle.hol_kernel.specs.Signature.{makes_type, makes_constant, has_arity, has_constant}
 use Rattle.hol_formulas.specs.Constants.{prelude_types, prelude_constants, is_constructor, generic_in, is_instance_of}

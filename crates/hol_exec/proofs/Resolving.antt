@@ -1,6 +1,5 @@
 -- What is written, resolved, from the steps of resolving; and what a run leaves.
-use Rattle.std.specs.Prelude.{◌≡◌, ◌↔◌, ℕ, zero, suc, List, [], Option, Some, None, is_some, cond, refl}
-use Rattle.std.proofs.Common.{ap, sym, ◌∙◌}
+use Rattle.std.specs.Prelude.{◌≡◌, ℕ, List, Option, Some, None, refl}
 use Rattle.hol_kernel.specs.Items.{Items, no_items}
 use Rattle.hol_notation_tactics.specs.Text.{ArgumentText, CallText}
 use Rattle.hol_exec.specs.declared.refusal.RefusalKind.TheVariants as refusal

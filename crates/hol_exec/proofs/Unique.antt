@@ -19,8 +19,8 @@ use Rattle.hol_exec.specs.declared.tac.ArgumentKind.{ArgumentKind}
 use Rattle.hol_exec.specs.declared.tac.ArgumentKind.TheVariants.{NoArguments}
 use Rattle.hol_exec.specs.declared.tac.TacCode.{TacCode}
 use Rattle.hol_exec.specs.Standing.{first_unknown}
-use Rattle.hol_exec.specs.Tac.{arguments_of, called, TacArgsValue, Nothing}
-use Rattle.hol_exec.specs.Expr.{ExprValue, Calls, AreArguments, IsExpr, ResolutionValue, Resolved, Unresolved, calls_of, first_unfit, IsResolvedFitting, IsResolvedKnown, IsResolvedCited, IsResolution}
+use Rattle.hol_exec.specs.Tac.{arguments_of, TacArgsValue, Nothing}
+use Rattle.hol_exec.specs.Expr.{ExprValue, Calls, AreArguments, IsExpr, ResolutionValue, Resolved, Unresolved, calls_of, first_unfit, IsResolvedFitting, IsResolvedKnown, IsResolvedCited}
 use Rattle.hol_exec.specs.OutcomeValue.{OutcomeValue}
 use Rattle.hol_exec.specs.Local.{opens_read, IsOpening, resolved_outcome, IsApplying, IsLocalOutcome}
 use Rattle.hol_exec.specs.At.{IsOutcome}

@@ -1,7 +1,7 @@
 -- The keys that a command's outcome may depend on, in text order: those that it cites, and those that it makes.
 -- Source: this project.
-use Rattle.std.specs.Prelude.{ℕ, List, [], ◌∷◌, ◌++◌, Option, Some, None}
-use Rattle.hol_notation_terms.specs.Text.{TypeText, TypeTexts, Ident, Arrow, Apply as Applying, no_types, more_types, VariableText, TermText, Named, Constant, Applied, Abstraction, Typed}
+use Rattle.std.specs.Prelude.{List, [], ◌∷◌, ◌++◌, Option, Some, None}
+use Rattle.hol_notation_terms.specs.Text.{TypeText, TypeTexts, Ident, Arrow, Apply as Applying, no_types, more_types, TermText, Named, Constant, Applied, Abstraction, Typed}
 use Rattle.hol_notation_tactics.specs.Text.{TypePairText, ThmText, Cited, Assume, Refl, Spec, Sym, Conjunct1, Conjunct2, Mp, InstType, ArgumentText, Term, Theorem, Pair, Theorems, CallText}
 use Rattle.hol_exec.specs.Key.{KeyValue, type_key, constant_key, theorem_key}
 use Rattle.hol_exec.specs.Parsed.{LocalText, Goal, Apply, Qed}
