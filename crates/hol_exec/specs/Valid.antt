@@ -6,6 +6,7 @@ use Rattle.hol_terms.specs.Alpha.{alpha_eq}
 use Rattle.hol_kernel.specs.Items.{Items, no_items}
 use Rattle.hol_kernel.specs.Typing.{HasType}
 use Rattle.hol_formulas.specs.Equation.{bool_type, Sides, dest_eq}
+use Rattle.hol_exec.specs.Entry.{EachIsEntry}
 use Rattle.hol_exec.specs.StateValue.{ProofValue}
 use Rattle.hol_exec.specs.ReadsValue.{ClosingValue}
 use Rattle.hol_exec.specs.OutcomeValue.{OutcomeValue, Opens, Leaves, Makes, Refuses}
@@ -20,11 +21,12 @@ pub record IsReflexive (t : Nameless) : Type 0 where
   pub equates : dest_eq t ≡ Some sides
   pub same : alpha_eq sides.left sides.right ≡ true
 
--- An opened statement is well typed. A step of today's only TAC closes its goal by reflexivity, and resolves nothing that rests on items.
+-- An opened statement is well typed. A step of today's only TAC closes its goal by reflexivity, and resolves nothing that rests on items. What is
+-- made are entries.
 abbrev pub IsValid : OutcomeValue → Type 0
 IsValid (Opens name statement basis) = IsStatement basis statement
 IsValid (Leaves goal goals basis) = (goals ≡ []) × (basis ≡ no_items) × IsReflexive goal.conclusion
-IsValid (Makes entries) = Unit {0}
+IsValid (Makes entries) = EachIsEntry entries
 IsValid (Refuses kind arg) = Unit {0}
 
 -- The statement is well typed over the proof's basis, and is the one open goal or is proved by reflexivity.

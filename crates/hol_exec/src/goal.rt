@@ -92,7 +92,11 @@ pub(crate) fn copies(alloc: Global, goals: &[Goal]) -> Result<Vec<Goal>, AllocEr
 }
 
 /// Puts copies of the goals at the end.
-pub(crate) fn add_copies(alloc: Global, to: &mut Vec<Goal>, goals: &[Goal]) -> Result<(), AllocError>
+pub(crate) fn add_copies(
+    alloc: Global,
+    to: &mut Vec<Goal>,
+    goals: &[Goal],
+) -> Result<(), AllocError>
     ensures { OnOk result (to.new.items ≡ to.old.items ++ goals.now) }
 {
     for goal in goals {
