@@ -84,7 +84,7 @@ module _ (goal : GoalValue) (goals : List GoalValue) (basis : Items) where
 
   -- the proof whose first goal is proved by reflexivity
   closes_proof : (p : ProofValue) → IsSoundProof p → first_of p.newest.goals ≡ Some goal → IsReflexive goal.conclusion → IsReflexive p.statement
-  closes_proof p sound first h = by sound.goals
+  closes_proof p sound first h = by sound.newest.goals
     where
       by : ((p.newest.goals ≡ record { assumptions = []; conclusion = p.statement } ∷ []) ⊎ ((p.newest.goals ≡ []) × IsReflexive p.statement)) → IsReflexive p.statement
       by (inl one) =
@@ -108,8 +108,8 @@ step_closes s outcome h sound goal goals basis e closed = by s.proof refl sound
 -- the record without its name, which says nothing
 pub sound_closing : (p : ProofValue) → IsSoundProof p → (goals : List GoalValue) (basis : Items) (t : Nameless) → goals ≡ p.newest.goals → basis ≡ p.newest.basis → t ≡ p.statement → {name : List ℕ} → IsSoundClosing (record { name = name; statement = t; basis = basis; open_goals = length goals })
 sound_closing p h goals basis t e f g = record {
-  statement = rw (f, g) h.statement;
-  closed = λ none. by none h.goals;
+  statement = rw (f, g) h.newest.typed;
+  closed = λ none. by none h.newest.goals;
 }
   where
     by : length goals ≡ 0 → ((p.newest.goals ≡ record { assumptions = []; conclusion = p.statement } ∷ []) ⊎ ((p.newest.goals ≡ []) × IsReflexive p.statement)) → IsReflexive t

@@ -9,17 +9,17 @@ use Rattle.hol_exec.specs.Key.{KeyValue, key_eq}
 use Rattle.hol_exec.specs.Entry.{EntryValue}
 use Rattle.hol_exec.specs.ReadsValue.{Values}
 
--- the name is one of the prelude's of this kind: those of its types and constants; no theorem of it has a name
+-- the name is that of a type or a constant of the prelude; its theorems can't be cited
 abbrev pub in_prelude : Kind → List ℕ → Bool
 in_prelude key_kind.Type name = list_any (λ p. bytes_eq name p.0) prelude_types
 in_prelude key_kind.Constant name = list_any (λ p. bytes_eq name p.0) prelude_constants
 in_prelude key_kind.Theorem name = false
 
--- whether something stands under a key, which has this value
+-- whether something stands under a key: an entry, this being its value, or what the prelude has
 abbrev pub is_standing : KeyValue → Option EntryValue → Bool
 is_standing key value = is_some value || in_prelude key.kind key.name
 
--- a theorem under whose key nothing stands is unknown; an identifier of a term or type under whose key nothing stands is a variable
+-- an identifier of a term or a type under whose key nothing stands is a variable, and not unknown, as a theorem is
 abbrev pub is_unknown : Kind → Bool → Bool
 is_unknown key_kind.Type standing = false
 is_unknown key_kind.Constant standing = false
