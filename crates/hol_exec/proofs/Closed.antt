@@ -1,11 +1,11 @@
 -- A statement that is an equation of terms equal up to bound names is what TRANS gives of the reflexivity of its sides.
-use Rattle.std.specs.Prelude.{◌≡◌, ℕ, Bool, true, false, cond, ◌&&◌, List, [], codes, Option, Some, None, IsSome, IfSome, Err, refl}
+use Rattle.std.specs.Prelude.{◌≡◌, true, cond, ◌&&◌, [], codes, Option, Some, None, IsSome, IfSome, Err, refl}
 use Rattle.std.specs.FinSet as set
 use Rattle.std.proofs.Common.{ap, sym, ◌∙◌, subst}
 use Rattle.std.proofs.lemmas.Bool.{and_parts}
 use Rattle.hol_types.specs.Tree.{TypeTree}
 use Rattle.hol_types.specs.Fun.{fun_type}
-use Rattle.hol_terms.specs.Nameless.{Nameless, fixed, app, nameless_type}
+use Rattle.hol_terms.specs.Nameless.{Nameless, fixed, app}
 use Rattle.hol_terms.specs.Alpha.{alpha_eq}
 use Rattle.hol_kernel.specs.declared.error.Rule.{Rule}
 use Rattle.hol_kernel.specs.declared.error.Rule.TheVariants.{Trans}
@@ -17,14 +17,13 @@ use Rattle.hol_kernel.specs.Sequent.{no_hyps, sequent_of}
 use Rattle.hol_formulas.specs.Equation.{bool_type, equality_type, equation, Sides, dest_eq}
 use Rattle.hol_formulas.proofs.FormulaLaws.{dest_eq_equation}
 use Rattle.hol_kernel.specs.Rules.{trans_sides, trans_of}
-use Rattle.hol_kernel.specs.Theorem.{Theorem, over}
+use Rattle.hol_kernel.specs.Theorem.{Theorem, theorem_over, over}
 use Rattle.hol_kernel.specs.Typing.{is_known, type_over, HasType}
 use Rattle.hol_kernel.proofs.HypothesisLists.{hyps_total, hyps_same}
 use Rattle.hol_kernel.proofs.SortedSets.{union_none_left}
 use Rattle.hol_kernel.proofs.Sound.{sides_is}
 use Rattle.hol_kernel.proofs.Stands.{app_parts, some_is}
 use Rattle.hol_kernel.proofs.Variables.{typed_known, known_typed}
-use Rattle.hol_exec.specs.Local.{proved}
 use Rattle.hol_exec.specs.ReadsValue.{ClosingValue}
 use Rattle.hol_exec.specs.Valid.{IsStatement, IsReflexive, IsSoundClosing}
 
@@ -100,17 +99,17 @@ pub right_is_typed : (basis own : Items) (t : Nameless) (x : Sides) → Closes b
 right_is_typed basis own t x h p = rw (right_typed basis own t x h p) refl
 
 -- a theorem of reflexivity, as the call says it
-theorem_of : (basis own : Items) (m : Nameless) (a : TypeTree) (th : Theorem) → own ≡ basis → type_over own m ≡ Some a → IfSome (type_over own m) (λ b. th ≡ proved own (equation b m m)) → th ≡ proved basis (equation a m m)
-theorem_of basis own m a th p e h = let g : th ≡ proved own (equation a m m) = rw e at h in rw (← p) g
+theorem_of : (basis own : Items) (m : Nameless) (a : TypeTree) (th : Theorem) → own ≡ basis → type_over own m ≡ Some a → IfSome (type_over own m) (λ b. th ≡ theorem_over own no_hyps (equation b m m)) → th ≡ theorem_over basis no_hyps (equation a m m)
+theorem_of basis own m a th p e h = let g : th ≡ theorem_over own no_hyps (equation a m m) = rw e at h in rw (← p) g
 
 -- the two theorems that TRANS is given
 pub record AreReflexive (basis : Items) (t : Nameless) (x : Sides) (first second : Theorem) : Type 0 where
   pub closes : Closes basis t x
-  pub left : first ≡ proved basis (equation x.sides_type x.left x.left)
-  pub right : second ≡ proved basis (equation x.sides_type x.right x.right)
+  pub left : first ≡ theorem_over basis no_hyps (equation x.sides_type x.left x.left)
+  pub right : second ≡ theorem_over basis no_hyps (equation x.sides_type x.right x.right)
 
 pub both_reflexive : (basis one two : Items) (t : Nameless) (x : Sides) (first second : Theorem) → Closes basis t x → one ≡ basis → two ≡ basis →
-    IfSome (type_over one x.left) (λ a. first ≡ proved one (equation a x.left x.left)) → IfSome (type_over two x.right) (λ a. second ≡ proved two (equation a x.right x.right)) → AreReflexive basis t x first second
+    IfSome (type_over one x.left) (λ a. first ≡ theorem_over one no_hyps (equation a x.left x.left)) → IfSome (type_over two x.right) (λ a. second ≡ theorem_over two no_hyps (equation a x.right x.right)) → AreReflexive basis t x first second
 both_reflexive basis one two t x first second h p q m n = record {
   closes = h;
   left = theorem_of basis one x.left x.sides_type first p (left_typed basis one t x h p) m;
@@ -120,5 +119,5 @@ both_reflexive basis one two t x first second h p q m n = record {
 pub one_basis : (basis : Items) (t : Nameless) (x : Sides) (first second : Theorem) → AreReflexive basis t x first second → first.basis ≡ second.basis
 one_basis basis t x first second b = ap (λ th. th.basis) b.left ∙ sym (ap (λ th. th.basis) b.right)
 
-pub gives_statement : (basis : Items) (t : Nameless) (x : Sides) (first second : Theorem) → AreReflexive basis t x first second → over first.basis (trans_of first.sequent second.sequent) ≡ Some (proved basis t)
+pub gives_statement : (basis : Items) (t : Nameless) (x : Sides) (first second : Theorem) → AreReflexive basis t x first second → over first.basis (trans_of first.sequent second.sequent) ≡ Some (theorem_over basis no_hyps t)
 gives_statement basis t x first second b = (λ i. over (b.left i).basis (trans_of (b.left i).sequent (b.right i).sequent)) ∙ ap (over basis) (joined basis t x b.closes)

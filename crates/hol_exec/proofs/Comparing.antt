@@ -1,12 +1,9 @@
 -- When lists, sets, keys and records are the same.
-use Rattle.std.specs.Prelude.{◌≡◌, ◌≢◌, ◌↔◌, ◌<◌, ◌+◌, ℕ, Bool, true, false, IsTrue, List, [], ◌∷◌, ◌++◌, map, length, get_or}
+use Rattle.std.specs.Prelude.{◌≡◌, ◌↔◌, ◌<◌, ℕ, Bool, true, false, IsTrue, List, [], ◌∷◌, map, length, get_or}
 use Rattle.std.proofs.Common.{ap, sym, ◌∙◌, refl, zero, suc, arith}
 use Rattle.std.proofs.lemmas.List.{get_or_default}
 use Rattle.std.specs.FinSet as set
-use Rattle.std.specs.Hash as fed
 use Rattle.std.specs.List.Sorted.{IsStrictlySortedBy}
-use Rattle.std.proofs.lemmas.Bool.{and_parts}
-use Rattle.std.proofs.lemmas.Slice.Eq.{bytes_eq-Decides}
 use Rattle.hol_terms.specs.Named.{Named}
 use Rattle.hol_kernel.specs.Item.{Item}
 use Rattle.hol_exec.specs.ReadsValue.{ReadsValue}

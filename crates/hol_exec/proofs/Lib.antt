@@ -1,9 +1,11 @@
 pub mod Parsing
 pub mod Steps
-pub mod Standing
+pub mod PreludeStands
 pub mod Statements
 pub mod Closed
 pub mod Outcomes
+pub mod Entries
+pub mod Resolving
 pub mod Runs
 pub mod Unique
 pub mod Comparing

@@ -1,22 +1,28 @@
 -- What the outcomes that a state may get say of it: a step runs on the first goal, and so closes the goal only where reflexivity proves the
 -- statement.
-use Rattle.std.proofs.Common.{◌≡◌, ℕ, List, [], ◌∷◌, refl, ap, sym, ◌∙◌, Bool, true, false, cond, inl, inr, nat_eq, length, arith}
+use Rattle.std.proofs.Common.{◌≡◌, ℕ, List, [], ◌∷◌, refl, ap, ◌∙◌, Bool, true, false, cond, decimal, zero, suc, inl, inr, nat_eq, length, arith}
 use Rattle.std.specs.Prelude.{◌⊎◌, Option, Some, None, IfSome}
-use Rattle.hol_terms.specs.Nameless.{Nameless}
+use Rattle.hol_terms.specs.Nameless.{Nameless, nameless_type}
 use Rattle.hol_notation_terms.specs.Text.{QuotationText}
 use Rattle.hol_notation_tactics.specs.Text.{CallText}
 use Rattle.hol_kernel.specs.Items.{Items, no_items}
-use Rattle.hol_formulas.specs.Equation.{Sides, dest_eq}
+use Rattle.hol_formulas.specs.Equation.{bool_type, Sides, dest_eq}
+use Rattle.hol_kernel.specs.Typing.{is_type_at}
 use Rattle.hol_terms.specs.Alpha.{alpha_eq}
 use Rattle.hol_exec.specs.Goal.{GoalValue}
 use Rattle.hol_exec.specs.Key.{KeyValue}
 use Rattle.hol_exec.specs.Setup.{SetupValue}
 use Rattle.hol_exec.specs.Parsed.{LocalText, Goal, Apply, Qed, Unread, ParsedValue, Local, Direct}
-use Rattle.hol_exec.specs.Reading.{ReadingValue, WrongArity, NoTyping, LargeReading, NotBool, Statement}
+use Rattle.hol_exec.specs.Reading.{ReadingValue, WrongArity, NoTyping, LargeReading, ReadsAs}
 use Rattle.hol_exec.specs.StateValue.{ProofValue, StateValue, EndedTheory}
 use Rattle.hol_exec.specs.ReadsValue.{ReadsValue, ClosingValue, reads_of, first_goal, first_of}
-use Rattle.hol_exec.specs.OutcomeValue.{OutcomeValue, Opens, Leaves, Makes, Refuses}
-use Rattle.hol_exec.specs.Local.{first_taken, opens, opens_read, IsOpening, ResolvedTac, ResolutionValue, Resolved, Unresolved, RunValue, Leaving, RefusedBy, run_tac, run_outcome, applied, resolved_outcome, IsApplying, finishes, IsLocal}
+use Rattle.hol_exec.specs.OutcomeValue.{OutcomeValue, Opens, Leaves, Makes, Refuses, MakesTheorems}
+use Rattle.hol_exec.specs.Local.{opens, opens_read, IsOpening, run_outcome, applied, resolved_outcome, IsApplying, finishes, IsLocalOutcome}
+use Rattle.hol_exec.specs.Lookups.{reading_basis}
+use Rattle.hol_exec.specs.Standing.{first_taken}
+use Rattle.hol_exec.specs.Expr.{ExprValue, Calls, ResolutionValue, Resolved, Unresolved, RunValue, Leaving, RefusedBy, OutOfTurns, run_answer, run_expr}
+use Rattle.hol_exec.specs.declared.refusal.RefusalKind.TheVariants as refusal
+use Rattle.hol_exec.specs.Entry.{Entries, EachIsEntry}
 use Rattle.hol_exec.specs.At.{IsOutcome, IsOutcomeAt}
 use Rattle.hol_exec.specs.declared.tac.TacCode.{TacCode}
 use Rattle.hol_exec.specs.declared.tac.TacCode.TheVariants.{ReflTac}
@@ -32,12 +38,15 @@ module _ (goal : GoalValue) (goals : List GoalValue) (basis : Items) where
       stated p b None e = absurd (cc)
       stated p b (Some key) e = absurd (cc)
 
+      typed : (p : Nameless) (is_bool : Bool) → Leaves goal goals basis ≡ cond is_bool (opens name p (reading_basis reads.cited p) (first_taken [] reads.made)) (Refuses refusal.NotBool (decimal q.place)) → ⊥
+      typed p true e = stated p _ (first_taken [] reads.made) e
+      typed p false e = absurd (cc)
+
       by : (r : ReadingValue) → Leaves goal goals basis ≡ opens_read name q.place reads r → ⊥
       by WrongArity e = absurd (cc)
       by NoTyping e = absurd (cc)
       by LargeReading e = absurd (cc)
-      by NotBool e = absurd (cc)
-      by (Statement p) e = stated p _ (first_taken reads.made) e
+      by (ReadsAs p) e = typed p (is_type_at (nameless_type [] p) bool_type) e
 
   finish_none : (o : Option ClosingValue) → Leaves goal goals basis ≡ finishes o → ⊥
   finish_none None e = absurd (cc)
@@ -48,22 +57,23 @@ module _ (goal : GoalValue) (goals : List GoalValue) (basis : Items) where
       by false z = let g : Leaves goal goals basis ≡ Refuses _ _ = rw z at e in absurd (cc)
 
   run_first : (g : GoalValue) (b : Items) (r : RunValue) → Leaves goal goals basis ≡ run_outcome g b r → g ≡ goal
-  run_first g b (Leaving more) e = cc
-  run_first g b (RefusedBy name) e = absurd (cc)
+  run_first g b (Leaving more turns) e = cc
+  run_first g b (RefusedBy name turns) e = absurd (cc)
+  run_first g b OutOfTurns e = absurd (cc)
 
-  applied_first : (o : Option GoalValue) (turns : ℕ) (t : ResolvedTac) → Leaves goal goals basis ≡ applied o turns t → o ≡ Some goal
-  applied_first None turns t e = absurd (cc)
-  applied_first (Some g) turns t e = ap Some (run_first g t.basis (run_tac t g turns) e)
+  applied_first : (o : Option GoalValue) (turns : ℕ) (x : ExprValue) (b : Items) → Leaves goal goals basis ≡ applied o turns x b → o ≡ Some goal
+  applied_first None turns x b e = absurd (cc)
+  applied_first (Some g) turns x b e = ap Some (run_first g b (run_expr x g turns) e)
 
   resolved_first : (o : Option GoalValue) (turns : ℕ) (r : ResolutionValue) → Leaves goal goals basis ≡ resolved_outcome o turns r → o ≡ Some goal
-  resolved_first o turns (Resolved t) e = applied_first o turns t e
+  resolved_first o turns (Resolved x b) e = applied_first o turns x b e
   resolved_first o turns (Unresolved kind arg) e = absurd (cc)
 
   applying_first : (in_proof : Bool) (setup : SetupValue) (call : CallText) (reads : ReadsValue) → IsApplying in_proof setup call reads (Leaves goal goals basis) → reads.goal ≡ Some goal
   applying_first false setup call reads h = absurd (cc)
   applying_first true setup call reads h = resolved_first reads.goal setup.turns h.0 h.2
 
-  local_first : (setup : SetupValue) (command : LocalText) (s : StateValue) → IsLocal setup command (reads_of command s) (Leaves goal goals basis) → first_goal s.proof ≡ Some goal
+  local_first : (setup : SetupValue) (command : LocalText) (s : StateValue) → IsLocalOutcome setup command (reads_of command s) (Leaves goal goals basis) → first_goal s.proof ≡ Some goal
   local_first setup (Goal name q) s h = absurd (opening_none _ name q _ h)
   local_first setup (Apply call) s h = applying_first _ setup call (reads_of (Apply call) s) h
   local_first setup Qed s h = absurd (finish_none (reads_of Qed s).closing h)
@@ -74,7 +84,7 @@ module _ (goal : GoalValue) (goals : List GoalValue) (basis : Items) where
 
   -- the proof whose first goal is proved by reflexivity
   closes_proof : (p : ProofValue) → IsSoundProof p → first_of p.newest.goals ≡ Some goal → IsReflexive goal.conclusion → IsReflexive p.statement
-  closes_proof p sound first h = by sound.goals
+  closes_proof p sound first h = by sound.newest.goals
     where
       by : ((p.newest.goals ≡ record { assumptions = []; conclusion = p.statement } ∷ []) ⊎ ((p.newest.goals ≡ []) × IsReflexive p.statement)) → IsReflexive p.statement
       by (inl one) =
@@ -98,8 +108,8 @@ step_closes s outcome h sound goal goals basis e closed = by s.proof refl sound
 -- the record without its name, which says nothing
 pub sound_closing : (p : ProofValue) → IsSoundProof p → (goals : List GoalValue) (basis : Items) (t : Nameless) → goals ≡ p.newest.goals → basis ≡ p.newest.basis → t ≡ p.statement → {name : List ℕ} → IsSoundClosing (record { name = name; statement = t; basis = basis; open_goals = length goals })
 sound_closing p h goals basis t e f g = record {
-  statement = rw (f, g) h.statement;
-  closed = λ none. by none h.goals;
+  statement = rw (f, g) h.newest.typed;
+  closed = λ none. by none h.newest.goals;
 }
   where
     by : length goals ≡ 0 → ((p.newest.goals ≡ record { assumptions = []; conclusion = p.statement } ∷ []) ⊎ ((p.newest.goals ≡ []) × IsReflexive p.statement)) → IsReflexive t
@@ -114,17 +124,35 @@ valid_opening o h n p b e = rw e at h
 pub valid_step : (o : OutcomeValue) → IsValid o → (goal : GoalValue) (goals : List GoalValue) (b : Items) → o ≡ Leaves goal goals b → (goals ≡ []) × (b ≡ no_items) × IsReflexive goal.conclusion
 valid_step o h goal goals b e = rw e at h
 
+pub valid_made : (o : OutcomeValue) → IsValid o → (entries : Entries) → o ≡ Makes entries → EachIsEntry entries
+valid_made o h entries e = rw e at h
+
+pub makes_theorems : (o : OutcomeValue) → IsValid o → MakesTheorems o
+makes_theorems (Opens name statement basis) h = tt
+makes_theorems (Leaves goal goals basis) h = tt
+makes_theorems (Makes entries) h = h
+makes_theorems (Refuses kind arg) h = tt
+
 -- what a TAC closes
-pub tac_closes : (code : TacCode) (args : TacArgsValue) (goal : GoalValue) (goals : List GoalValue) → Left goals ≡ tac code args goal → (goals ≡ []) × IsReflexive goal.conclusion
-tac_closes ReflTac Nothing goal goals e = found (dest_eq goal.conclusion) refl e
+tac_closes : (code : TacCode) (args : TacArgsValue) (goal : GoalValue) (goals : List GoalValue) (turns left : ℕ) → Left goals left ≡ tac code args goal turns → (goals ≡ []) × IsReflexive goal.conclusion
+tac_closes ReflTac Nothing goal goals turns left e = found (dest_eq goal.conclusion) refl e
   where
-    same : (x : Sides) (w : Bool) → dest_eq goal.conclusion ≡ Some x → alpha_eq x.left x.right ≡ w → Left goals ≡ cond w (Left []) Unfit → (goals ≡ []) × IsReflexive goal.conclusion
+    same : (x : Sides) (w : Bool) → dest_eq goal.conclusion ≡ Some x → alpha_eq x.left x.right ≡ w → Left goals left ≡ cond w (Left [] turns) (Unfit turns) → (goals ≡ []) × IsReflexive goal.conclusion
     same x true f g h = let none : goals ≡ [] = cc in (none, record { sides = x; equates = f; same = g })
     same x false f g h = absurd (cc)
 
-    found : (o : Option Sides) → dest_eq goal.conclusion ≡ o → Left goals ≡ closes_sides o → (goals ≡ []) × IsReflexive goal.conclusion
+    found : (o : Option Sides) → dest_eq goal.conclusion ≡ o → Left goals left ≡ closes_sides o turns → (goals ≡ []) × IsReflexive goal.conclusion
     found None f g = absurd (cc)
     found (Some x) f g = same x (alpha_eq x.left x.right) f refl g
 
-pub step_valid : (code : TacCode) (args : TacArgsValue) (first goal : GoalValue) (goals : List GoalValue) (basis : Items) → Left goals ≡ tac code args first → goal ≡ first → basis ≡ no_items → (goals ≡ []) × (basis ≡ no_items) × IsReflexive goal.conclusion
-step_valid code args first goal goals basis e f g = let h = tac_closes code args first goals e in (h.0, g, rw f h.1)
+-- what a run leaves
+run_closes : (e : ExprValue) (goal : GoalValue) (turns : ℕ) (goals : List GoalValue) (left : ℕ) → Leaving goals left ≡ run_expr e goal turns → (goals ≡ []) × IsReflexive goal.conclusion
+run_closes (Calls name code args) goal zero goals left e = absurd (cc)
+run_closes (Calls name code args) goal (suc turns) goals left e = by (tac code args goal turns) refl e
+  where
+    by : (a : AnswerValue) → a ≡ tac code args goal turns → Leaving goals left ≡ run_answer name a → (goals ≡ []) × IsReflexive goal.conclusion
+    by (Left gs n) f g = let same : gs ≡ goals = cc in rw same at (tac_closes code args goal gs turns n f)
+    by (Unfit n) f g = absurd (cc)
+
+pub step_valid : (e : ExprValue) (first goal : GoalValue) (turns : ℕ) (goals : List GoalValue) (left : ℕ) (basis : Items) → Leaving goals left ≡ run_expr e first turns → goal ≡ first → basis ≡ no_items → (goals ≡ []) × (basis ≡ no_items) × IsReflexive goal.conclusion
+step_valid e first goal turns goals left basis h f g = let closed = run_closes e first turns goals left h in (closed.0, g, rw f closed.1)

@@ -1,5 +1,5 @@
 -- A new element of a proof's history.
-use Rattle.std.specs.Prelude.{◌≡◌, List, [], ◌∷◌, ◌++◌, reverse, refl}
+use Rattle.std.specs.Prelude.{◌≡◌, List, [], ◌∷◌, ◌++◌, reverse}
 use Rattle.std.specs.FinSet as set
 use Rattle.std.proofs.lemmas.List.{reverse-append}
 use Rattle.hol_kernel.proofs.ItemOrder.{total, only}

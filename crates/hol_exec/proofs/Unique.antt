@@ -1,21 +1,28 @@
 -- A text is one thing, and has one outcome at a state.
 use Rattle.std.specs.Prelude.{◌≡◌, ℕ, List, [], Bool, true, false, Option, Some, None, refl}
-use Rattle.std.proofs.Common.{ap, sym, ◌∙◌, inl, inr}
-use Rattle.hol_terms.specs.Nameless.{Nameless, nameless_type}
+use Rattle.std.proofs.Common.{ap, sym, ◌∙◌, subst, inl, inr}
 use Rattle.hol_notation_terms.specs.Text.{TermText, QuotationText}
-use Rattle.hol_notation_tactics.specs.Text.{CallText}
+use Rattle.hol_notation_tactics.specs.Text.{ArgumentText, CallText}
 use Rattle.hol_notation_commands.specs.Reading.{Reads, Breaks}
 use Rattle.hol_notation_commands.proofs.OneReading.{one-reading as one_command}
+use Rattle.hol_kernel.specs.Items.{Items}
+use Rattle.hol_infer.specs.Raw.{RawTree}
+use Rattle.hol_infer.specs.Resolving.{raw_of, term_has_arities}
 use Rattle.hol_infer.proofs.Unique.{one_reading as one_term, reading_typable, reading_not_large, large_typable}
 use Rattle.hol_exec.specs.Setup.{SetupValue}
 use Rattle.hol_exec.specs.Parsed.{LocalText, Goal, Apply, Qed, ParsedValue, Local, Direct, Unread, IsParsed, parsed}
 use Rattle.hol_exec.specs.Lookups.{LookupsValue, lookups_of}
-use Rattle.hol_exec.specs.Reading.{resolved, IsSmallReading, ReadingValue, WrongArity, NoTyping, LargeReading, NotBool, Statement, IsReadAs}
+use Rattle.hol_exec.specs.Reading.{ReadingValue, WrongArity, NoTyping, LargeReading, ReadsAs, IsReadAs, IsTermReadAs}
 use Rattle.hol_exec.specs.StateValue.{StateValue, EndedTheory}
-use Rattle.hol_exec.specs.ReadsValue.{Values, ReadsValue, reads_of}
-use Rattle.hol_exec.specs.Tac.{CalledText, Plain, called}
+use Rattle.hol_exec.specs.ReadsValue.{ReadsValue, reads_of}
+use Rattle.hol_exec.specs.declared.tac.ArgumentKind.{ArgumentKind}
+use Rattle.hol_exec.specs.declared.tac.ArgumentKind.TheVariants.{NoArguments}
+use Rattle.hol_exec.specs.declared.tac.TacCode.{TacCode}
+use Rattle.hol_exec.specs.Standing.{first_unknown}
+use Rattle.hol_exec.specs.Tac.{arguments_of, TacArgsValue, Nothing}
+use Rattle.hol_exec.specs.Expr.{ExprValue, Calls, AreArguments, IsExpr, ResolutionValue, Resolved, Unresolved, calls_of, first_unfit, IsResolvedFitting, IsResolvedKnown, IsResolvedCited}
 use Rattle.hol_exec.specs.OutcomeValue.{OutcomeValue}
-use Rattle.hol_exec.specs.Local.{first_unknown, opens_read, IsOpening, ResolutionValue, IsResolvedCall, IsResolvedAs, IsResolution, resolved_outcome, IsApplying, IsLocal}
+use Rattle.hol_exec.specs.Local.{opens_read, IsOpening, resolved_outcome, IsApplying, IsLocalOutcome}
 use Rattle.hol_exec.specs.At.{IsOutcome}
 
 -- ---- texts
@@ -37,48 +44,52 @@ one_text text a b (inr p) (inr q) =
 both_ways : (b : Bool) → b ≡ true → b ≡ false → ⊥
 both_ways b p q = let e : true ≡ false = sym p ∙ q in absurd (cc)
 
-same_term : (over : LookupsValue) (t : TermText) (p q : Nameless) → IsSmallReading over t p → IsSmallReading over t q → p ≡ q
-same_term over t p q a b = one_term (resolved over t) p q a.reading b.reading
+pub one_read : (arities : Bool) (raw : RawTree) (a b : ReadingValue) → IsReadAs arities raw a → IsReadAs arities raw b → a ≡ b
+one_read arities raw WrongArity WrongArity p q = refl
+one_read arities raw WrongArity NoTyping p q = absurd (both_ways _ q.0 p)
+one_read arities raw WrongArity LargeReading p q = absurd (both_ways _ q.0 p)
+one_read arities raw WrongArity (ReadsAs t) p q = absurd (both_ways _ q.0 p)
+one_read arities raw NoTyping WrongArity p q = absurd (both_ways _ p.0 q)
+one_read arities raw NoTyping NoTyping p q = refl
+one_read arities raw NoTyping LargeReading p q = absurd (large_typable raw p.1 q.1)
+one_read arities raw NoTyping (ReadsAs t) p q = absurd (reading_typable raw t q.1 p.1)
+one_read arities raw LargeReading WrongArity p q = absurd (both_ways _ p.0 q)
+one_read arities raw LargeReading NoTyping p q = absurd (large_typable raw q.1 p.1)
+one_read arities raw LargeReading LargeReading p q = refl
+one_read arities raw LargeReading (ReadsAs t) p q = absurd (reading_not_large raw t q.1 q.2 p.1)
+one_read arities raw (ReadsAs s) WrongArity p q = absurd (both_ways _ p.0 q)
+one_read arities raw (ReadsAs s) NoTyping p q = absurd (reading_typable raw s p.1 q.1)
+one_read arities raw (ReadsAs s) LargeReading p q = absurd (reading_not_large raw s p.1 p.2 q.1)
+one_read arities raw (ReadsAs s) (ReadsAs t) p q = ap ReadsAs (one_term raw s t p.1 q.1)
 
-pub one_reading : (over : LookupsValue) (t : TermText) (a b : ReadingValue) → IsReadAs over t a → IsReadAs over t b → a ≡ b
-one_reading over t WrongArity WrongArity p q = refl
-one_reading over t WrongArity NoTyping p q = absurd (both_ways _ q.0 p)
-one_reading over t WrongArity LargeReading p q = absurd (both_ways _ q.0 p)
-one_reading over t WrongArity NotBool p q = absurd (both_ways _ q.reads.arities p)
-one_reading over t WrongArity (Statement s) p q = absurd (both_ways _ q.0.arities p)
-one_reading over t NoTyping WrongArity p q = absurd (both_ways _ p.0 q)
-one_reading over t NoTyping NoTyping p q = refl
-one_reading over t NoTyping LargeReading p q = absurd (large_typable (resolved over t) p.1 q.1)
-one_reading over t NoTyping NotBool p q = absurd (reading_typable (resolved over t) q.term q.reads.reading p.1)
-one_reading over t NoTyping (Statement s) p q = absurd (reading_typable (resolved over t) s q.0.reading p.1)
-one_reading over t LargeReading WrongArity p q = absurd (both_ways _ p.0 q)
-one_reading over t LargeReading NoTyping p q = absurd (large_typable (resolved over t) q.1 p.1)
-one_reading over t LargeReading LargeReading p q = refl
-one_reading over t LargeReading NotBool p q = absurd (reading_not_large (resolved over t) q.term q.reads.reading q.reads.small p.1)
-one_reading over t LargeReading (Statement s) p q = absurd (reading_not_large (resolved over t) s q.0.reading q.0.small p.1)
-one_reading over t NotBool WrongArity p q = absurd (both_ways _ p.reads.arities q)
-one_reading over t NotBool NoTyping p q = absurd (reading_typable (resolved over t) p.term p.reads.reading q.1)
-one_reading over t NotBool LargeReading p q = absurd (reading_not_large (resolved over t) p.term p.reads.reading p.reads.small q.1)
-one_reading over t NotBool NotBool p q = refl
-one_reading over t NotBool (Statement s) p q = absurd (p.other (ap (nameless_type []) (same_term over t p.term s p.reads q.0) ∙ q.1))
-one_reading over t (Statement s) WrongArity p q = absurd (both_ways _ p.0.arities q)
-one_reading over t (Statement s) NoTyping p q = absurd (reading_typable (resolved over t) s p.0.reading q.1)
-one_reading over t (Statement s) LargeReading p q = absurd (reading_not_large (resolved over t) s p.0.reading p.0.small q.1)
-one_reading over t (Statement s) NotBool p q = absurd (q.other (ap (nameless_type []) (same_term over t q.term s q.reads p.0) ∙ p.1))
-one_reading over t (Statement s) (Statement u) p q = ap Statement (same_term over t s u p.0 q.0)
+pub one_reading : (over : LookupsValue) (t : TermText) (a b : ReadingValue) → IsTermReadAs over t a → IsTermReadAs over t b → a ≡ b
+one_reading over t a b p q = one_read (term_has_arities over.types t) (raw_of over.types over.constants [] t) a b p q
 
 -- ---- resolutions
 
-one_resolved_call : (cited : Values) (name : List ℕ) (call : CalledText) (a b : ResolutionValue) → IsResolvedCall cited name call a → IsResolvedCall cited name call b → a ≡ b
-one_resolved_call cited name (Plain code) a b p q = p ∙ sym q
+one_arguments : (kind : ArgumentKind) (arguments : List ArgumentText) (a b : TacArgsValue) (x y : Items) → AreArguments kind arguments a x → AreArguments kind arguments b y → (a ≡ b) × (x ≡ y)
+one_arguments NoArguments arguments Nothing Nothing x y p q = (refl, p ∙ sym q)
 
-one_resolved : (cited : Values) (name : List ℕ) (call : Option CalledText) (a b : ResolutionValue) → IsResolvedAs cited name call a → IsResolvedAs cited name call b → a ≡ b
-one_resolved cited name None a b p q = p ∙ sym q
-one_resolved cited name (Some call) a b p q = one_resolved_call cited name call a b p q
+one_expr : (setup : SetupValue) (call : CallText) (a b : ExprValue) (x y : Items) → IsExpr setup call a x → IsExpr setup call b y → (a ≡ b) × (x ≡ y)
+one_expr setup call (Calls m c s) (Calls n d t) x y p q =
+    let names : m ≡ n = p.0 ∙ sym q.0 in
+    let some : Some c ≡ Some d = sym p.1 ∙ q.1 in
+    let codes : c ≡ d = cc in
+    let same = one_arguments (arguments_of c) call.arguments s t x y p.2 (subst (λ (code : TacCode). AreArguments (arguments_of code) call.arguments t y) (sym codes) q.2) in
+    (λ i. Calls (names i) (codes i) (same.0 i), same.1)
 
-one_resolution : (setup : SetupValue) (call : CallText) (cited : Values) (unknown : Option (List ℕ)) (a b : ResolutionValue) → IsResolution setup call cited unknown a → IsResolution setup call cited unknown b → a ≡ b
-one_resolution setup call cited (Some unknown) a b p q = p ∙ sym q
-one_resolution setup call cited None a b p q = one_resolved cited call.name (called setup call) a b p q
+one_fitting : (setup : SetupValue) (call : CallText) (a b : ResolutionValue) → IsResolvedFitting setup call a → IsResolvedFitting setup call b → a ≡ b
+one_fitting setup call (Resolved e x) (Resolved f y) p q = let same = one_expr setup call e f x y p q in λ i. Resolved (same.0 i) (same.1 i)
+one_fitting setup call (Resolved e x) (Unresolved kind arg) p q = absurd q
+one_fitting setup call (Unresolved kind arg) b p q = absurd p
+
+one_known : (setup : SetupValue) (call : CallText) (unfit : Option (List ℕ)) (a b : ResolutionValue) → IsResolvedKnown setup call unfit a → IsResolvedKnown setup call unfit b → a ≡ b
+one_known setup call (Some name) a b p q = p ∙ sym q
+one_known setup call None a b p q = one_fitting setup call a b p q
+
+one_cited : (setup : SetupValue) (call : CallText) (unknown : Option (List ℕ)) (a b : ResolutionValue) → IsResolvedCited setup call unknown a → IsResolvedCited setup call unknown b → a ≡ b
+one_cited setup call (Some name) a b p q = p ∙ sym q
+one_cited setup call None a b p q = one_known setup call (first_unfit setup (calls_of call)) a b p q
 
 -- ---- outcomes
 
@@ -90,9 +101,9 @@ one_opening false name quotation reads a b p q =
 one_applying : (in_proof : Bool) (setup : SetupValue) (call : CallText) (reads : ReadsValue) (a b : OutcomeValue) → IsApplying in_proof setup call reads a → IsApplying in_proof setup call reads b → a ≡ b
 one_applying false setup call reads a b p q = p ∙ sym q
 one_applying true setup call reads a b p q =
-    p.2 ∙ ap (resolved_outcome reads.goal setup.turns) (one_resolution setup call reads.cited (first_unknown reads.cited) p.0 q.0 p.1 q.1) ∙ sym q.2
+    p.2 ∙ ap (resolved_outcome reads.goal setup.turns) (one_cited setup call (first_unknown reads.cited) p.0 q.0 p.1 q.1) ∙ sym q.2
 
-pub one_local : (setup : SetupValue) (command : LocalText) (reads : ReadsValue) (a b : OutcomeValue) → IsLocal setup command reads a → IsLocal setup command reads b → a ≡ b
+pub one_local : (setup : SetupValue) (command : LocalText) (reads : ReadsValue) (a b : OutcomeValue) → IsLocalOutcome setup command reads a → IsLocalOutcome setup command reads b → a ≡ b
 one_local setup (Goal name quotation) reads a b p q = one_opening reads.in_proof name quotation reads a b p q
 one_local setup (Apply call) reads a b p q = one_applying reads.in_proof setup call reads a b p q
 one_local setup Qed reads a b p q = p ∙ sym q

@@ -8,9 +8,9 @@ use Rattle.hol_terms.specs.Code.{coded_nameless}
 use Rattle.hol_kernel.specs.Items.{Items, items_code}
 use Rattle.hol_kernel.specs.Theorem.{Theorem, theorem_code}
 use Rattle.hol_exec.specs.declared.key.Kind.{Kind}
-use Rattle.hol_exec.specs.declared.key.Kind.TheVariants as kind
+use Rattle.hol_exec.specs.declared.key.Kind.TheVariants as key_kind
 use Rattle.hol_exec.specs.declared.refusal.RefusalKind.{RefusalKind}
-use Rattle.hol_exec.specs.declared.refusal.RefusalKind.TheVariants.{Syntax, InProof, NoProofOpen, UnknownTheorem, UnknownTac, Untypable, NotBool, Arity, NameTaken, TooLarge, NoGoalOpen, Refused, GoalsRemain}
+use Rattle.hol_exec.specs.declared.refusal.RefusalKind.TheVariants.{Syntax, InProof, NoProofOpen, UnknownTheorem, UnknownTac, Untypable, NotBool, Arity, NameTaken, TooLarge, NoGoalOpen, Refused, TurnLimit, GoalsRemain}
 use Rattle.hol_exec.specs.Key.{KeyValue, kind_rank}
 use Rattle.hol_exec.specs.Entry.{EntryValue, ATheorem, Entries}
 use Rattle.hol_exec.specs.Goal.{GoalValue}
@@ -22,12 +22,12 @@ use Rattle.hol_exec.specs.Refusal.{kind_number}
 -- ---- keys
 
 abbrev kind_at : ℕ → Kind
-kind_at n = if n == 0 then kind.Type else if n == 1 then kind.Constant else kind.Theorem
+kind_at n = if n == 0 then key_kind.Type else if n == 1 then key_kind.Constant else key_kind.Theorem
 
 pub kind_back : (k : Kind) → kind_at (kind_rank k) ≡ k
-kind_back kind.Type = refl
-kind_back kind.Constant = refl
-kind_back kind.Theorem = refl
+kind_back key_kind.Type = refl
+kind_back key_kind.Constant = refl
+kind_back key_kind.Theorem = refl
 
 abbrev pub coded_key : Coded KeyValue
 coded_key =
@@ -107,7 +107,8 @@ abbrev refusal_at : ℕ → RefusalKind
 refusal_at n =
     if n == 1 then Syntax else if n == 2 then InProof else if n == 3 then NoProofOpen else if n == 5 then UnknownTheorem else if n == 6 then UnknownTac
     else if n == 7 then Untypable else if n == 8 then NotBool else if n == 9 then Arity else if n == 10 then NameTaken else if n == 13 then TooLarge
-    else if n == 16 then NoGoalOpen else if n == 17 then Refused else GoalsRemain
+    else if n == 16 then NoGoalOpen else if n == 17 then Refused else if n == 18 then TurnLimit
+    else GoalsRemain
 
 pub refusal_back : (k : RefusalKind) → refusal_at (kind_number k) ≡ k
 refusal_back Syntax = refl
@@ -122,6 +123,7 @@ refusal_back NameTaken = refl
 refusal_back TooLarge = refl
 refusal_back NoGoalOpen = refl
 refusal_back Refused = refl
+refusal_back TurnLimit = refl
 refusal_back GoalsRemain = refl
 
 abbrev Cases : Type 0

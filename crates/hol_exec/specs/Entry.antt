@@ -1,9 +1,11 @@
 -- Entries: what a theory has made, each under its key, in standing order.
 -- Source: this project.
-use Rattle.std.specs.Prelude.{ℕ, List, [], ◌∷◌, Option}
+use Rattle.std.specs.Prelude.{◌≡◌, List, [], ◌∷◌, Option}
 use Rattle.std.specs.Map.{lookup}
 use Rattle.hol_kernel.specs.Items.{Items}
+use Rattle.hol_kernel.specs.Sequent.{no_hyps}
 use Rattle.hol_kernel.specs.Theorem.{Theorem, IsTheorem}
+use Rattle.hol_exec.specs.declared.key.Kind.TheVariants as key_kind
 use Rattle.hol_exec.specs.Key.{KeyValue, key_eq}
 
 -- what stands under a key
@@ -21,10 +23,16 @@ entry_at key entries = lookup (key_eq key) entries
 abbrev pub entry_basis : EntryValue → Items
 entry_basis (ATheorem th) = th.basis
 
--- The theorem of an entry has a derivation over its basis, which is legal.
-abbrev pub IsEntry : EntryValue → Type 0
-IsEntry (ATheorem th) = IsTheorem th
+-- A theorem as an entry: it has a derivation over its basis, which is legal; it stands under a theorem's key; and it has no hypotheses, so
+-- that `|- p` says all of it.
+pub record IsTheoremEntry (key : KeyValue) (th : Theorem) : Type 0 where
+  pub theorem : IsTheorem th
+  pub under : key.kind ≡ key_kind.Theorem
+  pub without_hypotheses : th.sequent.hyps ≡ no_hyps
+
+abbrev pub IsEntry : KeyValue → EntryValue → Type 0
+IsEntry key (ATheorem th) = IsTheoremEntry key th
 
 abbrev pub EachIsEntry : Entries → Type 0
 EachIsEntry [] = Unit {0}
-EachIsEntry (e ∷ entries) = IsEntry e.1 × EachIsEntry entries
+EachIsEntry (e ∷ entries) = IsEntry e.0 e.1 × EachIsEntry entries

@@ -1,7 +1,7 @@
 -- The keys that a command's outcome may depend on, in text order: those that it cites, and those that it makes.
 -- Source: this project.
-use Rattle.std.specs.Prelude.{ℕ, List, [], ◌∷◌, ◌++◌, Option, Some, None}
-use Rattle.hol_notation_terms.specs.Text.{TypeText, TypeTexts, Ident, Arrow, Apply as Applying, no_types, more_types, VariableText, TermText, Named, Constant, Applied, Abstraction, Typed}
+use Rattle.std.specs.Prelude.{List, [], ◌∷◌, ◌++◌, Option, Some, None}
+use Rattle.hol_notation_terms.specs.Text.{TypeText, TypeTexts, Ident, Arrow, Apply as Applying, no_types, more_types, TermText, Named, Constant, Applied, Abstraction, Typed}
 use Rattle.hol_notation_tactics.specs.Text.{TypePairText, ThmText, Cited, Assume, Refl, Spec, Sym, Conjunct1, Conjunct2, Mp, InstType, ArgumentText, Term, Theorem, Pair, Theorems, CallText}
 use Rattle.hol_exec.specs.Key.{KeyValue, type_key, constant_key, theorem_key}
 use Rattle.hol_exec.specs.Parsed.{LocalText, Goal, Apply, Qed}
@@ -21,12 +21,12 @@ abbrev pub keys_of_annotation : Option TypeText → List KeyValue
 keys_of_annotation None = []
 keys_of_annotation (Some ty) = keys_of_type ty
 
--- `const:` of each identifier in a term, and the keys of the types that are written in it; the operators are the prelude's
+-- `const:` of each identifier in a term, bound ones too, and the keys of the types that are written in it; the operators are the prelude's
 abbrev pub keys_of_term : TermText → List KeyValue
 keys_of_term (Named x) = constant_key x ∷ []
 keys_of_term (Constant c) = []
 keys_of_term (Applied f a) = keys_of_term f ++ keys_of_term a
-keys_of_term (Abstraction v b) = keys_of_annotation v.annotation ++ keys_of_term b
+keys_of_term (Abstraction v b) = constant_key v.name ∷ keys_of_annotation v.annotation ++ keys_of_term b
 keys_of_term (Typed t ty) = keys_of_term t ++ keys_of_type ty
 
 abbrev pub keys_of_pairs : List TypePairText → List KeyValue

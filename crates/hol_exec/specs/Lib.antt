@@ -10,10 +10,13 @@ pub mod Goal
 pub mod StateValue
 pub mod ReadsValue
 pub mod Lookups
+pub mod Standing
 pub mod Reading
 pub mod ReadingView
 pub mod Tac
 pub mod TacView
+pub mod Expr
+pub mod ExprView
 pub mod Refusal
 pub mod OutcomeValue
 pub mod OutcomeView

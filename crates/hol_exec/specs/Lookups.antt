@@ -1,12 +1,11 @@
 -- The constants and types that stand for a command's readings: those of the prelude, and those of the entries that it cites.
 -- Source: this project.
-use Rattle.std.specs.Prelude.{ℕ, List, [], ◌∷◌, ◌++◌, Option, Some, None}
+use Rattle.std.specs.Prelude.{ℕ, List, [], ◌∷◌, ◌++◌, Some, None}
 use Rattle.hol_types.specs.Tree.{TypeTree}
 use Rattle.hol_terms.specs.Nameless.{Nameless}
 use Rattle.hol_kernel.specs.Items.{Items, no_items}
 use Rattle.hol_formulas.specs.Constants.{prelude_types, prelude_constants}
-use Rattle.hol_exec.specs.Key.{KeyValue}
-use Rattle.hol_exec.specs.Entry.{EntryValue, ATheorem}
+use Rattle.hol_exec.specs.Entry.{ATheorem}
 use Rattle.hol_exec.specs.ReadsValue.{Values}
 
 -- the generic types of constants, and the arities of type constructors, by name

@@ -3,7 +3,7 @@ use Rattle.std.specs.Prelude.{string_bytes}
 use Rattle.hol_exec.specs.declared.parsed.LocalCommand.{LocalCommand}
 use Rattle.hol_exec.specs.declared.parsed.LocalCommand.TheVariants as local
 use Rattle.hol_exec.specs.declared.parsed.DirectCommand.{DirectCommand}
-use Rattle.hol_exec.specs.declared.parsed.DirectCommand.TheVariants as other
+use Rattle.hol_exec.specs.declared.parsed.DirectCommand.TheVariants as direct
 use Rattle.hol_exec.specs.declared.parsed.Parsed.{Parsed}
 use Rattle.hol_exec.specs.declared.parsed.Parsed.TheVariants as code
 use Rattle.hol_exec.specs.Parsed.{LocalText, Goal, Apply, Qed, DirectText, Unread, ParsedValue, Local, Direct}
@@ -14,7 +14,7 @@ local_text (local.Apply call) = Apply call
 local_text local.Qed = Qed
 
 abbrev pub direct_text : DirectCommand → DirectText
-direct_text (other.Unread place) = Unread place
+direct_text (direct.Unread place) = Unread place
 
 abbrev pub parsed_value : Parsed → ParsedValue
 parsed_value (code.Local command) = Local (local_text command)

@@ -7,7 +7,7 @@ use Rattle.hol_exec.specs.Goal.{GoalValue}
 use Rattle.hol_exec.specs.Key.{KeyValue}
 use Rattle.hol_exec.specs.Entry.{Entries, EntryValue, entry_at}
 use Rattle.hol_exec.specs.StateValue.{ProofValue, StateValue, open_goals}
-use Rattle.hol_exec.specs.Parsed.{LocalText, Goal, Apply, Qed, DirectText, ParsedValue, Local, Direct}
+use Rattle.hol_exec.specs.Parsed.{LocalText, Goal, Apply, Qed, ParsedValue, Local, Direct}
 use Rattle.hol_exec.specs.Keys.{cited_keys, made_keys}
 
 -- what `qed` reads of the open proof

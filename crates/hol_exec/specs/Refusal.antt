@@ -2,7 +2,7 @@
 -- Source: this project.
 use Rattle.std.specs.Prelude.{ℕ, List, codes}
 use Rattle.hol_exec.specs.declared.refusal.RefusalKind.{RefusalKind}
-use Rattle.hol_exec.specs.declared.refusal.RefusalKind.TheVariants.{Syntax, InProof, NoProofOpen, UnknownTheorem, UnknownTac, Untypable, NotBool, Arity, NameTaken, TooLarge, NoGoalOpen, Refused, GoalsRemain}
+use Rattle.hol_exec.specs.declared.refusal.RefusalKind.TheVariants.{Syntax, InProof, NoProofOpen, UnknownTheorem, UnknownTac, Untypable, NotBool, Arity, NameTaken, TooLarge, NoGoalOpen, Refused, TurnLimit, GoalsRemain}
 
 abbrev pub kind_number : RefusalKind → ℕ
 kind_number Syntax = 1
@@ -17,6 +17,7 @@ kind_number NameTaken = 10
 kind_number TooLarge = 13
 kind_number NoGoalOpen = 16
 kind_number Refused = 17
+kind_number TurnLimit = 18
 kind_number GoalsRemain = 19
 
 abbrev pub kind_text : RefusalKind → List ℕ
@@ -32,4 +33,5 @@ kind_text NameTaken = codes "name taken"
 kind_text TooLarge = codes "too large"
 kind_text NoGoalOpen = codes "no goal open"
 kind_text Refused = codes "refused"
+kind_text TurnLimit = codes "turn limit"
 kind_text GoalsRemain = codes "goals remain"

@@ -1,5 +1,5 @@
 -- The report on a command: what it made, why it was refused, or all goals that are open after it.
-use Rattle.std.specs.Prelude.{ℕ, List, [], ◌++◌, codes, map, Option, Some, None}
+use Rattle.std.specs.Prelude.{ℕ, List, ◌++◌, codes, map}
 use Rattle.hol_terms.specs.Nameless.{Nameless}
 use Rattle.hol_exec.specs.Goal.{GoalValue}
 use Rattle.hol_exec.specs.Key.{KeyValue}

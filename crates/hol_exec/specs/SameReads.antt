@@ -1,5 +1,5 @@
 -- Whether two reads are the same: names, terms with their base names, theorems with their bases, numbers.
-use Rattle.std.specs.Prelude.{◌≡◌, ◌↔◌, ◌++◌, Bool, IsTrue, length, refl}
+use Rattle.std.specs.Prelude.{◌≡◌, ◌↔◌, ◌++◌, Bool, IsTrue, length}
 use Rattle.std.specs.Hash as fed
 use Rattle.std.specs.Ordering.{eq_by_cmp, is_eq}
 use Rattle.std.specs.Cmp.{IsEquivalence, IsPartialEquivalence, Equal-is, tied_itself, eq_by_cmp_equiv, partial_equiv_from_equiv}

@@ -1,6 +1,6 @@
 -- The state of a theory while it is run: its entries, and the open proof, if there is one.
 -- Source: HOL Light's goal stacks (tactics.ml); entries are this project's.
-use Rattle.std.specs.Prelude.{ℕ, List, [], ◌∷◌, Option, Some, None}
+use Rattle.std.specs.Prelude.{ℕ, List, [], Option, Some, None}
 use Rattle.hol_terms.specs.Nameless.{Nameless}
 use Rattle.hol_kernel.specs.Items.{Items}
 use Rattle.hol_exec.specs.Goal.{GoalValue}

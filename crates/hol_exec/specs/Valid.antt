@@ -1,12 +1,13 @@
 -- What only private clauses speak of: what is true of every open proof, and what makes an outcome a valid one.
 -- Source of validity: LNCS 78: from theorems that achieve the goals left, a theorem is had that achieves the goal.
-use Rattle.std.specs.Prelude.{◌≡◌, ◌⊎◌, [], ◌∷◌, true, Some}
+use Rattle.std.specs.Prelude.{◌≡◌, ◌⊎◌, List, [], ◌∷◌, true, Some}
 use Rattle.hol_terms.specs.Nameless.{Nameless}
 use Rattle.hol_terms.specs.Alpha.{alpha_eq}
 use Rattle.hol_kernel.specs.Items.{Items, no_items}
 use Rattle.hol_kernel.specs.Typing.{HasType}
 use Rattle.hol_formulas.specs.Equation.{bool_type, Sides, dest_eq}
-use Rattle.hol_exec.specs.StateValue.{ProofValue}
+use Rattle.hol_exec.specs.Entry.{EachIsEntry}
+use Rattle.hol_exec.specs.StateValue.{StepValue, ProofValue}
 use Rattle.hol_exec.specs.ReadsValue.{ClosingValue}
 use Rattle.hol_exec.specs.OutcomeValue.{OutcomeValue, Opens, Leaves, Makes, Refuses}
 
@@ -20,20 +21,28 @@ pub record IsReflexive (t : Nameless) : Type 0 where
   pub equates : dest_eq t ≡ Some sides
   pub same : alpha_eq sides.left sides.right ≡ true
 
--- An opened statement is well typed. A step of today's only TAC closes its goal by reflexivity, and resolves nothing that rests on items.
+-- An opened statement is well typed. A step of today's only TAC closes its goal by reflexivity, and resolves nothing that rests on items. What is
+-- made are entries.
 abbrev pub IsValid : OutcomeValue → Type 0
 IsValid (Opens name statement basis) = IsStatement basis statement
 IsValid (Leaves goal goals basis) = (goals ≡ []) × (basis ≡ no_items) × IsReflexive goal.conclusion
-IsValid (Makes entries) = Unit {0}
+IsValid (Makes entries) = EachIsEntry entries
 IsValid (Refuses kind arg) = Unit {0}
 
--- The statement is well typed over the proof's basis, and is the one open goal or is proved by reflexivity.
-pub record IsSoundProof (p : ProofValue) : Type 0 where
-  pub statement : IsStatement p.newest.basis p.statement
-  pub goals : (p.newest.goals ≡ record { assumptions = []; conclusion = p.statement } ∷ [])
-      ⊎ ((p.newest.goals ≡ []) × IsReflexive p.statement)
+-- At an element of the history the statement is well typed over the basis, and is the one open goal or is proved by reflexivity.
+pub record IsSoundStep (statement : Nameless) (s : StepValue) : Type 0 where
+  pub typed : IsStatement s.basis statement
+  pub goals : (s.goals ≡ record { assumptions = []; conclusion = statement } ∷ []) ⊎ ((s.goals ≡ []) × IsReflexive statement)
 
--- the same where `qed` reads it
+abbrev pub AreSoundSteps : Nameless → List StepValue → Type 0
+AreSoundSteps statement [] = Unit {0}
+AreSoundSteps statement (s ∷ steps) = IsSoundStep statement s × AreSoundSteps statement steps
+
+pub record IsSoundProof (p : ProofValue) : Type 0 where
+  pub newest : IsSoundStep p.statement p.newest
+  pub earlier : AreSoundSteps p.statement p.earlier
+
+-- the same of what `qed` reads
 pub record IsSoundClosing (c : ClosingValue) : Type 0 where
   pub statement : IsStatement c.basis c.statement
   pub closed : c.open_goals ≡ 0 → IsReflexive c.statement

@@ -2,10 +2,11 @@
 ghost use Rattle.std.specs.Prelude.{◌≡◌, [], IfOk, IfSome, IsSome, Some};
 ghost use Rattle.hol_terms.specs.Nameless.{nameless};
 ghost use Rattle.hol_formulas.specs.Equation.{equation};
+ghost use Rattle.hol_kernel.specs.Sequent.{no_hyps};
+ghost use Rattle.hol_kernel.specs.Theorem.{theorem_over};
 ghost use Rattle.hol_kernel.specs.Typing.{type_over};
 ghost use Rattle.hol_exec.specs.ReadsValue.{ClosingValue, closing_of};
 ghost use Rattle.hol_exec.specs.Valid.{IsSoundClosing};
-ghost use Rattle.hol_exec.specs.Local.{proved};
 
 use crate::proof::Proof;
 use crate::same::{Same, same_basis};
@@ -110,7 +111,7 @@ impl Closing {
     /// The theorem of the statement, without hypotheses, on the proof's basis.
     pub(crate) fn theorem(&self, alloc: Global) -> Result<Thm, AllocError>
         requires { self.now.open_goals ≡ 0 }
-        ensures { IfOk result (λ th. th ≡ proved self.now.basis self.now.statement) }
+        ensures { IfOk result (λ th. th ≡ theorem_over self.now.basis no_hyps self.now.statement) }
     {
         self.promise();
         let Some(sides) = dest_eq(self.statement()) else {
@@ -137,7 +138,7 @@ impl Closing {
 // `t = t` for a term that is well typed over the basis.
 fn reflexive(alloc: Global, basis: &Basis, t: &Term) -> Result<Thm, AllocError>
     requires { IsSome (type_over basis.now (nameless [] t.now)) }
-    ensures { IfOk result (λ th. IfSome (type_over basis.now (nameless [] t.now)) (λ a. th ≡ proved basis.now (equation a (nameless [] t.now) (nameless [] t.now)))) }
+    ensures { IfOk result (λ th. IfSome (type_over basis.now (nameless [] t.now)) (λ a. th ≡ theorem_over basis.now no_hyps (equation a (nameless [] t.now) (nameless [] t.now)))) }
 {
     match Thm::refl(alloc, basis, t) {
         Ok(theorem) => Ok(theorem),

@@ -1,7 +1,6 @@
 //! Entries of theories.
 ghost use Rattle.std.specs.Prelude.{◌≡◌, IfOk};
-ghost use Rattle.hol_exec.specs.Key.{KeyValue};
-ghost use Rattle.hol_exec.specs.Entry.{EntryValue, ATheorem, IsEntry, EachIsEntry};
+ghost use Rattle.hol_exec.specs.Entry.{ATheorem};
 ghost use Rattle.hol_exec.specs.EntryView.{entry_of_node};
 
 use crate::key::Key;
@@ -61,15 +60,6 @@ impl Entry {
             }),
         }
     }
-
-    /// The theorem of an entry has a derivation over its basis, which is legal.
-    pub fn promise(&self)
-        ensures { IsEntry self.now }
-    {
-        match &self.node {
-            EntryNode::Theorem(theorem) => theorem.promise(),
-        }
-    }
 }
 
 /// Entries with their keys, as a command makes them.
@@ -84,13 +74,4 @@ pub(crate) fn copies(alloc: Global, entries: &[(Key, Entry)]) -> Result<Made, Al
         copied.push((entry.0.copy(alloc)?, entry.1.copy()?))?;
     }
     Ok(copied)
-}
-
-/// Each of the entries keeps its promise.
-pub(crate) fn promise_each(entries: &[(Key, Entry)])
-    ensures { EachIsEntry entries.now }
-{
-    for entry in entries {
-        entry.1.promise();
-    }
 }

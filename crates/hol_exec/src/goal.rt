@@ -10,7 +10,7 @@ use std::marker::Model;
 
 /// A goal: its assumptions, the newest first, and its conclusion.
 #[derive(Drop)]
-pub struct Goal {
+pub(crate) struct Goal {
     assumptions: Vec<Term>,
     conclusion: Term,
 }
@@ -36,7 +36,7 @@ impl Same for Goal {
 
 impl Goal {
     /// The goal of these assumptions, the newest first, and this conclusion.
-    pub fn new(assumptions: Vec<Term>, conclusion: Term) -> Goal
+    pub(crate) fn new(assumptions: Vec<Term>, conclusion: Term) -> Goal
         ensures { result ≡ record { assumptions = map (nameless []) assumptions.items; conclusion = nameless [] conclusion } }
     {
         Goal {
@@ -46,21 +46,21 @@ impl Goal {
     }
 
     /// The assumptions, the newest first.
-    pub fn assumptions(&self) -> &[Term]
+    pub(crate) fn assumptions(&self) -> &[Term]
         ensures { map (nameless []) result.now ≡ self.now.assumptions }
     {
         self.assumptions.as_slice()
     }
 
     /// The conclusion.
-    pub fn conclusion(&self) -> &Term
+    pub(crate) fn conclusion(&self) -> &Term
         ensures { nameless [] result.now ≡ self.now.conclusion }
     {
         &self.conclusion
     }
 
     /// An equal goal.
-    pub fn copy(&self, alloc: Global) -> Result<Goal, AllocError>
+    pub(crate) fn copy(&self, alloc: Global) -> Result<Goal, AllocError>
         ensures { IfOk result (λ g. g ≡ self.now) }
     {
         let assumptions = term_copies(alloc, self.assumptions.as_slice())?;
@@ -92,7 +92,11 @@ pub(crate) fn copies(alloc: Global, goals: &[Goal]) -> Result<Vec<Goal>, AllocEr
 }
 
 /// Puts copies of the goals at the end.
-pub(crate) fn add_copies(alloc: Global, to: &mut Vec<Goal>, goals: &[Goal]) -> Result<(), AllocError>
+pub(crate) fn add_copies(
+    alloc: Global,
+    to: &mut Vec<Goal>,
+    goals: &[Goal],
+) -> Result<(), AllocError>
     ensures { OnOk result (to.new.items ≡ to.old.items ++ goals.now) }
 {
     for goal in goals {

@@ -55,6 +55,7 @@ fn add_term(alloc: Global, keys: &mut Vec<Key>, term: &PreTerm) -> Result<(), Al
             add_term(alloc, keys, argument)
         }
         PreTermNode::Abstraction(variable, body) => {
+            keys.push(Key::new(alloc, Kind::Constant, variable.name.as_str())?)?;
             add_annotation(alloc, keys, &variable.annotation)?;
             add_term(alloc, keys, body)
         }

@@ -5,7 +5,7 @@ ghost use Rattle.hol_exec.specs.Parsed.{LocalText, ParsedValue, IsParsed};
 ghost use Rattle.hol_exec.specs.StateValue.{StateValue, EndedTheory};
 ghost use Rattle.hol_exec.specs.OutcomeValue.{OutcomeValue};
 ghost use Rattle.hol_exec.specs.ReadsValue.{ReadsValue};
-ghost use Rattle.hol_exec.specs.Local.{IsLocal};
+ghost use Rattle.hol_exec.specs.Local.{IsLocalOutcome};
 ghost use Rattle.hol_exec.specs.At.{IsOutcome};
 
 /// A text is at most one thing to the engine.
@@ -15,6 +15,6 @@ pub fn one_text()
 
 /// A command has at most one outcome from what it reads, and what a text is has at most one at a state.
 pub fn one_outcome()
-    ensures local { (setup : SetupValue) (command : LocalText) (reads : ReadsValue) (a b : OutcomeValue) → IsLocal setup command reads a → IsLocal setup command reads b → a ≡ b }
+    ensures local { (setup : SetupValue) (command : LocalText) (reads : ReadsValue) (a b : OutcomeValue) → IsLocalOutcome setup command reads a → IsLocalOutcome setup command reads b → a ≡ b }
     ensures at_state { (setup : SetupValue) (earlier : List EndedTheory) (s : StateValue) (value : ParsedValue) (a b : OutcomeValue) → IsOutcome setup earlier s value a → IsOutcome setup earlier s value b → a ≡ b }
 {}

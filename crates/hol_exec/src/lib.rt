@@ -6,6 +6,7 @@
 mod closing;
 mod direct_outcome;
 mod entry;
+mod expr;
 mod goal;
 mod key;
 mod keys;
@@ -22,6 +23,7 @@ mod reporting;
 mod run;
 mod same;
 mod setup;
+mod standing;
 mod state;
 mod tac;
 

@@ -1,11 +1,12 @@
 //! What a command does to a state.
 ghost use Rattle.std.specs.Prelude.{◌≡◌, ◌↔◌, IsTrue, IfOk, string_bytes, []};
 ghost use Rattle.hol_terms.specs.Nameless.{nameless};
+ghost use Rattle.hol_exec.specs.Entry.{EachIsEntry};
 ghost use Rattle.hol_exec.specs.OutcomeValue.{OutcomeValue, Opens, Leaves, Makes, Refuses, MakesTheorems};
 ghost use Rattle.hol_exec.specs.OutcomeView.{outcome_of};
 ghost use Rattle.hol_exec.specs.Valid.{IsStatement, IsValid};
 
-use crate::entry::{Entry, Made, copies, promise_each};
+use crate::entry::{Entry, Made, copies};
 use crate::goal::{Goal, copies as goal_copies};
 use crate::key::Key;
 use crate::refusal::RefusalKind;
@@ -69,6 +70,7 @@ impl Outcome {
     }
 
     pub(crate) fn makes(entries: Made) -> Outcome
+        requires { EachIsEntry entries.items }
         ensures { result ≡ Makes entries.items }
     {
         Outcome {
@@ -91,14 +93,12 @@ impl Outcome {
         &self.change
     }
 
-    /// The theorems that it makes have derivations over their bases, which are legal.
+    /// What it makes are theorems under theorems' keys, without hypotheses, that have derivations over their bases, which are legal.
+    #[tactic(auto, using(crate::proofs::Outcomes::makes_theorems))]
     pub fn promise(&self)
         ensures { MakesTheorems self.now }
     {
-        match &self.change {
-            Change::Makes(entries) => promise_each(entries),
-            Change::Opens(_, _, _) | Change::Leaves(_, _, _) | Change::Refuses(_, _) => {}
-        }
+        let _ = self.change();
     }
 
     /// Whether both are the same: terms with their base names, and theorems with their bases.

@@ -1,20 +1,20 @@
-//! What a quotation reads as where a statement is wanted.
+//! What a term as it is written reads as.
 ghost use Rattle.std.specs.Prelude.{◌≡◌, IfOk, []};
 ghost use Rattle.hol_terms.specs.Nameless.{nameless, nameless_type};
 ghost use Rattle.hol_formulas.specs.Equation.{bool_type};
 ghost use Rattle.hol_kernel.specs.Typing.{is_type_at};
 ghost use Rattle.hol_exec.specs.Lookups.{lookups_of};
-ghost use Rattle.hol_exec.specs.Reading.{IsReadAs};
+ghost use Rattle.hol_exec.specs.Reading.{IsTermReadAs};
 ghost use Rattle.hol_exec.specs.ReadingView.{reading_value};
 
-use hol_infer::{ReadingError, elaborate};
 use hol_formulas::is_bool;
+use hol_infer::{ReadingError, elaborate};
 use hol_kernel::{prelude_constants, prelude_types};
 use hol_notation_terms::PreTerm;
 use hol_terms::Term;
 use std::alloc::{AllocError, Global};
 
-/// What a quotation reads as where a statement is wanted.
+/// What a term reads as.
 #[derive(Drop)]
 pub(crate) enum Reading {
     /// A type constructor has another number of arguments than its arity.
@@ -23,26 +23,18 @@ pub(crate) enum Reading {
     NoTyping,
     /// Its reading has over 20,000 nodes.
     LargeReading,
-    /// Its reading is of another type than `bool`.
-    NotBool,
-    /// A statement.
-    Statement(Term),
+    /// Its reading.
+    ReadsAs(Term),
 }
 
 /// What the term reads as, the prelude's constants and types standing.
-pub(crate) fn read_statement(alloc: Global, written: &PreTerm) -> Result<Reading, AllocError>
-    ensures { IfOk result (λ reading. IsReadAs (lookups_of []) written.now (reading_value reading)) }
+pub(crate) fn read_term(alloc: Global, written: &PreTerm) -> Result<Reading, AllocError>
+    ensures { IfOk result (λ reading. IsTermReadAs (lookups_of []) written.now (reading_value reading)) }
 {
     let constants = prelude_constants(alloc)?;
     let arities = prelude_types(alloc)?;
     match elaborate(alloc, written, &constants, &arities) {
-        Ok(term) => {
-            if is_statement(&term) {
-                Ok(Reading::Statement(term))
-            } else {
-                Ok(Reading::NotBool)
-            }
-        }
+        Ok(term) => Ok(Reading::ReadsAs(term)),
         Err(ReadingError::Arity) => Ok(Reading::WrongArity),
         Err(ReadingError::Untypable) => Ok(Reading::NoTyping),
         Err(ReadingError::TooLarge) => Ok(Reading::LargeReading),
@@ -50,9 +42,9 @@ pub(crate) fn read_statement(alloc: Global, written: &PreTerm) -> Result<Reading
     }
 }
 
-// Whether the term is of type `bool`.
+/// Whether the term is of type `bool`.
 #[tactic(auto, using(hol_terms::proofs::Typing::type_outside))]
-fn is_statement(term: &Term) -> bool
+pub(crate) fn is_statement(term: &Term) -> bool
     ensures { result ≡ is_type_at (nameless_type [] (nameless [] term.now)) bool_type }
 {
     is_bool(term.type_of())

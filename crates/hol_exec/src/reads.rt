@@ -1,7 +1,9 @@
 //! What a command reads of a state.
-ghost use Rattle.std.specs.Prelude.{◌≡◌, ◌↔◌, IsTrue, IfOk, option_copied};
+ghost use Rattle.std.specs.Prelude.{◌≡◌, ◌↔◌, [], IsTrue, IfOk, map, option_copied};
+ghost use Rattle.std.specs.List.{list_any};
 ghost use Rattle.hol_exec.specs.Entry.{entry_at};
-ghost use Rattle.hol_exec.specs.Local.{first_taken, first_unknown};
+ghost use Rattle.hol_exec.specs.Key.{key_eq};
+ghost use Rattle.hol_exec.specs.Standing.{first_taken, first_unknown};
 ghost use Rattle.hol_exec.specs.ParsedView.{local_text};
 ghost use Rattle.hol_exec.specs.SameReads.{same_reads};
 ghost use Rattle.hol_exec.specs.ReadsValue.{ReadsValue, values_of, goal_for, closing_for, reads_of};
@@ -9,10 +11,11 @@ ghost use Rattle.hol_exec.specs.ReadsValue.{ReadsValue, values_of, goal_for, clo
 use crate::closing::Closing;
 use crate::entry::Entry;
 use crate::goal::Goal;
-use crate::key::{Key, Kind};
+use crate::key::Key;
 use crate::keys::{cited_keys, made_keys};
 use crate::parsed::LocalCommand;
 use crate::same::{same_each, same_options};
+use crate::standing::{is_standing, is_unknown};
 use crate::state::State;
 use std::alloc::{AllocError, Global};
 use std::hash::{Hash, Hasher};
@@ -92,24 +95,24 @@ impl Reads {
         })
     }
 
-    /// The first theorem's name that is cited and under which nothing stands.
+    /// The name of the first theorem that is cited and unknown.
     pub(crate) fn first_unknown(&self) -> Option<&str>
         ensures { option_copied result ≡ first_unknown self.now.cited }
     {
         for value in &self.cited {
-            if let (Kind::Theorem, None) = (value.0.kind(), &value.1) {
+            if is_unknown(value.0.kind(), is_standing(&value.0, &value.1)) {
                 return Some(value.0.name());
             }
         }
         None
     }
 
-    /// The first key that the command makes and under which something stands.
+    /// The first key that the command makes under which something stands, or which it makes twice.
     pub(crate) fn first_taken(&self) -> Option<&Key>
-        ensures { option_copied result ≡ first_taken self.now.made }
+        ensures { option_copied result ≡ first_taken [] self.now.made }
     {
-        for value in &self.made {
-            if value.1.is_some() {
+        for (i, value) in self.made.iter().enumerate() {
+            if is_standing(&value.0, &value.1) || has_key(&self.made[..i], &value.0) {
                 return Some(&value.0);
             }
         }
@@ -177,6 +180,18 @@ impl Reads {
             closing,
         })
     }
+}
+
+// Whether the key is one of those of the values.
+fn has_key(values: &[(Key, Option<Entry>)], key: &Key) -> bool
+    ensures { result ≡ list_any (key_eq key.now) (map (λ value. value.0) values.now) }
+{
+    for value in values {
+        if *key == value.0 {
+            return true;
+        }
+    }
+    false
 }
 
 // The keys, each with what stands under it, if anything does.

@@ -19,7 +19,7 @@ pub enum RefusalKind {
     NotBool,
     /// A type constructor has another number of arguments than its arity.
     Arity,
-    /// The name of what the command makes stands already.
+    /// The name of what the command makes stands already, or is made twice.
     NameTaken,
     /// The term that is read has over 20,000 nodes.
     TooLarge,
@@ -27,6 +27,8 @@ pub enum RefusalKind {
     NoGoalOpen,
     /// The TAC doesn't fit the goal.
     Refused,
+    /// A command has no turn left to go on with.
+    TurnLimit,
     /// A proof is finished only where no goal is open.
     GoalsRemain,
 }
@@ -52,6 +54,7 @@ impl RefusalKind {
             RefusalKind::TooLarge => 13,
             RefusalKind::NoGoalOpen => 16,
             RefusalKind::Refused => 17,
+            RefusalKind::TurnLimit => 18,
             RefusalKind::GoalsRemain => 19,
         }
     }
@@ -73,6 +76,7 @@ impl RefusalKind {
             RefusalKind::TooLarge => "too large",
             RefusalKind::NoGoalOpen => "no goal open",
             RefusalKind::Refused => "refused",
+            RefusalKind::TurnLimit => "turn limit",
             RefusalKind::GoalsRemain => "goals remain",
         }
     }

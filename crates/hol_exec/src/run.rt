@@ -1,25 +1,24 @@
 //! The outcome of a command from what it reads.
-ghost use Rattle.std.specs.Prelude.{◌≡◌, ℕ, IfOk, decimal, []};
+ghost use Rattle.std.specs.Prelude.{◌≡◌, IfOk, decimal, [], true};
 ghost use Rattle.hol_terms.specs.Nameless.{nameless};
 ghost use Rattle.hol_kernel.specs.Items.{no_items};
+ghost use Rattle.hol_kernel.specs.Typing.{is_known};
 ghost use Rattle.hol_exec.specs.ParsedView.{local_text};
 ghost use Rattle.hol_exec.specs.SetupView.{setup_value};
-ghost use Rattle.hol_exec.specs.TacView.{args_value};
-ghost use Rattle.hol_exec.specs.Key.{key_text};
-ghost use Rattle.hol_exec.specs.Local.{IsLocal, IsOpening, IsApplying, opens, first_taken, applied, finishes, finished};
+ghost use Rattle.hol_exec.specs.ExprView.{expr_value};
+ghost use Rattle.hol_exec.specs.Local.{IsLocalOutcome, IsOpening, IsApplying, opens_term, applied, finishes, finished};
 ghost use Rattle.hol_exec.specs.OutcomeValue.{Refuses};
-ghost use Rattle.hol_exec.specs.Valid.{IsStatement};
 
 use crate::closing::Closing;
 use crate::entry::Entry;
+use crate::expr::{Expr, Resolution, Run, resolve, run_expr};
 use crate::key::{Key, Kind};
 use crate::outcome::Outcome;
 use crate::parsed::LocalCommand;
-use crate::reading::{Reading, read_statement};
+use crate::reading::{Reading, is_statement, read_term};
 use crate::reads::Reads;
 use crate::refusal::RefusalKind;
-use crate::setup::Setup;
-use crate::tac::{Answer, TacArgs, TacCode, resolve_call, tac};
+use crate::setup::{Setup, turns_of};
 use hol_kernel::Basis;
 use hol_notation_tactics::TacCall;
 use hol_notation_terms::Quotation;
@@ -33,7 +32,7 @@ pub fn run_local(
     command: &LocalCommand,
     reads: &Reads,
 ) -> Result<Outcome, AllocError>
-    ensures { IfOk result (λ outcome. IsLocal (setup_value setup.now) (local_text command.now) reads.now outcome) }
+    ensures { IfOk result (λ outcome. IsLocalOutcome (setup_value setup.now) (local_text command.now) reads.now outcome) }
 {
     match command {
         LocalCommand::Goal { name, quotation } => {
@@ -62,15 +61,7 @@ pub(crate) fn refused_at(
     Ok(Outcome::refuses(kind, place.to_string(alloc)?))
 }
 
-// A refusal that speaks of a name.
-fn refused_for(alloc: Global, kind: RefusalKind, name: &str) -> Result<Outcome, AllocError>
-    ensures { IfOk result (λ outcome. outcome ≡ Refuses kind name.now) }
-{
-    Ok(Outcome::refuses(kind, String::from_str(alloc, name)?))
-}
-
-// `g`: in a proof; arity; untypable; too large; not bool; name taken.
-#[tactic(auto, using(crate::proofs::Runs::opens_statement))]
+// `g`: in a proof; arity; untypable; too large; then what is read.
 fn open_goal(
     alloc: Global,
     name: &str,
@@ -82,34 +73,37 @@ fn open_goal(
     if reads.in_proof() {
         return Ok(refused(alloc, RefusalKind::InProof));
     }
-    match read_statement(alloc, &quotation.term)? {
+    match read_term(alloc, &quotation.term)? {
         Reading::WrongArity => refused_at(alloc, RefusalKind::Arity, quotation.place),
         Reading::NoTyping => refused_at(alloc, RefusalKind::Untypable, quotation.place),
         Reading::LargeReading => Ok(refused(alloc, RefusalKind::TooLarge)),
-        Reading::NotBool => refused_at(alloc, RefusalKind::NotBool, quotation.place),
-        Reading::Statement(statement) => open_statement(alloc, name, statement, reads),
+        Reading::ReadsAs(term) => open_term(alloc, name, quotation.place, term, reads),
     }
 }
 
-// A goal that reads as a statement: name taken. Nothing that it resolves rests on items.
-fn open_statement(
+// A goal that reads as a term: not bool; name taken. Nothing that it resolves rests on items.
+#[tactic(auto, using(crate::proofs::PreludeStands::no_basis, crate::proofs::Statements::statement_typed))]
+fn open_term(
     alloc: Global,
     name: &str,
-    statement: Term,
+    place: usize,
+    term: Term,
     reads: &Reads,
 ) -> Result<Outcome, AllocError>
-    requires { IsStatement no_items (nameless [] statement) }
-    ensures { IfOk result (λ outcome. outcome ≡ opens name.now (nameless [] statement) no_items (first_taken reads.now.made)) }
+    requires { is_known no_items (nameless [] term) ≡ true }
+    ensures { IfOk result (λ outcome. outcome ≡ opens_term name.now place reads.now (nameless [] term)) }
 {
+    if !is_statement(&term) {
+        return refused_at(alloc, RefusalKind::NotBool, place);
+    }
     if let Some(key) = reads.first_taken() {
         return Ok(Outcome::refuses(RefusalKind::NameTaken, key.text(alloc)?));
     }
     let name = String::from_str(alloc, name)?;
-    Ok(Outcome::opens(name, statement, Basis::empty(alloc)?))
+    Ok(Outcome::opens(name, term, Basis::empty(alloc)?))
 }
 
-// `e`: no proof open; unknown theorem; unknown TAC or wrong arguments; then the run.
-#[tactic(auto, using(crate::proofs::Runs::unknown_theorem, crate::proofs::Runs::unknown_tac))]
+// `e`: no proof open; then what resolving refuses; then the run.
 fn apply_call(
     alloc: Global,
     setup: &Setup,
@@ -121,35 +115,30 @@ fn apply_call(
     if !reads.in_proof() {
         return Ok(refused(alloc, RefusalKind::NoProofOpen));
     }
-    if let Some(unknown) = reads.first_unknown() {
-        return refused_for(alloc, RefusalKind::UnknownTheorem, unknown);
-    }
-    let name = call.name.as_str();
-    match resolve_call(setup, call) {
-        Some(called) => run_tac(alloc, name, called.code(), TacArgs::Nothing, reads),
-        None => refused_for(alloc, RefusalKind::UnknownTac, name),
+    match resolve(alloc, setup, call, reads)? {
+        Resolution::Resolved(expr, basis) => applied(alloc, reads, turns_of(setup), &expr, basis),
+        Resolution::Unresolved(kind, arg) => Ok(Outcome::refuses(kind, arg)),
     }
 }
 
-// A resolved TAC: no goal open; refused. Nothing that it resolved rests on items.
-fn run_tac(
+// A resolved expression: no goal open; refused; turn limit.
+fn applied(
     alloc: Global,
-    name: &str,
-    code: TacCode,
-    args: TacArgs,
     reads: &Reads,
+    turns: u32,
+    expr: &Expr,
+    basis: Basis,
 ) -> Result<Outcome, AllocError>
-    ensures { (turns : ℕ) → IfOk result (λ outcome. outcome ≡ applied reads.now.goal turns (record { name = name.now; code = code; args = args_value args; basis = no_items })) }
+    requires { basis ≡ no_items }
+    ensures { IfOk result (λ outcome. outcome ≡ applied reads.now.goal turns (expr_value expr.now) basis) }
 {
     let Some(goal) = reads.goal() else {
         return Ok(refused(alloc, RefusalKind::NoGoalOpen));
     };
-    match tac(alloc, code, args, goal) {
-        Answer::Left(goals) => {
-            let goal = goal.copy(alloc)?;
-            Ok(Outcome::leaves(goal, goals, Basis::empty(alloc)?))
-        }
-        Answer::Unfit => refused_for(alloc, RefusalKind::Refused, name),
+    match run_expr(alloc, expr, goal, turns)? {
+        Run::Leaving(goals, _) => Ok(Outcome::leaves(goal.copy(alloc)?, goals, basis)),
+        Run::RefusedBy(name, _) => Ok(Outcome::refuses(RefusalKind::Refused, name)),
+        Run::OutOfTurns => Ok(refused(alloc, RefusalKind::TurnLimit)),
     }
 }
 
@@ -171,6 +160,7 @@ fn finished(alloc: Global, closing: &Closing) -> Result<Outcome, AllocError>
     ensures { IfOk result (λ outcome. outcome ≡ finished closing.now) }
 {
     let theorem = closing.theorem(alloc)?;
+    theorem.promise();
     let key = Key::new(alloc, Kind::Theorem, closing.name())?;
     let mut entries = Vec::new(alloc);
     entries.push((key, Entry::theorem(theorem)))?;

@@ -20,6 +20,13 @@ pub fn set_up(table: Vec<(String, TacCode)>, turns: u32) -> Setup
     Setup { table, turns }
 }
 
+/// The number of turns that a command has.
+pub(crate) fn turns_of(setup: &Setup) -> u32
+    ensures { result ≡ (setup_value setup.now).turns }
+{
+    setup.turns
+}
+
 /// The code that is registered under the name: that of the first row of the name.
 pub(crate) fn code_of(setup: &Setup, name: &str) -> Option<TacCode>
     ensures { result ≡ lookup (bytes_eq name.now) (setup_value setup.now).table }

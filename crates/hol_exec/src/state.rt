@@ -26,6 +26,7 @@ pub struct State {
 impl Model for State {
     ghost use Rattle.indexmap.specs.IndexMap.{IsUnique};
     ghost use Rattle.hol_exec.specs.Key.{key_eq};
+    ghost use Rattle.hol_exec.specs.Entry.{EachIsEntry};
     ghost use Rattle.hol_exec.specs.StateValue.{StateValue};
     ghost use Rattle.hol_exec.specs.Codes.{coded_state};
 
@@ -35,7 +36,7 @@ impl Model for State {
 
     ghost view = { λ s. record { entries = s.entries.entries; proof = s.proof } };
 
-    ghost invariant = { λ s. IsUnique key_eq s.entries };
+    ghost invariant = { λ s. IsUnique key_eq s.entries × EachIsEntry s.entries.entries };
 }
 
 impl State {
@@ -73,13 +74,11 @@ impl State {
         }
     }
 
-    /// Each theorem of its entries has a derivation over its basis, which is legal.
+    /// Each of its entries is a theorem under a theorem's key, without hypotheses, that has a derivation over its basis, which is legal.
     pub fn promise(&self)
         ensures { EachIsEntry self.now.entries }
     {
-        for (_, entry) in &self.entries {
-            entry.promise();
-        }
+        let _ = &self.entries;
     }
 
     /// The statement of the open proof is a well typed term of type `bool`, and is the one open goal or is proved by reflexivity.
@@ -114,6 +113,7 @@ impl State {
 
     /// Makes the entries and drops the proof.
     pub(crate) fn make(&mut self, alloc: Global, entries: &[(Key, Entry)]) -> Result<(), AllocError>
+        requires { EachIsEntry entries.now }
         ensures ok { OnOk result (self.new ≡ record { entries = insert_all key_eq self.old.entries entries.now; proof = None }) }
         ensures err { OnErr result (self.new ≡ self.old) }
     {

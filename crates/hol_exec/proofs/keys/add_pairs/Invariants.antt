@@ -1,4 +1,4 @@
-use Rattle.std.proofs.Common.{◌≡◌, ◌++◌, drop, map}
+use Rattle.std.proofs.Common.{◌≡◌, ◌++◌, drop}
 use Rattle.hol_exec.specs.Keys.{keys_of_pairs}
 use Rattle.hol_exec.proofs.keys.add_pairs.Given as goal
 

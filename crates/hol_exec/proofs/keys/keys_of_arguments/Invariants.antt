@@ -1,4 +1,4 @@
-use Rattle.std.proofs.Common.{◌≡◌, ◌++◌, drop, map}
+use Rattle.std.proofs.Common.{◌≡◌, ◌++◌, drop}
 use Rattle.hol_exec.specs.Keys.{keys_of_arguments}
 use Rattle.hol_exec.proofs.keys.keys_of_arguments.Given as goal
 

@@ -1,5 +1,4 @@
-use Rattle.std.proofs.Common.{◌≡◌, sym, ◌∙◌, length, true, false, arith, refl, []}
-use Rattle.hol_terms.specs.Nameless.{nameless}
+use Rattle.std.proofs.Common.{◌≡◌, length, true, false, arith, refl}
 use Rattle.hol_kernel.specs.Sequent.{hyp_of}
 use Rattle.hol_exec.proofs.Comparing.{mapped_same, mapped_differ}
 use Rattle.hol_exec.proofs.same.alpha_equivalent_terms.Goals as goal

@@ -1,6 +1,5 @@
-use Rattle.std.proofs.Common.{◌≡◌, ℕ, ◌<◌, get_or, []}
+use Rattle.std.proofs.Common.{◌≡◌, ℕ, ◌<◌, get_or}
 use Rattle.hol_terms.specs.Named.{Named}
-use Rattle.hol_terms.specs.Nameless.{nameless}
 use Rattle.hol_kernel.specs.Sequent.{hyp_of}
 use Rattle.hol_exec.proofs.same.alpha_equivalent_terms.Given as goal
 

@@ -1,7 +1,6 @@
 use Rattle.std.proofs.Common.{◌≡◌, ℕ, ◌<◌, get_or, []}
 use Rattle.hol_terms.specs.Named.{Named}
 use Rattle.hol_terms.specs.Nameless.{nameless}
-use Rattle.hol_kernel.specs.Sequent.{hyp_of}
 use Rattle.hol_exec.proofs.same.same_terms.Given as goal
 
 abbrev pub invariant-loop-i : goal.invariant-loop-i

@@ -1,5 +1,5 @@
 use Rattle.std.proofs.Common.{◌≡◌, drop}
-use Rattle.hol_exec.specs.Local.{first_unknown}
+use Rattle.hol_exec.specs.Standing.{first_unknown}
 use Rattle.hol_exec.proofs.reads.Reads.first_unknown.Given as goal
 
 abbrev pub invariant-loop-value : goal.invariant-loop-value

@@ -7,13 +7,12 @@ use Rattle.std.proofs.lemmas.Slice.Eq.{bytes_eq-Decides}
 use Rattle.hol_types.specs.Tree.{TypeTree, TypeList, TyVar, TyApp, no_types, more_types}
 use Rattle.hol_types.specs.Subst.{type_subst}
 use Rattle.hol_terms.specs.Nameless.{Nameless, free, bound, fixed, app, lam, base_of}
-use Rattle.hol_kernel.specs.Items.{Items, no_items, in_order}
+use Rattle.hol_kernel.specs.Items.{no_items, in_order}
 use Rattle.hol_formulas.specs.Equation.{bool_type, equality_type}
 use Rattle.hol_kernel.specs.Signature.{makes_type, makes_constant, has_arity, has_constant}
 use Rattle.hol_formulas.specs.Constants.{prelude_types, prelude_constants, is_constructor, generic_in, is_instance_of}
-use Rattle.hol_kernel.specs.Typing.{types_count, is_type, are_types, is_known, HasType}
+use Rattle.hol_kernel.specs.Typing.{types_count, is_type, are_types, is_known}
 use Rattle.hol_formulas.proofs.Instance.{instance_of_subst}
-use Rattle.hol_kernel.proofs.Variables.{typed_known}
 use Rattle.hol_notation_terms.specs.Text.{TermText}
 use Rattle.hol_infer.specs.Resolving.{arity_of, generic_type_of}
 use Rattle.hol_infer.specs.Standing.{stands, all_stand, TermStands, AreStanding, types_count as count}
@@ -21,7 +20,7 @@ use Rattle.hol_infer.proofs.StandingLaws.{reading_stands}
 use Rattle.hol_exec.specs.Entry.{ATheorem}
 use Rattle.hol_exec.specs.ReadsValue.{Values}
 use Rattle.hol_exec.specs.Lookups.{cited_constants, cited_types, lookups_of, reading_basis}
-use Rattle.hol_exec.specs.Reading.{IsReadAs, Statement}
+use Rattle.hol_exec.specs.Reading.{ReadsAs, IsTermReadAs}
 
 abbrev takes : List ℕ → ℕ → Bool
 takes c n = has_arity no_items c n
@@ -109,11 +108,8 @@ known (fixed c s) h = λ i. (sym (type_same s) ∙ h.0) i && h.1 i
 known (app f x) h = λ i. known f h.0 i && known x h.1 i
 known (lam a s b) h = λ i. (bytes_eq-Decides (base_of a) a).1 h.0 i && ((sym (type_same s) ∙ h.1) i && known b h.2 i)
 
-pub statement_typed : (t : TermText) (p : Nameless) → IsReadAs (lookups_of []) t (Statement p) → HasType no_items p bool_type
-statement_typed t p h =
-    typed_known no_items p bool_type
-    (known p (reading_stands takes has prelude_types prelude_constants t p prelude_stands h.0.arities h.0.reading))
-    h.1
+pub reading_known : (t : TermText) (p : Nameless) → IsTermReadAs (lookups_of []) t (ReadsAs p) → is_known no_items p ≡ true
+reading_known t p h = known p (reading_stands takes has prelude_types prelude_constants t p prelude_stands h.0 h.1)
 
 -- ---- no entry adds to what stands
 

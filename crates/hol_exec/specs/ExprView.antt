@@ -1,0 +1,22 @@
+-- What the code's expressions, resolutions and runs stand for.
+use Rattle.std.specs.Prelude.{string_bytes}
+use Rattle.hol_exec.specs.declared.expr.Expr.{Expr}
+use Rattle.hol_exec.specs.declared.expr.Expr.TheVariants as expr
+use Rattle.hol_exec.specs.declared.expr.Resolution.{Resolution}
+use Rattle.hol_exec.specs.declared.expr.Resolution.TheVariants as resolution
+use Rattle.hol_exec.specs.declared.expr.Run.{Run}
+use Rattle.hol_exec.specs.declared.expr.Run.TheVariants as run
+use Rattle.hol_exec.specs.TacView.{args_value}
+use Rattle.hol_exec.specs.Expr.{ExprValue, Calls, ResolutionValue, Resolved, Unresolved, RunValue, Leaving, RefusedBy, OutOfTurns}
+
+abbrev pub expr_value : Expr → ExprValue
+expr_value (expr.Calls name code args) = Calls (string_bytes name) code (args_value args)
+
+abbrev pub resolution_value : Resolution → ResolutionValue
+resolution_value (resolution.Resolved e basis) = Resolved (expr_value e) basis
+resolution_value (resolution.Unresolved kind arg) = Unresolved kind (string_bytes arg)
+
+abbrev pub run_value : Run → RunValue
+run_value (run.Leaving goals turns) = Leaving goals.items turns
+run_value (run.RefusedBy name turns) = RefusedBy (string_bytes name) turns
+run_value run.OutOfTurns = OutOfTurns

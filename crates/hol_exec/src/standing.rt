@@ -1,0 +1,48 @@
+//! Under which keys something stands.
+ghost use Rattle.std.specs.Prelude.{◌≡◌};
+ghost use Rattle.hol_exec.specs.Standing.{in_prelude, is_standing, is_unknown};
+
+use crate::entry::Entry;
+use crate::key::{Key, Kind};
+
+// Whether the name is one of the prelude's of this kind.
+fn in_prelude(kind: Kind, name: &str) -> bool
+    ensures { result ≡ in_prelude kind name.now }
+{
+    match kind {
+        Kind::Type => matches!(name, "bool" | "fun" | "ind"),
+        Kind::Constant => matches!(
+            name,
+            "=" | "@"
+                | "T"
+                | "F"
+                | "/\\"
+                | "\\/"
+                | "==>"
+                | "~"
+                | "!"
+                | "?"
+                | "?!"
+                | "ONE_ONE"
+                | "ONTO"
+        ),
+        Kind::Theorem => false,
+    }
+}
+
+/// Whether something stands under the key, which has this value.
+pub(crate) fn is_standing(key: &Key, value: &Option<Entry>) -> bool
+    ensures { result ≡ is_standing key.now value.now }
+{
+    value.is_some() || in_prelude(key.kind(), key.name())
+}
+
+/// Whether a key of this kind is unknown. An identifier of a term or type under whose key nothing stands is a variable.
+pub(crate) fn is_unknown(kind: Kind, standing: bool) -> bool
+    ensures { result ≡ is_unknown kind standing }
+{
+    match kind {
+        Kind::Type | Kind::Constant => false,
+        Kind::Theorem => !standing,
+    }
+}
