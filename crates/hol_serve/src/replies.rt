@@ -1,5 +1,5 @@
 //! The replies that hold what the documents answered.
-#![tactic(auto, using(crate::proofs::Floats::no_float, crate::proofs::Floats::no_items_float), unfolding(serde_json::proofs::OnLiterals::serde_json_on_literals))]
+#![tactic(auto, unfolding(serde_json::proofs::OnLiterals::serde_json_on_literals))]
 
 ghost use Rattle.std.specs.Prelude.{◌≡◌, ◌∷◌, ◌++◌, [], IfOk, string_bytes, map, false};
 ghost use Rattle.serde_json.specs.View.{view, items_of};
