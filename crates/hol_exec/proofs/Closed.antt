@@ -1,5 +1,5 @@
 -- A statement that is an equation of terms equal up to bound names is what TRANS gives of the reflexivity of its sides.
-use Rattle.std.specs.Prelude.{◌≡◌, true, cond, ◌&&◌, [], codes, Option, Some, None, IsSome, IfSome, Err, refl}
+use Rattle.std.specs.Prelude.{◌≡◌, true, cond, ◌&&◌, [], codes, Some, None, IsSome, IfSome, refl}
 use Rattle.std.specs.FinSet as set
 use Rattle.std.proofs.Common.{ap, sym, ◌∙◌, subst}
 use Rattle.std.proofs.lemmas.Bool.{and_parts}
@@ -7,11 +7,6 @@ use Rattle.hol_types.specs.Tree.{TypeTree}
 use Rattle.hol_types.specs.Fun.{fun_type}
 use Rattle.hol_terms.specs.Nameless.{Nameless, fixed, app}
 use Rattle.hol_terms.specs.Alpha.{alpha_eq}
-use Rattle.hol_kernel.specs.declared.error.Rule.{Rule}
-use Rattle.hol_kernel.specs.declared.error.Rule.TheVariants.{Trans}
-use Rattle.hol_kernel.specs.declared.error.KernelError.{KernelError}
-use Rattle.hol_kernel.specs.declared.error.KernelError.TheVariants.{Refused}
-use Rattle.hol_kernel.specs.Gives.{Gives, in_kernel}
 use Rattle.hol_kernel.specs.Items.{Items}
 use Rattle.hol_kernel.specs.Sequent.{no_hyps, sequent_of}
 use Rattle.hol_formulas.specs.Equation.{bool_type, equality_type, equation, Sides, dest_eq}
