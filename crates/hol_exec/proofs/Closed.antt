@@ -1,5 +1,5 @@
 -- A statement that is an equation of terms equal up to bound names is what TRANS gives of the reflexivity of its sides.
-use Rattle.std.specs.Prelude.{◌≡◌, true, cond, ◌&&◌, [], codes, Option, Some, None, IsSome, IfSome, Err, refl}
+use Rattle.std.specs.Prelude.{◌≡◌, true, cond, ◌&&◌, [], codes, Some, None, IsSome, IfSome, refl}
 use Rattle.std.specs.FinSet as set
 use Rattle.std.proofs.Common.{ap, sym, ◌∙◌, subst}
 use Rattle.std.proofs.lemmas.Bool.{and_parts}
@@ -7,11 +7,6 @@ use Rattle.hol_types.specs.Tree.{TypeTree}
 use Rattle.hol_types.specs.Fun.{fun_type}
 use Rattle.hol_terms.specs.Nameless.{Nameless, fixed, app}
 use Rattle.hol_terms.specs.Alpha.{alpha_eq}
-use Rattle.hol_kernel.specs.declared.error.Rule.{Rule}
-use Rattle.hol_kernel.specs.declared.error.Rule.TheVariants.{Trans}
-use Rattle.hol_kernel.specs.declared.error.KernelError.{KernelError}
-use Rattle.hol_kernel.specs.declared.error.KernelError.TheVariants.{Refused}
-use Rattle.hol_kernel.specs.Gives.{Gives, in_kernel}
 use Rattle.hol_kernel.specs.Items.{Items}
 use Rattle.hol_kernel.specs.Sequent.{no_hyps, sequent_of}
 use Rattle.hol_formulas.specs.Equation.{bool_type, equality_type, equation, Sides, dest_eq}
@@ -83,10 +78,6 @@ left_typed basis own t x h p = let s : AreSides basis t x = are_sides basis t x 
 pub right_typed : (basis own : Items) (t : Nameless) (x : Sides) → Closes basis t x → own ≡ basis → type_over own x.right ≡ Some x.sides_type
 right_typed basis own t x h p = let s : AreSides basis t x = are_sides basis t x h.typed h.sides in rw p s.right
 
--- a refusal says that nothing is given
-pub refused_none : (expected : Option Theorem) (e : KernelError) (r : Rule) → e ≡ Refused r → Gives in_kernel Trans expected (Err e) → expected ≡ None
-refused_none expected e r f h = let g : (r ≡ Trans) × (expected ≡ None) = rw f at h in g.1
-
 -- ---- in the shape of the calls
 
 pub closes_by : (k : ClosingValue) → IsSoundClosing k → k.open_goals ≡ 0 → (t : Nameless) → t ≡ k.statement → (x : Sides) → dest_eq t ≡ Some x → Closes k.basis k.statement x
@@ -121,3 +112,11 @@ one_basis basis t x first second b = ap (λ th. th.basis) b.left ∙ sym (ap (λ
 
 pub gives_statement : (basis : Items) (t : Nameless) (x : Sides) (first second : Theorem) → AreReflexive basis t x first second → over first.basis (trans_of first.sequent second.sequent) ≡ Some (theorem_over basis no_hyps t)
 gives_statement basis t x first second b = (λ i. over (b.left i).basis (trans_of (b.left i).sequent (b.right i).sequent)) ∙ ap (over basis) (joined basis t x b.closes)
+
+pub is_chained : (basis : Items) (t : Nameless) (x : Sides) (first second : Theorem) → AreReflexive basis t x first second → IsSome (over first.basis (trans_of first.sequent second.sequent))
+is_chained basis t x first second b = rw (gives_statement basis t x first second b) refl
+
+pub chained_statement : (basis : Items) (t : Nameless) (x : Sides) (first second : Theorem) → AreReflexive basis t x first second → (th : Theorem) → over first.basis (trans_of first.sequent second.sequent) ≡ Some th → th ≡ theorem_over basis no_hyps t
+chained_statement basis t x first second b th e =
+    let same : Some th ≡ Some (theorem_over basis no_hyps t) = sym e ∙ gives_statement basis t x first second b in
+    cc

@@ -3,7 +3,8 @@ ghost use Rattle.std.specs.Prelude.{◌≡◌, [], IfOk, IfSome, IsSome, Some};
 ghost use Rattle.hol_terms.specs.Nameless.{nameless};
 ghost use Rattle.hol_formulas.specs.Equation.{equation};
 ghost use Rattle.hol_kernel.specs.Sequent.{no_hyps};
-ghost use Rattle.hol_kernel.specs.Theorem.{theorem_over};
+ghost use Rattle.hol_kernel.specs.Theorem.{theorem_over, over};
+ghost use Rattle.hol_kernel.specs.Rules.{trans_of};
 ghost use Rattle.hol_kernel.specs.Typing.{type_over};
 ghost use Rattle.hol_exec.specs.ReadsValue.{ClosingValue, closing_of};
 ghost use Rattle.hol_exec.specs.Valid.{IsSoundClosing};
@@ -119,12 +120,7 @@ impl Closing {
         };
         let first = reflexive(alloc, self.basis(), sides.left)?;
         let second = reflexive(alloc, self.basis(), sides.right)?;
-        match Thm::trans(alloc, &first, &second) {
-            Ok(theorem) => Ok(theorem),
-            Err(KernelError::Memory) => Err(AllocError),
-            Err(KernelError::Refused(_)) => unreachable!(),
-            Err(KernelError::Clash(_)) => unreachable!(),
-        }
+        chained(alloc, &first, &second)
     }
 
     /// The statement is a well typed term of type `bool`, and where no goal is open it is proved by reflexivity.
@@ -132,6 +128,20 @@ impl Closing {
         ensures { IsSoundClosing self.now }
     {
         let _ = &self.name;
+    }
+}
+
+// What TRANS gives of two theorems that it applies to.
+fn chained(alloc: Global, first: &Thm, second: &Thm) -> Result<Thm, AllocError>
+    requires one_basis { first.now.basis ≡ second.now.basis }
+    requires applies { IsSome (over first.now.basis (trans_of first.now.sequent second.now.sequent)) }
+    ensures { IfOk result (λ th. over first.now.basis (trans_of first.now.sequent second.now.sequent) ≡ Some th) }
+{
+    match Thm::trans(alloc, first, second) {
+        Ok(theorem) => Ok(theorem),
+        Err(KernelError::Memory) => Err(AllocError),
+        Err(KernelError::Refused(_)) => unreachable!(),
+        Err(KernelError::Clash(_)) => unreachable!(),
     }
 }
 

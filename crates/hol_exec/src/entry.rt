@@ -65,13 +65,19 @@ impl Entry {
 /// Entries with their keys, as a command makes them.
 pub(crate) type Made = Vec<(Key, Entry)>;
 
+fn pair_copy(alloc: Global, entry: &(Key, Entry)) -> Result<(Key, Entry), AllocError>
+    ensures { IfOk result (λ copied. copied ≡ entry.now) }
+{
+    Ok((entry.0.copy(alloc)?, entry.1.copy()?))
+}
+
 /// A copy of the entries with their keys.
 pub(crate) fn copies(alloc: Global, entries: &[(Key, Entry)]) -> Result<Made, AllocError>
     ensures { IfOk result (λ copied. copied.items ≡ entries.now) }
 {
     let mut copied = Vec::with_capacity(alloc, entries.len())?;
     for entry in entries {
-        copied.push((entry.0.copy(alloc)?, entry.1.copy()?))?;
+        copied.push(pair_copy(alloc, entry)?)?;
     }
     Ok(copied)
 }

@@ -6,8 +6,11 @@ ghost use Rattle.hol_kernel.specs.Typing.{is_known};
 ghost use Rattle.hol_exec.specs.ParsedView.{local_text};
 ghost use Rattle.hol_exec.specs.SetupView.{setup_value};
 ghost use Rattle.hol_exec.specs.ExprView.{expr_value};
-ghost use Rattle.hol_exec.specs.Local.{IsLocalOutcome, IsOpening, IsApplying, opens_term, applied, finishes, finished};
+ghost use Rattle.hol_exec.specs.Local.{IsLocalOutcome, IsOpening, IsApplying, opens, opens_term, applied, finishes, finished};
+ghost use Rattle.hol_exec.specs.Lookups.{reading_basis};
+ghost use Rattle.hol_exec.specs.Standing.{first_taken};
 ghost use Rattle.hol_exec.specs.OutcomeValue.{Refuses};
+ghost use Rattle.hol_exec.specs.Valid.{IsStatement};
 
 use crate::closing::Closing;
 use crate::entry::Entry;
@@ -81,8 +84,8 @@ fn open_goal(
     }
 }
 
-// A goal that reads as a term: not bool; name taken. Nothing that it resolves rests on items.
-#[tactic(auto, using(crate::proofs::PreludeStands::no_basis, crate::proofs::Statements::statement_typed))]
+// A goal that reads as a term: not bool; name taken.
+#[tactic(auto, using(crate::proofs::Statements::statement_typed))]
 fn open_term(
     alloc: Global,
     name: &str,
@@ -96,11 +99,25 @@ fn open_term(
     if !is_statement(&term) {
         return refused_at(alloc, RefusalKind::NotBool, place);
     }
+    open_statement(alloc, name, term, reads)
+}
+
+// A goal that reads as a statement: name taken. Nothing that it resolves rests on items.
+#[tactic(auto, using(crate::proofs::PreludeStands::no_basis))]
+fn open_statement(
+    alloc: Global,
+    name: &str,
+    statement: Term,
+    reads: &Reads,
+) -> Result<Outcome, AllocError>
+    requires { IsStatement no_items (nameless [] statement) }
+    ensures { IfOk result (λ outcome. outcome ≡ opens name.now (nameless [] statement) (reading_basis reads.now.cited (nameless [] statement)) (first_taken [] reads.now.made)) }
+{
     if let Some(key) = reads.first_taken() {
         return Ok(Outcome::refuses(RefusalKind::NameTaken, key.text(alloc)?));
     }
     let name = String::from_str(alloc, name)?;
-    Ok(Outcome::opens(name, term, Basis::empty(alloc)?))
+    Ok(Outcome::opens(name, statement, Basis::empty(alloc)?))
 }
 
 // `e`: no proof open; then what resolving refuses; then the run.

@@ -1,6 +1,6 @@
 //! The state of a theory while it is run.
-ghost use Rattle.std.specs.Prelude.{◌≡◌, OnOk, OnErr, IfSome, Some, None, [], option_copied};
-ghost use Rattle.indexmap.specs.IndexMap.{insert_all, IsUnique};
+ghost use Rattle.std.specs.Prelude.{◌≡◌, ◌<◌, ◌≤◌, ◌+◌, OnOk, OnErr, IfSome, Some, None, [], option_copied};
+ghost use Rattle.indexmap.specs.IndexMap.{insert_entry, insert_all, spare, IsUnique};
 ghost use Rattle.hol_kernel.specs.Items.{no_items};
 ghost use Rattle.hol_exec.specs.Key.{key_eq};
 ghost use Rattle.hol_exec.specs.Entry.{entry_at, EachIsEntry};
@@ -132,7 +132,20 @@ fn insert_each(entries: &mut IndexMap<Key, Entry>, made: Made) -> Result<(), All
 {
     entries.reserve(made.len())?;
     for (key, entry) in made {
-        entries.insert(key, entry)?;
+        insert_one(entries, key, entry);
     }
     Ok(())
+}
+
+// Inserts an entry where there is room for one.
+fn insert_one(entries: &mut IndexMap<Key, Entry>, key: Key, entry: Entry)
+    requires { 0 < spare entries.old }
+    ensures entries { entries.new.entries ≡ insert_entry key_eq entries.old.entries key entry }
+    ensures room { spare entries.old ≤ spare entries.new + 1 }
+    ensures unique { IsUnique key_eq entries.new }
+{
+    match entries.insert(key, entry) {
+        Ok(_) => {}
+        Err(_) => unreachable!(),
+    }
 }
