@@ -1,5 +1,6 @@
 //! What the identifiers of types and terms as they are written mean.
 ghost use Rattle.std.specs.Prelude.{◌≡◌, codes, IfOk, IfErr, IsOkUnless, MatchOption, Some, None, true, false};
+ghost use Rattle.hol_types.specs.Tree.{TyApp, type_list};
 ghost use Rattle.hol_types.specs.Fun.{fun_type};
 ghost use Rattle.hol_infer.specs.RawView.{raw_tree};
 ghost use Rattle.hol_infer.specs.NamesView.{scope_names};
@@ -140,6 +141,14 @@ fn ident_type(alloc: Global, arities: &[(Name, usize)], name: &str) -> Result<Ty
     }
 }
 
+// The constructor of the name applied to the types.
+fn constructed(alloc: Global, constructor: &str, types: &[Ty]) -> Result<Ty, AllocError>
+    ensures { IfOk result (λ t. t ≡ TyApp constructor.now (type_list types.now)) }
+{
+    let name = Name::new(alloc, constructor)?;
+    Ty::app(alloc, &name, types)
+}
+
 /// The type that is written, among constructors of these arities.
 ///
 /// Answers `Arity` only where a constructor stands with another number of arguments than its arity, or arguments are given to a name
@@ -168,8 +177,7 @@ pub fn resolve_type(
                 let ty = resolve_type(alloc, arities, arg)?;
                 types.push(ty)?;
             }
-            let name = Name::new(alloc, constructor.as_str())?;
-            let ty = Ty::app(alloc, &name, &types)?;
+            let ty = constructed(alloc, constructor.as_str(), &types)?;
             Ok(ty)
         }
     }
