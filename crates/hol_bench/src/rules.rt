@@ -2,7 +2,7 @@
 ghost use Rattle.std.specs.Prelude.{◌≡◌, IfOk};
 
 use crate::failure::Failure;
-use crate::terms::{tower, type_a, variable};
+use crate::terms::{tower, type_variable, unary, variable_of_a};
 use hol_kernel::{Basis, Thm};
 use hol_terms::Term;
 use hol_types::{Name, Ty};
@@ -73,8 +73,7 @@ fn transitivity(alloc: Global, basis: &Basis, t: &Term, times: u32) -> Result<u3
 }
 
 fn congruence(alloc: Global, basis: &Basis, t: &Term, times: u32) -> Result<u32, Failure> {
-    let a = type_a(alloc)?;
-    let f = variable(alloc, "f", &Ty::fun(alloc, &a, &a)?)?;
+    let f = unary(alloc)?;
     let functions = reflexive(alloc, basis, &f)?;
     let arguments = reflexive(alloc, basis, t)?;
     let mut size = 0;
@@ -95,15 +94,22 @@ fn beta(alloc: Global, basis: &Basis, t: &Term, times: u32) -> Result<u32, Failu
 
 // `(\x. t) x`.
 fn own_redex(alloc: Global, t: &Term) -> Result<Term, Failure> {
-    let x = variable(alloc, "x", &type_a(alloc)?)?;
+    let x = variable_of_a(alloc, "x")?;
     let function = Term::abs(alloc, &x, t)?;
     Ok(Term::comb(alloc, &function, &x)?)
 }
 
-fn instance(alloc: Global, basis: &Basis, t: &Term, times: u32) -> Result<u32, Failure> {
-    let a = type_a(alloc)?;
+// y for x.
+fn term_pairs(alloc: Global) -> Result<Vec<(Term, Term)>, Failure> {
+    let y = variable_of_a(alloc, "y")?;
+    let x = variable_of_a(alloc, "x")?;
     let mut pairs = Vec::new(alloc);
-    pairs.push((variable(alloc, "y", &a)?, variable(alloc, "x", &a)?))?;
+    pairs.push((y, x))?;
+    Ok(pairs)
+}
+
+fn instance(alloc: Global, basis: &Basis, t: &Term, times: u32) -> Result<u32, Failure> {
+    let pairs = term_pairs(alloc)?;
     let th = reflexive(alloc, basis, t)?;
     let mut size = 0;
     for _ in 0..times {
@@ -112,10 +118,17 @@ fn instance(alloc: Global, basis: &Basis, t: &Term, times: u32) -> Result<u32, F
     Ok(size)
 }
 
-fn type_instance(alloc: Global, basis: &Basis, t: &Term, times: u32) -> Result<u32, Failure> {
+// B for A.
+fn type_pairs(alloc: Global) -> Result<Vec<(Ty, Name)>, Failure> {
+    let b = type_variable(alloc, "B")?;
+    let a = Name::new(alloc, "A")?;
     let mut pairs = Vec::new(alloc);
-    let b = Ty::var(alloc, &Name::new(alloc, "B")?)?;
-    pairs.push((b, Name::new(alloc, "A")?))?;
+    pairs.push((b, a))?;
+    Ok(pairs)
+}
+
+fn type_instance(alloc: Global, basis: &Basis, t: &Term, times: u32) -> Result<u32, Failure> {
+    let pairs = type_pairs(alloc)?;
     let th = reflexive(alloc, basis, t)?;
     let mut size = 0;
     for _ in 0..times {

@@ -1,7 +1,9 @@
 //! Substitution of terms and of types: over a whole term, beside a part that it leaves as it is, and through binders that capture.
 
 use crate::failure::Failure;
-use crate::terms::{numbered, pair, tower, type_a, variable};
+use crate::terms::{
+    applied_to_two, binary, numbered, pair, tower, type_variable, variable, variable_of_a,
+};
 use hol_subst::{inst, vsubst};
 use hol_terms::Term;
 use hol_types::{Name, Ty};
@@ -14,31 +16,41 @@ use std::alloc::Global;
 /// `types_beside`: a type for that of a variable beside so many applications in which it does not occur.
 pub fn substitution(alloc: Global, job: &str, size: u32, times: u32) -> Result<u32, Failure> {
     match job {
-        "tower" => replaced(
-            alloc,
-            &tower(alloc, "x", size)?,
-            "x",
-            &tower(alloc, "y", 1)?,
-            times,
-        ),
-        "beside" => replaced(
-            alloc,
-            &beside(alloc, size)?,
-            "x",
-            &tower(alloc, "y", 1)?,
-            times,
-        ),
-        "captures" => replaced(
-            alloc,
-            &binders(alloc, size)?,
-            "z",
-            &captured(alloc, size)?,
-            times,
-        ),
-        "types" => retyped(alloc, &tower(alloc, "x", size)?, "A", times),
-        "types_beside" => retyped(alloc, &beside_another_type(alloc, size)?, "C", times),
+        "tower" => in_tower(alloc, size, times),
+        "beside" => in_one_side(alloc, size, times),
+        "captures" => through_binders(alloc, size, times),
+        "types" => of_all_types(alloc, size, times),
+        "types_beside" => of_one_type(alloc, size, times),
         _ => Err(Failure::Words),
     }
+}
+
+fn in_tower(alloc: Global, size: u32, times: u32) -> Result<u32, Failure> {
+    let t = tower(alloc, "x", size)?;
+    let new = tower(alloc, "y", 1)?;
+    replaced(alloc, &t, "x", &new, times)
+}
+
+fn in_one_side(alloc: Global, size: u32, times: u32) -> Result<u32, Failure> {
+    let t = beside(alloc, size)?;
+    let new = tower(alloc, "y", 1)?;
+    replaced(alloc, &t, "x", &new, times)
+}
+
+fn through_binders(alloc: Global, size: u32, times: u32) -> Result<u32, Failure> {
+    let t = binders(alloc, size)?;
+    let new = captured(alloc, size)?;
+    replaced(alloc, &t, "z", &new, times)
+}
+
+fn of_all_types(alloc: Global, size: u32, times: u32) -> Result<u32, Failure> {
+    let t = tower(alloc, "x", size)?;
+    retyped(alloc, &t, "A", times)
+}
+
+fn of_one_type(alloc: Global, size: u32, times: u32) -> Result<u32, Failure> {
+    let t = beside_another_type(alloc, size)?;
+    retyped(alloc, &t, "C", times)
 }
 
 // The sizes of what substitution gives: these two say nothing of what it promises, so that the loops over them are cheap to prove.
@@ -52,7 +64,7 @@ fn instantiated(alloc: Global, pairs: &[(Ty, Name)], t: &Term) -> Result<u32, Fa
 
 // The term with the new one for a variable of the type A, so many times.
 fn replaced(alloc: Global, t: &Term, name: &str, new: &Term, times: u32) -> Result<u32, Failure> {
-    let x = variable(alloc, name, &type_a(alloc)?)?;
+    let x = variable_of_a(alloc, name)?;
     let mut pairs = Vec::new(alloc);
     pairs.push((new.copy()?, x))?;
     let mut size = 0;
@@ -64,7 +76,7 @@ fn replaced(alloc: Global, t: &Term, name: &str, new: &Term, times: u32) -> Resu
 
 // The term with B for a type variable, so many times.
 fn retyped(alloc: Global, t: &Term, name: &str, times: u32) -> Result<u32, Failure> {
-    let b = Ty::var(alloc, &Name::new(alloc, "B")?)?;
+    let b = type_variable(alloc, "B")?;
     let mut pairs = Vec::new(alloc);
     pairs.push((b, Name::new(alloc, name)?))?;
     let mut size = 0;
@@ -76,12 +88,11 @@ fn retyped(alloc: Global, t: &Term, name: &str, times: u32) -> Result<u32, Failu
 
 // A variable of the type C beside a term in whose types C does not occur.
 fn beside_another_type(alloc: Global, size: u32) -> Result<Term, Failure> {
-    let a = type_a(alloc)?;
-    let c = Ty::var(alloc, &Name::new(alloc, "C")?)?;
-    let unary = Ty::fun(alloc, &a, &a)?;
-    let g = variable(alloc, "g", &Ty::fun(alloc, &c, &unary)?)?;
-    let half = Term::comb(alloc, &g, &variable(alloc, "x", &c)?)?;
-    Ok(Term::comb(alloc, &half, &tower(alloc, "z", size)?)?)
+    let c = type_variable(alloc, "C")?;
+    let g = binary(alloc, &c)?;
+    let x = variable(alloc, "x", &c)?;
+    let other = tower(alloc, "z", size)?;
+    applied_to_two(alloc, &g, &x, &other)
 }
 
 // x beside a term in which it does not occur.
@@ -93,7 +104,7 @@ fn beside(alloc: Global, size: u32) -> Result<Term, Failure> {
 
 // `\y0 y1 ... z`
 fn binders(alloc: Global, count: u32) -> Result<Term, Failure> {
-    let mut t = variable(alloc, "z", &type_a(alloc)?)?;
+    let mut t = variable_of_a(alloc, "z")?;
     for number in 0..count {
         t = Term::abs(alloc, &numbered(alloc, number)?, &t)?;
     }
@@ -102,7 +113,7 @@ fn binders(alloc: Global, count: u32) -> Result<Term, Failure> {
 
 // A term in which all of y0, y1, .. are free.
 fn captured(alloc: Global, count: u32) -> Result<Term, Failure> {
-    let mut t = variable(alloc, "x", &type_a(alloc)?)?;
+    let mut t = variable_of_a(alloc, "x")?;
     for number in 0..count {
         t = pair(alloc, &numbered(alloc, number)?, &t)?;
     }

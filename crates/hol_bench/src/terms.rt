@@ -5,9 +5,15 @@ use hol_terms::{Term, Variable};
 use hol_types::{Name, Ty};
 use std::alloc::Global;
 
+/// The type variable of the name.
+pub fn type_variable(alloc: Global, name: &str) -> Result<Ty, Failure> {
+    let name = Name::new(alloc, name)?;
+    Ok(Ty::var(alloc, &name)?)
+}
+
 /// The type variable A.
 pub fn type_a(alloc: Global) -> Result<Ty, Failure> {
-    Ok(Ty::var(alloc, &Name::new(alloc, "A")?)?)
+    type_variable(alloc, "A")
 }
 
 /// The variable of a name and a type, as a term.
@@ -21,26 +27,49 @@ pub fn numbered(alloc: Global, number: u32) -> Result<Term, Failure> {
     let mut name = String::from_str(alloc, "y")?;
     let digits = number.to_string(alloc)?;
     name.push_str(digits.as_str())?;
+    variable_of_a(alloc, name.as_str())
+}
+
+/// The function of one argument of the type A.
+pub fn unary(alloc: Global) -> Result<Term, Failure> {
     let a = type_a(alloc)?;
-    variable(alloc, name.as_str(), &a)
+    let ty = Ty::fun(alloc, &a, &a)?;
+    variable(alloc, "f", &ty)
+}
+
+/// The variable of the name and of the type A, as a term.
+pub fn variable_of_a(alloc: Global, name: &str) -> Result<Term, Failure> {
+    let a = type_a(alloc)?;
+    variable(alloc, name, &a)
 }
 
 /// `f (f (.. (f x)))`, with so many applications of a function of one argument of the type A.
 pub fn tower(alloc: Global, argument: &str, height: u32) -> Result<Term, Failure> {
-    let a = type_a(alloc)?;
-    let f = variable(alloc, "f", &Ty::fun(alloc, &a, &a)?)?;
-    let mut t = variable(alloc, argument, &a)?;
+    let f = unary(alloc)?;
+    let mut t = variable_of_a(alloc, argument)?;
     for _ in 0..height {
         t = Term::comb(alloc, &f, &t)?;
     }
     Ok(t)
 }
 
+/// The function of two arguments, of the type and of the type A.
+pub fn binary(alloc: Global, first: &Ty) -> Result<Term, Failure> {
+    let a = type_a(alloc)?;
+    let rest = Ty::fun(alloc, &a, &a)?;
+    let ty = Ty::fun(alloc, first, &rest)?;
+    variable(alloc, "g", &ty)
+}
+
+/// The function of two arguments at both.
+pub fn applied_to_two(alloc: Global, g: &Term, s: &Term, t: &Term) -> Result<Term, Failure> {
+    let half = Term::comb(alloc, g, s)?;
+    Ok(Term::comb(alloc, &half, t)?)
+}
+
 /// `g s t`, for a function of two arguments of the type A.
 pub fn pair(alloc: Global, s: &Term, t: &Term) -> Result<Term, Failure> {
     let a = type_a(alloc)?;
-    let unary = Ty::fun(alloc, &a, &a)?;
-    let g = variable(alloc, "g", &Ty::fun(alloc, &a, &unary)?)?;
-    let half = Term::comb(alloc, &g, s)?;
-    Ok(Term::comb(alloc, &half, t)?)
+    let g = binary(alloc, &a)?;
+    applied_to_two(alloc, &g, s, t)
 }

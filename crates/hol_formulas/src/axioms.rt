@@ -2,13 +2,15 @@
 ghost use Rattle.std.specs.Prelude.{◌≡◌, IfOk, Some, codes};
 ghost use Rattle.hol_types.specs.Fun.{fun_type};
 ghost use Rattle.hol_terms.specs.Named.{var, constant, comb, abs, named_type};
-ghost use Rattle.hol_formulas.specs.Equation.{bool_type};
-ghost use Rattle.hol_formulas.specs.Making.{mk_imp, mk_neg};
+ghost use Rattle.hol_formulas.specs.Equation.{bool_type, mk_eq};
+ghost use Rattle.hol_formulas.specs.Making.{mk_imp, mk_conj, mk_neg};
 ghost use Rattle.hol_formulas.specs.Constants.{var_a, var_b, choice_type};
 ghost use Rattle.hol_formulas.specs.Prelude.{ind_type, function_property, element, property, of_element, eta, chosen, infinite};
 
 use crate::connectives::{mk_conj, mk_imp, mk_neg};
-use crate::elements::{element, element_term, function_type, of_element, property, property_term};
+use crate::elements::{
+    element, element_term, for_each, function_type, of_element, property, property_term,
+};
 use crate::equations::mk_eq;
 use crate::prelude::choice_type;
 use crate::quantifiers::{mk_exists, mk_forall};
@@ -57,14 +59,22 @@ fn expansion(alloc: Global) -> Result<Term, AllocError>
     Term::abstraction(alloc, &x, &body)
 }
 
-/// `!t:A->B. (\x. t x) = t`.
-pub fn eta(alloc: Global) -> Result<Term, AllocError>
-    ensures { IfOk result (λ t. t ≡ eta) }
+/// `(\x. t x) = t`.
+fn is_own_expansion(alloc: Global) -> Result<Term, AllocError>
+    ensures is { IfOk result (λ t. t ≡ mk_eq (fun_type var_a var_b) (abs (element (codes "x")) (comb (var (codes "t", fun_type var_a var_b)) (var (element (codes "x"))))) (var (codes "t", fun_type var_a var_b))) }
+    ensures typed { IfOk result (λ t. named_type t ≡ Some bool_type) }
 {
     let ty = function_type(alloc)?;
     let left = expansion(alloc)?;
     let right = expanded_term(alloc)?;
-    let body = mk_eq(alloc, &ty, &left, &right)?;
+    mk_eq(alloc, &ty, &left, &right)
+}
+
+/// `!t:A->B. (\x. t x) = t`.
+pub fn eta(alloc: Global) -> Result<Term, AllocError>
+    ensures { IfOk result (λ t. t ≡ eta) }
+{
+    let body = is_own_expansion(alloc)?;
     let t = expanded_variable(alloc)?;
     mk_forall(alloc, &t, &body)
 }
@@ -115,8 +125,7 @@ pub fn chosen(alloc: Global) -> Result<Term, AllocError>
     ensures { IfOk result (λ t. t ≡ chosen) }
 {
     let body = chosen_where_one_is(alloc)?;
-    let x = element(alloc, "x")?;
-    let inner = mk_forall(alloc, &x, &body)?;
+    let inner = for_each(alloc, "x", &body)?;
     let property = property(alloc)?;
     mk_forall(alloc, &property, &inner)
 }
@@ -178,13 +187,21 @@ fn not_onto(alloc: Global) -> Result<Term, AllocError>
     mk_neg(alloc, &onto)
 }
 
+/// `ONE_ONE f /\ ~ONTO f`.
+fn one_one_not_onto(alloc: Global) -> Result<Term, AllocError>
+    ensures is { IfOk result (λ t. t ≡ mk_conj (comb (function_property (codes "ONE_ONE") ind_type ind_type) (var (codes "f", fun_type ind_type ind_type))) (mk_neg (comb (function_property (codes "ONTO") ind_type ind_type) (var (codes "f", fun_type ind_type ind_type))))) }
+    ensures typed { IfOk result (λ t. named_type t ≡ Some bool_type) }
+{
+    let one_one = of_individual_function(alloc, "ONE_ONE")?;
+    let not_onto = not_onto(alloc)?;
+    mk_conj(alloc, &one_one, &not_onto)
+}
+
 /// `?f:ind->ind. ONE_ONE f /\ ~ONTO f`.
 pub fn infinite(alloc: Global) -> Result<Term, AllocError>
     ensures { IfOk result (λ t. t ≡ infinite) }
 {
-    let one_one = of_individual_function(alloc, "ONE_ONE")?;
-    let not_onto = not_onto(alloc)?;
-    let body = mk_conj(alloc, &one_one, &not_onto)?;
+    let body = one_one_not_onto(alloc)?;
     let f = individual_function(alloc)?;
     mk_exists(alloc, &f, &body)
 }

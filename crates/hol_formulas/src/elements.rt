@@ -80,16 +80,24 @@ pub fn same_elements(alloc: Global, left: &str, right: &str) -> Result<Term, All
     mk_eq(alloc, &ty, &left, &right)
 }
 
+/// What holds of each element of the name.
+pub fn for_each(alloc: Global, name: &str, p: &Term) -> Result<Term, AllocError>
+    requires body { named_type p.now ≡ Some bool_type }
+    ensures is { IfOk result (λ t. t ≡ mk_forall (element name.now) p.now) }
+    ensures typed { IfOk result (λ t. named_type t ≡ Some bool_type) }
+{
+    let x = element(alloc, name)?;
+    mk_forall(alloc, &x, p)
+}
+
 /// What holds of all elements of two names.
 pub fn for_two(alloc: Global, first: &str, second: &str, p: &Term) -> Result<Term, AllocError>
     requires body { named_type p.now ≡ Some bool_type }
     ensures is { IfOk result (λ t. t ≡ mk_forall (element first.now) (mk_forall (element second.now) p.now)) }
     ensures typed { IfOk result (λ t. named_type t ≡ Some bool_type) }
 {
-    let x = element(alloc, first)?;
-    let y = element(alloc, second)?;
-    let inner = mk_forall(alloc, &y, p)?;
-    mk_forall(alloc, &x, &inner)
+    let inner = for_each(alloc, second, p)?;
+    for_each(alloc, first, &inner)
 }
 
 /// `A->B`.
@@ -146,6 +154,16 @@ pub fn boolean(alloc: Global, name: &str) -> Result<Variable, AllocError>
 {
     let ty = bool_type(alloc)?;
     variable(alloc, name, &ty)
+}
+
+/// What holds of each truth value of the name.
+pub fn for_each_boolean(alloc: Global, name: &str, p: &Term) -> Result<Term, AllocError>
+    requires body { named_type p.now ≡ Some bool_type }
+    ensures is { IfOk result (λ t. t ≡ mk_forall (boolean name.now) p.now) }
+    ensures typed { IfOk result (λ t. named_type t ≡ Some bool_type) }
+{
+    let v = boolean(alloc, name)?;
+    mk_forall(alloc, &v, p)
 }
 
 /// The variable of the name that ranges over truth values, as a term.

@@ -4,8 +4,10 @@ ghost use Rattle.std.specs.List.{list_any};
 ghost use Rattle.hol_types.specs.Tree.{TypeTree};
 ghost use Rattle.hol_types.specs.Subst.{type_subst};
 ghost use Rattle.hol_terms.specs.Named.{constant};
-ghost use Rattle.hol_formulas.specs.Constants.{binder_type, choice_type, function_property_type, prelude_types, is_constructor, is_instance, prelude_generic, is_instance_of};
+ghost use Rattle.hol_formulas.specs.Equation.{equality_type};
+ghost use Rattle.hol_formulas.specs.Constants.{var_a, binder_type, choice_type, function_property_type, prelude_types, is_constructor, is_instance, prelude_generic, is_instance_of};
 
+use crate::elements::function_type;
 use crate::types::{
     bool_type, connective_type, equality_type, negation_type, quantifier_type, type_variable,
 };
@@ -37,9 +39,7 @@ pub fn function_property_type(alloc: Global) -> Result<Ty, AllocError>
     ensures { IfOk result (λ ty. ty ≡ function_property_type) }
 {
     let truth = bool_type(alloc)?;
-    let a = type_variable(alloc, "A")?;
-    let b = type_variable(alloc, "B")?;
-    let function = Ty::fun(alloc, &a, &b)?;
+    let function = function_type(alloc)?;
     Ty::fun(alloc, &function, &truth)
 }
 
@@ -51,30 +51,35 @@ pub fn is_instance(alloc: Global, generic: &Ty, ty: &Ty) -> Result<bool, AllocEr
     Ok(found.is_some())
 }
 
+/// The generic type of equality.
+pub(crate) fn generic_equality(alloc: Global) -> Result<Ty, AllocError>
+    ensures { IfOk result (λ ty. ty ≡ equality_type var_a) }
+{
+    let a = type_variable(alloc, "A")?;
+    equality_type(alloc, &a)
+}
+
 /// The generic type of a constant of the prelude, where there is one of this name.
 fn generic_type(alloc: Global, constant: &Name) -> Result<Option<Ty>, AllocError>
     ensures { IfOk result (λ generic. generic ≡ prelude_generic constant.now) }
 {
     let generic = match constant.as_str() {
-        "=" => {
-            let a = type_variable(alloc, "A")?;
-            equality_type(alloc, &a)?
-        }
-        "@" => choice_type(alloc)?,
-        "T" => bool_type(alloc)?,
-        "F" => bool_type(alloc)?,
-        "/\\" => connective_type(alloc)?,
-        "\\/" => connective_type(alloc)?,
-        "==>" => connective_type(alloc)?,
-        "~" => negation_type(alloc)?,
-        "!" => binder_type(alloc)?,
-        "?" => binder_type(alloc)?,
-        "?!" => binder_type(alloc)?,
-        "ONE_ONE" => function_property_type(alloc)?,
-        "ONTO" => function_property_type(alloc)?,
+        "=" => generic_equality(alloc),
+        "@" => choice_type(alloc),
+        "T" => bool_type(alloc),
+        "F" => bool_type(alloc),
+        "/\\" => connective_type(alloc),
+        "\\/" => connective_type(alloc),
+        "==>" => connective_type(alloc),
+        "~" => negation_type(alloc),
+        "!" => binder_type(alloc),
+        "?" => binder_type(alloc),
+        "?!" => binder_type(alloc),
+        "ONE_ONE" => function_property_type(alloc),
+        "ONTO" => function_property_type(alloc),
         _ => return Ok(None),
     };
-    Ok(Some(generic))
+    Ok(Some(generic?))
 }
 
 /// Whether the prelude has the constant, and the type is an instance of its generic type.

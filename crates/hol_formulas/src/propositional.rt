@@ -4,16 +4,15 @@ ghost use Rattle.hol_types.specs.Fun.{fun_type};
 ghost use Rattle.hol_terms.specs.Named.{var, abs, named_type};
 ghost use Rattle.hol_formulas.specs.Equation.{bool_type};
 ghost use Rattle.hol_formulas.specs.Formula.{negation_type, connective_type};
-ghost use Rattle.hol_formulas.specs.Making.{mk_falsity, mk_conj, mk_imp, mk_iff, mk_forall};
+ghost use Rattle.hol_formulas.specs.Making.{mk_truth, mk_falsity, mk_conj, mk_imp, mk_iff, mk_forall};
 ghost use Rattle.hol_formulas.specs.Prelude.{boolean, identity, paired, both, of_two, either};
 
 use crate::connectives::{applied_to_two, mk_conj, mk_falsity, mk_imp, mk_truth};
-use crate::elements::{boolean, boolean_term};
+use crate::elements::{boolean, boolean_term, for_each_boolean};
 use crate::equations::mk_eq;
-use crate::quantifiers::mk_forall;
 use crate::terms::{occurrence, variable};
 use crate::types::{bool_type, connective_type};
-use hol_terms::Term;
+use hol_terms::{Term, Variable};
 use hol_types::Ty;
 use std::alloc::{AllocError, Global};
 
@@ -39,6 +38,14 @@ pub fn mk_iff(alloc: Global, p: &Term, q: &Term) -> Result<Term, AllocError>
     mk_eq(alloc, &ty, p, q)
 }
 
+/// `f:bool->bool->bool`.
+fn connective_variable(alloc: Global) -> Result<Variable, AllocError>
+    ensures { IfOk result (λ v. v ≡ (codes "f", connective_type)) }
+{
+    let ty = connective_type(alloc)?;
+    variable(alloc, "f", &ty)
+}
+
 /// `\f:bool->bool->bool. f p q`.
 #[tactic(auto, using(crate::proofs::PartTypes::paired_typed))]
 fn paired(alloc: Global, p: &Term, q: &Term) -> Result<Term, AllocError>
@@ -47,8 +54,7 @@ fn paired(alloc: Global, p: &Term, q: &Term) -> Result<Term, AllocError>
     ensures is { IfOk result (λ t. t ≡ paired p.now q.now) }
     ensures typed { IfOk result (λ t. named_type t ≡ Some (fun_type connective_type bool_type)) }
 {
-    let ty = connective_type(alloc)?;
-    let f = variable(alloc, "f", &ty)?;
+    let f = connective_variable(alloc)?;
     let function = occurrence(alloc, &f)?;
     let body = applied_to_two(alloc, &function, p, q)?;
     Term::abstraction(alloc, &f, &body)
@@ -63,6 +69,15 @@ fn paired_type(alloc: Global) -> Result<Ty, AllocError>
     Ty::fun(alloc, &connective, &truth)
 }
 
+/// `\f. f T T`.
+fn paired_truths(alloc: Global) -> Result<Term, AllocError>
+    ensures is { IfOk result (λ t. t ≡ paired mk_truth mk_truth) }
+    ensures typed { IfOk result (λ t. named_type t ≡ Some (fun_type connective_type bool_type)) }
+{
+    let truth = mk_truth(alloc)?;
+    paired(alloc, &truth, &truth)
+}
+
 /// `(\f. f p q) = (\f. f T T)`.
 fn both(alloc: Global, p: &Term, q: &Term) -> Result<Term, AllocError>
     requires first { named_type p.now ≡ Some bool_type }
@@ -71,8 +86,7 @@ fn both(alloc: Global, p: &Term, q: &Term) -> Result<Term, AllocError>
     ensures typed { IfOk result (λ t. named_type t ≡ Some bool_type) }
 {
     let left = paired(alloc, p, q)?;
-    let truth = mk_truth(alloc)?;
-    let right = paired(alloc, &truth, &truth)?;
+    let right = paired_truths(alloc)?;
     let ty = paired_type(alloc)?;
     mk_eq(alloc, &ty, &left, &right)
 }
@@ -88,6 +102,17 @@ pub fn conjunction(alloc: Global) -> Result<Term, AllocError>
     of_two(alloc, &body)
 }
 
+/// `p /\ q <=> p`.
+fn implied(alloc: Global, p: &Term, q: &Term) -> Result<Term, AllocError>
+    requires first { named_type p.now ≡ Some bool_type }
+    requires second { named_type q.now ≡ Some bool_type }
+    ensures is { IfOk result (λ t. t ≡ mk_iff (mk_conj p.now q.now) p.now) }
+    ensures typed { IfOk result (λ t. named_type t ≡ Some bool_type) }
+{
+    let left = mk_conj(alloc, p, q)?;
+    mk_iff(alloc, &left, p)
+}
+
 /// `\p q. p /\ q <=> p`.
 pub fn implication(alloc: Global) -> Result<Term, AllocError>
     ensures is { IfOk result (λ t. t ≡ of_two (λ p q. mk_iff (mk_conj p q) p)) }
@@ -95,8 +120,7 @@ pub fn implication(alloc: Global) -> Result<Term, AllocError>
 {
     let p = boolean_term(alloc, "p")?;
     let q = boolean_term(alloc, "q")?;
-    let left = mk_conj(alloc, &p, &q)?;
-    let body = mk_iff(alloc, &left, &p)?;
+    let body = implied(alloc, &p, &q)?;
     of_two(alloc, &body)
 }
 
@@ -121,10 +145,9 @@ fn either(alloc: Global, p: &Term, q: &Term) -> Result<Term, AllocError>
     ensures is { IfOk result (λ t. t ≡ either p.now q.now) }
     ensures typed { IfOk result (λ t. named_type t ≡ Some bool_type) }
 {
-    let v = boolean(alloc, "r")?;
     let r = boolean_term(alloc, "r")?;
     let body = by_cases(alloc, p, q, &r)?;
-    mk_forall(alloc, &v, &body)
+    for_each_boolean(alloc, "r", &body)
 }
 
 /// `\p q. !r. (p ==> r) ==> (q ==> r) ==> r`.
@@ -143,9 +166,18 @@ pub fn everything(alloc: Global) -> Result<Term, AllocError>
     ensures is { IfOk result (λ t. t ≡ mk_forall (boolean (codes "p")) (var (boolean (codes "p")))) }
     ensures typed { IfOk result (λ t. named_type t ≡ Some bool_type) }
 {
-    let v = boolean(alloc, "p")?;
     let p = boolean_term(alloc, "p")?;
-    mk_forall(alloc, &v, &p)
+    for_each_boolean(alloc, "p", &p)
+}
+
+/// `p ==> F`.
+fn implies_falsity(alloc: Global) -> Result<Term, AllocError>
+    ensures is { IfOk result (λ t. t ≡ mk_imp (var (boolean (codes "p"))) mk_falsity) }
+    ensures typed { IfOk result (λ t. named_type t ≡ Some bool_type) }
+{
+    let p = boolean_term(alloc, "p")?;
+    let falsity = mk_falsity(alloc)?;
+    mk_imp(alloc, &p, &falsity)
 }
 
 /// `\p. p ==> F`.
@@ -155,9 +187,7 @@ pub fn negation(alloc: Global) -> Result<Term, AllocError>
     ensures typed { IfOk result (λ t. named_type t ≡ Some (negation_type)) }
 {
     let v = boolean(alloc, "p")?;
-    let p = boolean_term(alloc, "p")?;
-    let falsity = mk_falsity(alloc)?;
-    let body = mk_imp(alloc, &p, &falsity)?;
+    let body = implies_falsity(alloc)?;
     Term::abstraction(alloc, &v, &body)
 }
 

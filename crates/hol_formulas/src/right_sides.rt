@@ -8,8 +8,8 @@ ghost use Rattle.hol_formulas.specs.Prelude.{property_type, quantifier, boolean,
 
 use crate::connectives::{mk_conj, mk_imp, mk_truth};
 use crate::elements::{
-    boolean, boolean_term, element, for_two, function, of_element, property, property_term,
-    property_type, same_elements, same_values, value_at,
+    boolean_term, element, for_each, for_each_boolean, for_two, function, of_element, property,
+    property_term, property_type, same_elements, same_values, value_at,
 };
 use crate::equations::mk_eq;
 use crate::prelude::binder_type;
@@ -58,10 +58,19 @@ fn each_implies(alloc: Global, q: &Term) -> Result<Term, AllocError>
     ensures is { IfOk result (λ t. t ≡ mk_forall (element (codes "x")) (mk_imp (of_element (codes "x")) q.now)) }
     ensures typed { IfOk result (λ t. named_type t ≡ Some bool_type) }
 {
-    let x = element(alloc, "x")?;
     let p = of_element(alloc, "x")?;
     let body = mk_imp(alloc, &p, q)?;
-    mk_forall(alloc, &x, &body)
+    for_each(alloc, "x", &body)
+}
+
+/// `(!x. P x ==> q) ==> q`.
+fn implied_by_each(alloc: Global) -> Result<Term, AllocError>
+    ensures is { IfOk result (λ t. t ≡ mk_imp (mk_forall (element (codes "x")) (mk_imp (of_element (codes "x")) (var (boolean (codes "q"))))) (var (boolean (codes "q")))) }
+    ensures typed { IfOk result (λ t. named_type t ≡ Some bool_type) }
+{
+    let q = boolean_term(alloc, "q")?;
+    let each = each_implies(alloc, &q)?;
+    mk_imp(alloc, &each, &q)
 }
 
 /// `!q. (!x. P x ==> q) ==> q`.
@@ -69,11 +78,8 @@ fn holds_somewhere(alloc: Global) -> Result<Term, AllocError>
     ensures is { IfOk result (λ t. t ≡ mk_forall (boolean (codes "q")) (mk_imp (mk_forall (element (codes "x")) (mk_imp (of_element (codes "x")) (var (boolean (codes "q"))))) (var (boolean (codes "q"))))) }
     ensures typed { IfOk result (λ t. named_type t ≡ Some bool_type) }
 {
-    let v = boolean(alloc, "q")?;
-    let q = boolean_term(alloc, "q")?;
-    let each = each_implies(alloc, &q)?;
-    let body = mk_imp(alloc, &each, &q)?;
-    mk_forall(alloc, &v, &body)
+    let body = implied_by_each(alloc)?;
+    for_each_boolean(alloc, "q", &body)
 }
 
 /// `\P:A->bool. !q. (!x. P x ==> q) ==> q`.
@@ -87,14 +93,22 @@ pub fn somewhere(alloc: Global) -> Result<Term, AllocError>
     Term::abstraction(alloc, &v, &body)
 }
 
+/// `P x /\ P y`.
+fn both_hold(alloc: Global) -> Result<Term, AllocError>
+    ensures is { IfOk result (λ t. t ≡ mk_conj (of_element (codes "x")) (of_element (codes "y"))) }
+    ensures typed { IfOk result (λ t. named_type t ≡ Some bool_type) }
+{
+    let first = of_element(alloc, "x")?;
+    let second = of_element(alloc, "y")?;
+    mk_conj(alloc, &first, &second)
+}
+
 /// `P x /\ P y ==> x = y`.
 fn equal_where_both_hold(alloc: Global) -> Result<Term, AllocError>
     ensures is { IfOk result (λ t. t ≡ mk_imp (mk_conj (of_element (codes "x")) (of_element (codes "y"))) (mk_eq var_a (var (element (codes "x"))) (var (element (codes "y"))))) }
     ensures typed { IfOk result (λ t. named_type t ≡ Some bool_type) }
 {
-    let first = of_element(alloc, "x")?;
-    let second = of_element(alloc, "y")?;
-    let both = mk_conj(alloc, &first, &second)?;
+    let both = both_hold(alloc)?;
     let same = same_elements(alloc, "x", "y")?;
     mk_imp(alloc, &both, &same)
 }
@@ -187,16 +201,34 @@ fn target(alloc: Global) -> Result<Variable, AllocError>
     variable(alloc, "y", &ty)
 }
 
+/// `y:B`, as a term.
+fn target_term(alloc: Global) -> Result<Term, AllocError>
+    ensures is { IfOk result (λ t. t ≡ var (codes "y", var_b)) }
+    ensures typed { IfOk result (λ t. named_type t ≡ Some var_b) }
+{
+    let y = target(alloc)?;
+    occurrence(alloc, &y)
+}
+
 /// `y = f x`.
 fn is_value(alloc: Global) -> Result<Term, AllocError>
     ensures is { IfOk result (λ t. t ≡ mk_eq var_b (var (codes "y", var_b)) (value_at (codes "x"))) }
     ensures typed { IfOk result (λ t. named_type t ≡ Some bool_type) }
 {
     let ty = type_variable(alloc, "B")?;
-    let y = target(alloc)?;
-    let left = occurrence(alloc, &y)?;
+    let left = target_term(alloc)?;
     let right = value_at(alloc, "x")?;
     mk_eq(alloc, &ty, &left, &right)
+}
+
+/// `?x. y = f x`.
+fn is_some_value(alloc: Global) -> Result<Term, AllocError>
+    ensures is { IfOk result (λ t. t ≡ mk_exists (element (codes "x")) (mk_eq var_b (var (codes "y", var_b)) (value_at (codes "x")))) }
+    ensures typed { IfOk result (λ t. named_type t ≡ Some bool_type) }
+{
+    let body = is_value(alloc)?;
+    let x = element(alloc, "x")?;
+    mk_exists(alloc, &x, &body)
 }
 
 /// `!y. ?x. y = f x`.
@@ -204,9 +236,7 @@ fn is_surjective(alloc: Global) -> Result<Term, AllocError>
     ensures is { IfOk result (λ t. t ≡ mk_forall (codes "y", var_b) (mk_exists (element (codes "x")) (mk_eq var_b (var (codes "y", var_b)) (value_at (codes "x"))))) }
     ensures typed { IfOk result (λ t. named_type t ≡ Some bool_type) }
 {
-    let body = is_value(alloc)?;
-    let x = element(alloc, "x")?;
-    let inner = mk_exists(alloc, &x, &body)?;
+    let inner = is_some_value(alloc)?;
     let y = target(alloc)?;
     mk_forall(alloc, &y, &inner)
 }

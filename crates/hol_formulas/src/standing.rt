@@ -4,8 +4,8 @@ ghost use Rattle.hol_formulas.specs.Equation.{bool_type, equality_type};
 ghost use Rattle.hol_formulas.specs.Formula.{negation_type, connective_type};
 ghost use Rattle.hol_formulas.specs.Constants.{var_a, binder_type, choice_type, function_property_type, prelude_types, prelude_constants};
 
-use crate::prelude::{binder_type, choice_type, function_property_type};
-use crate::types::{bool_type, connective_type, equality_type, negation_type, type_variable};
+use crate::prelude::{binder_type, choice_type, function_property_type, generic_equality};
+use crate::types::{bool_type, connective_type, negation_type};
 use hol_types::{Name, Ty};
 use std::alloc::{AllocError, Global};
 
@@ -33,16 +33,11 @@ pub fn prelude_constants(alloc: Global) -> Result<Vec<(Name, Ty)>, AllocError>
 }
 
 // Adds the constant of this name and generic type.
-fn add(
-    alloc: Global,
-    constants: &mut Vec<(Name, Ty)>,
-    text: &str,
-    ty: &Ty,
-) -> Result<(), AllocError>
-    ensures { OnOk result (constants.new.items ≡ constants.old.items ++ (text.now, ty.now) ∷ []) }
+fn add(alloc: Global, constants: &mut Vec<(Name, Ty)>, text: &str, ty: Ty) -> Result<(), AllocError>
+    ensures { OnOk result (constants.new.items ≡ constants.old.items ++ (text.now, ty) ∷ []) }
 {
     let name = Name::new(alloc, text)?;
-    constants.push((name, ty.copy()?))?;
+    constants.push((name, ty))?;
     Ok(())
 }
 
@@ -50,40 +45,49 @@ fn add(
 fn add_first(alloc: Global, constants: &mut Vec<(Name, Ty)>) -> Result<(), AllocError>
     ensures { OnOk result (constants.new.items ≡ constants.old.items ++ (codes "=", equality_type var_a) ∷ (codes "@", choice_type) ∷ (codes "T", bool_type) ∷ (codes "F", bool_type) ∷ []) }
 {
-    let equality = equality_type(alloc, &type_variable(alloc, "A")?)?;
-    let truth = bool_type(alloc)?;
-    add(alloc, constants, "=", &equality)?;
-    add(alloc, constants, "@", &choice_type(alloc)?)?;
-    add(alloc, constants, "T", &truth)?;
-    add(alloc, constants, "F", &truth)
+    add(alloc, constants, "=", generic_equality(alloc)?)?;
+    add(alloc, constants, "@", choice_type(alloc)?)?;
+    add_truth_values(alloc, constants)
+}
+
+// Adds the truth values.
+fn add_truth_values(alloc: Global, constants: &mut Vec<(Name, Ty)>) -> Result<(), AllocError>
+    ensures { OnOk result (constants.new.items ≡ constants.old.items ++ (codes "T", bool_type) ∷ (codes "F", bool_type) ∷ []) }
+{
+    add(alloc, constants, "T", bool_type(alloc)?)?;
+    add(alloc, constants, "F", bool_type(alloc)?)
 }
 
 // Adds the connectives and negation.
 fn add_connectives(alloc: Global, constants: &mut Vec<(Name, Ty)>) -> Result<(), AllocError>
     ensures { OnOk result (constants.new.items ≡ constants.old.items ++ (codes "/\\", connective_type) ∷ (codes "\\/", connective_type) ∷ (codes "==>", connective_type) ∷ (codes "~", negation_type) ∷ []) }
 {
-    let connective = connective_type(alloc)?;
-    add(alloc, constants, "/\\", &connective)?;
-    add(alloc, constants, "\\/", &connective)?;
-    add(alloc, constants, "==>", &connective)?;
-    add(alloc, constants, "~", &negation_type(alloc)?)
+    add(alloc, constants, "/\\", connective_type(alloc)?)?;
+    add(alloc, constants, "\\/", connective_type(alloc)?)?;
+    add_implication(alloc, constants)
+}
+
+// Adds implication and negation.
+fn add_implication(alloc: Global, constants: &mut Vec<(Name, Ty)>) -> Result<(), AllocError>
+    ensures { OnOk result (constants.new.items ≡ constants.old.items ++ (codes "==>", connective_type) ∷ (codes "~", negation_type) ∷ []) }
+{
+    add(alloc, constants, "==>", connective_type(alloc)?)?;
+    add(alloc, constants, "~", negation_type(alloc)?)
 }
 
 // Adds the quantifiers.
 fn add_binders(alloc: Global, constants: &mut Vec<(Name, Ty)>) -> Result<(), AllocError>
     ensures { OnOk result (constants.new.items ≡ constants.old.items ++ (codes "!", binder_type) ∷ (codes "?", binder_type) ∷ (codes "?!", binder_type) ∷ []) }
 {
-    let binder = binder_type(alloc)?;
-    add(alloc, constants, "!", &binder)?;
-    add(alloc, constants, "?", &binder)?;
-    add(alloc, constants, "?!", &binder)
+    add(alloc, constants, "!", binder_type(alloc)?)?;
+    add(alloc, constants, "?", binder_type(alloc)?)?;
+    add(alloc, constants, "?!", binder_type(alloc)?)
 }
 
 // Adds what functions may be: one to one, and onto.
 fn add_function_properties(alloc: Global, constants: &mut Vec<(Name, Ty)>) -> Result<(), AllocError>
     ensures { OnOk result (constants.new.items ≡ constants.old.items ++ (codes "ONE_ONE", function_property_type) ∷ (codes "ONTO", function_property_type) ∷ []) }
 {
-    let ty = function_property_type(alloc)?;
-    add(alloc, constants, "ONE_ONE", &ty)?;
-    add(alloc, constants, "ONTO", &ty)
+    add(alloc, constants, "ONE_ONE", function_property_type(alloc)?)?;
+    add(alloc, constants, "ONTO", function_property_type(alloc)?)
 }

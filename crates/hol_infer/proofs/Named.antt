@@ -170,9 +170,6 @@ only_memory (Err TypesDontFit) p q = absurd (p refl)
 only_memory (Err NotAVariable) p q = absurd (q refl)
 only_memory (Err Memory) p q = refl
 
-pub pair_same : (v : List ℕ × TypeTree) (x : List ℕ) (t t' : TypeTree) → v ≡ (x, t) → t ≡ t' → v ≡ (x, t')
-pair_same v x t t' p q = cc
-
 -- ---- parts have fewer nodes
 
 pub function_falls : (t f a g : SlotTree) → t ≡ SlotApply f a → f ≡ g → slot_nodes g < slot_nodes t

@@ -1,5 +1,6 @@
 //! Terms from their skeletons, with named types in place of open slots.
 ghost use Rattle.std.specs.Prelude.{◌≡◌, map, ◌<◌, length, slice_get, IfOk, IsOkUnless, OnOk, MatchOption, Some, None};
+ghost use Rattle.hol_terms.specs.Named.{var, constant};
 ghost use Rattle.hol_terms.specs.Scope.{binders};
 ghost use Rattle.hol_terms.specs.Nameless.{nameless};
 ghost use Rattle.hol_infer.specs.RawView.{slot_tree};
@@ -12,7 +13,7 @@ ghost use Rattle.hol_infer.specs.Solved.{IsWellTyped, term_holes};
 use crate::shape::Shape;
 use crate::skeleton::Skeleton;
 use hol_terms::{Scope, Term, TermError, Variable};
-use hol_types::Ty;
+use hol_types::{Name, Ty};
 use std::alloc::{AllocError, Global};
 
 /// Puts the open slots of the term at the end of the list as they occur, each unless it is there.
@@ -71,6 +72,53 @@ fn slot_type(
     shapes[slot].ty(alloc, order)
 }
 
+// The constant of the name, at the type of a slot.
+fn constant_at(
+    alloc: Global,
+    shapes: &[Shape],
+    order: &[usize],
+    name: &Name,
+    slot: usize,
+) -> Result<Term, TermError>
+    requires { slot < length shapes.now }
+    ensures ok { IfOk result (λ t. t ≡ constant name.now (types_at shapes.now (open_type order.now) slot)) }
+    ensures memory { IsOkUnless result TermError.Memory }
+{
+    let ty = slot_type(alloc, shapes, order, slot)?;
+    Ok(Term::constant(alloc, name, &ty)?)
+}
+
+// The variable of the name, at the type of a slot.
+fn variable_of(
+    alloc: Global,
+    shapes: &[Shape],
+    order: &[usize],
+    name: &Name,
+    slot: usize,
+) -> Result<Variable, AllocError>
+    requires { slot < length shapes.now }
+    ensures { IfOk result (λ v. v ≡ (name.now, types_at shapes.now (open_type order.now) slot)) }
+{
+    let ty = slot_type(alloc, shapes, order, slot)?;
+    Variable::new(name, &ty)
+}
+
+// The same, as a term.
+fn free_at(
+    alloc: Global,
+    shapes: &[Shape],
+    order: &[usize],
+    name: &Name,
+    slot: usize,
+) -> Result<Term, TermError>
+    requires { slot < length shapes.now }
+    ensures ok { IfOk result (λ t. t ≡ var (name.now, types_at shapes.now (open_type order.now) slot)) }
+    ensures memory { IsOkUnless result TermError.Memory }
+{
+    let variable = variable_of(alloc, shapes, order, name, slot)?;
+    Ok(Term::var(alloc, &variable)?)
+}
+
 /// The term of the skeleton, under binders.
 pub fn build(
     alloc: Global,
@@ -90,23 +138,15 @@ pub fn build(
             Some(variable) => Ok(Term::var(alloc, variable)?),
             None => Err(TermError::NotAVariable),
         },
-        Skeleton::Constant(name, slot) => {
-            let ty = slot_type(alloc, shapes, order, *slot)?;
-            Ok(Term::constant(alloc, name, &ty)?)
-        }
-        Skeleton::Free(name, slot) => {
-            let ty = slot_type(alloc, shapes, order, *slot)?;
-            let variable = Variable::new(name, &ty)?;
-            Ok(Term::var(alloc, &variable)?)
-        }
+        Skeleton::Constant(name, slot) => constant_at(alloc, shapes, order, name, *slot),
+        Skeleton::Free(name, slot) => free_at(alloc, shapes, order, name, *slot),
         Skeleton::Apply(function, argument) => {
             let left = build(alloc, shapes, order, &*scope, function)?;
             let right = build(alloc, shapes, order, &*scope, argument)?;
             Term::comb(alloc, &left, &right)
         }
         Skeleton::Abstraction(name, slot, body) => {
-            let ty = slot_type(alloc, shapes, order, *slot)?;
-            let variable = Variable::new(name, &ty)?;
+            let variable = variable_of(alloc, shapes, order, name, *slot)?;
             let inside = Scope::Inside(&variable, &*scope);
             let inner = build(alloc, shapes, order, &inside, body)?;
             Ok(Term::abstraction(alloc, &variable, &inner)?)

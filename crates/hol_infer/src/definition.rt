@@ -1,8 +1,10 @@
 //! Definitions as they are written.
-ghost use Rattle.std.specs.Prelude.{◌≡◌, IfOk, IfErr, true, false};
+ghost use Rattle.std.specs.Prelude.{◌≡◌, [], IfOk, IfErr, IsOkUnless, true, false};
+ghost use Rattle.hol_notation_terms.specs.declared.operator.Operator.TheVariants.{Equals};
+ghost use Rattle.hol_infer.specs.Raw.{RawApply, RawFree};
 ghost use Rattle.hol_infer.specs.NamesView.{scope_names};
 ghost use Rattle.hol_infer.specs.RawView.{raw_tree};
-ghost use Rattle.hol_infer.specs.Resolving.{annotated, at_bool, right_raw, value_raw, right_has_arities, value_has_arities, definition_has_arities, without, definition_raw};
+ghost use Rattle.hol_infer.specs.Resolving.{annotated, at_bool, right_raw, value_raw, right_has_arities, value_has_arities, definition_has_arities, without, operator_raw, definition_raw};
 
 use crate::raw::RawTerm;
 use crate::resolving::{Names, ResolveError, operator, resolve, resolve_annotation, truth_type};
@@ -88,6 +90,41 @@ fn without(
     Ok(others)
 }
 
+// `\v1 .. vn. r` of the definition, where the constant that it defines does not stand.
+fn resolve_parameters(
+    alloc: Global,
+    constants: &[(Name, Ty)],
+    arities: &[(Name, usize)],
+    definition: &Definition,
+) -> Result<RawTerm, ResolveError>
+    ensures ok { IfOk result (λ t. (raw_tree t ≡ value_raw arities.now (without definition.now.name constants.now) [] definition.now.parameters definition.now.right) × (definition_has_arities arities.now definition.now ≡ true)) }
+    ensures arity { IfErr result (λ e. e ≡ ResolveError.Arity → definition_has_arities arities.now definition.now ≡ false) }
+{
+    let others = without(alloc, constants, definition.name.as_str())?;
+    resolve_value(
+        alloc,
+        &others,
+        arities,
+        &Names::Outermost,
+        &definition.parameters,
+        &definition.right,
+    )
+}
+
+// `(=) c`, where c is a free variable.
+fn equality_with(
+    alloc: Global,
+    constants: &[(Name, Ty)],
+    defined: &str,
+) -> Result<RawTerm, ResolveError>
+    ensures ok { IfOk result (λ t. raw_tree t ≡ RawApply (operator_raw constants.now [] Equals) (RawFree defined.now)) }
+    ensures memory { IsOkUnless result ResolveError.Memory }
+{
+    let equality = operator(alloc, constants, &Names::Outermost, Operator::Equals)?;
+    let name = Name::new(alloc, defined)?;
+    Ok(RawTerm::apply(alloc, equality, RawTerm::Free(name))?)
+}
+
 /// `c = \v1 .. vn. r`, its identifiers resolved: c is a free variable whatever stands.
 ///
 /// Answers `Arity` only where a type that is written has that fault.
@@ -100,18 +137,7 @@ pub fn resolve_definition(
     ensures ok { IfOk result (λ t. (raw_tree t ≡ definition_raw arities.now constants.now definition.now) × (definition_has_arities arities.now definition.now ≡ true)) }
     ensures arity { IfErr result (λ e. e ≡ ResolveError.Arity → definition_has_arities arities.now definition.now ≡ false) }
 {
-    let defined = definition.name.as_str();
-    let others = without(alloc, constants, defined)?;
-    let value = resolve_value(
-        alloc,
-        &others,
-        arities,
-        &Names::Outermost,
-        &definition.parameters,
-        &definition.right,
-    )?;
-    let equality = operator(alloc, constants, &Names::Outermost, Operator::Equals)?;
-    let name = Name::new(alloc, defined)?;
-    let left = RawTerm::apply(alloc, equality, RawTerm::Free(name))?;
+    let value = resolve_parameters(alloc, constants, arities, definition)?;
+    let left = equality_with(alloc, constants, definition.name.as_str())?;
     Ok(RawTerm::apply(alloc, left, value)?)
 }

@@ -1,6 +1,7 @@
 //! The equations between slots that the typings of a term meet.
-ghost use Rattle.std.specs.Prelude.{◌≡◌, ◌+◌, ◌<◌, ◌≤◌, [], length, IfOk, OnOk, MatchOption, Some, None};
+ghost use Rattle.std.specs.Prelude.{◌≡◌, ◌+◌, ◌<◌, ◌≤◌, ℕ, List, [], length, IfOk, OnOk, MatchOption, Some, None};
 ghost use Rattle.std.specs.List.{All};
+ghost use Rattle.hol_infer.specs.Raw.{RawBound, RawConstant, RawFree};
 ghost use Rattle.hol_infer.specs.RawView.{raw_tree, slot_tree, scope_slots};
 ghost use Rattle.hol_infer.specs.Generate.{slots, slot_of, IsWellFormed, IsNewCell, IsFresh, IsFunction, IsEquated, AddsUnknown, IsPlace, HasNoPlace, IsRigidBut, IsRigidOption, IsClosedAt, BuildsType, Instantiates, FindsName, BuildsVariable, Generates};
 
@@ -166,6 +167,51 @@ impl Graph {
         }
     }
 
+    // A bound variable, whose type is that of the slot `expected`.
+    fn bound(
+        &mut self,
+        scope: &Scope<'_>,
+        index: usize,
+        expected: usize,
+    ) -> Result<Skeleton, AllocError>
+        requires well_formed { IsWellFormed self.old }
+        requires bound_in { All (λ s. s < slots self.old) (scope_slots scope.now) }
+        requires index_in { index < length (scope_slots scope.now) }
+        requires expected_in { expected < slots self.old }
+        ensures { IfOk result (λ skeleton. Generates self.old self.new (scope_slots scope.now) (RawBound index) expected (slot_tree skeleton)) }
+    {
+        let slot = scope.slot(index);
+        self.equate(slot, expected)?;
+        Ok(Skeleton::Bound(index))
+    }
+
+    // A constant, whose type is that of the slot `expected`.
+    fn constant(
+        &mut self,
+        alloc: Global,
+        name: &Name,
+        generic: &Ty,
+        expected: usize,
+    ) -> Result<Skeleton, AllocError>
+        requires well_formed { IsWellFormed self.old }
+        requires expected_in { expected < slots self.old }
+        ensures { IfOk result (λ skeleton. (env : List ℕ) → Generates self.old self.new env (RawConstant name.now generic.now) expected (slot_tree skeleton)) }
+    {
+        self.instantiate(alloc, generic, expected)?;
+        Ok(Skeleton::Constant(name.copy()?, expected))
+    }
+
+    // A free variable, whose type is that of the slot `expected`.
+    fn free(&mut self, name: &Name, expected: usize) -> Result<Skeleton, AllocError>
+        requires well_formed { IsWellFormed self.old }
+        requires expected_in { expected < slots self.old }
+        ensures { IfOk result (λ skeleton. (env : List ℕ) → Generates self.old self.new env (RawFree name.now) expected (slot_tree skeleton)) }
+    {
+        let slot = self.name_slot(name)?;
+        self.equate(slot, expected)?;
+        Ok(Skeleton::Free(name.copy()?, expected))
+    }
+
     /// Adds slots and equations for the term, whose type is that of the slot `expected`.
     pub fn generate(
         &mut self,
@@ -181,27 +227,15 @@ impl Graph {
         ensures { IfOk result (λ skeleton. Generates self.old self.new (scope_slots scope.now) (raw_tree term.now) expected (slot_tree skeleton)) }
     {
         match term {
-            RawTerm::Bound(index) => {
-                let slot = scope.slot(*index);
-                self.equate(slot, expected)?;
-                Ok(Skeleton::Bound(*index))
-            }
-            RawTerm::Constant(name, generic) => {
-                self.instantiate(alloc, generic, expected)?;
-                Ok(Skeleton::Constant(name.copy()?, expected))
-            }
-            RawTerm::Free(name) => {
-                let slot = self.name_slot(name)?;
-                self.equate(slot, expected)?;
-                Ok(Skeleton::Free(name.copy()?, expected))
-            }
+            RawTerm::Bound(index) => self.bound(&*scope, *index, expected),
+            RawTerm::Constant(name, generic) => self.constant(alloc, name, generic, expected),
+            RawTerm::Free(name) => self.free(name, expected),
             RawTerm::Apply(function, argument) => {
                 let domain = self.fresh(Cell::Unknown)?;
                 let function_slot = self.function(alloc, domain, expected)?;
                 let left = self.generate(alloc, &*scope, function, function_slot)?;
                 let right = self.generate(alloc, &*scope, argument, domain)?;
-                let whole = Skeleton::apply(alloc, left, right)?;
-                Ok(whole)
+                Skeleton::apply(alloc, left, right)
             }
             RawTerm::Abstraction(name, annotation, body) => {
                 let variable = self.variable_slot(alloc, annotation)?;
@@ -210,14 +244,12 @@ impl Graph {
                 self.equate(whole, expected)?;
                 let inside = Scope::Inside(variable, &*scope);
                 let inner = self.generate(alloc, &inside, body, range)?;
-                let abstraction = Skeleton::abstraction(alloc, name, variable, inner)?;
-                Ok(abstraction)
+                Skeleton::abstraction(alloc, name, variable, inner)
             }
             RawTerm::Annotated(inner, ty) => {
                 let slot = self.type_slot(alloc, &[], 0, ty)?;
                 self.equate(slot, expected)?;
-                let skeleton = self.generate(alloc, &*scope, inner, expected)?;
-                Ok(skeleton)
+                self.generate(alloc, &*scope, inner, expected)
             }
         }
     }

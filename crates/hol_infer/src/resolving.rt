@@ -1,15 +1,16 @@
 //! What the identifiers of types and terms as they are written mean.
 ghost use Rattle.std.specs.Prelude.{◌≡◌, codes, IfOk, IfErr, IsOkUnless, MatchOption, Some, None, true, false};
+ghost use Rattle.hol_types.specs.Tree.{TyApp, type_list};
 ghost use Rattle.hol_types.specs.Fun.{fun_type};
 ghost use Rattle.hol_infer.specs.RawView.{raw_tree};
 ghost use Rattle.hol_infer.specs.NamesView.{scope_names};
 ghost use Rattle.hol_infer.specs.Resolving.{arity_of, generic_type_of, ident_type, begins_with_mark, written_variable, stands_alone, takes, type_of_text, has_arities, option_has_arities, term_has_arities, name_index, identifier, sign, bool_type, operator_raw, raw_of};
 ghost use Rattle.std.specs.Option.{option_map};
 ghost use Rattle.hol_infer.specs.declared.resolving.ResolveError.TheVariants.{Memory};
-ghost use Rattle.hol_infer.specs.Raw.{RawConstant};
+ghost use Rattle.hol_infer.specs.Raw.{RawConstant, RawApply, RawAbstraction, RawAnnotated};
 
 use crate::raw::RawTerm;
-use hol_notation_terms::{Operator, PreTerm, PreTermNode, PreType, PreTypeNode};
+use hol_notation_terms::{Operator, PreTerm, PreTermNode, PreType, PreTypeNode, PreVariable};
 use hol_types::{Name, Ty};
 use std::alloc::{AllocError, AllocFailed, Global};
 
@@ -140,6 +141,14 @@ fn ident_type(alloc: Global, arities: &[(Name, usize)], name: &str) -> Result<Ty
     }
 }
 
+// The constructor of the name applied to the types.
+fn constructed(alloc: Global, constructor: &str, types: &[Ty]) -> Result<Ty, AllocError>
+    ensures { IfOk result (λ t. t ≡ TyApp constructor.now (type_list types.now)) }
+{
+    let name = Name::new(alloc, constructor)?;
+    Ty::app(alloc, &name, types)
+}
+
 /// The type that is written, among constructors of these arities.
 ///
 /// Answers `Arity` only where a constructor stands with another number of arguments than its arity, or arguments are given to a name
@@ -168,8 +177,7 @@ pub fn resolve_type(
                 let ty = resolve_type(alloc, arities, arg)?;
                 types.push(ty)?;
             }
-            let name = Name::new(alloc, constructor.as_str())?;
-            let ty = Ty::app(alloc, &name, &types)?;
+            let ty = constructed(alloc, constructor.as_str(), &types)?;
             Ok(ty)
         }
     }
@@ -280,6 +288,42 @@ pub fn operator(
     }
 }
 
+// The application of the first to the second.
+fn applied(alloc: Global, function: RawTerm, argument: RawTerm) -> Result<RawTerm, ResolveError>
+    ensures ok { IfOk result (λ t. raw_tree t ≡ RawApply (raw_tree function) (raw_tree argument)) }
+    ensures memory { IsOkUnless result ResolveError.Memory }
+{
+    Ok(RawTerm::apply(alloc, function, argument)?)
+}
+
+// The abstraction over the variable that is written.
+fn abstracted(
+    alloc: Global,
+    arities: &[(Name, usize)],
+    variable: &PreVariable,
+    body: RawTerm,
+) -> Result<RawTerm, ResolveError>
+    ensures ok { IfOk result (λ t. (raw_tree t ≡ RawAbstraction variable.now.name (option_map (type_of_text arities.now) variable.now.annotation) (raw_tree body)) × (option_has_arities arities.now variable.now.annotation ≡ true)) }
+    ensures arity { IfErr result (λ e. e ≡ ResolveError.Arity → option_has_arities arities.now variable.now.annotation ≡ false) }
+{
+    let annotation = resolve_annotation(alloc, arities, &variable.annotation)?;
+    Ok(RawTerm::abstraction(alloc, variable.name.as_str(), annotation, body)?)
+}
+
+// The term with the type that is written.
+fn typed(
+    alloc: Global,
+    arities: &[(Name, usize)],
+    term: RawTerm,
+    ty: &PreType,
+) -> Result<RawTerm, ResolveError>
+    ensures ok { IfOk result (λ t. (raw_tree t ≡ RawAnnotated (raw_tree term) (type_of_text arities.now ty.now)) × (has_arities arities.now ty.now ≡ true)) }
+    ensures arity { IfErr result (λ e. e ≡ ResolveError.Arity → has_arities arities.now ty.now ≡ false) }
+{
+    let ty = resolve_type(alloc, arities, ty)?;
+    Ok(RawTerm::annotated(alloc, term, ty)?)
+}
+
 /// The term whose identifiers are resolved, under abstractions over variables of these names.
 ///
 /// Answers `Arity` only where a type that is written has that fault.
@@ -299,18 +343,16 @@ pub fn resolve(
         PreTermNode::Apply(function, argument) => {
             let left = resolve(alloc, constants, arities, &*names, function)?;
             let right = resolve(alloc, constants, arities, &*names, argument)?;
-            Ok(RawTerm::apply(alloc, left, right)?)
+            applied(alloc, left, right)
         }
         PreTermNode::Abstraction(variable, body) => {
-            let annotation = resolve_annotation(alloc, arities, &variable.annotation)?;
             let inside = Names::Inside(variable.name.as_str(), &*names);
             let inner = resolve(alloc, constants, arities, &inside, body)?;
-            Ok(RawTerm::abstraction(alloc, variable.name.as_str(), annotation, inner)?)
+            abstracted(alloc, arities, variable, inner)
         }
         PreTermNode::Typed(inner, ty) => {
             let inner = resolve(alloc, constants, arities, &*names, inner)?;
-            let ty = resolve_type(alloc, arities, ty)?;
-            Ok(RawTerm::annotated(alloc, inner, ty)?)
+            typed(alloc, arities, inner, ty)
         }
     }
 }

@@ -1,7 +1,7 @@
 //! The statements of a type definition about the constants to and from the new type.
 ghost use Rattle.std.specs.Prelude.{◌≡◌, IfOk, Some, []};
 ghost use Rattle.hol_types.specs.Fun.{fun_type};
-ghost use Rattle.hol_terms.specs.Named.{constant, comb, named_type};
+ghost use Rattle.hol_terms.specs.Named.{var, constant, comb, named_type};
 ghost use Rattle.hol_terms.specs.Nameless.{nameless};
 ghost use Rattle.hol_formulas.specs.Equation.{bool_type, mk_eq};
 ghost use Rattle.hol_kernel.specs.Bijections.{abs_rep, rep_abs};
@@ -22,11 +22,8 @@ pub fn abs_rep(
     ensures is { IfOk result (λ t. nameless [] t ≡ abs_rep abs.now rep.now old.now new.now) }
     ensures typed { IfOk result (λ t. named_type t ≡ Some bool_type) }
 {
-    let v = variable(alloc, "a", new)?;
-    let a = occurrence(alloc, &v)?;
-    let inner = image(alloc, rep, new, old, &a)?;
-    let outer = image(alloc, abs, old, new, &inner)?;
-    mk_eq(alloc, new, &outer, &a)
+    let a = letter(alloc, "a", new)?;
+    returns(alloc, rep, abs, new, old, &a)
 }
 
 /// `P r = (rep (abs r) = r)`, for a variable `r` of the type that the predicate is about.
@@ -43,11 +40,19 @@ pub fn rep_abs(
     ensures is { IfOk result (λ t. nameless [] t ≡ rep_abs abs.now rep.now (nameless [] predicate.now) old.now new.now) }
     ensures typed { IfOk result (λ t. named_type t ≡ Some bool_type) }
 {
-    let v = variable(alloc, "r", old)?;
-    let r = occurrence(alloc, &v)?;
+    let r = letter(alloc, "r", old)?;
     let left = Term::application(alloc, predicate, &r)?;
     let right = returns(alloc, abs, rep, old, new, &r)?;
     mk_iff(alloc, &left, &right)
+}
+
+// The variable of the name and the type, as a term.
+fn letter(alloc: Global, name: &str, ty: &Ty) -> Result<Term, AllocError>
+    ensures is { IfOk result (λ t. t ≡ var (name.now, ty.now)) }
+    ensures typed { IfOk result (λ t. named_type t ≡ Some ty.now) }
+{
+    let v = variable(alloc, name, ty)?;
+    occurrence(alloc, &v)
 }
 
 // `rep (abs r) = r`.

@@ -1,5 +1,5 @@
 //! Hypotheses: finite sets of terms, taken up to the names of bound variables.
-ghost use Rattle.std.specs.Prelude.{◌≡◌, true, not, IfOk, OnOk, map, [], ◌++◌};
+ghost use Rattle.std.specs.Prelude.{◌≡◌, true, not, IfOk, OnOk, map, [], ◌∷◌, ◌++◌};
 ghost use Rattle.std.specs.List.{filter, list_any};
 ghost use Rattle.std.specs.List.Sorted.{IsStrictlySortedBy};
 ghost use Rattle.std.specs.Set.{sorted_merge};
@@ -181,16 +181,16 @@ fn merged(alloc: Global, first: &[Term], second: &[Term]) -> Result<Vec<Term>, A
     while i < first.len() && j < second.len() {
         match hypothesis_order(&first[i], &second[j]) {
             Ordering::Less => {
-                all.push(first[i].copy()?)?;
+                push_copy(&mut all, &first[i])?;
                 i += 1;
             }
             Ordering::Equal => {
-                all.push(first[i].copy()?)?;
+                push_copy(&mut all, &first[i])?;
                 i += 1;
                 j += 1;
             }
             Ordering::Greater => {
-                all.push(second[j].copy()?)?;
+                push_copy(&mut all, &second[j])?;
                 j += 1;
             }
         }
@@ -200,12 +200,20 @@ fn merged(alloc: Global, first: &[Term], second: &[Term]) -> Result<Vec<Term>, A
     Ok(all)
 }
 
+// Puts a copy of the term at the end.
+fn push_copy(all: &mut Vec<Term>, p: &Term) -> Result<(), AllocError>
+    ensures { OnOk result (all.new.items ≡ all.old.items ++ p.now ∷ []) }
+{
+    all.push(p.copy()?)?;
+    Ok(())
+}
+
 // Puts copies of the terms at the end.
 fn copy_to(all: &mut Vec<Term>, terms: &[Term]) -> Result<(), AllocError>
     ensures { OnOk result (all.new.items ≡ all.old.items ++ terms.now) }
 {
     for p in terms {
-        all.push(p.copy()?)?;
+        push_copy(all, p)?;
     }
     Ok(())
 }

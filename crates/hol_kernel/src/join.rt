@@ -1,5 +1,5 @@
 //! Bases put together.
-ghost use Rattle.std.specs.Prelude.{◌≡◌, ◌++◌, true, IfOk, OnOk, MatchOption, Some, None};
+ghost use Rattle.std.specs.Prelude.{◌≡◌, [], ◌∷◌, ◌++◌, true, IfOk, OnOk, MatchOption, Some, None};
 ghost use Rattle.std.specs.Set.{sorted_merge};
 ghost use Rattle.std.specs.FinSet as set;
 ghost use Rattle.hol_kernel.specs.Items.{IsSubset};
@@ -91,16 +91,16 @@ fn merged(alloc: Global, first: &[Item], second: &[Item]) -> Result<Vec<Item>, A
     while i < first.len() && j < second.len() {
         match first[i].name_order(&second[j]) {
             Ordering::Less => {
-                all.push(first[i].copy()?)?;
+                push_copy(&mut all, &first[i])?;
                 i += 1;
             }
             Ordering::Equal => {
-                all.push(first[i].copy()?)?;
+                push_copy(&mut all, &first[i])?;
                 i += 1;
                 j += 1;
             }
             Ordering::Greater => {
-                all.push(second[j].copy()?)?;
+                push_copy(&mut all, &second[j])?;
                 j += 1;
             }
         }
@@ -110,12 +110,20 @@ fn merged(alloc: Global, first: &[Item], second: &[Item]) -> Result<Vec<Item>, A
     Ok(all)
 }
 
+// Puts a copy of the item at the end.
+fn push_copy(all: &mut Vec<Item>, x: &Item) -> Result<(), AllocError>
+    ensures { OnOk result (all.new.items ≡ all.old.items ++ x.now ∷ []) }
+{
+    all.push(x.copy()?)?;
+    Ok(())
+}
+
 // Puts copies of the items at the end.
 fn copy_to(all: &mut Vec<Item>, items: &[Item]) -> Result<(), AllocError>
     ensures { OnOk result (all.new.items ≡ all.old.items ++ items.now) }
 {
     for x in items {
-        all.push(x.copy()?)?;
+        push_copy(all, x)?;
     }
     Ok(())
 }

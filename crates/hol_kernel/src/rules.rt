@@ -1,5 +1,8 @@
 //! The primitive rules of HOL Light (fusion.ml) that need no substitution.
-ghost use Rattle.std.specs.Prelude.{◌≡◌, IfOk, []};
+ghost use Rattle.std.specs.Prelude.{◌≡◌, IfOk, Some, []};
+ghost use Rattle.hol_types.specs.Fun.{fun_type};
+ghost use Rattle.hol_terms.specs.Named.{abs, named_type};
+ghost use Rattle.hol_formulas.specs.Equation.{bool_type, mk_eq};
 ghost use Rattle.hol_terms.specs.Nameless.{nameless};
 ghost use Rattle.hol_kernel.specs.Rules.{refl_of, assume_of, beta_of, trans_of, mk_comb_of, abs_of, eq_mp_of, deduct_antisym_of};
 ghost use Rattle.hol_kernel.specs.Theorem.{theorem_on, over};
@@ -10,8 +13,8 @@ use crate::basis::Basis;
 use crate::error::{KernelError, Rule};
 use crate::hypotheses::Hypotheses;
 use crate::thm::Thm;
-use hol_formulas::{bool_type, dest_eq, is_bool, mk_eq};
-use hol_terms::{Term, TermNode};
+use hol_formulas::{Sides, bool_type, dest_eq, is_bool, mk_eq};
+use hol_terms::{Term, TermNode, Variable};
 use hol_types::Ty;
 use std::alloc::{AllocError, Global};
 
@@ -120,10 +123,7 @@ impl Thm {
         if !a.basis().is_type(variable.ty()) || a.hypotheses().has_free(variable) {
             return Err(KernelError::Refused(Rule::Abs));
         }
-        let left = Term::abstraction(alloc, variable, x.left)?;
-        let right = Term::abstraction(alloc, variable, x.right)?;
-        let ty = Ty::fun(alloc, variable.ty(), x.ty)?;
-        let concl = mk_eq(alloc, &ty, &left, &right)?;
+        let concl = abstracted(alloc, variable, x)?;
         let hyps = a.hypotheses().copy()?;
         Ok(Thm::closed(a.basis(), hyps, concl)?)
     }
@@ -190,4 +190,17 @@ impl Thm {
         let hyps = first.union(alloc, &second)?;
         Thm::closed(a.basis(), hyps, concl)
     }
+}
+
+// The equation of the abstractions of the sides.
+fn abstracted(alloc: Global, v: &Variable, x: Sides<'_>) -> Result<Term, AllocError>
+    requires left { named_type x.left.now ≡ Some x.ty.now }
+    requires right { named_type x.right.now ≡ Some x.ty.now }
+    ensures is { IfOk result (λ t. t ≡ mk_eq (fun_type v.now.1 x.entry.ty.now) (abs v.now x.entry.left.now) (abs v.now x.entry.right.now)) }
+    ensures typed { IfOk result (λ t. named_type t ≡ Some bool_type) }
+{
+    let left = Term::abstraction(alloc, v, x.left)?;
+    let right = Term::abstraction(alloc, v, x.right)?;
+    let ty = Ty::fun(alloc, v.ty(), x.ty)?;
+    mk_eq(alloc, &ty, &left, &right)
 }

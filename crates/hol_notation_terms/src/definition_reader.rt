@@ -1,5 +1,5 @@
 //! The reader of definitions, one function for each part of the grammar.
-ghost use Rattle.std.specs.Prelude.{◌≡◌, ◌<◌, length, map, bytes_eq, IfOk, MatchResult};
+ghost use Rattle.std.specs.Prelude.{◌≡◌, ◌<◌, ◌∷◌, ◌++◌, [], length, map, bytes_eq, IfOk, IsOkUnless, MatchResult};
 ghost use Rattle.std.specs.List.{list_any};
 ghost use Rattle.hol_notation_tokens.specs.Token.{is_among};
 ghost use Rattle.hol_notation_tokens.specs.Lexeme.{seen};
@@ -47,6 +47,22 @@ pub fn read_definition_quotation<'a, 't>(
     ))
 }
 
+// The parameters before and one more.
+fn with_parameter(
+    alloc: Global,
+    before: Vec<PreVariable>,
+    text: &str,
+    annotation: Option<PreType>,
+) -> Result<Vec<PreVariable>, SyntaxError>
+    ensures ok { IfOk result (λ ps. ps.items ≡ before.items ++ record { name = text.now; annotation = annotation } ∷ []) }
+    ensures memory { IsOkUnless result SyntaxError.Memory }
+{
+    let name = String::from_str(alloc, text)?;
+    let mut parameters = before;
+    parameters.push(PreVariable { name, annotation })?;
+    Ok(parameters)
+}
+
 // The parameters that follow those before them, and the right side.
 fn read_parameters<'a, 't>(
     alloc: Global,
@@ -61,10 +77,7 @@ fn read_parameters<'a, 't>(
     match accept(words, Class::Identifier) {
         Some((_next, _behind)) => {
             let (word, after) = expect_parameter(constant, &before, words, end)?;
-            let name = String::from_str(alloc, word.text)?;
-            let annotation = None;
-            let mut parameters = before;
-            parameters.push(PreVariable { name, annotation })?;
+            let parameters = with_parameter(alloc, before, word.text, None)?;
             let (read, rest) = read_parameters(alloc, constant, parameters, after, end)?;
             Ok((read, rest))
         }
@@ -72,10 +85,7 @@ fn read_parameters<'a, 't>(
             Some((_open, inside)) => {
                 let (word, after) = expect_parameter(constant, &before, inside, end)?;
                 let (ty, later) = read_ascription(alloc, after, end)?;
-                let name = String::from_str(alloc, word.text)?;
-                let annotation = Some(ty);
-                let mut parameters = before;
-                parameters.push(PreVariable { name, annotation })?;
+                let parameters = with_parameter(alloc, before, word.text, Some(ty))?;
                 let (read, rest) = read_parameters(alloc, constant, parameters, later, end)?;
                 Ok((read, rest))
             }

@@ -250,6 +250,9 @@ module _ (pairs : List (TypeTree × List ℕ)) (old new : Variables) where
   pub variable_at : (v u : Var) (t : Named) (o : Option Named) → t ≡ var v → KeepsTypes pairs old new → u ≡ image pairs old new v → unwrap_or o (var v) ≡ var u → IsInstance pairs old new t (unwrap_or o t)
   variable_at v u t o e h p q = subst (λ (x : Named). IsInstance pairs old new x (unwrap_or o x)) (sym e) (variable_part v u o h p q)
 
+  pub constant_at : (c : List ℕ) (s : TypeTree) (t : Named) (o : Option Named) → t ≡ constant c s → unwrap_or o (constant c s) ≡ constant c (type_subst pairs s) → IsInstance pairs old new t (unwrap_or o t)
+  constant_at c s t o e q = subst (λ (x : Named). IsInstance pairs old new x (unwrap_or o x)) (sym e) (subst (λ (r : Named). IsInstance pairs old new (constant c s) r) (sym q) (instance_constant pairs old new c s))
+
   application_part : (f x : Named) (g y o : Option Named) → IsInstance pairs old new f (unwrap_or g f) → IsInstance pairs old new x (unwrap_or y x) → unwrap_or o (comb f x) ≡ comb (unwrap_or g f) (unwrap_or y x) → IsInstance pairs old new (comb f x) (unwrap_or o (comb f x))
   application_part f x g y o m n q = subst (λ (r : Named). IsInstance pairs old new (comb f x) r) (sym q) (instance_comb pairs old new f x (unwrap_or g f) (unwrap_or y x) m n)
 

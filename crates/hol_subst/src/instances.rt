@@ -1,7 +1,8 @@
 //! Instantiation of type variables in terms.
 ghost use Rattle.std.specs.Prelude.{◌≡◌, ◌⊎◌, [], map, IfOk, IsSome, Some, unwrap_or};
 ghost use Rattle.hol_types.specs.Tree.{TypeTree};
-ghost use Rattle.hol_terms.specs.Named.{var, comb, abs, named_type};
+ghost use Rattle.hol_types.specs.Subst.{type_subst};
+ghost use Rattle.hol_terms.specs.Named.{var, constant, comb, abs, named_type};
 ghost use Rattle.hol_terms.specs.Nameless.{nameless, free_occurrences};
 ghost use Rattle.hol_terms.specs.Scope.{binders};
 ghost use Rattle.hol_terms.specs.Scoped.{add_all};
@@ -64,19 +65,13 @@ fn changed(
     match t.node() {
         TermNode::Var(v) => {
             let u = image(alloc, pairs, old, new, v)?;
-            Ok(changed_variable(alloc, v, &u)?)
+            changed_variable(alloc, v, &u)
         }
-        TermNode::Const(c, ty) => {
-            let new_ty = ty.subst(alloc, pairs)?;
-            if new_ty.same(ty) {
-                return Ok(None);
-            }
-            Ok(Some(Term::constant(alloc, c, &new_ty)?))
-        }
+        TermNode::Const(c, ty) => changed_constant(alloc, pairs, c, ty),
         TermNode::Comb(f, x) => {
             let g = changed(alloc, pairs, names, old, new, renamed, f)?;
             let y = changed(alloc, pairs, names, old, new, renamed, x)?;
-            Ok(changed_application(alloc, t, f, g, x, y)?)
+            changed_application(alloc, t, f, g, x, y)
         }
         TermNode::Abs(v, b) => {
             let u = new_binder(alloc, pairs, old, new, v, b)?;
@@ -84,7 +79,7 @@ fn changed(
             let inside_new = &Scope::Inside(&u, &*new);
             let renamed = with_binder(renamed, v, &u);
             let c = changed(alloc, pairs, names, inside_old, inside_new, renamed, b)?;
-            Ok(changed_abstraction(alloc, v, &u, b, c)?)
+            changed_abstraction(alloc, v, &u, b, c)
         }
     }
 }
@@ -108,6 +103,22 @@ fn changed_variable(alloc: Global, v: &Variable, u: &Variable) -> Result<Option<
         return Ok(None);
     }
     Ok(Some(Term::var(alloc, u)?))
+}
+
+// The instance of the constant, or nothing where its type stays.
+fn changed_constant(
+    alloc: Global,
+    pairs: &[(Ty, Name)],
+    c: &Name,
+    ty: &Ty,
+) -> Result<Option<Term>, AllocError>
+    ensures { IfOk result (λ r. unwrap_or r (constant c.now ty.now) ≡ constant c.now (type_subst pairs.now ty.now)) }
+{
+    let new_ty = ty.subst(alloc, pairs)?;
+    if new_ty.same(ty) {
+        return Ok(None);
+    }
+    Ok(Some(Term::constant(alloc, c, &new_ty)?))
 }
 
 // The application of what became of `f` to what became of `x`, or nothing where both stayed. It fits if the types of the application

@@ -96,25 +96,25 @@ fn substituted(
         return Ok(None);
     }
     match t.node() {
-        TermNode::Var(v) => Ok(at_variable(pairs, v)?),
+        TermNode::Var(v) => at_variable(pairs, v),
         TermNode::Const(_, _) => Ok(None),
         TermNode::Comb(f, x) => {
             let function = substituted(alloc, f, pairs)?;
             let argument = substituted(alloc, x, pairs)?;
             // The term has a type, so those of its parts fit.
             let _ = t.type_of();
-            Ok(applied(alloc, f, function, x, argument)?)
+            applied(alloc, f, function, x, argument)
         }
         TermNode::Abs(v, b) => {
             let rest = rest_of(alloc, pairs, v, b)?;
             if !comes_in(&rest, v, b) {
                 let inside = substituted(alloc, b, &rest)?;
-                return Ok(abstracted(alloc, v, inside)?);
+                return abstracted(alloc, v, inside);
             }
             let u = renaming(alloc, &rest, v, b)?;
             let renamed = renaming_first(alloc, &u, v, rest)?;
-            let inside = or_same(substituted(alloc, b, &renamed)?, b)?;
-            Ok(Some(Term::abstraction(alloc, &u, &inside)?))
+            let inside = substituted(alloc, b, &renamed)?;
+            renamed_abstraction(alloc, &u, inside, b)
         }
     }
 }
@@ -156,6 +156,19 @@ fn abstracted(alloc: Global, v: &Variable, inside: Option<Term>) -> Result<Optio
         Some(inside) => Ok(Some(Term::abstraction(alloc, v, &inside)?)),
         None => Ok(None),
     }
+}
+
+// The abstraction of another variable, in a body that was changed or in `b`.
+fn renamed_abstraction(
+    alloc: Global,
+    u: &Variable,
+    inside: Option<Term>,
+    b: &Term,
+) -> Result<Option<Term>, AllocError>
+    ensures { IfOk result (λ r. (old : Named) → unwrap_or r old ≡ abs u.now (unwrap_or inside b.now)) }
+{
+    let inside = or_same(inside, b)?;
+    Ok(Some(Term::abstraction(alloc, u, &inside)?))
 }
 
 // The changed term, or a copy of the old one.

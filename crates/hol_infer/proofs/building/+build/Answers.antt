@@ -1,14 +1,16 @@
 use Rattle.std.proofs.Common.{◌≡◌, map, length, sym, subst, ap, ◌∙◌, rules, List, ℕ, ◌∷◌}
+use Rattle.std.proofs.lemmas.Result.{IfOk-weaker}
 use Rattle.hol_types.specs.Tree.{TypeTree}
+use Rattle.hol_terms.specs.Named.{var, constant}
 use Rattle.hol_terms.specs.Scope.{binders}
-use Rattle.hol_terms.specs.Nameless.{nameless, base_of, place}
+use Rattle.hol_terms.specs.Nameless.{nameless, base_of}
 use Rattle.hol_infer.specs.RawView.{slot_tree}
-use Rattle.hol_infer.specs.SlotTree.{SlotTree, SlotBound, SlotFree, SlotApply, SlotAbstraction, typed, AreSlotsIn}
+use Rattle.hol_infer.specs.SlotTree.{SlotTree, SlotBound, SlotConstant, SlotFree, SlotApply, SlotAbstraction, typed, AreSlotsIn}
 use Rattle.hol_infer.specs.Scoped.{IsSlotScoped}
 use Rattle.hol_infer.specs.Found.{types_at}
 use Rattle.hol_infer.specs.Holes.{open_type}
 use Rattle.hol_infer.specs.Solved.{IsWellTyped}
-use Rattle.hol_infer.proofs.Named.{bound_place, bound_there, free_place, typed_function, typed_argument, typed_body, comb_fits, only_memory, pair_same, function_falls, argument_falls, body_falls}
+use Rattle.hol_infer.proofs.Named.{bound_place, bound_there, free_place, typed_function, typed_argument, typed_body, comb_fits, only_memory, function_falls, argument_falls, body_falls}
 use Rattle.hol_infer.proofs.building.+build.Goals as goal
 
 pub build-requires : goal.build-requires
@@ -50,7 +52,7 @@ build-requires-in-Abstraction t c =
     let e : slot_tree c.args.term.now ≡ SlotAbstraction c.in-Abstraction.name c.in-Abstraction.slot (slot_tree c.in-Abstraction.body.value) = ap slot_tree c.in-Abstraction.is in
     let f : slot_tree c.in-Abstraction.body.value ≡ slot_tree c.deref-in-Abstraction.result.now = sym (ap slot_tree c.deref-in-Abstraction.ensures) in
     let v_is : c.in_ok-variable-in-Abstraction.variable ≡ (c.in-Abstraction.name, types_at c.args.shapes.now (open_type c.args.order.now) c.in-Abstraction.slot) =
-    pair_same c.in_ok-variable-in-Abstraction.variable c.in-Abstraction.name c.in_ok-ty-in-Abstraction.ty (types_at c.args.shapes.now (open_type c.args.order.now) c.in-Abstraction.slot) c.in_ok-variable-in-Abstraction.ensures c.in_ok-ty-in-Abstraction.ensures in
+    c.in_ok-variable-in-Abstraction.ensures in
     let whole = subst (λ (s : SlotTree). IsWellTyped (map (λ v. v.1) (binders c.args.scope.now)) (typed (types_at c.args.shapes.now (open_type c.args.order.now)) s)) e c.requires.well_typed in
     let size = body_falls (slot_tree c.args.term.now) (slot_tree c.in-Abstraction.body.value) (slot_tree c.deref-in-Abstraction.result.now) c.in-Abstraction.name c.in-Abstraction.slot e f in (
       search rules,
@@ -78,14 +80,25 @@ returns-in-None-clause-memory t c =
     let e : slot_tree c.args.term.now ≡ SlotBound c.in-Bound.index = ap slot_tree c.in-Bound.is in
     absurd (bound_there (binders c.args.scope.now) c.in-Bound.index (subst (λ (s : SlotTree). IsSlotScoped (map (λ v. v.0) (binders c.args.scope.now)) s) e c.requires.scoped) c.in-None.ensures)
 
-pub returns-in_ok-var-in-Free-clause-ok : goal.returns-in_ok-var-in-Free-clause-ok
-returns-in_ok-var-in-Free-clause-ok t c =
+pub returns-in-Constant-clause-ok : goal.returns-in-Constant-clause-ok
+returns-in-Constant-clause-ok t c =
+    let e : slot_tree c.args.term.now ≡ SlotConstant c.in-Constant.name c.in-Constant.slot = ap slot_tree c.in-Constant.is in
+    IfOk-weaker c.constant_at.result
+    (λ r. r ≡ constant c.in-Constant.name (types_at c.args.shapes.now (open_type c.args.order.now) c.in-Constant.slot))
+    (λ r. nameless (binders c.args.scope.now) r ≡ typed (types_at c.args.shapes.now (open_type c.args.order.now)) (slot_tree c.args.term.now))
+    (λ r is. ap (nameless (binders c.args.scope.now)) is ∙ sym (ap (typed (types_at c.args.shapes.now (open_type c.args.order.now))) e))
+    c.constant_at.ensures.ok
+
+pub returns-in-Free-clause-ok : goal.returns-in-Free-clause-ok
+returns-in-Free-clause-ok t c =
     let e : slot_tree c.args.term.now ≡ SlotFree c.in-Free.name c.in-Free.slot = ap slot_tree c.in-Free.is in
-    let v_is : c.in_ok-variable-in-Free.variable ≡ (c.in-Free.name, types_at c.args.shapes.now (open_type c.args.order.now) c.in-Free.slot) =
-    pair_same c.in_ok-variable-in-Free.variable c.in-Free.name c.in_ok-ty-in-Free.ty (types_at c.args.shapes.now (open_type c.args.order.now) c.in-Free.slot) c.in_ok-variable-in-Free.ensures c.in_ok-ty-in-Free.ensures in
-    ap (nameless (binders c.args.scope.now)) c.in_ok-var-in-Free.ensures ∙ ap (place (binders c.args.scope.now) 0) v_is
+    IfOk-weaker c.free_at.result
+    (λ r. r ≡ var (c.in-Free.name, types_at c.args.shapes.now (open_type c.args.order.now) c.in-Free.slot))
+    (λ r. nameless (binders c.args.scope.now) r ≡ typed (types_at c.args.shapes.now (open_type c.args.order.now)) (slot_tree c.args.term.now))
+    (λ r is. ap (nameless (binders c.args.scope.now)) is
     ∙ free_place (binders c.args.scope.now) c.in-Free.name (types_at c.args.shapes.now (open_type c.args.order.now) c.in-Free.slot) (subst (λ (s : SlotTree). IsSlotScoped (map (λ v. v.0) (binders c.args.scope.now)) s) e c.requires.scoped)
-    ∙ sym (ap (typed (types_at c.args.shapes.now (open_type c.args.order.now))) e)
+    ∙ sym (ap (typed (types_at c.args.shapes.now (open_type c.args.order.now))) e))
+    c.free_at.ensures.ok
 
 pub returns-in_ok-right-in-Apply-clause-memory : goal.returns-in_ok-right-in-Apply-clause-memory
 returns-in_ok-right-in-Apply-clause-memory t c =

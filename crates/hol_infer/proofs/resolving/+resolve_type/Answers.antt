@@ -32,6 +32,6 @@ pub returns-in_ok-ty-in-Apply-2-clause-ok : goal.returns-in_ok-ty-in-Apply-2-cla
 returns-in_ok-ty-in-Apply-2-clause-ok t c =
     let n : c.len.result ≡ length c.in-Apply.args.items = omega (arith, c.len.ensures, c.in-Apply.args.ok.0) in
     let f : takes (arity_of c.args.arities.now c.as_str-in-Apply.result.now) c.len.result ≡ true = first_of (search rules, grind (arith, common_steps)) in
-    let r : c.in_ok-ty-in-Apply-2.ty ≡ TyApp c.as_str-in-Apply.result.now (type_list c.loop-arg.types.items) = cc (c.in_ok-ty-in-Apply-2.ensures, c.in_ok-name-in-Apply.ensures, c.as_str-in-Apply-2.ensures.value, c.as_str-in-Apply.ensures.value, c.deref.ensures.value) in
+    let r : c.in_ok-ty-in-Apply-2.ty ≡ TyApp c.as_str-in-Apply.result.now (type_list c.loop-arg.types.items) = cc (c.in_ok-ty-in-Apply-2.ensures, c.as_str-in-Apply-2.ensures.value, c.as_str-in-Apply.ensures.value, c.deref.ensures.value) in
     whole_type c.args.arities.now c.args.ty.now _ c.as_str-in-Apply.result.now c.in-Apply.args.items c.deref-arg-items.result.now c.loop-arg.types.items c.len.result c.loop-arg.arg-index c.in_ok-ty-in-Apply-2.ty
     (rw c.in-Apply.is at c.node.ensures) c.as_str-in-Apply.ensures.value n f c.deref-arg-items.ensures.value c.loop-arg-test.false c.loop-arg.invariant.types c.loop-arg.invariant.right r

@@ -7,7 +7,7 @@ use Rattle.hol_notation_grammar.specs.Class.{Taken}
 use Rattle.hol_notation_grammar.specs.Reading.{IsMissing}
 use Rattle.hol_notation_terms.specs.Text.{VariableText}
 use Rattle.hol_notation_terms.specs.TakenNames.{taken_names}
-use Rattle.hol_notation_terms.proofs.DefinitionSteps.{parameter_taken, named_parameter_fails, named_parameter_found, typed_name_missing, typed_ascription_fails, typed_parameter_fails, typed_parameter_found, right_side_fails, right_side_found, taken_more, pushed}
+use Rattle.hol_notation_terms.proofs.DefinitionSteps.{parameter_taken, named_parameter_fails, named_parameter_found, typed_name_missing, typed_ascription_fails, typed_parameter_fails, typed_parameter_found, right_side_fails, right_side_found, taken_more}
 use Rattle.hol_notation_terms.proofs.definition_reader.+read_parameters.Goals as goal
 
 abbrev others : List ℕ → List VariableText → List (List ℕ)
@@ -27,11 +27,11 @@ returns-in_err-word-in-Some-clause-reads t c =
 pub returns-in_err-read-in-Some-clause-reads : goal.returns-in_err-read-in-Some-clause-reads
 returns-in_err-read-in-Some-clause-reads t c =
     let p = err_from_is_err_and c.from_residual-in_err-read-in-Some.result c.from_residual-in_err-read-in-Some.ensures.1 in
-    rw (p.1, p.2) (named_parameter_fails (taken_names c.args.constant.now c.args.before.items) _ c.args.end (map seen c.args.words.now) (map seen c.in_ok-word-in-Some.after.now) _ (seen c.in_ok-word-in-Some.word) (taken_at c.args.constant.now _ _ c.deref.ensures.value c.in_ok-word-in-Some.ensures.taken) (taken_more c.args.constant.now c.args.before.items _ _ (pushed c.args.before.items _ _ c.in_ok-word-in-Some.word.text.now c.in_ok-push-in-Some.ensures.items c.in_ok-name-in-Some.ensures.ok)) c.in_err-read-in-Some.ensures.reads)
+    rw (p.1, p.2) (named_parameter_fails (taken_names c.args.constant.now c.args.before.items) _ c.args.end (map seen c.args.words.now) (map seen c.in_ok-word-in-Some.after.now) _ (seen c.in_ok-word-in-Some.word) (taken_at c.args.constant.now _ _ c.deref.ensures.value c.in_ok-word-in-Some.ensures.taken) (taken_more c.args.constant.now c.args.before.items _ _ c.in_ok-parameters-in-Some.ensures.ok) c.in_err-read-in-Some.ensures.reads)
 
 pub returns-in_ok-read-in-Some-clause-reads : goal.returns-in_ok-read-in-Some-clause-reads
 returns-in_ok-read-in-Some-clause-reads t c =
-    named_parameter_found (taken_names c.args.constant.now c.args.before.items) _ (map seen c.args.words.now) (map seen c.in_ok-word-in-Some.after.now) (map seen c.in_ok-read-in-Some.rest.now) (seen c.in_ok-word-in-Some.word) c.args.before.items _ _ (taken_at c.args.constant.now _ _ c.deref.ensures.value c.in_ok-word-in-Some.ensures.taken) (taken_more c.args.constant.now c.args.before.items _ _ (pushed c.args.before.items _ _ c.in_ok-word-in-Some.word.text.now c.in_ok-push-in-Some.ensures.items c.in_ok-name-in-Some.ensures.ok)) (pushed c.args.before.items _ _ c.in_ok-word-in-Some.word.text.now c.in_ok-push-in-Some.ensures.items c.in_ok-name-in-Some.ensures.ok) c.in_ok-read-in-Some.ensures.reads
+    named_parameter_found (taken_names c.args.constant.now c.args.before.items) _ (map seen c.args.words.now) (map seen c.in_ok-word-in-Some.after.now) (map seen c.in_ok-read-in-Some.rest.now) (seen c.in_ok-word-in-Some.word) c.args.before.items _ _ (taken_at c.args.constant.now _ _ c.deref.ensures.value c.in_ok-word-in-Some.ensures.taken) (taken_more c.args.constant.now c.args.before.items _ _ c.in_ok-parameters-in-Some.ensures.ok) c.in_ok-parameters-in-Some.ensures.ok c.in_ok-read-in-Some.ensures.reads
 
 pub returns-in_err-word-in-Some-accept-clause-reads : goal.returns-in_err-word-in-Some-accept-clause-reads
 returns-in_err-word-in-Some-accept-clause-reads t c =
@@ -46,11 +46,11 @@ returns-in_err-ty-in-Some-accept-clause-reads t c =
 pub returns-in_err-read-in-Some-accept-clause-reads : goal.returns-in_err-read-in-Some-accept-clause-reads
 returns-in_err-read-in-Some-accept-clause-reads t c =
     let p = err_from_is_err_and c.from_residual-in_err-read-in-Some-accept.result c.from_residual-in_err-read-in-Some-accept.ensures.1 in
-    rw (p.1, p.2) (typed_parameter_fails (taken_names c.args.constant.now c.args.before.items) _ c.args.end (map seen c.args.words.now) (map seen c.in-Some-accept.inside.now) (map seen c.in_ok-word-in-Some-accept.after.now) (map seen c.in_ok-ty-in-Some-accept.later.now) _ (seen c.in-Some-accept._open) (seen c.in_ok-word-in-Some-accept.word) _ c.in-Some-accept.ensures.taken (taken_at c.args.constant.now _ _ c.deref-in-Some-accept.ensures.value c.in_ok-word-in-Some-accept.ensures.taken) c.in_ok-ty-in-Some-accept.ensures.reads (taken_more c.args.constant.now c.args.before.items _ _ (pushed c.args.before.items _ _ c.in_ok-word-in-Some-accept.word.text.now c.in_ok-push-in-Some-accept.ensures.items c.in_ok-name-in-Some-accept.ensures.ok)) c.in_err-read-in-Some-accept.ensures.reads)
+    rw (p.1, p.2) (typed_parameter_fails (taken_names c.args.constant.now c.args.before.items) _ c.args.end (map seen c.args.words.now) (map seen c.in-Some-accept.inside.now) (map seen c.in_ok-word-in-Some-accept.after.now) (map seen c.in_ok-ty-in-Some-accept.later.now) _ (seen c.in-Some-accept._open) (seen c.in_ok-word-in-Some-accept.word) _ c.in-Some-accept.ensures.taken (taken_at c.args.constant.now _ _ c.deref-in-Some-accept.ensures.value c.in_ok-word-in-Some-accept.ensures.taken) c.in_ok-ty-in-Some-accept.ensures.reads (taken_more c.args.constant.now c.args.before.items _ _ c.in_ok-parameters-in-Some-accept.ensures.ok) c.in_err-read-in-Some-accept.ensures.reads)
 
 pub returns-in_ok-read-in-Some-accept-clause-reads : goal.returns-in_ok-read-in-Some-accept-clause-reads
 returns-in_ok-read-in-Some-accept-clause-reads t c =
-    typed_parameter_found (taken_names c.args.constant.now c.args.before.items) _ (map seen c.args.words.now) (map seen c.in-Some-accept.inside.now) (map seen c.in_ok-word-in-Some-accept.after.now) (map seen c.in_ok-ty-in-Some-accept.later.now) (map seen c.in_ok-read-in-Some-accept.rest.now) (seen c.in-Some-accept._open) (seen c.in_ok-word-in-Some-accept.word) _ c.args.before.items _ _ c.in-Some-accept.ensures.taken (taken_at c.args.constant.now _ _ c.deref-in-Some-accept.ensures.value c.in_ok-word-in-Some-accept.ensures.taken) c.in_ok-ty-in-Some-accept.ensures.reads (taken_more c.args.constant.now c.args.before.items _ _ (pushed c.args.before.items _ _ c.in_ok-word-in-Some-accept.word.text.now c.in_ok-push-in-Some-accept.ensures.items c.in_ok-name-in-Some-accept.ensures.ok)) (pushed c.args.before.items _ _ c.in_ok-word-in-Some-accept.word.text.now c.in_ok-push-in-Some-accept.ensures.items c.in_ok-name-in-Some-accept.ensures.ok) c.in_ok-read-in-Some-accept.ensures.reads
+    typed_parameter_found (taken_names c.args.constant.now c.args.before.items) _ (map seen c.args.words.now) (map seen c.in-Some-accept.inside.now) (map seen c.in_ok-word-in-Some-accept.after.now) (map seen c.in_ok-ty-in-Some-accept.later.now) (map seen c.in_ok-read-in-Some-accept.rest.now) (seen c.in-Some-accept._open) (seen c.in_ok-word-in-Some-accept.word) _ c.args.before.items _ _ c.in-Some-accept.ensures.taken (taken_at c.args.constant.now _ _ c.deref-in-Some-accept.ensures.value c.in_ok-word-in-Some-accept.ensures.taken) c.in_ok-ty-in-Some-accept.ensures.reads (taken_more c.args.constant.now c.args.before.items _ _ c.in_ok-parameters-in-Some-accept.ensures.ok) c.in_ok-parameters-in-Some-accept.ensures.ok c.in_ok-read-in-Some-accept.ensures.reads
 
 pub returns-in_err-right-in-None-accept-clause-reads : goal.returns-in_err-right-in-None-accept-clause-reads
 returns-in_err-right-in-None-accept-clause-reads t c =

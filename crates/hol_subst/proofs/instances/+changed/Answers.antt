@@ -1,11 +1,12 @@
 use Rattle.std.proofs.Common.{◌≡◌, ap, arith, rules, sym, ◌∙◌}
 use Rattle.std.proofs.lemmas.Grind.{common_steps}
+use Rattle.std.proofs.lemmas.Result.{IfOk-weaker}
 use lib.Bits.{bit_and}
 use Rattle.hol_types.specs.Filter.{pairs_filter}
 use Rattle.hol_terms.specs.Filter.{filter_of, type_filter_of}
 use Rattle.hol_terms.specs.Scope.{binders}
 use Rattle.hol_terms.specs.View.{named_of}
-use Rattle.hol_subst.proofs.InstSteps.{variable_at, application_at, fits_at, abstraction_at}
+use Rattle.hol_subst.proofs.InstSteps.{variable_at, constant_at, application_at, fits_at, abstraction_at}
 use Rattle.hol_subst.proofs.Kept.{kept_instance, renamed_inside}
 use Rattle.hol_subst.proofs.instances.+changed.Goals as goal
 
@@ -15,25 +16,38 @@ returns-then-not-meets-2 t c =
     let free : bit_and (filter_of c.args.t.now) c.args.renamed.bits ≡ 0 = grind (arith, common_steps) in
     kept_instance c.args.pairs.now (binders c.args.old.now) (binders c.args.new.now) c.args.t.now c.args.renamed.bits c.requires.renamed types free
 
-pub returns-in_ok-changed_variable-in-Var : goal.returns-in_ok-changed_variable-in-Var
-returns-in_ok-changed_variable-in-Var t c =
-    variable_at c.args.pairs.now (binders c.args.old.now) (binders c.args.new.now) c.in-Var.v c.in_ok-u-in-Var.u c.args.t.now c.in_ok-changed_variable-in-Var.field-0
-    (sym c.node.ensures ∙ ap named_of c.in-Var.is) c.requires.types c.in_ok-u-in-Var.ensures c.in_ok-changed_variable-in-Var.ensures
+pub returns-in_ok-u-in-Var : goal.returns-in_ok-u-in-Var
+returns-in_ok-u-in-Var t c =
+    IfOk-weaker _ _ _
+    (λ o changed. variable_at c.args.pairs.now (binders c.args.old.now) (binders c.args.new.now) c.in-Var.v c.in_ok-u-in-Var.u c.args.t.now o
+    (sym c.node.ensures ∙ ap named_of c.in-Var.is) c.requires.types c.in_ok-u-in-Var.ensures changed)
+    c.changed_variable.ensures
+
+pub returns-in-Const : goal.returns-in-Const
+returns-in-Const t c =
+    IfOk-weaker _ _ _
+    (λ o changed. constant_at c.args.pairs.now (binders c.args.old.now) (binders c.args.new.now) c.in-Const.c c.in-Const.ty c.args.t.now o
+    (sym c.node.ensures ∙ ap named_of c.in-Const.is) changed)
+    c.changed_constant.ensures
 
 pub changed_application-requires : goal.changed_application-requires
 changed_application-requires t c =
     fits_at c.args.pairs.now (binders c.args.old.now) (binders c.args.new.now) c.in-Comb.f c.in-Comb.x c.args.t.now c.in_ok-g-in-Comb.g c.in_ok-y-in-Comb.y
     (sym c.node.ensures ∙ ap named_of c.in-Comb.is) c.in_ok-g-in-Comb.ensures c.in_ok-y-in-Comb.ensures
 
-pub returns-in_ok-changed_application-in-Comb : goal.returns-in_ok-changed_application-in-Comb
-returns-in_ok-changed_application-in-Comb t c =
-    application_at c.args.pairs.now (binders c.args.old.now) (binders c.args.new.now) c.in-Comb.f c.in-Comb.x c.args.t.now c.in_ok-g-in-Comb.g c.in_ok-y-in-Comb.y c.in_ok-changed_application-in-Comb.field-0
-    (sym c.node.ensures ∙ ap named_of c.in-Comb.is) c.in_ok-g-in-Comb.ensures c.in_ok-y-in-Comb.ensures c.in_ok-changed_application-in-Comb.ensures
+pub returns-in_ok-y-in-Comb : goal.returns-in_ok-y-in-Comb
+returns-in_ok-y-in-Comb t c =
+    IfOk-weaker _ _ _
+    (λ o changed. application_at c.args.pairs.now (binders c.args.old.now) (binders c.args.new.now) c.in-Comb.f c.in-Comb.x c.args.t.now c.in_ok-g-in-Comb.g c.in_ok-y-in-Comb.y o
+    (sym c.node.ensures ∙ ap named_of c.in-Comb.is) c.in_ok-g-in-Comb.ensures c.in_ok-y-in-Comb.ensures changed)
+    c.changed_application.ensures
 
-pub returns-in_ok-changed_abstraction-in-Abs : goal.returns-in_ok-changed_abstraction-in-Abs
-returns-in_ok-changed_abstraction-in-Abs t c =
-    abstraction_at c.args.pairs.now (binders c.args.old.now) (binders c.args.new.now) c.in-Abs.v c.in_ok-u-in-Abs.u c.in-Abs.b c.args.t.now c.in_ok-c-in-Abs.c c.in_ok-changed_abstraction-in-Abs.field-0
-    (sym c.node.ensures ∙ ap named_of c.in-Abs.is) c.in_ok-u-in-Abs.ensures c.in_ok-c-in-Abs.ensures c.in_ok-changed_abstraction-in-Abs.ensures
+pub returns-in_ok-c-in-Abs : goal.returns-in_ok-c-in-Abs
+returns-in_ok-c-in-Abs t c =
+    IfOk-weaker _ _ _
+    (λ o changed. abstraction_at c.args.pairs.now (binders c.args.old.now) (binders c.args.new.now) c.in-Abs.v c.in_ok-u-in-Abs.u c.in-Abs.b c.args.t.now c.in_ok-c-in-Abs.c o
+    (sym c.node.ensures ∙ ap named_of c.in-Abs.is) c.in_ok-u-in-Abs.ensures c.in_ok-c-in-Abs.ensures changed)
+    c.changed_abstraction.ensures
 
 pub changed-requires-in-Abs : goal.changed-requires-in-Abs
 changed-requires-in-Abs t c = (
