@@ -1,0 +1,8 @@
+//! Rules of equations, derived from the kernel's (HOL Light's equal.ml).
+//!
+//! Calls that answer a `Result` answer its memory error where memory is short, and nowhere else.
+#![tactic(auto)]
+
+mod error;
+
+pub use error::{EqualError, Rule};
