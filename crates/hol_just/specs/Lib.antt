@@ -1,0 +1,6 @@
+pub mod Inference
+pub mod Reasons
+pub mod Gives
+pub mod Valid
+pub mod Over
+pub mod Made
