@@ -105,8 +105,8 @@ module _ (extra : Hyps) where
       let len : length p.first ≡ k = achieve_length p.first pre p.of_first ∙ sym at in
       let whole : ss ≡ p.first ++ (q.first ++ q.second) = p.is ∙ ap (λ (r : List Sequent). p.first ++ r) q.is in
       let g : gives basis (moved k moves) ss ≡ Some (p.first ++ (v.0 ++ q.second)) =
-          ap (gives basis (moved k moves)) whole
-          ∙ ap (λ j. gives basis (moved j moves) (p.first ++ (q.first ++ q.second))) (sym len)
-          ∙ gives_framed basis moves p.first q.first q.second v.0 v.1 in
+      ap (gives basis (moved k moves)) whole
+      ∙ ap (λ j. gives basis (moved j moves) (p.first ++ (q.first ++ q.second))) (sym len)
+      ∙ gives_framed basis moves p.first q.first q.second v.0 v.1 in
       subst (λ (o : Option (List Sequent)). Answers extra o (pre ++ (gs ++ post))) (sym g)
       (achieve_both p.first (v.0 ++ q.second) pre (gs ++ post) p.of_first (achieve_both v.0 q.second gs post v.2 q.of_second))

@@ -1,2 +1,5 @@
 pub mod Frame
 pub mod Validity
+pub mod Cuts
+pub mod Applied
+pub mod Moves

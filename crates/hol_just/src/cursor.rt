@@ -52,6 +52,7 @@ impl Cursor {
     }
 
     /// Goes to the place, counted from 0.
+    #[tactic(auto, using(crate::proofs::Cuts::same_then, crate::proofs::Cuts::more_after))]
     pub(crate) fn go_to(&mut self, place: usize) -> Result<(), AllocError>
         requires { place ≤ length (self.old.before ++ self.old.after) }
         ensures same { OnOk result (IsSameCut self.old self.new) }

@@ -19,6 +19,12 @@ impl Model for Just {
 
     ghost Value = { List Move };
 
+    ghost use Rattle.std.specs.Coded.{codes};
+    ghost use Rattle.hol_terms.specs.Code.{coded_named};
+    ghost use Rattle.hol_kernel.specs.Given.{given_code};
+
+    ghost coded = { Prim.hlevel (codes, coded_named, given_code) };
+
     ghost view = { λ j. j.moves.items };
 }
 

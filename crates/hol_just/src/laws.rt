@@ -14,13 +14,11 @@ pub fn none_is_valid()
 {}
 
 /// Moves after moves: on all the goals that these left.
-#[tactic(auto, using(crate::proofs::Validity::valid_then))]
 pub fn valid_one_after_the_other()
     ensures { (suits : Items → Bool) (extra : Hyps) (moves more : List Move) (before mid after : List GoalValue) → IsValid suits extra moves before mid → IsValid suits extra more mid after → IsValid suits extra (moves ++ more) before after }
 {}
 
 /// Moves after moves: on some of the goals that these left, from a place on. The other goals stay.
-#[tactic(auto, using(crate::proofs::Validity::valid_at))]
 pub fn valid_at_a_place()
     ensures { (suits : Items → Bool) (extra : Hyps) (moves more : List Move) (before pre goals new post : List GoalValue) (place : ℕ) → place ≡ length pre → IsValid suits extra moves before (pre ++ (goals ++ post)) → IsValid suits extra more goals new → IsValid suits extra (moves ++ moved place more) before (pre ++ (new ++ post)) }
 {}

@@ -5,13 +5,13 @@
 
 mod cursor;
 mod just;
-mod justify;
+mod justifying;
 mod laws;
 mod reason;
 mod refusals;
 mod steps;
 
 pub use just::Just;
-pub use justify::justify;
+pub use justifying::justify;
 pub use laws::{none_is_valid, valid_at_a_place, valid_one_after_the_other, valid_under};
 pub use reason::{Move, Reason};

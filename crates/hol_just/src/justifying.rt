@@ -17,6 +17,7 @@ use std::alloc::{AllocError, Global};
 ///
 /// It has to give something, the bases of the theorems that it holds have to lie in the basis, and the theorems have to be over it. So it fails for
 /// want of memory alone.
+#[tactic(auto, using(crate::proofs::Moves::at_first, crate::proofs::Moves::next_gives, crate::proofs::Moves::gives_step, crate::proofs::Moves::fits_at))]
 pub fn justify(
     alloc: Global,
     just: &Just,

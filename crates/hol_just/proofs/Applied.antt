@@ -1,0 +1,56 @@
+-- Rules applied after a cut.
+use Rattle.std.specs.Prelude.{◌≡◌, List, [], ◌∷◌, Option, Some, None, refl}
+use Rattle.std.specs.Option.{option_map}
+use Rattle.std.specs.Prelude.{Result, Ok, Err, OnOk}
+use Rattle.std.proofs.Common.{ap, sym, ◌∙◌, subst}
+use Rattle.hol_kernel.specs.Gives.{Failure, Gives}
+use Rattle.hol_kernel.specs.Items.{Items}
+use Rattle.hol_kernel.specs.Sequent.{Sequent}
+use Rattle.hol_kernel.specs.Theorem.{Theorem, theorem_on, over}
+use Rattle.hol_just.specs.Inference.{Inference, from_none, from_one, from_two, inferred}
+use Rattle.hol_just.specs.Over.{CutValue, IsFirst, IsTaken, Infers}
+
+-- the sequent of a theorem that a rule gave
+put_given : (s : Option Sequent) (basis : Items) (th : Theorem) (rest : List Sequent) → over basis s ≡ Some th → option_map (λ r. r ∷ rest) s ≡ Some (th.sequent ∷ rest)
+put_given (Some s) basis th rest e = let h : theorem_on basis s ≡ th = cc in λ i. Some ((h i).sequent ∷ rest)
+put_given None basis th rest e = absurd cc
+
+pub from_two_taken :
+    (rule : Sequent → Sequent → Option Sequent) (basis : Items) (old mid last new : CutValue) (a b th : Theorem) → IsFirst old mid a → IsFirst mid last b →
+    over basis (rule a.sequent b.sequent) ≡ Some th → new ≡ record last { after = th.sequent ∷ last.after } → Infers (from_two rule) old new
+from_two_taken rule basis old mid last new a b th p q given put =
+    record {
+      basis = ap (λ (c : CutValue). c.basis) put ∙ q.basis ∙ p.basis;
+      before = ap (λ (c : CutValue). c.before) put ∙ q.before ∙ p.before;
+      after =
+          ap (inferred (from_two rule)) (p.after ∙ ap (λ ss. a.sequent ∷ ss) q.after)
+          ∙ put_given (rule a.sequent b.sequent) basis th last.after given
+          ∙ ap (λ (c : CutValue). Some c.after) (sym put);
+    }
+
+pub from_one_taken :
+    (rule : Sequent → Option Sequent) (basis : Items) (old last new : CutValue) (a th : Theorem) → IsFirst old last a →
+    over basis (rule a.sequent) ≡ Some th → new ≡ record last { after = th.sequent ∷ last.after } → Infers (from_one rule) old new
+from_one_taken rule basis old last new a th p given put =
+    record {
+      basis = ap (λ (c : CutValue). c.basis) put ∙ p.basis;
+      before = ap (λ (c : CutValue). c.before) put ∙ p.before;
+      after =
+          ap (inferred (from_one rule)) p.after
+          ∙ put_given (rule a.sequent) basis th last.after given
+          ∙ ap (λ (c : CutValue). Some c.after) (sym put);
+    }
+
+-- ---- what calls say
+
+-- the theorem after the cut
+pub is_first : (old new : CutValue) (r : Option Theorem) (a : Theorem) → IsTaken old new r → r ≡ Some a → IsFirst old new a
+is_first old new r a taken is = subst (IsTaken old new) is taken
+
+-- what a rule gave
+pub gave : {R E : Type 0} (reads : E → Failure R) (rule : R) (expected : Option Theorem) (answer : Result Theorem E) (th : Theorem) → Gives reads rule expected answer → answer ≡ Ok th → expected ≡ Some th
+gave reads rule expected answer th gives is = subst (Gives reads rule expected) is gives
+
+pub where_ok : {X E P Q : Type 0} (r : Result X E) → (P → Q) → OnOk r P → OnOk r Q
+where_ok (Ok x) f h = f h
+where_ok (Err e) f h = h
