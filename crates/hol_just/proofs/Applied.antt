@@ -1,7 +1,7 @@
 -- Rules applied after a cut.
 use Rattle.std.specs.Prelude.{◌≡◌, List, [], ◌∷◌, Option, Some, None, refl}
 use Rattle.std.specs.Option.{option_map}
-use Rattle.std.specs.Prelude.{Result, Ok, Err, OnOk}
+use Rattle.std.specs.Prelude.{Result, Ok, Err, OnOk, IfOk}
 use Rattle.std.proofs.Common.{ap, sym, ◌∙◌, subst}
 use Rattle.hol_kernel.specs.Gives.{Failure, Gives}
 use Rattle.hol_kernel.specs.Items.{Items}
@@ -54,3 +54,12 @@ gave reads rule expected answer th gives is = subst (Gives reads rule expected) 
 pub where_ok : {X E P Q : Type 0} (r : Result X E) → (P → Q) → OnOk r P → OnOk r Q
 where_ok (Ok x) f h = f h
 where_ok (Err e) f h = h
+
+-- what is made is as it should be, by what it is made of
+pub made_as : {X Y E : Type 0} (r : Result X E) (P : X → Type 0) (make : Y → X) (given kept : Y) → P (make given) → kept ≡ given → IfOk r (λ x. x ≡ make kept) → IfOk r P
+made_as (Ok x) P make given kept p same h = subst P (sym (h ∙ ap make same)) p
+made_as (Err e) P make given kept p same h = h
+
+pub made_plain : {X E : Type 0} (r : Result X E) (P : X → Type 0) (made : X) → P made → IfOk r (λ x. x ≡ made) → IfOk r P
+made_plain (Ok x) P made p h = subst P (sym h) p
+made_plain (Err e) P made p h = h

@@ -3,3 +3,8 @@ pub mod Validity
 pub mod Cuts
 pub mod Applied
 pub mod Moves
+pub mod Allowed
+pub mod Likeness
+pub mod OneMove
+pub mod EquationRules
+pub mod Proposition

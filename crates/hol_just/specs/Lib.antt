@@ -4,3 +4,4 @@ pub mod Gives
 pub mod Valid
 pub mod Over
 pub mod Made
+pub mod Justifies

@@ -10,6 +10,7 @@ mod laws;
 mod reason;
 mod refusals;
 mod steps;
+mod tacs;
 
 pub use just::Just;
 pub use justifying::justify;
