@@ -29,6 +29,7 @@ use Rattle.hol_just.specs.Justifies.{goal_at, always, holds_given, ClosesEquatio
 use Rattle.hol_just.specs.declared.reason.Reason.TheVariants.{Reflexivity, Premise, Combination, Antisymmetry}
 use Rattle.hol_just.proofs.Allowed.{allowed_none, allowed_union, allowed_less}
 use Rattle.hol_just.proofs.Likeness.{like_equation}
+use Rattle.hol_just.proofs.Typings.{parts_at}
 use Rattle.hol_just.proofs.OneMove.{one, IsStep, one_valid, IsAnswer, by_none, by_two, answer_by}
 
 -- ---- reflexivity
@@ -62,16 +63,6 @@ premise_closes th extra goal same allowed =
     })
 
 -- ---- combination
-
--- the function and the argument of a well typed application, where the function's type is known
-parts_at : (basis : Items) (a b c : TypeTree) (f x : Nameless) → nameless_type [] f ≡ Some (fun_type a b) → HasType basis (app f x) c → HasType basis f (fun_type a b) × HasType basis x a
-parts_at basis a b c f x e h =
-    let p = known_typed basis (app f x) c h in
-    let known = both (is_known basis f) (is_known basis x) p.0 in
-    let parts = app_parts [] f x c p.1 in
-    let is : fun_type a b ≡ fun_type parts.0 c = some_is (fun_type a b) (fun_type parts.0 c) (sym e ∙ parts.1) in
-    let first : parts.0 ≡ a = cc in
-    (typed_known basis f (fun_type a b) known.0 e, typed_known basis x a known.1 (parts.2 ∙ ap Some first))
 
 combined :
     (extra : Hyps) (assumptions : List Nameless) (a b : TypeTree) (f g x y : Nameless) (s t : Sequent) → Achieves extra s (goal_at assumptions (equation (fun_type a b) f g)) →

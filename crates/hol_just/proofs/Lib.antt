@@ -6,5 +6,9 @@ pub mod Moves
 pub mod Allowed
 pub mod Likeness
 pub mod OneMove
+pub mod Typings
 pub mod EquationRules
+pub mod ConnectiveRules
+pub mod QuantifierRules
+pub mod ApplicationRules
 pub mod Proposition

@@ -28,3 +28,8 @@ pub fn valid_at_a_place()
 pub fn valid_under()
     ensures { (suits narrower : Items → Bool) (extra : Hyps) (moves : List Move) (before after : List GoalValue) → ((basis : Items) → IsTrue (narrower basis) → IsTrue (suits basis)) → IsValid suits extra moves before after → IsValid narrower extra moves before after }
 {}
+
+/// Validity has one proof at most, so that what is kept beside a function may say it.
+pub fn validity_is_a_proposition()
+    ensures { (suits : Items → Bool) (extra : Hyps) (moves : List Move) (before after : List GoalValue) → IsProp (IsValid suits extra moves before after) }
+{}
