@@ -10,5 +10,5 @@ pub mod Typings
 pub mod EquationRules
 pub mod ConnectiveRules
 pub mod QuantifierRules
-pub mod ApplicationRules
 pub mod Proposition
+pub mod Joined

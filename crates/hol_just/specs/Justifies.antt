@@ -50,6 +50,18 @@ SplitsApplications moves =
     (extra : Hyps) (assumptions : List Nameless) (a b : TypeTree) (f g x y : Nameless) → nameless_type [] f ≡ Some (fun_type a b) → nameless_type [] g ≡ Some (fun_type a b) →
     IsValid always extra moves (goal_at assumptions (equation b (app f x) (app g y)) ∷ []) (goal_at assumptions (equation (fun_type a b) f g) ∷ goal_at assumptions (equation a x y) ∷ [])
 
+-- AP_TERM_TAC leaves `x = y` of `f x = f y`.
+abbrev pub LeavesArguments : Nameless → List Move → Type 0
+LeavesArguments f moves =
+    (extra : Hyps) (assumptions : List Nameless) (a b : TypeTree) (g x y : Nameless) → nameless_type [] f ≡ Some (fun_type a b) → strip f ≡ strip g →
+    IsValid always extra moves (goal_at assumptions (equation b (app f x) (app g y)) ∷ []) (goal_at assumptions (equation a x y) ∷ [])
+
+-- AP_THM_TAC leaves `f = g` of `f x = g x`, where f and g are of one type.
+abbrev pub LeavesFunctions : Nameless → List Move → Type 0
+LeavesFunctions x moves =
+    (extra : Hyps) (assumptions : List Nameless) (a b : TypeTree) (f g y : Nameless) → nameless_type [] f ≡ Some (fun_type a b) → nameless_type [] g ≡ Some (fun_type a b) → strip x ≡ strip y →
+    IsValid always extra moves (goal_at assumptions (equation b (app f x) (app g y)) ∷ []) (goal_at assumptions (equation (fun_type a b) f g) ∷ [])
+
 -- `p <=> q` from q, with p assumed, and p, with q assumed
 abbrev pub SplitsEquivalence : List Move → Type 0
 SplitsEquivalence moves =

@@ -1,7 +1,7 @@
 //! The justifications of the functions on goals.
 ghost use Rattle.std.specs.Prelude.{IfOk, []};
 ghost use Rattle.hol_terms.specs.Nameless.{nameless};
-ghost use Rattle.hol_just.specs.Justifies.{ClosesEquation, ClosesByGiven, SplitsApplications};
+ghost use Rattle.hol_just.specs.Justifies.{ClosesEquation, ClosesByGiven, SplitsApplications, LeavesArguments, LeavesFunctions};
 
 use crate::just::Just;
 use crate::reason::Reason;
@@ -29,5 +29,25 @@ impl Just {
         ensures { IfOk result (λ just. SplitsApplications just) }
     {
         Just::one(alloc, Reason::Combination)
+    }
+
+    /// That of AP_TERM_TAC, where both sides apply this function: AP_TERM is MK_COMB of its reflexivity.
+    pub fn ap_term_tac(alloc: Global, function: &Term) -> Result<Just, AllocError>
+        ensures { IfOk result (λ just. LeavesArguments (nameless [] function.now) just) }
+    {
+        let closing = Just::refl_tac(alloc, function)?;
+        let mut just = Just::mk_comb_tac(alloc)?;
+        just.then_at(0, &closing)?;
+        Ok(just)
+    }
+
+    /// That of AP_THM_TAC, where both sides are functions of this argument: AP_THM is MK_COMB of its reflexivity.
+    pub fn ap_thm_tac(alloc: Global, argument: &Term) -> Result<Just, AllocError>
+        ensures { IfOk result (λ just. LeavesFunctions (nameless [] argument.now) just) }
+    {
+        let closing = Just::refl_tac(alloc, argument)?;
+        let mut just = Just::mk_comb_tac(alloc)?;
+        just.then_at(1, &closing)?;
+        Ok(just)
     }
 }
