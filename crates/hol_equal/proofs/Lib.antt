@@ -4,3 +4,4 @@ pub mod Typings
 pub mod Applies
 pub mod HypSets
 pub mod Beta
+pub mod Answered

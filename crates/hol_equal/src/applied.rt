@@ -91,8 +91,8 @@ fn equality(alloc: Global, ty: &Ty) -> Result<Term, AllocError>
     constant(alloc, &sign, ty)
 }
 
-// The sides of the theorem's conclusion.
-fn sides_of(th: &Thm) -> Option<Sides<'_>>
+/// The sides of the theorem's conclusion.
+pub(crate) fn sides_of(th: &Thm) -> Option<Sides<'_>>
     ensures { MatchOption result (dest_eq th.now.sequent.concl ≡ None) (λ x. th.now.sequent.concl ≡ equation x.ty.now (nameless [] x.left.now) (nameless [] x.right.now)) }
 {
     dest_eq(th.concl())

@@ -5,5 +5,8 @@
 
 pub mod applied;
 mod error;
+mod rules;
 
+pub use applied::prove_hyp;
 pub use error::{EqualError, Rule};
+pub use rules::{alpha, sym};
