@@ -1,9 +1,11 @@
 -- Parts of well typed terms are well typed.
-use Rattle.std.specs.Prelude.{◌≡◌, true, ◌&&◌, [], codes, Some}
+use Rattle.std.specs.Prelude.{◌≡◌, true, ◌&&◌, [], codes, Some, None}
 use Rattle.std.proofs.Common.{ap, sym, ◌∙◌}
 use Rattle.hol_types.specs.Tree.{TypeTree}
 use Rattle.hol_types.specs.Fun.{fun_type}
-use Rattle.hol_terms.specs.Nameless.{Nameless, fixed, app, nameless_type}
+use Rattle.hol_terms.specs.Named.{Named, comb, named_type}
+use Rattle.hol_terms.specs.Nameless.{Nameless, fixed, app, nameless, nameless_type}
+use Rattle.hol_terms.proofs.Typing.{type_outside}
 use Rattle.hol_formulas.specs.Equation.{equality_type, equation}
 use Rattle.hol_formulas.proofs.EquationTypes.{applied_fits}
 use Rattle.hol_kernel.specs.Items.{Items}
@@ -38,3 +40,10 @@ module _ (items : Items) where
       let inner = parts_typed (fixed (codes "=") (equality_type a)) l (fun_type outer.domain b) outer.function in
       let p = known_typed items (fixed (codes "=") (equality_type a)) (fun_type inner.domain (fun_type outer.domain b)) inner.function in
       typed_known items (fixed (codes "=") (equality_type a)) (equality_type a) p.0 (λ _. Some (equality_type a))
+
+-- a well typed application fits
+pub typed_fits : (items : Items) (f x : Named) (a : TypeTree) → HasType items (app (nameless [] f) (nameless [] x)) a → named_type (comb f x) ≡ None → ⊥
+typed_fits items f x a h none =
+    let is : named_type (comb f x) ≡ Some a = sym (type_outside (comb f x)) ∙ (known_typed items (app (nameless [] f) (nameless [] x)) a h).1 in
+    let same : Some a ≡ None = sym is ∙ none in
+    absurd (cc)

@@ -1,11 +1,11 @@
 //! The rules for callers that know that they apply: such a call is not refused.
-ghost use Rattle.std.specs.Prelude.{◌≡◌, IfOk, MatchOption, Some, None, Ok, [], ◌∷◌, codes};
+ghost use Rattle.std.specs.Prelude.{◌≡◌, true, IfOk, MatchOption, Some, None, Ok, [], ◌∷◌, codes};
 ghost use Rattle.hol_terms.specs.Nameless.{nameless};
-ghost use Rattle.hol_subst.specs.Substitution.{term_subst};
+ghost use Rattle.hol_subst.specs.Substitution.{term_subst, types_inst};
 ghost use Rattle.hol_formulas.specs.Equation.{bool_type, equality_type, equation, dest_eq};
 ghost use Rattle.hol_terms.specs.Named.{var, constant, comb, abs, named_type};
 ghost use Rattle.hol_kernel.specs.Rules.{reflexive, trans_of, mk_comb_of, abs_of, eq_mp_of, beta_of, inst_of, sequent_image};
-ghost use Rattle.hol_kernel.specs.Typing.{HasType};
+ghost use Rattle.hol_kernel.specs.Typing.{HasType, is_type};
 ghost use Rattle.hol_kernel.specs.Sequent.{sequent_of, only_hyp};
 ghost use Rattle.hol_kernel.specs.Theorem.{theorem_on};
 ghost use Rattle.hol_equal.specs.Applied.{transitive, combined, concluded, symmetric, under, at_argument, abstracted, contraction, own_contraction};
@@ -92,7 +92,7 @@ fn equality(alloc: Global, ty: &Ty) -> Result<Term, AllocError>
 }
 
 /// The sides of the theorem's conclusion.
-pub(crate) fn sides_of(th: &Thm) -> Option<Sides<'_>>
+pub fn sides_of(th: &Thm) -> Option<Sides<'_>>
     ensures { MatchOption result (dest_eq th.now.sequent.concl ≡ None) (λ x. th.now.sequent.concl ≡ equation x.ty.now (nameless [] x.left.now) (nameless [] x.right.now)) }
 {
     dest_eq(th.concl())
@@ -173,6 +173,17 @@ fn inst(alloc: Global, x: &Term, v: &Variable, a: &Thm) -> Result<Thm, AllocErro
     let own = occurrence(alloc, v)?;
     pairs.push((x.copy()?, own))?;
     unrefused(Thm::inst(alloc, &pairs, a))
+}
+
+/// INST_TYPE: the theorem with a type over its basis for the type variable of the name.
+pub fn inst_type(alloc: Global, ty: &Ty, name: &str, a: &Thm) -> Result<Thm, AllocError>
+    requires stands { is_type a.now.basis ty.now ≡ true }
+    ensures { IfOk result (λ th. th ≡ theorem_on a.now.basis (sequent_image (types_inst ((ty.now, name.now) ∷ [])) a.now.sequent)) }
+{
+    let mut pairs = Vec::new(alloc);
+    let own = Name::new(alloc, name)?;
+    pairs.push((ty.copy()?, own))?;
+    unrefused(Thm::inst_type(alloc, &pairs, a))
 }
 
 /// BETA_CONV: `(\x. b) r = b` with `r` for `x`, for a redex of the type that is well typed over the basis.
