@@ -12,30 +12,6 @@ pub enum Rule {
     Spec,
     /// From `p`, `!v. p`.
     Gen,
-    /// From `p` with a term for `x`, `?x. p`.
-    Exists,
-    /// From `?x. s` and what follows from `s` with a variable for `x`, that.
-    Choose,
-    /// From `p /\ q`, `p`.
-    Conjunct1,
-    /// From `p /\ q`, `q`.
-    Conjunct2,
-    /// From `p ==> q` and `p`, `q`.
-    Mp,
-    /// From `q`, `p ==> q`.
-    Disch,
-    /// From `p ==> q`, `q` under the hypothesis `p`.
-    Undisch,
-    /// From `p`, `p \/ q`.
-    Disj1,
-    /// From `q`, `p \/ q`.
-    Disj2,
-    /// From `p \/ q` and what follows from either, that.
-    DisjCases,
-    /// From `F`, any formula.
-    Contr,
-    /// From `~p`, `p <=> F`.
-    EqfIntro,
 }
 
 /// Why a rule of the connectives and quantifiers gives nothing.

@@ -3,6 +3,10 @@
 //! Calls that answer a `Result` answer its memory error where memory is short, and nowhere else.
 #![tactic(auto)]
 
+pub mod applied;
 mod error;
+mod rules;
 
+pub use applied::prove_hyp;
 pub use error::{EqualError, Rule};
+pub use rules::{alpha, sym};
