@@ -13,7 +13,7 @@ use Rattle.hol_just.specs.Reasons.{Fits}
 use Rattle.hol_just.specs.Gives.{gives}
 use Rattle.hol_just.specs.Valid.{AchieveAll, Answers, FitsAt, IsValidOver, IsValid}
 use Rattle.hol_just.specs.declared.reason.Reason.{Reason}
-use Rattle.hol_just.specs.declared.reason.Reason.TheVariants.{Reflexivity, Premise, Combination, Antisymmetry}
+use Rattle.hol_just.specs.declared.reason.Reason.TheVariants.{Reflexivity, Premise, Combination, Antisymmetry, Generalization}
 use Rattle.hol_just.specs.declared.reason.Move.{Move}
 
 achieves_prop : (extra : Hyps) (s : Sequent) (g : GoalValue) → IsProp (Achieves extra s g)
@@ -41,6 +41,7 @@ fits_prop basis (Reflexivity t) = Unit-prop
 fits_prop basis (Premise th) = over_prop th basis
 fits_prop basis Combination = Unit-prop
 fits_prop basis Antisymmetry = Unit-prop
+fits_prop basis (Generalization v) = Unit-prop
 
 fits_at_prop : (basis : Items) (one : Move) → IsProp (FitsAt basis one)
 fits_at_prop basis one = fits_prop basis one.reason

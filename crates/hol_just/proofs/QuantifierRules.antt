@@ -24,9 +24,11 @@ use Rattle.hol_kernel.proofs.HypothesisLists.{hyps_total, hyps_same}
 use Rattle.hol_kernel.proofs.Members.{Among, in_union_cases, among_from_list, from_list_among, from_list-items}
 use Rattle.hol_bool.specs.Rules.{gen_of, over_variable, exists_of, exists_at}
 use Rattle.hol_goal.specs.Achieves.{assumed, Achieves, AreAllowed}
-use Rattle.hol_just.specs.Justifies.{goal_at}
-use Rattle.hol_just.proofs.OneMove.{IsAnswer, answer_by}
-use Rattle.hol_just.proofs.Typings.{test_typed}
+use Rattle.hol_kernel.proofs.Variables.{variable_typed}
+use Rattle.hol_just.specs.declared.reason.Reason.TheVariants.{Generalization}
+use Rattle.hol_just.specs.Justifies.{goal_at, always, LeavesProperty}
+use Rattle.hol_just.proofs.OneMove.{one, one_valid, by_one, IsAnswer, answer_by}
+use Rattle.hol_just.proofs.Typings.{test_typed, property_typed, opened_typed}
 
 abbrev Variable : Type 0
 Variable = List ℕ × TypeTree
@@ -93,3 +95,23 @@ module _ (extra : Hyps) (assumptions : List Nameless) where
       ((λ i. cond (is_some (whole i)) (option_and_then (exists_at basis (existential x) t s) (dest_exists_existential x i)) None)
        ∙ (λ i. cond (test_typed basis t x.domain typed i && (alpha_eq_decides (open_with t 0 x.body) s.concl).1 (sym h.concludes) i) (Some (sequent_of s.hyps (existential x))) None))
       (record { concludes = refl; allowed = h.allowed })
+
+-- ---- the justifications
+
+pub generalization_leaves : (v : Variable) → LeavesProperty v (one (Generalization (var v)))
+generalization_leaves v extra assumptions x same of_extra of_assumptions of_body =
+    one_valid always extra (Generalization (var v)) (goal_at assumptions (universal x)) (goal_at assumptions (open_with (free v) 0 x.body) ∷ [])
+    (λ basis suit typed.
+       let property = property_typed basis (codes "!") x typed.conclusion in
+       record {
+         typed = (
+           record {
+             assumptions = typed.assumptions;
+             conclusion = opened_typed basis x (free v) property (variable_typed basis v (ap (is_type basis) same ∙ property.domain) ∙ ap Some same);
+           },
+           tt,
+         );
+         fits = tt;
+         justifies = by_one extra (goal_at assumptions (universal x)) (gen_of basis (var v)) (goal_at assumptions (open_with (free v) 0 x.body))
+         (λ s h. gen_achieves extra assumptions basis x v s same property.domain of_extra of_assumptions of_body h);
+       })

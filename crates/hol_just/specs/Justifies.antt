@@ -1,12 +1,16 @@
 -- From which goals to which the justifications of the functions on goals are valid (HOL Light Reference Manual; LNCS 78). Terms are taken up to bound names where the
 -- functions compare them so; the extra hypotheses are those of theorems that were handed in and are no assumptions.
-use Rattle.std.specs.Prelude.{◌≡◌, Bool, true, List, [], ◌∷◌, Some}
+use Rattle.std.specs.Prelude.{◌≡◌, ℕ, Bool, true, false, List, [], ◌∷◌, Some}
 use Rattle.std.specs.FinSet as set
 use Rattle.hol_types.specs.Tree.{TypeTree}
 use Rattle.hol_types.specs.Fun.{fun_type}
-use Rattle.hol_terms.specs.Nameless.{Nameless, app, nameless_type}
+use Rattle.hol_terms.specs.Nameless.{Nameless, free, app, nameless_type, free_occurrences}
+use Rattle.hol_terms.specs.Scoped.{binds}
+use Rattle.hol_subst.specs.Closing.{open_with}
+use Rattle.hol_subst.specs.Variant.{is_free_in}
 use Rattle.hol_terms.specs.Alpha.{strip}
 use Rattle.hol_formulas.specs.Equation.{bool_type, equation}
+use Rattle.hol_formulas.specs.Formula.{Abstraction, universal}
 use Rattle.hol_kernel.specs.Items.{Items}
 use Rattle.hol_kernel.specs.Sequent.{Hyps}
 use Rattle.hol_kernel.specs.Typing.{has_type}
@@ -67,3 +71,11 @@ abbrev pub SplitsEquivalence : List Move → Type 0
 SplitsEquivalence moves =
     (extra : Hyps) (assumptions : List Nameless) (p q : Nameless) →
     IsValid always extra moves (goal_at assumptions (equation bool_type p q) ∷ []) (goal_at (p ∷ assumptions) q ∷ goal_at (q ∷ assumptions) p ∷ [])
+
+-- ---- quantifiers
+
+-- GEN_TAC and X_GEN_TAC leave p of `!x. p` at a variable of x's type that is free neither in the goal nor in an extra hypothesis.
+abbrev pub LeavesProperty : List ℕ × TypeTree → List Move → Type 0
+LeavesProperty v moves =
+    (extra : Hyps) (assumptions : List Nameless) (x : Abstraction) → v.1 ≡ x.domain → is_free_in (set.items extra) v ≡ false → is_free_in assumptions v ≡ false →
+    binds (free_occurrences x.body) v ≡ false → IsValid always extra moves (goal_at assumptions (universal x) ∷ []) (goal_at assumptions (open_with (free v) 0 x.body) ∷ [])

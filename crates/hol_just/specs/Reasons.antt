@@ -6,9 +6,10 @@ use Rattle.hol_kernel.specs.Items.{Items}
 use Rattle.hol_kernel.specs.Sequent.{Sequent}
 use Rattle.hol_kernel.specs.Given as premise
 use Rattle.hol_kernel.specs.Rules.{refl_of, mk_comb_of, deduct_antisym_of}
+use Rattle.hol_bool.specs.Rules.{gen_of}
 use Rattle.hol_just.specs.Inference.{Inference, from_none, from_one, from_two}
 use Rattle.hol_just.specs.declared.reason.Reason.{Reason}
-use Rattle.hol_just.specs.declared.reason.Reason.TheVariants.{Reflexivity, Premise, Combination, Antisymmetry}
+use Rattle.hol_just.specs.declared.reason.Reason.TheVariants.{Reflexivity, Premise, Combination, Antisymmetry, Generalization}
 
 -- the sequent of a premise over a basis
 abbrev pub premise_of : Items → premise.Given → Option Sequent
@@ -24,6 +25,7 @@ inference basis (Reflexivity t) = from_none (refl_of basis (nameless [] t))
 inference basis (Premise given) = from_none (premise_of basis given)
 inference basis Combination = from_two mk_comb_of
 inference basis Antisymmetry = from_two antisymmetric
+inference basis (Generalization v) = from_one (gen_of basis v)
 
 -- what a reason asks of the basis: that it contains the bases of the theorems that the reason holds
 abbrev pub Fits : Items → Reason → Type 0
@@ -31,3 +33,4 @@ Fits basis (Reflexivity t) = Unit {0}
 Fits basis (Premise given) = premise.IsOver given basis
 Fits basis Combination = Unit {0}
 Fits basis Antisymmetry = Unit {0}
+Fits basis (Generalization v) = Unit {0}

@@ -16,6 +16,8 @@ pub enum Reason {
     Combination,
     /// Leaves `q` from `p`, and `p` from `q`: `p <=> q` (DEDUCT_ANTISYM_RULE, of the second theorem and the first).
     Antisymmetry,
+    /// Leaves `p` at the variable: `!x. p` (GEN).
+    Generalization(Term),
 }
 
 /// The goal at this place, counted from 0, was taken out of the list of open goals, and those that the reason leaves stand there.
@@ -37,6 +39,7 @@ impl Reason {
             Reason::Premise(given) => Reason::Premise(given.copy()?),
             Reason::Combination => Reason::Combination,
             Reason::Antisymmetry => Reason::Antisymmetry,
+            Reason::Generalization(v) => Reason::Generalization(v.copy()?),
         })
     }
 }

@@ -3,13 +3,15 @@ ghost use Rattle.std.specs.Prelude.{◌≡◌, ◌++◌, IsSome, [], OnOk};
 ghost use Rattle.hol_terms.specs.Nameless.{nameless};
 ghost use Rattle.hol_kernel.specs.Given as premise;
 ghost use Rattle.hol_kernel.specs.Rules.{refl_of, mk_comb_of};
-ghost use Rattle.hol_just.specs.Inference.{from_none, from_two, inferred};
+ghost use Rattle.hol_bool.specs.Rules.{gen_of};
+ghost use Rattle.hol_just.specs.Inference.{from_none, from_one, from_two, inferred};
 ghost use Rattle.hol_just.specs.Reasons.{premise_of, antisymmetric, inference, Fits};
 ghost use Rattle.hol_just.specs.Over.{Infers};
 
 use crate::cursor::Cursor;
 use crate::reason::Reason;
-use crate::refusals::made;
+use crate::refusals::{made_in_bool, made_in_kernel};
+use hol_bool::generalize;
 use hol_kernel::{Given, Thm};
 use hol_terms::Term;
 use std::alloc::{AllocError, Global};
@@ -25,6 +27,7 @@ pub(crate) fn infer(alloc: Global, reason: &Reason, thms: &mut Cursor) -> Result
         Reason::Premise(given) => premise(alloc, given, thms),
         Reason::Combination => combination(alloc, thms),
         Reason::Antisymmetry => antisymmetry(alloc, thms),
+        Reason::Generalization(v) => generalization(alloc, v, thms),
     }
 }
 
@@ -32,7 +35,7 @@ fn reflexivity(alloc: Global, t: &Term, thms: &mut Cursor) -> Result<(), AllocEr
     requires { IsSome (inferred (from_none (refl_of thms.old.basis (nameless [] t.now))) thms.old.after) }
     ensures { OnOk result (Infers (from_none (refl_of thms.old.basis (nameless [] t.now))) thms.old thms.new) }
 {
-    let thm = made(Thm::refl(alloc, thms.basis(), t))?;
+    let thm = made_in_kernel(Thm::refl(alloc, thms.basis(), t))?;
     thms.put(thm)
 }
 
@@ -41,7 +44,7 @@ fn premise(alloc: Global, given: &Given, thms: &mut Cursor) -> Result<(), AllocE
     requires within { premise.IsOver given.now thms.old.basis }
     ensures { OnOk result (Infers (from_none (premise_of thms.old.basis given.now)) thms.old thms.new) }
 {
-    let thm = made(given.over(alloc, thms.basis()))?;
+    let thm = made_in_kernel(given.over(alloc, thms.basis()))?;
     thms.put(thm)
 }
 
@@ -52,7 +55,7 @@ fn combination(alloc: Global, thms: &mut Cursor) -> Result<(), AllocError>
     let (Some(functions), Some(arguments)) = (thms.take(), thms.take()) else {
         unreachable!()
     };
-    let thm = made(Thm::mk_comb(alloc, &functions, &arguments))?;
+    let thm = made_in_kernel(Thm::mk_comb(alloc, &functions, &arguments))?;
     thms.put(thm)
 }
 
@@ -64,5 +67,16 @@ fn antisymmetry(alloc: Global, thms: &mut Cursor) -> Result<(), AllocError>
         unreachable!()
     };
     let thm = Thm::deduct_antisym(alloc, &back, &there)?;
+    thms.put(thm)
+}
+
+fn generalization(alloc: Global, v: &Term, thms: &mut Cursor) -> Result<(), AllocError>
+    requires { IsSome (inferred (from_one (gen_of thms.old.basis v.now)) thms.old.after) }
+    ensures { OnOk result (Infers (from_one (gen_of thms.old.basis v.now)) thms.old thms.new) }
+{
+    let Some(property) = thms.take() else {
+        unreachable!()
+    };
+    let thm = made_in_bool(generalize(alloc, v, &property))?;
     thms.put(thm)
 }

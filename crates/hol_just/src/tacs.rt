@@ -1,12 +1,13 @@
 //! The justifications of the functions on goals.
 ghost use Rattle.std.specs.Prelude.{IfOk, []};
 ghost use Rattle.hol_terms.specs.Nameless.{nameless};
-ghost use Rattle.hol_just.specs.Justifies.{ClosesEquation, ClosesByGiven, SplitsApplications, LeavesArguments, LeavesFunctions};
+ghost use Rattle.hol_just.specs.Justifies.{ClosesEquation, ClosesByGiven, SplitsApplications, LeavesArguments, LeavesFunctions, LeavesProperty};
 
 use crate::just::Just;
 use crate::reason::Reason;
+use hol_formulas::occurrence;
 use hol_kernel::Given;
-use hol_terms::Term;
+use hol_terms::{Term, Variable};
 use std::alloc::{AllocError, Global};
 
 impl Just {
@@ -49,5 +50,13 @@ impl Just {
         let mut just = Just::mk_comb_tac(alloc)?;
         just.then_at(1, &closing)?;
         Ok(just)
+    }
+
+    /// That of GEN_TAC and X_GEN_TAC, which leave the property at this variable.
+    pub fn gen_tac(alloc: Global, v: &Variable) -> Result<Just, AllocError>
+        ensures { IfOk result (λ just. LeavesProperty v.now just) }
+    {
+        let variable = occurrence(alloc, v)?;
+        Just::one(alloc, Reason::Generalization(variable))
     }
 }
