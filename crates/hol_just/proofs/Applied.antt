@@ -39,9 +39,9 @@ from_one_taken rule old last new a th p given put =
       basis = ap (λ (c : CutValue). c.basis) put ∙ p.basis;
       before = ap (λ (c : CutValue). c.before) put ∙ p.before;
       after =
-        ap (inferred (from_one (rule old.basis))) p.after
-        ∙ put_given (rule old.basis a.sequent) a.basis th last.after (subst (λ (b : Items). over a.basis (rule b a.sequent) ≡ Some th) p.over given)
-        ∙ ap (λ (c : CutValue). Some c.after) (sym put);
+          ap (inferred (from_one (rule old.basis))) p.after
+          ∙ put_given (rule old.basis a.sequent) a.basis th last.after (subst (λ (b : Items). over a.basis (rule b a.sequent) ≡ Some th) p.over given)
+          ∙ ap (λ (c : CutValue). Some c.after) (sym put);
     }
 
 -- ---- what calls say
@@ -92,4 +92,4 @@ pub one_applies :
 one_applies rule old last a p some =
     mapped_some (theorem_on a.basis) (rule a.basis a.sequent)
     (subst (λ (b : Items). IsSome (rule b a.sequent)) (sym p.over)
-     (some_mapped (λ r. r ∷ last.after) (rule old.basis a.sequent) (subst (λ (ss : List Sequent). IsSome (inferred (from_one (rule old.basis)) ss)) p.after some)))
+    (some_mapped (λ r. r ∷ last.after) (rule old.basis a.sequent) (subst (λ (ss : List Sequent). IsSome (inferred (from_one (rule old.basis)) ss)) p.after some)))

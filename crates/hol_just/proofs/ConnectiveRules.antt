@@ -52,10 +52,10 @@ module _ (extra : Hyps) (assumptions : List Nameless) where
       answer_by extra (undisch_of s) (sequent_of (set.union s.hyps (only_hyp b.first)) b.second) (goal_at assumptions q)
       (ap (λ t. option_map (λ r. sequent_of (set.union s.hyps (only_hyp r.0)) r.1) (dest_imp t)) b.is)
       (record {
-         concludes = b.seconds;
-         allowed = allowed_union extra assumptions s.hyps (only_hyp b.first) (allowed_more extra few assumptions s.hyps more h.allowed)
-         (allowed_only extra assumptions b.first (ap (set.contains (assumed assumptions)) b.firsts ∙ there));
-       })
+        concludes = b.seconds;
+        allowed = allowed_union extra assumptions s.hyps (only_hyp b.first) (allowed_more extra few assumptions s.hyps more h.allowed)
+            (allowed_only extra assumptions b.first (ap (set.contains (assumed assumptions)) b.firsts ∙ there));
+      })
 
   pub mp_achieves :
       (q : Nameless) (s t : Sequent) → Achieves extra s (goal_at assumptions (implication t.concl q)) → AreAllowed extra assumptions t.hyps → IsAnswer extra (mp_of s t) (goal_at assumptions q)
@@ -63,7 +63,7 @@ module _ (extra : Hyps) (assumptions : List Nameless) where
       let b = like_binary s.concl (codes "==>") connective_type (strip t.concl) (strip q) h.concludes in
       answer_by extra (mp_of s t) (sequent_of (set.union s.hyps t.hyps) b.second) (goal_at assumptions q)
       (ap (λ c. option_and_then (λ p. cond (alpha_eq p.0 t.concl) (Some (sequent_of (set.union s.hyps t.hyps) p.1)) None) (dest_imp c)) b.is
-       ∙ ap (λ v. cond v (Some (sequent_of (set.union s.hyps t.hyps) b.second)) None) ((alpha_eq_decides b.first t.concl).1 b.firsts))
+      ∙ ap (λ v. cond v (Some (sequent_of (set.union s.hyps t.hyps) b.second)) None) ((alpha_eq_decides b.first t.concl).1 b.firsts))
       (record { concludes = b.seconds; allowed = allowed_union extra assumptions s.hyps t.hyps h.allowed allowed })
 
   pub contr_achieves : (basis : Items) (p : Nameless) (t : Sequent) → is_falsity t.concl ≡ true → HasType basis p bool_type → AreAllowed extra assumptions t.hyps → IsAnswer extra (contr_of basis p t) (goal_at assumptions p)

@@ -14,14 +14,14 @@ pub leaves_arguments : (f : Nameless) (splits closes all : List Move) → Splits
 leaves_arguments f splits closes all s c is =
     subst (LeavesArguments f) (sym is)
     (λ extra assumptions a b g x y typed same.
-       valid_at always extra splits closes (goal_at assumptions (equation b (app f x) (app g y)) ∷ []) [] (goal_at assumptions (equation (fun_type a b) f g) ∷ []) [] (goal_at assumptions (equation a x y) ∷ []) 0 refl
-       (s extra assumptions a b f g x y typed (sym (strip_type [] g) ∙ ap (nameless_type []) (sym same) ∙ strip_type [] f ∙ typed))
-       (c extra assumptions (fun_type a b) g same))
+    valid_at always extra splits closes (goal_at assumptions (equation b (app f x) (app g y)) ∷ []) [] (goal_at assumptions (equation (fun_type a b) f g) ∷ []) [] (goal_at assumptions (equation a x y) ∷ []) 0 refl
+    (s extra assumptions a b f g x y typed (sym (strip_type [] g) ∙ ap (nameless_type []) (sym same) ∙ strip_type [] f ∙ typed))
+    (c extra assumptions (fun_type a b) g same))
 
 pub leaves_functions : (x : Nameless) (splits closes all : List Move) → SplitsApplications splits → ClosesEquation x closes → all ≡ splits ++ moved 1 closes → LeavesFunctions x all
 leaves_functions x splits closes all s c is =
     subst (LeavesFunctions x) (sym is)
     (λ extra assumptions a b f g y left right same.
-       valid_at always extra splits closes (goal_at assumptions (equation b (app f x) (app g y)) ∷ []) (goal_at assumptions (equation (fun_type a b) f g) ∷ []) (goal_at assumptions (equation a x y) ∷ []) [] [] 1 refl
-       (s extra assumptions a b f g x y left right)
-       (c extra assumptions a y same))
+    valid_at always extra splits closes (goal_at assumptions (equation b (app f x) (app g y)) ∷ []) (goal_at assumptions (equation (fun_type a b) f g) ∷ []) (goal_at assumptions (equation a x y) ∷ []) [] [] 1 refl
+    (s extra assumptions a b f g x y left right)
+    (c extra assumptions a y same))

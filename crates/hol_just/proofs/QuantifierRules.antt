@@ -65,9 +65,9 @@ pub allowed_fresh :
 allowed_fresh extra assumptions hs v of_extra of_assumptions allowed =
     none_free v (set.items hs)
     (λ n h. elim (in_union_cases hyps_total hyps_same extra (assumed assumptions) n (allowed n (held hs n h))) [
-       | inl i ↦ one_not_free v n (set.items extra) of_extra (listed extra n i)
-       | inr i ↦ one_not_free v n (map strip assumptions) (stripped_free v assumptions ∙ of_assumptions) (among_from_list hyps_total hyps_same (map strip assumptions) n i)
-     ])
+      | inl i ↦ one_not_free v n (set.items extra) of_extra (listed extra n i)
+      | inr i ↦ one_not_free v n (map strip assumptions) (stripped_free v assumptions ∙ of_assumptions) (among_from_list hyps_total hyps_same (map strip assumptions) n i)
+    ])
 
 -- ---- the rules
 
@@ -93,7 +93,7 @@ module _ (extra : Hyps) (assumptions : List Nameless) where
   exists_achieves basis x t s whole typed h =
       answer_by extra (exists_of basis (existential x) t s) (sequent_of s.hyps (existential x)) (goal_at assumptions (existential x))
       ((λ i. cond (is_some (whole i)) (option_and_then (exists_at basis (existential x) t s) (dest_exists_existential x i)) None)
-       ∙ (λ i. cond (test_typed basis t x.domain typed i && (alpha_eq_decides (open_with t 0 x.body) s.concl).1 (sym h.concludes) i) (Some (sequent_of s.hyps (existential x))) None))
+      ∙ (λ i. cond (test_typed basis t x.domain typed i && (alpha_eq_decides (open_with t 0 x.body) s.concl).1 (sym h.concludes) i) (Some (sequent_of s.hyps (existential x))) None))
       (record { concludes = refl; allowed = h.allowed })
 
 -- ---- the justifications
@@ -102,16 +102,16 @@ pub generalization_leaves : (v : Variable) → LeavesProperty v (one (Generaliza
 generalization_leaves v extra assumptions x same of_extra of_assumptions of_body =
     one_valid always extra (Generalization (var v)) (goal_at assumptions (universal x)) (goal_at assumptions (open_with (free v) 0 x.body) ∷ [])
     (λ basis suit typed.
-       let property = property_typed basis (codes "!") x typed.conclusion in
-       record {
-         typed = (
-           record {
-             assumptions = typed.assumptions;
-             conclusion = opened_typed basis x (free v) property (variable_typed basis v (ap (is_type basis) same ∙ property.domain) ∙ ap Some same);
-           },
-           tt,
-         );
-         fits = tt;
-         justifies = by_one extra (goal_at assumptions (universal x)) (gen_of basis (var v)) (goal_at assumptions (open_with (free v) 0 x.body))
-         (λ s h. gen_achieves extra assumptions basis x v s same property.domain of_extra of_assumptions of_body h);
-       })
+    let property = property_typed basis (codes "!") x typed.conclusion in
+    record {
+      typed = (
+        record {
+          assumptions = typed.assumptions;
+          conclusion = opened_typed basis x (free v) property (variable_typed basis v (ap (is_type basis) same ∙ property.domain) ∙ ap Some same);
+        },
+        tt,
+      );
+      fits = tt;
+      justifies = by_one extra (goal_at assumptions (universal x)) (gen_of basis (var v)) (goal_at assumptions (open_with (free v) 0 x.body))
+          (λ s h. gen_achieves extra assumptions basis x v s same property.domain of_extra of_assumptions of_body h);
+    })

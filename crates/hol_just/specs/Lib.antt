@@ -5,3 +5,9 @@ pub mod Valid
 pub mod Over
 pub mod Made
 pub mod Justifies
+pub mod FreeNames
+pub mod Leaving
+pub mod EquationTacs
+pub mod ConnectiveTacs
+pub mod QuantifierTacs
+pub mod Tac

@@ -14,6 +14,6 @@ pub returns : goal.returns
 returns c =
     where_ok c.put.result
     (from_one_taken (λ basis. gen_of basis c.args.v.now) c.args.thms.now c.take.new.self c.put.new.self c.in-Some.property c.in_ok-thm.thm
-     (is_first c.args.thms.now c.take.new.self c.take.result c.in-Some.property c.take.ensures c.in-Some.is)
-     (gave in_bool rule.Gen _ c.generalize.result c.in_ok-thm.thm c.generalize.ensures.sequent c.in_ok-thm.ensures))
+    (is_first c.args.thms.now c.take.new.self c.take.result c.in-Some.property c.take.ensures c.in-Some.is)
+    (gave in_bool rule.Gen _ c.generalize.result c.in_ok-thm.thm c.generalize.ensures.sequent c.in_ok-thm.ensures))
     c.put.ensures
