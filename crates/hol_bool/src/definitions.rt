@@ -63,12 +63,7 @@ pub(crate) fn unfold(
 }
 
 /// What the definition of `!` says of a predicate: `(!) f = (f = (\x. T))`.
-pub(crate) fn forall_at(
-    alloc: Global,
-    basis: &Basis,
-    ty: &Ty,
-    f: &Term,
-) -> Result<Thm, AllocError>
+pub(crate) fn forall_at(alloc: Global, basis: &Basis, ty: &Ty, f: &Term) -> Result<Thm, AllocError>
     requires stands { is_type basis.now ty.now ≡ true }
     requires typed { HasType basis.now (nameless [] f.now) (fun_type ty.now bool_type) }
     ensures { IfOk result (λ th. th ≡ theorem_on basis.now (forall_unfolded ty.now (nameless [] f.now))) }

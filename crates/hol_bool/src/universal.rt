@@ -29,7 +29,13 @@ pub(crate) fn forall_of(th: &Thm) -> Option<(&Variable, &Term)>
 }
 
 // From `!x. p`, `(\x. p) t = T`; `f` is the abstraction.
-fn true_instance(alloc: Global, a: &Thm, v: &Variable, f: &Term, t: &Term) -> Result<Thm, AllocError>
+fn true_instance(
+    alloc: Global,
+    a: &Thm,
+    v: &Variable,
+    f: &Term,
+    t: &Term,
+) -> Result<Thm, AllocError>
     requires is { a.now.sequent.concl ≡ app (fixed (codes "!") (quantifier_type v.now.1)) (nameless [] f.now) }
     requires function { HasType a.now.basis (nameless [] f.now) (fun_type v.now.1 bool_type) }
     requires stands { is_type a.now.basis v.now.1 ≡ true }

@@ -18,8 +18,6 @@ pub enum Rule {
     Alpha,
     /// `(\x. b) r = b` with `r` for `x`.
     BetaConv,
-    /// From `s = t`, a formula with `t` in the places of `s`.
-    Subst,
 }
 
 /// Why a rule of equations gives nothing.

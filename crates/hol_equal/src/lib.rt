@@ -9,4 +9,4 @@ mod rules;
 
 pub use applied::prove_hyp;
 pub use error::{EqualError, Rule};
-pub use rules::{alpha, sym};
+pub use rules::{alpha, ap_term, ap_thm, beta_conv, sym};

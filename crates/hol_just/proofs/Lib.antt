@@ -8,7 +8,6 @@ pub mod Likeness
 pub mod OneMove
 pub mod Typings
 pub mod EquationRules
-pub mod ConnectiveRules
 pub mod QuantifierRules
 pub mod Proposition
 pub mod Joined
