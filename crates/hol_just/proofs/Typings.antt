@@ -1,5 +1,5 @@
 -- Well typed terms, taken apart and made.
-use Rattle.std.specs.Prelude.{◌≡◌, ℕ, true, ◌&&◌, List, [], ◌∷◌, codes, Some, refl}
+use Rattle.std.specs.Prelude.{◌≡◌, ℕ, true, ◌&&◌, List, [], ◌∷◌, Some, refl}
 use Rattle.std.proofs.Common.{ap, sym, ◌∙◌}
 use Rattle.hol_types.specs.Tree.{TypeTree}
 use Rattle.hol_types.specs.Fun.{fun_type}
@@ -9,16 +9,11 @@ use Rattle.hol_subst.specs.Closing.{open_with}
 use Rattle.hol_subst.proofs.Typing.{typed_closed, mapped_part}
 use Rattle.hol_subst.proofs.TypeLaws.{open_type}
 use Rattle.hol_formulas.specs.Equation.{bool_type}
-use Rattle.hol_formulas.specs.Formula.{connective_type, negation_type, quantifier_type, Abstraction, quantified}
-use Rattle.hol_formulas.proofs.EquationTypes.{type_eq_itself, applied_fits}
+use Rattle.hol_formulas.specs.Formula.{quantifier_type, Abstraction, quantified}
 use Rattle.hol_kernel.specs.Items.{Items}
-use Rattle.hol_kernel.specs.Typing.{is_type, is_base, is_type_at, is_known, has_type, HasType}
+use Rattle.hol_kernel.specs.Typing.{is_type, is_base, is_known, HasType}
 use Rattle.hol_kernel.proofs.Stands.{some_is, both, app_parts, known_open}
 use Rattle.hol_kernel.proofs.Variables.{typed_known, known_typed}
-
--- the test of what holds
-pub test_typed : (basis : Items) (t : Nameless) (a : TypeTree) → HasType basis t a → has_type basis t a ≡ true
-test_typed basis t a h = ap (λ o. is_type_at o a) h ∙ type_eq_itself a
 
 -- the function and the argument of a well typed application, where the function's type is known
 pub parts_at : (basis : Items) (a b c : TypeTree) (f x : Nameless) → nameless_type [] f ≡ Some (fun_type a b) → HasType basis (app f x) c → HasType basis f (fun_type a b) × HasType basis x a
@@ -29,31 +24,6 @@ parts_at basis a b c f x e h =
     let is : fun_type a b ≡ fun_type parts.0 c = some_is (fun_type a b) (fun_type parts.0 c) (sym e ∙ parts.1) in
     let first : parts.0 ≡ a = cc in
     (typed_known basis f (fun_type a b) known.0 e, typed_known basis x a known.1 (parts.2 ∙ ap Some first))
-
--- what a connective stands between
-pub operands_typed : (basis : Items) (c : List ℕ) (p q : Nameless) (b : TypeTree) → HasType basis (app (app (fixed c connective_type) p) q) b → HasType basis p bool_type × HasType basis q bool_type
-operands_typed basis c p q b h =
-    let k = known_typed basis (app (app (fixed c connective_type) p) q) b h in
-    let outer = both (is_known basis (app (fixed c connective_type) p)) (is_known basis q) k.0 in
-    let inner = both (is_known basis (fixed c connective_type)) (is_known basis p) outer.0 in
-    let s = app_parts [] (app (fixed c connective_type) p) q b k.1 in
-    let t = app_parts [] (fixed c connective_type) p (fun_type s.0 b) s.1 in
-    let is : fun_type bool_type (fun_type bool_type bool_type) ≡ fun_type t.0 (fun_type s.0 b) = some_is connective_type (fun_type t.0 (fun_type s.0 b)) t.1 in
-    let first : t.0 ≡ bool_type = cc in
-    let second : s.0 ≡ bool_type = cc in
-    (typed_known basis p bool_type inner.1 (t.2 ∙ ap Some first), typed_known basis q bool_type outer.1 (s.2 ∙ ap Some second))
-
-pub applied_typed : (basis : Items) (a b : TypeTree) (f x : Nameless) → HasType basis f (fun_type a b) → HasType basis x a → HasType basis (app f x) b
-applied_typed basis a b f x h g =
-    let p = known_typed basis f (fun_type a b) h in
-    let q = known_typed basis x a g in
-    typed_known basis (app f x) b (λ i. p.0 i && q.0 i) (rw (p.1, q.1) (applied_fits a b))
-
--- an implication between formulas
-pub implication_typed : (basis : Items) (p q : Nameless) → HasType basis p bool_type → HasType basis q bool_type → HasType basis (app (app (fixed (codes "==>") connective_type) p) q) bool_type
-implication_typed basis p q h k =
-    applied_typed basis bool_type bool_type (app (fixed (codes "==>") connective_type) p) q
-    (applied_typed basis bool_type negation_type (fixed (codes "==>") connective_type) p (typed_known basis (fixed (codes "==>") connective_type) connective_type refl refl) h) k
 
 -- ---- quantifiers
 

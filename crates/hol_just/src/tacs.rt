@@ -1,7 +1,7 @@
 //! The justifications of the functions on goals.
 ghost use Rattle.std.specs.Prelude.{IfOk, []};
 ghost use Rattle.hol_terms.specs.Nameless.{nameless};
-ghost use Rattle.hol_just.specs.Justifies.{ClosesEquation, ClosesByGiven, SplitsApplications, LeavesArguments, LeavesFunctions, LeavesProperty};
+ghost use Rattle.hol_just.specs.Justifies.{ClosesEquation, ClosesByGiven, SplitsApplications, LeavesArguments, LeavesFunctions, LeavesProperty, SplitsEquivalence};
 
 use crate::just::Just;
 use crate::reason::Reason;
@@ -50,6 +50,13 @@ impl Just {
         let mut just = Just::mk_comb_tac(alloc)?;
         just.then_at(1, &closing)?;
         Ok(just)
+    }
+
+    /// That of leaving `q`, with `p` assumed, and `p`, with `q` assumed, of `p <=> q`.
+    pub fn deduct_antisym(alloc: Global) -> Result<Just, AllocError>
+        ensures { IfOk result (λ just. SplitsEquivalence just) }
+    {
+        Just::one(alloc, Reason::Antisymmetry)
     }
 
     /// That of GEN_TAC and X_GEN_TAC, which leave the property at this variable.
