@@ -7,6 +7,8 @@ pub mod chains;
 #[cfg(test)]
 mod define_tests;
 #[cfg(test)]
+mod derived_tests;
+#[cfg(test)]
 mod fixtures;
 #[cfg(test)]
 mod formulas_tests;

@@ -1,0 +1,69 @@
+-- What the rules answer, from what the code tested.
+use Rattle.std.specs.Prelude.{◌≡◌, ℕ, Bool, true, false, cond, not, ◌&&◌, List, [], Option, Some, None, refl}
+use Rattle.std.specs.Option.{option_and_then}
+use Rattle.std.specs.FinSet as set
+use Rattle.std.proofs.Common.{ap, sym, ◌∙◌, subst}
+use Rattle.hol_types.specs.Tree.{TypeTree}
+use Rattle.hol_types.specs.Equal.{type_eq}
+use Rattle.hol_terms.specs.Named.{Named, var, named_type}
+use Rattle.hol_terms.specs.Nameless.{Nameless, nameless}
+use Rattle.hol_subst.specs.Closing.{open_with}
+use Rattle.hol_subst.specs.Variant.{is_free_in}
+use Rattle.hol_formulas.specs.Formula.{Abstraction, universal, dest_forall}
+use Rattle.hol_formulas.proofs.FormulaLaws.{dest_forall_universal}
+use Rattle.hol_kernel.specs.Items.{Items}
+use Rattle.hol_kernel.specs.Sequent.{Sequent, sequent_of}
+use Rattle.hol_kernel.specs.Typing.{is_type, is_typed, has_type}
+use Rattle.hol_kernel.proofs.TermRules.{has_type_test}
+use Rattle.hol_bool.specs.Applied.{specialized, generalized, abstraction_in}
+use Rattle.hol_bool.specs.Rules.{spec_of, gen_of}
+use Rattle.hol_equal.specs.Applied.{rand}
+
+module _ (basis : Items) (t : Nameless) (a : Sequent) where
+  pub spec_none : dest_forall a.concl ≡ None → spec_of basis t a ≡ None
+  spec_none e = ap (option_and_then (λ x. cond (has_type basis t x.domain) (Some (sequent_of a.hyps (open_with t 0 x.body))) None)) e
+
+  module _ (x : Abstraction) (is : a.concl ≡ universal x) where
+    spec_at : (k : Bool) → has_type basis t x.domain ≡ k → spec_of basis t a ≡ cond k (Some (sequent_of a.hyps (open_with t 0 x.body))) None
+    spec_at k e =
+        ap (λ c. option_and_then (λ x. cond (has_type basis t x.domain) (Some (sequent_of a.hyps (open_with t 0 x.body))) None) (dest_forall c)) is
+        ∙ ap (option_and_then (λ x. cond (has_type basis t x.domain) (Some (sequent_of a.hyps (open_with t 0 x.body))) None)) (dest_forall_universal x)
+        ∙ ap (λ b. cond b (Some (sequent_of a.hyps (open_with t 0 x.body))) None) e
+
+    pub spec_untyped : has_type basis t x.domain ≡ false → spec_of basis t a ≡ None
+    spec_untyped e = spec_at false e
+
+    pub spec_gives : has_type basis t x.domain ≡ true → spec_of basis t a ≡ Some (specialized t a)
+    spec_gives e = spec_at true e ∙ ap (λ c. Some (specialized t (sequent_of a.hyps c))) (sym is)
+
+    pub is_universal : a.concl ≡ universal (abstraction_in (rand a.concl))
+    is_universal = is ∙ ap (λ c. universal (abstraction_in (rand c))) (sym is)
+
+module _ (basis : Items) (v : List ℕ × TypeTree) (a : Sequent) where
+  pub gen_untyped : is_type basis v.1 ≡ false → gen_of basis (var v) a ≡ None
+  gen_untyped e = ap (λ k. cond (k && not (is_free_in (set.items a.hyps) v)) (Some (generalized v a)) None) e
+
+  gen_at : is_type basis v.1 ≡ true → (k : Bool) → is_free_in (set.items a.hyps) v ≡ k → gen_of basis (var v) a ≡ cond (not k) (Some (generalized v a)) None
+  gen_at stands k e = λ i. cond (stands i && not (e i)) (Some (generalized v a)) None
+
+  pub gen_captured : is_type basis v.1 ≡ true → is_free_in (set.items a.hyps) v ≡ true → gen_of basis (var v) a ≡ None
+  gen_captured stands e = gen_at stands true e
+
+  pub gen_gives : is_type basis v.1 ≡ true → is_free_in (set.items a.hyps) v ≡ false → gen_of basis (var v) a ≡ Some (generalized v a)
+  gen_gives stands e = gen_at stands false e
+
+pub typed_test : (basis : Items) (t : Named) (s b : TypeTree) → named_type t ≡ Some s → type_eq s b ≡ true → is_typed basis (nameless [] t) ≡ has_type basis (nameless [] t) b
+typed_test basis t s b has e = sym (has_type_test basis t s has b ∙ ap (λ k. is_typed basis (nameless [] t) && k) e ∙ and_true (is_typed basis (nameless [] t)))
+  where
+    and_true : (k : Bool) → (k && true) ≡ k
+    and_true true = refl
+    and_true false = refl
+
+pub other_type : (basis : Items) (t : Named) (s b : TypeTree) → named_type t ≡ Some s → type_eq s b ≡ false → has_type basis (nameless [] t) b ≡ false
+other_type basis t s b has e = has_type_test basis t s has b ∙ ap (λ k. is_typed basis (nameless [] t) && k) e ∙ and_false (is_typed basis (nameless [] t))
+  where
+    and_false : (k : Bool) → (k && false) ≡ false
+    and_false true = refl
+    and_false false = refl
+
+pub ruleset tests = (typed_test, other_type)

@@ -1,0 +1,78 @@
+-- Sets of hypotheses that derivations leave.
+use Rattle.std.specs.Prelude.{◌≡◌, true, false, not, ◌&&◌, ◌||◌, Bool, refl}
+use Rattle.std.specs.Ordering.{eq_by_cmp}
+use Rattle.std.specs.FinSet as set
+use Rattle.std.proofs.Common.{ap, sym, ◌∙◌}
+use Rattle.hol_terms.specs.Nameless.{Nameless}
+use Rattle.hol_terms.specs.Alpha.{strip}
+use Rattle.hol_subst.specs.AlphaOrder.{nameless_cmp}
+use Rattle.hol_kernel.specs.Sequent.{Hyps, no_hyps, only_hyp}
+use Rattle.hol_kernel.proofs.HypothesisLists.{hyps_total, hyps_same}
+
+abbrev is : Nameless → Nameless → Bool
+is q k = eq_by_cmp nameless_cmp q k
+
+abbrev has : Hyps → Nameless → Bool
+has hs q = set.contains hs q
+
+same : (hs ks : Hyps) → ((q : Nameless) → has hs q ≡ has ks q) → hs ≡ ks
+same hs ks e = set.same_set hyps_total hyps_same hs ks e
+
+in_union : (hs ks : Hyps) (q : Nameless) → has (set.union hs ks) q ≡ (has hs q || has ks q)
+in_union hs ks q = set.contains-union hyps_total hs ks q
+
+in_rest : (hs : Hyps) (k q : Nameless) → has (set.remove hs k) q ≡ (not (is q k) && has hs q)
+in_rest hs k q = set.contains-remove hyps_total hs k q
+
+in_one : (p q : Nameless) → has (only_hyp p) q ≡ (is q (strip p) || false)
+in_one p q = set.contains-insert hyps_total no_hyps (strip p) q ∙ ap (λ b. is q (strip p) || b) (set.contains-empty nameless_cmp q)
+
+in_none : (q : Nameless) → has no_hyps q ≡ false
+in_none q = set.contains-empty nameless_cmp q
+
+-- ---- EQT_INTRO
+
+two_ways : (e p t a : Bool) → (((not e && (e || false)) || (not p && ((not t && (p || false)) || (not p && false)))) || a) ≡ a
+two_ways true true t a = refl
+two_ways true false true a = refl
+two_ways true false false a = refl
+two_ways false true t a = refl
+two_ways false false true a = refl
+two_ways false false false a = refl
+
+pub nothing_left : (e p t : Nameless) (hs : Hyps) → set.union (set.union (set.remove (only_hyp e) (strip e)) (set.remove (set.union (set.remove (only_hyp p) (strip t)) (set.remove no_hyps (strip p))) (strip p))) hs ≡ hs
+nothing_left e p t hs =
+    same _ hs
+    (λ q.
+    in_union (set.union (set.remove (only_hyp e) (strip e)) (set.remove (set.union (set.remove (only_hyp p) (strip t)) (set.remove no_hyps (strip p))) (strip p))) hs q
+    ∙ ap (λ b. b || has hs q)
+    (in_union (set.remove (only_hyp e) (strip e)) (set.remove (set.union (set.remove (only_hyp p) (strip t)) (set.remove no_hyps (strip p))) (strip p)) q
+    ∙ (λ i.
+    (in_rest (only_hyp e) (strip e) q ∙ ap (λ b. not (is q (strip e)) && b) (in_one e q)) i
+    || (in_rest (set.union (set.remove (only_hyp p) (strip t)) (set.remove no_hyps (strip p))) (strip p) q
+    ∙ ap (λ b. not (is q (strip p)) && b)
+    (in_union (set.remove (only_hyp p) (strip t)) (set.remove no_hyps (strip p)) q
+    ∙ (λ j.
+    (in_rest (only_hyp p) (strip t) q ∙ ap (λ b. not (is q (strip t)) && b) (in_one p q)) j
+    || (in_rest no_hyps (strip p) q ∙ ap (λ b. not (is q (strip p)) && b) (in_none q)) j))) i))
+    ∙ two_ways (is q (strip e)) (is q (strip p)) (is q (strip t)) (has hs q))
+
+-- ---- DISCH
+
+discharged_ways : (p c a : Bool) → ((not p && ((p || false) || a)) || (not c && (c || false))) ≡ (not p && a)
+discharged_ways true true a = refl
+discharged_ways true false a = refl
+discharged_ways false true true = refl
+discharged_ways false true false = refl
+discharged_ways false false true = refl
+discharged_ways false false false = refl
+
+pub discharged : (p c : Nameless) (hs : Hyps) → set.union (set.remove (set.union (only_hyp p) hs) (strip p)) (set.remove (only_hyp c) (strip c)) ≡ set.remove hs (strip p)
+discharged p c hs =
+    same _ _
+    (λ q.
+    in_union (set.remove (set.union (only_hyp p) hs) (strip p)) (set.remove (only_hyp c) (strip c)) q
+    ∙ (λ i.
+    (in_rest (set.union (only_hyp p) hs) (strip p) q ∙ ap (λ b. not (is q (strip p)) && b) (in_union (only_hyp p) hs q ∙ ap (λ b. b || has hs q) (in_one p q))) i
+    || (in_rest (only_hyp c) (strip c) q ∙ ap (λ b. not (is q (strip c)) && b) (in_one c q)) i)
+    ∙ discharged_ways (is q (strip p)) (is q (strip c)) (has hs q) ∙ sym (in_rest hs (strip p) q))

@@ -1,0 +1,3 @@
+pub mod HypLaws
+pub mod Typed
+pub mod Answered

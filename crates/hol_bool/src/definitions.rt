@@ -1,0 +1,75 @@
+//! The definitions of the prelude over a basis, and what they say of their arguments.
+ghost use Rattle.std.specs.Prelude.{◌≡◌, ◌∷◌, [], true, IfOk, codes};
+ghost use Rattle.hol_types.specs.Fun.{fun_type};
+ghost use Rattle.hol_terms.specs.Nameless.{nameless};
+ghost use Rattle.hol_subst.specs.Substitution.{types_inst};
+ghost use Rattle.hol_formulas.specs.Equation.{bool_type};
+ghost use Rattle.hol_formulas.specs.Prelude.{statement_of};
+ghost use Rattle.hol_kernel.specs.Sequent.{no_hyps, sequent_of};
+ghost use Rattle.hol_kernel.specs.Typing.{HasType, is_type};
+ghost use Rattle.hol_kernel.specs.Rules.{postulate_of};
+ghost use Rattle.hol_kernel.specs.Theorem.{theorem_on};
+ghost use Rattle.hol_bool.specs.Applied.{defining, unfolded, forall_unfolded};
+
+use hol_equal::applied::{ap_thm, beta_conv, inst_type, sides_of, trans};
+use hol_formulas::{Postulate, bool_type};
+use hol_kernel::{Basis, Thm};
+use hol_terms::Term;
+use hol_types::Ty;
+use std::alloc::{AllocError, Global};
+
+/// A definition or an axiom of the prelude over the basis.
+pub(crate) fn definition(alloc: Global, basis: &Basis, which: Postulate) -> Result<Thm, AllocError>
+    ensures { IfOk result (λ th. th ≡ theorem_on basis.now (postulate_of which)) }
+{
+    let own = Thm::prelude(alloc, which)?;
+    own.widen(basis)
+}
+
+/// The same at a type for the type variable `A`.
+pub(crate) fn definition_at(
+    alloc: Global,
+    basis: &Basis,
+    which: Postulate,
+    ty: &Ty,
+) -> Result<Thm, AllocError>
+    requires { is_type basis.now ty.now ≡ true }
+    ensures { IfOk result (λ th. th ≡ theorem_on basis.now (sequent_of no_hyps (types_inst ((ty.now, codes "A") ∷ []) (statement_of which)))) }
+{
+    let general = definition(alloc, basis, which)?;
+    inst_type(alloc, ty, "A", &general)
+}
+
+/// What a defining equation of a function says at an argument: from `c = (\v. b)`, `c x = b` with `x` for `v`.
+pub(crate) fn unfold(
+    alloc: Global,
+    definition: &Thm,
+    domain: &Ty,
+    range: &Ty,
+    x: &Term,
+) -> Result<Thm, AllocError>
+    requires is { definition.now.sequent.concl ≡ defining domain.now range.now definition.now.sequent.concl }
+    requires typed { HasType definition.now.basis (nameless [] x.now) domain.now }
+    ensures { IfOk result (λ th. th ≡ theorem_on definition.now.basis (unfolded (nameless [] x.now) definition.now.sequent)) }
+{
+    definition.well_typed();
+    let Some(sides) = sides_of(definition) else {
+        unreachable!()
+    };
+    let redex = Term::application(alloc, sides.right, x)?;
+    let applied = ap_thm(alloc, definition, domain, x)?;
+    let contracted = beta_conv(alloc, definition.basis(), range, &redex)?;
+    trans(alloc, &applied, &contracted)
+}
+
+/// What the definition of `!` says of a predicate: `(!) f = (f = (\x. T))`.
+pub(crate) fn forall_at(alloc: Global, basis: &Basis, ty: &Ty, f: &Term) -> Result<Thm, AllocError>
+    requires stands { is_type basis.now ty.now ≡ true }
+    requires typed { HasType basis.now (nameless [] f.now) (fun_type ty.now bool_type) }
+    ensures { IfOk result (λ th. th ≡ theorem_on basis.now (forall_unfolded ty.now (nameless [] f.now))) }
+{
+    let general = definition_at(alloc, basis, Postulate::ForallDef, ty)?;
+    let truth = bool_type(alloc)?;
+    let predicate = Ty::fun(alloc, ty, &truth)?;
+    unfold(alloc, &general, &predicate, &truth, f)
+}

@@ -1,0 +1,42 @@
+//! Why a rule of the connectives and quantifiers gives nothing.
+ghost use Rattle.std.specs.Prelude.{◌≡◌};
+ghost use Rattle.hol_bool.specs.declared.error.BoolError.TheVariants.{Memory};
+
+use std::alloc::{AllocError, AllocFailed};
+use thiserror::Error;
+
+/// The rules of the connectives and quantifiers that may not apply, as a refusal names them.
+#[derive(Clone, Copy, Debug, PartialEq, Eq)]
+pub enum Rule {
+    /// From `!x. p`, `p` with a term for `x`.
+    Spec,
+    /// From `p`, `!v. p`.
+    Gen,
+}
+
+/// Why a rule of the connectives and quantifiers gives nothing.
+#[derive(Clone, Copy, Debug, PartialEq, Eq, Error)]
+pub enum BoolError {
+    /// The rule does not apply to what it was handed.
+    #[error("the rule does not apply")]
+    Refused(Rule),
+    /// Memory is short.
+    #[error("out of memory")]
+    Memory,
+}
+
+impl From<AllocError> for BoolError {
+    ghost from_gives = { λ _ e. e ≡ Memory };
+
+    fn from(_error: AllocError) -> BoolError {
+        BoolError::Memory
+    }
+}
+
+impl<T: Drop> From<AllocFailed<T>> for BoolError {
+    ghost from_gives = { λ _ e. e ≡ Memory };
+
+    fn from(_error: AllocFailed<T>) -> BoolError {
+        BoolError::Memory
+    }
+}

@@ -1,0 +1,88 @@
+//! Rules of the quantifiers (bool.ml). The names of bound variables in what they give are those of what they were handed.
+ghost use Rattle.std.specs.Prelude.{◌≡◌, IfOk, [], true};
+ghost use Rattle.std.specs.FinSet as set;
+ghost use Rattle.std.specs.List.{list_any};
+ghost use Rattle.hol_terms.specs.Nameless.{nameless, free_occurrences};
+ghost use Rattle.hol_terms.specs.Scoped.{binds};
+ghost use Rattle.hol_subst.specs.Variant.{is_free_in};
+ghost use Rattle.hol_kernel.specs.Theorem.{over};
+ghost use Rattle.hol_kernel.specs.Typing.{has_type};
+ghost use Rattle.hol_kernel.specs.Gives.{Gives};
+ghost use Rattle.hol_bool.specs.Rules.{spec_of, gen_of};
+ghost use Rattle.hol_bool.specs.Refusals.{in_bool};
+ghost use Rattle.hol_bool.specs.declared.error.Rule.TheVariants as rule;
+
+use crate::applied;
+use crate::error::{BoolError, Rule};
+use crate::universal::forall_of;
+use hol_kernel::{Basis, Thm};
+use hol_terms::{Term, TermNode, Variable};
+use hol_types::Ty;
+use std::alloc::{AllocError, Global};
+
+// Whether the term is well typed over the basis, of the type.
+#[tactic(auto, using(crate::proofs::Answered::tests))]
+fn is_of_type(alloc: Global, basis: &Basis, t: &Term, ty: &Ty) -> Result<bool, AllocError>
+    ensures { IfOk result (λ is. is ≡ has_type basis.now (nameless [] t.now) ty.now) }
+{
+    if !t.type_of().same(ty) {
+        return Ok(false);
+    }
+    basis.is_typed(alloc, t)
+}
+
+// Whether the variable is free in a term of the list.
+fn is_free_in_one(terms: &[Term], v: &Variable) -> bool
+    ensures { result ≡ list_any (λ p. binds (free_occurrences (nameless [] p)) v.now) terms.now }
+{
+    for p in terms {
+        if p.vfree_in(v) {
+            return true;
+        }
+    }
+    false
+}
+
+// Whether the variable is free in a hypothesis.
+fn is_free_in_hypotheses(a: &Thm, v: &Variable) -> bool
+    ensures { result ≡ is_free_in (set.items a.now.sequent.hyps) v.now }
+{
+    is_free_in_one(a.hyps(), v)
+}
+
+/// The rule of specialization (bool.ml, SPEC): from `!x. p`, `p` with `t` for `x`. Bound variables keep the names that they have in the
+/// theorem and in `t`.
+///
+/// Refused by [`Rule::Spec`] where the theorem is no universal quantification, and where `t` is not well typed over the prelude and
+/// the theorem's basis or not of the type of `x`.
+pub fn spec(alloc: Global, t: &Term, a: &Thm) -> Result<Thm, BoolError>
+    ensures sequent { Gives in_bool rule.Spec (over a.now.basis (spec_of a.now.basis (nameless [] t.now) a.now.sequent)) result }
+    ensures basis { IfOk result (λ th. th.basis ≡ a.now.basis) }
+{
+    let Some((v, _)) = forall_of(a) else {
+        return Err(BoolError::Refused(Rule::Spec));
+    };
+    if !is_of_type(alloc, a.basis(), t, v.ty())? {
+        return Err(BoolError::Refused(Rule::Spec));
+    }
+    Ok(applied::spec(alloc, t, a)?)
+}
+
+/// The rule of generalization (bool.ml, GEN): from `p`, `!v. p`, for a variable that is free in no hypothesis.
+///
+/// Refused by [`Rule::Gen`] where `v` is no variable or not of a type over the theorem's basis, and where it is free in a hypothesis.
+pub fn generalize(alloc: Global, v: &Term, a: &Thm) -> Result<Thm, BoolError>
+    ensures sequent { Gives in_bool rule.Gen (over a.now.basis (gen_of a.now.basis v.now a.now.sequent)) result }
+    ensures basis { IfOk result (λ th. th.basis ≡ a.now.basis) }
+{
+    let TermNode::Var(variable) = v.node() else {
+        return Err(BoolError::Refused(Rule::Gen));
+    };
+    if !a.basis().is_type(variable.ty()) {
+        return Err(BoolError::Refused(Rule::Gen));
+    }
+    if is_free_in_hypotheses(a, variable) {
+        return Err(BoolError::Refused(Rule::Gen));
+    }
+    Ok(applied::generalize(alloc, variable, a)?)
+}

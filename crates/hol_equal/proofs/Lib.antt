@@ -1,0 +1,7 @@
+pub mod Outcomes
+pub mod Steps
+pub mod Typings
+pub mod Applies
+pub mod HypSets
+pub mod Beta
+pub mod Answered

@@ -1,0 +1,203 @@
+//! The rules for callers that know that they apply: such a call is not refused.
+ghost use Rattle.std.specs.Prelude.{◌≡◌, true, IfOk, MatchOption, Some, None, Ok, [], ◌∷◌, codes};
+ghost use Rattle.hol_terms.specs.Nameless.{nameless};
+ghost use Rattle.hol_subst.specs.Substitution.{term_subst, types_inst};
+ghost use Rattle.hol_formulas.specs.Equation.{bool_type, equality_type, equation, dest_eq};
+ghost use Rattle.hol_terms.specs.Named.{var, constant, comb, abs, named_type};
+ghost use Rattle.hol_kernel.specs.Rules.{reflexive, trans_of, mk_comb_of, abs_of, eq_mp_of, beta_of, inst_of, sequent_image};
+ghost use Rattle.hol_kernel.specs.Typing.{HasType, is_type};
+ghost use Rattle.hol_kernel.specs.Sequent.{sequent_of, only_hyp};
+ghost use Rattle.hol_kernel.specs.Theorem.{theorem_on};
+ghost use Rattle.hol_equal.specs.Applied.{transitive, combined, concluded, symmetric, under, at_argument, abstracted, contraction, own_contraction};
+ghost use Rattle.hol_equal.specs.Rules.{sym_of, prove_hyp_of, beta_conv_of};
+ghost use Rattle.hol_equal.specs.Unrefused.{IsUnrefused};
+
+use hol_formulas::{Sides, constant, dest_eq, equality_type, occurrence};
+use hol_kernel::{Basis, KernelError, Thm};
+use hol_terms::{Term, TermNode, Variable};
+use hol_types::{Name, Ty};
+use std::alloc::{AllocError, Global};
+
+// The theorem of a call that is not refused.
+fn unrefused(answer: Result<Thm, KernelError>) -> Result<Thm, AllocError>
+    requires { IsUnrefused answer }
+    ensures { IfOk result (λ th. answer ≡ Ok th) }
+{
+    match answer {
+        Ok(th) => Ok(th),
+        Err(KernelError::Memory) => Err(AllocError),
+        Err(KernelError::Refused(_)) => unreachable!(),
+        Err(KernelError::Clash(_)) => unreachable!(),
+    }
+}
+
+/// REFL: `|- t = t`, for a term of the type that is well typed over the basis.
+pub fn refl(alloc: Global, basis: &Basis, ty: &Ty, t: &Term) -> Result<Thm, AllocError>
+    requires typed { HasType basis.now (nameless [] t.now) ty.now }
+    ensures { IfOk result (λ th. th ≡ theorem_on basis.now (reflexive (nameless [] t.now) ty.now)) }
+{
+    unrefused(Thm::refl(alloc, basis, t))
+}
+
+/// TRANS: from `s = m` and `n = t`, where `m` and `n` are equal up to bound names, `s = t`.
+pub fn trans(alloc: Global, a: &Thm, b: &Thm) -> Result<Thm, AllocError>
+    requires one_basis { a.now.basis ≡ b.now.basis }
+    requires applies { trans_of a.now.sequent b.now.sequent ≡ Some (transitive a.now.sequent b.now.sequent) }
+    ensures { IfOk result (λ th. th ≡ theorem_on a.now.basis (transitive a.now.sequent b.now.sequent)) }
+{
+    unrefused(Thm::trans(alloc, a, b))
+}
+
+/// MK_COMB: from `f = g` and `x = y` of fitting types, `f x = g y`.
+pub fn mk_comb(alloc: Global, a: &Thm, b: &Thm) -> Result<Thm, AllocError>
+    requires one_basis { a.now.basis ≡ b.now.basis }
+    requires applies { mk_comb_of a.now.sequent b.now.sequent ≡ Some (combined a.now.sequent b.now.sequent) }
+    ensures { IfOk result (λ th. th ≡ theorem_on a.now.basis (combined a.now.sequent b.now.sequent)) }
+{
+    unrefused(Thm::mk_comb(alloc, a, b))
+}
+
+/// EQ_MP: from `l = r` and `m`, where `l` and `m` are equal up to bound names, `r`.
+pub fn eq_mp(alloc: Global, a: &Thm, b: &Thm) -> Result<Thm, AllocError>
+    requires one_basis { a.now.basis ≡ b.now.basis }
+    requires applies { eq_mp_of a.now.sequent b.now.sequent ≡ Some (concluded a.now.sequent b.now.sequent) }
+    ensures { IfOk result (λ th. th ≡ theorem_on a.now.basis (concluded a.now.sequent b.now.sequent)) }
+{
+    unrefused(Thm::eq_mp(alloc, a, b))
+}
+
+/// ASSUME: `{p} |- p`, for a term of type `bool` that is well typed over the basis.
+pub fn assume(alloc: Global, basis: &Basis, p: &Term) -> Result<Thm, AllocError>
+    requires typed { HasType basis.now (nameless [] p.now) bool_type }
+    ensures { IfOk result (λ th. th ≡ theorem_on basis.now (sequent_of (only_hyp (nameless [] p.now)) (nameless [] p.now))) }
+{
+    unrefused(Thm::assume(alloc, basis, p))
+}
+
+/// ABS: from `l = r`, for a variable of a type over the basis that is free in no hypothesis, `(\v. l) = (\v. r)`.
+pub fn abs(alloc: Global, v: &Variable, a: &Thm) -> Result<Thm, AllocError>
+    requires applies { abs_of a.now.basis (var v.now) a.now.sequent ≡ Some (abstracted v.now a.now.sequent) }
+    ensures { IfOk result (λ th. th ≡ theorem_on a.now.basis (abstracted v.now a.now.sequent)) }
+{
+    let own = occurrence(alloc, v)?;
+    unrefused(Thm::abs(alloc, &own, a))
+}
+
+// The constant `=` of the type.
+fn equality(alloc: Global, ty: &Ty) -> Result<Term, AllocError>
+    ensures { IfOk result (λ t. t ≡ constant (codes "=") ty.now) }
+{
+    let sign = Name::new(alloc, "=")?;
+    constant(alloc, &sign, ty)
+}
+
+/// The sides of the theorem's conclusion.
+pub fn sides_of(th: &Thm) -> Option<Sides<'_>>
+    ensures { MatchOption result (dest_eq th.now.sequent.concl ≡ None) (λ x. th.now.sequent.concl ≡ equation x.ty.now (nameless [] x.left.now) (nameless [] x.right.now)) }
+{
+    dest_eq(th.concl())
+}
+
+/// SYM: from `s = t`, `t = s`.
+pub fn sym(alloc: Global, a: &Thm) -> Result<Thm, AllocError>
+    requires applies { sym_of a.now.sequent ≡ Some (symmetric a.now.sequent) }
+    ensures { IfOk result (λ th. th ≡ theorem_on a.now.basis (symmetric a.now.sequent)) }
+{
+    a.well_typed();
+    let Some(sides) = sides_of(a) else {
+        unreachable!()
+    };
+    let ty = equality_type(alloc, sides.ty)?;
+    let sign = equality(alloc, &ty)?;
+    let same_sign = refl(alloc, a.basis(), &ty, &sign)?;
+    let applied = mk_comb(alloc, &same_sign, a)?;
+    let same = refl(alloc, a.basis(), sides.ty, sides.left)?;
+    let both = mk_comb(alloc, &applied, &same)?;
+    eq_mp(alloc, &both, &same)
+}
+
+/// AP_TERM: from `s = t`, `f s = f t`, for a function of the type.
+pub fn ap_term(alloc: Global, ty: &Ty, f: &Term, a: &Thm) -> Result<Thm, AllocError>
+    requires typed { HasType a.now.basis (nameless [] f.now) ty.now }
+    requires applies { mk_comb_of (reflexive (nameless [] f.now) ty.now) a.now.sequent ≡ Some (combined (reflexive (nameless [] f.now) ty.now) a.now.sequent) }
+    ensures { IfOk result (λ th. th ≡ theorem_on a.now.basis (under ty.now (nameless [] f.now) a.now.sequent)) }
+{
+    let same = refl(alloc, a.basis(), ty, f)?;
+    mk_comb(alloc, &same, a)
+}
+
+/// AP_THM: from `s = t`, `s x = t x`, for an argument of the type.
+pub fn ap_thm(alloc: Global, a: &Thm, ty: &Ty, x: &Term) -> Result<Thm, AllocError>
+    requires typed { HasType a.now.basis (nameless [] x.now) ty.now }
+    requires applies { mk_comb_of a.now.sequent (reflexive (nameless [] x.now) ty.now) ≡ Some (combined a.now.sequent (reflexive (nameless [] x.now) ty.now)) }
+    ensures { IfOk result (λ th. th ≡ theorem_on a.now.basis (at_argument (nameless [] x.now) a.now.sequent)) }
+{
+    let same = refl(alloc, a.basis(), ty, x)?;
+    mk_comb(alloc, a, &same)
+}
+
+/// PROVE_HYP: from `A |- p` and `B |- q`, `A u (B - p) |- q`.
+pub fn prove_hyp(alloc: Global, a: &Thm, b: &Thm) -> Result<Thm, AllocError>
+    requires one_basis { a.now.basis ≡ b.now.basis }
+    ensures { IfOk result (λ th. th ≡ theorem_on a.now.basis (prove_hyp_of a.now.sequent b.now.sequent)) }
+{
+    let same = Thm::deduct_antisym(alloc, a, b)?;
+    eq_mp(alloc, &same, a)
+}
+
+// `(\v. b) v = b`, for the abstraction `f` of `v` in `b`; the type is that of `b`.
+fn beta(
+    alloc: Global,
+    basis: &Basis,
+    ty: &Ty,
+    f: &Term,
+    v: &Variable,
+    b: &Term,
+) -> Result<Thm, AllocError>
+    requires is { f.now ≡ abs v.now b.now }
+    requires fits { named_type (comb (abs v.now b.now) (var v.now)) ≡ None → ⊥ }
+    requires applies { beta_of basis.now (comb (abs v.now b.now) (var v.now)) ≡ Some (own_contraction ty.now v.now b.now) }
+    ensures { IfOk result (λ th. th ≡ theorem_on basis.now (own_contraction ty.now v.now b.now)) }
+{
+    let own = occurrence(alloc, v)?;
+    let redex = Term::application(alloc, f, &own)?;
+    unrefused(Thm::beta(alloc, basis, &redex))
+}
+
+// INST: the theorem with the term for the variable.
+fn inst(alloc: Global, x: &Term, v: &Variable, a: &Thm) -> Result<Thm, AllocError>
+    requires applies { inst_of a.now.basis ((x.now, var v.now) ∷ []) a.now.sequent ≡ Some (sequent_image (term_subst ((nameless [] x.now, v.now) ∷ []) 0) a.now.sequent) }
+    ensures { IfOk result (λ th. th ≡ theorem_on a.now.basis (sequent_image (term_subst ((nameless [] x.now, v.now) ∷ []) 0) a.now.sequent)) }
+{
+    let mut pairs = Vec::new(alloc);
+    let own = occurrence(alloc, v)?;
+    pairs.push((x.copy()?, own))?;
+    unrefused(Thm::inst(alloc, &pairs, a))
+}
+
+/// INST_TYPE: the theorem with a type over its basis for the type variable of the name.
+pub fn inst_type(alloc: Global, ty: &Ty, name: &str, a: &Thm) -> Result<Thm, AllocError>
+    requires stands { is_type a.now.basis ty.now ≡ true }
+    ensures { IfOk result (λ th. th ≡ theorem_on a.now.basis (sequent_image (types_inst ((ty.now, name.now) ∷ [])) a.now.sequent)) }
+{
+    let mut pairs = Vec::new(alloc);
+    let own = Name::new(alloc, name)?;
+    pairs.push((ty.copy()?, own))?;
+    unrefused(Thm::inst_type(alloc, &pairs, a))
+}
+
+/// BETA_CONV: `(\x. b) r = b` with `r` for `x`, for a redex of the type that is well typed over the basis.
+pub fn beta_conv(alloc: Global, basis: &Basis, ty: &Ty, redex: &Term) -> Result<Thm, AllocError>
+    requires typed { HasType basis.now (nameless [] redex.now) ty.now }
+    requires applies { beta_conv_of basis.now (nameless [] redex.now) ≡ Some (contraction ty.now (nameless [] redex.now)) }
+    ensures { IfOk result (λ th. th ≡ theorem_on basis.now (contraction ty.now (nameless [] redex.now))) }
+{
+    let TermNode::Comb(f, x) = redex.node() else {
+        unreachable!()
+    };
+    let TermNode::Abs(v, b) = f.node() else {
+        unreachable!()
+    };
+    let general = beta(alloc, basis, ty, f, v, b)?;
+    inst(alloc, x, v, &general)
+}

@@ -1,0 +1,12 @@
+//! Rules of equations, derived from the kernel's (HOL Light's equal.ml).
+//!
+//! Calls that answer a `Result` answer its memory error where memory is short, and nowhere else.
+#![tactic(auto)]
+
+pub mod applied;
+mod error;
+mod rules;
+
+pub use applied::prove_hyp;
+pub use error::{EqualError, Rule};
+pub use rules::{alpha, ap_term, ap_thm, beta_conv, sym};

@@ -1,0 +1,127 @@
+//! Rules of equations (equal.ml, bool.ml). The names of bound variables in what they give are those of what they were handed.
+ghost use Rattle.std.specs.Prelude.{◌≡◌, IfOk, []};
+ghost use Rattle.hol_terms.specs.Nameless.{nameless};
+ghost use Rattle.hol_kernel.specs.Typing.{has_type};
+ghost use Rattle.hol_kernel.specs.Theorem.{over};
+ghost use Rattle.hol_kernel.specs.Gives.{Gives};
+ghost use Rattle.hol_equal.specs.Rules.{sym_of, ap_term_of, ap_thm_of, alpha_of, beta_conv_of};
+ghost use Rattle.hol_equal.specs.Refusals.{in_equal};
+ghost use Rattle.hol_equal.specs.declared.error.Rule.TheVariants as rule;
+
+use crate::applied::{self, sides_of};
+use crate::error::{EqualError, Rule};
+use hol_kernel::{Basis, Thm};
+use hol_terms::{Term, TermNode};
+use hol_types::Ty;
+use std::alloc::{AllocError, Global};
+
+/// The rule of symmetry (equal.ml, SYM): from `s = t`, `t = s`.
+///
+/// Refused by [`Rule::Sym`] where the theorem is no equation.
+pub fn sym(alloc: Global, a: &Thm) -> Result<Thm, EqualError>
+    ensures sequent { Gives in_equal rule.Sym (over a.now.basis (sym_of a.now.sequent)) result }
+    ensures basis { IfOk result (λ th. th.basis ≡ a.now.basis) }
+{
+    let Some(_sides) = sides_of(a) else {
+        return Err(EqualError::Refused(Rule::Sym));
+    };
+    Ok(applied::sym(alloc, a)?)
+}
+
+/// The rule of alpha equivalence (equal.ml, ALPHA): `s = t` over the basis, for terms that are equal up to bound names.
+///
+/// Refused by [`Rule::Alpha`] where they are not, and where one is not well typed over the prelude and the basis.
+pub fn alpha(alloc: Global, basis: &Basis, s: &Term, t: &Term) -> Result<Thm, EqualError>
+    ensures sequent { Gives in_equal rule.Alpha (over basis.now (alpha_of basis.now (nameless [] s.now) (nameless [] t.now))) result }
+    ensures basis { IfOk result (λ th. th.basis ≡ basis.now) }
+{
+    if !s.alpha_equivalent(t) {
+        return Err(EqualError::Refused(Rule::Alpha));
+    }
+    if !basis.is_typed(alloc, s)? {
+        return Err(EqualError::Refused(Rule::Alpha));
+    }
+    if !basis.is_typed(alloc, t)? {
+        return Err(EqualError::Refused(Rule::Alpha));
+    }
+    let left = applied::refl(alloc, basis, s.type_of(), s)?;
+    let right = applied::refl(alloc, basis, t.type_of(), t)?;
+    Ok(applied::trans(alloc, &left, &right)?)
+}
+
+// Whether the term is well typed over the basis, of the type.
+#[tactic(auto, using(crate::proofs::Answered::tests))]
+fn is_of_type(alloc: Global, basis: &Basis, t: &Term, ty: &Ty) -> Result<bool, AllocError>
+    ensures { IfOk result (λ is. is ≡ has_type basis.now (nameless [] t.now) ty.now) }
+{
+    if !t.type_of().same(ty) {
+        return Ok(false);
+    }
+    basis.is_typed(alloc, t)
+}
+
+/// The rule of the operand (equal.ml, AP_TERM): from `s = t`, `f s = f t`.
+///
+/// Refused by [`Rule::ApTerm`] where the theorem is no equation, and where `f` is not well typed over the prelude and the theorem's
+/// basis or no function of what has the type of `s`.
+#[tactic(auto, using(crate::proofs::Answered::ap_terms))]
+pub fn ap_term(alloc: Global, f: &Term, a: &Thm) -> Result<Thm, EqualError>
+    ensures sequent { Gives in_equal rule.ApTerm (over a.now.basis (ap_term_of a.now.basis (nameless [] f.now) a.now.sequent)) result }
+    ensures basis { IfOk result (λ th. th.basis ≡ a.now.basis) }
+{
+    let Some(sides) = sides_of(a) else {
+        return Err(EqualError::Refused(Rule::ApTerm));
+    };
+    let Some((domain, _range)) = f.type_of().dest_fun() else {
+        return Err(EqualError::Refused(Rule::ApTerm));
+    };
+    if !domain.same(sides.ty) {
+        return Err(EqualError::Refused(Rule::ApTerm));
+    }
+    if !a.basis().is_typed(alloc, f)? {
+        return Err(EqualError::Refused(Rule::ApTerm));
+    }
+    Ok(applied::ap_term(alloc, f.type_of(), f, a)?)
+}
+
+/// The rule of the operator (equal.ml, AP_THM): from `s = t`, `s x = t x`.
+///
+/// Refused by [`Rule::ApThm`] where the theorem is no equation of functions, and where `x` is not well typed over the prelude and the
+/// theorem's basis or not of the type of their arguments.
+#[tactic(auto, using(crate::proofs::Answered::ap_thms))]
+pub fn ap_thm(alloc: Global, a: &Thm, x: &Term) -> Result<Thm, EqualError>
+    ensures sequent { Gives in_equal rule.ApThm (over a.now.basis (ap_thm_of a.now.basis a.now.sequent (nameless [] x.now))) result }
+    ensures basis { IfOk result (λ th. th.basis ≡ a.now.basis) }
+{
+    let Some(sides) = sides_of(a) else {
+        return Err(EqualError::Refused(Rule::ApThm));
+    };
+    let Some((domain, _range)) = sides.ty.dest_fun() else {
+        return Err(EqualError::Refused(Rule::ApThm));
+    };
+    if !is_of_type(alloc, a.basis(), x, domain)? {
+        return Err(EqualError::Refused(Rule::ApThm));
+    }
+    Ok(applied::ap_thm(alloc, a, domain, x)?)
+}
+
+/// The rule of beta conversion (equal.ml, BETA_CONV): `(\x. b) r = b` over the basis, with `r` for `x` on the right. Bound variables keep
+/// the names that they have in `b` and in `r`.
+///
+/// Refused by [`Rule::BetaConv`] where the term is no application of an abstraction, or not well typed over the prelude and the basis.
+#[tactic(auto, using(crate::proofs::Answered::beta_conv_untyped))]
+pub fn beta_conv(alloc: Global, basis: &Basis, redex: &Term) -> Result<Thm, EqualError>
+    ensures sequent { Gives in_equal rule.BetaConv (over basis.now (beta_conv_of basis.now (nameless [] redex.now))) result }
+    ensures basis { IfOk result (λ th. th.basis ≡ basis.now) }
+{
+    let TermNode::Comb(f, _x) = redex.node() else {
+        return Err(EqualError::Refused(Rule::BetaConv));
+    };
+    let TermNode::Abs(_v, _b) = f.node() else {
+        return Err(EqualError::Refused(Rule::BetaConv));
+    };
+    if !basis.is_typed(alloc, redex)? {
+        return Err(EqualError::Refused(Rule::BetaConv));
+    }
+    Ok(applied::beta_conv(alloc, basis, redex.type_of(), redex)?)
+}

@@ -1,0 +1,12 @@
+//! Goals, the codes of the functions on goals, and what these take.
+//!
+//! Calls that answer a `Result` answer its memory error where memory is short, and nowhere else.
+#![tactic(auto)]
+
+mod goal;
+mod tac_args;
+mod tac_code;
+
+pub use goal::Goal;
+pub use tac_args::{ArgumentKind, TacArgs};
+pub use tac_code::TacCode;

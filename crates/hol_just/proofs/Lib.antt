@@ -1,0 +1,13 @@
+pub mod Frame
+pub mod Validity
+pub mod Cuts
+pub mod Applied
+pub mod Moves
+pub mod Allowed
+pub mod Likeness
+pub mod OneMove
+pub mod Typings
+pub mod EquationRules
+pub mod QuantifierRules
+pub mod Proposition
+pub mod Joined

@@ -1,0 +1,81 @@
+-- From which goals to which the justifications of the functions on goals are valid (HOL Light Reference Manual; LNCS 78). Terms are taken up to bound names where the
+-- functions compare them so; the extra hypotheses are those of theorems that were handed in and are no assumptions.
+use Rattle.std.specs.Prelude.{◌≡◌, ℕ, Bool, true, false, List, [], ◌∷◌, Some}
+use Rattle.std.specs.FinSet as set
+use Rattle.hol_types.specs.Tree.{TypeTree}
+use Rattle.hol_types.specs.Fun.{fun_type}
+use Rattle.hol_terms.specs.Nameless.{Nameless, free, app, nameless_type, free_occurrences}
+use Rattle.hol_terms.specs.Scoped.{binds}
+use Rattle.hol_subst.specs.Closing.{open_with}
+use Rattle.hol_subst.specs.Variant.{is_free_in}
+use Rattle.hol_terms.specs.Alpha.{strip}
+use Rattle.hol_formulas.specs.Equation.{bool_type, equation}
+use Rattle.hol_formulas.specs.Formula.{Abstraction, universal}
+use Rattle.hol_kernel.specs.Items.{Items}
+use Rattle.hol_kernel.specs.Sequent.{Hyps}
+use Rattle.hol_kernel.specs.Typing.{has_type}
+use Rattle.hol_kernel.specs.Given.{Given, proved, assumed, given_sequent}
+use Rattle.hol_goal.specs.Goal.{GoalValue}
+use Rattle.hol_goal.specs.Achieves.{AreAllowed}
+use Rattle.hol_just.specs.Valid.{IsValid}
+use Rattle.hol_just.specs.declared.reason.Move.{Move}
+
+abbrev pub goal_at : List Nameless → Nameless → GoalValue
+goal_at assumptions conclusion = record { assumptions = assumptions; conclusion = conclusion }
+
+-- ---- conditions on bases
+
+-- every basis suits
+abbrev pub always : Items → Bool
+always basis = true
+
+-- the basis contains the theorem's, or the assumed term is well typed over it
+abbrev pub holds_given : Given → Items → Bool
+holds_given (proved th) basis = set.is_subset th.basis basis
+holds_given (assumed p) basis = has_type basis p bool_type
+
+-- ---- goals that are closed
+
+-- REFL_TAC closes `s = t`, where s and t are equal up to bound names.
+abbrev pub ClosesEquation : Nameless → List Move → Type 0
+ClosesEquation s moves =
+    (extra : Hyps) (assumptions : List Nameless) (a : TypeTree) (t : Nameless) → strip s ≡ strip t → IsValid always extra moves (goal_at assumptions (equation a s t) ∷ []) []
+
+-- ACCEPT_TAC closes what the theorem concludes.
+abbrev pub ClosesByGiven : Given → List Move → Type 0
+ClosesByGiven th moves =
+    (extra : Hyps) (goal : GoalValue) → strip (given_sequent th).concl ≡ strip goal.conclusion → AreAllowed extra goal.assumptions (given_sequent th).hyps → IsValid (holds_given th) extra moves (goal ∷ []) []
+
+-- ---- equations
+
+-- MK_COMB_TAC leaves `f = g` and `x = y` of `f x = g y`, where f and g are of one type.
+abbrev pub SplitsApplications : List Move → Type 0
+SplitsApplications moves =
+    (extra : Hyps) (assumptions : List Nameless) (a b : TypeTree) (f g x y : Nameless) → nameless_type [] f ≡ Some (fun_type a b) → nameless_type [] g ≡ Some (fun_type a b) →
+    IsValid always extra moves (goal_at assumptions (equation b (app f x) (app g y)) ∷ []) (goal_at assumptions (equation (fun_type a b) f g) ∷ goal_at assumptions (equation a x y) ∷ [])
+
+-- AP_TERM_TAC leaves `x = y` of `f x = f y`.
+abbrev pub LeavesArguments : Nameless → List Move → Type 0
+LeavesArguments f moves =
+    (extra : Hyps) (assumptions : List Nameless) (a b : TypeTree) (g x y : Nameless) → nameless_type [] f ≡ Some (fun_type a b) → strip f ≡ strip g →
+    IsValid always extra moves (goal_at assumptions (equation b (app f x) (app g y)) ∷ []) (goal_at assumptions (equation a x y) ∷ [])
+
+-- AP_THM_TAC leaves `f = g` of `f x = g x`, where f and g are of one type.
+abbrev pub LeavesFunctions : Nameless → List Move → Type 0
+LeavesFunctions x moves =
+    (extra : Hyps) (assumptions : List Nameless) (a b : TypeTree) (f g y : Nameless) → nameless_type [] f ≡ Some (fun_type a b) → nameless_type [] g ≡ Some (fun_type a b) → strip x ≡ strip y →
+    IsValid always extra moves (goal_at assumptions (equation b (app f x) (app g y)) ∷ []) (goal_at assumptions (equation (fun_type a b) f g) ∷ [])
+
+-- `p <=> q` from q, with p assumed, and p, with q assumed
+abbrev pub SplitsEquivalence : List Move → Type 0
+SplitsEquivalence moves =
+    (extra : Hyps) (assumptions : List Nameless) (p q : Nameless) →
+    IsValid always extra moves (goal_at assumptions (equation bool_type p q) ∷ []) (goal_at (p ∷ assumptions) q ∷ goal_at (q ∷ assumptions) p ∷ [])
+
+-- ---- quantifiers
+
+-- GEN_TAC and X_GEN_TAC leave p of `!x. p` at a variable of x's type that is free neither in the goal nor in an extra hypothesis.
+abbrev pub LeavesProperty : List ℕ × TypeTree → List Move → Type 0
+LeavesProperty v moves =
+    (extra : Hyps) (assumptions : List Nameless) (x : Abstraction) → v.1 ≡ x.domain → is_free_in (set.items extra) v ≡ false → is_free_in assumptions v ≡ false →
+    binds (free_occurrences x.body) v ≡ false → IsValid always extra moves (goal_at assumptions (universal x) ∷ []) (goal_at assumptions (open_with (free v) 0 x.body) ∷ [])

@@ -1,0 +1,13 @@
+pub mod Inference
+pub mod Reasons
+pub mod Gives
+pub mod Valid
+pub mod Over
+pub mod Made
+pub mod Justifies
+pub mod FreeNames
+pub mod Leaving
+pub mod EquationTacs
+pub mod ConnectiveTacs
+pub mod QuantifierTacs
+pub mod Tac

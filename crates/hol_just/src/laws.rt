@@ -1,0 +1,35 @@
+//! Laws of valid justifications.
+ghost use Rattle.std.specs.Prelude.{◌≡◌, ℕ, Bool, IsTrue, List, [], ◌++◌, length};
+ghost use Rattle.hol_kernel.specs.Items.{Items};
+ghost use Rattle.hol_kernel.specs.Sequent.{Hyps};
+ghost use Rattle.hol_goal.specs.Goal.{GoalValue};
+ghost use Rattle.hol_just.specs.Gives.{moved};
+ghost use Rattle.hol_just.specs.Valid.{IsValid};
+ghost use Rattle.hol_just.specs.declared.reason.Move.{Move};
+
+/// No moves leave the goals as they are.
+#[tactic(auto, using(crate::proofs::Validity::valid_none))]
+pub fn none_is_valid()
+    ensures { (suits : Items → Bool) (extra : Hyps) (goals : List GoalValue) → IsValid suits extra [] goals goals }
+{}
+
+/// Moves after moves: on all the goals that these left.
+pub fn valid_one_after_the_other()
+    ensures { (suits : Items → Bool) (extra : Hyps) (moves more : List Move) (before mid after : List GoalValue) → IsValid suits extra moves before mid → IsValid suits extra more mid after → IsValid suits extra (moves ++ more) before after }
+{}
+
+/// Moves after moves: on some of the goals that these left, from a place on. The other goals stay.
+pub fn valid_at_a_place()
+    ensures { (suits : Items → Bool) (extra : Hyps) (moves more : List Move) (before pre goals new post : List GoalValue) (place : ℕ) → place ≡ length pre → IsValid suits extra moves before (pre ++ (goals ++ post)) → IsValid suits extra more goals new → IsValid suits extra (moves ++ moved place more) before (pre ++ (new ++ post)) }
+{}
+
+/// A narrower condition on bases.
+#[tactic(auto, using(crate::proofs::Validity::valid_under))]
+pub fn valid_under()
+    ensures { (suits narrower : Items → Bool) (extra : Hyps) (moves : List Move) (before after : List GoalValue) → ((basis : Items) → IsTrue (narrower basis) → IsTrue (suits basis)) → IsValid suits extra moves before after → IsValid narrower extra moves before after }
+{}
+
+/// Validity has one proof at most, so that what is kept beside a function may say it.
+pub fn validity_is_a_proposition()
+    ensures { (suits : Items → Bool) (extra : Hyps) (moves : List Move) (before after : List GoalValue) → IsProp (IsValid suits extra moves before after) }
+{}

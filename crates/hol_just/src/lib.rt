@@ -1,0 +1,21 @@
+//! Justifications: theorems of goals from theorems of the goals that were left of them.
+//!
+//! Calls that answer a `Result` answer its memory error where memory is short, and nowhere else.
+#![tactic(auto)]
+
+mod cursor;
+mod just;
+mod justifying;
+mod laws;
+mod reason;
+mod refusals;
+mod steps;
+mod tacs;
+
+pub use just::Just;
+pub use justifying::justify;
+pub use laws::{
+    none_is_valid, valid_at_a_place, valid_one_after_the_other, valid_under,
+    validity_is_a_proposition,
+};
+pub use reason::{Move, Reason};

@@ -1,0 +1,57 @@
+//! Reasons and moves.
+ghost use Rattle.std.specs.Prelude.{◌≡◌, IfOk};
+
+use hol_kernel::Given;
+use hol_terms::Term;
+use std::alloc::AllocError;
+
+/// Why goals were left of a goal: the rule that makes a theorem of it from theirs.
+#[derive(Drop)]
+pub enum Reason {
+    /// Leaves no goal: an equation of the term and itself (REFL).
+    Reflexivity(Term),
+    /// Leaves no goal: the theorem, or the assumption of the term.
+    Premise(Given),
+    /// Leaves `f = g` and `x = y`: `f x = g y` (MK_COMB).
+    Combination,
+    /// Leaves `q` from `p`, and `p` from `q`: `p <=> q` (DEDUCT_ANTISYM_RULE, of the second theorem and the first).
+    Antisymmetry,
+    /// Leaves `p` at the variable: `!x. p` (GEN).
+    Generalization(Term),
+}
+
+/// The goal at this place, counted from 0, was taken out of the list of open goals, and those that the reason leaves stand there.
+#[derive(Drop)]
+pub struct Move {
+    /// The place in the list of open goals.
+    pub place: usize,
+    /// Why the goals were left.
+    pub reason: Reason,
+}
+
+impl Reason {
+    /// An equal reason.
+    pub fn copy(&self) -> Result<Reason, AllocError>
+        ensures { IfOk result (λ reason. reason ≡ self.now) }
+    {
+        Ok(match self {
+            Reason::Reflexivity(t) => Reason::Reflexivity(t.copy()?),
+            Reason::Premise(given) => Reason::Premise(given.copy()?),
+            Reason::Combination => Reason::Combination,
+            Reason::Antisymmetry => Reason::Antisymmetry,
+            Reason::Generalization(v) => Reason::Generalization(v.copy()?),
+        })
+    }
+}
+
+impl Move {
+    /// An equal move.
+    pub fn copy(&self) -> Result<Move, AllocError>
+        ensures { IfOk result (λ one. one ≡ self.now) }
+    {
+        Ok(Move {
+            place: self.place,
+            reason: self.reason.copy()?,
+        })
+    }
+}

@@ -1,0 +1,82 @@
+//! Reasons applied to theorems.
+ghost use Rattle.std.specs.Prelude.{◌≡◌, ◌++◌, IsSome, [], OnOk};
+ghost use Rattle.hol_terms.specs.Nameless.{nameless};
+ghost use Rattle.hol_kernel.specs.Given as premise;
+ghost use Rattle.hol_kernel.specs.Rules.{refl_of, mk_comb_of};
+ghost use Rattle.hol_bool.specs.Rules.{gen_of};
+ghost use Rattle.hol_just.specs.Inference.{from_none, from_one, from_two, inferred};
+ghost use Rattle.hol_just.specs.Reasons.{premise_of, antisymmetric, inference, Fits};
+ghost use Rattle.hol_just.specs.Over.{Infers};
+
+use crate::cursor::Cursor;
+use crate::reason::Reason;
+use crate::refusals::{made_in_bool, made_in_kernel};
+use hol_bool::generalize;
+use hol_kernel::{Given, Thm};
+use hol_terms::Term;
+use std::alloc::{AllocError, Global};
+
+/// Applies a reason after the place.
+pub(crate) fn infer(alloc: Global, reason: &Reason, thms: &mut Cursor) -> Result<(), AllocError>
+    requires gives { IsSome (inferred (inference thms.old.basis reason.now) thms.old.after) }
+    requires fits { Fits thms.old.basis reason.now }
+    ensures { OnOk result (Infers (inference thms.old.basis reason.now) thms.old thms.new) }
+{
+    match reason {
+        Reason::Reflexivity(t) => reflexivity(alloc, t, thms),
+        Reason::Premise(given) => premise(alloc, given, thms),
+        Reason::Combination => combination(alloc, thms),
+        Reason::Antisymmetry => antisymmetry(alloc, thms),
+        Reason::Generalization(v) => generalization(alloc, v, thms),
+    }
+}
+
+fn reflexivity(alloc: Global, t: &Term, thms: &mut Cursor) -> Result<(), AllocError>
+    requires { IsSome (inferred (from_none (refl_of thms.old.basis (nameless [] t.now))) thms.old.after) }
+    ensures { OnOk result (Infers (from_none (refl_of thms.old.basis (nameless [] t.now))) thms.old thms.new) }
+{
+    let thm = made_in_kernel(Thm::refl(alloc, thms.basis(), t))?;
+    thms.put(thm)
+}
+
+fn premise(alloc: Global, given: &Given, thms: &mut Cursor) -> Result<(), AllocError>
+    requires gives { IsSome (inferred (from_none (premise_of thms.old.basis given.now)) thms.old.after) }
+    requires within { premise.IsOver given.now thms.old.basis }
+    ensures { OnOk result (Infers (from_none (premise_of thms.old.basis given.now)) thms.old thms.new) }
+{
+    let thm = made_in_kernel(given.over(alloc, thms.basis()))?;
+    thms.put(thm)
+}
+
+fn combination(alloc: Global, thms: &mut Cursor) -> Result<(), AllocError>
+    requires { IsSome (inferred (from_two mk_comb_of) thms.old.after) }
+    ensures { OnOk result (Infers (from_two mk_comb_of) thms.old thms.new) }
+{
+    let (Some(functions), Some(arguments)) = (thms.take(), thms.take()) else {
+        unreachable!()
+    };
+    let thm = made_in_kernel(Thm::mk_comb(alloc, &functions, &arguments))?;
+    thms.put(thm)
+}
+
+fn antisymmetry(alloc: Global, thms: &mut Cursor) -> Result<(), AllocError>
+    requires { IsSome (inferred (from_two antisymmetric) thms.old.after) }
+    ensures { OnOk result (Infers (from_two antisymmetric) thms.old thms.new) }
+{
+    let (Some(there), Some(back)) = (thms.take(), thms.take()) else {
+        unreachable!()
+    };
+    let thm = Thm::deduct_antisym(alloc, &back, &there)?;
+    thms.put(thm)
+}
+
+fn generalization(alloc: Global, v: &Term, thms: &mut Cursor) -> Result<(), AllocError>
+    requires { IsSome (inferred (from_one (gen_of thms.old.basis v.now)) thms.old.after) }
+    ensures { OnOk result (Infers (from_one (gen_of thms.old.basis v.now)) thms.old thms.new) }
+{
+    let Some(property) = thms.take() else {
+        unreachable!()
+    };
+    let thm = made_in_bool(generalize(alloc, v, &property))?;
+    thms.put(thm)
+}
