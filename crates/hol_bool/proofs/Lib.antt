@@ -1,3 +1,4 @@
 pub mod HypLaws
 pub mod Typed
 pub mod Answered
+pub mod RuleLaws

@@ -6,10 +6,12 @@
 pub mod applied;
 mod definitions;
 mod error;
+mod laws;
 mod rules;
 mod truth;
 mod universal;
 
 pub use error::{BoolError, Rule};
+pub use laws::rules_widen;
 pub use rules::{generalize, spec};
 pub use truth::eqt_intro;

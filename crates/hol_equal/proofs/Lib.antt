@@ -5,3 +5,4 @@ pub mod Applies
 pub mod HypSets
 pub mod Beta
 pub mod Answered
+pub mod RuleLaws

@@ -5,8 +5,10 @@
 
 pub mod applied;
 mod error;
+mod laws;
 mod rules;
 
 pub use applied::prove_hyp;
 pub use error::{EqualError, Rule};
+pub use laws::rules_widen;
 pub use rules::{alpha, ap_term, ap_thm, beta_conv, sym};

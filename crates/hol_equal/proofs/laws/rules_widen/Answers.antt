@@ -1,0 +1,14 @@
+use Rattle.hol_equal.proofs.RuleLaws.{ap_term_monotone, ap_thm_monotone, alpha_monotone, beta_conv_monotone}
+use Rattle.hol_equal.proofs.laws.rules_widen.Goals as goal
+
+pub returns-clause-ap_term : goal.returns-clause-ap_term
+returns-clause-ap_term c = λ f a. ap_term_monotone f a
+
+pub returns-clause-ap_thm : goal.returns-clause-ap_thm
+returns-clause-ap_thm c = λ a x. ap_thm_monotone a x
+
+pub returns-clause-alpha : goal.returns-clause-alpha
+returns-clause-alpha c = λ s t. alpha_monotone s t
+
+pub returns-clause-beta_conv : goal.returns-clause-beta_conv
+returns-clause-beta_conv c = λ t. beta_conv_monotone t
