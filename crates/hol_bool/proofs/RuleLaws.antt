@@ -1,11 +1,10 @@
 -- What the rules give over a set of items they give over every larger one.
-use Rattle.std.specs.Prelude.{◌≡◌, ℕ, List, Bool, true, false, cond, not, ◌&&◌, Option, Some, None, refl}
+use Rattle.std.specs.Prelude.{◌≡◌, Bool, true, false, cond, not, ◌&&◌, Option, Some, None, refl}
 use Rattle.std.specs.Option.{option_and_then}
 use Rattle.std.specs.FinSet as set
 use Rattle.std.proofs.Common.{ap, ◌∙◌}
 use mathlib.Core.Bool.{true≢false}
 use Rattle.std.proofs.Common.{sym}
-use Rattle.hol_types.specs.Tree.{TypeTree}
 use Rattle.hol_terms.specs.Named.{Named, var, constant, comb, abs}
 use Rattle.hol_terms.specs.Nameless.{Nameless}
 use Rattle.hol_subst.specs.Closing.{open_with}

@@ -1,16 +1,16 @@
 -- Well typed parts of formulas.
 use Rattle.std.specs.Prelude.{◌≡◌, ℕ, true, ◌&&◌, List, [], Some, refl}
-use Rattle.std.proofs.Common.{ap, sym, ◌∙◌, subst}
+use Rattle.std.proofs.Common.{ap, ◌∙◌}
 use Rattle.hol_types.specs.Tree.{TypeTree}
 use Rattle.hol_types.specs.Fun.{fun_type}
-use Rattle.hol_terms.specs.Nameless.{Nameless, fixed, app, lam, nameless_type}
+use Rattle.hol_terms.specs.Nameless.{Nameless, fixed, app}
 use Rattle.hol_formulas.specs.Equation.{bool_type}
 use Rattle.hol_formulas.specs.Formula.{quantifier_type, truth}
 use Rattle.hol_formulas.specs.Prelude.{identity}
 use Rattle.hol_terms.specs.Nameless.{nameless}
 use Rattle.hol_kernel.specs.Items.{Items}
-use Rattle.hol_kernel.specs.Typing.{is_base, is_type, is_known, HasType}
-use Rattle.hol_kernel.proofs.Stands.{both, some_is, fun_parts_stand}
+use Rattle.hol_kernel.specs.Typing.{is_type, HasType}
+use Rattle.hol_kernel.proofs.Stands.{some_is, fun_parts_stand}
 use Rattle.hol_kernel.proofs.Variables.{typed_known, known_typed}
 use Rattle.hol_kernel.proofs.WellTyped.{own_type_stands}
 use Rattle.hol_equal.proofs.Typings.{parts_typed, applied_typed}

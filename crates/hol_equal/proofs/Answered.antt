@@ -1,19 +1,19 @@
 -- What the rules of equations answer, from what the code tested.
 use Rattle.std.specs.Prelude.{◌≡◌, ℕ, Bool, true, false, cond, ◌&&◌, List, [], Option, Some, None, is_some, refl}
 use Rattle.std.specs.Option.{option_map, option_and_then}
-use Rattle.std.proofs.Common.{ap, sym, ◌∙◌, subst}
+use Rattle.std.proofs.Common.{ap, sym, ◌∙◌}
 use Rattle.hol_types.specs.Tree.{TypeTree}
 use Rattle.hol_types.specs.Equal.{type_eq}
 use Rattle.hol_types.specs.Fun.{fun_type, fun_parts}
-use Rattle.hol_terms.specs.Named.{Named, var, constant, comb, abs, named_type}
-use Rattle.hol_terms.specs.Nameless.{Nameless, app, lam, nameless}
+use Rattle.hol_terms.specs.Named.{Named, comb, abs, named_type}
+use Rattle.hol_terms.specs.Nameless.{Nameless, app, nameless}
 use Rattle.hol_types.proofs.OrderLaws.{type_cmp_decides}
 use Rattle.hol_formulas.proofs.TypeTests.{fun_parts_is}
 use Rattle.hol_terms.specs.Alpha.{alpha_eq}
-use Rattle.hol_formulas.specs.Equation.{equation, dest_eq, Sides}
+use Rattle.hol_formulas.specs.Equation.{equation, dest_eq}
 use Rattle.hol_formulas.proofs.FormulaLaws.{dest_eq_equation}
 use Rattle.hol_kernel.specs.Items.{Items}
-use Rattle.hol_kernel.specs.Sequent.{Hyps, no_hyps, Sequent, sequent_of}
+use Rattle.hol_kernel.specs.Sequent.{no_hyps, Sequent, sequent_of}
 use Rattle.hol_kernel.specs.NamedTyping.{is_known_named}
 use Rattle.hol_kernel.specs.Typing.{type_over, is_typed, has_type, HasType}
 use Rattle.hol_kernel.specs.Rules.{reflexive, mk_comb_of}
@@ -21,7 +21,7 @@ use Rattle.hol_kernel.proofs.TermRules.{has_type_test}
 use Rattle.hol_kernel.proofs.Typed.{typed_named, type_over_named}
 use Rattle.hol_kernel.specs.Theorem.{Theorem, theorem_on, over}
 use Rattle.hol_equal.specs.Applied.{symmetric, combined, under, at_argument, contraction}
-use Rattle.hol_equal.specs.Rules.{reversed, sym_of, at_sides, ap_term_of, sides_at, ap_thm_of, contracted, beta_conv_of, alpha_of}
+use Rattle.hol_equal.specs.Rules.{reversed, sym_of, at_sides, ap_term_of, sides_at, ap_thm_of, beta_conv_of, alpha_of}
 use Rattle.hol_equal.proofs.Applies.{sides, mk_comb_yes}
 
 -- a rule that gives a sequent gives its theorem, and one that gives none none

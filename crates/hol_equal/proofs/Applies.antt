@@ -1,16 +1,16 @@
 -- Rules that apply, on sequents whose conclusions are equations.
-use Rattle.std.specs.Prelude.{◌≡◌, ℕ, Bool, true, false, cond, ◌&&◌, List, [], ◌∷◌, Option, Some, None, refl}
-use Rattle.std.specs.Option.{option_map, option_and_then}
+use Rattle.std.specs.Prelude.{◌≡◌, ℕ, true, false, cond, ◌&&◌, List, [], ◌∷◌, Some, None}
+use Rattle.std.specs.Option.{option_map}
 use Rattle.std.specs.FinSet as set
-use Rattle.std.proofs.Common.{ap, sym, ◌∙◌}
+use Rattle.std.proofs.Common.{ap, ◌∙◌}
 use Rattle.hol_types.specs.Tree.{TypeTree}
 use Rattle.hol_types.specs.Fun.{fun_type}
 use Rattle.hol_terms.specs.Nameless.{Nameless, app, lam}
 use Rattle.hol_equal.specs.Applied.{contraction}
 use Rattle.hol_equal.specs.Rules.{reversed, sym_of, beta_conv_of}
-use Rattle.hol_terms.specs.Alpha.{strip, alpha_eq}
+use Rattle.hol_terms.specs.Alpha.{strip}
 use Rattle.hol_terms.proofs.Alpha.{alpha_eq_decides}
-use Rattle.hol_formulas.specs.Equation.{bool_type, equation, dest_eq, Sides}
+use Rattle.hol_formulas.specs.Equation.{bool_type, equation, Sides}
 use Rattle.hol_formulas.proofs.EquationTypes.{type_eq_itself}
 use Rattle.hol_formulas.proofs.FormulaLaws.{dest_eq_equation}
 use Rattle.hol_kernel.specs.Items.{Items}
@@ -21,7 +21,7 @@ use Rattle.hol_subst.specs.Closing.{bind}
 use Rattle.hol_subst.specs.Substitution.{types_inst}
 use Rattle.hol_subst.specs.Variant.{is_free_in}
 use Rattle.hol_terms.specs.Named.{var}
-use Rattle.hol_kernel.specs.Rules.{trans_sides, trans_of, comb_sides, comb_parts, mk_comb_of, eq_mp_sides, eq_mp_of, assume_of, abs_of, inst_type_of, sequent_image}
+use Rattle.hol_kernel.specs.Rules.{trans_sides, trans_of, comb_sides, mk_comb_of, eq_mp_sides, eq_mp_of, assume_of, abs_of, inst_type_of, sequent_image}
 
 abbrev pub sides : TypeTree → Nameless → Nameless → Sides
 sides a l r = record { sides_type = a; left = l; right = r }

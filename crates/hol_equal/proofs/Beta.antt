@@ -5,7 +5,7 @@ use Rattle.std.specs.FinSet as set
 use Rattle.std.proofs.Common.{ap, sym, ◌∙◌, subst}
 use mathlib.Core.Bool.{true≢false}
 use Rattle.hol_types.specs.Tree.{TypeTree}
-use Rattle.hol_types.specs.Equal.{variable_eq, type_eq}
+use Rattle.hol_types.specs.Equal.{variable_eq}
 use Rattle.hol_types.specs.Fun.{fun_type}
 use Rattle.hol_terms.specs.Named.{Named, var, comb, abs, named_type}
 use Rattle.hol_terms.specs.Nameless.{Nameless, free, app, lam, base_of, nameless, nameless_type, free_occurrences}
@@ -13,9 +13,9 @@ use Rattle.hol_terms.specs.Alpha.{strip}
 use Rattle.hol_terms.specs.Scoped.{binds}
 use Rattle.hol_terms.proofs.Same.{variable_eq_decides}
 use Rattle.hol_terms.proofs.Typing.{type_outside}
-use Rattle.hol_subst.specs.Closing.{close, bind, open_with}
+use Rattle.hol_subst.specs.Closing.{open_with}
 use Rattle.hol_subst.specs.Shift.{shift}
-use Rattle.hol_subst.specs.Substitution.{term_lookup, term_subst}
+use Rattle.hol_subst.specs.Substitution.{term_subst}
 use Rattle.hol_subst.specs.Laws.{IsUntouched}
 use Rattle.hol_subst.proofs.Closing.{eq_same, closed_named, shift_whole, nameless_abs, close_binds, close_under}
 use Rattle.hol_subst.proofs.Composition.{subst_untouched}
@@ -24,7 +24,7 @@ use Rattle.hol_subst.proofs.Typing.{mapped_part}
 use Rattle.hol_formulas.specs.Equation.{equation}
 use Rattle.hol_formulas.proofs.EquationTypes.{type_eq_itself}
 use Rattle.hol_kernel.specs.Items.{Items}
-use Rattle.hol_kernel.specs.Sequent.{Hyps, no_hyps, hyps_image, Sequent, sequent_of}
+use Rattle.hol_kernel.specs.Sequent.{no_hyps, hyps_image, sequent_of}
 use Rattle.hol_kernel.specs.Typing.{is_base, is_type, is_type_at, is_known, HasType}
 use Rattle.hol_kernel.specs.Rules.{sequent_image, beta_of, are_pairs_over, inst_of}
 use Rattle.hol_kernel.proofs.HypothesisLists.{hyps_total}

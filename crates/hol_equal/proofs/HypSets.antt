@@ -2,11 +2,10 @@
 use Rattle.std.specs.Prelude.{◌≡◌, true, false, not, ◌&&◌, ◌||◌, Bool, refl}
 use Rattle.std.specs.Ordering.{eq_by_cmp}
 use Rattle.std.specs.FinSet as set
-use Rattle.std.proofs.Common.{ap, sym, ◌∙◌}
+use Rattle.std.proofs.Common.{sym, ◌∙◌}
 use Rattle.hol_terms.specs.Nameless.{Nameless}
-use Rattle.hol_terms.specs.Alpha.{strip}
 use Rattle.hol_subst.specs.AlphaOrder.{nameless_cmp}
-use Rattle.hol_kernel.specs.Sequent.{Hyps, no_hyps, only_hyp}
+use Rattle.hol_kernel.specs.Sequent.{Hyps, no_hyps}
 use Rattle.hol_kernel.proofs.HypothesisLists.{hyps_total, hyps_same}
 use Rattle.hol_kernel.proofs.SortedSets.{union_none_left, union_none_right, remove_none}
 

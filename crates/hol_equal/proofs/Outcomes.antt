@@ -1,5 +1,5 @@
 -- What calls answer, told in other words.
-use Rattle.std.specs.Prelude.{◌≡◌, Option, Some, None, Result, Ok, Err, IfOk, MatchOption}
+use Rattle.std.specs.Prelude.{◌≡◌, Option, Some, None, Result, IfOk, MatchOption}
 use Rattle.std.proofs.Common.{subst}
 
 -- a call that gives s gives what s is

@@ -1,16 +1,16 @@
 -- Parts of well typed terms are well typed.
-use Rattle.std.specs.Prelude.{◌≡◌, true, ◌&&◌, [], codes, Some, None}
-use Rattle.std.proofs.Common.{ap, sym, ◌∙◌}
+use Rattle.std.specs.Prelude.{◌≡◌, ◌&&◌, [], codes, Some, None}
+use Rattle.std.proofs.Common.{sym, ◌∙◌}
 use Rattle.hol_types.specs.Tree.{TypeTree}
 use Rattle.hol_types.specs.Fun.{fun_type}
 use Rattle.hol_terms.specs.Named.{Named, comb, named_type}
-use Rattle.hol_terms.specs.Nameless.{Nameless, fixed, app, nameless, nameless_type}
+use Rattle.hol_terms.specs.Nameless.{Nameless, fixed, app, nameless}
 use Rattle.hol_terms.proofs.Typing.{type_outside}
 use Rattle.hol_formulas.specs.Equation.{equality_type, equation}
 use Rattle.hol_formulas.proofs.EquationTypes.{applied_fits}
 use Rattle.hol_kernel.specs.Items.{Items}
 use Rattle.hol_kernel.specs.Typing.{is_known, HasType}
-use Rattle.hol_kernel.proofs.Stands.{both, some_is, app_parts}
+use Rattle.hol_kernel.proofs.Stands.{both, app_parts}
 use Rattle.hol_kernel.proofs.Variables.{typed_known, known_typed}
 
 module _ (items : Items) where

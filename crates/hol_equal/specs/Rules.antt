@@ -2,18 +2,16 @@
 -- a rule on sequents alone asks nothing of items.
 -- Hypotheses are sets of terms up to the names of bound variables (`strip`); conclusions keep base names.
 -- Source: HOL Light's equal.ml (SYM, AP_TERM, AP_THM, ALPHA, BETA_CONV) and bool.ml (PROVE_HYP).
-use Rattle.std.specs.Prelude.{ℕ, List, [], ◌∷◌, cond, ◌&&◌, Option, Some, None}
+use Rattle.std.specs.Prelude.{cond, ◌&&◌, Option, Some, None}
 use Rattle.std.specs.Option.{option_map, option_and_then}
 use Rattle.std.specs.FinSet as set
 use Rattle.hol_types.specs.Tree.{TypeTree}
 use Rattle.hol_types.specs.Equal.{type_eq}
 use Rattle.hol_types.specs.Fun.{fun_parts}
-use Rattle.hol_terms.specs.Named.{Named, var, constant, comb, abs}
 use Rattle.hol_terms.specs.Nameless.{Nameless, app}
 use Rattle.hol_terms.specs.Alpha.{strip, alpha_eq}
-use Rattle.hol_subst.specs.Substitution.{term_subst}
 use Rattle.hol_subst.specs.Closing.{open_with}
-use Rattle.hol_formulas.specs.Equation.{bool_type, equation, Sides, dest_eq, dest_comb}
+use Rattle.hol_formulas.specs.Equation.{equation, Sides, dest_eq, dest_comb}
 use Rattle.hol_formulas.specs.Formula.{Abstraction, dest_abs}
 use Rattle.hol_kernel.specs.Items.{Items}
 use Rattle.hol_kernel.specs.Sequent.{Hyps, no_hyps, Sequent, sequent_of}

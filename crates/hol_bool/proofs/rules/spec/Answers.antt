@@ -4,7 +4,7 @@ use Rattle.hol_terms.specs.Nameless.{Nameless, nameless, base_of}
 use Rattle.hol_formulas.specs.Formula.{universal, Abstraction}
 use Rattle.hol_kernel.specs.Typing.{HasType, has_type}
 use Rattle.hol_kernel.specs.Theorem.{Theorem}
-use Rattle.hol_equal.specs.Applied.{rand, body}
+use Rattle.hol_equal.specs.Applied.{rand}
 use Rattle.hol_bool.specs.Applied.{specialized, bound_type}
 use Rattle.hol_bool.proofs.Answered.{spec_gives, is_universal}
 use Rattle.hol_equal.proofs.Answered.{gives}

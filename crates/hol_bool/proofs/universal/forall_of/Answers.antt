@@ -2,7 +2,6 @@ use Rattle.std.proofs.Common.{◌≡◌, ap, sym, ◌∙◌, [], ◌∷◌, Some
 use Rattle.hol_terms.specs.Nameless.{nameless, base_of}
 use Rattle.hol_formulas.specs.Formula.{universal, dest_forall}
 use Rattle.hol_equal.proofs.Outcomes.{found}
-use Rattle.hol_equal.specs.Applied.{body}
 use Rattle.hol_formulas.proofs.FormulaLaws.{dest_quantifier_is}
 use Rattle.hol_bool.proofs.universal.forall_of.Goals as goal
 
