@@ -1,5 +1,5 @@
 -- Hypotheses that are assumptions or extra ones.
-use Rattle.std.specs.Prelude.{◌≡◌, true, not, List, [], ◌∷◌}
+use Rattle.std.specs.Prelude.{◌≡◌, true, not, List, ◌∷◌}
 use Rattle.std.proofs.Common.{ap, sym, ◌∙◌, inl, inr}
 use mathlib.Core.Bool.{true≢false}
 use Rattle.std.specs.Ordering.{eq_by_cmp}

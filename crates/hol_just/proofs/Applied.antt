@@ -1,5 +1,5 @@
 -- Rules applied after a cut.
-use Rattle.std.specs.Prelude.{◌≡◌, List, [], ◌∷◌, Option, Some, None, refl}
+use Rattle.std.specs.Prelude.{◌≡◌, List, ◌∷◌, Option, Some, None, refl}
 use Rattle.std.specs.Option.{option_map}
 use Rattle.std.specs.Prelude.{Result, Ok, Err, OnOk, IfOk, IsSome, is_some}
 use Rattle.std.proofs.Common.{ap, sym, ◌∙◌, subst}
@@ -9,7 +9,7 @@ use Rattle.hol_just.specs.Made.{IsMade}
 use Rattle.hol_kernel.specs.Items.{Items}
 use Rattle.hol_kernel.specs.Sequent.{Sequent}
 use Rattle.hol_kernel.specs.Theorem.{Theorem, theorem_on, over}
-use Rattle.hol_just.specs.Inference.{Inference, from_none, from_one, from_two, inferred}
+use Rattle.hol_just.specs.Inference.{from_one, from_two, inferred}
 use Rattle.hol_just.specs.Over.{CutValue, IsFirst, IsTaken, Infers}
 
 -- the sequent of a theorem that a rule gave

@@ -2,35 +2,29 @@
 use Rattle.std.specs.Prelude.{◌≡◌, true, cond, List, [], ◌∷◌, Some, None, refl}
 use Rattle.std.specs.FinSet as set
 use Rattle.std.specs.Option.{option_map}
-use Rattle.std.proofs.Common.{ap, sym, ◌∙◌, subst}
+use Rattle.std.proofs.Common.{ap, ◌∙◌}
 use Rattle.hol_types.specs.Tree.{TypeTree}
-use Rattle.hol_types.specs.Equal.{type_eq}
-use Rattle.hol_types.specs.Fun.{fun_type, fun_parts}
+use Rattle.hol_types.specs.Fun.{fun_type}
 use Rattle.hol_terms.specs.Named.{Named}
-use Rattle.hol_terms.specs.Nameless.{Nameless, app, nameless, nameless_type}
+use Rattle.hol_terms.specs.Nameless.{Nameless, app, nameless}
 use Rattle.hol_terms.specs.Alpha.{strip}
-use Rattle.hol_formulas.specs.Equation.{bool_type, equation, Sides, dest_eq}
+use Rattle.hol_formulas.specs.Equation.{bool_type, equation}
 use Rattle.hol_formulas.proofs.EquationTypes.{type_eq_itself}
 use Rattle.hol_kernel.specs.Items.{Items}
-use Rattle.hol_kernel.specs.Sequent.{Hyps, no_hyps, only_hyp, Sequent, sequent_of}
-use Rattle.hol_kernel.specs.Typing.{type_over, has_type, HasType}
+use Rattle.hol_kernel.specs.Sequent.{Hyps, only_hyp, Sequent, sequent_of}
 use Rattle.hol_kernel.specs.Given as premise
 use Rattle.hol_kernel.specs.Theorem.{over}
-use Rattle.hol_kernel.specs.Rules.{refl_of, reflexive, mk_comb_of, comb_sides, comb_parts, deduct_antisym_of}
-use Rattle.hol_kernel.proofs.Stands.{some_is, both, app_parts}
-use Rattle.hol_kernel.proofs.Variables.{typed_known, known_typed, refl_typed}
-use Rattle.hol_kernel.specs.Typing.{is_known}
+use Rattle.hol_kernel.specs.Rules.{refl_of, reflexive, mk_comb_of, comb_sides, deduct_antisym_of}
+use Rattle.hol_kernel.proofs.Variables.{refl_typed}
 use Rattle.hol_kernel.proofs.WellTyped.{sides_typed, equation_of}
-use Rattle.hol_goal.specs.Goal.{GoalValue}
-use Rattle.hol_goal.specs.Achieves.{Achieves, IsTyped, AreAllowed}
-use Rattle.hol_just.specs.Inference.{from_none, from_two}
-use Rattle.hol_just.specs.Reasons.{premise_of, antisymmetric, inference}
+use Rattle.hol_goal.specs.Achieves.{Achieves}
+use Rattle.hol_just.specs.Reasons.{premise_of, antisymmetric}
 use Rattle.hol_just.specs.Justifies.{goal_at, always, holds_given, ClosesEquation, ClosesByGiven, SplitsApplications, SplitsEquivalence}
 use Rattle.hol_just.specs.declared.reason.Reason.TheVariants.{Reflexivity, Premise, Combination, Antisymmetry}
 use Rattle.hol_just.proofs.Allowed.{allowed_none, allowed_union, allowed_less}
 use Rattle.hol_just.proofs.Likeness.{like_equation}
 use Rattle.hol_just.proofs.Typings.{parts_at}
-use Rattle.hol_just.proofs.OneMove.{one, IsStep, one_valid, IsAnswer, by_none, by_two, answer_by}
+use Rattle.hol_just.proofs.OneMove.{one, one_valid, IsAnswer, by_none, by_two, answer_by}
 
 -- ---- reflexivity
 

@@ -1,10 +1,10 @@
 -- Terms that are equal up to bound names have one form.
-use Rattle.std.specs.Prelude.{◌≡◌, ℕ, List, [], codes, Option, Some, refl}
-use Rattle.std.proofs.Common.{ap, sym, ◌∙◌}
+use Rattle.std.specs.Prelude.{◌≡◌, ℕ, List, codes, Some, refl}
+use Rattle.std.proofs.Common.{ap, ◌∙◌}
 use Rattle.hol_types.specs.Tree.{TypeTree}
 use Rattle.hol_terms.specs.Nameless.{Nameless, free, bound, fixed, app, lam}
 use Rattle.hol_terms.specs.Alpha.{strip}
-use Rattle.hol_formulas.specs.Equation.{equality_type, equation, Sides, dest_eq}
+use Rattle.hol_formulas.specs.Equation.{equality_type, equation, dest_eq}
 use Rattle.hol_formulas.proofs.FormulaLaws.{dest_eq_equation}
 
 pub record IsApplication (t f x : Nameless) : Type 0 where

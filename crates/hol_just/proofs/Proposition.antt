@@ -1,7 +1,7 @@
 -- Validity has one proof at most: what is stored with a function as a ghost field may speak of it.
-use Rattle.std.specs.Prelude.{◌≡◌, Bool, List, [], ◌∷◌, Option, Some, None}
-use Rattle.std.specs.List.{AllByRecursion, AllByRecursion-prop}
-use Rattle.std.specs.Coded.{Coded-set, coded_bool, coded_option, ×_prop, Unit-prop}
+use Rattle.std.specs.Prelude.{Bool, List, [], ◌∷◌, Option, Some, None}
+use Rattle.std.specs.List.{AllByRecursion-prop}
+use Rattle.std.specs.Coded.{Coded-set, coded_bool, coded_option, Unit-prop}
 use Rattle.hol_types.specs.Code.{coded_type}
 use Rattle.hol_terms.specs.Code.{coded_nameless}
 use Rattle.hol_kernel.specs.Items.{Items}
@@ -10,8 +10,7 @@ use Rattle.hol_kernel.specs.Sequent.{Hyps, Sequent}
 use Rattle.hol_goal.specs.Goal.{GoalValue}
 use Rattle.hol_goal.specs.Achieves.{Achieves, IsTyped}
 use Rattle.hol_just.specs.Reasons.{Fits}
-use Rattle.hol_just.specs.Gives.{gives}
-use Rattle.hol_just.specs.Valid.{AchieveAll, Answers, FitsAt, IsValidOver, IsValid}
+use Rattle.hol_just.specs.Valid.{AchieveAll, Answers, FitsAt, IsValid}
 use Rattle.hol_just.specs.declared.reason.Reason.{Reason}
 use Rattle.hol_just.specs.declared.reason.Reason.TheVariants.{Reflexivity, Premise, Combination, Antisymmetry, Generalization}
 use Rattle.hol_just.specs.declared.reason.Move.{Move}

@@ -4,12 +4,11 @@ use Rattle.std.specs.FinSet as set
 use Rattle.std.proofs.Common.{ap, sym, ◌∙◌, subst, inl, inr}
 use Rattle.hol_types.specs.Tree.{TypeTree}
 use Rattle.hol_terms.specs.Named.{var}
-use Rattle.hol_terms.specs.Nameless.{Nameless, free, fixed, app, lam, base_of, free_occurrences}
+use Rattle.hol_terms.specs.Nameless.{Nameless, free, fixed, app, lam, free_occurrences}
 use Rattle.hol_terms.specs.Scoped.{binds}
 use Rattle.hol_terms.specs.Alpha.{strip}
 use Rattle.hol_subst.specs.Closing.{close, open_with}
 use Rattle.hol_subst.specs.Variant.{is_free_in}
-use Rattle.hol_subst.specs.AlphaOrder.{nameless_cmp}
 use Rattle.hol_subst.proofs.Strip.{strip_close, strip_free}
 use Rattle.hol_subst.proofs.Opening.{close_open}
 use Rattle.hol_formulas.specs.Formula.{quantifier_type, Abstraction, universal}

@@ -5,8 +5,8 @@ use Rattle.hol_kernel.specs.Items.{Items}
 use Rattle.hol_kernel.specs.Sequent.{Hyps}
 use Rattle.hol_goal.specs.Goal.{GoalValue}
 use Rattle.hol_goal.specs.Achieves.{IsTyped}
-use Rattle.hol_just.specs.Gives.{moved, move_by}
-use Rattle.hol_just.specs.Valid.{FitsAt, IsValidOver, IsValid}
+use Rattle.hol_just.specs.Gives.{moved}
+use Rattle.hol_just.specs.Valid.{FitsAt, IsValid}
 use Rattle.hol_just.specs.declared.reason.Move.{Move}
 use Rattle.hol_just.proofs.Frame.{through_append, through_framed}
 

@@ -1,5 +1,5 @@
 -- Reasons as rules on lists of sequents.
-use Rattle.std.specs.Prelude.{List, [], ◌∷◌, Option, Some, None}
+use Rattle.std.specs.Prelude.{List, [], ◌∷◌, Option, None}
 use Rattle.std.specs.Option.{option_map}
 use Rattle.hol_kernel.specs.Sequent.{Sequent}
 

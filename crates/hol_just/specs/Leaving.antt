@@ -1,5 +1,5 @@
 -- Goals made of a goal, and arguments of a kind.
-use Rattle.std.specs.Prelude.{List, [], ◌∷◌, Option, None}
+use Rattle.std.specs.Prelude.{List, ◌∷◌, Option, None}
 use Rattle.hol_terms.specs.Nameless.{Nameless}
 use Rattle.hol_kernel.specs.Given.{Given}
 use Rattle.hol_goal.specs.Goal.{GoalValue}

@@ -1,6 +1,5 @@
 -- What the code says of rules that are not refused. Only its clauses speak of it.
 use Rattle.std.specs.Prelude.{◌≡◌, Result, Ok, Err}
-use Rattle.std.specs.declared.alloc.AllocError.{AllocError}
 use Rattle.hol_kernel.specs.Gives.{Failure, of_memory}
 
 -- the answer is a value or want of memory

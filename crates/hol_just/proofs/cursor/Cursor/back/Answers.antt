@@ -1,4 +1,4 @@
-use Rattle.std.proofs.Common.{◌≡◌, ◌∙◌, ◌++◌, ap, rules, is_ok, option_to_list}
+use Rattle.std.proofs.Common.{rules, is_ok}
 use Rattle.hol_just.proofs.Cuts.{back_over}
 use Rattle.hol_just.proofs.cursor.Cursor.back.Goals as goal
 

@@ -1,4 +1,4 @@
-use Rattle.std.proofs.Common.{◌≡◌, ◌≤◌, ◌-◌, length}
+use Rattle.std.proofs.Common.{◌≤◌, ◌-◌, length}
 use Rattle.hol_just.specs.Over.{IsSameCut}
 use Rattle.hol_just.proofs.cursor.Cursor.go_to.Given as goal
 
