@@ -1,3 +1,4 @@
+pub mod Applied
 pub mod Known
 pub mod Cutting
 pub mod Sessions

@@ -1,6 +1,7 @@
 //! Sessions over texts, and over readers and writers that fail. Expected replies come from docs/PROTOCOL.md, RFC 8259 and HOL Light.
 
 mod commands;
+mod copies;
 mod endings;
 mod faults;
 mod readers;

@@ -1,0 +1,12 @@
+-- An outcome of a command from what it reads of a state is one that the state may get.
+use Rattle.std.specs.Prelude.{◌≡◌, []}
+use Rattle.hol_exec.specs.Setup.{SetupValue}
+use Rattle.hol_exec.specs.Parsed.{LocalText, Local}
+use Rattle.hol_exec.specs.StateValue.{StateValue}
+use Rattle.hol_exec.specs.ReadsValue.{ReadsValue, reads_of}
+use Rattle.hol_exec.specs.OutcomeValue.{OutcomeValue}
+use Rattle.hol_exec.specs.Local.{IsLocalOutcome}
+use Rattle.hol_exec.specs.At.{IsOutcomeAt}
+
+pub local_outcome_applies : (setup : SetupValue) (command : LocalText) (s : StateValue) (reads : ReadsValue) (o : OutcomeValue) → reads ≡ reads_of command s → IsLocalOutcome setup command reads o → IsOutcomeAt s o
+local_outcome_applies setup command s reads o e h = (setup, [], Local command, rw e at h)
