@@ -1,4 +1,4 @@
--- What a `qed` makes is the goal of the last `g` that was accepted.
+-- What a `qed` makes is the goal of the last `g` that was accepted before it.
 use Rattle.std.proofs.Common.{◌≡◌, ℕ, List, [], ◌∷◌, ◌++◌, length, Bool, true, false, cond, nat_eq, refl, ap, sym, ◌∙◌}
 use Rattle.std.specs.Prelude.{Option, Some, None}
 use Rattle.hol_terms.specs.Nameless.{Nameless}
@@ -12,11 +12,11 @@ use Rattle.hol_exec.specs.Parsed.{ParsedValue, Local, Direct, Goal, Apply, Qed}
 use Rattle.hol_exec.specs.ReadsValue.{ClosingValue, closing_of}
 use Rattle.hol_exec.specs.Setup.{SetupValue}
 use Rattle.hol_exec.specs.StateValue.{ProofValue, StateValue, EndedTheory, start}
-use Rattle.hol_document.specs.Afresh.{Row, AreRows}
+use Rattle.hol_document.specs.Afresh.{Row, IsRow, AreRows}
 use Rattle.hol_document.specs.Shown.{goal_after, open_goal, MakesFinished, FinishesBy, EachFinishes}
 
 -- the name and the statement of an open proof
-abbrev goal_of : Option ProofValue → Option (List ℕ × Nameless)
+abbrev pub goal_of : Option ProofValue → Option (List ℕ × Nameless)
 goal_of None = None
 goal_of (Some p) = Some (p.name, p.statement)
 
@@ -24,13 +24,13 @@ step_keeps_goal : (goals : List GoalValue) (basis : Items) (p : Option ProofValu
 step_keeps_goal goals basis None = refl
 step_keeps_goal goals basis (Some p) = refl
 
-goal_next : (s : StateValue) (o : OutcomeValue) → goal_of (after s o).proof ≡ goal_after (goal_of s.proof) o
+pub goal_next : (s : StateValue) (o : OutcomeValue) → goal_of (after s o).proof ≡ goal_after (goal_of s.proof) o
 goal_next s (Opens name statement basis) = refl
 goal_next s (Leaves goal goals basis) = step_keeps_goal goals basis s.proof
 goal_next s (Makes entries) = refl
 goal_next s (Refuses kind arg) = refl
 
-open_goal_more : (goal : Option (List ℕ × Nameless)) (rows : List Row) (row : Row) → open_goal goal (rows ++ row ∷ []) ≡ goal_after (open_goal goal rows) row.outcome
+pub open_goal_more : (goal : Option (List ℕ × Nameless)) (rows : List Row) (row : Row) → open_goal goal (rows ++ row ∷ []) ≡ goal_after (open_goal goal rows) row.outcome
 open_goal_more goal [] row = refl
 open_goal_more goal (r ∷ rows) row = open_goal_more (goal_after goal r.outcome) rows row
 
@@ -41,12 +41,27 @@ qed_finishes before (Some p) k =
     elim (nat_eq (length p.newest.goals) 0) as (λ (t : Bool). MakesFinished before (cond t (finished c) (Refuses refusal.GoalsRemain [])))
     [ true ↦ (record { name = p.name; under = refl; goal = sym k; without_hypotheses = refl }, tt) | false ↦ tt ]
 
-row_finishes : (setup : SetupValue) (earlier : List EndedTheory) (before : List Row) (s : StateValue) (value : ParsedValue) (outcome : OutcomeValue)
+pub row_finishes : (setup : SetupValue) (earlier : List EndedTheory) (before : List Row) (s : StateValue) (value : ParsedValue) (outcome : OutcomeValue)
     → IsOutcome setup earlier s value outcome → goal_of s.proof ≡ open_goal None before → FinishesBy before value outcome
 row_finishes setup earlier before s (Local (Goal name quotation)) outcome h k = tt
 row_finishes setup earlier before s (Local (Apply call)) outcome h k = tt
 row_finishes setup earlier before s (Local Qed) outcome h k = rw h (qed_finishes before s.proof k)
 row_finishes setup earlier before s (Direct command) outcome h k = tt
+
+-- the state that rows lead to has their open goal
+leads_goal : (setup : SetupValue) (earlier : List EndedTheory) (goal : Option (List ℕ × Nameless)) (s : StateValue) (texts : List (List ℕ)) (rows : List Row) (last : StateValue)
+    → AreRows setup earlier s texts rows last → goal_of s.proof ≡ goal → goal_of last.proof ≡ open_goal goal rows
+leads_goal setup earlier goal s [] [] last h k = rw h k
+leads_goal setup earlier goal s [] (row ∷ rows) last h k = absurd h
+leads_goal setup earlier goal s (text ∷ texts) [] last h k = absurd h
+leads_goal setup earlier goal s (text ∷ texts) (row ∷ rows) last h k =
+    leads_goal setup earlier (goal_after goal row.outcome) (after s row.outcome) texts rows last h.1 (goal_next s row.outcome ∙ ap (λ g. goal_after g row.outcome) k)
+
+-- what a `qed` makes after rows
+pub next_finishes : (setup : SetupValue) (earlier : List EndedTheory) (texts : List (List ℕ)) (rows : List Row) (s : StateValue) (text : List ℕ) (row : Row)
+    → AreRows setup earlier start texts rows s → IsRow setup earlier s text row → FinishesBy rows row.value row.outcome
+next_finishes setup earlier texts rows s text row leads is =
+    row_finishes setup earlier rows s row.value row.outcome is.gets (leads_goal setup earlier None start texts rows s leads refl)
 
 rows_finish : (setup : SetupValue) (earlier : List EndedTheory) (before : List Row) (s : StateValue) (texts : List (List ℕ)) (rows : List Row) (last : StateValue)
     → AreRows setup earlier s texts rows last → goal_of s.proof ≡ open_goal None before → EachFinishes before rows

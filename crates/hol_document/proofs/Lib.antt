@@ -3,3 +3,4 @@ pub mod Sorting
 pub mod Unique
 pub mod Bases
 pub mod Goals
+pub mod Made

@@ -5,13 +5,12 @@ use Rattle.std.proofs.lemmas.List.{get_or_default}
 use Rattle.std.proofs.Math.Seq.{take-suc, take-length}
 use Rattle.std.proofs.lemmas.Grind.{common_steps}
 use Rattle.hol_exec.specs.Setup.{SetupValue}
-use Rattle.hol_exec.specs.At.{direct, IsOutcome, IsOutcomeAt}
+use Rattle.hol_exec.specs.At.{IsOutcome, IsOutcomeAt}
 use Rattle.hol_exec.specs.OutcomeValue.{OutcomeValue, after, MakesTheorems}
-use Rattle.hol_exec.specs.Parsed.{LocalText, DirectText, ParsedValue, Local, Direct, IsParsed}
-use Rattle.hol_exec.specs.ReadsValue.{ReadsValue, reads_of, reads_at}
+use Rattle.hol_exec.specs.Parsed.{ParsedValue, IsParsed}
+use Rattle.hol_exec.specs.ReadsValue.{reads_at}
 use Rattle.hol_exec.specs.Key.{KeyValue, theorem_key}
 use Rattle.hol_exec.specs.Entry.{EntryValue, entry_at, EachIsEntry}
-use Rattle.hol_exec.specs.Local.{IsLocal}
 use Rattle.hol_exec.specs.ReportValue.{ReportValue}
 use Rattle.hol_exec.specs.ReportOf.{report_of}
 use Rattle.hol_exec.specs.StateValue.{StateValue, EndedTheory, start}
@@ -22,6 +21,8 @@ use Rattle.hol_document.specs.EndView.{end_value}
 use Rattle.hol_document.specs.Shown.{IsProvedReport, IsProvedBasis}
 use Rattle.hol_document.specs.Afresh.{Row, IsRow, AreRows, TheoryRun, IsRun, AreRuns, ended}
 use Rattle.hol_document.specs.Run.{HasOutcome, LeadTo, EndSo}
+use Rattle.hol_document.proofs.Goals.{next_finishes}
+use Rattle.hol_document.proofs.Made.{entries_made}
 
 -- the outcome of what a text is, is that of a row
 pub row_of : (setup : SetupValue) (earlier : List EndedTheory) (s : StateValue) (text : List ℕ) (value : ParsedValue) (outcome : OutcomeValue)
@@ -76,17 +77,11 @@ ends_next setup theories i theory ends ends' s h is (runs, are, same) (rows, lea
       e ∙ (ap (λ xs. xs ++ ended run ∷ []) same ∙ sym (map_more ended runs run)),
     )
 
--- the outcomes of a command, or of what is answered directly, are those of rows
-pub local_rows : {E : Type 0} (setup : SetupValue) (earlier : List EndedTheory) (s : StateValue) (text : List ℕ) (value : ParsedValue) (command : LocalText) (reads : ReadsValue) (r : Result OutcomeValue E)
-    → IsParsed text value → value ≡ Local command → reads ≡ reads_of command s → IfOk r (IsLocal setup command reads) → IfOk r (HasOutcome setup earlier s text)
-local_rows setup earlier s text value command reads (Ok outcome) parsed is read gets =
-    row_of setup earlier s text value outcome parsed (rw is (rw read at gets))
-local_rows setup earlier s text value command reads (Err e) parsed is read gets = tt
-
-pub direct_rows : {E : Type 0} (setup : SetupValue) (earlier : List EndedTheory) (s : StateValue) (text : List ℕ) (value : ParsedValue) (command : DirectText) (r : Result OutcomeValue E)
-    → IsParsed text value → value ≡ Direct command → IfOk r (λ outcome. outcome ≡ direct command s earlier) → IfOk r (HasOutcome setup earlier s text)
-direct_rows setup earlier s text value command (Ok outcome) parsed is gets = row_of setup earlier s text value outcome parsed (rw is gets)
-direct_rows setup earlier s text value command (Err e) parsed is gets = tt
+-- the outcome of what a text is, where it is known to be that, is that of a row
+pub rows_of : {E : Type 0} (setup : SetupValue) (earlier : List EndedTheory) (s : StateValue) (text : List ℕ) (value known : ParsedValue) (r : Result OutcomeValue E)
+    → IsParsed text value → value ≡ known → IfOk r (IsOutcome setup earlier s known) → IfOk r (HasOutcome setup earlier s text)
+rows_of setup earlier s text value known (Ok outcome) parsed is gets = row_of setup earlier s text value outcome parsed (rw is gets)
+rows_of setup earlier s text value known (Err e) parsed is gets = tt
 
 -- one theory's end more
 pub end_pushed : (ends ends' : List End) (e : End) (name : List ℕ) → ends' ≡ ends ++ e ∷ [] → string_bytes e.name ≡ name
@@ -118,6 +113,7 @@ report_is docs i at theory front ends lines heads line s s' outcome report h the
         says = says ∙ (ap (report_of outcome) next ∙ ap (λ o. report_of o (after s o)) (sym own));
       };
       proved = rw own makes;
+      finished = next_finishes docs.setup ends heads rows s line row leads one;
     }
 
 -- the answer from the last state of a theory
@@ -136,4 +132,5 @@ basis_is docs i name key theory front ends lines s found answer h theory_is fron
         texts = rw (← key_is, ← found_is) texts;
       };
       proved = proved;
+      made = entries_made docs.setup ends lines rows s leads;
     }

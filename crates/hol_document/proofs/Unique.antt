@@ -19,7 +19,7 @@ one_row setup earlier s text a b h k =
     let value : a.value ≡ b.value = one_text text a.value b.value h.parsed k.parsed in
     let reads : a.reads ≡ b.reads = h.read ∙ (ap (λ v. reads_at v s) value ∙ sym k.read) in
     let outcome : a.outcome ≡ b.outcome = one_outcome setup earlier s b.value a.outcome b.outcome (rw value at h.gets) k.gets in
-    cc
+    λ i. record { value = value i; reads = reads i; outcome = outcome i }
 
 -- rows and the state that they lead to
 record Same {X Y : Type 0} (a b : X) (p q : Y) : Type 0 where
@@ -53,7 +53,7 @@ one_run setup earlier theory a b h k =
     let name : a.name ≡ b.name = h.named ∙ sym k.named in
     let rows : a.rows ≡ b.rows = rows_are_one setup earlier start theory.commands a.rows b.rows a.last b.last h.are k.are in
     let last : a.last ≡ b.last = last_is_one setup earlier start theory.commands a.rows b.rows a.last b.last h.are k.are in
-    cc
+    λ i. record { name = name i; rows = rows i; last = last i }
 
 pub runs_are_one : (setup : SetupValue) (earlier : List EndedTheory) (theories : List TheoryText) (a b : List TheoryRun)
     → AreRuns setup earlier theories a → AreRuns setup earlier theories b → a ≡ b

@@ -1,7 +1,7 @@
 -- Running documents afresh: the theories in order, each from the prelude alone, and in each the commands in order, each at the state that
 -- the ones before it lead to. A theory sees the names and the last entries of those that stand earlier.
 -- Source: this project.
-use Rattle.std.specs.Prelude.{◌≡◌, ℕ, List, [], ◌∷◌, ◌++◌, map, Option}
+use Rattle.std.specs.Prelude.{◌≡◌, ℕ, List, [], ◌∷◌, ◌++◌, Option}
 use Rattle.hol_exec.specs.Setup.{SetupValue}
 use Rattle.hol_exec.specs.Parsed.{ParsedValue, IsParsed}
 use Rattle.hol_exec.specs.StateValue.{StateValue, EndedTheory, start}

@@ -3,14 +3,14 @@
 use Rattle.std.specs.Prelude.{◌≡◌, ℕ, List, [], ◌≤◌, ◌<◌, ⊤, length, map, take, Option, Some, None, Result, Ok, Err, slice_index_or}
 use Rattle.hol_exec.specs.Key.{theorem_key}
 use Rattle.hol_exec.specs.Entry.{EntryValue, ATheorem, entry_at}
-use Rattle.hol_exec.specs.OutcomeValue.{OutcomeValue, after}
+use Rattle.hol_exec.specs.OutcomeValue.{after}
 use Rattle.hol_exec.specs.ReportValue.{ReportValue}
 use Rattle.hol_exec.specs.ReportOf.{report_of}
-use Rattle.hol_exec.specs.StateValue.{StateValue, EndedTheory, start}
+use Rattle.hol_exec.specs.StateValue.{StateValue, start}
 use Rattle.hol_document.specs.declared.error.Refusal.{Refusal}
 use Rattle.hol_document.specs.declared.error.Refusal.TheVariants.{UnknownTheory, PositionOutOfRange}
 use Rattle.hol_document.specs.declared.error.DocsError.{DocsError}
-use Rattle.hol_document.specs.Documents.{TheoryText, Documents, find_theory, no_theory}
+use Rattle.hol_document.specs.Documents.{Documents, find_theory, no_theory}
 use Rattle.hol_document.specs.Afresh.{Row, IsRow, AreRows, TheoryRun, AreRuns, ended}
 use Rattle.hol_document.specs.ItemTexts.{AreItemTexts}
 

@@ -1,6 +1,8 @@
 -- What is true of the theorems that documents show: each is that of a `Thm`, so has a derivation over its basis, which is legal; and what a
 -- `qed` made is the goal of the last accepted `g`, without hypotheses.
+-- Source: LCF's and HOL Light's promise of type thm, said of what is shown.
 use Rattle.std.specs.Prelude.{◌≡◌, ◌<◌, ℕ, List, [], ◌∷◌, ◌++◌, length, Option, Some, None}
+use Rattle.std.specs.List.{All, Contains}
 use Rattle.hol_terms.specs.Nameless.{Nameless}
 use Rattle.hol_kernel.specs.Sequent.{no_hyps}
 use Rattle.hol_kernel.specs.Theorem.{Theorem}
@@ -13,33 +15,7 @@ use Rattle.hol_document.specs.Documents.{Documents, find_theory}
 use Rattle.hol_document.specs.Afresh.{Row}
 use Rattle.hol_document.specs.Asked.{commands_at, IsReport, IsBasis}
 
--- ---- derivations: by the type of theorems
-
--- It is the report on an outcome, and every theorem which that makes has a derivation over its basis, which is legal.
-pub record IsProvedReport (docs : Documents) (i at : ℕ) (report : ReportValue) : Type 0 where
-  pub is : IsReport docs i at report
-  pub proved : MakesTheorems is.row.outcome
-
--- It is the answer from a state, and so has every theorem of that state.
-pub record IsProvedBasis (docs : Documents) (i : ℕ) (name : List ℕ) (answer : Option (List (List ℕ))) : Type 0 where
-  pub is : IsBasis docs i name answer
-  pub proved : EachIsEntry is.state.entries
-
-abbrev pub ShowsProvedIn : Documents → Option ℕ → ℕ → ReportValue → Type 0
-ShowsProvedIn docs None at report = ⊥
-ShowsProvedIn docs (Some i) at report = (at < length (commands_at docs i)) × IsProvedReport docs i at report
-
-abbrev pub ShowsProved : Documents → List ℕ → ℕ → ReportValue → Type 0
-ShowsProved docs theory at report = ShowsProvedIn docs (find_theory theory docs.theories) at report
-
-abbrev pub TellsOfProvedIn : Documents → Option ℕ → List ℕ → Option (List (List ℕ)) → Type 0
-TellsOfProvedIn docs None name answer = ⊥
-TellsOfProvedIn docs (Some i) name answer = IsProvedBasis docs i name answer
-
-abbrev pub TellsOfProved : Documents → List ℕ → List ℕ → Option (List (List ℕ)) → Type 0
-TellsOfProved docs theory name answer = TellsOfProvedIn docs (find_theory theory docs.theories) name answer
-
--- ---- goals: laws over rows
+-- ---- goals
 
 -- the name and the statement of the `g` whose proof is open after an outcome
 abbrev pub goal_after : Option (List ℕ × Nameless) → OutcomeValue → Option (List ℕ × Nameless)
@@ -67,14 +43,14 @@ abbrev pub EachFinished : List Row → Entries → Type 0
 EachFinished rows [] = Unit {0}
 EachFinished rows (e ∷ entries) = IsFinishedEntry rows e × EachFinished rows entries
 
--- what an outcome of `qed` after the rows makes
+-- what an outcome after the rows makes
 abbrev pub MakesFinished : List Row → OutcomeValue → Type 0
 MakesFinished rows (Opens name statement basis) = Unit {0}
 MakesFinished rows (Leaves goal goals basis) = Unit {0}
 MakesFinished rows (Makes entries) = EachFinished rows entries
 MakesFinished rows (Refuses kind arg) = Unit {0}
 
--- the same of what a text is: it says nothing of what isn't `qed`
+-- the same of the outcome of a `qed`, of other commands nothing
 abbrev pub FinishesBy : List Row → ParsedValue → OutcomeValue → Type 0
 FinishesBy rows (Local (Goal name quotation)) outcome = Unit {0}
 FinishesBy rows (Local (Apply call)) outcome = Unit {0}
@@ -85,3 +61,43 @@ FinishesBy rows (Direct command) outcome = Unit {0}
 abbrev pub EachFinishes : List Row → List Row → Type 0
 EachFinishes before [] = Unit {0}
 EachFinishes before (row ∷ rows) = FinishesBy before row.value row.outcome × EachFinishes (before ++ row ∷ []) rows
+
+-- The entry was made by one of the rows: where that is a `qed`, it is the theorem of the last `g` that the rows before it accepted.
+pub record IsMadeIn (rows : List Row) (entry : KeyValue × EntryValue) : Type 0 where
+  pub before : List Row
+  pub row : Row
+  pub later : List Row
+  pub splits : rows ≡ before ++ row ∷ later
+  pub entries : Entries
+  pub made : row.outcome ≡ Makes entries
+  pub among : Contains entries entry
+  pub finished : FinishesBy before row.value row.outcome
+
+-- ---- what is shown
+
+-- It is the report on an outcome, and every theorem which that makes has a derivation over its basis, which is legal; where the command is a
+-- `qed`, it is the theorem of the last `g` that was accepted before it.
+pub record IsProvedReport (docs : Documents) (i at : ℕ) (report : ReportValue) : Type 0 where
+  pub is : IsReport docs i at report
+  pub proved : MakesTheorems is.row.outcome
+  pub finished : FinishesBy is.rows is.row.value is.row.outcome
+
+-- It is the answer from a state, every theorem of which has a derivation over its basis, which is legal, and was made by one of the rows.
+pub record IsProvedBasis (docs : Documents) (i : ℕ) (name : List ℕ) (answer : Option (List (List ℕ))) : Type 0 where
+  pub is : IsBasis docs i name answer
+  pub proved : EachIsEntry is.state.entries
+  pub made : All (IsMadeIn is.rows) is.state.entries
+
+abbrev pub ShowsProvedIn : Documents → Option ℕ → ℕ → ReportValue → Type 0
+ShowsProvedIn docs None at report = ⊥
+ShowsProvedIn docs (Some i) at report = (at < length (commands_at docs i)) × IsProvedReport docs i at report
+
+abbrev pub ShowsProved : Documents → List ℕ → ℕ → ReportValue → Type 0
+ShowsProved docs theory at report = ShowsProvedIn docs (find_theory theory docs.theories) at report
+
+abbrev pub TellsOfProvedIn : Documents → Option ℕ → List ℕ → Option (List (List ℕ)) → Type 0
+TellsOfProvedIn docs None name answer = ⊥
+TellsOfProvedIn docs (Some i) name answer = IsProvedBasis docs i name answer
+
+abbrev pub TellsOfProved : Documents → List ℕ → List ℕ → Option (List (List ℕ)) → Type 0
+TellsOfProved docs theory name answer = TellsOfProvedIn docs (find_theory theory docs.theories) name answer

@@ -1,9 +1,10 @@
 //! Running documents afresh.
-ghost use Rattle.std.specs.Prelude.{◌≡◌, ◌<◌, IfOk, length, map, string_bytes, slice_index_or};
+ghost use Rattle.std.specs.Prelude.{◌≡◌, ◌<◌, IfOk, Some, length, map, string_bytes, slice_index_or};
 ghost use Rattle.std.specs.Option.{option_map};
 ghost use Rattle.hol_exec.specs.OutcomeValue.{after};
 ghost use Rattle.hol_exec.specs.ReportView.{report_value};
 ghost use Rattle.hol_exec.specs.SetupView.{setup_value};
+ghost use Rattle.hol_document.specs.Asked.{BasisTexts};
 ghost use Rattle.hol_document.specs.Documents.{no_theory};
 ghost use Rattle.hol_document.specs.EndView.{end_value};
 ghost use Rattle.hol_document.specs.Run.{HasOutcome, LeadTo, EndSo};
@@ -14,8 +15,8 @@ use crate::items::item_texts;
 use crate::line::Line;
 use crate::theory::Theory;
 use hol_exec::{
-    EntryNode, Key, Kind, Outcome, Parsed, Reads, Report, Setup, State, apply, direct, report_of,
-    run_local,
+    Entry, EntryNode, Key, Kind, Outcome, Parsed, Reads, Report, Setup, State, apply, direct,
+    report_of, run_local,
 };
 use std::alloc::{AllocError, Global};
 
@@ -119,9 +120,16 @@ pub(crate) fn basis(
     state.promise();
     let key = Key::new(alloc, Kind::Theorem, name)?;
     match state.entry(&key) {
-        Some(entry) => match entry.node() {
-            EntryNode::Theorem(theorem) => Ok(Some(item_texts(alloc, theorem.basis())?)),
-        },
+        Some(entry) => Ok(Some(basis_texts(alloc, entry)?)),
         None => Ok(None),
+    }
+}
+
+// The texts of the items of an entry's basis.
+fn basis_texts(alloc: Global, entry: &Entry) -> Result<Vec<String>, AllocError>
+    ensures { IfOk result (λ texts. BasisTexts (Some entry.now) (Some (map string_bytes texts.items))) }
+{
+    match entry.node() {
+        EntryNode::Theorem(theorem) => item_texts(alloc, theorem.basis()),
     }
 }

@@ -7,7 +7,7 @@ use hol_types::Name;
 use std::alloc::{AllocError, Global};
 
 /// The texts of the items, in the order of their bytes.
-pub fn item_texts(alloc: Global, basis: &Basis) -> Result<Vec<String>, AllocError>
+pub(crate) fn item_texts(alloc: Global, basis: &Basis) -> Result<Vec<String>, AllocError>
     ensures { IfOk result (λ texts. AreItemTexts basis.now (map string_bytes texts.items)) }
 {
     let mut texts = unsorted_texts(alloc, basis.items())?;

@@ -5,5 +5,6 @@ pub mod Chunks
 pub mod Runs
 pub mod Literals
 pub mod Floats
+pub mod Said
 pub mod Machines
 pub mod Once

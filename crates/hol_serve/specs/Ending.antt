@@ -3,8 +3,6 @@ use Rattle.std.specs.Prelude.{◌≡◌, ◌⊎◌, ℕ, List, [], ◌∷◌, �
 use Rattle.std.specs.Io.KnownBytes.{Appends}
 use Rattle.hol_serve.specs.declared.ending.Ending.{Ending}
 use Rattle.hol_serve.specs.declared.ending.Ending.TheVariants.{BadWords, Read, Write, Memory}
-use Rattle.hol_serve.specs.declared.lines.session.Fault.{Fault}
-use Rattle.hol_serve.specs.declared.lines.session.Fault.TheVariants as fault
 use Rattle.hol_serve.specs.declared.settings.Words.{Words}
 use Rattle.hol_serve.specs.declared.settings.Words.TheVariants as words
 
@@ -26,11 +24,6 @@ told_of Memory = codes "hol-serve: no memory" ++ 10 ∷ []
 abbrev pub Tells : Ending → Option (List ℕ) → Option (List ℕ) → Type 0 → Type 0
 Tells ending held held' failed = (told : List ℕ) × (missing : List ℕ) × (told_of ending ≡ told ++ missing)
     × Appends held held' told × ((missing ≡ []) ⊎ failed)
-
-abbrev pub fault_ending : Fault → Ending
-fault_ending fault.Read = Read
-fault_ending fault.Write = Write
-fault_ending fault.Memory = Memory
 
 abbrev pub words_ending : Words → Ending
 words_ending words.Bad = BadWords

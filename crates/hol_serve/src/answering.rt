@@ -67,7 +67,7 @@ fn unread_reply(error: &Error) -> Reply
 }
 
 /// The reply to a line, with its newline.
-pub fn answer(alloc: Global, docs: &mut Docs, line: &[u8]) -> Reply
+pub(crate) fn answer(alloc: Global, docs: &mut Docs, line: &[u8]) -> Reply
     requires { length line.now ≤ line_limit }
     ensures { MayAnswer (documents docs.old) line.now (reply_bytes result.text) result.closes (documents docs.new) }
 {

@@ -9,7 +9,7 @@ ghost use Rattle.hol_serve.specs.Texts.{Says};
 use crate::lines::{Reply, ReplyText};
 use hol_document::Refusal;
 
-/// A reply of these bytes, after which the session goes on.
+// A reply of these bytes, after which the session goes on.
 fn constant(text: &'static [u8]) -> Reply
     ensures bytes { reply_bytes result.text ≡ text.now }
     ensures stays { result.closes ≡ false }
@@ -21,35 +21,35 @@ fn constant(text: &'static [u8]) -> Reply
 }
 
 /// The edit is made.
-pub fn done() -> Reply
+pub(crate) fn done() -> Reply
     ensures { Says Done result }
 {
     constant(b"{\"ok\":true}\n")
 }
 
 /// The line is longer than 65,536 bytes.
-pub fn line_too_long() -> Reply
+pub(crate) fn line_too_long() -> Reply
     ensures { Says (Refused LineTooLong) result }
 {
     constant(b"{\"error\":1,\"ok\":false,\"text\":\"line too long\"}\n")
 }
 
 /// The line is no JSON.
-pub fn not_json() -> Reply
+pub(crate) fn not_json() -> Reply
     ensures { Says (Refused NotJson) result }
 {
     constant(b"{\"error\":2,\"ok\":false,\"text\":\"not JSON\"}\n")
 }
 
 /// The line is no object with an op that is known and its keys.
-pub fn shape() -> Reply
+pub(crate) fn shape() -> Reply
     ensures { Says (Refused Shape) result }
 {
     constant(b"{\"error\":3,\"ok\":false,\"text\":\"shape\"}\n")
 }
 
 /// The documents refuse the request.
-pub fn refused(refusal: Refusal) -> Reply
+pub(crate) fn refused(refusal: Refusal) -> Reply
     ensures { Says (Refused (ByDocuments refusal)) result }
 {
     match refusal {
@@ -70,7 +70,7 @@ pub fn refused(refusal: Refusal) -> Reply
 }
 
 /// A growth was refused.
-pub fn memory() -> Reply
+pub(crate) fn memory() -> Reply
     ensures { Says (Refused Memory) result }
 {
     constant(b"{\"error\":9,\"ok\":false,\"text\":\"memory\"}\n")

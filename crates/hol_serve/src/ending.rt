@@ -3,13 +3,11 @@
 ghost use Rattle.std.specs.Prelude.{◌≡◌};
 ghost use Rattle.hol_serve.specs.Ending.{status_of, told_of};
 
-use crate::lines::Fault;
 use crate::settings::Words;
-use std::alloc::AllocError;
 
 /// Why the program ends before the end of its input.
 #[derive(Clone, Copy, Debug, Drop, PartialEq, Eq)]
-pub enum Ending {
+pub(crate) enum Ending {
     /// The program's words were refused.
     BadWords,
     /// Standard input failed.
@@ -22,7 +20,7 @@ pub enum Ending {
 
 impl Ending {
     /// The program's exit status.
-    pub fn status(self) -> u8
+    pub(crate) fn status(self) -> u8
         ensures { result ≡ status_of self }
     {
         match self {
@@ -32,7 +30,7 @@ impl Ending {
     }
 
     /// Its line on standard error, with its newline.
-    pub fn line(self) -> &'static [u8]
+    pub(crate) fn line(self) -> &'static [u8]
         ensures { result.now ≡ told_of self }
     {
         match self {
@@ -40,21 +38,6 @@ impl Ending {
             Ending::Read => b"hol-serve: read fault\n",
             Ending::Write => b"hol-serve: write fault\n",
             Ending::Memory => b"hol-serve: no memory\n",
-        }
-    }
-}
-
-impl From<Fault> for Ending {
-    ghost use Rattle.std.specs.Prelude.{◌≡◌};
-    ghost use Rattle.hol_serve.specs.Ending.{fault_ending};
-
-    ghost from_gives = { λ fault e. e ≡ fault_ending fault };
-
-    fn from(fault: Fault) -> Ending {
-        match fault {
-            Fault::Read => Ending::Read,
-            Fault::Write => Ending::Write,
-            Fault::Memory => Ending::Memory,
         }
     }
 }
@@ -70,16 +53,5 @@ impl From<Words> for Ending {
             Words::Bad => Ending::BadWords,
             Words::Memory => Ending::Memory,
         }
-    }
-}
-
-impl From<AllocError> for Ending {
-    ghost use Rattle.std.specs.Prelude.{◌≡◌};
-    ghost use Rattle.hol_serve.specs.declared.ending.Ending.TheVariants.{Memory};
-
-    ghost from_gives = { λ _ e. e ≡ Memory };
-
-    fn from(_refused: AllocError) -> Ending {
-        Ending::Memory
     }
 }

@@ -5,7 +5,7 @@ ghost use Rattle.hol_serve.specs.Machine.{Machine};
 ghost use Rattle.hol_serve.specs.Replies.{ReplyValue, Refused, Memory};
 
 /// The machine answers a line in one way at most, and leaves the same documents, but for want of memory.
-pub fn one_answer_or_memory()
+pub(crate) fn one_answer_or_memory()
     ensures { (old : Documents) (line : List ℕ) (a b : ReplyValue) (m n : Documents) → Machine old line a m → Machine old line b n
         → (a ≡ Refused Memory) ⊎ ((b ≡ Refused Memory) ⊎ ((a ≡ b) × (m ≡ n))) }
 {}

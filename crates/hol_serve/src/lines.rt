@@ -6,8 +6,8 @@ mod session;
 mod watched;
 mod writing;
 
-pub use line::Line;
-pub use service::{Reply, ReplyText, Service, Sink, Source};
-pub use session::{Fault, READ_LIMIT, run_lines};
-pub use watched::Watched;
-pub use writing::{WriteFault, write_reply};
+pub(crate) use line::Line;
+pub(crate) use service::{Reply, ReplyText, Service, Sink, Source};
+pub(crate) use session::{Fault, READ_LIMIT, run_lines};
+pub(crate) use watched::Watched;
+pub(crate) use writing::{WriteFault, write_reply};

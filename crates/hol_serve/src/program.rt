@@ -48,7 +48,7 @@ fn serve<'a, R: Source, W: Sink>(
 
 /// What the program does with its words, or with the reason why it hasn't them: serves the reader's lines over documents that begin without
 /// theories, and answers the exit status. Where that isn't 0, a line on `errors` says why; where that can't be written, it is left out.
-pub fn program<'a, R: Source, W: Sink, E: Sink>(
+pub(crate) fn program<'a, R: Source, W: Sink, E: Sink>(
     alloc: Global,
     words: Result<&'a [&'a str], Words>,
     reader: &mut R,

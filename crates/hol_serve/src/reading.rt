@@ -8,14 +8,14 @@ ghost use Rattle.hol_serve.specs.Views.{request_text};
 use crate::requests::Request;
 use serde_json::Value;
 
-/// The string under a key.
+// The string under a key.
 fn text_at<'v>(value: &'v Value, key: &str) -> Option<&'v str>
     ensures { option_map (λ t. t.now) result ≡ text_at key.now (view value.now) }
 {
     value.get(key)?.as_str()
 }
 
-/// The number from 0 to 2^64 - 1 under a key.
+// The number from 0 to 2^64 - 1 under a key.
 fn number_at(value: &Value, key: &str) -> Option<u64>
     ensures { result ≡ number_at key.now (view value.now) }
 {
@@ -57,7 +57,7 @@ fn basis_of<'v>(value: &'v Value) -> Option<Request<'v>>
 
 /// The request, or none where the value is no object, the op is unknown, or a key is missing or of the wrong kind.
 /// Other keys are ignored.
-pub fn request_of<'v>(value: &'v Value) -> Option<Request<'v>>
+pub(crate) fn request_of<'v>(value: &'v Value) -> Option<Request<'v>>
     ensures { option_map request_text result ≡ request_of (view value.now) }
 {
     let op = text_at(value, "op")?;

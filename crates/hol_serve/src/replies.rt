@@ -1,5 +1,5 @@
 //! The replies that hold what the documents answered.
-#![tactic(auto, using(crate::proofs::Floats::no_float, crate::proofs::Floats::no_items_float), unfolding(serde_json::proofs::OnLiterals::serde_json_on_literals))]
+#![tactic(auto, unfolding(serde_json::proofs::OnLiterals::serde_json_on_literals))]
 
 ghost use Rattle.std.specs.Prelude.{◌≡◌, ◌∷◌, ◌++◌, [], IfOk, string_bytes, map, false};
 ghost use Rattle.serde_json.specs.View.{view, items_of};
@@ -17,7 +17,7 @@ use hol_exec::{RefusalKind, Report, ShownGoal};
 use serde_json::{Value, json};
 use std::alloc::{AllocError, Global};
 
-/// The value's text and a newline.
+// The value's text and a newline.
 fn line_of(alloc: Global, value: &Value) -> Result<Reply, AllocError>
     ensures bytes { IfOk result (λ reply. has_float (view value.now) ≡ false
         → reply_bytes reply.text ≡ compact_text (view value.now) ++ 10 ∷ []) }
@@ -94,7 +94,7 @@ fn report_value(alloc: Global, report: Report) -> Result<Value, AllocError>
 }
 
 /// The reply to `report`.
-pub fn reports(alloc: Global, report: Report) -> Result<Reply, AllocError>
+pub(crate) fn reports(alloc: Global, report: Report) -> Result<Reply, AllocError>
     ensures { IfOk result (Says (Reports (report_value report))) }
 {
     let value = report_value(alloc, report)?;
@@ -118,7 +118,7 @@ fn basis_value(alloc: Global, items: Option<Vec<String>>) -> Result<Value, Alloc
 }
 
 /// The reply to `basis`.
-pub fn rests_on(alloc: Global, items: Option<Vec<String>>) -> Result<Reply, AllocError>
+pub(crate) fn rests_on(alloc: Global, items: Option<Vec<String>>) -> Result<Reply, AllocError>
     ensures { IfOk result (Says (RestsOn (items_text items))) }
 {
     let value = basis_value(alloc, items)?;

@@ -38,7 +38,7 @@ impl Service<Docs> for JsonLines {
 /// - `Fault::Memory` where that buffer isn't had: nothing is read or written then.
 /// - `Fault::Read` where the reader fails, or after 2^32 reads: the whole lines of what was read are answered.
 /// - `Fault::Write` where the writer fails or takes no byte: of the last line's reply only a part is written.
-pub fn run<R: Source, W: Sink>(
+pub(crate) fn run<R: Source, W: Sink>(
     alloc: Global,
     reader: &mut R,
     writer: &mut W,

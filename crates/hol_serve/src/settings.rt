@@ -14,7 +14,7 @@ const DEFAULT_CACHE: u32 = 256;
 
 /// Why the words were refused.
 #[derive(Clone, Copy, Debug, Drop, PartialEq, Eq, Error)]
-pub enum Words {
+pub(crate) enum Words {
     /// The words aren't the program's, or a number is outside its range.
     #[error("bad words")]
     Bad,
@@ -34,7 +34,7 @@ impl From<AllocError> for Words {
     }
 }
 
-/// The number in the text, or the default where there is none.
+// The number in the text, or the default where there is none.
 fn value_in(text: Option<&str>, low: u32, high: u32, default: u32) -> Option<u32>
     ensures some { IfSome result (IsValue low high default (option_map (λ t. t.now) text.entry)) }
     ensures none { IsNone result → high < 2 ^ 32 → IsOutside low high (option_map (λ t. t.now) text.entry) }
@@ -51,7 +51,7 @@ fn value_in(text: Option<&str>, low: u32, high: u32, default: u32) -> Option<u32
     Some(number)
 }
 
-/// The texts of the options in the words, the program's name first.
+// The texts of the options in the words, the program's name first.
 fn option_texts<'a>(
     alloc: Global,
     words: &'a [&'a str],
@@ -76,7 +76,7 @@ fn option_texts<'a>(
 ///
 /// # Errors
 /// `Words::Bad` where clap doesn't take the words (`--help` too), or a number is outside its range.
-pub fn settings<'a>(alloc: Global, words: &'a [&'a str]) -> Result<(u32, u32), Words>
+pub(crate) fn settings<'a>(alloc: Global, words: &'a [&'a str]) -> Result<(u32, u32), Words>
     ensures turns { IfOk result (λ s. IsValue 1 100000 DEFAULT_TURNS (option_text (codes "turns") (map (λ w. w.now) words.now)) s.0) }
     ensures cache { IfOk result (λ s. IsValue 1 4096 DEFAULT_CACHE (option_text (codes "cache") (map (λ w. w.now) words.now)) s.1) }
     ensures turns_range { IfOk result (λ s. (1 ≤ s.0) × (s.0 ≤ 100000)) }

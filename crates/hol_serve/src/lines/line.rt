@@ -1,25 +1,27 @@
+//! The line that is being read.
+
 ghost use Rattle.std.specs.Prelude.{◌≡◌, ◌≤◌, ◌<◌, ℕ, List, [], ◌∷◌, ◌++◌, IfOk, if◌then◌else◌, vec_capacity, length};
 ghost use Rattle.hol_serve.specs.Lines.{line_limit, StandsFor, unless_empty};
 
 use std::alloc::{AllocError, Global};
 
 /// The longest line that is served, in bytes.
-pub const LINE_LIMIT: usize = 65536;
+pub(crate) const LINE_LIMIT: usize = 65536;
 
 /// The line that is being read, in a buffer that is taken once.
 #[derive(Drop)]
-pub struct Line {
+pub(crate) struct Line {
     /// Its bytes so far, or the first of them where there are too many.
-    pub kept: Vec<u8>,
+    pub(crate) kept: Vec<u8>,
     /// Whether it has more than `LINE_LIMIT` bytes.
-    pub overlong: bool,
+    pub(crate) overlong: bool,
     ghost room: { line_limit ≤ vec_capacity kept },
     ghost short: { length kept.items ≤ line_limit },
 }
 
 impl Line {
     /// A line without bytes. The error is that its buffer, `LINE_LIMIT` bytes, isn't had.
-    pub fn new(alloc: Global) -> Result<Line, AllocError>
+    pub(crate) fn new(alloc: Global) -> Result<Line, AllocError>
         ensures { IfOk result (λ line. StandsFor line.kept.items line.overlong []) }
     {
         let kept = Vec::with_capacity(alloc, LINE_LIMIT)?;
@@ -30,7 +32,7 @@ impl Line {
     }
 
     /// Whether there is no byte of it yet.
-    pub fn is_empty(&self) -> bool
+    pub(crate) fn is_empty(&self) -> bool
         ensures { (begun : List ℕ) → StandsFor self.now.kept.items self.now.overlong begun
             → unless_empty begun ≡ (if result then [] else begun ∷ []) }
     {
@@ -38,7 +40,7 @@ impl Line {
     }
 
     /// Begins the next line.
-    pub fn clear(&mut self)
+    pub(crate) fn clear(&mut self)
         ensures { StandsFor self.new.kept.items self.new.overlong [] }
     {
         self.kept.clear();
@@ -46,7 +48,7 @@ impl Line {
     }
 
     /// One byte more. It is dropped where the line is too long.
-    pub fn push(&mut self, byte: u8)
+    pub(crate) fn push(&mut self, byte: u8)
         ensures { (begun : List ℕ) → StandsFor self.old.kept.items self.old.overlong begun
             → StandsFor self.new.kept.items self.new.overlong (begun ++ byte ∷ []) }
     {

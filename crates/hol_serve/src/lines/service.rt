@@ -1,3 +1,5 @@
+//! Readers and writers that tell whether they failed, and what answers lines.
+
 ghost use Rattle.std.specs.Prelude.{◌≡◌, ◌<◌, ◌≤◌, ℕ, List, Bool, length, Ok, IfOk, OnOk, OnErr};
 ghost use Rattle.std.specs.Io.{ReadsAtMost, WritesAtMost};
 ghost use Rattle.std.specs.Io.KnownBytes.{ReadConsumes, WriteAppends};
@@ -9,7 +11,7 @@ use std::io;
 use std::io::{Read, Write};
 
 /// A reader that counts its reads, and tells whether one failed.
-pub trait Source: Read {
+pub(crate) trait Source: Read {
     // A read failed. It then stays so.
     ghost has_failed: { Self → Type 0 };
 
@@ -27,7 +29,7 @@ pub trait Source: Read {
 }
 
 /// A writer that tells whether it failed, or took no byte of some.
-pub trait Sink: Write {
+pub(crate) trait Sink: Write {
     // A write failed, or took no byte. It then stays so.
     ghost has_failed: { Self → Type 0 };
 
@@ -43,16 +45,16 @@ pub trait Sink: Write {
 
 /// A reply to a line.
 #[derive(Drop)]
-pub struct Reply {
+pub(crate) struct Reply {
     /// Its bytes.
-    pub text: ReplyText,
+    pub(crate) text: ReplyText,
     /// Whether the session ends with it.
-    pub closes: bool,
+    pub(crate) closes: bool,
 }
 
 /// A reply's bytes, with its newline.
 #[derive(Drop)]
-pub enum ReplyText {
+pub(crate) enum ReplyText {
     /// The same for each request. It takes no memory.
     Constant(&'static [u8]),
     /// Made for one request.
@@ -60,7 +62,7 @@ pub enum ReplyText {
 }
 
 /// What answers lines over a state.
-pub trait Service<D> {
+pub(crate) trait Service<D> {
     ghost use Rattle.hol_serve.specs.ReplyBytes.{reply_bytes};
 
     // From the old state the line may get this reply, which closes the session or not, and leave the new one.
@@ -81,7 +83,7 @@ impl Reply {
     ghost use Rattle.hol_serve.specs.ReplyBytes.{reply_bytes};
 
     /// Its bytes, with its newline.
-    pub fn as_bytes(&self) -> &[u8]
+    pub(crate) fn as_bytes(&self) -> &[u8]
         ensures { result.now ≡ reply_bytes self.now.text }
     {
         match &self.text {

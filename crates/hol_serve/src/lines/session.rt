@@ -1,3 +1,5 @@
+//! The loop: lines of a reader, answered on a writer.
+
 ghost use Rattle.std.specs.Prelude.{◌≡◌, ◌≢◌, ◌⊎◌, ◌≤◌, ◌++◌, ℕ, List, [], Bool, true, false, length, Ok, Err, IfOk, OnOk, OnErr};
 ghost use Rattle.std.specs.Io.KnownBytes.{Appends};
 ghost use Rattle.hol_serve.specs.Lines.{StandsFor, ended_lines, begun_line, unless_empty, read_limit};
@@ -12,11 +14,11 @@ use thiserror::Error;
 const NEWLINE: u8 = b'\n';
 
 /// After so many reads a session ends as at a failed read.
-pub const READ_LIMIT: u64 = 1 << 32;
+pub(crate) const READ_LIMIT: u64 = 1 << 32;
 
 /// Why a session ended before its end.
 #[derive(Clone, Copy, Debug, Drop, PartialEq, Eq, Error)]
-pub enum Fault {
+pub(crate) enum Fault {
     /// The reader failed, or was read 2^32 times.
     #[error("read fault")]
     Read,
@@ -28,7 +30,7 @@ pub enum Fault {
     Memory,
 }
 
-/// Answers the line, and tells whether the session ends with it.
+// Answers the line, and tells whether the session ends with it.
 fn serve_line<W: Sink, D, S: Service<D>>(
     alloc: Global,
     line: &Line,
@@ -54,7 +56,7 @@ fn serve_line<W: Sink, D, S: Service<D>>(
     Ok(reply.closes)
 }
 
-/// Answers the lines that end in the chunk, and tells whether one of them closed the session.
+// Answers the lines that end in the chunk, and tells whether one of them closed the session.
 fn serve_chunk<W: Sink, D, S: Service<D>>(
     alloc: Global,
     line: &mut Line,
@@ -90,7 +92,7 @@ fn serve_chunk<W: Sink, D, S: Service<D>>(
     Ok(false)
 }
 
-/// Answers what follows the last newline, unless that is empty.
+// Answers what follows the last newline, unless that is empty.
 fn serve_last<W: Sink, D, S: Service<D>>(
     alloc: Global,
     line: &Line,
@@ -115,7 +117,7 @@ fn serve_last<W: Sink, D, S: Service<D>>(
 }
 
 /// Answers the reader's lines in order, up to its end or to a reply that closes the session.
-pub fn run_lines<R: Source, W: Sink, D, S: Service<D>>(
+pub(crate) fn run_lines<R: Source, W: Sink, D, S: Service<D>>(
     alloc: Global,
     reader: &mut R,
     writer: &mut W,

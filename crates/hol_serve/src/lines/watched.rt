@@ -1,3 +1,5 @@
+//! Readers and writers of std, watched for failures.
+
 ghost use Rattle.std.specs.Prelude.{◌≡◌, true, false};
 
 use crate::lines::service::{Sink, Source};
@@ -6,18 +8,18 @@ use std::io::{Read, Write};
 
 /// A reader or writer that notes whether it failed.
 #[derive(Drop)]
-pub struct Watched<T> {
+pub(crate) struct Watched<T> {
     /// The reader or writer.
-    pub inner: T,
+    pub(crate) inner: T,
     /// Whether a call of it failed, or took no byte of some.
-    pub failed: bool,
+    pub(crate) failed: bool,
     /// How often it was read, up to 2^64 - 1.
-    pub reads: u64,
+    pub(crate) reads: u64,
 }
 
 impl<T> Watched<T> {
     /// One that hasn't failed and wasn't read.
-    pub fn new(inner: T) -> Watched<T>
+    pub(crate) fn new(inner: T) -> Watched<T>
         ensures inner { result.inner ≡ inner }
         ensures fresh { result.failed ≡ false }
         ensures unread { result.reads ≡ 0 }

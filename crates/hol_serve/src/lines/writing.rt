@@ -1,3 +1,5 @@
+//! Writing a reply.
+
 ghost use Rattle.std.specs.Prelude.{◌≡◌, ◌≢◌, ◌++◌, ℕ, List, [], OnOk, OnErr};
 ghost use Rattle.std.specs.Io.KnownBytes.{Appends};
 
@@ -7,10 +9,10 @@ use thiserror::Error;
 /// The writer failed, or took no byte.
 #[derive(Debug, Drop, Error)]
 #[error("write fault")]
-pub struct WriteFault;
+pub(crate) struct WriteFault;
 
 /// Writes all the bytes, or a part of them.
-pub fn write_reply<W: Sink>(writer: &mut W, bytes: &[u8]) -> Result<(), WriteFault>
+pub(crate) fn write_reply<W: Sink>(writer: &mut W, bytes: &[u8]) -> Result<(), WriteFault>
     ensures ok { OnOk result (Appends (W.contents writer.old) (W.contents writer.new) bytes.now) }
     ensures part { OnErr result ((part : List ℕ) × (missing : List ℕ) × (bytes.now ≡ part ++ missing) × (missing ≢ [])
         × Appends (W.contents writer.old) (W.contents writer.new) part) }

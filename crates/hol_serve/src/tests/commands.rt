@@ -136,6 +136,23 @@ fn refuses_a_reading_over_20000_nodes(rt: HostRuntime) -> Result<(), Fail> {
     Ok(())
 }
 
+// A bound variable 299 binders out, under as many nested binders.
+#[test]
+fn reads_and_shows_300_binders(rt: HostRuntime) -> Result<(), Fail> {
+    let mut term = String::from_str(rt.alloc(), "!x0")?;
+    for k in 1..300u32 {
+        write!(term, " x{k}")?;
+    }
+    term.push_str(". x0")?;
+    let command = format!(in rt.alloc(); "g N `{term}`")?;
+    let reply = reply_to_last(rt.alloc(), command.as_str())?;
+    let want = format!(in rt.alloc();
+        "{{\"goals\":[{{\"asl\":[],\"free\":[],\"goal\":\"{term}\"}}],\"ok\":true}}"
+    )?;
+    assert_eq!(rt; reply.as_str(), want.as_str());
+    Ok(())
+}
+
 // 60 variables of one type with a long name, which is shown at each of them.
 #[test]
 fn tells_of_goals_in_over_65536_bytes(rt: HostRuntime) -> Result<(), Fail> {

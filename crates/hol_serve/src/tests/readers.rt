@@ -7,14 +7,14 @@ use std::io::{Read, Write};
 
 /// A reader of a text, a byte a read, that may fail once and goes on as if nothing had been.
 #[derive(Drop)]
-pub struct FaultyReader<'t> {
+pub(crate) struct FaultyReader<'t> {
     text: &'t [u8],
     before: Option<usize>,
 }
 
 impl<'t> FaultyReader<'t> {
     /// One that fails after so many reads.
-    pub fn new(text: &'t [u8], before: Option<usize>) -> FaultyReader<'t> {
+    pub(crate) fn new(text: &'t [u8], before: Option<usize>) -> FaultyReader<'t> {
         FaultyReader { text, before }
     }
 }
@@ -37,16 +37,16 @@ impl Read for FaultyReader<'_> {
 
 /// A writer that may stop once, by a failure or by taking no byte, and goes on as if nothing had been.
 #[derive(Drop)]
-pub struct FaultyWriter {
+pub(crate) struct FaultyWriter {
     /// What it took.
-    pub held: Vec<u8>,
+    pub(crate) held: Vec<u8>,
     room: Option<usize>,
     fails: bool,
 }
 
 impl FaultyWriter {
     /// One that fails after so many bytes.
-    pub fn new(alloc: Global, room: Option<usize>) -> FaultyWriter {
+    pub(crate) fn new(alloc: Global, room: Option<usize>) -> FaultyWriter {
         FaultyWriter {
             held: Vec::new(alloc),
             room,
@@ -55,7 +55,7 @@ impl FaultyWriter {
     }
 
     /// One that takes no byte once, after so many.
-    pub fn stuck(alloc: Global, room: usize) -> FaultyWriter {
+    pub(crate) fn stuck(alloc: Global, room: usize) -> FaultyWriter {
         FaultyWriter {
             held: Vec::new(alloc),
             room: Some(room),
@@ -87,7 +87,7 @@ impl Write for FaultyWriter {
 
 /// A client's way to the program: it gives a line a read, and fails where it is read before the reply to the last one has come.
 #[derive(Drop)]
-pub struct WaitingReader<'t, 'c> {
+pub(crate) struct WaitingReader<'t, 'c> {
     text: &'t [u8],
     given: usize,
     replies: &'c Cell<usize>,
@@ -95,7 +95,7 @@ pub struct WaitingReader<'t, 'c> {
 
 impl<'t, 'c> WaitingReader<'t, 'c> {
     /// A client with this text to send, that sees the number of replies.
-    pub fn new(text: &'t [u8], replies: &'c Cell<usize>) -> WaitingReader<'t, 'c> {
+    pub(crate) fn new(text: &'t [u8], replies: &'c Cell<usize>) -> WaitingReader<'t, 'c> {
         WaitingReader {
             text,
             given: 0,
@@ -126,13 +126,13 @@ impl Read for WaitingReader<'_, '_> {
 
 /// The way back: it counts the replies.
 #[derive(Drop)]
-pub struct CountingWriter<'c> {
+pub(crate) struct CountingWriter<'c> {
     replies: &'c Cell<usize>,
 }
 
 impl<'c> CountingWriter<'c> {
     /// One that counts here.
-    pub fn new(replies: &'c Cell<usize>) -> CountingWriter<'c> {
+    pub(crate) fn new(replies: &'c Cell<usize>) -> CountingWriter<'c> {
         CountingWriter { replies }
     }
 }

@@ -9,7 +9,7 @@ use std::process::Abort;
 use std::test::Fail;
 
 /// A theory with one theorem, its reports and its basis.
-pub const REFL1_LINES: &str = r#"{"op":"new_theory","name":"A","at":0}
+pub(crate) const REFL1_LINES: &str = r#"{"op":"new_theory","name":"A","at":0}
 {"op":"insert","theory":"A","at":0,"text":"g REFL1 `x:A = x`"}
 {"op":"insert","theory":"A","at":1,"text":"e REFL_TAC"}
 {"op":"insert","theory":"A","at":2,"text":"qed"}
@@ -20,7 +20,7 @@ pub const REFL1_LINES: &str = r#"{"op":"new_theory","name":"A","at":0}
 "#;
 
 /// The replies to `REFL1_LINES`.
-pub const REFL1_REPLIES: &str = r#"{"ok":true}
+pub(crate) const REFL1_REPLIES: &str = r#"{"ok":true}
 {"ok":true}
 {"ok":true}
 {"ok":true}
@@ -31,7 +31,7 @@ pub const REFL1_REPLIES: &str = r#"{"ok":true}
 "#;
 
 /// Runs a session from no theories over this reader and writer.
-pub fn session<R: Source, W: Sink>(
+pub(crate) fn session<R: Source, W: Sink>(
     alloc: Global,
     reader: &mut R,
     writer: &mut W,
@@ -43,7 +43,7 @@ pub fn session<R: Source, W: Sink>(
 }
 
 /// What a session over the text writes.
-pub fn replies_to(alloc: Global, text: &[u8]) -> Result<Vec<u8>, Fail> {
+pub(crate) fn replies_to(alloc: Global, text: &[u8]) -> Result<Vec<u8>, Fail> {
     let mut reader = Watched::new(text);
     let mut writer = Watched::new(Vec::new(alloc));
     session(alloc, &mut reader, &mut writer)?;
@@ -51,7 +51,7 @@ pub fn replies_to(alloc: Global, text: &[u8]) -> Result<Vec<u8>, Fail> {
 }
 
 /// That a session goes like this: lines after `> ` are sent, and lines after `< ` come back.
-pub fn expect_session<R: Abort + AllocGlobal>(rt: &R, session: &str) -> Result<(), Fail> {
+pub(crate) fn expect_session<R: Abort + AllocGlobal>(rt: &R, session: &str) -> Result<(), Fail> {
     let mut sent = String::new(rt.alloc());
     let mut want = String::new(rt.alloc());
     for line in session.lines() {
@@ -67,7 +67,7 @@ pub fn expect_session<R: Abort + AllocGlobal>(rt: &R, session: &str) -> Result<(
 }
 
 /// The reply to a report on the last of these commands, one a line, which stand in a theory of their own. They are written as in a JSON string.
-pub fn reply_to_last(alloc: Global, commands: &str) -> Result<String, Fail> {
+pub(crate) fn reply_to_last(alloc: Global, commands: &str) -> Result<String, Fail> {
     let mut lines = String::from_str(alloc, "{\"op\":\"new_theory\",\"name\":\"A\",\"at\":0}\n")?;
     let mut count = 0usize;
     for (at, command) in commands.lines().enumerate() {
@@ -86,7 +86,7 @@ pub fn reply_to_last(alloc: Global, commands: &str) -> Result<String, Fail> {
 }
 
 /// That commands have these reports: each line after `> ` is a command, put after those in `before`, and the line after it its report.
-pub fn expect_reports<R: Abort + AllocGlobal>(
+pub(crate) fn expect_reports<R: Abort + AllocGlobal>(
     rt: &R,
     before: &str,
     reports: &str,
