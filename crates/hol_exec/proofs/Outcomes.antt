@@ -21,7 +21,7 @@ use Rattle.hol_exec.specs.Local.{opens, opens_read, IsOpening, run_outcome, at_s
 use Rattle.hol_exec.specs.Lookups.{reading_basis}
 use Rattle.hol_exec.specs.Standing.{first_taken}
 use Rattle.hol_exec.specs.ExprValue.{TacArgsValue, Nothing, ExprValue, Calls}
-use Rattle.hol_exec.specs.Expr.{ResolutionValue, Resolved, Unresolved, RunResult, Leaving, RefusedBy, OutOfTurns, run_result, run_expr}
+use Rattle.hol_exec.specs.Expr.{ResolutionValue, Resolved, Unresolved, RunResult, Leaving, RefusedBy, OutOfTurns, run_result, run_call, run_expr}
 use Rattle.hol_exec.specs.declared.refusal.RefusalKind.TheVariants as refusal
 use Rattle.hol_exec.specs.Entry.{Entries, EachIsEntry}
 use Rattle.hol_exec.specs.At.{IsOutcome, IsOutcomeAt}
@@ -147,16 +147,19 @@ tac_closes ReflTac Nothing goal goals used e = found (dest_eq goal.conclusion) r
     found (Some x) f g = same x (alpha_eq x.left x.right) f refl g
 
 -- what a run leaves
-run_closes : (e : ExprValue) (goal : GoalValue) (goals : List GoalValue) (used : UsedValue) → Leaving goals ≡ (run_expr e goal used).result → (goals ≡ []) × IsReflexive goal.conclusion
-run_closes (Calls name code args) goal goals (record { turns_left = zero }) e = absurd (cc)
-run_closes (Calls name code args) goal goals (record { turns_left = suc turns }) e = by (tac code args goal left).result refl e
+call_closes : (name : List ℕ) (code : TacCode) (args : TacArgsValue) (goal : GoalValue) (goals : List GoalValue) (used : UsedValue) (turns : ℕ) → Leaving goals ≡ (run_call name code args goal used turns).result → (goals ≡ []) × IsReflexive goal.conclusion
+call_closes name code args goal goals used zero e = absurd (cc)
+call_closes name code args goal goals used (suc turns) e = by (tac code args goal left).result refl e
   where
     left : UsedValue
-    left = record { turns_left = turns }
+    left = record used { turns_left = turns }
 
     by : (a : AnswerResult) → a ≡ (tac code args goal left).result → Leaving goals ≡ run_result name a → (goals ≡ []) × IsReflexive goal.conclusion
     by (Left gs) f g = let same : gs ≡ goals = cc in rw same at (tac_closes code args goal gs left f)
     by Unfit f g = absurd (cc)
+
+run_closes : (e : ExprValue) (goal : GoalValue) (goals : List GoalValue) (used : UsedValue) → Leaving goals ≡ (run_expr e goal used).result → (goals ≡ []) × IsReflexive goal.conclusion
+run_closes (Calls name code args) goal goals used e = call_closes name code args goal goals used used.turns_left e
 
 pub step_valid : (e : ExprValue) (first goal : GoalValue) (turns : ℕ) (goals : List GoalValue) (basis : Items) → Leaving goals ≡ (run_expr e first (at_start turns)).result → goal ≡ first → basis ≡ no_items → (goals ≡ []) × (basis ≡ no_items) × IsReflexive goal.conclusion
 step_valid e first goal turns goals basis h f g = let closed = run_closes e first goals (at_start turns) h in (closed.0, g, rw f closed.1)

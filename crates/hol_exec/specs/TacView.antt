@@ -2,8 +2,8 @@
 use Rattle.std.specs.Prelude.{Option, Some, None}
 use Rattle.hol_exec.specs.declared.tac.TacArgs.{TacArgs}
 use Rattle.hol_exec.specs.declared.tac.TacArgs.TheVariants as args
-use Rattle.hol_exec.specs.declared.tac.Called.{Called}
-use Rattle.hol_exec.specs.declared.tac.Called.TheVariants as calls
+use Rattle.hol_exec.specs.declared.tac.Callee.{Callee}
+use Rattle.hol_exec.specs.declared.tac.Callee.TheVariants as calls
 use Rattle.hol_exec.specs.declared.tac.Used.{Used}
 use Rattle.hol_exec.specs.declared.tac.TacResult.{TacResult}
 use Rattle.hol_exec.specs.declared.tac.TacResult.TheVariants as code
@@ -14,10 +14,10 @@ use Rattle.hol_exec.specs.Tac.{CalledValue, Registered, UsedValue, AnswerResult,
 abbrev pub args_value : TacArgs → TacArgsValue
 args_value args.Nothing = Nothing
 
-abbrev pub called_value : Called → CalledValue
+abbrev pub called_value : Callee → CalledValue
 called_value (calls.Registered tac) = Registered tac
 
-abbrev pub called_option : Option Called → Option CalledValue
+abbrev pub called_option : Option Callee → Option CalledValue
 called_option None = None
 called_option (Some c) = Some (called_value c)
 

@@ -9,7 +9,7 @@ use crate::goal::Goal;
 use crate::reads::Reads;
 use crate::refusal::RefusalKind;
 use crate::setup::Setup;
-use crate::tac::{ArgumentKind, Called, TacArgs, TacCode, TacResult, Used, arguments_of, called, tac};
+use crate::tac::{ArgumentKind, Callee, TacArgs, TacCode, TacResult, Used, arguments_of, called, tac};
 use hol_kernel::Basis;
 use hol_notation_tactics::TacCall;
 use std::alloc::{AllocError, Global};
@@ -66,7 +66,7 @@ pub(crate) fn resolve(
     }
     let name = String::from_str(alloc, call.name.as_str())?;
     match called(setup, call, reads) {
-        Some(Called::Registered(code)) => {
+        Some(Callee::Registered(code)) => {
             let args = match arguments_of(code) {
                 ArgumentKind::NoArguments => TacArgs::Nothing,
             };

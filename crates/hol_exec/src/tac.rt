@@ -36,7 +36,7 @@ pub(crate) enum TacArgs {
 
 /// What a name calls.
 #[derive(Clone, Copy)]
-pub(crate) enum Called {
+pub(crate) enum Callee {
     /// A registered TAC.
     Registered(TacCode),
 }
@@ -76,11 +76,11 @@ pub(crate) fn arguments_of(code: TacCode) -> ArgumentKind
 }
 
 // The kind of arguments of what is called.
-fn kind_of(called: Called) -> ArgumentKind
+fn kind_of(called: Callee) -> ArgumentKind
     ensures { result ≡ kind_of (called_value called) }
 {
     match called {
-        Called::Registered(code) => arguments_of(code),
+        Callee::Registered(code) => arguments_of(code),
     }
 }
 
@@ -94,15 +94,15 @@ fn fits(kind: ArgumentKind, arguments: &[TacArg]) -> bool
 }
 
 // What the name of the call stands for.
-fn named(setup: &Setup, call: &TacCall, _reads: &Reads) -> Option<Called>
+fn named(setup: &Setup, call: &TacCall, _reads: &Reads) -> Option<Callee>
     ensures { called_option result ≡ named (lookup (bytes_eq call.now.name) (setup_value setup.now).table) _reads.now.cited }
 {
     let code = code_of(setup, call.name.as_str())?;
-    Some(Called::Registered(code))
+    Some(Callee::Registered(code))
 }
 
 /// What is called, where the name stands for something and the arguments are of its kind.
-pub(crate) fn called(setup: &Setup, call: &TacCall, reads: &Reads) -> Option<Called>
+pub(crate) fn called(setup: &Setup, call: &TacCall, reads: &Reads) -> Option<Callee>
     ensures { called_option result ≡ called (setup_value setup.now) call.now reads.now.cited }
 {
     let called = named(setup, call, reads)?;
