@@ -10,7 +10,7 @@ use Rattle.hol_exec.specs.Setup.{SetupValue}
 use Rattle.hol_exec.specs.ReadsValue.{Values}
 use Rattle.hol_exec.specs.Standing.{first_unknown}
 use Rattle.hol_exec.specs.ExprValue.{ExprValue, Calls, TacArgsValue, Nothing}
-use Rattle.hol_exec.specs.Tac.{arguments_of, CalledValue, Registered, called}
+use Rattle.hol_exec.specs.Tac.{arguments_of, Registered, called}
 use Rattle.hol_exec.specs.Expr.{AreArguments, IsExpr, ResolutionValue, Resolved, Unresolved, calls_of, first_unfit, IsResolvedKnown, IsResolvedCited, IsResolution}
 
 module _ (setup : SetupValue) (call : CallText) (cited : Values) where

@@ -9,7 +9,9 @@ use crate::goal::Goal;
 use crate::reads::Reads;
 use crate::refusal::RefusalKind;
 use crate::setup::Setup;
-use crate::tac::{ArgumentKind, Callee, TacArgs, TacCode, TacResult, Used, arguments_of, called, tac};
+use crate::tac::{
+    ArgumentKind, Callee, TacArgs, TacCode, TacResult, Used, arguments_of, called, tac,
+};
 use hol_kernel::Basis;
 use hol_notation_tactics::TacCall;
 use std::alloc::{AllocError, Global};
