@@ -35,7 +35,7 @@ fn outcome_of(
             let reads = Reads::of(alloc, command, state)?;
             run_local(alloc, setup, command, &reads)
         }
-        Parsed::Direct(command) => direct(alloc, *command, state, earlier),
+        Parsed::Direct(command) => direct(alloc, command, state, earlier),
     }
 }
 

@@ -1,7 +1,7 @@
 -- What the outcomes that a state may get say of it: a step runs on the first goal, and so closes the goal only where reflexivity proves the
 -- statement.
-use Rattle.std.proofs.Common.{◌≡◌, ℕ, List, [], ◌∷◌, refl, ap, ◌∙◌, Bool, true, false, cond, decimal, zero, suc, inl, inr, nat_eq, length, arith}
-use Rattle.std.specs.Prelude.{◌⊎◌, Option, Some, None, IfSome}
+use Rattle.std.proofs.Common.{◌≡◌, ℕ, List, [], refl, ap, ◌∙◌, Bool, true, false, cond, decimal, zero, suc, inl, inr, nat_eq, length, arith}
+use Rattle.std.specs.Prelude.{Option, Some, None, IfSome}
 use Rattle.hol_terms.specs.Nameless.{Nameless, nameless_type}
 use Rattle.hol_notation_terms.specs.Text.{QuotationText}
 use Rattle.hol_notation_tactics.specs.Text.{CallText}
@@ -17,17 +17,18 @@ use Rattle.hol_exec.specs.Reading.{ReadingValue, WrongArity, NoTyping, LargeRead
 use Rattle.hol_exec.specs.StateValue.{ProofValue, StateValue, EndedTheory}
 use Rattle.hol_exec.specs.ReadsValue.{ReadsValue, ClosingValue, reads_of, first_goal, first_of}
 use Rattle.hol_exec.specs.OutcomeValue.{OutcomeValue, Opens, Leaves, Makes, Refuses, MakesTheorems}
-use Rattle.hol_exec.specs.Local.{opens, opens_read, IsOpening, run_outcome, applied, resolved_outcome, IsApplying, finishes, IsLocalOutcome}
+use Rattle.hol_exec.specs.Local.{opens, opens_read, IsOpening, run_outcome, at_start, applied, resolved_outcome, IsApplying, finishes, IsLocalOutcome}
 use Rattle.hol_exec.specs.Lookups.{reading_basis}
 use Rattle.hol_exec.specs.Standing.{first_taken}
-use Rattle.hol_exec.specs.Expr.{ExprValue, Calls, ResolutionValue, Resolved, Unresolved, RunValue, Leaving, RefusedBy, OutOfTurns, run_answer, run_expr}
+use Rattle.hol_exec.specs.ExprValue.{TacArgsValue, Nothing, ExprValue, Calls}
+use Rattle.hol_exec.specs.Expr.{ResolutionValue, Resolved, Unresolved, RunResult, Leaving, RefusedBy, OutOfTurns, run_result, run_call, run_expr}
 use Rattle.hol_exec.specs.declared.refusal.RefusalKind.TheVariants as refusal
 use Rattle.hol_exec.specs.Entry.{Entries, EachIsEntry}
 use Rattle.hol_exec.specs.At.{IsOutcome, IsOutcomeAt}
 use Rattle.hol_exec.specs.declared.tac.TacCode.{TacCode}
 use Rattle.hol_exec.specs.declared.tac.TacCode.TheVariants.{ReflTac}
-use Rattle.hol_exec.specs.Tac.{TacArgsValue, Nothing, AnswerValue, Left, Unfit, tac, closes_sides}
-use Rattle.hol_exec.specs.Valid.{IsStatement, IsReflexive, IsSoundProof, IsSoundClosing, IsValid}
+use Rattle.hol_exec.specs.Tac.{UsedValue, AnswerResult, Left, Unfit, tac, closes_sides}
+use Rattle.hol_exec.specs.Valid.{IsStatement, IsReflexive, IsSoundProof, IsSoundClosing, IsValid, Proves}
 
 module _ (goal : GoalValue) (goals : List GoalValue) (basis : Items) where
   opening_none : (in_proof : Bool) (name : List ℕ) (q : QuotationText) (reads : ReadsValue) → IsOpening in_proof name q reads (Leaves goal goals basis) → ⊥
@@ -56,14 +57,14 @@ module _ (goal : GoalValue) (goals : List GoalValue) (basis : Items) where
       by true z = let g : Leaves goal goals basis ≡ Makes _ = rw z at e in absurd (cc)
       by false z = let g : Leaves goal goals basis ≡ Refuses _ _ = rw z at e in absurd (cc)
 
-  run_first : (g : GoalValue) (b : Items) (r : RunValue) → Leaves goal goals basis ≡ run_outcome g b r → g ≡ goal
-  run_first g b (Leaving more turns) e = cc
-  run_first g b (RefusedBy name turns) e = absurd (cc)
+  run_first : (g : GoalValue) (b : Items) (r : RunResult) → Leaves goal goals basis ≡ run_outcome g b r → g ≡ goal
+  run_first g b (Leaving more) e = cc
+  run_first g b (RefusedBy name) e = absurd (cc)
   run_first g b OutOfTurns e = absurd (cc)
 
   applied_first : (o : Option GoalValue) (turns : ℕ) (x : ExprValue) (b : Items) → Leaves goal goals basis ≡ applied o turns x b → o ≡ Some goal
   applied_first None turns x b e = absurd (cc)
-  applied_first (Some g) turns x b e = ap Some (run_first g b (run_expr x g turns) e)
+  applied_first (Some g) turns x b e = ap Some (run_first g b (run_expr x g (at_start turns)).result e)
 
   resolved_first : (o : Option GoalValue) (turns : ℕ) (r : ResolutionValue) → Leaves goal goals basis ≡ resolved_outcome o turns r → o ≡ Some goal
   resolved_first o turns (Resolved x b) e = applied_first o turns x b e
@@ -86,7 +87,7 @@ module _ (goal : GoalValue) (goals : List GoalValue) (basis : Items) where
   closes_proof : (p : ProofValue) → IsSoundProof p → first_of p.newest.goals ≡ Some goal → IsReflexive goal.conclusion → IsReflexive p.statement
   closes_proof p sound first h = by sound.newest.goals
     where
-      by : ((p.newest.goals ≡ record { assumptions = []; conclusion = p.statement } ∷ []) ⊎ ((p.newest.goals ≡ []) × IsReflexive p.statement)) → IsReflexive p.statement
+      by : Proves p.statement p.newest.goals → IsReflexive p.statement
       by (inl one) =
           let e : Some (record { assumptions = []; conclusion = p.statement }) ≡ Some goal = rw one at first in
           let same : goal.conclusion ≡ p.statement = cc in
@@ -112,7 +113,7 @@ sound_closing p h goals basis t e f g = record {
   closed = λ none. by none h.newest.goals;
 }
   where
-    by : length goals ≡ 0 → ((p.newest.goals ≡ record { assumptions = []; conclusion = p.statement } ∷ []) ⊎ ((p.newest.goals ≡ []) × IsReflexive p.statement)) → IsReflexive t
+    by : length goals ≡ 0 → Proves p.statement p.newest.goals → IsReflexive t
     by none (inl one) = absurd (omega (ap length (e ∙ one), none, arith))
     by none (inr closed) = rw g closed.1
 
@@ -134,25 +135,31 @@ makes_theorems (Makes entries) h = h
 makes_theorems (Refuses kind arg) h = tt
 
 -- what a TAC closes
-tac_closes : (code : TacCode) (args : TacArgsValue) (goal : GoalValue) (goals : List GoalValue) (turns left : ℕ) → Left goals left ≡ tac code args goal turns → (goals ≡ []) × IsReflexive goal.conclusion
-tac_closes ReflTac Nothing goal goals turns left e = found (dest_eq goal.conclusion) refl e
+tac_closes : (code : TacCode) (args : TacArgsValue) (goal : GoalValue) (goals : List GoalValue) (used : UsedValue) → Left goals ≡ (tac code args goal used).result → (goals ≡ []) × IsReflexive goal.conclusion
+tac_closes ReflTac Nothing goal goals used e = found (dest_eq goal.conclusion) refl e
   where
-    same : (x : Sides) (w : Bool) → dest_eq goal.conclusion ≡ Some x → alpha_eq x.left x.right ≡ w → Left goals left ≡ cond w (Left [] turns) (Unfit turns) → (goals ≡ []) × IsReflexive goal.conclusion
+    same : (x : Sides) (w : Bool) → dest_eq goal.conclusion ≡ Some x → alpha_eq x.left x.right ≡ w → Left goals ≡ cond w (Left []) Unfit → (goals ≡ []) × IsReflexive goal.conclusion
     same x true f g h = let none : goals ≡ [] = cc in (none, record { sides = x; equates = f; same = g })
     same x false f g h = absurd (cc)
 
-    found : (o : Option Sides) → dest_eq goal.conclusion ≡ o → Left goals left ≡ closes_sides o turns → (goals ≡ []) × IsReflexive goal.conclusion
+    found : (o : Option Sides) → dest_eq goal.conclusion ≡ o → Left goals ≡ closes_sides o → (goals ≡ []) × IsReflexive goal.conclusion
     found None f g = absurd (cc)
     found (Some x) f g = same x (alpha_eq x.left x.right) f refl g
 
 -- what a run leaves
-run_closes : (e : ExprValue) (goal : GoalValue) (turns : ℕ) (goals : List GoalValue) (left : ℕ) → Leaving goals left ≡ run_expr e goal turns → (goals ≡ []) × IsReflexive goal.conclusion
-run_closes (Calls name code args) goal zero goals left e = absurd (cc)
-run_closes (Calls name code args) goal (suc turns) goals left e = by (tac code args goal turns) refl e
+call_closes : (name : List ℕ) (code : TacCode) (args : TacArgsValue) (goal : GoalValue) (goals : List GoalValue) (used : UsedValue) (turns : ℕ) → Leaving goals ≡ (run_call name code args goal used turns).result → (goals ≡ []) × IsReflexive goal.conclusion
+call_closes name code args goal goals used zero e = absurd (cc)
+call_closes name code args goal goals used (suc turns) e = by (tac code args goal left).result refl e
   where
-    by : (a : AnswerValue) → a ≡ tac code args goal turns → Leaving goals left ≡ run_answer name a → (goals ≡ []) × IsReflexive goal.conclusion
-    by (Left gs n) f g = let same : gs ≡ goals = cc in rw same at (tac_closes code args goal gs turns n f)
-    by (Unfit n) f g = absurd (cc)
+    left : UsedValue
+    left = record used { turns_left = turns }
 
-pub step_valid : (e : ExprValue) (first goal : GoalValue) (turns : ℕ) (goals : List GoalValue) (left : ℕ) (basis : Items) → Leaving goals left ≡ run_expr e first turns → goal ≡ first → basis ≡ no_items → (goals ≡ []) × (basis ≡ no_items) × IsReflexive goal.conclusion
-step_valid e first goal turns goals left basis h f g = let closed = run_closes e first turns goals left h in (closed.0, g, rw f closed.1)
+    by : (a : AnswerResult) → a ≡ (tac code args goal left).result → Leaving goals ≡ run_result name a → (goals ≡ []) × IsReflexive goal.conclusion
+    by (Left gs) f g = let same : gs ≡ goals = cc in rw same at (tac_closes code args goal gs left f)
+    by Unfit f g = absurd (cc)
+
+run_closes : (e : ExprValue) (goal : GoalValue) (goals : List GoalValue) (used : UsedValue) → Leaving goals ≡ (run_expr e goal used).result → (goals ≡ []) × IsReflexive goal.conclusion
+run_closes (Calls name code args) goal goals used e = call_closes name code args goal goals used used.turns_left e
+
+pub step_valid : (e : ExprValue) (first goal : GoalValue) (turns : ℕ) (goals : List GoalValue) (basis : Items) → Leaving goals ≡ (run_expr e first (at_start turns)).result → goal ≡ first → basis ≡ no_items → (goals ≡ []) × (basis ≡ no_items) × IsReflexive goal.conclusion
+step_valid e first goal turns goals basis h f g = let closed = run_closes e first goals (at_start turns) h in (closed.0, g, rw f closed.1)

@@ -19,7 +19,7 @@ use Rattle.hol_infer.specs.Standing.{stands, all_stand, TermStands, AreStanding,
 use Rattle.hol_infer.proofs.StandingLaws.{reading_stands}
 use Rattle.hol_exec.specs.Entry.{ATheorem}
 use Rattle.hol_exec.specs.ReadsValue.{Values}
-use Rattle.hol_exec.specs.Lookups.{cited_constants, cited_types, lookups_of, reading_basis}
+use Rattle.hol_exec.specs.Lookups.{LookupsValue, cited_constants, cited_types, lookups_of, reading_basis}
 use Rattle.hol_exec.specs.Reading.{ReadsAs, IsTermReadAs}
 
 abbrev takes : List ℕ → ℕ → Bool
@@ -108,9 +108,6 @@ known (fixed c s) h = λ i. (sym (type_same s) ∙ h.0) i && h.1 i
 known (app f x) h = λ i. known f h.0 i && known x h.1 i
 known (lam a s b) h = λ i. (bytes_eq-Decides (base_of a) a).1 h.0 i && ((sym (type_same s) ∙ h.1) i && known b h.2 i)
 
-pub reading_known : (t : TermText) (p : Nameless) → IsTermReadAs (lookups_of []) t (ReadsAs p) → is_known no_items p ≡ true
-reading_known t p h = known p (reading_stands takes has prelude_types prelude_constants t p prelude_stands h.0 h.1)
-
 -- ---- no entry adds to what stands
 
 no_constants : (cited : Values) → cited_constants cited ≡ []
@@ -123,8 +120,17 @@ no_type_entries [] = refl
 no_type_entries ((key, None) ∷ more) = no_type_entries more
 no_type_entries ((key, Some (ATheorem th)) ∷ more) = no_type_entries more
 
-pub same_lookups : (cited : Values) → lookups_of [] ≡ lookups_of cited
-same_lookups cited = λ i. record { constants = prelude_constants ++ sym (no_constants cited) i; types = prelude_types ++ sym (no_type_entries cited) i }
+same_lookups : (cited : Values) → lookups_of cited ≡ lookups_of []
+same_lookups cited = λ i. record { constants = prelude_constants ++ no_constants cited i; types = prelude_types ++ no_type_entries cited i }
+
+known_reading : (over : LookupsValue) (t : TermText) (p : Nameless) → over ≡ lookups_of [] → IsTermReadAs over t (ReadsAs p) → is_known no_items p ≡ true
+known_reading over t p e h = by (rw e at h)
+  where
+    by : IsTermReadAs (lookups_of []) t (ReadsAs p) → is_known no_items p ≡ true
+    by g = known p (reading_stands takes has prelude_types prelude_constants t p prelude_stands g.0 g.1)
+
+pub reading_known : (cited : Values) (t : TermText) (p : Nameless) → IsTermReadAs (lookups_of cited) t (ReadsAs p) → is_known no_items p ≡ true
+reading_known cited t p h = known_reading (lookups_of cited) t p (same_lookups cited) h
 
 pub no_basis : (cited : Values) (p : Nameless) → reading_basis cited p ≡ no_items
 no_basis [] p = refl

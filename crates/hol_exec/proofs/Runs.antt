@@ -1,21 +1,19 @@
 -- Outcomes, from what the steps of a command found.
-use Rattle.std.specs.Prelude.{◌≡◌, ℕ, Bool, true, false, List, [], Result, Ok, Err, IfOk}
-use Rattle.std.proofs.Common.{subst}
+use Rattle.std.specs.Prelude.{◌≡◌, ℕ, Bool, true, false, List, Result, Ok, Err, IfOk}
 use Rattle.hol_notation_terms.specs.Text.{QuotationText}
 use Rattle.hol_notation_tactics.specs.Text.{CallText}
 use Rattle.hol_exec.specs.Setup.{SetupValue}
-use Rattle.hol_exec.specs.Lookups.{LookupsValue, lookups_of}
+use Rattle.hol_exec.specs.Lookups.{lookups_of}
 use Rattle.hol_exec.specs.Reading.{ReadingValue, IsTermReadAs}
 use Rattle.hol_exec.specs.ReadsValue.{ReadsValue}
 use Rattle.hol_exec.specs.Expr.{ResolutionValue, IsResolution}
 use Rattle.hol_exec.specs.OutcomeValue.{OutcomeValue}
 use Rattle.hol_exec.specs.Local.{opens_read, IsOpening, resolved_outcome, IsApplying}
-use Rattle.hol_exec.proofs.PreludeStands.{same_lookups}
 
 pub opens_by : (in_proof : Bool) (name : List ℕ) (q : QuotationText) (reads : ReadsValue) (reading : ReadingValue) (outcome : OutcomeValue) →
-    in_proof ≡ false → IsTermReadAs (lookups_of []) q.term reading → outcome ≡ opens_read name q.place reads reading → IsOpening in_proof name q reads outcome
+    in_proof ≡ false → IsTermReadAs (lookups_of reads.cited) q.term reading → outcome ≡ opens_read name q.place reads reading → IsOpening in_proof name q reads outcome
 opens_by in_proof name q reads reading outcome e h f =
-    rw e (reading, subst (λ (over : LookupsValue). IsTermReadAs over q.term reading) (same_lookups reads.cited) h, f)
+    rw e (reading, h, f)
 
 pub applies_by : (in_proof : Bool) (setup : SetupValue) (call : CallText) (reads : ReadsValue) (resolution : ResolutionValue) (outcome : OutcomeValue) →
     in_proof ≡ true → IsResolution setup call reads.cited resolution → outcome ≡ resolved_outcome reads.goal setup.turns resolution → IsApplying in_proof setup call reads outcome
@@ -23,7 +21,7 @@ applies_by in_proof setup call reads resolution outcome e h f = rw e (resolution
 
 -- the same where what is read is of a case
 pub opens_at : (in_proof : Bool) (name : List ℕ) (q : QuotationText) (reads : ReadsValue) (read reading : ReadingValue) (outcome : OutcomeValue) →
-    in_proof ≡ false → IsTermReadAs (lookups_of []) q.term read → read ≡ reading → outcome ≡ opens_read name q.place reads reading → IsOpening in_proof name q reads outcome
+    in_proof ≡ false → IsTermReadAs (lookups_of reads.cited) q.term read → read ≡ reading → outcome ≡ opens_read name q.place reads reading → IsOpening in_proof name q reads outcome
 opens_at in_proof name q reads read reading outcome e h g f = opens_by in_proof name q reads reading outcome e (rw g at h) f
 
 -- ---- what is known of a result that is passed on

@@ -14,13 +14,14 @@ use Rattle.hol_exec.specs.Parsed.{LocalText, Goal, Apply, Qed, ParsedValue, Loca
 use Rattle.hol_exec.specs.Lookups.{LookupsValue, lookups_of}
 use Rattle.hol_exec.specs.Reading.{ReadingValue, WrongArity, NoTyping, LargeReading, ReadsAs, IsReadAs, IsTermReadAs}
 use Rattle.hol_exec.specs.StateValue.{StateValue, EndedTheory}
-use Rattle.hol_exec.specs.ReadsValue.{ReadsValue, reads_of}
+use Rattle.hol_exec.specs.ReadsValue.{ReadsValue, Values, reads_of}
 use Rattle.hol_exec.specs.declared.tac.ArgumentKind.{ArgumentKind}
 use Rattle.hol_exec.specs.declared.tac.ArgumentKind.TheVariants.{NoArguments}
 use Rattle.hol_exec.specs.declared.tac.TacCode.{TacCode}
 use Rattle.hol_exec.specs.Standing.{first_unknown}
-use Rattle.hol_exec.specs.Tac.{arguments_of, TacArgsValue, Nothing}
-use Rattle.hol_exec.specs.Expr.{ExprValue, Calls, AreArguments, IsExpr, ResolutionValue, Resolved, Unresolved, calls_of, first_unfit, IsResolvedFitting, IsResolvedKnown, IsResolvedCited}
+use Rattle.hol_exec.specs.ExprValue.{ExprValue, Calls, TacArgsValue, Nothing}
+use Rattle.hol_exec.specs.Tac.{arguments_of, Registered}
+use Rattle.hol_exec.specs.Expr.{AreArguments, IsExpr, ResolutionValue, Resolved, Unresolved, calls_of, first_unfit, IsResolvedFitting, IsResolvedKnown, IsResolvedCited}
 use Rattle.hol_exec.specs.OutcomeValue.{OutcomeValue}
 use Rattle.hol_exec.specs.Local.{opens_read, IsOpening, resolved_outcome, IsApplying, IsLocalOutcome}
 use Rattle.hol_exec.specs.At.{IsOutcome}
@@ -67,29 +68,30 @@ one_reading over t a b p q = one_read (term_has_arities over.types t) (raw_of ov
 
 -- ---- resolutions
 
-one_arguments : (kind : ArgumentKind) (arguments : List ArgumentText) (a b : TacArgsValue) (x y : Items) → AreArguments kind arguments a x → AreArguments kind arguments b y → (a ≡ b) × (x ≡ y)
-one_arguments NoArguments arguments Nothing Nothing x y p q = (refl, p ∙ sym q)
+module _ (setup : SetupValue) (call : CallText) (cited : Values) where
+  one_arguments : (kind : ArgumentKind) (arguments : List ArgumentText) (a b : TacArgsValue) (x y : Items) → AreArguments kind arguments cited a x → AreArguments kind arguments cited b y → (a ≡ b) × (x ≡ y)
+  one_arguments NoArguments arguments Nothing Nothing x y p q = (refl, p ∙ sym q)
 
-one_expr : (setup : SetupValue) (call : CallText) (a b : ExprValue) (x y : Items) → IsExpr setup call a x → IsExpr setup call b y → (a ≡ b) × (x ≡ y)
-one_expr setup call (Calls m c s) (Calls n d t) x y p q =
-    let names : m ≡ n = p.0 ∙ sym q.0 in
-    let some : Some c ≡ Some d = sym p.1 ∙ q.1 in
-    let codes : c ≡ d = cc in
-    let same = one_arguments (arguments_of c) call.arguments s t x y p.2 (subst (λ (code : TacCode). AreArguments (arguments_of code) call.arguments t y) (sym codes) q.2) in
-    (λ i. Calls (names i) (codes i) (same.0 i), same.1)
+  one_expr : (a b : ExprValue) (x y : Items) → IsExpr setup call cited a x → IsExpr setup call cited b y → (a ≡ b) × (x ≡ y)
+  one_expr (Calls m c s) (Calls n d t) x y p q =
+      let names : m ≡ n = p.0 ∙ sym q.0 in
+      let some : Some (Registered c) ≡ Some (Registered d) = sym p.1 ∙ q.1 in
+      let codes : c ≡ d = cc in
+      let same = one_arguments (arguments_of c) call.arguments s t x y p.2 (subst (λ (code : TacCode). AreArguments (arguments_of code) call.arguments cited t y) (sym codes) q.2) in
+      (λ i. Calls (names i) (codes i) (same.0 i), same.1)
 
-one_fitting : (setup : SetupValue) (call : CallText) (a b : ResolutionValue) → IsResolvedFitting setup call a → IsResolvedFitting setup call b → a ≡ b
-one_fitting setup call (Resolved e x) (Resolved f y) p q = let same = one_expr setup call e f x y p q in λ i. Resolved (same.0 i) (same.1 i)
-one_fitting setup call (Resolved e x) (Unresolved kind arg) p q = absurd q
-one_fitting setup call (Unresolved kind arg) b p q = absurd p
+  one_fitting : (a b : ResolutionValue) → IsResolvedFitting setup call cited a → IsResolvedFitting setup call cited b → a ≡ b
+  one_fitting (Resolved e x) (Resolved f y) p q = let same = one_expr e f x y p q in λ i. Resolved (same.0 i) (same.1 i)
+  one_fitting (Resolved e x) (Unresolved kind arg) p q = absurd q
+  one_fitting (Unresolved kind arg) b p q = absurd p
 
-one_known : (setup : SetupValue) (call : CallText) (unfit : Option (List ℕ)) (a b : ResolutionValue) → IsResolvedKnown setup call unfit a → IsResolvedKnown setup call unfit b → a ≡ b
-one_known setup call (Some name) a b p q = p ∙ sym q
-one_known setup call None a b p q = one_fitting setup call a b p q
+  one_known : (unfit : Option (List ℕ)) (a b : ResolutionValue) → IsResolvedKnown setup call cited unfit a → IsResolvedKnown setup call cited unfit b → a ≡ b
+  one_known (Some name) a b p q = p ∙ sym q
+  one_known None a b p q = one_fitting a b p q
 
-one_cited : (setup : SetupValue) (call : CallText) (unknown : Option (List ℕ)) (a b : ResolutionValue) → IsResolvedCited setup call unknown a → IsResolvedCited setup call unknown b → a ≡ b
-one_cited setup call (Some name) a b p q = p ∙ sym q
-one_cited setup call None a b p q = one_known setup call (first_unfit setup (calls_of call)) a b p q
+  one_cited : (unknown : Option (List ℕ)) (a b : ResolutionValue) → IsResolvedCited setup call cited unknown a → IsResolvedCited setup call cited unknown b → a ≡ b
+  one_cited (Some name) a b p q = p ∙ sym q
+  one_cited None a b p q = one_known (first_unfit setup (calls_of call) cited) a b p q
 
 -- ---- outcomes
 
@@ -101,7 +103,7 @@ one_opening false name quotation reads a b p q =
 one_applying : (in_proof : Bool) (setup : SetupValue) (call : CallText) (reads : ReadsValue) (a b : OutcomeValue) → IsApplying in_proof setup call reads a → IsApplying in_proof setup call reads b → a ≡ b
 one_applying false setup call reads a b p q = p ∙ sym q
 one_applying true setup call reads a b p q =
-    p.2 ∙ ap (resolved_outcome reads.goal setup.turns) (one_cited setup call (first_unknown reads.cited) p.0 q.0 p.1 q.1) ∙ sym q.2
+    p.2 ∙ ap (resolved_outcome reads.goal setup.turns) (one_cited setup call reads.cited (first_unknown reads.cited) p.0 q.0 p.1 q.1) ∙ sym q.2
 
 pub one_local : (setup : SetupValue) (command : LocalText) (reads : ReadsValue) (a b : OutcomeValue) → IsLocalOutcome setup command reads a → IsLocalOutcome setup command reads b → a ≡ b
 one_local setup (Goal name quotation) reads a b p q = one_opening reads.in_proof name quotation reads a b p q

@@ -10,24 +10,21 @@ use Rattle.hol_exec.specs.declared.refusal.RefusalKind.{RefusalKind}
 use Rattle.hol_exec.specs.declared.refusal.RefusalKind.TheVariants as refusal
 use Rattle.hol_exec.specs.Goal.{GoalValue}
 use Rattle.hol_exec.specs.Setup.{SetupValue}
+use Rattle.hol_exec.specs.ExprValue.{TacArgsValue, Nothing, ExprValue, Calls}
 use Rattle.hol_exec.specs.ReadsValue.{Values}
 use Rattle.hol_exec.specs.Standing.{first_unknown}
-use Rattle.hol_exec.specs.Tac.{arguments_of, called, TacArgsValue, Nothing, AnswerValue, Left, Unfit, tac}
+use Rattle.hol_exec.specs.Tac.{arguments_of, Registered, called, UsedValue, AnswerResult, AnswerValue, Left, Unfit, tac}
 
 -- ---- resolved expressions
 
--- an expression whose names are resolved: a call of a TAC, with the name that it is called by
-pub data ExprValue : Type 0 where
-  Calls : List ℕ → TacCode → TacArgsValue → ExprValue
-
--- arguments of a kind, as they are written, resolve to these, on the union of the bases of all that is resolved
-abbrev pub AreArguments : ArgumentKind → List ArgumentText → TacArgsValue → Items → Type 0
-AreArguments NoArguments arguments Nothing basis = basis ≡ no_items
+-- arguments of a kind, as they are written, resolve to these over the values of what is cited, on the union of the bases of all that is resolved
+abbrev pub AreArguments : ArgumentKind → List ArgumentText → Values → TacArgsValue → Items → Type 0
+AreArguments NoArguments arguments cited Nothing basis = basis ≡ no_items
 
 -- what is written resolves to the expression
-abbrev pub IsExpr : SetupValue → CallText → ExprValue → Items → Type 0
-IsExpr setup call (Calls name code args) basis =
-    (name ≡ call.name) × (called setup call ≡ Some code) × AreArguments (arguments_of code) call.arguments args basis
+abbrev pub IsExpr : SetupValue → CallText → Values → ExprValue → Items → Type 0
+IsExpr setup call cited (Calls name code args) basis =
+    (name ≡ call.name) × (called setup call cited ≡ Some (Registered code)) × AreArguments (arguments_of code) call.arguments cited args basis
 
 -- ---- resolving, of one number all that is written before the next: unknown theorem; unknown TAC or wrong arguments
 
@@ -40,46 +37,54 @@ pub data ResolutionValue : Type 0 where
 abbrev pub calls_of : CallText → List CallText
 calls_of call = call ∷ []
 
--- the name of the first call that isn't of a registered TAC with arguments of its kind
-abbrev pub first_unfit : SetupValue → List CallText → Option (List ℕ)
-first_unfit setup [] = None
-first_unfit setup (call ∷ calls) = cond (is_some (called setup call)) (first_unfit setup calls) (Some call.name)
+-- the name of the first call whose name stands for nothing, or whose arguments aren't of its kind
+abbrev pub first_unfit : SetupValue → List CallText → Values → Option (List ℕ)
+first_unfit setup [] cited = None
+first_unfit setup (call ∷ calls) cited = cond (is_some (called setup call cited)) (first_unfit setup calls cited) (Some call.name)
 
 -- where all theorems are known and all calls fit, nothing else is refused
-abbrev pub IsResolvedFitting : SetupValue → CallText → ResolutionValue → Type 0
-IsResolvedFitting setup call (Resolved expr basis) = IsExpr setup call expr basis
-IsResolvedFitting setup call (Unresolved kind arg) = ⊥
+abbrev pub IsResolvedFitting : SetupValue → CallText → Values → ResolutionValue → Type 0
+IsResolvedFitting setup call cited (Resolved expr basis) = IsExpr setup call cited expr basis
+IsResolvedFitting setup call cited (Unresolved kind arg) = ⊥
 
 -- where all theorems are known
-abbrev pub IsResolvedKnown : SetupValue → CallText → Option (List ℕ) → ResolutionValue → Type 0
-IsResolvedKnown setup call (Some name) resolution = resolution ≡ Unresolved refusal.UnknownTac name
-IsResolvedKnown setup call None resolution = IsResolvedFitting setup call resolution
+abbrev pub IsResolvedKnown : SetupValue → CallText → Values → Option (List ℕ) → ResolutionValue → Type 0
+IsResolvedKnown setup call cited (Some name) resolution = resolution ≡ Unresolved refusal.UnknownTac name
+IsResolvedKnown setup call cited None resolution = IsResolvedFitting setup call cited resolution
 
-abbrev pub IsResolvedCited : SetupValue → CallText → Option (List ℕ) → ResolutionValue → Type 0
-IsResolvedCited setup call (Some name) resolution = resolution ≡ Unresolved refusal.UnknownTheorem name
-IsResolvedCited setup call None resolution = IsResolvedKnown setup call (first_unfit setup (calls_of call)) resolution
+abbrev pub IsResolvedCited : SetupValue → CallText → Values → Option (List ℕ) → ResolutionValue → Type 0
+IsResolvedCited setup call cited (Some name) resolution = resolution ≡ Unresolved refusal.UnknownTheorem name
+IsResolvedCited setup call cited None resolution = IsResolvedKnown setup call cited (first_unfit setup (calls_of call) cited) resolution
 
 -- what is written comes to this, over the values of what it cites
 abbrev pub IsResolution : SetupValue → CallText → Values → ResolutionValue → Type 0
-IsResolution setup call cited resolution = IsResolvedCited setup call (first_unknown cited) resolution
+IsResolution setup call cited resolution = IsResolvedCited setup call cited (first_unknown cited) resolution
 
 -- ---- runs
 
--- what a run comes to: the goals left, or the refusal of the TAC of a name, each with the turns left; or no turn was left to go on with
-pub data RunValue : Type 0 where
-  Leaving : List GoalValue → ℕ → RunValue
-  RefusedBy : List ℕ → ℕ → RunValue
-  OutOfTurns : RunValue
+-- the goals left, or the refusal of the TAC of a name, or no turn was left to go on with
+pub data RunResult : Type 0 where
+  Leaving : List GoalValue → RunResult
+  RefusedBy : List ℕ → RunResult
+  OutOfTurns : RunResult
+
+-- what a run comes to
+pub record RunValue : Type 0 where
+  pub result : RunResult
+  pub used : UsedValue
+
+abbrev pub run_result : List ℕ → AnswerResult → RunResult
+run_result name (Left goals) = Leaving goals
+run_result name Unfit = RefusedBy name
 
 abbrev pub run_answer : List ℕ → AnswerValue → RunValue
-run_answer name (Left goals turns) = Leaving goals turns
-run_answer name (Unfit turns) = RefusedBy name turns
+run_answer name answer = record { result = run_result name answer.result; used = answer.used }
 
 -- a call pays one turn, and then calls
-abbrev pub run_call : List ℕ → TacCode → TacArgsValue → GoalValue → ℕ → RunValue
-run_call name code args goal zero = OutOfTurns
-run_call name code args goal (suc turns) = run_answer name (tac code args goal turns)
+abbrev pub run_call : List ℕ → TacCode → TacArgsValue → GoalValue → UsedValue → ℕ → RunValue
+run_call name code args goal used zero = record { result = OutOfTurns; used = used }
+run_call name code args goal used (suc turns) = run_answer name (tac code args goal (record used { turns_left = turns }))
 
--- the run of an expression on a goal, with so many turns
-abbrev pub run_expr : ExprValue → GoalValue → ℕ → RunValue
-run_expr (Calls name code args) goal turns = run_call name code args goal turns
+-- the run of an expression on a goal, with what was used before
+abbrev pub run_expr : ExprValue → GoalValue → UsedValue → RunValue
+run_expr (Calls name code args) goal used = run_call name code args goal used used.turns_left

@@ -4,10 +4,12 @@ use Rattle.hol_exec.specs.declared.expr.Expr.{Expr}
 use Rattle.hol_exec.specs.declared.expr.Expr.TheVariants as expr
 use Rattle.hol_exec.specs.declared.expr.Resolution.{Resolution}
 use Rattle.hol_exec.specs.declared.expr.Resolution.TheVariants as resolution
+use Rattle.hol_exec.specs.declared.expr.RunEnd.{RunEnd}
+use Rattle.hol_exec.specs.declared.expr.RunEnd.TheVariants as run
 use Rattle.hol_exec.specs.declared.expr.Run.{Run}
-use Rattle.hol_exec.specs.declared.expr.Run.TheVariants as run
-use Rattle.hol_exec.specs.TacView.{args_value}
-use Rattle.hol_exec.specs.Expr.{ExprValue, Calls, ResolutionValue, Resolved, Unresolved, RunValue, Leaving, RefusedBy, OutOfTurns}
+use Rattle.hol_exec.specs.TacView.{args_value, used_value}
+use Rattle.hol_exec.specs.ExprValue.{ExprValue, Calls}
+use Rattle.hol_exec.specs.Expr.{ResolutionValue, Resolved, Unresolved, RunResult, RunValue, Leaving, RefusedBy, OutOfTurns}
 
 abbrev pub expr_value : Expr → ExprValue
 expr_value (expr.Calls name code args) = Calls (string_bytes name) code (args_value args)
@@ -16,7 +18,10 @@ abbrev pub resolution_value : Resolution → ResolutionValue
 resolution_value (resolution.Resolved e basis) = Resolved (expr_value e) basis
 resolution_value (resolution.Unresolved kind arg) = Unresolved kind (string_bytes arg)
 
+abbrev pub run_end : RunEnd → RunResult
+run_end (run.Leaving goals) = Leaving goals.items
+run_end (run.RefusedBy name) = RefusedBy (string_bytes name)
+run_end run.OutOfTurns = OutOfTurns
+
 abbrev pub run_value : Run → RunValue
-run_value (run.Leaving goals turns) = Leaving goals.items turns
-run_value (run.RefusedBy name turns) = RefusedBy (string_bytes name) turns
-run_value run.OutOfTurns = OutOfTurns
+run_value r = record { result = run_end r.result; used = used_value r.used }

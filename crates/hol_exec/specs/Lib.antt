@@ -1,4 +1,5 @@
 pub mod Key
+pub mod ExprValue
 pub mod Entry
 pub mod EntryView
 pub mod Setup

@@ -20,7 +20,9 @@ use Rattle.hol_exec.specs.ReadsValue.{ReadsValue, ClosingValue}
 use Rattle.hol_exec.specs.Lookups.{lookups_of, reading_basis}
 use Rattle.hol_exec.specs.Reading.{ReadingValue, WrongArity, NoTyping, LargeReading, ReadsAs, IsTermReadAs}
 use Rattle.hol_exec.specs.Standing.{first_taken}
-use Rattle.hol_exec.specs.Expr.{ExprValue, ResolutionValue, Resolved, Unresolved, IsResolution, RunValue, Leaving, RefusedBy, OutOfTurns, run_expr}
+use Rattle.hol_exec.specs.ExprValue.{ExprValue}
+use Rattle.hol_exec.specs.Tac.{UsedValue}
+use Rattle.hol_exec.specs.Expr.{ResolutionValue, Resolved, Unresolved, IsResolution, RunResult, Leaving, RefusedBy, OutOfTurns, run_expr}
 use Rattle.hol_exec.specs.OutcomeValue.{OutcomeValue, Opens, Leaves, Makes, Refuses}
 
 -- ---- `g`: in a proof; arity; untypable; too large; not bool; name taken
@@ -48,14 +50,18 @@ IsOpening false name quotation reads outcome =
 
 -- ---- `e`: no proof open; then what resolving refuses; no goal open; then the run
 
-abbrev pub run_outcome : GoalValue → Items → RunValue → OutcomeValue
-run_outcome goal basis (Leaving goals turns) = Leaves goal goals basis
-run_outcome goal basis (RefusedBy name turns) = Refuses refusal.Refused name
+abbrev pub run_outcome : GoalValue → Items → RunResult → OutcomeValue
+run_outcome goal basis (Leaving goals) = Leaves goal goals basis
+run_outcome goal basis (RefusedBy name) = Refuses refusal.Refused name
 run_outcome goal basis OutOfTurns = Refuses refusal.TurnLimit []
+
+-- a command's run starts with all of its turns
+abbrev pub at_start : ℕ → UsedValue
+at_start turns = record { turns_left = turns }
 
 abbrev pub applied : Option GoalValue → ℕ → ExprValue → Items → OutcomeValue
 applied None turns expr basis = Refuses refusal.NoGoalOpen []
-applied (Some goal) turns expr basis = run_outcome goal basis (run_expr expr goal turns)
+applied (Some goal) turns expr basis = run_outcome goal basis (run_expr expr goal (at_start turns)).result
 
 abbrev pub resolved_outcome : Option GoalValue → ℕ → ResolutionValue → OutcomeValue
 resolved_outcome goal turns (Resolved expr basis) = applied goal turns expr basis

@@ -14,6 +14,12 @@ pub data LocalText : Type 0 where
   Apply : CallText → LocalText
   Qed : LocalText
 
+-- a name in the command, by which commands are found: what it makes, or the TAC that is written first
+abbrev pub leading_name : LocalText → List ℕ
+leading_name (Goal name quotation) = name
+leading_name (Apply call) = call.name
+leading_name Qed = []
+
 -- what is answered directly: a text that is refused at a place
 pub data DirectText : Type 0 where
   Unread : ℕ → DirectText

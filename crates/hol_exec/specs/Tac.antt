@@ -11,45 +11,64 @@ use Rattle.hol_exec.specs.declared.tac.TacCode.{TacCode}
 use Rattle.hol_exec.specs.declared.tac.TacCode.TheVariants.{ReflTac}
 use Rattle.hol_exec.specs.Goal.{GoalValue}
 use Rattle.hol_exec.specs.Setup.{SetupValue}
+use Rattle.hol_exec.specs.ExprValue.{TacArgsValue, Nothing}
+use Rattle.hol_exec.specs.ReadsValue.{Values}
 
 -- ---- calls
+
+-- what a name calls: a registered TAC
+pub data CalledValue : Type 0 where
+  Registered : TacCode → CalledValue
 
 -- the kind of arguments that a TAC takes
 abbrev pub arguments_of : TacCode → ArgumentKind
 arguments_of ReflTac = NoArguments
+
+-- the kind of arguments of what is called
+abbrev pub kind_of : CalledValue → ArgumentKind
+kind_of (Registered code) = arguments_of code
 
 -- whether arguments, as they are written, are of a kind
 abbrev pub fits : ArgumentKind → List ArgumentText → Bool
 fits NoArguments [] = true
 fits NoArguments (a ∷ arguments) = false
 
-abbrev pub called_by : Option TacCode → List ArgumentText → Option TacCode
-called_by None arguments = None
-called_by (Some code) arguments = cond (fits (arguments_of code) arguments) (Some code) None
+-- what a name stands for, over the values of what is cited: it is registered, or nothing
+abbrev pub named : Option TacCode → Values → Option CalledValue
+named None cited = None
+named (Some code) cited = Some (Registered code)
 
--- what is called, where the name is registered and its arguments are of the code's kind
-abbrev pub called : SetupValue → CallText → Option TacCode
-called setup call = called_by (lookup (bytes_eq call.name) setup.table) call.arguments
+abbrev pub fitting : Option CalledValue → List ArgumentText → Option CalledValue
+fitting None arguments = None
+fitting (Some c) arguments = cond (fits (kind_of c) arguments) (Some c) None
+
+-- what is called, where the name stands for something and the arguments are of its kind
+abbrev pub called : SetupValue → CallText → Values → Option CalledValue
+called setup call cited = fitting (named (lookup (bytes_eq call.name) setup.table) cited) call.arguments
 
 -- ---- what a TAC leaves
 
--- the arguments of a TAC, resolved
-pub data TacArgsValue : Type 0 where
-  Nothing : TacArgsValue
+-- what a run may still use: turns
+pub record UsedValue : Type 0 where
+  pub turns_left : ℕ
 
--- the goals that are left, or the TAC doesn't fit the goal; and the turns left
-pub data AnswerValue : Type 0 where
-  Left : List GoalValue → ℕ → AnswerValue
-  Unfit : ℕ → AnswerValue
+-- the goals that are left, or the TAC doesn't fit the goal
+pub data AnswerResult : Type 0 where
+  Left : List GoalValue → AnswerResult
+  Unfit : AnswerResult
 
-abbrev pub closes_sides : Option Sides → ℕ → AnswerValue
-closes_sides None turns = Unfit turns
-closes_sides (Some s) turns = cond (alpha_eq s.left s.right) (Left [] turns) (Unfit turns)
+pub record AnswerValue : Type 0 where
+  pub result : AnswerResult
+  pub used : UsedValue
+
+abbrev pub closes_sides : Option Sides → AnswerResult
+closes_sides None = Unfit
+closes_sides (Some s) = cond (alpha_eq s.left s.right) (Left []) Unfit
 
 -- REFL_TAC closes a goal `s = s`, up to bound names
-abbrev pub refl_tac : GoalValue → ℕ → AnswerValue
-refl_tac goal turns = closes_sides (dest_eq goal.conclusion) turns
+abbrev pub refl_tac : GoalValue → UsedValue → AnswerValue
+refl_tac goal used = record { result = closes_sides (dest_eq goal.conclusion); used = used }
 
--- what the TAC answers on a goal, with so many turns
-abbrev pub tac : TacCode → TacArgsValue → GoalValue → ℕ → AnswerValue
-tac ReflTac Nothing goal turns = refl_tac goal turns
+-- what the TAC answers on a goal, with what a run has used before
+abbrev pub tac : TacCode → TacArgsValue → GoalValue → UsedValue → AnswerValue
+tac ReflTac Nothing goal used = refl_tac goal used

@@ -6,6 +6,7 @@ use Rattle.hol_terms.specs.Alpha.{alpha_eq}
 use Rattle.hol_kernel.specs.Items.{Items, no_items}
 use Rattle.hol_kernel.specs.Typing.{HasType}
 use Rattle.hol_formulas.specs.Equation.{bool_type, Sides, dest_eq}
+use Rattle.hol_exec.specs.Goal.{GoalValue}
 use Rattle.hol_exec.specs.Entry.{EachIsEntry}
 use Rattle.hol_exec.specs.StateValue.{StepValue, ProofValue}
 use Rattle.hol_exec.specs.ReadsValue.{ClosingValue}
@@ -29,10 +30,14 @@ IsValid (Leaves goal goals basis) = (goals ≡ []) × (basis ≡ no_items) × Is
 IsValid (Makes entries) = EachIsEntry entries
 IsValid (Refuses kind arg) = Unit {0}
 
--- At an element of the history the statement is well typed over the basis, and is the one open goal or is proved by reflexivity.
+-- theorems of the goals prove the statement: it is the one goal, or none is left and reflexivity proves it
+abbrev pub Proves : Nameless → List GoalValue → Type 0
+Proves statement goals = (goals ≡ record { assumptions = []; conclusion = statement } ∷ []) ⊎ ((goals ≡ []) × IsReflexive statement)
+
+-- At an element of the history the statement is well typed over the basis, and the open goals prove it.
 pub record IsSoundStep (statement : Nameless) (s : StepValue) : Type 0 where
   pub typed : IsStatement s.basis statement
-  pub goals : (s.goals ≡ record { assumptions = []; conclusion = statement } ∷ []) ⊎ ((s.goals ≡ []) × IsReflexive statement)
+  pub goals : Proves statement s.goals
 
 abbrev pub AreSoundSteps : Nameless → List StepValue → Type 0
 AreSoundSteps statement [] = Unit {0}

@@ -28,13 +28,13 @@ pub trait Ended {
 /// The outcome of what is answered directly, from the state and from the theories that stand earlier.
 pub fn direct<T: Ended>(
     alloc: Global,
-    command: DirectCommand,
+    command: &DirectCommand,
     _state: &State,
     _earlier: &[T],
 ) -> Result<Outcome, AllocError>
-    ensures { IfOk result (λ outcome. outcome ≡ direct (direct_text command) _state.now (map T.ended _earlier.now)) }
+    ensures { IfOk result (λ outcome. outcome ≡ direct (direct_text command.now) _state.now (map T.ended _earlier.now)) }
 {
     match command {
-        DirectCommand::Unread(place) => refused_at(alloc, RefusalKind::Syntax, place),
+        DirectCommand::Unread(place) => refused_at(alloc, RefusalKind::Syntax, *place),
     }
 }

@@ -1,7 +1,7 @@
 //! Expressions of TACs: what is written, resolved, and its run.
 ghost use Rattle.std.specs.Prelude.{◌≡◌, IfOk};
 ghost use Rattle.hol_exec.specs.SetupView.{setup_value};
-ghost use Rattle.hol_exec.specs.TacView.{args_value};
+ghost use Rattle.hol_exec.specs.TacView.{args_value, used_value};
 ghost use Rattle.hol_exec.specs.Expr.{IsResolution, run_call, run_expr};
 ghost use Rattle.hol_exec.specs.ExprView.{expr_value, resolution_value, run_value};
 
@@ -9,7 +9,9 @@ use crate::goal::Goal;
 use crate::reads::Reads;
 use crate::refusal::RefusalKind;
 use crate::setup::Setup;
-use crate::tac::{Answer, ArgumentKind, TacArgs, TacCode, arguments_of, called, tac};
+use crate::tac::{
+    ArgumentKind, Callee, TacArgs, TacCode, TacResult, Used, arguments_of, called, tac,
+};
 use hol_kernel::Basis;
 use hol_notation_tactics::TacCall;
 use std::alloc::{AllocError, Global};
@@ -30,15 +32,24 @@ pub(crate) enum Resolution {
     Unresolved(RefusalKind, String),
 }
 
-/// What a run comes to.
+/// How a run ends.
 #[derive(Drop)]
-pub(crate) enum Run {
-    /// The goals left, and the turns left.
-    Leaving(Vec<Goal>, u32),
-    /// The TAC of this name refused; and the turns left.
-    RefusedBy(String, u32),
+pub(crate) enum RunEnd {
+    /// With these goals left.
+    Leaving(Vec<Goal>),
+    /// The TAC of this name refused.
+    RefusedBy(String),
     /// No turn was left to go on with.
     OutOfTurns,
+}
+
+/// What a run comes to.
+#[derive(Drop)]
+pub(crate) struct Run {
+    /// How it ends.
+    pub(crate) result: RunEnd,
+    /// What may still be used.
+    pub(crate) used: Used,
 }
 
 /// Resolves what is written: unknown theorem; unknown TAC or wrong arguments.
@@ -56,8 +67,8 @@ pub(crate) fn resolve(
         return Ok(Resolution::Unresolved(RefusalKind::UnknownTheorem, unknown));
     }
     let name = String::from_str(alloc, call.name.as_str())?;
-    match called(setup, call) {
-        Some(code) => {
+    match called(setup, call, reads) {
+        Some(Callee::Registered(code)) => {
             let args = match arguments_of(code) {
                 ArgumentKind::NoArguments => TacArgs::Nothing,
             };
@@ -68,17 +79,17 @@ pub(crate) fn resolve(
     }
 }
 
-/// Runs the expression on the goal, with so many turns.
+/// Runs the expression on the goal, with what may still be used.
 pub(crate) fn run_expr(
     alloc: Global,
     expr: &Expr,
     goal: &Goal,
-    turns: u32,
+    used: Used,
 ) -> Result<Run, AllocError>
-    ensures { IfOk result (λ run. run_value run ≡ run_expr (expr_value expr.now) goal.now turns) }
+    ensures { IfOk result (λ run. run_value run ≡ run_expr (expr_value expr.now) goal.now (used_value used)) }
 {
     match expr {
-        Expr::Calls(name, code, args) => run_call(alloc, name.as_str(), *code, *args, goal, turns),
+        Expr::Calls(name, code, args) => run_call(alloc, name.as_str(), *code, *args, goal, used),
     }
 }
 
@@ -89,15 +100,24 @@ fn run_call(
     code: TacCode,
     args: TacArgs,
     goal: &Goal,
-    turns: u32,
+    used: Used,
 ) -> Result<Run, AllocError>
-    ensures { IfOk result (λ run. run_value run ≡ run_call name.now code (args_value args) goal.now turns) }
+    ensures { IfOk result (λ run. run_value run ≡ run_call name.now code (args_value args) goal.now (used_value used) used.turns_left) }
 {
-    if turns == 0 {
-        return Ok(Run::OutOfTurns);
+    if used.turns_left == 0 {
+        return Ok(Run {
+            result: RunEnd::OutOfTurns,
+            used,
+        });
     }
-    match tac(alloc, code, args, goal, turns - 1) {
-        Answer::Left(goals, turns) => Ok(Run::Leaving(goals, turns)),
-        Answer::Unfit(turns) => Ok(Run::RefusedBy(String::from_str(alloc, name)?, turns)),
-    }
+    let left = Used {
+        turns_left: used.turns_left - 1,
+    };
+    let answer = tac(alloc, code, args, goal, left);
+    let used = answer.used;
+    let result = match answer.result {
+        TacResult::Left(goals) => RunEnd::Leaving(goals),
+        TacResult::Unfit => RunEnd::RefusedBy(String::from_str(alloc, name)?),
+    };
+    Ok(Run { result, used })
 }

@@ -11,6 +11,7 @@ mod goal;
 mod key;
 mod keys;
 mod laws;
+mod lookups;
 mod next;
 mod outcome;
 mod parsed;

@@ -1,6 +1,6 @@
 //! What a text is to the engine.
-ghost use Rattle.std.specs.Prelude.{◌≡◌, IfOk};
-ghost use Rattle.hol_exec.specs.Parsed.{IsParsed, parsed, parsed_tactic, idle, is_bracketed};
+ghost use Rattle.std.specs.Prelude.{◌≡◌, ◌↔◌, IfOk, IsTrue};
+ghost use Rattle.hol_exec.specs.Parsed.{IsParsed, leading_name, parsed, parsed_tactic, idle, is_bracketed};
 ghost use Rattle.hol_exec.specs.ParsedView.{local_text, direct_text, parsed_value};
 
 use hol_notation_commands::{Command, CommandNode, read_command};
@@ -23,6 +23,58 @@ pub enum LocalCommand {
     Apply(TacCall),
     /// `qed`: ends the proof.
     Qed,
+}
+
+impl LocalCommand {
+    /// The same command, sharing the nodes of what is written in it.
+    pub fn copy(&self, alloc: Global) -> Result<LocalCommand, AllocError>
+        ensures { IfOk result (λ command. local_text command ≡ local_text self.now) }
+    {
+        match self {
+            LocalCommand::Goal { name, quotation } => Ok(LocalCommand::Goal {
+                name: String::from_str(alloc, name.as_str())?,
+                quotation: quotation.copy()?,
+            }),
+            LocalCommand::Apply(call) => Ok(LocalCommand::Apply(call.copy(alloc)?)),
+            LocalCommand::Qed => Ok(LocalCommand::Qed),
+        }
+    }
+
+    /// Whether both are the same, the places of their quotations included.
+    pub fn same(&self, other: &LocalCommand) -> bool
+        ensures { IsTrue result ↔ (local_text self.now ≡ local_text other.now) }
+    {
+        match self {
+            LocalCommand::Goal { name, quotation } => {
+                let LocalCommand::Goal {
+                    name: other_name,
+                    quotation: other_quotation,
+                } = other
+                else {
+                    return false;
+                };
+                name.as_str() == other_name.as_str() && quotation.same(other_quotation)
+            }
+            LocalCommand::Apply(call) => {
+                let LocalCommand::Apply(other_call) = other else {
+                    return false;
+                };
+                call.same(other_call)
+            }
+            LocalCommand::Qed => matches!(other, LocalCommand::Qed),
+        }
+    }
+
+    /// The name to hash: those of equal commands are equal.
+    pub fn leading_name(&self) -> &str
+        ensures { result.now ≡ leading_name (local_text self.now) }
+    {
+        match self {
+            LocalCommand::Goal { name, quotation: _ } => name.as_str(),
+            LocalCommand::Apply(call) => call.name.as_str(),
+            LocalCommand::Qed => "",
+        }
+    }
 }
 
 /// What is answered directly.

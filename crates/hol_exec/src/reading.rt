@@ -7,9 +7,10 @@ ghost use Rattle.hol_exec.specs.Lookups.{lookups_of};
 ghost use Rattle.hol_exec.specs.Reading.{IsTermReadAs};
 ghost use Rattle.hol_exec.specs.ReadingView.{reading_value};
 
+use crate::lookups::lookups_of;
+use crate::reads::Reads;
 use hol_formulas::is_bool;
 use hol_infer::{ReadingError, elaborate};
-use hol_kernel::{prelude_constants, prelude_types};
 use hol_notation_terms::PreTerm;
 use hol_terms::Term;
 use std::alloc::{AllocError, Global};
@@ -27,13 +28,16 @@ pub(crate) enum Reading {
     ReadsAs(Term),
 }
 
-/// What the term reads as, the prelude's constants and types standing.
-pub(crate) fn read_term(alloc: Global, written: &PreTerm) -> Result<Reading, AllocError>
-    ensures { IfOk result (λ reading. IsTermReadAs (lookups_of []) written.now (reading_value reading)) }
+/// What the term reads as, over the prelude and what the command cites.
+pub(crate) fn read_term(
+    alloc: Global,
+    written: &PreTerm,
+    reads: &Reads,
+) -> Result<Reading, AllocError>
+    ensures { IfOk result (λ reading. IsTermReadAs (lookups_of reads.now.cited) written.now (reading_value reading)) }
 {
-    let constants = prelude_constants(alloc)?;
-    let arities = prelude_types(alloc)?;
-    match elaborate(alloc, written, &constants, &arities) {
+    let lookups = lookups_of(alloc, reads.cited())?;
+    match elaborate(alloc, written, &lookups.constants, &lookups.types) {
         Ok(term) => Ok(Reading::ReadsAs(term)),
         Err(ReadingError::Arity) => Ok(Reading::WrongArity),
         Err(ReadingError::Untypable) => Ok(Reading::NoTyping),

@@ -95,6 +95,13 @@ impl Reads {
         })
     }
 
+    /// The values of the keys that the command cites.
+    pub(crate) fn cited(&self) -> &[(Key, Option<Entry>)]
+        ensures { result.now ≡ self.now.cited }
+    {
+        self.cited.as_slice()
+    }
+
     /// The name of the first theorem that is cited and unknown.
     pub(crate) fn first_unknown(&self) -> Option<&str>
         ensures { option_copied result ≡ first_unknown self.now.cited }

@@ -14,7 +14,7 @@ ghost use Rattle.hol_exec.specs.Valid.{IsStatement};
 
 use crate::closing::Closing;
 use crate::entry::Entry;
-use crate::expr::{Expr, Resolution, Run, resolve, run_expr};
+use crate::expr::{Expr, Resolution, Run, RunEnd, resolve, run_expr};
 use crate::key::{Key, Kind};
 use crate::outcome::Outcome;
 use crate::parsed::LocalCommand;
@@ -22,6 +22,7 @@ use crate::reading::{Reading, is_statement, read_term};
 use crate::reads::Reads;
 use crate::refusal::RefusalKind;
 use crate::setup::{Setup, turns_of};
+use crate::tac::Used;
 use hol_kernel::Basis;
 use hol_notation_tactics::TacCall;
 use hol_notation_terms::Quotation;
@@ -76,7 +77,7 @@ fn open_goal(
     if reads.in_proof() {
         return Ok(refused(alloc, RefusalKind::InProof));
     }
-    match read_term(alloc, &quotation.term)? {
+    match read_term(alloc, &quotation.term, reads)? {
         Reading::WrongArity => refused_at(alloc, RefusalKind::Arity, quotation.place),
         Reading::NoTyping => refused_at(alloc, RefusalKind::Untypable, quotation.place),
         Reading::LargeReading => Ok(refused(alloc, RefusalKind::TooLarge)),
@@ -152,10 +153,11 @@ fn applied(
     let Some(goal) = reads.goal() else {
         return Ok(refused(alloc, RefusalKind::NoGoalOpen));
     };
-    match run_expr(alloc, expr, goal, turns)? {
-        Run::Leaving(goals, _) => Ok(Outcome::leaves(goal.copy(alloc)?, goals, basis)),
-        Run::RefusedBy(name, _) => Ok(Outcome::refuses(RefusalKind::Refused, name)),
-        Run::OutOfTurns => Ok(refused(alloc, RefusalKind::TurnLimit)),
+    let Run { result, used: _ } = run_expr(alloc, expr, goal, Used { turns_left: turns })?;
+    match result {
+        RunEnd::Leaving(goals) => Ok(Outcome::leaves(goal.copy(alloc)?, goals, basis)),
+        RunEnd::RefusedBy(name) => Ok(Outcome::refuses(RefusalKind::Refused, name)),
+        RunEnd::OutOfTurns => Ok(refused(alloc, RefusalKind::TurnLimit)),
     }
 }
 

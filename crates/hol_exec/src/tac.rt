@@ -1,10 +1,13 @@
 //! TACs by code: what arguments each takes, and what it leaves of a goal.
-ghost use Rattle.std.specs.Prelude.{◌≡◌, map};
+ghost use Rattle.std.specs.Prelude.{◌≡◌, bytes_eq};
+ghost use Rattle.std.specs.Map.{lookup};
+ghost use Rattle.hol_formulas.specs.Equation.{dest_eq};
 ghost use Rattle.hol_exec.specs.SetupView.{setup_value};
-ghost use Rattle.hol_exec.specs.Tac.{arguments_of, fits, called, tac, refl_tac};
-ghost use Rattle.hol_exec.specs.TacView.{args_value, answer_value};
+ghost use Rattle.hol_exec.specs.Tac.{arguments_of, kind_of, fits, named, called, tac, refl_tac, closes_sides};
+ghost use Rattle.hol_exec.specs.TacView.{args_value, called_value, called_option, used_value, tac_result, answer_value};
 
 use crate::goal::Goal;
+use crate::reads::Reads;
 use crate::setup::{Setup, code_of};
 use hol_formulas::dest_eq;
 use hol_notation_tactics::{TacArg, TacCall};
@@ -31,13 +34,36 @@ pub(crate) enum TacArgs {
     Nothing,
 }
 
-/// What a TAC answers on a goal, with the turns left.
+/// What a name calls.
+#[derive(Clone, Copy)]
+pub(crate) enum Callee {
+    /// A registered TAC.
+    Registered(TacCode),
+}
+
+/// What a run may still use.
+#[derive(Clone, Copy)]
+pub(crate) struct Used {
+    /// The turns left.
+    pub(crate) turns_left: u32,
+}
+
+/// What a TAC makes of a goal.
 #[derive(Drop)]
-pub(crate) enum Answer {
+pub(crate) enum TacResult {
     /// The goals that are left.
-    Left(Vec<Goal>, u32),
+    Left(Vec<Goal>),
     /// It doesn't fit the goal.
-    Unfit(u32),
+    Unfit,
+}
+
+/// What a TAC answers on a goal.
+#[derive(Drop)]
+pub(crate) struct Answer {
+    /// What it makes of the goal.
+    pub(crate) result: TacResult,
+    /// What the run may still use.
+    pub(crate) used: Used,
 }
 
 /// The kind of arguments that the TAC takes.
@@ -46,6 +72,15 @@ pub(crate) fn arguments_of(code: TacCode) -> ArgumentKind
 {
     match code {
         TacCode::ReflTac => ArgumentKind::NoArguments,
+    }
+}
+
+// The kind of arguments of what is called.
+fn kind_of(called: Callee) -> ArgumentKind
+    ensures { result ≡ kind_of (called_value called) }
+{
+    match called {
+        Callee::Registered(code) => arguments_of(code),
     }
 }
 
@@ -58,38 +93,55 @@ fn fits(kind: ArgumentKind, arguments: &[TacArg]) -> bool
     }
 }
 
-/// What is called, where the name is registered and its arguments are of the code's kind.
-pub(crate) fn called(setup: &Setup, call: &TacCall) -> Option<TacCode>
-    ensures { result ≡ called (setup_value setup.now) call.now }
+// What the name of the call stands for.
+fn named(setup: &Setup, call: &TacCall, _reads: &Reads) -> Option<Callee>
+    ensures { called_option result ≡ named (lookup (bytes_eq call.now.name) (setup_value setup.now).table) _reads.now.cited }
 {
     let code = code_of(setup, call.name.as_str())?;
-    if fits(arguments_of(code), &call.arguments) {
-        Some(code)
+    Some(Callee::Registered(code))
+}
+
+/// What is called, where the name stands for something and the arguments are of its kind.
+pub(crate) fn called(setup: &Setup, call: &TacCall, reads: &Reads) -> Option<Callee>
+    ensures { called_option result ≡ called (setup_value setup.now) call.now reads.now.cited }
+{
+    let called = named(setup, call, reads)?;
+    if fits(kind_of(called), &call.arguments) {
+        Some(called)
     } else {
         None
     }
 }
 
-/// What the TAC answers on the goal, with so many turns.
-pub(crate) fn tac(alloc: Global, code: TacCode, args: TacArgs, goal: &Goal, turns: u32) -> Answer
-    ensures { answer_value result ≡ tac code (args_value args) goal.now turns }
+/// What the TAC answers on the goal, with what the run may still use.
+pub(crate) fn tac(alloc: Global, code: TacCode, args: TacArgs, goal: &Goal, used: Used) -> Answer
+    ensures { answer_value result ≡ tac code (args_value args) goal.now (used_value used) }
 {
     match (code, args) {
-        (TacCode::ReflTac, TacArgs::Nothing) => refl_tac(alloc, goal, turns),
+        (TacCode::ReflTac, TacArgs::Nothing) => refl_tac(alloc, goal, used),
     }
 }
 
-fn refl_tac(alloc: Global, goal: &Goal, turns: u32) -> Answer
-    ensures { answer_value result ≡ refl_tac goal.now turns }
+fn refl_tac(alloc: Global, goal: &Goal, used: Used) -> Answer
+    ensures { answer_value result ≡ refl_tac goal.now (used_value used) }
+{
+    Answer {
+        result: closed_by_reflexivity(alloc, goal),
+        used,
+    }
+}
+
+fn closed_by_reflexivity(alloc: Global, goal: &Goal) -> TacResult
+    ensures { tac_result result ≡ closes_sides (dest_eq goal.now.conclusion) }
 {
     match dest_eq(goal.conclusion()) {
         Some(sides) => {
             if sides.left.alpha_equivalent(sides.right) {
-                Answer::Left(Vec::new(alloc), turns)
+                TacResult::Left(Vec::new(alloc))
             } else {
-                Answer::Unfit(turns)
+                TacResult::Unfit
             }
         }
-        None => Answer::Unfit(turns),
+        None => TacResult::Unfit,
     }
 }

@@ -5,7 +5,7 @@ use Rattle.hol_exec.proofs.Runs.{opens_at, if_ok}
 use Rattle.hol_exec.proofs.run.open_goal.Goals as goal
 
 pub open_term-requires : goal.open_term-requires
-open_term-requires c = reading_known c.quotation.inside.term _ (rw c.in-ReadsAs.is at c.in_ok-read_term.ensures)
+open_term-requires c = reading_known c.args.reads.now.cited c.quotation.inside.term _ (rw c.in-ReadsAs.is at c.in_ok-read_term.ensures)
 
 pub returns-in-WrongArity : goal.returns-in-WrongArity
 returns-in-WrongArity c =
