@@ -1,7 +1,7 @@
 -- What the outcomes that a state may get say of it: a step runs on the first goal, and so closes the goal only where reflexivity proves the
 -- statement.
-use Rattle.std.proofs.Common.{◌≡◌, ℕ, List, [], ◌∷◌, refl, ap, ◌∙◌, Bool, true, false, cond, decimal, zero, suc, inl, inr, nat_eq, length, arith}
-use Rattle.std.specs.Prelude.{◌⊎◌, Option, Some, None, IfSome}
+use Rattle.std.proofs.Common.{◌≡◌, ℕ, List, [], refl, ap, ◌∙◌, Bool, true, false, cond, decimal, zero, suc, inl, inr, nat_eq, length, arith}
+use Rattle.std.specs.Prelude.{Option, Some, None, IfSome}
 use Rattle.hol_terms.specs.Nameless.{Nameless, nameless_type}
 use Rattle.hol_notation_terms.specs.Text.{QuotationText}
 use Rattle.hol_notation_tactics.specs.Text.{TacText}

@@ -20,7 +20,7 @@ use Rattle.hol_exec.specs.declared.tac.ArgumentKind.TheVariants.{NoArguments}
 use Rattle.hol_exec.specs.declared.tac.TacCode.{TacCode}
 use Rattle.hol_exec.specs.Standing.{first_unknown}
 use Rattle.hol_exec.specs.ExprValue.{ExprValue, Calls, TacArgsValue, Nothing}
-use Rattle.hol_exec.specs.Tac.{arguments_of, CalledValue, Registered}
+use Rattle.hol_exec.specs.Tac.{arguments_of, Registered}
 use Rattle.hol_exec.specs.Expr.{AreArguments, IsExpr, ResolutionValue, Resolved, Unresolved, calls_of, first_unfit, IsResolvedCall, IsResolvedFitting, IsResolvedKnown, IsResolvedCited}
 use Rattle.hol_exec.specs.OutcomeValue.{OutcomeValue}
 use Rattle.hol_exec.specs.Local.{opens_read, IsOpening, resolved_outcome, IsApplying, IsLocalOutcome}

@@ -15,7 +15,7 @@ use Rattle.hol_exec.specs.Setup.{SetupValue}
 use Rattle.hol_exec.specs.ExprValue.{TacArgsValue, Nothing, ExprValue, Calls}
 use Rattle.hol_exec.specs.ReadsValue.{Values}
 use Rattle.hol_exec.specs.Standing.{first_unknown}
-use Rattle.hol_exec.specs.Tac.{arguments_of, CalledValue, Registered, called, UsedValue, AnswerResult, AnswerValue, Left, Unfit, tac}
+use Rattle.hol_exec.specs.Tac.{arguments_of, Registered, called, UsedValue, AnswerResult, AnswerValue, Left, Unfit, tac}
 
 -- ---- resolved expressions
 
