@@ -4,7 +4,7 @@ use Rattle.std.proofs.Common.{◌≡◌, ℕ, List, [], refl, ap, ◌∙◌, Boo
 use Rattle.std.specs.Prelude.{Option, Some, None, IfSome}
 use Rattle.hol_terms.specs.Nameless.{Nameless, nameless_type}
 use Rattle.hol_notation_terms.specs.Text.{QuotationText}
-use Rattle.hol_notation_tactics.specs.Text.{CallText}
+use Rattle.hol_notation_tactics.specs.Text.{TacText}
 use Rattle.hol_kernel.specs.Items.{Items, no_items}
 use Rattle.hol_formulas.specs.Equation.{bool_type, Sides, dest_eq}
 use Rattle.hol_kernel.specs.Typing.{is_type_at}
@@ -70,13 +70,13 @@ module _ (goal : GoalValue) (goals : List GoalValue) (basis : Items) where
   resolved_first o turns (Resolved x b) e = applied_first o turns x b e
   resolved_first o turns (Unresolved kind arg) e = absurd (cc)
 
-  applying_first : (in_proof : Bool) (setup : SetupValue) (call : CallText) (reads : ReadsValue) → IsApplying in_proof setup call reads (Leaves goal goals basis) → reads.goal ≡ Some goal
-  applying_first false setup call reads h = absurd (cc)
-  applying_first true setup call reads h = resolved_first reads.goal setup.turns h.0 h.2
+  applying_first : (in_proof : Bool) (setup : SetupValue) (tactic : TacText) (reads : ReadsValue) → IsApplying in_proof setup tactic reads (Leaves goal goals basis) → reads.goal ≡ Some goal
+  applying_first false setup tactic reads h = absurd (cc)
+  applying_first true setup tactic reads h = resolved_first reads.goal setup.turns h.0 h.2
 
   local_first : (setup : SetupValue) (command : LocalText) (s : StateValue) → IsLocalOutcome setup command (reads_of command s) (Leaves goal goals basis) → first_goal s.proof ≡ Some goal
   local_first setup (Goal name q) s h = absurd (opening_none _ name q _ h)
-  local_first setup (Apply call) s h = applying_first _ setup call (reads_of (Apply call) s) h
+  local_first setup (Apply tactic) s h = applying_first _ setup tactic (reads_of (Apply tactic) s) h
   local_first setup Qed s h = absurd (finish_none (reads_of Qed s).closing h)
 
   outcome_first : (setup : SetupValue) (earlier : List EndedTheory) (s : StateValue) (value : ParsedValue) → IsOutcome setup earlier s value (Leaves goal goals basis) → first_goal s.proof ≡ Some goal

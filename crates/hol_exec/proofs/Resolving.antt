@@ -1,48 +1,69 @@
--- What is written, resolved, from the steps of resolving; and what a run leaves.
-use Rattle.std.specs.Prelude.{◌≡◌, ℕ, List, Option, Some, None, refl}
+-- What is written, resolved, from the steps of resolving.
+use Rattle.std.specs.Prelude.{◌≡◌, ℕ, List, Option, Some, None, IsSome, cond, is_some, refl}
 use Rattle.hol_kernel.specs.Items.{Items, no_items}
-use Rattle.hol_notation_tactics.specs.Text.{ArgumentText, CallText}
+use Rattle.hol_notation_tactics.specs.Text.{ArgumentText, CallText, TacText, Call, Then, ThenL, OrElse, Repeat, Try, Changed, Every, First, Replicate, DischThen, PopAssum, FirstAssum, SubgoalThen}
 use Rattle.hol_exec.specs.declared.refusal.RefusalKind.TheVariants as refusal
 use Rattle.hol_exec.specs.declared.tac.ArgumentKind.{ArgumentKind}
 use Rattle.hol_exec.specs.declared.tac.ArgumentKind.TheVariants.{NoArguments}
-use Rattle.hol_exec.specs.declared.tac.TacCode.{TacCode}
+use Rattle.hol_exec.specs.declared.tac.CallRole.TheVariants.{Whole}
 use Rattle.hol_exec.specs.Setup.{SetupValue}
 use Rattle.hol_exec.specs.ReadsValue.{Values}
 use Rattle.hol_exec.specs.Standing.{first_unknown}
 use Rattle.hol_exec.specs.ExprValue.{ExprValue, Calls, TacArgsValue, Nothing}
-use Rattle.hol_exec.specs.Tac.{arguments_of, Registered, called}
-use Rattle.hol_exec.specs.Expr.{AreArguments, IsExpr, ResolutionValue, Resolved, Unresolved, calls_of, first_unfit, IsResolvedKnown, IsResolvedCited, IsResolution}
+use Rattle.hol_exec.specs.Tac.{arguments_of, CalledValue, called}
+use Rattle.hol_exec.specs.Expr.{AreArguments, IsExpr, ResolutionValue, Resolved, Unresolved, calls_of, first_unfit, IsResolvedFitting, IsResolvedKnown, IsResolvedCited, IsResolution}
 
-module _ (setup : SetupValue) (call : CallText) (cited : Values) where
-  pub unknown_theorem : (name : List ℕ) (r : ResolutionValue) → first_unknown cited ≡ Some name → r ≡ Unresolved refusal.UnknownTheorem name → IsResolution setup call cited r
-  unknown_theorem name r e f = rw e f
+module _ (setup : SetupValue) (cited : Values) where
+  -- a call that is a whole expression
+  pub call_fits : (tactic : TacText) (call : CallText) → first_unfit setup (calls_of tactic) cited ≡ None → tactic ≡ Call call → IsSome (called setup Whole call cited)
+  call_fits tactic call e f = by (called setup Whole call cited) (rw f at e)
+    where
+      by : (o : Option CalledValue) → cond (is_some o) None (Some call.name) ≡ None → IsSome o
+      by None g = absurd (cc)
+      by (Some c) g = refl
 
-  pub unknown_tac : (r : ResolutionValue) → first_unknown cited ≡ None → called setup call cited ≡ None → r ≡ Unresolved refusal.UnknownTac call.name → IsResolution setup call cited r
-  unknown_tac r e f g = rw (e, f) g
+  module _ (tactic : TacText) where
+    pub unknown_theorem : (name : List ℕ) (r : ResolutionValue) → first_unknown cited ≡ Some name → r ≡ Unresolved refusal.UnknownTheorem name → IsResolution setup tactic cited r
+    unknown_theorem name r e f = rw e f
 
-  no_arguments : (kind : ArgumentKind) (arguments : List ArgumentText) → AreArguments kind arguments cited Nothing no_items
-  no_arguments NoArguments arguments = refl
+    pub unknown_tac : (name : List ℕ) (r : ResolutionValue) → first_unknown cited ≡ None → first_unfit setup (calls_of tactic) cited ≡ Some name → r ≡ Unresolved refusal.UnknownTac name → IsResolution setup tactic cited r
+    unknown_tac name r e f g = rw (e, f) g
 
-  pub resolves : (name : List ℕ) (code : TacCode) (basis : Items) (r : ResolutionValue) → first_unknown cited ≡ None → called setup call cited ≡ Some (Registered code) → name ≡ call.name → basis ≡ no_items →
-      r ≡ Resolved (Calls name code Nothing) basis → IsResolution setup call cited r
-  resolves name code basis r e f n b g =
-      rw g (rw (e, f, b) (n, f, no_arguments (arguments_of code) call.arguments))
+    pub fitting : (r : ResolutionValue) → first_unknown cited ≡ None → first_unfit setup (calls_of tactic) cited ≡ None → IsResolvedFitting setup tactic cited r → IsResolution setup tactic cited r
+    fitting r e f h = rw (e, f) h
 
   -- ---- nothing that is resolved rests on items
 
   arguments_basis : (kind : ArgumentKind) (arguments : List ArgumentText) (args : TacArgsValue) (basis : Items) → AreArguments kind arguments cited args basis → basis ≡ no_items
   arguments_basis NoArguments arguments Nothing basis h = h
 
-  expr_basis : (e : ExprValue) (basis : Items) → IsExpr setup call cited e basis → basis ≡ no_items
-  expr_basis (Calls name code args) basis h = arguments_basis (arguments_of code) call.arguments args basis h.2
+  expr_basis : (call : CallText) (e : ExprValue) (basis : Items) → IsExpr setup call cited e basis → basis ≡ no_items
+  expr_basis call (Calls name code args) basis h = arguments_basis (arguments_of code) call.arguments args basis h.2
 
-  known_basis : (unfit : Option (List ℕ)) (e : ExprValue) (basis : Items) → IsResolvedKnown setup call cited unfit (Resolved e basis) → basis ≡ no_items
-  known_basis (Some name) e basis h = absurd (cc)
-  known_basis None e basis h = expr_basis e basis h
+  fitting_basis : (tactic : TacText) (e : ExprValue) (basis : Items) → IsResolvedFitting setup tactic cited (Resolved e basis) → basis ≡ no_items
+  fitting_basis (Call call) e basis h = expr_basis call e basis h
+  fitting_basis (Then t u) e basis h = absurd (cc)
+  fitting_basis (ThenL t us) e basis h = absurd (cc)
+  fitting_basis (OrElse t u) e basis h = absurd (cc)
+  fitting_basis (Repeat t) e basis h = absurd (cc)
+  fitting_basis (Try t) e basis h = absurd (cc)
+  fitting_basis (Changed t) e basis h = absurd (cc)
+  fitting_basis (Every ts) e basis h = absurd (cc)
+  fitting_basis (First ts) e basis h = absurd (cc)
+  fitting_basis (Replicate n t) e basis h = absurd (cc)
+  fitting_basis (DischThen call) e basis h = absurd (cc)
+  fitting_basis (PopAssum call) e basis h = absurd (cc)
+  fitting_basis (FirstAssum call) e basis h = absurd (cc)
+  fitting_basis (SubgoalThen p call) e basis h = absurd (cc)
 
-  cited_basis : (unknown : Option (List ℕ)) (e : ExprValue) (basis : Items) → IsResolvedCited setup call cited unknown (Resolved e basis) → basis ≡ no_items
-  cited_basis (Some name) e basis h = absurd (cc)
-  cited_basis None e basis h = known_basis (first_unfit setup (calls_of call) cited) e basis h
+  module _ (tactic : TacText) where
+    known_basis : (unfit : Option (List ℕ)) (e : ExprValue) (basis : Items) → IsResolvedKnown setup tactic cited unfit (Resolved e basis) → basis ≡ no_items
+    known_basis (Some name) e basis h = absurd (cc)
+    known_basis None e basis h = fitting_basis tactic e basis h
 
-  pub resolved_basis : (e : ExprValue) (basis : Items) → IsResolution setup call cited (Resolved e basis) → basis ≡ no_items
-  resolved_basis e basis h = cited_basis (first_unknown cited) e basis h
+    cited_basis : (unknown : Option (List ℕ)) (e : ExprValue) (basis : Items) → IsResolvedCited setup tactic cited unknown (Resolved e basis) → basis ≡ no_items
+    cited_basis (Some name) e basis h = absurd (cc)
+    cited_basis None e basis h = known_basis (first_unfit setup (calls_of tactic) cited) e basis h
+
+    pub resolved_basis : (e : ExprValue) (basis : Items) → IsResolution setup tactic cited (Resolved e basis) → basis ≡ no_items
+    resolved_basis e basis h = cited_basis (first_unknown cited) e basis h

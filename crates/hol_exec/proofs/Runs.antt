@@ -1,7 +1,7 @@
 -- Outcomes, from what the steps of a command found.
 use Rattle.std.specs.Prelude.{◌≡◌, ℕ, Bool, true, false, List, Result, Ok, Err, IfOk}
 use Rattle.hol_notation_terms.specs.Text.{QuotationText}
-use Rattle.hol_notation_tactics.specs.Text.{CallText}
+use Rattle.hol_notation_tactics.specs.Text.{TacText}
 use Rattle.hol_exec.specs.Setup.{SetupValue}
 use Rattle.hol_exec.specs.Lookups.{lookups_of}
 use Rattle.hol_exec.specs.Reading.{ReadingValue, IsTermReadAs}
@@ -15,9 +15,9 @@ pub opens_by : (in_proof : Bool) (name : List ℕ) (q : QuotationText) (reads : 
 opens_by in_proof name q reads reading outcome e h f =
     rw e (reading, h, f)
 
-pub applies_by : (in_proof : Bool) (setup : SetupValue) (call : CallText) (reads : ReadsValue) (resolution : ResolutionValue) (outcome : OutcomeValue) →
-    in_proof ≡ true → IsResolution setup call reads.cited resolution → outcome ≡ resolved_outcome reads.goal setup.turns resolution → IsApplying in_proof setup call reads outcome
-applies_by in_proof setup call reads resolution outcome e h f = rw e (resolution, h, f)
+pub applies_by : (in_proof : Bool) (setup : SetupValue) (tactic : TacText) (reads : ReadsValue) (resolution : ResolutionValue) (outcome : OutcomeValue) →
+    in_proof ≡ true → IsResolution setup tactic reads.cited resolution → outcome ≡ resolved_outcome reads.goal setup.turns resolution → IsApplying in_proof setup tactic reads outcome
+applies_by in_proof setup tactic reads resolution outcome e h f = rw e (resolution, h, f)
 
 -- the same where what is read is of a case
 pub opens_at : (in_proof : Bool) (name : List ℕ) (q : QuotationText) (reads : ReadsValue) (read reading : ReadingValue) (outcome : OutcomeValue) →

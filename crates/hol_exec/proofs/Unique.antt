@@ -2,7 +2,7 @@
 use Rattle.std.specs.Prelude.{◌≡◌, ℕ, List, [], Bool, true, false, Option, Some, None, refl}
 use Rattle.std.proofs.Common.{ap, sym, ◌∙◌, subst, inl, inr}
 use Rattle.hol_notation_terms.specs.Text.{TermText, QuotationText}
-use Rattle.hol_notation_tactics.specs.Text.{ArgumentText, CallText}
+use Rattle.hol_notation_tactics.specs.Text.{ArgumentText, CallText, TacText, Call, Then, ThenL, OrElse, Repeat, Try, Changed, Every, First, Replicate, DischThen, PopAssum, FirstAssum, SubgoalThen}
 use Rattle.hol_notation_commands.specs.Reading.{Reads, Breaks}
 use Rattle.hol_notation_commands.proofs.OneReading.{one-reading as one_command}
 use Rattle.hol_kernel.specs.Items.{Items}
@@ -21,7 +21,7 @@ use Rattle.hol_exec.specs.declared.tac.TacCode.{TacCode}
 use Rattle.hol_exec.specs.Standing.{first_unknown}
 use Rattle.hol_exec.specs.ExprValue.{ExprValue, Calls, TacArgsValue, Nothing}
 use Rattle.hol_exec.specs.Tac.{arguments_of, Registered}
-use Rattle.hol_exec.specs.Expr.{AreArguments, IsExpr, ResolutionValue, Resolved, Unresolved, calls_of, first_unfit, IsResolvedFitting, IsResolvedKnown, IsResolvedCited}
+use Rattle.hol_exec.specs.Expr.{AreArguments, IsExpr, ResolutionValue, Resolved, Unresolved, calls_of, first_unfit, IsResolvedCall, IsResolvedFitting, IsResolvedKnown, IsResolvedCited}
 use Rattle.hol_exec.specs.OutcomeValue.{OutcomeValue}
 use Rattle.hol_exec.specs.Local.{opens_read, IsOpening, resolved_outcome, IsApplying, IsLocalOutcome}
 use Rattle.hol_exec.specs.At.{IsOutcome}
@@ -68,30 +68,46 @@ one_reading over t a b p q = one_read (term_has_arities over.types t) (raw_of ov
 
 -- ---- resolutions
 
-module _ (setup : SetupValue) (call : CallText) (cited : Values) where
+module _ (setup : SetupValue) (cited : Values) where
   one_arguments : (kind : ArgumentKind) (arguments : List ArgumentText) (a b : TacArgsValue) (x y : Items) → AreArguments kind arguments cited a x → AreArguments kind arguments cited b y → (a ≡ b) × (x ≡ y)
   one_arguments NoArguments arguments Nothing Nothing x y p q = (refl, p ∙ sym q)
 
-  one_expr : (a b : ExprValue) (x y : Items) → IsExpr setup call cited a x → IsExpr setup call cited b y → (a ≡ b) × (x ≡ y)
-  one_expr (Calls m c s) (Calls n d t) x y p q =
+  one_expr : (call : CallText) (a b : ExprValue) (x y : Items) → IsExpr setup call cited a x → IsExpr setup call cited b y → (a ≡ b) × (x ≡ y)
+  one_expr call (Calls m c s) (Calls n d t) x y p q =
       let names : m ≡ n = p.0 ∙ sym q.0 in
       let some : Some (Registered c) ≡ Some (Registered d) = sym p.1 ∙ q.1 in
       let codes : c ≡ d = cc in
       let same = one_arguments (arguments_of c) call.arguments s t x y p.2 (subst (λ (code : TacCode). AreArguments (arguments_of code) call.arguments cited t y) (sym codes) q.2) in
       (λ i. Calls (names i) (codes i) (same.0 i), same.1)
 
-  one_fitting : (a b : ResolutionValue) → IsResolvedFitting setup call cited a → IsResolvedFitting setup call cited b → a ≡ b
-  one_fitting (Resolved e x) (Resolved f y) p q = let same = one_expr e f x y p q in λ i. Resolved (same.0 i) (same.1 i)
-  one_fitting (Resolved e x) (Unresolved kind arg) p q = absurd q
-  one_fitting (Unresolved kind arg) b p q = absurd p
+  one_call : (call : CallText) (a b : ResolutionValue) → IsResolvedCall setup call cited a → IsResolvedCall setup call cited b → a ≡ b
+  one_call call (Resolved e x) (Resolved f y) p q = let same = one_expr call e f x y p q in λ i. Resolved (same.0 i) (same.1 i)
+  one_call call (Resolved e x) (Unresolved kind arg) p q = absurd q
+  one_call call (Unresolved kind arg) b p q = absurd p
 
-  one_known : (unfit : Option (List ℕ)) (a b : ResolutionValue) → IsResolvedKnown setup call cited unfit a → IsResolvedKnown setup call cited unfit b → a ≡ b
-  one_known (Some name) a b p q = p ∙ sym q
-  one_known None a b p q = one_fitting a b p q
+  one_fitting : (tactic : TacText) (a b : ResolutionValue) → IsResolvedFitting setup tactic cited a → IsResolvedFitting setup tactic cited b → a ≡ b
+  one_fitting (Call call) a b p q = one_call call a b p q
+  one_fitting (Then t u) a b p q = p ∙ sym q
+  one_fitting (ThenL t us) a b p q = p ∙ sym q
+  one_fitting (OrElse t u) a b p q = p ∙ sym q
+  one_fitting (Repeat t) a b p q = p ∙ sym q
+  one_fitting (Try t) a b p q = p ∙ sym q
+  one_fitting (Changed t) a b p q = p ∙ sym q
+  one_fitting (Every ts) a b p q = p ∙ sym q
+  one_fitting (First ts) a b p q = p ∙ sym q
+  one_fitting (Replicate n t) a b p q = p ∙ sym q
+  one_fitting (DischThen call) a b p q = p ∙ sym q
+  one_fitting (PopAssum call) a b p q = p ∙ sym q
+  one_fitting (FirstAssum call) a b p q = p ∙ sym q
+  one_fitting (SubgoalThen term call) a b p q = p ∙ sym q
 
-  one_cited : (unknown : Option (List ℕ)) (a b : ResolutionValue) → IsResolvedCited setup call cited unknown a → IsResolvedCited setup call cited unknown b → a ≡ b
-  one_cited (Some name) a b p q = p ∙ sym q
-  one_cited None a b p q = one_known (first_unfit setup (calls_of call) cited) a b p q
+  one_known : (tactic : TacText) (unfit : Option (List ℕ)) (a b : ResolutionValue) → IsResolvedKnown setup tactic cited unfit a → IsResolvedKnown setup tactic cited unfit b → a ≡ b
+  one_known tactic (Some name) a b p q = p ∙ sym q
+  one_known tactic None a b p q = one_fitting tactic a b p q
+
+  one_cited : (tactic : TacText) (unknown : Option (List ℕ)) (a b : ResolutionValue) → IsResolvedCited setup tactic cited unknown a → IsResolvedCited setup tactic cited unknown b → a ≡ b
+  one_cited tactic (Some name) a b p q = p ∙ sym q
+  one_cited tactic None a b p q = one_known tactic (first_unfit setup (calls_of tactic) cited) a b p q
 
 -- ---- outcomes
 
@@ -100,14 +116,14 @@ one_opening true name quotation reads a b p q = p ∙ sym q
 one_opening false name quotation reads a b p q =
     p.2 ∙ ap (opens_read name quotation.place reads) (one_reading (lookups_of reads.cited) quotation.term p.0 q.0 p.1 q.1) ∙ sym q.2
 
-one_applying : (in_proof : Bool) (setup : SetupValue) (call : CallText) (reads : ReadsValue) (a b : OutcomeValue) → IsApplying in_proof setup call reads a → IsApplying in_proof setup call reads b → a ≡ b
-one_applying false setup call reads a b p q = p ∙ sym q
-one_applying true setup call reads a b p q =
-    p.2 ∙ ap (resolved_outcome reads.goal setup.turns) (one_cited setup call reads.cited (first_unknown reads.cited) p.0 q.0 p.1 q.1) ∙ sym q.2
+one_applying : (in_proof : Bool) (setup : SetupValue) (tactic : TacText) (reads : ReadsValue) (a b : OutcomeValue) → IsApplying in_proof setup tactic reads a → IsApplying in_proof setup tactic reads b → a ≡ b
+one_applying false setup tactic reads a b p q = p ∙ sym q
+one_applying true setup tactic reads a b p q =
+    p.2 ∙ ap (resolved_outcome reads.goal setup.turns) (one_cited setup reads.cited tactic (first_unknown reads.cited) p.0 q.0 p.1 q.1) ∙ sym q.2
 
 pub one_local : (setup : SetupValue) (command : LocalText) (reads : ReadsValue) (a b : OutcomeValue) → IsLocalOutcome setup command reads a → IsLocalOutcome setup command reads b → a ≡ b
 one_local setup (Goal name quotation) reads a b p q = one_opening reads.in_proof name quotation reads a b p q
-one_local setup (Apply call) reads a b p q = one_applying reads.in_proof setup call reads a b p q
+one_local setup (Apply tactic) reads a b p q = one_applying reads.in_proof setup tactic reads a b p q
 one_local setup Qed reads a b p q = p ∙ sym q
 
 pub one_outcome : (setup : SetupValue) (earlier : List EndedTheory) (s : StateValue) (value : ParsedValue) (a b : OutcomeValue) → IsOutcome setup earlier s value a → IsOutcome setup earlier s value b → a ≡ b

@@ -1,10 +1,12 @@
 -- Expressions of functions on goals: what they resolve to, and how they run.
 -- Sources: the tactics of the HOL Light Reference Manual; turns are this project's.
-use Rattle.std.specs.Prelude.{◌≡◌, ℕ, zero, suc, List, [], ◌∷◌, cond, Option, Some, None, is_some}
+use Rattle.std.specs.Prelude.{◌≡◌, ℕ, zero, suc, List, [], ◌∷◌, ◌++◌, cond, Option, Some, None, is_some}
 use Rattle.hol_kernel.specs.Items.{Items, no_items}
-use Rattle.hol_notation_tactics.specs.Text.{ArgumentText, CallText}
+use Rattle.hol_notation_tactics.specs.Text.{ArgumentText, CallText, TacText, TacTexts, Call, Then, ThenL, OrElse, Repeat, Try, Changed, Every, First, Replicate, DischThen, PopAssum, FirstAssum, SubgoalThen, no_tacs, more_tacs}
 use Rattle.hol_exec.specs.declared.tac.ArgumentKind.{ArgumentKind}
 use Rattle.hol_exec.specs.declared.tac.ArgumentKind.TheVariants.{NoArguments}
+use Rattle.hol_exec.specs.declared.tac.CallRole.{CallRole}
+use Rattle.hol_exec.specs.declared.tac.CallRole.TheVariants.{Whole, TheoremTactic}
 use Rattle.hol_exec.specs.declared.tac.TacCode.{TacCode}
 use Rattle.hol_exec.specs.declared.refusal.RefusalKind.{RefusalKind}
 use Rattle.hol_exec.specs.declared.refusal.RefusalKind.TheVariants as refusal
@@ -21,10 +23,10 @@ use Rattle.hol_exec.specs.Tac.{arguments_of, Registered, called, UsedValue, Answ
 abbrev pub AreArguments : ArgumentKind → List ArgumentText → Values → TacArgsValue → Items → Type 0
 AreArguments NoArguments arguments cited Nothing basis = basis ≡ no_items
 
--- what is written resolves to the expression
+-- a call resolves to the expression
 abbrev pub IsExpr : SetupValue → CallText → Values → ExprValue → Items → Type 0
 IsExpr setup call cited (Calls name code args) basis =
-    (name ≡ call.name) × (called setup call cited ≡ Some (Registered code)) × AreArguments (arguments_of code) call.arguments cited args basis
+    (name ≡ call.name) × (called setup Whole call cited ≡ Some (Registered code)) × AreArguments (arguments_of code) call.arguments cited args basis
 
 -- ---- resolving, of one number all that is written before the next: unknown theorem; unknown TAC or wrong arguments
 
@@ -33,32 +35,71 @@ pub data ResolutionValue : Type 0 where
   Resolved : ExprValue → Items → ResolutionValue
   Unresolved : RefusalKind → List ℕ → ResolutionValue
 
--- the calls in what is written, from left to right
-abbrev pub calls_of : CallText → List CallText
-calls_of call = call ∷ []
+-- the calls in what is written, from left to right, each with its role: by itself, or as a theorem tactic
+abbrev mutual
+  pub calls_of : TacText → List (CallRole × CallText)
+  calls_of (Call call) = (Whole, call) ∷ []
+  calls_of (Then t u) = calls_of t ++ calls_of u
+  calls_of (ThenL t us) = calls_of t ++ calls_of_each us
+  calls_of (OrElse t u) = calls_of t ++ calls_of u
+  calls_of (Repeat t) = calls_of t
+  calls_of (Try t) = calls_of t
+  calls_of (Changed t) = calls_of t
+  calls_of (Every ts) = calls_of_each ts
+  calls_of (First ts) = calls_of_each ts
+  calls_of (Replicate n t) = calls_of t
+  calls_of (DischThen call) = (TheoremTactic, call) ∷ []
+  calls_of (PopAssum call) = (TheoremTactic, call) ∷ []
+  calls_of (FirstAssum call) = (TheoremTactic, call) ∷ []
+  calls_of (SubgoalThen p call) = (TheoremTactic, call) ∷ []
+
+  pub calls_of_each : TacTexts → List (CallRole × CallText)
+  calls_of_each no_tacs = []
+  calls_of_each (more_tacs t ts) = calls_of t ++ calls_of_each ts
 
 -- the name of the first call whose name stands for nothing, or whose arguments aren't of its kind
-abbrev pub first_unfit : SetupValue → List CallText → Values → Option (List ℕ)
+abbrev pub first_unfit : SetupValue → List (CallRole × CallText) → Values → Option (List ℕ)
 first_unfit setup [] cited = None
-first_unfit setup (call ∷ calls) cited = cond (is_some (called setup call cited)) (first_unfit setup calls cited) (Some call.name)
+first_unfit setup ((role, call) ∷ calls) cited = cond (is_some (called setup role call cited)) (first_unfit setup calls cited) (Some call.name)
 
--- where all theorems are known and all calls fit, nothing else is refused
-abbrev pub IsResolvedFitting : SetupValue → CallText → Values → ResolutionValue → Type 0
-IsResolvedFitting setup call cited (Resolved expr basis) = IsExpr setup call cited expr basis
-IsResolvedFitting setup call cited (Unresolved kind arg) = ⊥
+-- a call that fits: nothing else is refused
+abbrev pub IsResolvedCall : SetupValue → CallText → Values → ResolutionValue → Type 0
+IsResolvedCall setup call cited (Resolved expr basis) = IsExpr setup call cited expr basis
+IsResolvedCall setup call cited (Unresolved kind arg) = ⊥
+
+-- No tactical runs: a text with one is no command of this kind, and what is written would be refused.
+abbrev pub idle_tactical : ResolutionValue
+idle_tactical = Unresolved refusal.UnknownTac []
+
+-- where all theorems are known and all calls fit
+abbrev pub IsResolvedFitting : SetupValue → TacText → Values → ResolutionValue → Type 0
+IsResolvedFitting setup (Call call) cited resolution = IsResolvedCall setup call cited resolution
+IsResolvedFitting setup (Then t u) cited resolution = resolution ≡ idle_tactical
+IsResolvedFitting setup (ThenL t us) cited resolution = resolution ≡ idle_tactical
+IsResolvedFitting setup (OrElse t u) cited resolution = resolution ≡ idle_tactical
+IsResolvedFitting setup (Repeat t) cited resolution = resolution ≡ idle_tactical
+IsResolvedFitting setup (Try t) cited resolution = resolution ≡ idle_tactical
+IsResolvedFitting setup (Changed t) cited resolution = resolution ≡ idle_tactical
+IsResolvedFitting setup (Every ts) cited resolution = resolution ≡ idle_tactical
+IsResolvedFitting setup (First ts) cited resolution = resolution ≡ idle_tactical
+IsResolvedFitting setup (Replicate n t) cited resolution = resolution ≡ idle_tactical
+IsResolvedFitting setup (DischThen call) cited resolution = resolution ≡ idle_tactical
+IsResolvedFitting setup (PopAssum call) cited resolution = resolution ≡ idle_tactical
+IsResolvedFitting setup (FirstAssum call) cited resolution = resolution ≡ idle_tactical
+IsResolvedFitting setup (SubgoalThen p call) cited resolution = resolution ≡ idle_tactical
 
 -- where all theorems are known
-abbrev pub IsResolvedKnown : SetupValue → CallText → Values → Option (List ℕ) → ResolutionValue → Type 0
-IsResolvedKnown setup call cited (Some name) resolution = resolution ≡ Unresolved refusal.UnknownTac name
-IsResolvedKnown setup call cited None resolution = IsResolvedFitting setup call cited resolution
+abbrev pub IsResolvedKnown : SetupValue → TacText → Values → Option (List ℕ) → ResolutionValue → Type 0
+IsResolvedKnown setup tactic cited (Some name) resolution = resolution ≡ Unresolved refusal.UnknownTac name
+IsResolvedKnown setup tactic cited None resolution = IsResolvedFitting setup tactic cited resolution
 
-abbrev pub IsResolvedCited : SetupValue → CallText → Values → Option (List ℕ) → ResolutionValue → Type 0
-IsResolvedCited setup call cited (Some name) resolution = resolution ≡ Unresolved refusal.UnknownTheorem name
-IsResolvedCited setup call cited None resolution = IsResolvedKnown setup call cited (first_unfit setup (calls_of call) cited) resolution
+abbrev pub IsResolvedCited : SetupValue → TacText → Values → Option (List ℕ) → ResolutionValue → Type 0
+IsResolvedCited setup tactic cited (Some name) resolution = resolution ≡ Unresolved refusal.UnknownTheorem name
+IsResolvedCited setup tactic cited None resolution = IsResolvedKnown setup tactic cited (first_unfit setup (calls_of tactic) cited) resolution
 
 -- what is written comes to this, over the values of what it cites
-abbrev pub IsResolution : SetupValue → CallText → Values → ResolutionValue → Type 0
-IsResolution setup call cited resolution = IsResolvedCited setup call cited (first_unknown cited) resolution
+abbrev pub IsResolution : SetupValue → TacText → Values → ResolutionValue → Type 0
+IsResolution setup tactic cited resolution = IsResolvedCited setup tactic cited (first_unknown cited) resolution
 
 -- ---- runs
 

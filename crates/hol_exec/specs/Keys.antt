@@ -2,7 +2,7 @@
 -- Source: this project.
 use Rattle.std.specs.Prelude.{List, [], ◌∷◌, ◌++◌, Option, Some, None}
 use Rattle.hol_notation_terms.specs.Text.{TypeText, TypeTexts, Ident, Arrow, Apply as Applying, no_types, more_types, TermText, Named, Constant, Applied, Abstraction, Typed}
-use Rattle.hol_notation_tactics.specs.Text.{TypePairText, ThmText, Cited, Assume, Refl, Spec, Sym, Conjunct1, Conjunct2, Mp, InstType, ArgumentText, Term, Theorem, Pair, Theorems, CallText}
+use Rattle.hol_notation_tactics.specs.Text.{TypePairText, ThmText, Cited, Assume, Refl, Spec, Sym, Conjunct1, Conjunct2, Mp, InstType, ArgumentText, Term, Theorem, Pair, Theorems, CallText, TacText, TacTexts, Call, Then, ThenL, OrElse, Repeat, Try, Changed, Every, First, Replicate, DischThen, PopAssum, FirstAssum, SubgoalThen, no_tacs, more_tacs}
 use Rattle.hol_exec.specs.Key.{KeyValue, type_key, constant_key, theorem_key}
 use Rattle.hol_exec.specs.Parsed.{LocalText, Goal, Apply, Qed}
 
@@ -63,13 +63,35 @@ keys_of_arguments (a ∷ arguments) = keys_of_argument a ++ keys_of_arguments ar
 abbrev pub keys_of_call : CallText → List KeyValue
 keys_of_call call = keys_of_arguments call.arguments
 
+-- the keys of a tactical's parts, from left to right
+abbrev mutual
+  pub keys_of_tactic : TacText → List KeyValue
+  keys_of_tactic (Call call) = keys_of_call call
+  keys_of_tactic (Then t u) = keys_of_tactic t ++ keys_of_tactic u
+  keys_of_tactic (ThenL t us) = keys_of_tactic t ++ keys_of_tactics us
+  keys_of_tactic (OrElse t u) = keys_of_tactic t ++ keys_of_tactic u
+  keys_of_tactic (Repeat t) = keys_of_tactic t
+  keys_of_tactic (Try t) = keys_of_tactic t
+  keys_of_tactic (Changed t) = keys_of_tactic t
+  keys_of_tactic (Every ts) = keys_of_tactics ts
+  keys_of_tactic (First ts) = keys_of_tactics ts
+  keys_of_tactic (Replicate n t) = keys_of_tactic t
+  keys_of_tactic (DischThen call) = keys_of_call call
+  keys_of_tactic (PopAssum call) = keys_of_call call
+  keys_of_tactic (FirstAssum call) = keys_of_call call
+  keys_of_tactic (SubgoalThen p call) = keys_of_term p.term ++ keys_of_call call
+
+  pub keys_of_tactics : TacTexts → List KeyValue
+  keys_of_tactics no_tacs = []
+  keys_of_tactics (more_tacs t ts) = keys_of_tactic t ++ keys_of_tactics ts
+
 abbrev pub cited_keys : LocalText → List KeyValue
 cited_keys (Goal name quotation) = keys_of_term quotation.term
-cited_keys (Apply call) = keys_of_call call
+cited_keys (Apply tactic) = keys_of_tactic tactic
 cited_keys Qed = []
 
 -- `qed` makes the key that its `g` tested
 abbrev pub made_keys : LocalText → List KeyValue
 made_keys (Goal name quotation) = theorem_key name ∷ []
-made_keys (Apply call) = []
+made_keys (Apply tactic) = []
 made_keys Qed = []

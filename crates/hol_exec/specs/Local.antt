@@ -9,7 +9,7 @@ use Rattle.hol_kernel.specs.Sequent.{no_hyps}
 use Rattle.hol_kernel.specs.Theorem.{theorem_over}
 use Rattle.hol_kernel.specs.Typing.{is_type_at}
 use Rattle.hol_notation_terms.specs.Text.{QuotationText}
-use Rattle.hol_notation_tactics.specs.Text.{CallText}
+use Rattle.hol_notation_tactics.specs.Text.{TacText}
 use Rattle.hol_exec.specs.declared.refusal.RefusalKind.TheVariants as refusal
 use Rattle.hol_exec.specs.Goal.{GoalValue}
 use Rattle.hol_exec.specs.Key.{KeyValue, theorem_key, key_text}
@@ -68,10 +68,10 @@ resolved_outcome goal turns (Resolved expr basis) = applied goal turns expr basi
 resolved_outcome goal turns (Unresolved kind arg) = Refuses kind arg
 
 -- no proof is open, or what is written resolves to something, and the outcome is by that
-abbrev pub IsApplying : Bool → SetupValue → CallText → ReadsValue → OutcomeValue → Type 0
-IsApplying false setup call reads outcome = outcome ≡ Refuses refusal.NoProofOpen []
-IsApplying true setup call reads outcome =
-    (resolution : ResolutionValue) × IsResolution setup call reads.cited resolution × (outcome ≡ resolved_outcome reads.goal setup.turns resolution)
+abbrev pub IsApplying : Bool → SetupValue → TacText → ReadsValue → OutcomeValue → Type 0
+IsApplying false setup tactic reads outcome = outcome ≡ Refuses refusal.NoProofOpen []
+IsApplying true setup tactic reads outcome =
+    (resolution : ResolutionValue) × IsResolution setup tactic reads.cited resolution × (outcome ≡ resolved_outcome reads.goal setup.turns resolution)
 
 -- ---- `qed`: no proof open; goals remain
 
@@ -87,5 +87,5 @@ finishes (Some c) = cond (nat_eq c.open_goals 0) (finished c) (Refuses refusal.G
 
 abbrev pub IsLocalOutcome : SetupValue → LocalText → ReadsValue → OutcomeValue → Type 0
 IsLocalOutcome setup (Goal name quotation) reads outcome = IsOpening reads.in_proof name quotation reads outcome
-IsLocalOutcome setup (Apply call) reads outcome = IsApplying reads.in_proof setup call reads outcome
+IsLocalOutcome setup (Apply tactic) reads outcome = IsApplying reads.in_proof setup tactic reads outcome
 IsLocalOutcome setup Qed reads outcome = outcome ≡ finishes reads.closing

@@ -4,6 +4,7 @@
 use Rattle.std.specs.Prelude.{◌≡◌, ◌⊎◌, ◌+◌, ◌==◌, ℕ, List, [], ◌∷◌, drop, Bool, true, false}
 use Rattle.hol_notation_tokens.specs.Token.{skip}
 use Rattle.hol_notation_terms.specs.Text.{QuotationText}
+use Rattle.hol_notation_tactics.specs.Leading as tactics
 use Rattle.hol_notation_tactics.specs.Text.{CallText, TacText, Call, Then, ThenL, OrElse, Repeat, Try, Changed, Every, First, Replicate, DischThen, PopAssum, FirstAssum, SubgoalThen}
 use Rattle.hol_notation_commands.specs.Text.{CommandText, Goal as AGoal, Apply as AnApply, Back, Rotate, Qed as AQed, Oops, Import, NewType, NewConstant, NewAxiom, NewDefinition, NewBasicTypeDefinition}
 use Rattle.hol_notation_commands.specs.Reading.{IsCommandText, IsBreak}
@@ -11,13 +12,13 @@ use Rattle.hol_notation_commands.specs.Reading.{IsCommandText, IsBreak}
 -- the commands whose outcomes are functions of what they read
 pub data LocalText : Type 0 where
   Goal : List ℕ → QuotationText → LocalText
-  Apply : CallText → LocalText
+  Apply : TacText → LocalText
   Qed : LocalText
 
 -- a name in the command, by which commands are found: what it makes, or the TAC that is written first
 abbrev pub leading_name : LocalText → List ℕ
 leading_name (Goal name quotation) = name
-leading_name (Apply call) = call.name
+leading_name (Apply tactic) = tactics.leading_name tactic
 leading_name Qed = []
 
 -- what is answered directly: a text that is refused at a place
@@ -48,7 +49,7 @@ is_bracketed text = begins_with_bracket (drop (skip text (first_word text + 1)) 
 -- a call in brackets does not run, since brackets are for tacticals
 abbrev pub parsed_call : List ℕ → CallText → Bool → ParsedValue
 parsed_call text call true = idle text
-parsed_call text call false = Local (Apply call)
+parsed_call text call false = Local (Apply (Call call))
 
 -- no tactical runs
 abbrev pub parsed_tactic : List ℕ → TacText → ParsedValue

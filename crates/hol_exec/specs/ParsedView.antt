@@ -10,7 +10,7 @@ use Rattle.hol_exec.specs.Parsed.{LocalText, Goal, Apply, Qed, DirectText, Unrea
 
 abbrev pub local_text : LocalCommand → LocalText
 local_text (local.Goal name quotation) = Goal (string_bytes name) quotation
-local_text (local.Apply call) = Apply call
+local_text (local.Apply tactic) = Apply tactic
 local_text local.Qed = Qed
 
 abbrev pub direct_text : DirectCommand → DirectText

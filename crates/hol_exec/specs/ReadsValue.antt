@@ -46,12 +46,12 @@ closing_of (Some p) = Some (record { name = p.name; statement = p.statement; bas
 
 abbrev pub goal_for : LocalText → Option ProofValue → Option GoalValue
 goal_for (Goal name quotation) proof = None
-goal_for (Apply call) proof = first_goal proof
+goal_for (Apply tactic) proof = first_goal proof
 goal_for Qed proof = None
 
 abbrev pub closing_for : LocalText → Option ProofValue → Option ClosingValue
 closing_for (Goal name quotation) proof = None
-closing_for (Apply call) proof = None
+closing_for (Apply tactic) proof = None
 closing_for Qed proof = closing_of proof
 
 abbrev pub reads_of : LocalText → StateValue → ReadsValue

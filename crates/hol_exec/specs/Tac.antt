@@ -7,6 +7,8 @@ use Rattle.hol_formulas.specs.Equation.{Sides, dest_eq}
 use Rattle.hol_notation_tactics.specs.Text.{ArgumentText, CallText}
 use Rattle.hol_exec.specs.declared.tac.ArgumentKind.{ArgumentKind}
 use Rattle.hol_exec.specs.declared.tac.ArgumentKind.TheVariants.{NoArguments}
+use Rattle.hol_exec.specs.declared.tac.CallRole.{CallRole}
+use Rattle.hol_exec.specs.declared.tac.CallRole.TheVariants.{Whole, TheoremTactic}
 use Rattle.hol_exec.specs.declared.tac.TacCode.{TacCode}
 use Rattle.hol_exec.specs.declared.tac.TacCode.TheVariants.{ReflTac}
 use Rattle.hol_exec.specs.Goal.{GoalValue}
@@ -28,23 +30,24 @@ arguments_of ReflTac = NoArguments
 abbrev pub kind_of : CalledValue → ArgumentKind
 kind_of (Registered code) = arguments_of code
 
--- whether arguments, as they are written, are of a kind
-abbrev pub fits : ArgumentKind → List ArgumentText → Bool
-fits NoArguments [] = true
-fits NoArguments (a ∷ arguments) = false
+-- whether arguments, as they are written, are of a kind; a theorem tactic's last argument, a theorem, is left out
+abbrev pub fits : ArgumentKind → CallRole → List ArgumentText → Bool
+fits NoArguments Whole [] = true
+fits NoArguments Whole (a ∷ arguments) = false
+fits NoArguments TheoremTactic arguments = false
 
 -- what a name stands for, over the values of what is cited: it is registered, or nothing
 abbrev pub named : Option TacCode → Values → Option CalledValue
 named None cited = None
 named (Some code) cited = Some (Registered code)
 
-abbrev pub fitting : Option CalledValue → List ArgumentText → Option CalledValue
-fitting None arguments = None
-fitting (Some c) arguments = cond (fits (kind_of c) arguments) (Some c) None
+abbrev pub fitting : Option CalledValue → CallRole → List ArgumentText → Option CalledValue
+fitting None role arguments = None
+fitting (Some c) role arguments = cond (fits (kind_of c) role arguments) (Some c) None
 
--- what is called, where the name stands for something and the arguments are of its kind
-abbrev pub called : SetupValue → CallText → Values → Option CalledValue
-called setup call cited = fitting (named (lookup (bytes_eq call.name) setup.table) cited) call.arguments
+-- what a call of the role calls, where the name stands for something and the arguments are of its kind
+abbrev pub called : SetupValue → CallRole → CallText → Values → Option CalledValue
+called setup role call cited = fitting (named (lookup (bytes_eq call.name) setup.table) cited) role call.arguments
 
 -- ---- what a TAC leaves
 

@@ -1,19 +1,21 @@
 //! Expressions of TACs: what is written, resolved, and its run.
-ghost use Rattle.std.specs.Prelude.{◌≡◌, IfOk};
+ghost use Rattle.std.specs.Prelude.{◌≡◌, IfOk, IsSome, None};
 ghost use Rattle.hol_exec.specs.SetupView.{setup_value};
 ghost use Rattle.hol_exec.specs.TacView.{args_value, used_value};
-ghost use Rattle.hol_exec.specs.Expr.{IsResolution, run_call, run_expr};
+ghost use Rattle.hol_exec.specs.Tac.{called};
+ghost use Rattle.hol_exec.specs.Expr.{calls_of, first_unfit, IsResolvedCall, IsResolvedFitting, IsResolution, run_call, run_expr};
 ghost use Rattle.hol_exec.specs.ExprView.{expr_value, resolution_value, run_value};
 
+use crate::calls::{calls_of, first_unfit};
 use crate::goal::Goal;
 use crate::reads::Reads;
 use crate::refusal::RefusalKind;
 use crate::setup::Setup;
 use crate::tac::{
-    ArgumentKind, Callee, TacArgs, TacCode, TacResult, Used, arguments_of, called, tac,
+    ArgumentKind, CallRole, Callee, TacArgs, TacCode, TacResult, Used, arguments_of, called, tac,
 };
 use hol_kernel::Basis;
-use hol_notation_tactics::TacCall;
+use hol_notation_tactics::{TacCall, TacExpr, TacExprNode};
 use std::alloc::{AllocError, Global};
 
 /// An expression whose names are resolved.
@@ -53,30 +55,78 @@ pub(crate) struct Run {
 }
 
 /// Resolves what is written: unknown theorem; unknown TAC or wrong arguments.
-#[tactic(auto, using(crate::proofs::Resolving::unknown_theorem, crate::proofs::Resolving::unknown_tac))]
+#[tactic(auto, using(crate::proofs::Resolving::unknown_theorem, crate::proofs::Resolving::unknown_tac, crate::proofs::Resolving::fitting))]
 pub(crate) fn resolve(
     alloc: Global,
     setup: &Setup,
-    call: &TacCall,
+    tactic: &TacExpr,
     reads: &Reads,
 ) -> Result<Resolution, AllocError>
-    ensures { IfOk result (λ r. IsResolution (setup_value setup.now) call.now reads.now.cited (resolution_value r)) }
+    ensures { IfOk result (λ r. IsResolution (setup_value setup.now) tactic.now reads.now.cited (resolution_value r)) }
 {
     if let Some(unknown) = reads.first_unknown() {
         let unknown = String::from_str(alloc, unknown)?;
         return Ok(Resolution::Unresolved(RefusalKind::UnknownTheorem, unknown));
     }
-    let name = String::from_str(alloc, call.name.as_str())?;
-    match called(setup, call, reads) {
-        Some(Callee::Registered(code)) => {
-            let args = match arguments_of(code) {
-                ArgumentKind::NoArguments => TacArgs::Nothing,
-            };
-            let expr = Expr::Calls(name, code, args);
-            Ok(Resolution::Resolved(expr, Basis::empty(alloc)?))
-        }
-        None => Ok(Resolution::Unresolved(RefusalKind::UnknownTac, name)),
+    let calls = calls_of(alloc, tactic)?;
+    if let Some(unfit) = first_unfit(setup, &calls, reads) {
+        let unfit = String::from_str(alloc, unfit)?;
+        return Ok(Resolution::Unresolved(RefusalKind::UnknownTac, unfit));
     }
+    resolve_fitting(alloc, setup, tactic, reads)
+}
+
+// Resolves what is written, where all theorems are known and all calls fit. No tactical runs.
+#[tactic(auto, using(crate::proofs::Resolving::call_fits))]
+fn resolve_fitting(
+    alloc: Global,
+    setup: &Setup,
+    tactic: &TacExpr,
+    reads: &Reads,
+) -> Result<Resolution, AllocError>
+    requires { first_unfit (setup_value setup.now) (calls_of tactic.now) reads.now.cited ≡ None }
+    ensures { IfOk result (λ r. IsResolvedFitting (setup_value setup.now) tactic.now reads.now.cited (resolution_value r)) }
+{
+    match tactic.node() {
+        TacExprNode::Call(call) => resolve_call(alloc, setup, call, reads),
+        TacExprNode::Then(_, _)
+        | TacExprNode::ThenL(_, _)
+        | TacExprNode::OrElse(_, _)
+        | TacExprNode::Repeat(_)
+        | TacExprNode::Try(_)
+        | TacExprNode::Changed(_)
+        | TacExprNode::Every(_)
+        | TacExprNode::First(_)
+        | TacExprNode::Replicate(_, _)
+        | TacExprNode::DischThen(_)
+        | TacExprNode::PopAssum(_)
+        | TacExprNode::FirstAssum(_)
+        | TacExprNode::SubgoalThen(_, _) => Ok(Resolution::Unresolved(
+            RefusalKind::UnknownTac,
+            String::new(alloc),
+        )),
+    }
+}
+
+// Resolves a call that fits.
+fn resolve_call(
+    alloc: Global,
+    setup: &Setup,
+    call: &TacCall,
+    reads: &Reads,
+) -> Result<Resolution, AllocError>
+    requires { IsSome (called (setup_value setup.now) CallRole.Whole call.now reads.now.cited) }
+    ensures { IfOk result (λ r. IsResolvedCall (setup_value setup.now) call.now reads.now.cited (resolution_value r)) }
+{
+    let name = String::from_str(alloc, call.name.as_str())?;
+    let Some(Callee::Registered(code)) = called(setup, CallRole::Whole, call, reads) else {
+        unreachable!()
+    };
+    let args = match arguments_of(code) {
+        ArgumentKind::NoArguments => TacArgs::Nothing,
+    };
+    let expr = Expr::Calls(name, code, args);
+    Ok(Resolution::Resolved(expr, Basis::empty(alloc)?))
 }
 
 /// Runs the expression on the goal, with what may still be used.

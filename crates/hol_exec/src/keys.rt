@@ -1,11 +1,14 @@
 //! The keys that a command cites and makes.
 ghost use Rattle.std.specs.Prelude.{◌≡◌, ◌++◌, IfOk, OnOk, map};
+ghost use Rattle.hol_notation_tactics.specs.Text.{tac_texts};
 ghost use Rattle.hol_exec.specs.ParsedView.{local_text};
-ghost use Rattle.hol_exec.specs.Keys.{keys_of_type, keys_of_types, keys_of_annotation, keys_of_term, keys_of_pairs, keys_of_theorem, keys_of_theorems, keys_of_argument, keys_of_arguments, cited_keys, made_keys};
+ghost use Rattle.hol_exec.specs.Keys.{keys_of_type, keys_of_types, keys_of_annotation, keys_of_term, keys_of_pairs, keys_of_theorem, keys_of_theorems, keys_of_argument, keys_of_arguments, keys_of_call, keys_of_tactic, keys_of_tactics, cited_keys, made_keys};
 
 use crate::key::{Key, Kind};
 use crate::parsed::LocalCommand;
-use hol_notation_tactics::{TacArg, TacArgNode, ThmExpr, ThmExprNode, TypePair};
+use hol_notation_tactics::{
+    TacArg, TacArgNode, TacCall, TacExpr, TacExprNode, ThmExpr, ThmExprNode, TypePair,
+};
 use hol_notation_terms::{PreTerm, PreTermNode, PreType, PreTypeNode};
 use std::alloc::{AllocError, Global};
 
@@ -125,14 +128,60 @@ fn add_argument(alloc: Global, keys: &mut Vec<Key>, argument: &TacArg) -> Result
     }
 }
 
-fn keys_of_arguments(alloc: Global, arguments: &[TacArg]) -> Result<Vec<Key>, AllocError>
-    ensures { IfOk result (λ keys. keys.items ≡ keys_of_arguments arguments.now) }
+fn add_arguments(alloc: Global, keys: &mut Vec<Key>, arguments: &[TacArg]) -> Result<(), AllocError>
+    ensures { OnOk result (keys.new.items ≡ keys.old.items ++ keys_of_arguments arguments.now) }
 {
-    let mut keys = Vec::new(alloc);
     for argument in arguments {
-        add_argument(alloc, &mut keys, argument)?;
+        add_argument(alloc, keys, argument)?;
     }
-    Ok(keys)
+    Ok(())
+}
+
+fn add_call(alloc: Global, keys: &mut Vec<Key>, call: &TacCall) -> Result<(), AllocError>
+    ensures { OnOk result (keys.new.items ≡ keys.old.items ++ keys_of_call call.now) }
+{
+    add_arguments(alloc, keys, &call.arguments)
+}
+
+#[cycle(add_tactic)]
+fn add_tactic(alloc: Global, keys: &mut Vec<Key>, tactic: &TacExpr) -> Result<(), AllocError>
+    ensures { OnOk result (keys.new.items ≡ keys.old.items ++ keys_of_tactic tactic.now) }
+{
+    match tactic.node() {
+        TacExprNode::Call(call)
+        | TacExprNode::DischThen(call)
+        | TacExprNode::PopAssum(call)
+        | TacExprNode::FirstAssum(call) => add_call(alloc, keys, call),
+        TacExprNode::Then(first, second) | TacExprNode::OrElse(first, second) => {
+            add_tactic(alloc, keys, first)?;
+            add_tactic(alloc, keys, second)
+        }
+        TacExprNode::ThenL(first, tactics) => {
+            add_tactic(alloc, keys, first)?;
+            add_tactics(alloc, keys, tactics)
+        }
+        TacExprNode::Repeat(part)
+        | TacExprNode::Try(part)
+        | TacExprNode::Changed(part)
+        | TacExprNode::Replicate(_, part) => add_tactic(alloc, keys, part),
+        TacExprNode::Every(tactics) | TacExprNode::First(tactics) => {
+            add_tactics(alloc, keys, tactics)
+        }
+        TacExprNode::SubgoalThen(quotation, call) => {
+            add_term(alloc, keys, &quotation.term)?;
+            add_call(alloc, keys, call)
+        }
+    }
+}
+
+#[cycle(add_tactic)]
+fn add_tactics(alloc: Global, keys: &mut Vec<Key>, tactics: &[TacExpr]) -> Result<(), AllocError>
+    ensures { OnOk result (keys.new.items ≡ keys.old.items ++ keys_of_tactics (tac_texts tactics.now)) }
+{
+    for tactic in tactics {
+        add_tactic(alloc, keys, tactic)?;
+    }
+    Ok(())
 }
 
 /// The keys that the command cites, in text order.
@@ -145,7 +194,11 @@ pub(crate) fn cited_keys(alloc: Global, command: &LocalCommand) -> Result<Vec<Ke
             add_term(alloc, &mut keys, &quotation.term)?;
             Ok(keys)
         }
-        LocalCommand::Apply(call) => keys_of_arguments(alloc, &call.arguments),
+        LocalCommand::Apply(tactic) => {
+            let mut keys = Vec::new(alloc);
+            add_tactic(alloc, &mut keys, tactic)?;
+            Ok(keys)
+        }
         LocalCommand::Qed => Ok(Vec::new(alloc)),
     }
 }

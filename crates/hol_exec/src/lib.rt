@@ -3,6 +3,7 @@
 //! A call that answers a `Result` answers its memory error where memory is short, and nowhere else.
 #![tactic(auto)]
 
+mod calls;
 mod closing;
 mod direct_outcome;
 mod entry;

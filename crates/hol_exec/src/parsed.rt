@@ -4,7 +4,7 @@ ghost use Rattle.hol_exec.specs.Parsed.{IsParsed, leading_name, parsed, parsed_t
 ghost use Rattle.hol_exec.specs.ParsedView.{local_text, direct_text, parsed_value};
 
 use hol_notation_commands::{Command, CommandNode, read_command};
-use hol_notation_tactics::{TacCall, TacExpr, TacExprNode};
+use hol_notation_tactics::{TacExpr, TacExprNode};
 use hol_notation_terms::Quotation;
 use hol_notation_tokens::{SyntaxError, skip};
 use std::alloc::{AllocError, Global};
@@ -19,8 +19,8 @@ pub enum LocalCommand {
         /// What it is to say.
         quotation: Quotation,
     },
-    /// `e` with a TAC and its arguments: runs it on the first goal.
-    Apply(TacCall),
+    /// `e` with an expression of TACs: runs it on the first goal.
+    Apply(TacExpr),
     /// `qed`: ends the proof.
     Qed,
 }
@@ -35,7 +35,7 @@ impl LocalCommand {
                 name: String::from_str(alloc, name.as_str())?,
                 quotation: quotation.copy()?,
             }),
-            LocalCommand::Apply(call) => Ok(LocalCommand::Apply(call.copy(alloc)?)),
+            LocalCommand::Apply(tactic) => Ok(LocalCommand::Apply(tactic.copy()?)),
             LocalCommand::Qed => Ok(LocalCommand::Qed),
         }
     }
@@ -55,11 +55,11 @@ impl LocalCommand {
                 };
                 name.as_str() == other_name.as_str() && quotation.same(other_quotation)
             }
-            LocalCommand::Apply(call) => {
-                let LocalCommand::Apply(other_call) = other else {
+            LocalCommand::Apply(tactic) => {
+                let LocalCommand::Apply(other_tactic) = other else {
                     return false;
                 };
-                call.same(other_call)
+                tactic.same(other_tactic)
             }
             LocalCommand::Qed => matches!(other, LocalCommand::Qed),
         }
@@ -71,7 +71,7 @@ impl LocalCommand {
     {
         match self {
             LocalCommand::Goal { name, quotation: _ } => name.as_str(),
-            LocalCommand::Apply(call) => call.name.as_str(),
+            LocalCommand::Apply(tactic) => tactic.leading_name(),
             LocalCommand::Qed => "",
         }
     }
@@ -114,7 +114,7 @@ fn classified(alloc: Global, text: &str, command: &Command) -> Result<Parsed, Al
             name: String::from_str(alloc, name.as_str())?,
             quotation: quotation.copy()?,
         })),
-        CommandNode::Apply(tactic) => parsed_tactic(alloc, text, tactic),
+        CommandNode::Apply(tactic) => parsed_tactic(text, tactic),
         CommandNode::Qed => Ok(Parsed::Local(LocalCommand::Qed)),
         CommandNode::Back
         | CommandNode::Rotate(_)
@@ -137,15 +137,15 @@ fn classified(alloc: Global, text: &str, command: &Command) -> Result<Parsed, Al
     }
 }
 
-fn parsed_tactic(alloc: Global, text: &str, tactic: &TacExpr) -> Result<Parsed, AllocError>
+fn parsed_tactic(text: &str, tactic: &TacExpr) -> Result<Parsed, AllocError>
     ensures { IfOk result (λ value. parsed_value value ≡ parsed_tactic text.now tactic.now) }
 {
     match tactic.node() {
-        TacExprNode::Call(call) => {
+        TacExprNode::Call(_) => {
             if is_bracketed(text) {
                 Ok(idle(text))
             } else {
-                Ok(Parsed::Local(LocalCommand::Apply(call.copy(alloc)?)))
+                Ok(Parsed::Local(LocalCommand::Apply(tactic.copy()?)))
             }
         }
         TacExprNode::Then(_, _)

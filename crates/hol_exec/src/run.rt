@@ -24,7 +24,7 @@ use crate::refusal::RefusalKind;
 use crate::setup::{Setup, turns_of};
 use crate::tac::Used;
 use hol_kernel::Basis;
-use hol_notation_tactics::TacCall;
+use hol_notation_tactics::TacExpr;
 use hol_notation_terms::Quotation;
 use hol_terms::Term;
 use std::alloc::{AllocError, Global};
@@ -42,7 +42,7 @@ pub fn run_local(
         LocalCommand::Goal { name, quotation } => {
             open_goal(alloc, name.as_str(), quotation, reads)
         }
-        LocalCommand::Apply(call) => apply_call(alloc, setup, call, reads),
+        LocalCommand::Apply(tactic) => apply_tactic(alloc, setup, tactic, reads),
         LocalCommand::Qed => finish(alloc, reads),
     }
 }
@@ -122,18 +122,18 @@ fn open_statement(
 }
 
 // `e`: no proof open; then what resolving refuses; then the run.
-fn apply_call(
+fn apply_tactic(
     alloc: Global,
     setup: &Setup,
-    call: &TacCall,
+    tactic: &TacExpr,
     reads: &Reads,
 ) -> Result<Outcome, AllocError>
-    ensures { IfOk result (λ outcome. IsApplying reads.now.in_proof (setup_value setup.now) call.now reads.now outcome) }
+    ensures { IfOk result (λ outcome. IsApplying reads.now.in_proof (setup_value setup.now) tactic.now reads.now outcome) }
 {
     if !reads.in_proof() {
         return Ok(refused(alloc, RefusalKind::NoProofOpen));
     }
-    match resolve(alloc, setup, call, reads)? {
+    match resolve(alloc, setup, tactic, reads)? {
         Resolution::Resolved(expr, basis) => applied(alloc, reads, turns_of(setup), &expr, basis),
         Resolution::Unresolved(kind, arg) => Ok(Outcome::refuses(kind, arg)),
     }

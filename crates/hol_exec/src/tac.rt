@@ -34,6 +34,15 @@ pub(crate) enum TacArgs {
     Nothing,
 }
 
+/// How a call stands in an expression.
+#[derive(Clone, Copy)]
+pub(crate) enum CallRole {
+    /// By itself.
+    Whole,
+    /// In the place of a theorem tactic: its last argument, a theorem, is left out.
+    TheoremTactic,
+}
+
 /// What a name calls.
 #[derive(Clone, Copy)]
 pub(crate) enum Callee {
@@ -85,11 +94,12 @@ fn kind_of(called: Callee) -> ArgumentKind
 }
 
 // Whether the arguments, as they are written, are of the kind.
-fn fits(kind: ArgumentKind, arguments: &[TacArg]) -> bool
-    ensures { result ≡ fits kind arguments.now }
+fn fits(kind: ArgumentKind, role: CallRole, arguments: &[TacArg]) -> bool
+    ensures { result ≡ fits kind role arguments.now }
 {
-    match kind {
-        ArgumentKind::NoArguments => arguments.is_empty(),
+    match (kind, role) {
+        (ArgumentKind::NoArguments, CallRole::Whole) => arguments.is_empty(),
+        (ArgumentKind::NoArguments, CallRole::TheoremTactic) => false,
     }
 }
 
@@ -101,12 +111,12 @@ fn named(setup: &Setup, call: &TacCall, _reads: &Reads) -> Option<Callee>
     Some(Callee::Registered(code))
 }
 
-/// What is called, where the name stands for something and the arguments are of its kind.
-pub(crate) fn called(setup: &Setup, call: &TacCall, reads: &Reads) -> Option<Callee>
-    ensures { called_option result ≡ called (setup_value setup.now) call.now reads.now.cited }
+/// What a call of the role calls, where the name stands for something and the arguments are of its kind.
+pub(crate) fn called(setup: &Setup, role: CallRole, call: &TacCall, reads: &Reads) -> Option<Callee>
+    ensures { called_option result ≡ called (setup_value setup.now) role call.now reads.now.cited }
 {
     let called = named(setup, call, reads)?;
-    if fits(kind_of(called), &call.arguments) {
+    if fits(kind_of(called), role, &call.arguments) {
         Some(called)
     } else {
         None
