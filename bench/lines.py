@@ -1,0 +1,61 @@
+#!/usr/bin/env python3
+"""Prints the table of lines by crate as docs/GATE.md has it, and tests that each must-fail edit fits its file."""
+import pathlib
+import sys
+
+ROOT = pathlib.Path(__file__).resolve().parent.parent
+
+
+def crates():
+    names = []
+    for line in (ROOT / "crates.txt").read_text().splitlines():
+        line = line.split("#")[0].strip()
+        if line:
+            names.append(line.split(":")[0].split()[0])
+    return names
+
+
+def lines(folder, pattern, beside=()):
+    files = [f for f in folder.glob("**/" + pattern) if not any(p in f.parents for p in beside)]
+    return sum(len(f.read_text().splitlines()) for f in files)
+
+
+def row(name):
+    crate = ROOT / "crates" / name
+    tests = crate / "src" / "tests"
+    code = lines(crate / "src", "*.rt", (tests,))
+    tested = lines(tests, "*.rt")
+    if name.endswith("_tests"):
+        code, tested = 0, code
+    edits = len(list((crate / "must-fail").glob("*.edit")))
+    return [code, tested, lines(crate / "specs", "*.antt"), lines(crate / "proofs", "*.antt"), edits]
+
+
+def misfits():
+    """Edits whose old text does not stand exactly once in the file that they name."""
+    for edit in sorted(ROOT.glob("crates/*/must-fail/*.edit")):
+        rows = edit.read_text().splitlines()
+        target = next(r[len("file:"):].strip() for r in rows if r.startswith("file:"))
+        text = (edit.parent.parent / target).read_text()
+        for r in rows:
+            if r.startswith("old: ") and text.count(r[len("old: "):]) != 1:
+                yield f"{edit.relative_to(ROOT)}: {text.count(r[len('old: '):])} times in {target}: {r[5:]}"
+
+
+def main():
+    print("| crate | code with contracts | tests | definitions | proofs | must-fail edits |")
+    print("|---|---:|---:|---:|---:|---:|")
+    total = [0] * 5
+    for name in crates():
+        numbers = row(name)
+        total = [a + b for a, b in zip(total, numbers)]
+        print(f"| {name} | " + " | ".join(f"{n:,}" for n in numbers) + " |")
+    print("| all | " + " | ".join(f"{n:,}" for n in total) + " |")
+    wrong = list(misfits())
+    for line in wrong:
+        print(line, file=sys.stderr)
+    return 1 if wrong else 0
+
+
+if __name__ == "__main__":
+    sys.exit(main())
