@@ -1,14 +1,16 @@
 -- What rules give where they apply, as sequents: cited by the calls for callers that know that the rule applies. Laws in proofs/ lead from here to the rules.
 use Rattle.std.specs.Prelude.{ℕ, List, [], codes}
+use Rattle.std.specs.FinSet as set
 use Rattle.hol_types.specs.Tree.{TypeTree}
 use Rattle.hol_types.specs.Fun.{fun_type}
 use Rattle.hol_terms.specs.Nameless.{Nameless, free, bound, fixed, app, lam}
 use Rattle.hol_subst.specs.Closing.{open_with}
 use Rattle.hol_formulas.specs.Equation.{bool_type, equation}
-use Rattle.hol_formulas.specs.Formula.{Abstraction, quantifier_type, truth, universal}
+use Rattle.hol_terms.specs.Alpha.{strip}
+use Rattle.hol_formulas.specs.Formula.{Abstraction, quantifier_type, truth, falsity, disjunction, implication, equivalence, universal}
 use Rattle.hol_kernel.specs.Sequent.{no_hyps, only_hyp, Sequent, sequent_of}
 use Rattle.hol_kernel.specs.Rules.{deduct_antisym_of}
-use Rattle.hol_bool.specs.Rules.{over_variable}
+use Rattle.hol_bool.specs.Rules.{over_variable, choose_left}
 use Rattle.hol_equal.specs.Applied.{rand, body, range_of, lhs, rhs, side_type}
 
 -- the base name of an abstraction
@@ -63,3 +65,38 @@ specialized t a = sequent_of a.hyps (open_with t 0 (body (rand a.concl)))
 
 abbrev pub generalized : List ℕ × TypeTree → Sequent → Sequent
 generalized v a = sequent_of a.hyps (universal (over_variable v a.concl))
+
+-- CHOOSE
+abbrev pub chosen : List ℕ × TypeTree → Sequent → Sequent → Sequent
+chosen v a b = sequent_of (set.union a.hyps (choose_left v b.hyps (abstraction_in (rand a.concl)))) b.concl
+
+-- CONJUNCT1, CONJUNCT2
+abbrev pub first_conjunct : Sequent → Sequent
+first_conjunct a = sequent_of a.hyps (lhs a.concl)
+
+abbrev pub second_conjunct : Sequent → Sequent
+second_conjunct a = sequent_of a.hyps (rhs a.concl)
+
+-- MP, DISCH, UNDISCH
+abbrev pub implied : Sequent → Sequent → Sequent
+implied a b = sequent_of (set.union a.hyps b.hyps) (rhs a.concl)
+
+abbrev pub discharged : Nameless → Sequent → Sequent
+discharged p a = sequent_of (set.remove a.hyps (strip p)) (implication p a.concl)
+
+abbrev pub undischarged : Sequent → Sequent
+undischarged a = sequent_of (set.union a.hyps (only_hyp (lhs a.concl))) (rhs a.concl)
+
+-- DISJ1, DISJ2, DISJ_CASES
+abbrev pub with_right : Sequent → Nameless → Sequent
+with_right a q = sequent_of a.hyps (disjunction a.concl q)
+
+abbrev pub with_left : Nameless → Sequent → Sequent
+with_left p a = sequent_of a.hyps (disjunction p a.concl)
+
+abbrev pub by_cases : Sequent → Sequent → Sequent → Sequent
+by_cases a b c = sequent_of (set.union (set.union a.hyps (set.remove b.hyps (strip (lhs a.concl)))) (set.remove c.hyps (strip (rhs a.concl)))) b.concl
+
+-- EQF_INTRO
+abbrev pub false_of : Sequent → Sequent
+false_of a = sequent_of a.hyps (equivalence (rand a.concl) falsity)
