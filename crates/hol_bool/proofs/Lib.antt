@@ -1,4 +1,7 @@
 pub mod HypLaws
 pub mod Typed
+pub mod Bodies
+pub mod Connected
+pub mod Chains
 pub mod Answered
 pub mod RuleLaws

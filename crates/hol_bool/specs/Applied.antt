@@ -7,7 +7,7 @@ use Rattle.hol_terms.specs.Nameless.{Nameless, free, bound, fixed, app, lam}
 use Rattle.hol_subst.specs.Closing.{open_with}
 use Rattle.hol_formulas.specs.Equation.{bool_type, equation}
 use Rattle.hol_terms.specs.Alpha.{strip}
-use Rattle.hol_formulas.specs.Formula.{Abstraction, quantifier_type, truth, falsity, disjunction, implication, equivalence, universal}
+use Rattle.hol_formulas.specs.Formula.{Abstraction, connective_type, quantifier_type, truth, falsity, conjunction, disjunction, implication, equivalence, universal}
 use Rattle.hol_kernel.specs.Sequent.{no_hyps, only_hyp, Sequent, sequent_of}
 use Rattle.hol_kernel.specs.Rules.{deduct_antisym_of}
 use Rattle.hol_bool.specs.Rules.{over_variable, choose_left}
@@ -27,6 +27,20 @@ defining d r t = equation (fun_type d r) (lhs t) (lam (base_in (rhs t)) d (body 
 
 abbrev pub unfolded : Nameless → Sequent → Sequent
 unfolded x a = sequent_of a.hyps (equation (range_of (side_type a.concl)) (app (lhs a.concl) x) (open_with x 0 (body (rhs a.concl))))
+
+-- \p q. b, and what it makes of p and q
+abbrev pub of_two : Nameless → Nameless
+of_two k = lam (base_in k) bool_type (lam (base_in (body k)) bool_type (body (body k)))
+
+abbrev pub value_at : Nameless → Nameless → Nameless → Nameless
+value_at k p q = open_with q 0 (open_with p 1 (body (body k)))
+
+-- a defining equation of a connective, and what it says at p and q
+abbrev pub defining_connective : Nameless → Nameless
+defining_connective t = equation connective_type (lhs t) (of_two (rhs t))
+
+abbrev pub unfolded_at : Nameless → Nameless → Sequent → Sequent
+unfolded_at p q a = sequent_of a.hyps (equation bool_type (app (app (lhs a.concl) p) q) (value_at (rhs a.concl) p q))
 
 -- \x:a. T
 abbrev pub constantly_true : TypeTree → Nameless
@@ -50,6 +64,25 @@ abstraction_in t = record { base = base_in t; domain = bound_type t; body = body
 -- the term of an abstraction
 abbrev pub abstraction_term : Abstraction → Nameless
 abstraction_term x = lam x.base x.domain x.body
+
+-- \f. f p q, for p and q without free indices
+abbrev pub pair : Nameless → Nameless → Nameless
+pair p q = lam (codes "f") connective_type (app (app (bound 0) p) q)
+
+abbrev pub pair_type : TypeTree
+pair_type = fun_type connective_type bool_type
+
+-- (\f. f p q) = (\f. f T T)
+abbrev pub both_true : Nameless → Nameless → Nameless
+both_true p q = equation pair_type (pair p q) (pair truth truth)
+
+-- p /\ q = (\f. f p q) = (\f. f T T)
+abbrev pub and_unfolded : Nameless → Nameless → Sequent
+and_unfolded p q = sequent_of no_hyps (equation bool_type (conjunction p q) (both_true p q))
+
+-- p ==> q = (p /\ q <=> p)
+abbrev pub imp_unfolded : Nameless → Nameless → Sequent
+imp_unfolded p q = sequent_of no_hyps (equation bool_type (implication p q) (equivalence (conjunction p q) p))
 
 -- TRUTH, EQT_ELIM, EQT_INTRO
 abbrev pub true_of : Sequent → Sequent
