@@ -4,4 +4,5 @@ pub mod Bodies
 pub mod Connected
 pub mod Chains
 pub mod Answered
+pub mod ConnectiveRules
 pub mod RuleLaws

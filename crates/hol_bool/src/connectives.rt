@@ -7,7 +7,10 @@ ghost use Rattle.hol_bool.specs.Rules.{conjunct1_of, conjunct2_of, mp_of, disch_
 ghost use Rattle.hol_bool.specs.Refusals.{in_bool};
 ghost use Rattle.hol_bool.specs.declared.error.Rule.TheVariants as rule;
 
-use crate::error::BoolError;
+use crate::applied;
+use crate::error::{BoolError, Rule};
+use crate::rules::is_of_type;
+use hol_formulas::{bool_type, dest_imp, is_conj, is_imp};
 use hol_kernel::Thm;
 use hol_terms::Term;
 use std::alloc::Global;
@@ -15,52 +18,76 @@ use std::alloc::Global;
 /// The rule of the first conjunct (bool.ml, CONJUNCT1): from `p /\ q`, `p`.
 ///
 /// Refused by [`Rule::Conjunct1`] where the theorem is no conjunction.
-pub fn conjunct1(_alloc: Global, a: &Thm) -> Result<Thm, BoolError>
+#[tactic(auto, using(crate::proofs::ConnectiveRules::refusals))]
+pub fn conjunct1(alloc: Global, a: &Thm) -> Result<Thm, BoolError>
     ensures sequent { Gives in_bool rule.Conjunct1 (over a.now.basis (conjunct1_of a.now.sequent)) result }
     ensures basis { IfOk result (λ th. th.basis ≡ a.now.basis) }
 {
-    Err(BoolError::Memory)
+    if !is_conj(a.concl()) {
+        return Err(BoolError::Refused(Rule::Conjunct1));
+    }
+    Ok(applied::conjunct1(alloc, a)?)
 }
 
 /// The rule of the second conjunct (bool.ml, CONJUNCT2): from `p /\ q`, `q`.
 ///
 /// Refused by [`Rule::Conjunct2`] where the theorem is no conjunction.
-pub fn conjunct2(_alloc: Global, a: &Thm) -> Result<Thm, BoolError>
+#[tactic(auto, using(crate::proofs::ConnectiveRules::refusals))]
+pub fn conjunct2(alloc: Global, a: &Thm) -> Result<Thm, BoolError>
     ensures sequent { Gives in_bool rule.Conjunct2 (over a.now.basis (conjunct2_of a.now.sequent)) result }
     ensures basis { IfOk result (λ th. th.basis ≡ a.now.basis) }
 {
-    Err(BoolError::Memory)
+    if !is_conj(a.concl()) {
+        return Err(BoolError::Refused(Rule::Conjunct2));
+    }
+    Ok(applied::conjunct2(alloc, a)?)
 }
 
 /// Modus ponens (bool.ml, MP): from `p ==> q` and `p'` that is `p` up to bound names, `q`.
 ///
 /// Refused by [`Rule::Mp`] where the first theorem is no implication, and where the second is not what it implies from.
-pub fn mp(_alloc: Global, a: &Thm, b: &Thm) -> Result<Thm, BoolError>
+#[tactic(auto, using(crate::proofs::ConnectiveRules::refusals))]
+pub fn mp(alloc: Global, a: &Thm, b: &Thm) -> Result<Thm, BoolError>
     requires one_basis { a.now.basis ≡ b.now.basis }
     ensures sequent { Gives in_bool rule.Mp (over a.now.basis (mp_of a.now.sequent b.now.sequent)) result }
     ensures basis { IfOk result (λ th. th.basis ≡ a.now.basis) }
 {
-    Err(BoolError::Memory)
+    let Some((p, _)) = dest_imp(a.concl()) else {
+        return Err(BoolError::Refused(Rule::Mp));
+    };
+    if !p.alpha_equivalent(b.concl()) {
+        return Err(BoolError::Refused(Rule::Mp));
+    }
+    Ok(applied::mp(alloc, a, b)?)
 }
 
 /// The rule of discharging (bool.ml, DISCH): from `q`, `p ==> q` without the hypothesis `p`.
 ///
 /// Refused by [`Rule::Disch`] where `p` is not well typed over the prelude and the theorem's basis or not of type `bool`.
-pub fn disch(_alloc: Global, p: &Term, a: &Thm) -> Result<Thm, BoolError>
+#[tactic(auto, using(crate::proofs::ConnectiveRules::refusals))]
+pub fn disch(alloc: Global, p: &Term, a: &Thm) -> Result<Thm, BoolError>
     ensures sequent { Gives in_bool rule.Disch (over a.now.basis (disch_of a.now.basis (nameless [] p.now) a.now.sequent)) result }
     ensures basis { IfOk result (λ th. th.basis ≡ a.now.basis) }
 {
-    Err(BoolError::Memory)
+    let truth = bool_type(alloc)?;
+    if !is_of_type(alloc, a.basis(), p, &truth)? {
+        return Err(BoolError::Refused(Rule::Disch));
+    }
+    Ok(applied::disch(alloc, p, a)?)
 }
 
 /// The rule of undischarging (bool.ml, UNDISCH): from `p ==> q`, `q` under the hypothesis `p`.
 ///
 /// Refused by [`Rule::Undisch`] where the theorem is no implication.
-pub fn undisch(_alloc: Global, a: &Thm) -> Result<Thm, BoolError>
+#[tactic(auto, using(crate::proofs::ConnectiveRules::refusals))]
+pub fn undisch(alloc: Global, a: &Thm) -> Result<Thm, BoolError>
     ensures sequent { Gives in_bool rule.Undisch (over a.now.basis (undisch_of a.now.sequent)) result }
     ensures basis { IfOk result (λ th. th.basis ≡ a.now.basis) }
 {
-    Err(BoolError::Memory)
+    if !is_imp(a.concl()) {
+        return Err(BoolError::Refused(Rule::Undisch));
+    }
+    Ok(applied::undisch(alloc, a)?)
 }
 
 /// The rule of the left disjunct (bool.ml, DISJ1): from `p`, `p \/ q`.

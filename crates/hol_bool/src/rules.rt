@@ -20,9 +20,14 @@ use hol_terms::{Term, TermNode, Variable};
 use hol_types::Ty;
 use std::alloc::{AllocError, Global};
 
-// Whether the term is well typed over the basis, of the type.
+/// Whether the term is well typed over the basis, of the type.
 #[tactic(auto, using(crate::proofs::Answered::tests))]
-fn is_of_type(alloc: Global, basis: &Basis, t: &Term, ty: &Ty) -> Result<bool, AllocError>
+pub(crate) fn is_of_type(
+    alloc: Global,
+    basis: &Basis,
+    t: &Term,
+    ty: &Ty,
+) -> Result<bool, AllocError>
     ensures { IfOk result (λ is. is ≡ has_type basis.now (nameless [] t.now) ty.now) }
 {
     if !t.type_of().same(ty) {
