@@ -1,12 +1,11 @@
 -- What the bodies of definitions and projections say of arguments without free indices.
-use Rattle.std.specs.Prelude.{◌≡◌, ℕ, ◌+◌, ◌<◌, ◌≤◌, codes, refl}
+use Rattle.std.specs.Prelude.{◌≡◌, ℕ, ◌+◌, refl}
 use Rattle.std.proofs.Common.{ap, sym, ◌∙◌, arith}
 use Rattle.hol_terms.specs.Nameless.{Nameless, free, bound, fixed, app, lam}
 use Rattle.hol_subst.specs.Closing.{open_with}
-use Rattle.hol_subst.specs.Shift.{shift}
 use Rattle.hol_subst.proofs.Closing.{IsClosed, below, closed_more, shift_whole}
 use Rattle.hol_formulas.specs.Equation.{bool_type, equation}
-use Rattle.hol_formulas.specs.Formula.{connective_type, negation_type, truth, conjunction, equivalence}
+use Rattle.hol_formulas.specs.Formula.{negation_type, truth, conjunction, equivalence}
 use Rattle.hol_bool.specs.Applied.{defining, defining_connective, pair, pair_type}
 
 -- a connective's defining equation is that of a function

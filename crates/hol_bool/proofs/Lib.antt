@@ -5,4 +5,5 @@ pub mod Connected
 pub mod Chains
 pub mod Answered
 pub mod ConnectiveRules
+pub mod KeptHypotheses
 pub mod RuleLaws

@@ -29,18 +29,18 @@ abbrev pub unfolded : Nameless → Sequent → Sequent
 unfolded x a = sequent_of a.hyps (equation (range_of (side_type a.concl)) (app (lhs a.concl) x) (open_with x 0 (body (rhs a.concl))))
 
 -- \p q. b, and what it makes of p and q
-abbrev pub of_two : Nameless → Nameless
-of_two k = lam (base_in k) bool_type (lam (base_in (body k)) bool_type (body (body k)))
+abbrev pub function_of_two : Nameless → Nameless
+function_of_two k = lam (base_in k) bool_type (lam (base_in (body k)) bool_type (body (body k)))
 
-abbrev pub value_at : Nameless → Nameless → Nameless → Nameless
-value_at k p q = open_with q 0 (open_with p 1 (body (body k)))
+abbrev pub value_of_two : Nameless → Nameless → Nameless → Nameless
+value_of_two k p q = open_with q 0 (open_with p 1 (body (body k)))
 
 -- a defining equation of a connective, and what it says at p and q
 abbrev pub defining_connective : Nameless → Nameless
-defining_connective t = equation connective_type (lhs t) (of_two (rhs t))
+defining_connective t = equation connective_type (lhs t) (function_of_two (rhs t))
 
 abbrev pub unfolded_at : Nameless → Nameless → Sequent → Sequent
-unfolded_at p q a = sequent_of a.hyps (equation bool_type (app (app (lhs a.concl) p) q) (value_at (rhs a.concl) p q))
+unfolded_at p q a = sequent_of a.hyps (equation bool_type (app (app (lhs a.concl) p) q) (value_of_two (rhs a.concl) p q))
 
 -- \x:a. T
 abbrev pub constantly_true : TypeTree → Nameless

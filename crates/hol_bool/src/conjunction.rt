@@ -8,7 +8,7 @@ ghost use Rattle.hol_kernel.specs.Sequent.{no_hyps, sequent_of};
 ghost use Rattle.hol_kernel.specs.Theorem.{theorem_on};
 ghost use Rattle.hol_kernel.specs.Typing.{HasType};
 ghost use Rattle.hol_equal.specs.Applied.{lhs, rhs, side_type, under};
-ghost use Rattle.hol_bool.specs.Applied.{of_two, value_at, pair, pair_type, both_true, and_unfolded, first_conjunct, second_conjunct};
+ghost use Rattle.hol_bool.specs.Applied.{function_of_two, value_of_two, pair, pair_type, both_true, and_unfolded, first_conjunct, second_conjunct};
 ghost use Rattle.hol_bool.specs.Rules.{conj_of};
 
 use crate::definitions::{definition, unfold, unfold_at};
@@ -23,7 +23,7 @@ use hol_terms::Term;
 use hol_types::Name;
 use std::alloc::{AllocError, Global};
 
-/// What the definition of `/\` says of two formulas: `p /\ q = ((\f. f p q) = (\f. f T T))`.
+// What the definition of `/\` says of two formulas: `p /\ q = ((\f. f p q) = (\f. f T T))`.
 fn and_at(alloc: Global, basis: &Basis, p: &Term, q: &Term) -> Result<Thm, AllocError>
     requires first { HasType basis.now (nameless [] p.now) bool_type }
     requires second { HasType basis.now (nameless [] q.now) bool_type }
@@ -112,11 +112,11 @@ fn projection(alloc: Global, name: &str) -> Result<Term, AllocError>
 
 // `k p q = b` with these for the variables, where `k` is `\p q. b`.
 fn value(alloc: Global, basis: &Basis, k: &Term, p: &Term, q: &Term) -> Result<Thm, AllocError>
-    requires is { nameless [] k.now ≡ of_two (nameless [] k.now) }
+    requires is { nameless [] k.now ≡ function_of_two (nameless [] k.now) }
     requires function { HasType basis.now (nameless [] k.now) connective_type }
     requires first { HasType basis.now (nameless [] p.now) bool_type }
     requires second { HasType basis.now (nameless [] q.now) bool_type }
-    ensures { IfOk result (λ th. th ≡ theorem_on basis.now (sequent_of no_hyps (equation bool_type (app (app (nameless [] k.now) (nameless [] p.now)) (nameless [] q.now)) (value_at (nameless [] k.now) (nameless [] p.now) (nameless [] q.now))))) }
+    ensures { IfOk result (λ th. th ≡ theorem_on basis.now (sequent_of no_hyps (equation bool_type (app (app (nameless [] k.now) (nameless [] p.now)) (nameless [] q.now)) (value_of_two (nameless [] k.now) (nameless [] p.now) (nameless [] q.now))))) }
 {
     let ty = connective_type(alloc)?;
     let same = refl(alloc, basis, &ty, k)?;
@@ -133,12 +133,12 @@ fn value_of_pair(
     q: &Term,
 ) -> Result<Thm, AllocError>
     requires pair { nameless [] both.now ≡ pair (nameless [] p.now) (nameless [] q.now) }
-    requires is { nameless [] k.now ≡ of_two (nameless [] k.now) }
+    requires is { nameless [] k.now ≡ function_of_two (nameless [] k.now) }
     requires typed { HasType basis.now (nameless [] both.now) pair_type }
     requires function { HasType basis.now (nameless [] k.now) connective_type }
     requires first { HasType basis.now (nameless [] p.now) bool_type }
     requires second { HasType basis.now (nameless [] q.now) bool_type }
-    ensures { IfOk result (λ th. th ≡ theorem_on basis.now (sequent_of no_hyps (equation bool_type (app (pair (nameless [] p.now) (nameless [] q.now)) (nameless [] k.now)) (value_at (nameless [] k.now) (nameless [] p.now) (nameless [] q.now))))) }
+    ensures { IfOk result (λ th. th ≡ theorem_on basis.now (sequent_of no_hyps (equation bool_type (app (pair (nameless [] p.now) (nameless [] q.now)) (nameless [] k.now)) (value_of_two (nameless [] k.now) (nameless [] p.now) (nameless [] q.now))))) }
 {
     let redex = Term::application(alloc, both, k)?;
     let ty = bool_type(alloc)?;
@@ -150,9 +150,9 @@ fn value_of_pair(
 // From `(\f. f p q) = (\f. f T T)`, `(\f. f p q) k = b` with `T` for both variables.
 fn value_of_truths(alloc: Global, a: &Thm, k: &Term, p: &Term, q: &Term) -> Result<Thm, AllocError>
     requires pairs { a.now.sequent.concl ≡ both_true (nameless [] p.now) (nameless [] q.now) }
-    requires is { nameless [] k.now ≡ of_two (nameless [] k.now) }
+    requires is { nameless [] k.now ≡ function_of_two (nameless [] k.now) }
     requires function { HasType a.now.basis (nameless [] k.now) connective_type }
-    ensures { IfOk result (λ th. th ≡ theorem_on a.now.basis (sequent_of a.now.sequent.hyps (equation bool_type (app (pair (nameless [] p.now) (nameless [] q.now)) (nameless [] k.now)) (value_at (nameless [] k.now) truth truth)))) }
+    ensures { IfOk result (λ th. th ≡ theorem_on a.now.basis (sequent_of a.now.sequent.hyps (equation bool_type (app (pair (nameless [] p.now) (nameless [] q.now)) (nameless [] k.now)) (value_of_two (nameless [] k.now) truth truth)))) }
 {
     let ty = connective_type(alloc)?;
     let truth = bool_type(alloc)?;
@@ -165,12 +165,12 @@ fn value_of_truths(alloc: Global, a: &Thm, k: &Term, p: &Term, q: &Term) -> Resu
 // From `(\f. f p q) = (\f. f T T)`, `b` with `p` and `q` for the variables, where it is `T` of truths.
 fn component(alloc: Global, a: &Thm, k: &Term, p: &Term, q: &Term) -> Result<Thm, AllocError>
     requires pairs { a.now.sequent.concl ≡ both_true (nameless [] p.now) (nameless [] q.now) }
-    requires is { nameless [] k.now ≡ of_two (nameless [] k.now) }
-    requires truths { value_at (nameless [] k.now) truth truth ≡ truth }
+    requires is { nameless [] k.now ≡ function_of_two (nameless [] k.now) }
+    requires truths { value_of_two (nameless [] k.now) truth truth ≡ truth }
     requires function { HasType a.now.basis (nameless [] k.now) connective_type }
     requires first { HasType a.now.basis (nameless [] p.now) bool_type }
     requires second { HasType a.now.basis (nameless [] q.now) bool_type }
-    ensures { IfOk result (λ th. th ≡ theorem_on a.now.basis (sequent_of a.now.sequent.hyps (value_at (nameless [] k.now) (nameless [] p.now) (nameless [] q.now)))) }
+    ensures { IfOk result (λ th. th ≡ theorem_on a.now.basis (sequent_of a.now.sequent.hyps (value_of_two (nameless [] k.now) (nameless [] p.now) (nameless [] q.now)))) }
 {
     a.well_typed();
     let Some(sides) = sides_of(a) else {
@@ -186,10 +186,10 @@ fn component(alloc: Global, a: &Thm, k: &Term, p: &Term, q: &Term) -> Result<Thm
 // From `p /\ q`, `b` with `p` and `q` for the variables, where it is `T` of truths.
 fn conjunct(alloc: Global, a: &Thm, k: &Term) -> Result<Thm, AllocError>
     requires conjunction { a.now.sequent.concl ≡ conjunction (lhs a.now.sequent.concl) (rhs a.now.sequent.concl) }
-    requires is { nameless [] k.now ≡ of_two (nameless [] k.now) }
-    requires truths { value_at (nameless [] k.now) truth truth ≡ truth }
+    requires is { nameless [] k.now ≡ function_of_two (nameless [] k.now) }
+    requires truths { value_of_two (nameless [] k.now) truth truth ≡ truth }
     requires function { HasType a.now.basis (nameless [] k.now) connective_type }
-    ensures { IfOk result (λ th. th ≡ theorem_on a.now.basis (sequent_of a.now.sequent.hyps (value_at (nameless [] k.now) (lhs a.now.sequent.concl) (rhs a.now.sequent.concl)))) }
+    ensures { IfOk result (λ th. th ≡ theorem_on a.now.basis (sequent_of a.now.sequent.hyps (value_of_two (nameless [] k.now) (lhs a.now.sequent.concl) (rhs a.now.sequent.concl)))) }
 {
     a.well_typed();
     let Some((p, q)) = dest_conj(a.concl()) else {

@@ -30,7 +30,7 @@ fn imp_at(alloc: Global, basis: &Basis, p: &Term, q: &Term) -> Result<Thm, Alloc
 }
 
 // From `p ==> q`, `p /\ q <=> p`.
-fn unfolded(alloc: Global, a: &Thm) -> Result<Thm, AllocError>
+fn as_equivalence(alloc: Global, a: &Thm) -> Result<Thm, AllocError>
     requires is { a.now.sequent.concl ≡ implication (lhs a.now.sequent.concl) (rhs a.now.sequent.concl) }
     ensures { IfOk result (λ th. th ≡ theorem_on a.now.basis (sequent_of a.now.sequent.hyps (equivalence (conjunction (lhs a.now.sequent.concl) (rhs a.now.sequent.concl)) (lhs a.now.sequent.concl)))) }
 {
@@ -49,7 +49,7 @@ pub fn mp(alloc: Global, a: &Thm, b: &Thm) -> Result<Thm, AllocError>
     requires fits { strip (lhs a.now.sequent.concl) ≡ strip b.now.sequent.concl }
     ensures { IfOk result (λ th. th ≡ theorem_on a.now.basis (implied a.now.sequent b.now.sequent)) }
 {
-    let own = unfolded(alloc, a)?;
+    let own = as_equivalence(alloc, a)?;
     let back = sym(alloc, &own)?;
     let both = eq_mp(alloc, &back, b)?;
     conjunct2(alloc, &both)

@@ -13,7 +13,7 @@ use Rattle.hol_equal.proofs.Applies.{sides}
 use Rattle.hol_equal.proofs.HypSets.{none_left}
 use Rattle.hol_equal.proofs.Outcomes.{became}
 use Rattle.hol_equal.specs.Applied.{lhs}
-use Rattle.hol_bool.specs.Applied.{pair, pair_type, value_at, true_of}
+use Rattle.hol_bool.specs.Applied.{pair, pair_type, value_of_two, true_of}
 use Rattle.hol_bool.proofs.Chains.{one_basis, sym_fits, turned, trans_fits, chained}
 use Rattle.hol_bool.proofs.conjunction.component.Goals as goal
 
@@ -38,8 +38,8 @@ sym-requires c =
     let p = nameless [] c.args.p.now in
     let q = nameless [] c.args.q.now in
     let redex = app (pair p q) k in
-    let own : c.in_ok-own.own ≡ theorem_on B (sequent_of no_hyps (equation bool_type redex (value_at k p q))) = c.in_ok-own.ensures ∙ (λ i. theorem_on (c.basis.ensures i) (sequent_of no_hyps (equation bool_type redex (value_at k p q)))) in
-    record { applies = sym_fits B c.in_ok-own.own no_hyps bool_type redex (value_at k p q) own }
+    let own : c.in_ok-own.own ≡ theorem_on B (sequent_of no_hyps (equation bool_type redex (value_of_two k p q))) = c.in_ok-own.ensures ∙ (λ i. theorem_on (c.basis.ensures i) (sequent_of no_hyps (equation bool_type redex (value_of_two k p q)))) in
+    record { applies = sym_fits B c.in_ok-own.own no_hyps bool_type redex (value_of_two k p q) own }
 
 pub value_of_truths-requires : goal.value_of_truths-requires
 value_of_truths-requires c =
@@ -53,10 +53,10 @@ trans-requires c =
     let p = nameless [] c.args.p.now in
     let q = nameless [] c.args.q.now in
     let redex = app (pair p q) k in
-    let own : c.in_ok-own.own ≡ theorem_on B (sequent_of no_hyps (equation bool_type redex (value_at k p q))) = c.in_ok-own.ensures ∙ (λ i. theorem_on (c.basis.ensures i) (sequent_of no_hyps (equation bool_type redex (value_at k p q)))) in
-    let back : c.in_ok-back.back ≡ theorem_on B (sequent_of no_hyps (equation bool_type (value_at k p q) redex)) = c.in_ok-back.ensures ∙ turned B c.in_ok-own.own no_hyps bool_type redex (value_at k p q) own in
+    let own : c.in_ok-own.own ≡ theorem_on B (sequent_of no_hyps (equation bool_type redex (value_of_two k p q))) = c.in_ok-own.ensures ∙ (λ i. theorem_on (c.basis.ensures i) (sequent_of no_hyps (equation bool_type redex (value_of_two k p q)))) in
+    let back : c.in_ok-back.back ≡ theorem_on B (sequent_of no_hyps (equation bool_type (value_of_two k p q) redex)) = c.in_ok-back.ensures ∙ turned B c.in_ok-own.own no_hyps bool_type redex (value_of_two k p q) own in
     let right : c.in_ok-right.right ≡ theorem_on B (sequent_of hs (equation bool_type redex truth)) = c.in_ok-right.ensures ∙ ap (λ (u : Nameless). theorem_on B (sequent_of hs (equation bool_type redex u))) c.requires.truths in
-    record { one_basis = one_basis B c.in_ok-back.back c.in_ok-right.right (sequent_of no_hyps (equation bool_type (value_at k p q) redex)) (sequent_of hs (equation bool_type redex truth)) back right; applies = trans_fits B c.in_ok-back.back c.in_ok-right.right no_hyps hs bool_type (value_at k p q) redex truth back right }
+    record { one_basis = one_basis B c.in_ok-back.back c.in_ok-right.right (sequent_of no_hyps (equation bool_type (value_of_two k p q) redex)) (sequent_of hs (equation bool_type redex truth)) back right; applies = trans_fits B c.in_ok-back.back c.in_ok-right.right no_hyps hs bool_type (value_of_two k p q) redex truth back right }
 
 pub eqt_elim-requires : goal.eqt_elim-requires
 eqt_elim-requires c =
@@ -66,10 +66,10 @@ eqt_elim-requires c =
     let p = nameless [] c.args.p.now in
     let q = nameless [] c.args.q.now in
     let redex = app (pair p q) k in
-    let own : c.in_ok-own.own ≡ theorem_on B (sequent_of no_hyps (equation bool_type redex (value_at k p q))) = c.in_ok-own.ensures ∙ (λ i. theorem_on (c.basis.ensures i) (sequent_of no_hyps (equation bool_type redex (value_at k p q)))) in
-    let back : c.in_ok-back.back ≡ theorem_on B (sequent_of no_hyps (equation bool_type (value_at k p q) redex)) = c.in_ok-back.ensures ∙ turned B c.in_ok-own.own no_hyps bool_type redex (value_at k p q) own in
+    let own : c.in_ok-own.own ≡ theorem_on B (sequent_of no_hyps (equation bool_type redex (value_of_two k p q))) = c.in_ok-own.ensures ∙ (λ i. theorem_on (c.basis.ensures i) (sequent_of no_hyps (equation bool_type redex (value_of_two k p q)))) in
+    let back : c.in_ok-back.back ≡ theorem_on B (sequent_of no_hyps (equation bool_type (value_of_two k p q) redex)) = c.in_ok-back.ensures ∙ turned B c.in_ok-own.own no_hyps bool_type redex (value_of_two k p q) own in
     let right : c.in_ok-right.right ≡ theorem_on B (sequent_of hs (equation bool_type redex truth)) = c.in_ok-right.ensures ∙ ap (λ (u : Nameless). theorem_on B (sequent_of hs (equation bool_type redex u))) c.requires.truths in
-    let holds : c.in_ok-holds.holds ≡ theorem_on B (sequent_of (set.union no_hyps hs) (equation bool_type (value_at k p q) truth)) = c.in_ok-holds.ensures ∙ chained B c.in_ok-back.back c.in_ok-right.right no_hyps hs bool_type (value_at k p q) redex truth back right in
+    let holds : c.in_ok-holds.holds ≡ theorem_on B (sequent_of (set.union no_hyps hs) (equation bool_type (value_of_two k p q) truth)) = c.in_ok-holds.ensures ∙ chained B c.in_ok-back.back c.in_ok-right.right no_hyps hs bool_type (value_of_two k p q) redex truth back right in
     rw holds refl
 
 pub returns : goal.returns
@@ -80,9 +80,9 @@ returns c =
     let p = nameless [] c.args.p.now in
     let q = nameless [] c.args.q.now in
     let redex = app (pair p q) k in
-    let own : c.in_ok-own.own ≡ theorem_on B (sequent_of no_hyps (equation bool_type redex (value_at k p q))) = c.in_ok-own.ensures ∙ (λ i. theorem_on (c.basis.ensures i) (sequent_of no_hyps (equation bool_type redex (value_at k p q)))) in
-    let back : c.in_ok-back.back ≡ theorem_on B (sequent_of no_hyps (equation bool_type (value_at k p q) redex)) = c.in_ok-back.ensures ∙ turned B c.in_ok-own.own no_hyps bool_type redex (value_at k p q) own in
+    let own : c.in_ok-own.own ≡ theorem_on B (sequent_of no_hyps (equation bool_type redex (value_of_two k p q))) = c.in_ok-own.ensures ∙ (λ i. theorem_on (c.basis.ensures i) (sequent_of no_hyps (equation bool_type redex (value_of_two k p q)))) in
+    let back : c.in_ok-back.back ≡ theorem_on B (sequent_of no_hyps (equation bool_type (value_of_two k p q) redex)) = c.in_ok-back.ensures ∙ turned B c.in_ok-own.own no_hyps bool_type redex (value_of_two k p q) own in
     let right : c.in_ok-right.right ≡ theorem_on B (sequent_of hs (equation bool_type redex truth)) = c.in_ok-right.ensures ∙ ap (λ (u : Nameless). theorem_on B (sequent_of hs (equation bool_type redex u))) c.requires.truths in
-    let holds : c.in_ok-holds.holds ≡ theorem_on B (sequent_of (set.union no_hyps hs) (equation bool_type (value_at k p q) truth)) = c.in_ok-holds.ensures ∙ chained B c.in_ok-back.back c.in_ok-right.right no_hyps hs bool_type (value_at k p q) redex truth back right in
-    became c.eqt_elim.result (theorem_on c.in_ok-holds.holds.basis (true_of c.in_ok-holds.holds.sequent)) (theorem_on B (sequent_of hs (value_at k p q))) c.eqt_elim.ensures
-    ((λ i. theorem_on (holds i).basis (true_of (holds i).sequent)) ∙ ap (λ (ks : Hyps). theorem_on B (sequent_of ks (value_at k p q))) (none_left hs))
+    let holds : c.in_ok-holds.holds ≡ theorem_on B (sequent_of (set.union no_hyps hs) (equation bool_type (value_of_two k p q) truth)) = c.in_ok-holds.ensures ∙ chained B c.in_ok-back.back c.in_ok-right.right no_hyps hs bool_type (value_of_two k p q) redex truth back right in
+    became c.eqt_elim.result (theorem_on c.in_ok-holds.holds.basis (true_of c.in_ok-holds.holds.sequent)) (theorem_on B (sequent_of hs (value_of_two k p q))) c.eqt_elim.ensures
+    ((λ i. theorem_on (holds i).basis (true_of (holds i).sequent)) ∙ ap (λ (ks : Hyps). theorem_on B (sequent_of ks (value_of_two k p q))) (none_left hs))

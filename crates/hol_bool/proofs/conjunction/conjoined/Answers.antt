@@ -1,14 +1,13 @@
-use Rattle.std.proofs.Common.{◌≡◌, ap, sym, ◌∙◌, [], Some, refl, codes}
+use Rattle.std.proofs.Common.{◌≡◌, ap, ◌∙◌, [], refl, codes}
 use Rattle.hol_terms.specs.Named.{constant}
 use Rattle.hol_terms.specs.Nameless.{nameless, fixed}
 use Rattle.hol_formulas.specs.Equation.{bool_type}
 use Rattle.hol_formulas.specs.Formula.{connective_type, negation_type}
-use Rattle.hol_kernel.specs.Sequent.{no_hyps, sequent_of}
-use Rattle.hol_kernel.specs.Rules.{reflexive, mk_comb_of}
+use Rattle.hol_kernel.specs.Sequent.{no_hyps}
 use Rattle.hol_kernel.specs.Theorem.{theorem_on}
 use Rattle.hol_equal.proofs.Applies.{mk_comb_yes}
 use Rattle.hol_equal.proofs.Outcomes.{became}
-use Rattle.hol_equal.specs.Applied.{combined, under, lhs, rhs}
+use Rattle.hol_equal.specs.Applied.{under, lhs, rhs}
 use Rattle.hol_bool.proofs.conjunction.conjoined.Goals as goal
 
 pub ap_term-requires : goal.ap_term-requires

@@ -9,7 +9,7 @@ use Rattle.hol_kernel.specs.Typing.{HasType}
 use Rattle.hol_equal.proofs.HypSets.{none_left}
 use Rattle.hol_equal.proofs.Outcomes.{became}
 use Rattle.hol_equal.specs.Applied.{lhs, rhs}
-use Rattle.hol_bool.specs.Applied.{both_true, and_unfolded, value_at}
+use Rattle.hol_bool.specs.Applied.{both_true, and_unfolded, value_of_two}
 use Rattle.hol_bool.proofs.Chains.{eq_mp_fits, followed}
 use Rattle.hol_bool.proofs.Connected.{operands_typed, operands_are, operands_found}
 use Rattle.hol_bool.proofs.conjunction.conjunct.Goals as goal
@@ -65,5 +65,5 @@ returns c =
     let given : c.args.a.now ≡ theorem_on B (sequent_of s.hyps (conjunction l r)) = λ i. theorem_on B (sequent_of s.hyps (c.requires.conjunction i)) in
     let pairs : c.in_ok-pairs.pairs ≡ theorem_on B (sequent_of (set.union no_hyps s.hyps) (both_true l r)) = c.in_ok-pairs.ensures ∙ followed B c.in_ok-own.own c.args.a.now no_hyps s.hyps bool_type (conjunction l r) (both_true l r) (conjunction l r) refl own given in
     let k = nameless [] c.args.k.now in
-    became c.component.result (theorem_on c.in_ok-pairs.pairs.basis (sequent_of c.in_ok-pairs.pairs.sequent.hyps (value_at k (nameless [] c.in-Some.p.now) (nameless [] c.in-Some.q.now)))) (theorem_on B (sequent_of s.hyps (value_at k l r))) c.component.ensures
-    ((λ i. theorem_on (pairs i).basis (sequent_of (pairs i).sequent.hyps (value_at k (are.0 i) (are.1 i)))) ∙ ap (λ (hs : Hyps). theorem_on B (sequent_of hs (value_at k l r))) (none_left s.hyps))
+    became c.component.result (theorem_on c.in_ok-pairs.pairs.basis (sequent_of c.in_ok-pairs.pairs.sequent.hyps (value_of_two k (nameless [] c.in-Some.p.now) (nameless [] c.in-Some.q.now)))) (theorem_on B (sequent_of s.hyps (value_of_two k l r))) c.component.ensures
+    ((λ i. theorem_on (pairs i).basis (sequent_of (pairs i).sequent.hyps (value_of_two k (are.0 i) (are.1 i)))) ∙ ap (λ (hs : Hyps). theorem_on B (sequent_of hs (value_of_two k l r))) (none_left s.hyps))

@@ -6,7 +6,7 @@ use Rattle.hol_kernel.specs.Theorem.{theorem_on}
 use Rattle.hol_kernel.specs.Typing.{HasType}
 use Rattle.hol_equal.proofs.Outcomes.{became}
 use Rattle.hol_equal.specs.Applied.{lhs, rhs}
-use Rattle.hol_bool.specs.Applied.{value_at, first_conjunct}
+use Rattle.hol_bool.specs.Applied.{value_of_two, first_conjunct}
 use Rattle.hol_bool.proofs.Bodies.{first_value}
 use Rattle.hol_bool.proofs.Connected.{operands_typed, typed_whole}
 use Rattle.hol_bool.proofs.conjunction.conjunct1.Goals as goal
@@ -24,5 +24,5 @@ returns c =
     let r = rhs s.concl in
     let k : nameless [] c.in_ok-first.first ≡ lam (codes "p") bool_type (lam (codes "q") bool_type (bound 1)) = ap (nameless []) c.in_ok-first.ensures in
     let typed : HasType B l bool_type × HasType B r bool_type = operands_typed B (codes "/\\") l r bool_type (subst (λ (u : Nameless). HasType B u bool_type) c.requires.is c.well_typed.ensures.conclusion) in
-    became c.conjunct.result (theorem_on B (sequent_of s.hyps (value_at (nameless [] c.in_ok-first.first) l r))) (theorem_on B (first_conjunct s)) c.conjunct.ensures
-    ((λ i. theorem_on B (sequent_of s.hyps (value_at (k i) l r))) ∙ ap (λ (u : Nameless). theorem_on B (sequent_of s.hyps u)) (first_value l r (typed_whole B l bool_type typed.0) (typed_whole B r bool_type typed.1)))
+    became c.conjunct.result (theorem_on B (sequent_of s.hyps (value_of_two (nameless [] c.in_ok-first.first) l r))) (theorem_on B (first_conjunct s)) c.conjunct.ensures
+    ((λ i. theorem_on B (sequent_of s.hyps (value_of_two (k i) l r))) ∙ ap (λ (u : Nameless). theorem_on B (sequent_of s.hyps u)) (first_value l r (typed_whole B l bool_type typed.0) (typed_whole B r bool_type typed.1)))

@@ -1,6 +1,5 @@
 use Rattle.std.proofs.Common.{◌≡◌, ap, sym, ◌∙◌, subst, [], Some}
 use Rattle.std.specs.Prelude.{None}
-use Rattle.hol_types.specs.Tree.{TypeTree}
 use Rattle.hol_terms.specs.Nameless.{Nameless, nameless}
 use Rattle.hol_formulas.specs.Equation.{equation, dest_eq, bool_type}
 use Rattle.hol_formulas.proofs.FormulaLaws.{dest_eq_equation}

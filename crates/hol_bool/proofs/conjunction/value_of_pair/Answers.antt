@@ -1,4 +1,4 @@
-use Rattle.std.proofs.Common.{◌≡◌, ap, sym, ◌∙◌, subst, [], codes}
+use Rattle.std.proofs.Common.{◌≡◌, ap, ◌∙◌, subst, [], codes}
 use Rattle.hol_terms.specs.Nameless.{Nameless, nameless, bound, app}
 use Rattle.hol_subst.proofs.Closing.{closed_named}
 use Rattle.hol_formulas.specs.Equation.{equation, bool_type}
@@ -11,7 +11,7 @@ use Rattle.hol_equal.proofs.HypSets.{none_left}
 use Rattle.hol_equal.proofs.Outcomes.{became}
 use Rattle.hol_equal.proofs.Typings.{applied_typed, typed_fits}
 use Rattle.hol_equal.specs.Applied.{contraction, transitive}
-use Rattle.hol_bool.specs.Applied.{pair, value_at}
+use Rattle.hol_bool.specs.Applied.{pair, value_of_two}
 use Rattle.hol_bool.proofs.Chains.{one_basis, trans_fits, chained}
 use Rattle.hol_bool.proofs.Bodies.{pair_value}
 use Rattle.hol_bool.proofs.conjunction.value_of_pair.Goals as goal
@@ -46,7 +46,7 @@ trans-requires c =
     c.in_ok-contracted.ensures ∙ (λ i. theorem_on B (contraction (c.in_ok-ty.ensures i) (redex i)))
     ∙ ap (λ (u : Nameless). theorem_on B (sequent_of no_hyps (equation bool_type (app (pair p q) k) u))) (pair_value p q (closed_named c.args.p.now) (closed_named c.args.q.now) k (closed_named c.args.k.now)) in
     let middle = app (app k p) q in
-    record { one_basis = one_basis B c.in_ok-contracted.contracted c.in_ok-own.own (sequent_of no_hyps (equation bool_type (app (pair p q) k) middle)) (sequent_of no_hyps (equation bool_type middle (value_at k p q))) contracted c.in_ok-own.ensures; applies = trans_fits B c.in_ok-contracted.contracted c.in_ok-own.own no_hyps no_hyps bool_type (app (pair p q) k) middle (value_at k p q) contracted c.in_ok-own.ensures }
+    record { one_basis = one_basis B c.in_ok-contracted.contracted c.in_ok-own.own (sequent_of no_hyps (equation bool_type (app (pair p q) k) middle)) (sequent_of no_hyps (equation bool_type middle (value_of_two k p q))) contracted c.in_ok-own.ensures; applies = trans_fits B c.in_ok-contracted.contracted c.in_ok-own.own no_hyps no_hyps bool_type (app (pair p q) k) middle (value_of_two k p q) contracted c.in_ok-own.ensures }
 
 pub returns : goal.returns
 returns c =
@@ -58,6 +58,6 @@ returns c =
     let contracted : c.in_ok-contracted.contracted ≡ theorem_on B (sequent_of no_hyps (equation bool_type (app (pair p q) k) (app (app k p) q))) =
     c.in_ok-contracted.ensures ∙ (λ i. theorem_on B (contraction (c.in_ok-ty.ensures i) (redex i)))
     ∙ ap (λ (u : Nameless). theorem_on B (sequent_of no_hyps (equation bool_type (app (pair p q) k) u))) (pair_value p q (closed_named c.args.p.now) (closed_named c.args.q.now) k (closed_named c.args.k.now)) in
-    let whole = equation bool_type (app (pair p q) k) (value_at k p q) in
+    let whole = equation bool_type (app (pair p q) k) (value_of_two k p q) in
     became c.trans.result (theorem_on c.in_ok-contracted.contracted.basis (transitive c.in_ok-contracted.contracted.sequent c.in_ok-own.own.sequent)) (theorem_on B (sequent_of no_hyps whole)) c.trans.ensures
-    (chained B c.in_ok-contracted.contracted c.in_ok-own.own no_hyps no_hyps bool_type (app (pair p q) k) (app (app k p) q) (value_at k p q) contracted c.in_ok-own.ensures ∙ ap (λ (hs : Hyps). theorem_on B (sequent_of hs whole)) (none_left no_hyps))
+    (chained B c.in_ok-contracted.contracted c.in_ok-own.own no_hyps no_hyps bool_type (app (pair p q) k) (app (app k p) q) (value_of_two k p q) contracted c.in_ok-own.ensures ∙ ap (λ (hs : Hyps). theorem_on B (sequent_of hs whole)) (none_left no_hyps))

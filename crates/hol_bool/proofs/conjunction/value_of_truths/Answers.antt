@@ -8,7 +8,7 @@ use Rattle.hol_kernel.specs.Theorem.{theorem_on}
 use Rattle.hol_equal.proofs.HypSets.{none_right}
 use Rattle.hol_equal.proofs.Outcomes.{became}
 use Rattle.hol_equal.specs.Applied.{transitive}
-use Rattle.hol_bool.specs.Applied.{pair, unfolded, value_at}
+use Rattle.hol_bool.specs.Applied.{pair, unfolded, value_of_two}
 use Rattle.hol_bool.proofs.Chains.{one_basis, trans_fits, chained}
 use Rattle.hol_bool.proofs.Bodies.{pair_value}
 use Rattle.hol_bool.proofs.Typed.{truth_typed}
@@ -35,10 +35,10 @@ trans-requires c =
     let applied : c.in_ok-applied.applied ≡ theorem_on B (sequent_of hs (equation bool_type (app (pair p q) k) (app (app k truth) truth))) =
     c.in_ok-applied.ensures ∙ (λ i. theorem_on B (unfolded k (sequent_of hs (c.requires.pairs i))))
     ∙ ap (λ (u : Nameless). theorem_on B (sequent_of hs (equation bool_type (app (pair p q) k) u))) (pair_value truth truth tt tt k (closed_named c.args.k.now)) in
-    let own : c.in_ok-own.own ≡ theorem_on B (sequent_of no_hyps (equation bool_type (app (app k truth) truth) (value_at k truth truth))) =
-    c.in_ok-own.ensures ∙ (λ i. theorem_on (c.basis.ensures i) (sequent_of no_hyps (equation bool_type (app (app k (t i)) (t i)) (value_at k (t i) (t i))))) in
+    let own : c.in_ok-own.own ≡ theorem_on B (sequent_of no_hyps (equation bool_type (app (app k truth) truth) (value_of_two k truth truth))) =
+    c.in_ok-own.ensures ∙ (λ i. theorem_on (c.basis.ensures i) (sequent_of no_hyps (equation bool_type (app (app k (t i)) (t i)) (value_of_two k (t i) (t i))))) in
     let middle = app (app k truth) truth in
-    record { one_basis = one_basis B c.in_ok-applied.applied c.in_ok-own.own (sequent_of hs (equation bool_type (app (pair p q) k) middle)) (sequent_of no_hyps (equation bool_type middle (value_at k truth truth))) applied own; applies = trans_fits B c.in_ok-applied.applied c.in_ok-own.own hs no_hyps bool_type (app (pair p q) k) middle (value_at k truth truth) applied own }
+    record { one_basis = one_basis B c.in_ok-applied.applied c.in_ok-own.own (sequent_of hs (equation bool_type (app (pair p q) k) middle)) (sequent_of no_hyps (equation bool_type middle (value_of_two k truth truth))) applied own; applies = trans_fits B c.in_ok-applied.applied c.in_ok-own.own hs no_hyps bool_type (app (pair p q) k) middle (value_of_two k truth truth) applied own }
 
 pub returns : goal.returns
 returns c =
@@ -51,8 +51,8 @@ returns c =
     let applied : c.in_ok-applied.applied ≡ theorem_on B (sequent_of hs (equation bool_type (app (pair p q) k) (app (app k truth) truth))) =
     c.in_ok-applied.ensures ∙ (λ i. theorem_on B (unfolded k (sequent_of hs (c.requires.pairs i))))
     ∙ ap (λ (u : Nameless). theorem_on B (sequent_of hs (equation bool_type (app (pair p q) k) u))) (pair_value truth truth tt tt k (closed_named c.args.k.now)) in
-    let own : c.in_ok-own.own ≡ theorem_on B (sequent_of no_hyps (equation bool_type (app (app k truth) truth) (value_at k truth truth))) =
-    c.in_ok-own.ensures ∙ (λ i. theorem_on (c.basis.ensures i) (sequent_of no_hyps (equation bool_type (app (app k (t i)) (t i)) (value_at k (t i) (t i))))) in
-    let whole = equation bool_type (app (pair p q) k) (value_at k truth truth) in
+    let own : c.in_ok-own.own ≡ theorem_on B (sequent_of no_hyps (equation bool_type (app (app k truth) truth) (value_of_two k truth truth))) =
+    c.in_ok-own.ensures ∙ (λ i. theorem_on (c.basis.ensures i) (sequent_of no_hyps (equation bool_type (app (app k (t i)) (t i)) (value_of_two k (t i) (t i))))) in
+    let whole = equation bool_type (app (pair p q) k) (value_of_two k truth truth) in
     became c.trans.result (theorem_on c.in_ok-applied.applied.basis (transitive c.in_ok-applied.applied.sequent c.in_ok-own.own.sequent)) (theorem_on B (sequent_of hs whole)) c.trans.ensures
-    (chained B c.in_ok-applied.applied c.in_ok-own.own hs no_hyps bool_type (app (pair p q) k) (app (app k truth) truth) (value_at k truth truth) applied own ∙ ap (λ (ks : Hyps). theorem_on B (sequent_of ks whole)) (none_right hs))
+    (chained B c.in_ok-applied.applied c.in_ok-own.own hs no_hyps bool_type (app (pair p q) k) (app (app k truth) truth) (value_of_two k truth truth) applied own ∙ ap (λ (ks : Hyps). theorem_on B (sequent_of ks whole)) (none_right hs))

@@ -10,8 +10,8 @@ use Rattle.hol_bool.specs.Applied.{implied, second_conjunct}
 use Rattle.hol_bool.proofs.Chains.{one_basis, sym_fits, turned, eq_mp_fits, followed}
 use Rattle.hol_bool.proofs.implication.mp.Goals as goal
 
-pub unfolded-requires : goal.unfolded-requires
-unfolded-requires c =
+pub as_equivalence-requires : goal.as_equivalence-requires
+as_equivalence-requires c =
     record { is = c.requires.is }
 
 pub sym-requires : goal.sym-requires

@@ -11,7 +11,7 @@ use Rattle.hol_equal.specs.Applied.{lhs, rhs, concluded}
 use Rattle.hol_bool.specs.Applied.{imp_unfolded}
 use Rattle.hol_bool.proofs.Chains.{eq_mp_fits, followed}
 use Rattle.hol_bool.proofs.Connected.{operands_typed, operands_are, operands_found}
-use Rattle.hol_bool.proofs.implication.unfolded.Goals as goal
+use Rattle.hol_bool.proofs.implication.as_equivalence.Goals as goal
 
 pub unreachable-requires : goal.unreachable-requires
 unreachable-requires c =
