@@ -9,13 +9,15 @@ use Rattle.hol_terms.specs.Named.{Named, var, constant, comb, abs}
 use Rattle.hol_terms.specs.Nameless.{Nameless}
 use Rattle.hol_subst.specs.Closing.{open_with}
 use Rattle.hol_subst.specs.Variant.{is_free_in}
+use Rattle.hol_formulas.specs.Equation.{bool_type}
 use Rattle.hol_formulas.specs.Formula.{Abstraction, dest_forall}
 use Rattle.hol_kernel.specs.Sequent.{Sequent, sequent_of}
 use Rattle.hol_kernel.specs.Typing.{is_type, has_type}
 use Rattle.hol_kernel.specs.Widening.{IsMonotone}
 use Rattle.hol_kernel.proofs.Subsets.{within_of_subset}
 use Rattle.hol_kernel.proofs.Weaken.{is_type_more, has_type_more}
-use Rattle.hol_bool.specs.Rules.{spec_of, gen_of}
+use Rattle.hol_bool.specs.Rules.{spec_of, gen_of, disch_of}
+use Rattle.hol_bool.specs.Applied.{discharged}
 
 tested : (a b : Bool) (x s : Sequent) → (a ≡ true → b ≡ true) → cond a (Some x) None ≡ Some s → cond b (Some x) None ≡ Some s
 tested true b x s f e = ap (λ k. cond k (Some x) None) (f refl) ∙ e
@@ -39,3 +41,7 @@ gen_monotone (var v) a basis more h s e =
 gen_monotone (constant c t) a basis more h s e = absurd (cc)
 gen_monotone (comb f x) a basis more h s e = absurd (cc)
 gen_monotone (abs v b) a basis more h s e = absurd (cc)
+
+pub disch_monotone : (p : Nameless) (a : Sequent) → IsMonotone (λ basis. disch_of basis p a)
+disch_monotone p a basis more h s e =
+    tested (has_type basis p bool_type) (has_type more p bool_type) (discharged p a) s (has_type_more basis more (within_of_subset basis more h) p bool_type) e

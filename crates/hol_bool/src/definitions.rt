@@ -9,10 +9,10 @@ ghost use Rattle.hol_kernel.specs.Sequent.{no_hyps, sequent_of};
 ghost use Rattle.hol_kernel.specs.Typing.{HasType, is_type};
 ghost use Rattle.hol_kernel.specs.Rules.{postulate_of};
 ghost use Rattle.hol_kernel.specs.Theorem.{theorem_on};
-ghost use Rattle.hol_bool.specs.Applied.{defining, unfolded, forall_unfolded};
+ghost use Rattle.hol_bool.specs.Applied.{defining, unfolded, defining_connective, unfolded_at, forall_unfolded};
 
 use hol_equal::applied::{ap_thm, beta_conv, inst_type, sides_of, trans};
-use hol_formulas::{Postulate, bool_type};
+use hol_formulas::{Postulate, bool_type, negation_type};
 use hol_kernel::{Basis, Thm};
 use hol_terms::Term;
 use hol_types::Ty;
@@ -60,6 +60,24 @@ pub(crate) fn unfold(
     let applied = ap_thm(alloc, definition, domain, x)?;
     let contracted = beta_conv(alloc, definition.basis(), range, &redex)?;
     trans(alloc, &applied, &contracted)
+}
+
+/// What a defining equation of a connective says at two formulas: from `c = (\p q. b)`, `c p q = b` with these for `p` and `q`.
+pub(crate) fn unfold_at(
+    alloc: Global,
+    definition: &Thm,
+    p: &Term,
+    q: &Term,
+) -> Result<Thm, AllocError>
+    requires is { definition.now.sequent.concl ≡ defining_connective definition.now.sequent.concl }
+    requires first { HasType definition.now.basis (nameless [] p.now) bool_type }
+    requires second { HasType definition.now.basis (nameless [] q.now) bool_type }
+    ensures { IfOk result (λ th. th ≡ theorem_on definition.now.basis (unfolded_at (nameless [] p.now) (nameless [] q.now) definition.now.sequent)) }
+{
+    let truth = bool_type(alloc)?;
+    let rest = negation_type(alloc)?;
+    let at = unfold(alloc, definition, &truth, &rest, p)?;
+    unfold(alloc, &at, &truth, &truth, q)
 }
 
 /// What the definition of `!` says of a predicate: `(!) f = (f = (\x. T))`.

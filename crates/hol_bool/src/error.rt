@@ -12,6 +12,30 @@ pub enum Rule {
     Spec,
     /// From `p`, `!v. p`.
     Gen,
+    /// From `p` with a term for `x`, `?x. p`.
+    Exists,
+    /// From `?x. s` and `t`, `t` without the hypothesis `s`.
+    Choose,
+    /// From `p /\ q`, `p`.
+    Conjunct1,
+    /// From `p /\ q`, `q`.
+    Conjunct2,
+    /// From `p ==> q` and `p`, `q`.
+    Mp,
+    /// From `q`, `p ==> q` without the hypothesis `p`.
+    Disch,
+    /// From `p ==> q`, `q` under the hypothesis `p`.
+    Undisch,
+    /// From `p`, `p \/ q`.
+    Disj1,
+    /// From `q`, `p \/ q`.
+    Disj2,
+    /// From `p \/ q` and twice `r`, `r` without the hypotheses `p` and `q`.
+    DisjCases,
+    /// From `F`, any formula.
+    Contr,
+    /// From `~p`, `p <=> F`.
+    EqfIntro,
 }
 
 /// Why a rule of the connectives and quantifiers gives nothing.

