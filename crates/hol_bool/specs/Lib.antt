@@ -1,3 +1,4 @@
 pub mod Rules
 pub mod Refusals
 pub mod Applied
+pub mod Unfolded
