@@ -1,4 +1,5 @@
 pub mod HypLaws
+pub mod Disjunctions
 pub mod Typed
 pub mod Answered
 pub mod RuleLaws

@@ -1,3 +1,4 @@
+use Rattle.hol_bool.proofs.Disjunctions.{argument_typed, denied}
 use Rattle.hol_bool.specs.Applied.{false_of}
 use Rattle.hol_bool.specs.Unfolded.{false_under}
 use Rattle.hol_equal.proofs.Outcomes.{became}
@@ -18,7 +19,7 @@ pub unreachable-requires : goal.unreachable-requires
 unreachable-requires c =
     let s = c.args.a.now.sequent in
     let p = rand s.concl in
-    let same : Some p ≡ None = sym (ap dest_neg c.requires.is) ∙ ap dest_neg (sym c.concl.ensures.concl) ∙ c.in_default.ensures in absurd (cc)
+    let same : Some p ≡ None = sym (ap dest_neg c.requires.is) ∙ ap dest_neg (sym c.concl.ensures.concl) ∙ c.in_default.ensures.part in absurd (cc)
 
 pub false_if_denied-requires : goal.false_if_denied-requires
 false_if_denied-requires c =
@@ -26,11 +27,11 @@ false_if_denied-requires c =
     let s = c.args.a.now.sequent in
     let p = rand s.concl in
     let d = negation p in
-    let found : dest_neg s.concl ≡ Some (nameless [] c.in-Some.p.now) = ap dest_neg (sym c.concl.ensures.concl) ∙ c.in-Some.ensures in
+    let found : dest_neg s.concl ≡ Some (nameless [] c.in-Some.p.now) = ap dest_neg (sym c.concl.ensures.concl) ∙ c.in-Some.ensures.part in
     let part : nameless [] c.in-Some.p.now ≡ p = sym (ap rand (dest_unary_is (codes "~") negation_type s.concl (nameless [] c.in-Some.p.now) found)) in
     let whole : nameless [] c.concl-2.result.now ≡ d = c.concl-2.ensures.concl ∙ c.requires.is in
     let typed : HasType B d bool_type = subst (λ (u : Nameless). HasType B u bool_type) c.requires.is c.well_typed.ensures.conclusion in
-    rw (c.basis.ensures, whole, part) record { is = refl; typed = typed; part = part_of_negation B p typed }
+    rw (c.basis.ensures, whole, part) record { is = refl; typed = typed; part = argument_typed B (codes "~") bool_type bool_type bool_type p typed }
 
 pub prove_hyp-requires : goal.prove_hyp-requires
 prove_hyp-requires c =
@@ -38,7 +39,7 @@ prove_hyp-requires c =
     let s = c.args.a.now.sequent in
     let p = rand s.concl in
     let d = negation p in
-    let found : dest_neg s.concl ≡ Some (nameless [] c.in-Some.p.now) = ap dest_neg (sym c.concl.ensures.concl) ∙ c.in-Some.ensures in
+    let found : dest_neg s.concl ≡ Some (nameless [] c.in-Some.p.now) = ap dest_neg (sym c.concl.ensures.concl) ∙ c.in-Some.ensures.part in
     let part : nameless [] c.in-Some.p.now ≡ p = sym (ap rand (dest_unary_is (codes "~") negation_type s.concl (nameless [] c.in-Some.p.now) found)) in
     let whole : nameless [] c.concl-2.result.now ≡ d = c.concl-2.ensures.concl ∙ c.requires.is in
     let iff : c.in_ok-iff.iff ≡ theorem_on B (false_under d p) = rw (c.in_ok-iff.ensures, c.basis.ensures, whole, part) refl in
@@ -51,7 +52,7 @@ returns c =
     let hs = s.hyps in
     let p = rand s.concl in
     let d = negation p in
-    let found : dest_neg s.concl ≡ Some (nameless [] c.in-Some.p.now) = ap dest_neg (sym c.concl.ensures.concl) ∙ c.in-Some.ensures in
+    let found : dest_neg s.concl ≡ Some (nameless [] c.in-Some.p.now) = ap dest_neg (sym c.concl.ensures.concl) ∙ c.in-Some.ensures.part in
     let part : nameless [] c.in-Some.p.now ≡ p = sym (ap rand (dest_unary_is (codes "~") negation_type s.concl (nameless [] c.in-Some.p.now) found)) in
     let whole : nameless [] c.concl-2.result.now ≡ d = c.concl-2.ensures.concl ∙ c.requires.is in
     let iff : c.in_ok-iff.iff ≡ theorem_on B (false_under d p) = rw (c.in_ok-iff.ensures, c.basis.ensures, whole, part) refl in

@@ -9,7 +9,7 @@ use Rattle.hol_bool.proofs.falsity.from_falsity.Goals as goal
 pub assume-requires : goal.assume-requires
 assume-requires c =
     let f : nameless [] c.in_ok-falsity.falsity ≡ falsity = ap (nameless []) c.in_ok-falsity.ensures.is in
-    rw f refl
+    rw f record { typed = refl }
 
 pub contr-requires : goal.contr-requires
 contr-requires c =

@@ -52,7 +52,7 @@ undisch-requires c =
     let own : c.in_ok-own.own ≡ theorem_on B (postulate_of NotDef) = rw (c.in_ok-own.ensures, c.basis.ensures) refl in
     let meaning : c.in_ok-meaning.meaning ≡ theorem_on B (sequent_of no_hyps (equation bool_type (negation p) f)) = rw (c.in_ok-meaning.ensures, own) (ap (λ (u : Nameless). theorem_on B (sequent_of no_hyps (equation bool_type (negation p) (implication u falsity)))) stays) in
     let implies : c.in_ok-implies.implies ≡ theorem_on B (sequent_of (set.union no_hyps hs) f) = rw (c.in_ok-implies.ensures, meaning) refl in
-    rw implies refl
+    rw implies record { is = refl }
 
 pub returns : goal.returns
 returns c =
