@@ -45,7 +45,7 @@ fn eliminated(alloc: Global, a: &Thm, p: &Term, q: &Term, r: &Term) -> Result<Th
     requires is { a.now.sequent.concl ≡ disjunction (nameless [] p.now) (nameless [] q.now) }
     requires first { HasType a.now.basis (nameless [] p.now) bool_type }
     requires second { HasType a.now.basis (nameless [] q.now) bool_type }
-    requires result { HasType a.now.basis (nameless [] r.now) bool_type }
+    requires third { HasType a.now.basis (nameless [] r.now) bool_type }
     ensures { IfOk result (λ th. th ≡ theorem_on a.now.basis (sequent_of a.now.sequent.hyps (either (nameless [] p.now) (nameless [] q.now) (nameless [] r.now)))) }
 {
     let own = or_at(alloc, a.basis(), p, q)?;
