@@ -1,5 +1,5 @@
 -- Hypotheses that the derivations of the rules of falsity, disjunction and existence leave, the types of parts of formulas, and the bodies of definitions at closed terms.
-use Rattle.std.specs.Prelude.{◌≡◌, ℕ, ◌+◌, ◌<◌, ◌≤◌, true, false, not, ◌&&◌, ◌||◌, Bool, List, [], ◌∷◌, codes, Some, refl}
+use Rattle.std.specs.Prelude.{◌≡◌, ℕ, ◌+◌, ◌<◌, ◌≤◌, true, false, not, ◌&&◌, ◌||◌, Bool, List, [], ◌∷◌, codes, Some, None, refl}
 use Rattle.std.specs.Cmp.{Equal-is}
 use Rattle.std.specs.FinSet as set
 use Rattle.std.proofs.Common.{ap, sym, ◌∙◌, arith}
@@ -28,6 +28,9 @@ use Rattle.hol_bool.specs.Unfolded.{either, either_for_all, letter, side_name, r
 use Rattle.hol_bool.specs.declared.disjunction.Side.{Side}
 use Rattle.hol_bool.specs.declared.disjunction.Side.TheVariants.{Left, Right}
 use Rattle.hol_bool.proofs.HypLaws.{is, has, same, in_union, in_rest, in_one, in_none}
+
+pub not_none : {A : Type 0} (x : A) → Some x ≡ None → ⊥
+not_none x e = absurd (cc)
 
 -- ---- types of parts
 

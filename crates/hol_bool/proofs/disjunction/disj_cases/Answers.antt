@@ -1,5 +1,5 @@
 use Rattle.std.specs.FinSet as set
-use Rattle.hol_bool.proofs.Disjunctions.{operands_typed}
+use Rattle.hol_bool.proofs.Disjunctions.{not_none, operands_typed}
 use Rattle.hol_bool.specs.Applied.{by_cases, discharged, implied}
 use Rattle.hol_bool.specs.Unfolded.{either}
 use Rattle.hol_equal.proofs.Outcomes.{became}
@@ -14,7 +14,6 @@ use Rattle.hol_kernel.specs.Typing.{HasType}
 use Rattle.hol_terms.specs.Alpha.{strip}
 use Rattle.hol_terms.specs.Nameless.{Nameless, app, fixed, nameless}
 use Rattle.std.proofs.Common.{Some, [], ap, codes, refl, subst, sym, ◌∙◌, ◌≡◌}
-use Rattle.std.specs.Prelude.{None}
 use Rattle.hol_bool.proofs.disjunction.disj_cases.Goals as goal
 
 pub unreachable-requires : goal.unreachable-requires
@@ -22,14 +21,13 @@ unreachable-requires c =
     let s = c.args.a.now.sequent in
     let p = lhs s.concl in
     let q = rhs s.concl in
-    let same : Some (p, q) ≡ None = sym (ap dest_disj c.requires.is) ∙ ap dest_disj (sym c.concl.ensures.concl) ∙ c.in_default.ensures.parts in absurd (cc)
+    not_none (p, q) (sym (ap dest_disj c.requires.is) ∙ ap dest_disj (sym c.concl.ensures.concl) ∙ c.in_default.ensures.parts)
 
 pub eliminated-requires : goal.eliminated-requires
 eliminated-requires c =
     let B = c.args.a.now.basis in
     let s = c.args.a.now.sequent in
     let t = c.args.b.now.sequent in
-    let u = c.args.c.now.sequent in
     let p = lhs s.concl in
     let q = rhs s.concl in
     let r = t.concl in
@@ -40,8 +38,6 @@ eliminated-requires c =
     let rr : nameless [] c.concl-2.result.now ≡ r = c.concl-2.ensures.concl in
     let types = operands_typed B (codes "\\/") bool_type p q (subst (λ (n : Nameless). HasType B n bool_type) c.requires.is c.well_typed.ensures.conclusion) in
     let third : HasType B r bool_type = subst (λ (b : Items). HasType b r bool_type) (sym c.requires.one_basis) c.well_typed-2.ensures.conclusion in
-    let first : c.in_ok-first.first ≡ theorem_on B (discharged p t) = rw (c.in_ok-first.ensures, pp, sym c.requires.one_basis) refl in
-    let second : c.in_ok-second.second ≡ theorem_on B (discharged q u) = rw (c.in_ok-second.ensures, qq, sym c.requires.same_basis) refl in
     rw (pp, qq, rr) record { is = c.requires.is; first = types.0; second = types.1; third = third }
 
 pub disch-requires : goal.disch-requires
@@ -69,9 +65,9 @@ mp-requires c =
     let pp : nameless [] c.in-Some.p.now ≡ p = sym (ap lhs whole) in
     let qq : nameless [] c.in-Some.q.now ≡ q = sym (ap rhs whole) in
     let rr : nameless [] c.concl-2.result.now ≡ r = c.concl-2.ensures.concl in
-    let whole_either : c.in_ok-either.either ≡ theorem_on B (sequent_of s.hyps (either p q r)) = rw (c.in_ok-either.ensures, pp, qq, rr) refl in
-    let first : c.in_ok-first.first ≡ theorem_on B (discharged p t) = rw (c.in_ok-first.ensures, pp, sym c.requires.one_basis) refl in
-    rw (whole_either, first) record { one_basis = refl; is = refl; fits = refl }
+    let whole_either : c.in_ok-either.either ≡ theorem_on B (sequent_of s.hyps (either p q r)) = c.in_ok-either.ensures ∙ (λ i. theorem_on B (sequent_of s.hyps (either (pp i) (qq i) (rr i)))) in
+    let one_way : c.in_ok-first.first ≡ theorem_on B (discharged p t) = rw (c.in_ok-first.ensures, pp, sym c.requires.one_basis) refl in
+    rw (whole_either, one_way) record { one_basis = refl; is = refl; fits = refl }
 
 pub disch-requires-2 : goal.disch-requires-2
 disch-requires-2 c =
@@ -99,11 +95,11 @@ mp-requires-2 c =
     let pp : nameless [] c.in-Some.p.now ≡ p = sym (ap lhs whole) in
     let qq : nameless [] c.in-Some.q.now ≡ q = sym (ap rhs whole) in
     let rr : nameless [] c.concl-2.result.now ≡ r = c.concl-2.ensures.concl in
-    let whole_either : c.in_ok-either.either ≡ theorem_on B (sequent_of s.hyps (either p q r)) = rw (c.in_ok-either.ensures, pp, qq, rr) refl in
-    let first : c.in_ok-first.first ≡ theorem_on B (discharged p t) = rw (c.in_ok-first.ensures, pp, sym c.requires.one_basis) refl in
-    let rest : c.in_ok-rest.rest ≡ theorem_on B (sequent_of (set.union s.hyps (set.remove t.hyps (strip p))) (implication (implication q r) r)) = rw (c.in_ok-rest.ensures, whole_either, first) refl in
-    let second : c.in_ok-second.second ≡ theorem_on B (discharged q u) = rw (c.in_ok-second.ensures, qq, sym c.requires.same_basis) refl in
-    rw (rest, second) record { one_basis = refl; is = refl; fits = ap (λ (k : Nameless). app (app (fixed (codes "==>") connective_type) (strip q)) k) c.requires.fits }
+    let whole_either : c.in_ok-either.either ≡ theorem_on B (sequent_of s.hyps (either p q r)) = c.in_ok-either.ensures ∙ (λ i. theorem_on B (sequent_of s.hyps (either (pp i) (qq i) (rr i)))) in
+    let one_way : c.in_ok-first.first ≡ theorem_on B (discharged p t) = rw (c.in_ok-first.ensures, pp, sym c.requires.one_basis) refl in
+    let rest : c.in_ok-rest.rest ≡ theorem_on B (sequent_of (set.union s.hyps (set.remove t.hyps (strip p))) (implication (implication q r) r)) = rw (c.in_ok-rest.ensures, whole_either, one_way) refl in
+    let other_way : c.in_ok-second.second ≡ theorem_on B (discharged q u) = rw (c.in_ok-second.ensures, qq, sym c.requires.same_basis) refl in
+    rw (rest, other_way) record { one_basis = refl; is = refl; fits = ap (λ (k : Nameless). app (app (fixed (codes "==>") connective_type) (strip q)) k) c.requires.fits }
 
 pub returns : goal.returns
 returns c =
@@ -119,8 +115,8 @@ returns c =
     let pp : nameless [] c.in-Some.p.now ≡ p = sym (ap lhs whole) in
     let qq : nameless [] c.in-Some.q.now ≡ q = sym (ap rhs whole) in
     let rr : nameless [] c.concl-2.result.now ≡ r = c.concl-2.ensures.concl in
-    let whole_either : c.in_ok-either.either ≡ theorem_on B (sequent_of s.hyps (either p q r)) = rw (c.in_ok-either.ensures, pp, qq, rr) refl in
-    let first : c.in_ok-first.first ≡ theorem_on B (discharged p t) = rw (c.in_ok-first.ensures, pp, sym c.requires.one_basis) refl in
-    let rest : c.in_ok-rest.rest ≡ theorem_on B (sequent_of (set.union s.hyps (set.remove t.hyps (strip p))) (implication (implication q r) r)) = rw (c.in_ok-rest.ensures, whole_either, first) refl in
-    let second : c.in_ok-second.second ≡ theorem_on B (discharged q u) = rw (c.in_ok-second.ensures, qq, sym c.requires.same_basis) refl in
-    became c.mp-2.result (theorem_on c.in_ok-rest.rest.basis (implied c.in_ok-rest.rest.sequent c.in_ok-second.second.sequent)) (theorem_on B (by_cases s t u)) c.mp-2.ensures (rw (rest, second) refl)
+    let whole_either : c.in_ok-either.either ≡ theorem_on B (sequent_of s.hyps (either p q r)) = c.in_ok-either.ensures ∙ (λ i. theorem_on B (sequent_of s.hyps (either (pp i) (qq i) (rr i)))) in
+    let one_way : c.in_ok-first.first ≡ theorem_on B (discharged p t) = rw (c.in_ok-first.ensures, pp, sym c.requires.one_basis) refl in
+    let rest : c.in_ok-rest.rest ≡ theorem_on B (sequent_of (set.union s.hyps (set.remove t.hyps (strip p))) (implication (implication q r) r)) = rw (c.in_ok-rest.ensures, whole_either, one_way) refl in
+    let other_way : c.in_ok-second.second ≡ theorem_on B (discharged q u) = rw (c.in_ok-second.ensures, qq, sym c.requires.same_basis) refl in
+    became c.mp-2.result (theorem_on c.in_ok-rest.rest.basis (implied c.in_ok-rest.rest.sequent c.in_ok-second.second.sequent)) (theorem_on B (by_cases s t u)) c.mp-2.ensures (rw (rest, other_way) refl)
