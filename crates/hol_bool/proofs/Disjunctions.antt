@@ -1,5 +1,5 @@
 -- Hypotheses that the derivations of the rules of falsity, disjunction and existence leave, the types of parts of formulas, and the bodies of definitions at closed terms.
-use Rattle.std.specs.Prelude.{◌≡◌, ℕ, ◌+◌, ◌<◌, ◌≤◌, true, false, not, ◌&&◌, ◌||◌, Bool, List, [], ◌∷◌, codes, Some, None, refl}
+use Rattle.std.specs.Prelude.{◌≡◌, ℕ, ◌+◌, true, false, not, ◌&&◌, ◌||◌, Bool, List, [], ◌∷◌, codes, Some, None, refl}
 use Rattle.std.specs.Cmp.{Equal-is}
 use Rattle.std.specs.FinSet as set
 use Rattle.std.proofs.Common.{ap, sym, ◌∙◌, arith}
@@ -15,7 +15,7 @@ use Rattle.hol_subst.specs.Closing.{open_with}
 use Rattle.hol_subst.specs.Variant.{is_free_in}
 use Rattle.hol_subst.proofs.Closing.{IsClosed, below, closed_more, shift_whole}
 use Rattle.hol_formulas.specs.Equation.{bool_type}
-use Rattle.hol_formulas.specs.Formula.{connective_type, negation_type, disjunction, implication, universal}
+use Rattle.hol_formulas.specs.Formula.{connective_type, disjunction, implication, universal}
 use Rattle.hol_formulas.specs.Prelude.{boolean}
 use Rattle.hol_kernel.specs.Items.{Items}
 use Rattle.hol_kernel.specs.Sequent.{Hyps, no_hyps, only_hyp}
@@ -125,7 +125,7 @@ right_at p = universal (record { base = codes "q"; domain = bool_type; body = im
 -- ---- hypotheses of the derivation of a disjunction
 
 -- a term that is a is not b, where a is not b
-apart : (a b q : Nameless) → is a b ≡ false → is q a ≡ true → is q b ≡ false
+pub apart : (a b q : Nameless) → is a b ≡ false → is q a ≡ true → is q b ≡ false
 apart a b q d e = ap (λ (k : Nameless). is k b) (hyps_same q a ((Equal-is (nameless_cmp q a)).0 e)) ∙ d
 
 left_ways : (f s x : Bool) → (x ≡ true → f ≡ false) → (x ≡ true → s ≡ false) → (not f && (not s && ((f || false) || (x || false)))) ≡ (x || false)

@@ -1,14 +1,18 @@
 -- What steps of derivations give, as sequents: cited by private clauses alone. Terms that stand under a binder here have no free indices.
 use Rattle.std.specs.Prelude.{ℕ, List, codes}
 use Rattle.std.specs.FinSet as set
-use Rattle.hol_types.specs.Tree.{TypeTree, TyVar}
+use Rattle.hol_types.specs.Tree.{TypeTree}
 use Rattle.hol_types.specs.Fun.{fun_type}
-use Rattle.hol_terms.specs.Nameless.{Nameless, free, bound, fixed, app, lam}
+use Rattle.hol_terms.specs.Nameless.{Nameless, free, bound, fixed, app}
 use Rattle.hol_formulas.specs.Equation.{bool_type, equation}
 use Rattle.hol_formulas.specs.Formula.{Abstraction, quantifier_type, falsity, disjunction, implication, universal}
+use Rattle.hol_formulas.specs.Constants.{var_a}
+use Rattle.hol_formulas.specs.Prelude.{property, element}
 use Rattle.hol_kernel.specs.Sequent.{no_hyps, only_hyp, Sequent, sequent_of}
 use Rattle.hol_kernel.specs.Rules.{deduct_antisym_of}
-use Rattle.hol_bool.specs.Rules.{over_variable}
+use Rattle.hol_equal.specs.Applied.{lhs, rhs}
+use Rattle.hol_bool.specs.Rules.{over_variable, choose_left}
+use Rattle.hol_bool.specs.Applied.{abstraction_in}
 use Rattle.hol_bool.specs.declared.disjunction.Side.{Side}
 use Rattle.hol_bool.specs.declared.disjunction.Side.TheVariants.{Left, Right}
 
@@ -65,13 +69,36 @@ abbrev pub exists_in : TypeTree → Nameless → Nameless
 exists_in a f = app (fixed (codes "?") (quantifier_type a)) f
 
 abbrev pub implied_by_all : TypeTree → Nameless → Abstraction
-implied_by_all a f = record { base = codes "q"; domain = bool_type; body = implication (all_imply a f (bound 0)) (bound 0) }
+implied_by_all a f = record { base = codes "q"; domain = bool_type; body = implication (all_imply a f (bound 1)) (bound 0) }
 
 -- (?) f = !q. (!x. f x ==> q) ==> q
 abbrev pub exists_unfolded : TypeTree → Nameless → Sequent
 exists_unfolded a f = sequent_of no_hyps (equation bool_type (exists_in a f) (universal (implied_by_all a f)))
 
+-- P:A->bool, and P x
+abbrev pub predicate : Nameless
+predicate = free property
+
+abbrev pub of_witness : Nameless
+of_witness = app predicate (free (element (codes "x")))
+
+-- !x. P x ==> q
+abbrev pub all_witnesses : Nameless
+all_witnesses = all_imply var_a predicate (letter (codes "q"))
+
+-- q under the hypotheses !x. P x ==> q and P x
+abbrev pub followed : Sequent
+followed = sequent_of (set.union (only_hyp all_witnesses) (only_hyp of_witness)) (letter (codes "q"))
+
 -- !P x. P x ==> (?) P
 abbrev pub witnessed : TypeTree → Nameless
 witnessed a =
     universal (record { base = codes "P"; domain = fun_type a bool_type; body = universal (record { base = codes "x"; domain = a; body = implication (app (bound 1) (bound 0)) (exists_in a (bound 1)) }) })
+
+-- !v. f v ==> t, from the sequent of t without the hypothesis f v
+abbrev pub each_witness : List ℕ × TypeTree → Nameless → Sequent → Sequent
+each_witness v f b = sequent_of (choose_left v b.hyps (abstraction_in f)) (universal (over_variable v (implication (app f (free v)) b.concl)))
+
+-- l ==> t and r ==> t, from l = r
+abbrev pub antecedents_equal : Nameless → Sequent → Sequent
+antecedents_equal t e = sequent_of e.hyps (equation bool_type (implication (lhs e.concl) t) (implication (rhs e.concl) t))

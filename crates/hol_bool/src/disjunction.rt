@@ -20,9 +20,7 @@ use crate::definitions::{definition, unfold};
 use crate::implication::{disch, mp};
 use crate::universal::{generalize, spec};
 use hol_equal::applied::{assume, eq_mp, sym};
-use hol_formulas::{
-    Postulate, bool_type, dest_disj, mk_imp, negation_type, occurrence, variable,
-};
+use hol_formulas::{Postulate, bool_type, dest_disj, mk_imp, negation_type, occurrence, variable};
 use hol_kernel::{Basis, Thm};
 use hol_terms::Term;
 use std::alloc::{AllocError, Global};
@@ -94,8 +92,8 @@ impl Side {
     }
 }
 
-// The variable of the name of type `bool`.
-fn letter(alloc: Global, name: &str) -> Result<Term, AllocError>
+/// The variable of the name of type `bool`.
+pub(crate) fn letter(alloc: Global, name: &str) -> Result<Term, AllocError>
     ensures is { IfOk result (λ t. t ≡ var (boolean name.now)) }
     ensures typed { IfOk result (λ t. named_type t ≡ Some bool_type) }
 {
@@ -135,8 +133,8 @@ fn both_ways(alloc: Global, basis: &Basis, side: Side) -> Result<Thm, AllocError
     disch(alloc, &first, &inner)
 }
 
-// From a theorem, `!x. p` for the variable of the name, of type `bool`, that is free in no hypothesis.
-fn for_every(alloc: Global, name: &str, a: &Thm) -> Result<Thm, AllocError>
+/// GEN over the variable of the name of type `bool`, which is free in no hypothesis.
+pub(crate) fn for_every(alloc: Global, name: &str, a: &Thm) -> Result<Thm, AllocError>
     requires absent { is_free_in (set.items a.now.sequent.hyps) (boolean name.now) ≡ false }
     ensures { IfOk result (λ th. th ≡ theorem_on a.now.basis (generalized (boolean name.now) a.now.sequent)) }
 {

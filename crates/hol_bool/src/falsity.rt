@@ -55,12 +55,7 @@ fn from_falsity(alloc: Global, basis: &Basis, p: &Term) -> Result<Thm, AllocErro
 }
 
 // `p = F` under the hypothesis `~p`, which is `denied`.
-fn false_if_denied(
-    alloc: Global,
-    basis: &Basis,
-    denied: &Term,
-    p: &Term,
-) -> Result<Thm, AllocError>
+fn false_if_denied(alloc: Global, basis: &Basis, denied: &Term, p: &Term) -> Result<Thm, AllocError>
     requires is { nameless [] denied.now ≡ negation (nameless [] p.now) }
     requires typed { HasType basis.now (nameless [] denied.now) bool_type }
     requires part { HasType basis.now (nameless [] p.now) bool_type }

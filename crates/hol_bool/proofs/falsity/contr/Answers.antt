@@ -1,5 +1,5 @@
 use Rattle.std.specs.FinSet as set
-use Rattle.std.proofs.Common.{◌≡◌, ap, ◌∙◌, [], refl, codes}
+use Rattle.std.proofs.Common.{◌≡◌, [], refl, codes}
 use Rattle.hol_terms.specs.Nameless.{nameless, bound}
 use Rattle.hol_formulas.specs.Equation.{bool_type}
 use Rattle.hol_formulas.specs.Formula.{falsity, universal, Abstraction}
