@@ -71,12 +71,12 @@ pub fn disj_cases(alloc: Global, a: &Thm, b: &Thm, c: &Thm) -> Result<Thm, Alloc
     mp(alloc, &rest, &second)
 }
 
-/// A side of a disjunction.
+// A side of a disjunction.
 #[derive(Clone, Copy)]
 enum Side {
-    /// `p` of `p \/ q`.
+    // `p` of `p \/ q`.
     Left,
-    /// `q` of `p \/ q`.
+    // `q` of `p \/ q`.
     Right,
 }
 

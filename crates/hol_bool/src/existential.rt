@@ -3,9 +3,8 @@ ghost use Rattle.std.specs.Prelude.{◌≡◌, ◌∷◌, IfOk, [], true, false,
 ghost use Rattle.std.specs.FinSet as set;
 ghost use Rattle.hol_types.specs.Fun.{fun_type};
 ghost use Rattle.hol_terms.specs.Named.{constant};
-ghost use Rattle.hol_terms.specs.Nameless.{nameless, app, free, free_occurrences};
+ghost use Rattle.hol_terms.specs.Nameless.{nameless, app};
 ghost use Rattle.hol_terms.specs.Alpha.{strip};
-ghost use Rattle.hol_terms.specs.Scoped.{binds};
 ghost use Rattle.hol_subst.specs.Closing.{open_with};
 ghost use Rattle.hol_subst.specs.Variant.{is_free_in};
 ghost use Rattle.hol_formulas.specs.Equation.{bool_type, equation};

@@ -1,10 +1,9 @@
 //! That what holds of something exists: `!P x. P x ==> (?) P`.
-ghost use Rattle.std.specs.Prelude.{◌≡◌, [], true, false, codes, IfOk, Some};
+ghost use Rattle.std.specs.Prelude.{◌≡◌, [], true, codes, IfOk, Some};
 ghost use Rattle.std.specs.FinSet as set;
 ghost use Rattle.hol_types.specs.Fun.{fun_type};
 ghost use Rattle.hol_terms.specs.Named.{var, named_type};
 ghost use Rattle.hol_terms.specs.Nameless.{nameless, app};
-ghost use Rattle.hol_subst.specs.Variant.{is_free_in};
 ghost use Rattle.hol_formulas.specs.Constants.{var_a};
 ghost use Rattle.hol_formulas.specs.Equation.{bool_type};
 ghost use Rattle.hol_formulas.specs.Formula.{implication, universal};
