@@ -9,25 +9,25 @@ use Rattle.hol_subst.specs.AlphaOrder.{nameless_cmp}
 use Rattle.hol_kernel.specs.Sequent.{Hyps, no_hyps, only_hyp}
 use Rattle.hol_kernel.proofs.HypothesisLists.{hyps_total, hyps_same}
 
-abbrev is : Nameless → Nameless → Bool
+abbrev pub is : Nameless → Nameless → Bool
 is q k = eq_by_cmp nameless_cmp q k
 
-abbrev has : Hyps → Nameless → Bool
+abbrev pub has : Hyps → Nameless → Bool
 has hs q = set.contains hs q
 
-same : (hs ks : Hyps) → ((q : Nameless) → has hs q ≡ has ks q) → hs ≡ ks
+pub same : (hs ks : Hyps) → ((q : Nameless) → has hs q ≡ has ks q) → hs ≡ ks
 same hs ks e = set.same_set hyps_total hyps_same hs ks e
 
-in_union : (hs ks : Hyps) (q : Nameless) → has (set.union hs ks) q ≡ (has hs q || has ks q)
+pub in_union : (hs ks : Hyps) (q : Nameless) → has (set.union hs ks) q ≡ (has hs q || has ks q)
 in_union hs ks q = set.contains-union hyps_total hs ks q
 
-in_rest : (hs : Hyps) (k q : Nameless) → has (set.remove hs k) q ≡ (not (is q k) && has hs q)
+pub in_rest : (hs : Hyps) (k q : Nameless) → has (set.remove hs k) q ≡ (not (is q k) && has hs q)
 in_rest hs k q = set.contains-remove hyps_total hs k q
 
-in_one : (p q : Nameless) → has (only_hyp p) q ≡ (is q (strip p) || false)
+pub in_one : (p q : Nameless) → has (only_hyp p) q ≡ (is q (strip p) || false)
 in_one p q = set.contains-insert hyps_total no_hyps (strip p) q ∙ ap (λ b. is q (strip p) || b) (set.contains-empty nameless_cmp q)
 
-in_none : (q : Nameless) → has no_hyps q ≡ false
+pub in_none : (q : Nameless) → has no_hyps q ≡ false
 in_none q = set.contains-empty nameless_cmp q
 
 -- ---- EQT_INTRO

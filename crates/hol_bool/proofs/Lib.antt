@@ -1,4 +1,6 @@
 pub mod HypLaws
+pub mod Disjunctions
+pub mod Witnesses
 pub mod Typed
 pub mod Bodies
 pub mod Connected
@@ -6,4 +8,5 @@ pub mod Chains
 pub mod Answered
 pub mod ConnectiveRules
 pub mod KeptHypotheses
+pub mod DisjunctionRules
 pub mod RuleLaws

@@ -10,7 +10,7 @@ ghost use Rattle.hol_bool.specs.declared.error.Rule.TheVariants as rule;
 use crate::applied;
 use crate::error::{BoolError, Rule};
 use crate::rules::is_of_type;
-use hol_formulas::{bool_type, dest_imp, is_conj, is_imp};
+use hol_formulas::{bool_type, dest_imp, is_conj, is_disj, is_falsity, is_imp, is_neg};
 use hol_kernel::Thm;
 use hol_terms::Term;
 use std::alloc::Global;
@@ -93,52 +93,81 @@ pub fn undisch(alloc: Global, a: &Thm) -> Result<Thm, BoolError>
 /// The rule of the left disjunct (bool.ml, DISJ1): from `p`, `p \/ q`.
 ///
 /// Refused by [`Rule::Disj1`] where `q` is not well typed over the prelude and the theorem's basis or not of type `bool`.
-pub fn disj1(_alloc: Global, a: &Thm, q: &Term) -> Result<Thm, BoolError>
+#[tactic(auto, using(crate::proofs::DisjunctionRules::refused))]
+pub fn disj1(alloc: Global, a: &Thm, q: &Term) -> Result<Thm, BoolError>
     ensures sequent { Gives in_bool rule.Disj1 (over a.now.basis (disj1_of a.now.basis a.now.sequent (nameless [] q.now))) result }
     ensures basis { IfOk result (λ th. th.basis ≡ a.now.basis) }
 {
-    Err(BoolError::Memory)
+    let truth = bool_type(alloc)?;
+    if !is_of_type(alloc, a.basis(), q, &truth)? {
+        return Err(BoolError::Refused(Rule::Disj1));
+    }
+    Ok(applied::disj1(alloc, a, q)?)
 }
 
 /// The rule of the right disjunct (bool.ml, DISJ2): from `q`, `p \/ q`.
 ///
 /// Refused by [`Rule::Disj2`] where `p` is not well typed over the prelude and the theorem's basis or not of type `bool`.
-pub fn disj2(_alloc: Global, p: &Term, a: &Thm) -> Result<Thm, BoolError>
+#[tactic(auto, using(crate::proofs::DisjunctionRules::refused))]
+pub fn disj2(alloc: Global, p: &Term, a: &Thm) -> Result<Thm, BoolError>
     ensures sequent { Gives in_bool rule.Disj2 (over a.now.basis (disj2_of a.now.basis (nameless [] p.now) a.now.sequent)) result }
     ensures basis { IfOk result (λ th. th.basis ≡ a.now.basis) }
 {
-    Err(BoolError::Memory)
+    let truth = bool_type(alloc)?;
+    if !is_of_type(alloc, a.basis(), p, &truth)? {
+        return Err(BoolError::Refused(Rule::Disj2));
+    }
+    Ok(applied::disj2(alloc, p, a)?)
 }
 
 /// The rule of cases (bool.ml, DISJ_CASES): from `p \/ q`, `r` and `r'` that is `r` up to bound names, `r` without the hypotheses `p` of the one and `q` of
 /// the other.
 ///
 /// Refused by [`Rule::DisjCases`] where the first theorem is no disjunction, and where the others' conclusions differ.
-pub fn disj_cases(_alloc: Global, a: &Thm, b: &Thm, c: &Thm) -> Result<Thm, BoolError>
+#[tactic(auto, using(crate::proofs::DisjunctionRules::refused))]
+pub fn disj_cases(alloc: Global, a: &Thm, b: &Thm, c: &Thm) -> Result<Thm, BoolError>
     requires one_basis { a.now.basis ≡ b.now.basis }
     requires same_basis { a.now.basis ≡ c.now.basis }
     ensures sequent { Gives in_bool rule.DisjCases (over a.now.basis (disj_cases_of a.now.sequent b.now.sequent c.now.sequent)) result }
     ensures basis { IfOk result (λ th. th.basis ≡ a.now.basis) }
 {
-    Err(BoolError::Memory)
+    if !is_disj(a.concl()) {
+        return Err(BoolError::Refused(Rule::DisjCases));
+    }
+    if !b.concl().alpha_equivalent(c.concl()) {
+        return Err(BoolError::Refused(Rule::DisjCases));
+    }
+    Ok(applied::disj_cases(alloc, a, b, c)?)
 }
 
 /// The rule of contradiction (bool.ml, CONTR): from `F`, the formula.
 ///
 /// Refused by [`Rule::Contr`] where the theorem is not `F`, and where `p` is not well typed over the prelude and the theorem's basis or not of type `bool`.
-pub fn contr(_alloc: Global, p: &Term, a: &Thm) -> Result<Thm, BoolError>
+#[tactic(auto, using(crate::proofs::DisjunctionRules::refused))]
+pub fn contr(alloc: Global, p: &Term, a: &Thm) -> Result<Thm, BoolError>
     ensures sequent { Gives in_bool rule.Contr (over a.now.basis (contr_of a.now.basis (nameless [] p.now) a.now.sequent)) result }
     ensures basis { IfOk result (λ th. th.basis ≡ a.now.basis) }
 {
-    Err(BoolError::Memory)
+    if !is_falsity(a.concl()) {
+        return Err(BoolError::Refused(Rule::Contr));
+    }
+    let truth = bool_type(alloc)?;
+    if !is_of_type(alloc, a.basis(), p, &truth)? {
+        return Err(BoolError::Refused(Rule::Contr));
+    }
+    Ok(applied::contr(alloc, p, a)?)
 }
 
 /// The rule of an equation with falsity (bool.ml, EQF_INTRO): from `~p`, `p <=> F`.
 ///
 /// Refused by [`Rule::EqfIntro`] where the theorem is no negation.
-pub fn eqf_intro(_alloc: Global, a: &Thm) -> Result<Thm, BoolError>
+#[tactic(auto, using(crate::proofs::DisjunctionRules::refused))]
+pub fn eqf_intro(alloc: Global, a: &Thm) -> Result<Thm, BoolError>
     ensures sequent { Gives in_bool rule.EqfIntro (over a.now.basis (eqf_intro_of a.now.sequent)) result }
     ensures basis { IfOk result (λ th. th.basis ≡ a.now.basis) }
 {
-    Err(BoolError::Memory)
+    if !is_neg(a.concl()) {
+        return Err(BoolError::Refused(Rule::EqfIntro));
+    }
+    Ok(applied::eqf_intro(alloc, a)?)
 }

@@ -3,29 +3,79 @@ ghost use Rattle.std.specs.Prelude.{◌≡◌, IfOk, []};
 ghost use Rattle.hol_terms.specs.Nameless.{nameless};
 ghost use Rattle.hol_formulas.specs.Equation.{bool_type};
 ghost use Rattle.hol_formulas.specs.Formula.{falsity, negation};
-ghost use Rattle.hol_kernel.specs.Sequent.{sequent_of};
+ghost use Rattle.hol_kernel.specs.Sequent.{only_hyp, sequent_of};
 ghost use Rattle.hol_kernel.specs.Theorem.{theorem_on};
 ghost use Rattle.hol_kernel.specs.Typing.{HasType};
 ghost use Rattle.hol_equal.specs.Applied.{rand};
 ghost use Rattle.hol_bool.specs.Applied.{false_of};
+ghost use Rattle.hol_bool.specs.Unfolded.{refuted_under, false_under};
 
-use hol_kernel::Thm;
+use crate::definitions::{definition, unfold};
+use crate::implication::undisch;
+use crate::universal::spec;
+use hol_equal::applied::{assume, eq_mp};
+use hol_equal::prove_hyp;
+use hol_formulas::{Postulate, bool_type, dest_neg, mk_falsity};
+use hol_kernel::{Basis, Thm};
 use hol_terms::Term;
 use std::alloc::{AllocError, Global};
 
 /// CONTR: from `F`, a formula over the basis.
-pub fn contr(_alloc: Global, p: &Term, a: &Thm) -> Result<Thm, AllocError>
+pub fn contr(alloc: Global, p: &Term, a: &Thm) -> Result<Thm, AllocError>
     requires is { a.now.sequent.concl ≡ falsity }
     requires typed { HasType a.now.basis (nameless [] p.now) bool_type }
     ensures { IfOk result (λ th. th ≡ theorem_on a.now.basis (sequent_of a.now.sequent.hyps (nameless [] p.now))) }
 {
-    Err(AllocError)
+    let own = definition(alloc, a.basis(), Postulate::FDef)?;
+    let every = eq_mp(alloc, &own, a)?;
+    spec(alloc, p, &every)
+}
+
+// From `~p`, `F` under the hypothesis `p`.
+fn refuted(alloc: Global, a: &Thm, p: &Term) -> Result<Thm, AllocError>
+    requires is { a.now.sequent.concl ≡ negation (nameless [] p.now) }
+    requires typed { HasType a.now.basis (nameless [] p.now) bool_type }
+    ensures { IfOk result (λ th. th ≡ theorem_on a.now.basis (refuted_under a.now.sequent (nameless [] p.now))) }
+{
+    let own = definition(alloc, a.basis(), Postulate::NotDef)?;
+    let truth = bool_type(alloc)?;
+    let meaning = unfold(alloc, &own, &truth, &truth, p)?;
+    let implies = eq_mp(alloc, &meaning, a)?;
+    undisch(alloc, &implies)
+}
+
+// `p` under the hypothesis `F`.
+fn from_falsity(alloc: Global, basis: &Basis, p: &Term) -> Result<Thm, AllocError>
+    requires typed { HasType basis.now (nameless [] p.now) bool_type }
+    ensures { IfOk result (λ th. th ≡ theorem_on basis.now (sequent_of (only_hyp falsity) (nameless [] p.now))) }
+{
+    let falsity = mk_falsity(alloc)?;
+    let assumed = assume(alloc, basis, &falsity)?;
+    contr(alloc, p, &assumed)
+}
+
+// `p = F` under the hypothesis `~p`, which is `denied`.
+fn false_if_denied(alloc: Global, basis: &Basis, denied: &Term, p: &Term) -> Result<Thm, AllocError>
+    requires is { nameless [] denied.now ≡ negation (nameless [] p.now) }
+    requires typed { HasType basis.now (nameless [] denied.now) bool_type }
+    requires part { HasType basis.now (nameless [] p.now) bool_type }
+    ensures { IfOk result (λ th. th ≡ theorem_on basis.now (false_under (nameless [] denied.now) (nameless [] p.now))) }
+{
+    let assumed = assume(alloc, basis, denied)?;
+    let forward = refuted(alloc, &assumed, p)?;
+    let back = from_falsity(alloc, basis, p)?;
+    Thm::deduct_antisym(alloc, &back, &forward)
 }
 
 /// EQF_INTRO: from `~p`, `p <=> F`.
-pub fn eqf_intro(_alloc: Global, a: &Thm) -> Result<Thm, AllocError>
+pub fn eqf_intro(alloc: Global, a: &Thm) -> Result<Thm, AllocError>
     requires is { a.now.sequent.concl ≡ negation (rand a.now.sequent.concl) }
     ensures { IfOk result (λ th. th ≡ theorem_on a.now.basis (false_of a.now.sequent)) }
 {
-    Err(AllocError)
+    a.well_typed();
+    let Some(p) = dest_neg(a.concl()) else {
+        unreachable!()
+    };
+    let iff = false_if_denied(alloc, a.basis(), a.concl(), p)?;
+    prove_hyp(alloc, a, &iff)
 }

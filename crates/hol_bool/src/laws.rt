@@ -9,7 +9,7 @@ ghost use Rattle.hol_kernel.specs.Items.{Items};
 ghost use Rattle.hol_kernel.specs.Sequent.{only_hyp, Sequent};
 ghost use Rattle.hol_kernel.specs.Widening.{IsMonotone};
 ghost use Rattle.hol_bool.specs.Hypotheses.{StaysWithin};
-ghost use Rattle.hol_bool.specs.Rules.{spec_of, gen_of, conj_of, conjunct1_of, conjunct2_of, mp_of, disch_of, undisch_of};
+ghost use Rattle.hol_bool.specs.Rules.{spec_of, gen_of, exists_of, conj_of, conjunct1_of, conjunct2_of, mp_of, disch_of, undisch_of, disj1_of, disj2_of, contr_of};
 
 /// A rule that takes a term or a variable over a set of items gives the same sequent over every larger set. The other rules take sequents alone, so that they do so by
 /// their form.
@@ -17,6 +17,10 @@ pub fn rules_widen()
     ensures spec { (t : Nameless) (a : Sequent) → IsMonotone (λ basis. spec_of basis t a) }
     ensures generalize { (v : Named) (a : Sequent) → IsMonotone (λ basis. gen_of basis v a) }
     ensures disch { (p : Nameless) (a : Sequent) → IsMonotone (λ basis. disch_of basis p a) }
+    ensures disj1 { (a : Sequent) (q : Nameless) → IsMonotone (λ basis. disj1_of basis a q) }
+    ensures disj2 { (p : Nameless) (a : Sequent) → IsMonotone (λ basis. disj2_of basis p a) }
+    ensures contr { (p : Nameless) (a : Sequent) → IsMonotone (λ basis. contr_of basis p a) }
+    ensures exists { (e t : Nameless) (a : Sequent) → IsMonotone (λ basis. exists_of basis e t a) }
 {}
 
 /// The hypotheses of what a rule of conjunction or implication gives are among those of its premises; `disch` leaves none that is the formula up to bound names, and `undisch` adds

@@ -16,6 +16,7 @@ mod laws;
 mod rules;
 mod truth;
 mod universal;
+mod witness;
 
 pub use conjunction::conj;
 pub use connectives::{
