@@ -32,7 +32,7 @@ fn identity(alloc: Global) -> Result<Term, AllocError>
 }
 
 /// TRUTH: `|- T`.
-pub(crate) fn truth(alloc: Global, basis: &Basis) -> Result<Thm, AllocError>
+pub fn truth(alloc: Global, basis: &Basis) -> Result<Thm, AllocError>
     ensures { IfOk result (λ th. th ≡ theorem_on basis.now (sequent_of no_hyps truth)) }
 {
     let own = definition(alloc, basis, Postulate::TDef)?;

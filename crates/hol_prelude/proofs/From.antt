@@ -1,0 +1,112 @@
+-- What theorems assume, where it is nothing but one formula.
+use Rattle.std.specs.Prelude.{◌≡◌, true, false, not, ◌&&◌, ◌||◌, Bool, refl}
+use Rattle.std.specs.Ordering.{eq_by_cmp}
+use Rattle.std.specs.FinSet as set
+use Rattle.std.proofs.Common.{ap, sym, ◌∙◌}
+use Rattle.hol_terms.specs.Nameless.{Nameless}
+use Rattle.hol_terms.specs.Alpha.{strip}
+use Rattle.hol_subst.specs.AlphaOrder.{nameless_cmp}
+use Rattle.hol_kernel.specs.Sequent.{Hyps, no_hyps, only_hyp}
+use Rattle.hol_kernel.proofs.HypothesisLists.{hyps_total, hyps_same}
+use Rattle.hol_kernel.specs.Items.{no_items}
+use Rattle.hol_kernel.specs.Theorem.{Theorem, theorem_over}
+use Rattle.hol_equal.proofs.HypSets.{none_left, none_without}
+use Rattle.hol_formulas.specs.Formula.{disjunction}
+use Rattle.hol_prelude.specs.Deduction.{theorem_of, theorem_under, IsFrom}
+
+abbrev is : Nameless → Nameless → Bool
+is q k = eq_by_cmp nameless_cmp q k
+
+abbrev has : Hyps → Nameless → Bool
+has hs q = set.contains hs q
+
+same : (hs ks : Hyps) → ((q : Nameless) → has hs q ≡ has ks q) → hs ≡ ks
+same hs ks e = set.same_set hyps_total hyps_same hs ks e
+
+in_union : (hs ks : Hyps) (q : Nameless) → has (set.union hs ks) q ≡ (has hs q || has ks q)
+in_union hs ks q = set.contains-union hyps_total hs ks q
+
+in_rest : (hs : Hyps) (k q : Nameless) → has (set.remove hs k) q ≡ (not (is q k) && has hs q)
+in_rest hs k q = set.contains-remove hyps_total hs k q
+
+in_one : (p q : Nameless) → has (only_hyp p) q ≡ (is q (strip p) || false)
+in_one p q = set.contains-insert hyps_total no_hyps (strip p) q ∙ ap (λ b. is q (strip p) || b) (set.contains-empty nameless_cmp q)
+
+in_none : (q : Nameless) → has no_hyps q ≡ false
+in_none q = set.contains-empty nameless_cmp q
+
+-- ---- a formula alone
+
+one_way : (p : Bool) → (not p && (p || false)) ≡ false
+one_way true = refl
+one_way false = refl
+
+pub one_alone : (p : Nameless) → set.remove (only_hyp p) (strip p) ≡ no_hyps
+one_alone p =
+    same _ _ (λ q. in_rest (only_hyp p) (strip p) q ∙ ap (λ b. not (is q (strip p)) && b) (in_one p q) ∙ one_way (is q (strip p)) ∙ sym (in_none q))
+
+pub none_alone : (k : Nameless) → set.remove no_hyps k ≡ no_hyps
+none_alone k = none_without k
+
+-- ---- two sets
+
+either_way : (a b k : Bool) → (not k && (a || b)) ≡ ((not k && a) || (not k && b))
+either_way true b true = refl
+either_way true b false = refl
+either_way false b true = refl
+either_way false b false = refl
+
+pub rest_of_union : (hs ks : Hyps) (k : Nameless) → set.remove (set.union hs ks) k ≡ set.union (set.remove hs k) (set.remove ks k)
+rest_of_union hs ks k =
+    same _ _
+    (λ q.
+    in_rest (set.union hs ks) k q ∙ ap (λ b. not (is q k) && b) (in_union hs ks q) ∙ either_way (has hs q) (has ks q) (is q k)
+    ∙ (λ i. sym (in_rest hs k q) i || sym (in_rest ks k q) i) ∙ sym (in_union (set.remove hs k) (set.remove ks k) q))
+
+pub union_alone : (hs ks : Hyps) (k : Nameless) → set.remove hs k ≡ no_hyps → set.remove ks k ≡ no_hyps → set.remove (set.union hs ks) k ≡ no_hyps
+union_alone hs ks k a b = rest_of_union hs ks k ∙ (λ i. set.union (a i) (b i)) ∙ none_left no_hyps
+
+-- ---- a set without one more
+
+swapped_ways : (a j k : Bool) → (not k && (not j && a)) ≡ (not j && (not k && a))
+swapped_ways a true true = refl
+swapped_ways a true false = refl
+swapped_ways a false k = refl
+
+pub rests_swapped : (hs : Hyps) (j k : Nameless) → set.remove (set.remove hs j) k ≡ set.remove (set.remove hs k) j
+rests_swapped hs j k =
+    same _ _
+    (λ q.
+    in_rest (set.remove hs j) k q ∙ ap (λ b. not (is q k) && b) (in_rest hs j q) ∙ swapped_ways (has hs q) (is q j) (is q k)
+    ∙ ap (λ b. not (is q j) && b) (sym (in_rest hs k q)) ∙ sym (in_rest (set.remove hs k) j q))
+
+pub rest_alone : (hs : Hyps) (j k : Nameless) → set.remove hs k ≡ no_hyps → set.remove (set.remove hs j) k ≡ no_hyps
+rest_alone hs j k a = rests_swapped hs j k ∙ ap (λ (s : Hyps). set.remove s j) a ∙ none_without j
+
+-- a union of what assumes k alone and what assumes j alone, without j, assumes k alone
+pub discharged_alone : (hs ks : Hyps) (j k : Nameless) → set.remove hs k ≡ no_hyps → set.remove ks j ≡ no_hyps → set.remove (set.remove (set.union hs ks) j) k ≡ no_hyps
+discharged_alone hs ks j k a b =
+    ap (λ (s : Hyps). set.remove s k) (rest_of_union hs ks j ∙ (λ i. set.union (set.remove hs j) (b i)))
+    ∙ union_alone (set.remove hs j) no_hyps k (rest_alone hs j k a) (none_without k)
+
+-- ---- theorems
+
+pub under_from : (p q : Nameless) → IsFrom p (theorem_under p q)
+under_from p q = record { over = refl; alone = one_alone p }
+
+pub of_from : (k p : Nameless) → IsFrom k (theorem_of p)
+of_from k p = record { over = refl; alone = none_without (strip k) }
+
+-- a theorem over the items of the first, from the hypotheses of both
+pub union_from : (k q : Nameless) (a b : Theorem) → IsFrom k a → IsFrom k b → IsFrom k (theorem_over a.basis (set.union a.sequent.hyps b.sequent.hyps) q)
+union_from k q a b f g = record { over = f.over; alone = union_alone a.sequent.hyps b.sequent.hyps (strip k) f.alone g.alone }
+
+-- what a disjunction gives by its cases
+pub cases_from : (p q r : Nameless) (b c : Theorem) → IsFrom p b → IsFrom q c → IsFrom (disjunction p q) (theorem_over no_items (set.union (set.union (only_hyp (disjunction p q)) (set.remove b.sequent.hyps (strip p))) (set.remove c.sequent.hyps (strip q))) r)
+cases_from p q r b c f g =
+    let d = disjunction p q in
+    record {
+      over = refl;
+      alone = (λ i. set.remove (set.union (set.union (only_hyp d) (f.alone i)) (g.alone i)) (strip d))
+          ∙ union_alone (set.union (only_hyp d) no_hyps) no_hyps (strip d) (union_alone (only_hyp d) no_hyps (strip d) (one_alone d) (none_without (strip d))) (none_without (strip d));
+    }

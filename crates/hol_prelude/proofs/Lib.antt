@@ -1,0 +1,3 @@
+pub mod From
+pub mod Unconditional
+pub mod Names

@@ -1,0 +1,24 @@
+use Rattle.std.proofs.Common.{refl}
+use Rattle.hol_formulas.specs.Formula.{truth, conjunction, disjunction, equivalence}
+use Rattle.hol_equal.proofs.Outcomes.{became}
+use Rattle.hol_prelude.specs.Deduction.{theorem_of, concl_of}
+use Rattle.hol_prelude.specs.Deduction.{disj_rewrites}
+use Rattle.hol_prelude.proofs.disjunction.disj_rewrites.Goals as goal
+
+pub implying_on_the_right-requires : goal.implying_on_the_right-requires
+implying_on_the_right-requires c =
+    record { own = c.requires; implied = c.requires; same = refl; over = c.requires.over }
+
+pub absurd-requires : goal.absurd-requires
+absurd-requires c =
+    record { over = c.requires.over }
+
+pub with_truth-requires-clause-over : goal.with_truth-requires-clause-over
+with_truth-requires-clause-over c =
+    c.requires.over
+
+pub returns : goal.returns
+returns c =
+    let p = concl_of c.args.p.now in
+    became c.with_truth.result (theorem_of (conjunction (equivalence (disjunction truth p) truth) (conjunction (equivalence (disjunction p truth) truth) (concl_of c.in_ok-rest.rest)))) (theorem_of (disj_rewrites p)) c.with_truth.ensures
+    (rw (c.in_ok-rest.ensures, c.in_ok-same.ensures) refl)

@@ -1,0 +1,140 @@
+//! The basic rewrites.
+ghost use Rattle.std.specs.Prelude.{◌≡◌, IfOk, true, codes};
+ghost use Rattle.hol_terms.specs.Nameless.{free};
+ghost use Rattle.hol_formulas.specs.Equation.{equation};
+ghost use Rattle.hol_formulas.specs.Formula.{truth, falsity, conjunction, equivalence, negation};
+ghost use Rattle.hol_formulas.specs.Prelude.{boolean, element};
+ghost use Rattle.hol_kernel.specs.Items.{no_items};
+ghost use Rattle.hol_kernel.specs.Typing.{is_type};
+ghost use Rattle.hol_prelude.specs.Deduction.{theorem_of, theorem_under};
+ghost use Rattle.hol_prelude.specs.Statements.{stated, refl_clause, eq_clauses, not_clauses_weak, and_clauses, or_clauses, imp_clauses};
+
+use crate::conjunction::conj_rewrites;
+use crate::deduction::{assumed, assumed_falsity, both, chained, truth};
+use crate::disjunction::disj_rewrites;
+use crate::equality::eq_rewrites;
+use crate::implication::{always, imp_rewrites, truth_implies};
+use crate::negation::negation_unfolded;
+use hol_bool::applied::{eqt_intro, generalize};
+use hol_equal::applied::refl;
+use hol_formulas::{bool_type, occurrence, variable};
+use hol_kernel::{Basis, Thm};
+use hol_terms::Variable;
+use hol_types::{Name, Ty};
+use std::alloc::{AllocError, Global};
+
+// `t:bool`.
+fn truth_value(alloc: Global) -> Result<Variable, AllocError>
+    ensures { IfOk result (λ v. v ≡ boolean (codes "t")) }
+{
+    let ty = bool_type(alloc)?;
+    variable(alloc, "t", &ty)
+}
+
+// `{t} |- t`.
+fn assumed_truth_value(alloc: Global) -> Result<Thm, AllocError>
+    ensures { IfOk result (λ th. th ≡ theorem_under (free (boolean (codes "t"))) (free (boolean (codes "t")))) }
+{
+    let v = truth_value(alloc)?;
+    let p = occurrence(alloc, &v)?;
+    assumed(alloc, &p)
+}
+
+// `x:A`.
+fn any_element(alloc: Global) -> Result<Variable, AllocError>
+    ensures { IfOk result (λ v. v ≡ element (codes "x")) }
+{
+    let name = Name::new(alloc, "A")?;
+    let ty = Ty::var(alloc, &name)?;
+    variable(alloc, "x", &ty)
+}
+
+// `x = x`, for a variable of a type over the prelude.
+fn itself(alloc: Global, v: &Variable) -> Result<Thm, AllocError>
+    requires { is_type no_items v.now.1 ≡ true }
+    ensures { IfOk result (λ th. th ≡ theorem_of (equation v.now.1 (free v.now) (free v.now))) }
+{
+    let basis = Basis::empty(alloc)?;
+    let x = occurrence(alloc, v)?;
+    refl(alloc, &basis, v.ty(), &x)
+}
+
+/// REFL_CLAUSE: `!x:A. x = x <=> T`.
+pub(crate) fn refl_clause(alloc: Global) -> Result<Thm, AllocError>
+    ensures { IfOk result (λ th. th ≡ stated refl_clause) }
+{
+    let x = any_element(alloc)?;
+    let same = itself(alloc, &x)?;
+    let holds = eqt_intro(alloc, &same)?;
+    generalize(alloc, &x, &holds)
+}
+
+/// EQ_CLAUSES: the rewrites of `<=>`.
+pub(crate) fn eq_clauses(alloc: Global) -> Result<Thm, AllocError>
+    ensures { IfOk result (λ th. th ≡ stated eq_clauses) }
+{
+    let t = truth_value(alloc)?;
+    let own = assumed_truth_value(alloc)?;
+    let all = eq_rewrites(alloc, &own)?;
+    generalize(alloc, &t, &all)
+}
+
+// `~T <=> F`.
+fn not_truth(alloc: Global) -> Result<Thm, AllocError>
+    ensures { IfOk result (λ th. th ≡ theorem_of (equivalence (negation truth) falsity)) }
+{
+    let holds = truth(alloc)?;
+    let own = assumed_falsity(alloc)?;
+    let unfolded = negation_unfolded(alloc, &holds)?;
+    let implied = truth_implies(alloc, &holds, &own)?;
+    chained(alloc, &unfolded, &implied)
+}
+
+// `~F <=> T`.
+fn not_falsity(alloc: Global) -> Result<Thm, AllocError>
+    ensures { IfOk result (λ th. th ≡ theorem_of (equivalence (negation falsity) truth)) }
+{
+    let own = assumed_falsity(alloc)?;
+    let unfolded = negation_unfolded(alloc, &own)?;
+    let implied = always(alloc, &own, &own)?;
+    chained(alloc, &unfolded, &implied)
+}
+
+/// NOT_CLAUSES_WEAK: the rewrites of `~T` and `~F`.
+pub(crate) fn not_clauses_weak(alloc: Global) -> Result<Thm, AllocError>
+    ensures { IfOk result (λ th. th ≡ stated not_clauses_weak) }
+{
+    let first = not_truth(alloc)?;
+    let second = not_falsity(alloc)?;
+    both(alloc, &first, &second)
+}
+
+/// AND_CLAUSES: the rewrites of `/\`.
+pub(crate) fn and_clauses(alloc: Global) -> Result<Thm, AllocError>
+    ensures { IfOk result (λ th. th ≡ stated and_clauses) }
+{
+    let t = truth_value(alloc)?;
+    let own = assumed_truth_value(alloc)?;
+    let all = conj_rewrites(alloc, &own)?;
+    generalize(alloc, &t, &all)
+}
+
+/// OR_CLAUSES: the rewrites of `\/`.
+pub(crate) fn or_clauses(alloc: Global) -> Result<Thm, AllocError>
+    ensures { IfOk result (λ th. th ≡ stated or_clauses) }
+{
+    let t = truth_value(alloc)?;
+    let own = assumed_truth_value(alloc)?;
+    let all = disj_rewrites(alloc, &own)?;
+    generalize(alloc, &t, &all)
+}
+
+/// IMP_CLAUSES: the rewrites of `==>`.
+pub(crate) fn imp_clauses(alloc: Global) -> Result<Thm, AllocError>
+    ensures { IfOk result (λ th. th ≡ stated imp_clauses) }
+{
+    let t = truth_value(alloc)?;
+    let own = assumed_truth_value(alloc)?;
+    let all = imp_rewrites(alloc, &own)?;
+    generalize(alloc, &t, &all)
+}
