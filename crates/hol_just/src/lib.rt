@@ -3,6 +3,7 @@
 //! Calls that answer a `Result` answer its memory error where memory is short, and nowhere else.
 #![tactic(auto)]
 
+mod bool_steps;
 mod cursor;
 mod just;
 mod justifying;
