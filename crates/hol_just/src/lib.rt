@@ -12,6 +12,7 @@ mod reason;
 mod refusals;
 mod steps;
 mod tacs;
+mod tried;
 
 pub use just::Just;
 pub use justifying::justify;
@@ -20,3 +21,4 @@ pub use laws::{
     validity_is_a_proposition,
 };
 pub use reason::{Move, Reason};
+pub use tried::{Step, TacFault, Tried};
