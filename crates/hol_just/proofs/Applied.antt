@@ -63,6 +63,12 @@ pub made_as : {X Y E : Type 0} (r : Result X E) (P : X → Type 0) (make : Y →
 made_as (Ok x) P make given kept p same h = subst P (sym (h ∙ ap make same)) p
 made_as (Err e) P make given kept p same h = h
 
+pub made_pair :
+    {X Y Z E : Type 0} (r : Result X E) (P : X → Type 0) (make : Y → Z → X) (given kept : Y) (other other_kept : Z) → P (make given other) → kept ≡ given → other_kept ≡ other →
+    IfOk r (λ x. x ≡ make kept other_kept) → IfOk r P
+made_pair (Ok x) P make given kept other other_kept p same also h = subst P (sym (h ∙ (λ i. make (same i) (also i)))) p
+made_pair (Err e) P make given kept other other_kept p same also h = h
+
 pub made_plain : {X E : Type 0} (r : Result X E) (P : X → Type 0) (made : X) → P made → IfOk r (λ x. x ≡ made) → IfOk r P
 made_plain (Ok x) P made p h = subst P (sym h) p
 made_plain (Err e) P made p h = h
@@ -93,3 +99,11 @@ one_applies rule old last a p some =
     mapped_some (theorem_on a.basis) (rule a.basis a.sequent)
     (subst (λ (b : Items). IsSome (rule b a.sequent)) (sym p.over)
     (some_mapped (λ r. r ∷ last.after) (rule old.basis a.sequent) (subst (λ (ss : List Sequent). IsSome (inferred (from_one (rule old.basis)) ss)) p.after some)))
+
+pub two_apply :
+    (rule : Sequent → Sequent → Option Sequent) (old mid last : CutValue) (a b : Theorem) → IsFirst old mid a → IsFirst mid last b → IsSome (inferred (from_two rule) old.after) →
+    IsSome (over a.basis (rule a.sequent b.sequent))
+two_apply rule old mid last a b p q some =
+    mapped_some (theorem_on a.basis) (rule a.sequent b.sequent)
+    (some_mapped (λ r. r ∷ last.after) (rule a.sequent b.sequent)
+    (subst (λ (ss : List Sequent). IsSome (inferred (from_two rule) ss)) (p.after ∙ ap (λ (ss : List Sequent). a.sequent ∷ ss) q.after) some))

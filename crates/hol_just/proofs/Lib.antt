@@ -8,6 +8,8 @@ pub mod Likeness
 pub mod OneMove
 pub mod Typings
 pub mod EquationRules
+pub mod ConnectiveRules
 pub mod QuantifierRules
 pub mod Proposition
+pub mod Givens
 pub mod Joined

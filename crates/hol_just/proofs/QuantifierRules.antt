@@ -1,29 +1,34 @@
 -- What the rules of the quantifiers make of sequents that achieve goals.
-use Rattle.std.specs.Prelude.{◌≡◌, ℕ, Bool, true, false, cond, not, ◌&&◌, ◌||◌, List, [], ◌∷◌, map, codes, Some, None, refl}
+use Rattle.std.specs.Prelude.{◌≡◌, ℕ, Bool, true, false, cond, not, ◌&&◌, ◌||◌, List, [], ◌∷◌, map, codes, Some, None, is_some, refl}
+use Rattle.std.specs.Option.{option_and_then}
 use Rattle.std.specs.FinSet as set
 use Rattle.std.proofs.Common.{ap, sym, ◌∙◌, subst, inl, inr}
 use Rattle.hol_types.specs.Tree.{TypeTree}
-use Rattle.hol_terms.specs.Named.{var}
-use Rattle.hol_terms.specs.Nameless.{Nameless, free, fixed, app, lam, free_occurrences}
+use Rattle.hol_terms.specs.Named.{Named, var}
+use Rattle.hol_terms.specs.Nameless.{Nameless, free, fixed, app, lam, nameless, free_occurrences}
 use Rattle.hol_terms.specs.Scoped.{binds}
 use Rattle.hol_terms.specs.Alpha.{strip}
+use Rattle.hol_terms.proofs.Alpha.{alpha_eq_decides}
 use Rattle.hol_subst.specs.Closing.{close, open_with}
 use Rattle.hol_subst.specs.Variant.{is_free_in}
 use Rattle.hol_subst.proofs.Strip.{strip_close, strip_free}
 use Rattle.hol_subst.proofs.Opening.{close_open}
-use Rattle.hol_formulas.specs.Formula.{quantifier_type, Abstraction, universal}
+use Rattle.hol_formulas.specs.Equation.{bool_type}
+use Rattle.hol_formulas.specs.Formula.{quantifier_type, Abstraction, universal, existential}
+use Rattle.hol_formulas.proofs.FormulaLaws.{dest_exists_existential}
 use Rattle.hol_kernel.specs.Items.{Items}
 use Rattle.hol_kernel.specs.Sequent.{Hyps, Sequent, sequent_of}
-use Rattle.hol_kernel.specs.Typing.{is_type}
+use Rattle.hol_kernel.specs.Typing.{is_type, HasType}
+use Rattle.hol_kernel.proofs.Declared.{has_type_of}
 use Rattle.hol_kernel.proofs.HypothesisLists.{hyps_total, hyps_same}
 use Rattle.hol_kernel.proofs.Members.{Among, in_union_cases, among_from_list, from_list_among, from_list-items}
-use Rattle.hol_bool.specs.Rules.{gen_of, over_variable}
+use Rattle.hol_bool.specs.Rules.{gen_of, over_variable, exists_of, exists_at}
 use Rattle.hol_goal.specs.Achieves.{assumed, Achieves, AreAllowed}
 use Rattle.hol_kernel.proofs.Variables.{variable_typed}
-use Rattle.hol_just.specs.declared.reason.Reason.TheVariants.{Generalization}
-use Rattle.hol_just.specs.Justifies.{goal_at, always, LeavesProperty}
+use Rattle.hol_just.specs.declared.reason.Reason.TheVariants.{Generalization, Existence}
+use Rattle.hol_just.specs.Justifies.{goal_at, always, holds_term, LeavesProperty, LeavesAtWitness}
 use Rattle.hol_just.proofs.OneMove.{one, one_valid, by_one, IsAnswer, answer_by}
-use Rattle.hol_just.proofs.Typings.{property_typed, opened_typed}
+use Rattle.hol_just.proofs.Typings.{typed_at, property_typed, opened_typed}
 
 abbrev Variable : Type 0
 Variable = List ℕ × TypeTree
@@ -82,6 +87,16 @@ module _ (extra : Hyps) (assumptions : List Nameless) where
           ∙ sym (strip_close v 0 (open_with (free v) 0 x.body))
           ∙ ap strip (close_open v 0 x.body of_body)
 
+  exists_achieves :
+      (basis : Items) (x : Abstraction) (e t : Nameless) (s : Sequent) → e ≡ existential x → HasType basis (existential x) bool_type → HasType basis t x.domain →
+      Achieves extra s (goal_at assumptions (open_with t 0 x.body)) → IsAnswer extra (exists_of basis e t s) (goal_at assumptions (existential x))
+  exists_achieves basis x e t s is whole typed h =
+      answer_by extra (exists_of basis e t s) (sequent_of s.hyps (existential x)) (goal_at assumptions (existential x))
+      ((λ i. exists_of basis (is i) t s)
+      ∙ (λ i. cond (is_some (whole i)) (option_and_then (exists_at basis (existential x) t s) (dest_exists_existential x i)) None)
+      ∙ (λ i. cond (has_type_of basis t x.domain typed i && (alpha_eq_decides (open_with t 0 x.body) s.concl).1 (sym h.concludes) i) (Some (sequent_of s.hyps (existential x))) None))
+      (record { concludes = refl; allowed = h.allowed })
+
 -- ---- the justifications
 
 pub generalization_leaves : (v : Variable) → LeavesProperty v (one (Generalization (var v)))
@@ -100,4 +115,16 @@ generalization_leaves v extra assumptions x same of_extra of_assumptions of_body
       fits = tt;
       justifies = by_one extra (goal_at assumptions (universal x)) (gen_of basis (var v)) (goal_at assumptions (open_with (free v) 0 x.body))
           (λ s h. gen_achieves extra assumptions basis x v s same property.domain of_extra of_assumptions of_body h);
+    })
+
+pub existence_leaves : (e t : Named) → LeavesAtWitness (nameless [] e) (nameless [] t) (one (Existence e t))
+existence_leaves e t extra assumptions x is of_type =
+    one_valid (holds_term (nameless [] t)) extra (Existence e t) (goal_at assumptions (existential x)) (goal_at assumptions (open_with (nameless [] t) 0 x.body) ∷ [])
+    (λ basis suit typed.
+    let witness = typed_at basis (nameless [] t) x.domain suit of_type in
+    record {
+      typed = (record { assumptions = typed.assumptions; conclusion = opened_typed basis x (nameless [] t) (property_typed basis (codes "?") x typed.conclusion) witness }, tt);
+      fits = tt;
+      justifies = by_one extra (goal_at assumptions (existential x)) (exists_of basis (nameless [] e) (nameless [] t)) (goal_at assumptions (open_with (nameless [] t) 0 x.body))
+          (λ s h. exists_achieves extra assumptions basis x (nameless [] e) (nameless [] t) s is typed.conclusion witness h);
     })

@@ -1,5 +1,5 @@
 -- Well typed terms, taken apart and made.
-use Rattle.std.specs.Prelude.{◌≡◌, ℕ, true, ◌&&◌, List, [], ◌∷◌, Some, refl}
+use Rattle.std.specs.Prelude.{◌≡◌, ℕ, Bool, true, false, cond, ◌&&◌, List, [], ◌∷◌, codes, Some, None, is_some, refl}
 use Rattle.std.proofs.Common.{ap, sym, ◌∙◌}
 use Rattle.hol_types.specs.Tree.{TypeTree}
 use Rattle.hol_types.specs.Fun.{fun_type}
@@ -9,11 +9,12 @@ use Rattle.hol_subst.specs.Closing.{open_with}
 use Rattle.hol_subst.proofs.Typing.{typed_closed, mapped_part}
 use Rattle.hol_subst.proofs.TypeLaws.{open_type}
 use Rattle.hol_formulas.specs.Equation.{bool_type}
-use Rattle.hol_formulas.specs.Formula.{quantifier_type, Abstraction, quantified}
+use Rattle.hol_formulas.specs.Formula.{connective_type, negation_type, quantifier_type, implication, Abstraction, quantified}
 use Rattle.hol_kernel.specs.Items.{Items}
-use Rattle.hol_kernel.specs.Typing.{is_type, is_base, is_known, HasType}
+use Rattle.hol_kernel.specs.Typing.{is_type, is_base, is_known, is_typed, HasType}
 use Rattle.hol_kernel.proofs.Stands.{some_is, both, app_parts, known_open}
 use Rattle.hol_kernel.proofs.Variables.{typed_known, known_typed}
+use Rattle.hol_equal.proofs.Typings.{applied_typed}
 
 -- the function and the argument of a well typed application, where the function's type is known
 pub parts_at : (basis : Items) (a b c : TypeTree) (f x : Nameless) → nameless_type [] f ≡ Some (fun_type a b) → HasType basis (app f x) c → HasType basis f (fun_type a b) × HasType basis x a
@@ -24,6 +25,35 @@ parts_at basis a b c f x e h =
     let is : fun_type a b ≡ fun_type parts.0 c = some_is (fun_type a b) (fun_type parts.0 c) (sym e ∙ parts.1) in
     let first : parts.0 ≡ a = cc in
     (typed_known basis f (fun_type a b) known.0 e, typed_known basis x a known.1 (parts.2 ∙ ap Some first))
+
+-- what stands over a basis is of its type there
+pub typed_at : (basis : Items) (t : Nameless) (a : TypeTree) → is_typed basis t ≡ true → nameless_type [] t ≡ Some a → HasType basis t a
+typed_at basis t a stands e = by (is_known basis t) refl stands
+  where
+    by : (k : Bool) → is_known basis t ≡ k → is_some (cond k (nameless_type [] t) None) ≡ true → HasType basis t a
+    by true known h = typed_known basis t a known e
+    by false known h = absurd (cc)
+
+-- ---- connectives
+
+-- what a connective stands between
+pub operands_typed : (basis : Items) (c : List ℕ) (p q : Nameless) (b : TypeTree) → HasType basis (app (app (fixed c connective_type) p) q) b → HasType basis p bool_type × HasType basis q bool_type
+operands_typed basis c p q b h =
+    let k = known_typed basis (app (app (fixed c connective_type) p) q) b h in
+    let outer = both (is_known basis (app (fixed c connective_type) p)) (is_known basis q) k.0 in
+    let inner = both (is_known basis (fixed c connective_type)) (is_known basis p) outer.0 in
+    let s = app_parts [] (app (fixed c connective_type) p) q b k.1 in
+    let t = app_parts [] (fixed c connective_type) p (fun_type s.0 b) s.1 in
+    let is : fun_type bool_type (fun_type bool_type bool_type) ≡ fun_type t.0 (fun_type s.0 b) = some_is connective_type (fun_type t.0 (fun_type s.0 b)) t.1 in
+    let first : t.0 ≡ bool_type = cc in
+    let second : s.0 ≡ bool_type = cc in
+    (typed_known basis p bool_type inner.1 (t.2 ∙ ap Some first), typed_known basis q bool_type outer.1 (s.2 ∙ ap Some second))
+
+-- an implication between formulas
+pub implication_typed : (basis : Items) (p q : Nameless) → HasType basis p bool_type → HasType basis q bool_type → HasType basis (implication p q) bool_type
+implication_typed basis p q h k =
+    applied_typed basis bool_type bool_type (app (fixed (codes "==>") connective_type) p) q
+    (applied_typed basis bool_type negation_type (fixed (codes "==>") connective_type) p (typed_known basis (fixed (codes "==>") connective_type) connective_type refl refl) h) k
 
 -- ---- quantifiers
 

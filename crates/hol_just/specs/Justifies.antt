@@ -1,6 +1,6 @@
 -- From which goals to which the justifications of the functions on goals are valid (HOL Light Reference Manual; LNCS 78). Terms are taken up to bound names where the
 -- functions compare them so; the extra hypotheses are those of theorems that were handed in and are no assumptions.
-use Rattle.std.specs.Prelude.{◌≡◌, ℕ, Bool, true, false, List, [], ◌∷◌, Some}
+use Rattle.std.specs.Prelude.{◌≡◌, ℕ, Bool, true, false, List, [], ◌∷◌, ◌++◌, Some}
 use Rattle.std.specs.FinSet as set
 use Rattle.hol_types.specs.Tree.{TypeTree}
 use Rattle.hol_types.specs.Fun.{fun_type}
@@ -10,10 +10,10 @@ use Rattle.hol_subst.specs.Closing.{open_with}
 use Rattle.hol_subst.specs.Variant.{is_free_in}
 use Rattle.hol_terms.specs.Alpha.{strip}
 use Rattle.hol_formulas.specs.Equation.{bool_type, equation}
-use Rattle.hol_formulas.specs.Formula.{Abstraction, universal}
+use Rattle.hol_formulas.specs.Formula.{Abstraction, falsity, conjunction, disjunction, implication, universal, existential}
 use Rattle.hol_kernel.specs.Items.{Items}
 use Rattle.hol_kernel.specs.Sequent.{Hyps}
-use Rattle.hol_kernel.specs.Typing.{has_type}
+use Rattle.hol_kernel.specs.Typing.{is_typed, has_type}
 use Rattle.hol_kernel.specs.Given.{Given, proved, assumed, given_sequent}
 use Rattle.hol_goal.specs.Goal.{GoalValue}
 use Rattle.hol_goal.specs.Achieves.{AreAllowed}
@@ -34,6 +34,14 @@ abbrev pub holds_given : Given → Items → Bool
 holds_given (proved th) basis = set.is_subset th.basis basis
 holds_given (assumed p) basis = has_type basis p bool_type
 
+-- the term is well typed over the basis
+abbrev pub holds_term : Nameless → Items → Bool
+holds_term t basis = is_typed basis t
+
+-- the term is a formula over the basis
+abbrev pub holds_formula : Nameless → Items → Bool
+holds_formula p basis = has_type basis p bool_type
+
 -- ---- goals that are closed
 
 -- REFL_TAC closes `s = t`, where s and t are equal up to bound names.
@@ -45,6 +53,11 @@ ClosesEquation s moves =
 abbrev pub ClosesByGiven : Given → List Move → Type 0
 ClosesByGiven th moves =
     (extra : Hyps) (goal : GoalValue) → strip (given_sequent th).concl ≡ strip goal.conclusion → AreAllowed extra goal.assumptions (given_sequent th).hyps → IsValid (holds_given th) extra moves (goal ∷ []) []
+
+-- CONTR_TAC closes the goal p by a theorem F.
+abbrev pub ClosesByFalsity : Nameless → Given → List Move → Type 0
+ClosesByFalsity p th moves =
+    (extra : Hyps) (assumptions : List Nameless) → (given_sequent th).concl ≡ falsity → AreAllowed extra assumptions (given_sequent th).hyps → IsValid (holds_given th) extra moves (goal_at assumptions p ∷ []) []
 
 -- ---- equations
 
@@ -72,6 +85,50 @@ SplitsEquivalence moves =
     (extra : Hyps) (assumptions : List Nameless) (p q : Nameless) →
     IsValid always extra moves (goal_at assumptions (equation bool_type p q) ∷ []) (goal_at (p ∷ assumptions) q ∷ goal_at (q ∷ assumptions) p ∷ [])
 
+-- EQ_TAC leaves `p ==> q` and `q ==> p` of `p <=> q`.
+abbrev pub SplitsIntoImplications : List Move → Type 0
+SplitsIntoImplications moves =
+    (extra : Hyps) (assumptions : List Nameless) (p q : Nameless) →
+    IsValid always extra moves (goal_at assumptions (equation bool_type p q) ∷ []) (goal_at assumptions (implication p q) ∷ goal_at assumptions (implication q p) ∷ [])
+
+-- ---- connectives
+
+-- CONJ_TAC leaves p and q of `p /\ q`.
+abbrev pub SplitsConjunction : List Move → Type 0
+SplitsConjunction moves =
+    (extra : Hyps) (assumptions : List Nameless) (p q : Nameless) → IsValid always extra moves (goal_at assumptions (conjunction p q) ∷ []) (goal_at assumptions p ∷ goal_at assumptions q ∷ [])
+
+-- DISJ1_TAC leaves p of `p \/ q`, and DISJ2_TAC leaves q.
+abbrev pub LeavesLeft : Nameless → List Move → Type 0
+LeavesLeft q moves = (extra : Hyps) (assumptions : List Nameless) (p : Nameless) → IsValid always extra moves (goal_at assumptions (disjunction p q) ∷ []) (goal_at assumptions p ∷ [])
+
+abbrev pub LeavesRight : Nameless → List Move → Type 0
+LeavesRight p moves = (extra : Hyps) (assumptions : List Nameless) (q : Nameless) → IsValid always extra moves (goal_at assumptions (disjunction p q) ∷ []) (goal_at assumptions q ∷ [])
+
+-- DISCH_TAC leaves q of `p ==> q`, with p assumed.
+abbrev pub LeavesConsequent : Nameless → List Move → Type 0
+LeavesConsequent p moves = (extra : Hyps) (assumptions : List Nameless) (q : Nameless) → IsValid always extra moves (goal_at assumptions (implication p q) ∷ []) (goal_at (p ∷ assumptions) q ∷ [])
+
+-- UNDISCH_TAC takes the assumption p out, and leaves `p ==> q` of q.
+abbrev pub TakesOut : List Move → Type 0
+TakesOut moves =
+    (extra : Hyps) (newer older : List Nameless) (p q : Nameless) → IsValid always extra moves (goal_at (newer ++ (p ∷ older)) q ∷ []) (goal_at (newer ++ older) (implication p q) ∷ [])
+
+-- q from `p ==> q` and p, for a formula p
+abbrev pub SplitsByImplication : List Move → Type 0
+SplitsByImplication moves =
+    (extra : Hyps) (assumptions : List Nameless) (p q : Nameless) → IsValid (holds_formula p) extra moves (goal_at assumptions q ∷ []) (goal_at assumptions (implication p q) ∷ goal_at assumptions p ∷ [])
+
+-- MP_TAC leaves `c ==> q` of q, for a theorem c.
+abbrev pub LeavesImplication : Given → List Move → Type 0
+LeavesImplication th moves =
+    (extra : Hyps) (assumptions : List Nameless) (q : Nameless) → AreAllowed extra assumptions (given_sequent th).hyps →
+    IsValid (holds_given th) extra moves (goal_at assumptions q ∷ []) (goal_at assumptions (implication (given_sequent th).concl q) ∷ [])
+
+-- p from F
+abbrev pub LeavesFalsity : Nameless → List Move → Type 0
+LeavesFalsity p moves = (extra : Hyps) (assumptions : List Nameless) → IsValid always extra moves (goal_at assumptions p ∷ []) (goal_at assumptions falsity ∷ [])
+
 -- ---- quantifiers
 
 -- GEN_TAC and X_GEN_TAC leave p of `!x. p` at a variable of x's type that is free neither in the goal nor in an extra hypothesis.
@@ -79,3 +136,9 @@ abbrev pub LeavesProperty : List ℕ × TypeTree → List Move → Type 0
 LeavesProperty v moves =
     (extra : Hyps) (assumptions : List Nameless) (x : Abstraction) → v.1 ≡ x.domain → is_free_in (set.items extra) v ≡ false → is_free_in assumptions v ≡ false →
     binds (free_occurrences x.body) v ≡ false → IsValid always extra moves (goal_at assumptions (universal x) ∷ []) (goal_at assumptions (open_with (free v) 0 x.body) ∷ [])
+
+-- EXISTS_TAC leaves p of e, that is `?x. p`, at a term of x's type.
+abbrev pub LeavesAtWitness : Nameless → Nameless → List Move → Type 0
+LeavesAtWitness e t moves =
+    (extra : Hyps) (assumptions : List Nameless) (x : Abstraction) → e ≡ existential x → nameless_type [] t ≡ Some x.domain →
+    IsValid (holds_term t) extra moves (goal_at assumptions (existential x) ∷ []) (goal_at assumptions (open_with t 0 x.body) ∷ [])

@@ -11,3 +11,4 @@ pub mod EquationTacs
 pub mod ConnectiveTacs
 pub mod QuantifierTacs
 pub mod Tac
+pub mod Answering

@@ -1,15 +1,15 @@
 -- What each reason makes of sequents, by the functions of the rules.
 use Rattle.std.specs.Prelude.{[], Option, Some}
 use Rattle.std.specs.Option.{option_map}
-use Rattle.hol_terms.specs.Nameless.{nameless}
+use Rattle.hol_terms.specs.Nameless.{Nameless, nameless}
 use Rattle.hol_kernel.specs.Items.{Items}
 use Rattle.hol_kernel.specs.Sequent.{Sequent}
 use Rattle.hol_kernel.specs.Given as premise
 use Rattle.hol_kernel.specs.Rules.{refl_of, mk_comb_of, deduct_antisym_of}
-use Rattle.hol_bool.specs.Rules.{gen_of}
+use Rattle.hol_bool.specs.Rules.{conj_of, disj1_of, disj2_of, disch_of, undisch_of, mp_of, contr_of, gen_of, exists_of}
 use Rattle.hol_just.specs.Inference.{Inference, from_none, from_one, from_two}
 use Rattle.hol_just.specs.declared.reason.Reason.{Reason}
-use Rattle.hol_just.specs.declared.reason.Reason.TheVariants.{Reflexivity, Premise, Combination, Antisymmetry, Generalization}
+use Rattle.hol_just.specs.declared.reason.Reason.TheVariants.{Reflexivity, Premise, Combination, Antisymmetry, Conjunction, LeftDisjunct, RightDisjunct, Discharge, Undischarge, ModusPonens, Contradiction, Generalization, Existence}
 
 -- the sequent of a premise over a basis
 abbrev pub premise_of : Items → premise.Given → Option Sequent
@@ -19,13 +19,29 @@ premise_of basis given = option_map (λ th. th.sequent) (premise.given_over basi
 abbrev pub antisymmetric : Sequent → Sequent → Option Sequent
 antisymmetric a b = Some (deduct_antisym_of b a)
 
+-- p /\ q, from p and q
+abbrev pub conjoined : Sequent → Sequent → Option Sequent
+conjoined a b = Some (conj_of a b)
+
+-- p \/ q, from p
+abbrev pub left_disjunct : Items → Nameless → Sequent → Option Sequent
+left_disjunct basis q a = disj1_of basis a q
+
 -- the rule of a reason
 abbrev pub inference : Items → Reason → Inference
 inference basis (Reflexivity t) = from_none (refl_of basis (nameless [] t))
 inference basis (Premise given) = from_none (premise_of basis given)
 inference basis Combination = from_two mk_comb_of
 inference basis Antisymmetry = from_two antisymmetric
+inference basis Conjunction = from_two conjoined
+inference basis (LeftDisjunct q) = from_one (left_disjunct basis (nameless [] q))
+inference basis (RightDisjunct p) = from_one (disj2_of basis (nameless [] p))
+inference basis (Discharge p) = from_one (disch_of basis (nameless [] p))
+inference basis Undischarge = from_one undisch_of
+inference basis ModusPonens = from_two mp_of
+inference basis (Contradiction p) = from_one (contr_of basis (nameless [] p))
 inference basis (Generalization v) = from_one (gen_of basis v)
+inference basis (Existence e t) = from_one (exists_of basis (nameless [] e) (nameless [] t))
 
 -- what a reason asks of the basis: that it contains the bases of the theorems that the reason holds
 abbrev pub Fits : Items → Reason → Type 0
@@ -33,4 +49,12 @@ Fits basis (Reflexivity t) = Unit {0}
 Fits basis (Premise given) = premise.IsOver given basis
 Fits basis Combination = Unit {0}
 Fits basis Antisymmetry = Unit {0}
+Fits basis Conjunction = Unit {0}
+Fits basis (LeftDisjunct q) = Unit {0}
+Fits basis (RightDisjunct p) = Unit {0}
+Fits basis (Discharge p) = Unit {0}
+Fits basis Undischarge = Unit {0}
+Fits basis ModusPonens = Unit {0}
+Fits basis (Contradiction p) = Unit {0}
 Fits basis (Generalization v) = Unit {0}
+Fits basis (Existence e t) = Unit {0}

@@ -3,6 +3,7 @@
 //! Calls that answer a `Result` answer its memory error where memory is short, and nowhere else.
 #![tactic(auto)]
 
+mod bool_steps;
 mod cursor;
 mod just;
 mod justifying;
@@ -11,6 +12,7 @@ mod reason;
 mod refusals;
 mod steps;
 mod tacs;
+mod tried;
 
 pub use just::Just;
 pub use justifying::justify;
@@ -19,3 +21,4 @@ pub use laws::{
     validity_is_a_proposition,
 };
 pub use reason::{Move, Reason};
+pub use tried::{Step, TacFault, Tried};

@@ -16,8 +16,24 @@ pub enum Reason {
     Combination,
     /// Leaves `q` from `p`, and `p` from `q`: `p <=> q` (DEDUCT_ANTISYM_RULE, of the second theorem and the first).
     Antisymmetry,
+    /// Leaves `p` and `q`: `p /\ q` (CONJ).
+    Conjunction,
+    /// Leaves `p`: `p \/ q`, for the term `q` (DISJ1).
+    LeftDisjunct(Term),
+    /// Leaves `q`: `p \/ q`, for the term `p` (DISJ2).
+    RightDisjunct(Term),
+    /// Leaves `q` from `p`, the term: `p ==> q` (DISCH).
+    Discharge(Term),
+    /// Leaves `p ==> q`: `q` from `p` (UNDISCH).
+    Undischarge,
+    /// Leaves `p ==> q` and `p`: `q` (MP).
+    ModusPonens,
+    /// Leaves `F`: the term (CONTR).
+    Contradiction(Term),
     /// Leaves `p` at the variable: `!x. p` (GEN).
     Generalization(Term),
+    /// Leaves `p` at the second term: the first, `?x. p` (EXISTS).
+    Existence(Term, Term),
 }
 
 /// The goal at this place, counted from 0, was taken out of the list of open goals, and those that the reason leaves stand there.
@@ -39,7 +55,15 @@ impl Reason {
             Reason::Premise(given) => Reason::Premise(given.copy()?),
             Reason::Combination => Reason::Combination,
             Reason::Antisymmetry => Reason::Antisymmetry,
+            Reason::Conjunction => Reason::Conjunction,
+            Reason::LeftDisjunct(q) => Reason::LeftDisjunct(q.copy()?),
+            Reason::RightDisjunct(p) => Reason::RightDisjunct(p.copy()?),
+            Reason::Discharge(p) => Reason::Discharge(p.copy()?),
+            Reason::Undischarge => Reason::Undischarge,
+            Reason::ModusPonens => Reason::ModusPonens,
+            Reason::Contradiction(p) => Reason::Contradiction(p.copy()?),
             Reason::Generalization(v) => Reason::Generalization(v.copy()?),
+            Reason::Existence(e, t) => Reason::Existence(e.copy()?, t.copy()?),
         })
     }
 }

@@ -3,15 +3,17 @@ ghost use Rattle.std.specs.Prelude.{◌≡◌, ◌++◌, IsSome, [], OnOk};
 ghost use Rattle.hol_terms.specs.Nameless.{nameless};
 ghost use Rattle.hol_kernel.specs.Given as premise;
 ghost use Rattle.hol_kernel.specs.Rules.{refl_of, mk_comb_of};
-ghost use Rattle.hol_bool.specs.Rules.{gen_of};
-ghost use Rattle.hol_just.specs.Inference.{from_none, from_one, from_two, inferred};
+ghost use Rattle.hol_just.specs.Inference.{from_none, from_two, inferred};
 ghost use Rattle.hol_just.specs.Reasons.{premise_of, antisymmetric, inference, Fits};
 ghost use Rattle.hol_just.specs.Over.{Infers};
 
+use crate::bool_steps::{
+    conjunction, contradiction, discharge, existence, generalization, left_disjunct, modus_ponens,
+    right_disjunct, undischarge,
+};
 use crate::cursor::Cursor;
 use crate::reason::Reason;
-use crate::refusals::{made_in_bool, made_in_kernel};
-use hol_bool::generalize;
+use crate::refusals::made_in_kernel;
 use hol_kernel::{Given, Thm};
 use hol_terms::Term;
 use std::alloc::{AllocError, Global};
@@ -27,7 +29,15 @@ pub(crate) fn infer(alloc: Global, reason: &Reason, thms: &mut Cursor) -> Result
         Reason::Premise(given) => premise(alloc, given, thms),
         Reason::Combination => combination(alloc, thms),
         Reason::Antisymmetry => antisymmetry(alloc, thms),
+        Reason::Conjunction => conjunction(alloc, thms),
+        Reason::LeftDisjunct(q) => left_disjunct(alloc, q, thms),
+        Reason::RightDisjunct(p) => right_disjunct(alloc, p, thms),
+        Reason::Discharge(p) => discharge(alloc, p, thms),
+        Reason::Undischarge => undischarge(alloc, thms),
+        Reason::ModusPonens => modus_ponens(alloc, thms),
+        Reason::Contradiction(p) => contradiction(alloc, p, thms),
         Reason::Generalization(v) => generalization(alloc, v, thms),
+        Reason::Existence(e, t) => existence(alloc, e, t, thms),
     }
 }
 
@@ -67,16 +77,5 @@ fn antisymmetry(alloc: Global, thms: &mut Cursor) -> Result<(), AllocError>
         unreachable!()
     };
     let thm = Thm::deduct_antisym(alloc, &back, &there)?;
-    thms.put(thm)
-}
-
-fn generalization(alloc: Global, v: &Term, thms: &mut Cursor) -> Result<(), AllocError>
-    requires { IsSome (inferred (from_one (gen_of thms.old.basis v.now)) thms.old.after) }
-    ensures { OnOk result (Infers (from_one (gen_of thms.old.basis v.now)) thms.old thms.new) }
-{
-    let Some(property) = thms.take() else {
-        unreachable!()
-    };
-    let thm = made_in_bool(generalize(alloc, v, &property))?;
     thms.put(thm)
 }

@@ -1,12 +1,17 @@
 //! The justifications of the functions on goals.
-ghost use Rattle.std.specs.Prelude.{IfOk, []};
+ghost use Rattle.std.specs.Prelude.{IfOk, IsTrue, []};
 ghost use Rattle.hol_terms.specs.Nameless.{nameless};
-ghost use Rattle.hol_just.specs.Justifies.{ClosesEquation, ClosesByGiven, SplitsApplications, LeavesArguments, LeavesFunctions, LeavesProperty, SplitsEquivalence};
+ghost use Rattle.hol_formulas.specs.Equation.{bool_type};
+ghost use Rattle.hol_kernel.specs.Items.{Items};
+ghost use Rattle.hol_kernel.specs.Given.{given_sequent};
+ghost use Rattle.hol_kernel.specs.Typing.{HasType};
+ghost use Rattle.hol_just.specs.Justifies.{holds_given, ClosesEquation, ClosesByGiven, ClosesByFalsity, SplitsApplications, LeavesArguments, LeavesFunctions, SplitsEquivalence, SplitsIntoImplications};
+ghost use Rattle.hol_just.specs.Justifies.{SplitsConjunction, LeavesLeft, LeavesRight, LeavesConsequent, TakesOut, SplitsByImplication, LeavesImplication, LeavesFalsity, LeavesProperty, LeavesAtWitness};
 
 use crate::just::Just;
 use crate::reason::Reason;
 use hol_formulas::occurrence;
-use hol_kernel::Given;
+use hol_kernel::{Given, GivenNode};
 use hol_terms::{Term, Variable};
 use std::alloc::{AllocError, Global};
 
@@ -59,11 +64,110 @@ impl Just {
         Just::one(alloc, Reason::Antisymmetry)
     }
 
+    /// That of EQ_TAC: of `p <=> q` both directions are left, and of each what it assumes is taken out.
+    pub fn eq_tac(alloc: Global) -> Result<Just, AllocError>
+        ensures { IfOk result (λ just. SplitsIntoImplications just) }
+    {
+        let taking = Just::undisch_tac(alloc)?;
+        let mut just = Just::deduct_antisym(alloc)?;
+        just.then_at(0, &taking)?;
+        just.then_at(1, &taking)?;
+        Ok(just)
+    }
+
+    /// That of CONJ_TAC.
+    pub fn conj_tac(alloc: Global) -> Result<Just, AllocError>
+        ensures { IfOk result (λ just. SplitsConjunction just) }
+    {
+        Just::one(alloc, Reason::Conjunction)
+    }
+
+    /// That of DISJ1_TAC, where this is on the right.
+    pub fn disj1_tac(alloc: Global, right: &Term) -> Result<Just, AllocError>
+        ensures { IfOk result (λ just. LeavesLeft (nameless [] right.now) just) }
+    {
+        Just::one(alloc, Reason::LeftDisjunct(right.copy()?))
+    }
+
+    /// That of DISJ2_TAC, where this is on the left.
+    pub fn disj2_tac(alloc: Global, left: &Term) -> Result<Just, AllocError>
+        ensures { IfOk result (λ just. LeavesRight (nameless [] left.now) just) }
+    {
+        Just::one(alloc, Reason::RightDisjunct(left.copy()?))
+    }
+
+    /// That of DISCH_TAC on an implication from this term.
+    pub fn disch_tac(alloc: Global, antecedent: &Term) -> Result<Just, AllocError>
+        ensures { IfOk result (λ just. LeavesConsequent (nameless [] antecedent.now) just) }
+    {
+        Just::one(alloc, Reason::Discharge(antecedent.copy()?))
+    }
+
+    /// That of UNDISCH_TAC.
+    pub fn undisch_tac(alloc: Global) -> Result<Just, AllocError>
+        ensures { IfOk result (λ just. TakesOut just) }
+    {
+        Just::one(alloc, Reason::Undischarge)
+    }
+
+    /// That of leaving `p ==> q` and `p` of `q`.
+    pub fn mp(alloc: Global) -> Result<Just, AllocError>
+        ensures { IfOk result (λ just. SplitsByImplication just) }
+    {
+        Just::one(alloc, Reason::ModusPonens)
+    }
+
+    /// That of MP_TAC by this theorem.
+    pub fn mp_tac(alloc: Global, th: &Given) -> Result<Just, AllocError>
+        ensures { IfOk result (λ just. LeavesImplication th.now just) }
+    {
+        conclusion_typed(th);
+        let closing = Just::accept_tac(alloc, th)?;
+        let mut just = Just::mp(alloc)?;
+        just.then_at(1, &closing)?;
+        Ok(just)
+    }
+
+    /// That of leaving `F` of this formula.
+    pub fn contr(alloc: Global, formula: &Term) -> Result<Just, AllocError>
+        ensures { IfOk result (λ just. LeavesFalsity (nameless [] formula.now) just) }
+    {
+        Just::one(alloc, Reason::Contradiction(formula.copy()?))
+    }
+
+    /// That of CONTR_TAC by this theorem, where this is the conclusion.
+    pub fn contr_tac(alloc: Global, conclusion: &Term, th: &Given) -> Result<Just, AllocError>
+        ensures { IfOk result (λ just. ClosesByFalsity (nameless [] conclusion.now) th.now just) }
+    {
+        let closing = Just::accept_tac(alloc, th)?;
+        let mut just = Just::contr(alloc, conclusion)?;
+        just.then_at(0, &closing)?;
+        Ok(just)
+    }
+
     /// That of GEN_TAC and X_GEN_TAC, which leave the property at this variable.
     pub fn gen_tac(alloc: Global, v: &Variable) -> Result<Just, AllocError>
         ensures { IfOk result (λ just. LeavesProperty v.now just) }
     {
         let variable = occurrence(alloc, v)?;
         Just::one(alloc, Reason::Generalization(variable))
+    }
+
+    /// That of EXISTS_TAC, where this is the conclusion, at the witness.
+    pub fn exists_tac(alloc: Global, conclusion: &Term, witness: &Term) -> Result<Just, AllocError>
+        ensures { IfOk result (λ just. LeavesAtWitness (nameless [] conclusion.now) (nameless [] witness.now) just) }
+    {
+        let formula = conclusion.copy()?;
+        Just::one(alloc, Reason::Existence(formula, witness.copy()?))
+    }
+}
+
+// The conclusion is a formula over each basis that contains the theorem's, and the term over each over which it can be assumed.
+fn conclusion_typed(th: &Given)
+    ensures { (basis : Items) → IsTrue (holds_given th.now basis) → HasType basis (given_sequent th.now).concl bool_type }
+{
+    match th.node() {
+        GivenNode::Theorem(theorem) => theorem.well_typed(),
+        GivenNode::Assumed(_) => {}
     }
 }

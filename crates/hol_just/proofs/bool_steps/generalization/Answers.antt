@@ -2,7 +2,7 @@ use Rattle.hol_bool.specs.Rules.{gen_of}
 use Rattle.hol_bool.specs.Refusals.{in_bool}
 use Rattle.hol_bool.specs.declared.error.Rule.TheVariants as rule
 use Rattle.hol_just.proofs.Applied.{from_one_taken, is_first, gave, where_ok, made_or_short, one_applies}
-use Rattle.hol_just.proofs.steps.generalization.Goals as goal
+use Rattle.hol_just.proofs.bool_steps.generalization.Goals as goal
 
 pub made_in_bool-requires : goal.made_in_bool-requires
 made_in_bool-requires c =

@@ -1,0 +1,70 @@
+-- When what a function on goals answers is right: it is what its code means, and the step is justified.
+use Rattle.std.specs.Prelude.{◌≡◌, ℕ, Bool, true, ◌&&◌, List, [], ◌∷◌, Option, Some, None, Result, Ok, Err}
+use Rattle.std.specs.List.{list_all}
+use Rattle.std.specs.FinSet as set
+use Rattle.hol_kernel.specs.Items.{Items}
+use Rattle.hol_kernel.specs.Given.{Given, given_sequent}
+use Rattle.hol_kernel.specs.Sequent.{Hyps, no_hyps}
+use Rattle.hol_goal.specs.Goal.{GoalValue}
+use Rattle.hol_goal.specs.Achieves.{AreAllowed}
+use Rattle.hol_goal.specs.Arguments.{TacArgsValue, Nothing, Term, Pair, Theorem, TermAndTheorem, Theorems}
+use Rattle.hol_goal.specs.declared.tac_code.TacCode.{TacCode}
+use Rattle.hol_just.specs.Valid.{IsValid}
+use Rattle.hol_just.specs.Justifies.{holds_term, holds_given}
+use Rattle.hol_just.specs.Tac.{AnswerValue, Left, Unfit, tac}
+use Rattle.hol_just.specs.declared.tried.Step.{Step}
+use Rattle.hol_just.specs.declared.tried.Tried.{Tried}
+use Rattle.hol_just.specs.declared.tried.TacFault.{TacFault}
+use Rattle.hol_just.specs.declared.tried.TacFault.TheVariants.{Refused, Memory}
+
+-- ---- the answer
+
+-- The answer is the one that is right. Want of memory may come in its place.
+abbrev pub IsAnswered : AnswerValue → Result Tried TacFault → Type 0
+IsAnswered (Left goals turns) (Ok tried) = (tried.step.goals.items ≡ goals) × (tried.left ≡ turns)
+IsAnswered (Left goals turns) (Err (Refused left)) = ⊥
+IsAnswered (Left goals turns) (Err Memory) = Unit {0}
+IsAnswered (Unfit turns) (Ok tried) = ⊥
+IsAnswered (Unfit turns) (Err (Refused left)) = left ≡ turns
+IsAnswered (Unfit turns) (Err Memory) = Unit {0}
+
+-- the same by the code, which has a meaning
+abbrev pub IsAnsweredBy : Option (TacArgsValue → GoalValue → ℕ → AnswerValue) → TacArgsValue → GoalValue → ℕ → Result Tried TacFault → Type 0
+IsAnsweredBy None args goal turns result = ⊥
+IsAnsweredBy (Some f) args goal turns result = IsAnswered (f args goal turns) result
+
+abbrev pub AnswersCode : TacCode → TacArgsValue → GoalValue → ℕ → Result Tried TacFault → Type 0
+AnswersCode code args goal turns result = IsAnsweredBy (tac code) args goal turns result
+
+-- ---- the justification
+
+-- the hypotheses of the theorems among the arguments
+abbrev pub all_hyps : List Given → Hyps
+all_hyps [] = no_hyps
+all_hyps (th ∷ ths) = set.union (given_sequent th).hyps (all_hyps ths)
+
+abbrev pub args_hyps : TacArgsValue → Hyps
+args_hyps Nothing = no_hyps
+args_hyps (Term t) = no_hyps
+args_hyps (Pair s t) = no_hyps
+args_hyps (Theorem th) = (given_sequent th).hyps
+args_hyps (TermAndTheorem t th) = (given_sequent th).hyps
+args_hyps (Theorems ths) = all_hyps ths
+
+-- the basis suits the arguments: their terms are well typed over it, and it contains the theorems' bases
+abbrev pub suits : TacArgsValue → Items → Bool
+suits Nothing basis = true
+suits (Term t) basis = holds_term t basis
+suits (Pair s t) basis = holds_term s basis && holds_term t basis
+suits (Theorem th) basis = holds_given th basis
+suits (TermAndTheorem t th) basis = holds_term t basis && holds_given th basis
+suits (Theorems ths) basis = list_all (λ th. holds_given th basis) ths
+
+-- The extra hypotheses are the arguments', and each of the arguments' is one of them or an assumption.
+pub record AreLeft (extra : Hyps) (args : TacArgsValue) (goal : GoalValue) : Type 0 where
+  pub among : set.is_subset extra (args_hyps args) ≡ true
+  pub all : AreAllowed extra goal.assumptions (args_hyps args)
+
+-- the step is valid from the goal to those that it leaves, where each hypothesis of the arguments is an assumption or left over
+abbrev pub IsJustified : TacArgsValue → GoalValue → Step → Type 0
+IsJustified args goal step = (extra : Hyps) → AreLeft extra args goal → IsValid (suits args) extra step.just (goal ∷ []) step.goals.items

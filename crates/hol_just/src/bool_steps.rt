@@ -1,0 +1,126 @@
+//! Reasons by the rules of connectives and quantifiers, applied to theorems.
+ghost use Rattle.std.specs.Prelude.{IsSome, [], OnOk};
+ghost use Rattle.hol_terms.specs.Nameless.{nameless};
+ghost use Rattle.hol_bool.specs.Rules.{disj2_of, disch_of, undisch_of, mp_of, contr_of, gen_of, exists_of};
+ghost use Rattle.hol_just.specs.Inference.{from_one, from_two, inferred};
+ghost use Rattle.hol_just.specs.Reasons.{conjoined, left_disjunct};
+ghost use Rattle.hol_just.specs.Over.{Infers};
+
+use crate::cursor::Cursor;
+use crate::refusals::made_in_bool;
+use hol_bool::{conj, contr, disch, disj1, disj2, exists, generalize, mp, undisch};
+use hol_terms::Term;
+use std::alloc::{AllocError, Global};
+
+/// CONJ of the two theorems after the place.
+pub(crate) fn conjunction(alloc: Global, thms: &mut Cursor) -> Result<(), AllocError>
+    requires { IsSome (inferred (from_two conjoined) thms.old.after) }
+    ensures { OnOk result (Infers (from_two conjoined) thms.old thms.new) }
+{
+    let (Some(left), Some(right)) = (thms.take(), thms.take()) else {
+        unreachable!()
+    };
+    let thm = conj(alloc, &left, &right)?;
+    thms.put(thm)
+}
+
+/// DISJ1 of the theorem after the place.
+pub(crate) fn left_disjunct(alloc: Global, q: &Term, thms: &mut Cursor) -> Result<(), AllocError>
+    requires { IsSome (inferred (from_one (left_disjunct thms.old.basis (nameless [] q.now))) thms.old.after) }
+    ensures { OnOk result (Infers (from_one (left_disjunct thms.old.basis (nameless [] q.now))) thms.old thms.new) }
+{
+    let Some(left) = thms.take() else {
+        unreachable!()
+    };
+    let thm = made_in_bool(disj1(alloc, &left, q))?;
+    thms.put(thm)
+}
+
+/// DISJ2 of the theorem after the place.
+pub(crate) fn right_disjunct(alloc: Global, p: &Term, thms: &mut Cursor) -> Result<(), AllocError>
+    requires { IsSome (inferred (from_one (disj2_of thms.old.basis (nameless [] p.now))) thms.old.after) }
+    ensures { OnOk result (Infers (from_one (disj2_of thms.old.basis (nameless [] p.now))) thms.old thms.new) }
+{
+    let Some(right) = thms.take() else {
+        unreachable!()
+    };
+    let thm = made_in_bool(disj2(alloc, p, &right))?;
+    thms.put(thm)
+}
+
+/// DISCH of the theorem after the place.
+pub(crate) fn discharge(alloc: Global, p: &Term, thms: &mut Cursor) -> Result<(), AllocError>
+    requires { IsSome (inferred (from_one (disch_of thms.old.basis (nameless [] p.now))) thms.old.after) }
+    ensures { OnOk result (Infers (from_one (disch_of thms.old.basis (nameless [] p.now))) thms.old thms.new) }
+{
+    let Some(consequent) = thms.take() else {
+        unreachable!()
+    };
+    let thm = made_in_bool(disch(alloc, p, &consequent))?;
+    thms.put(thm)
+}
+
+/// UNDISCH of the theorem after the place.
+pub(crate) fn undischarge(alloc: Global, thms: &mut Cursor) -> Result<(), AllocError>
+    requires { IsSome (inferred (from_one undisch_of) thms.old.after) }
+    ensures { OnOk result (Infers (from_one undisch_of) thms.old thms.new) }
+{
+    let Some(implication) = thms.take() else {
+        unreachable!()
+    };
+    let thm = made_in_bool(undisch(alloc, &implication))?;
+    thms.put(thm)
+}
+
+/// MP of the two theorems after the place.
+pub(crate) fn modus_ponens(alloc: Global, thms: &mut Cursor) -> Result<(), AllocError>
+    requires { IsSome (inferred (from_two mp_of) thms.old.after) }
+    ensures { OnOk result (Infers (from_two mp_of) thms.old thms.new) }
+{
+    let (Some(implication), Some(premise)) = (thms.take(), thms.take()) else {
+        unreachable!()
+    };
+    let thm = made_in_bool(mp(alloc, &implication, &premise))?;
+    thms.put(thm)
+}
+
+/// CONTR of the theorem after the place.
+pub(crate) fn contradiction(alloc: Global, p: &Term, thms: &mut Cursor) -> Result<(), AllocError>
+    requires { IsSome (inferred (from_one (contr_of thms.old.basis (nameless [] p.now))) thms.old.after) }
+    ensures { OnOk result (Infers (from_one (contr_of thms.old.basis (nameless [] p.now))) thms.old thms.new) }
+{
+    let Some(falsity) = thms.take() else {
+        unreachable!()
+    };
+    let thm = made_in_bool(contr(alloc, p, &falsity))?;
+    thms.put(thm)
+}
+
+/// GEN of the theorem after the place.
+pub(crate) fn generalization(alloc: Global, v: &Term, thms: &mut Cursor) -> Result<(), AllocError>
+    requires { IsSome (inferred (from_one (gen_of thms.old.basis v.now)) thms.old.after) }
+    ensures { OnOk result (Infers (from_one (gen_of thms.old.basis v.now)) thms.old thms.new) }
+{
+    let Some(property) = thms.take() else {
+        unreachable!()
+    };
+    let thm = made_in_bool(generalize(alloc, v, &property))?;
+    thms.put(thm)
+}
+
+/// EXISTS of the theorem after the place.
+pub(crate) fn existence(
+    alloc: Global,
+    e: &Term,
+    t: &Term,
+    thms: &mut Cursor,
+) -> Result<(), AllocError>
+    requires { IsSome (inferred (from_one (exists_of thms.old.basis (nameless [] e.now) (nameless [] t.now))) thms.old.after) }
+    ensures { OnOk result (Infers (from_one (exists_of thms.old.basis (nameless [] e.now) (nameless [] t.now))) thms.old thms.new) }
+{
+    let Some(property) = thms.take() else {
+        unreachable!()
+    };
+    let thm = made_in_bool(exists(alloc, e, t, &property))?;
+    thms.put(thm)
+}

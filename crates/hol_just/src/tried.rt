@@ -1,0 +1,50 @@
+//! What the functions on goals answer.
+ghost use Rattle.std.specs.Prelude.{◌≡◌};
+ghost use Rattle.hol_just.specs.declared.tried.TacFault.TheVariants.{Memory};
+
+use crate::just::Just;
+use hol_goal::Goal;
+use std::alloc::{AllocError, AllocFailed};
+
+/// The goals that are left of a goal, and why they are.
+#[derive(Drop)]
+pub struct Step {
+    /// The goals.
+    pub goals: Vec<Goal>,
+    /// Makes theorems of them into a theorem of the goal.
+    pub just: Just,
+}
+
+/// What a function on goals did.
+#[derive(Drop)]
+pub struct Tried {
+    /// The step.
+    pub step: Step,
+    /// The turns left.
+    pub left: u32,
+}
+
+/// Why a function on goals did nothing.
+#[derive(Clone, Copy, Debug, PartialEq, Eq)]
+pub enum TacFault {
+    /// The function doesn't fit the goal, or takes other arguments. The turns left.
+    Refused(u32),
+    /// Memory is short.
+    Memory,
+}
+
+impl From<AllocError> for TacFault {
+    ghost from_gives = { λ _ e. e ≡ Memory };
+
+    fn from(_error: AllocError) -> TacFault {
+        TacFault::Memory
+    }
+}
+
+impl<T: Drop> From<AllocFailed<T>> for TacFault {
+    ghost from_gives = { λ _ e. e ≡ Memory };
+
+    fn from(_error: AllocFailed<T>) -> TacFault {
+        TacFault::Memory
+    }
+}

@@ -1,0 +1,4 @@
+pub mod Justified
+pub mod Valid
+pub mod ApplicationLaws
+pub mod Instances

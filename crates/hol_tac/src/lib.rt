@@ -1,0 +1,17 @@
+//! The functions on goals, by their codes.
+//!
+//! Calls that answer a `Result` answer its memory error where memory is short, and nowhere else.
+#![tactic(auto)]
+
+mod applications;
+mod connectives;
+mod equations;
+mod quantifiers;
+mod steps;
+mod trivial;
+
+pub use applications::{ap_term_tac, ap_thm_tac, mk_comb_tac};
+pub use connectives::{accept_tac, conj_tac, contr_tac, disj1_tac, disj2_tac, mp_tac};
+pub use equations::{eq_tac, refl_tac};
+pub use quantifiers::{exists_tac, x_gen_tac};
+pub use trivial::{all_tac, no_tac};

@@ -1,0 +1,165 @@
+//! The functions on quantifiers.
+ghost use Rattle.std.specs.Prelude.{◌≡◌, ◌∷◌, IfOk, IsErrOf, Ok, Some, []};
+ghost use Rattle.std.specs.List.{list_any};
+ghost use Rattle.hol_terms.specs.Named.{named_type};
+ghost use Rattle.hol_terms.specs.Nameless.{free, nameless, free_occurrences};
+ghost use Rattle.hol_terms.specs.Scoped.{binds};
+ghost use Rattle.hol_subst.specs.Closing.{open_with};
+ghost use Rattle.hol_subst.specs.Variant.{is_free_in};
+ghost use Rattle.hol_subst.specs.declared.error.SubstError.TheVariants as SubstError;
+ghost use Rattle.hol_formulas.specs.Equation.{bool_type};
+ghost use Rattle.hol_goal.specs.ArgumentsView.{args_value};
+ghost use Rattle.hol_goal.specs.declared.tac_code.TacCode.TheVariants as code;
+ghost use Rattle.hol_just.specs.Leaving.{concluding, goal_terms};
+ghost use Rattle.hol_just.specs.Justifies.{LeavesProperty, LeavesAtWitness};
+ghost use Rattle.hol_just.specs.Answering.{AnswersCode, IsJustified};
+
+use crate::steps::leaving_one;
+use hol_formulas::{dest_exists, dest_forall, occurrence};
+use hol_goal::{Goal, TacArgs};
+use hol_just::{Just, Step, TacFault, Tried};
+use hol_subst::{SubstError, vsubst};
+use hol_terms::{Term, TermNode, Variable};
+use std::alloc::{AllocError, Global};
+
+/// X_GEN_TAC leaves `p` of `!x. p`, at a variable of the type of `x` that is not free in the goal.
+pub fn x_gen_tac(alloc: Global, args: &TacArgs, goal: &Goal, turns: u32) -> Result<Tried, TacFault>
+    ensures answer { AnswersCode code.XGenTac (args_value args.now) goal.now turns result }
+    ensures valid { IfOk result (λ tried. IsJustified (args_value args.now) goal.now tried.step) }
+{
+    let TacArgs::Term(t) = args else {
+        return Err(TacFault::Refused(turns));
+    };
+    let TermNode::Var(v) = t.node() else {
+        return Err(TacFault::Refused(turns));
+    };
+    let Some((x, p)) = dest_forall(goal.conclusion()) else {
+        return Err(TacFault::Refused(turns));
+    };
+    if !v.ty().same(x.ty()) {
+        return Err(TacFault::Refused(turns));
+    }
+    if is_free_in_goal(goal, v) {
+        return Err(TacFault::Refused(turns));
+    }
+    let step = x_gen_step(alloc, goal, x, p, v)?;
+    Ok(Tried { step, left: turns })
+}
+
+// The step to the property at the variable.
+fn x_gen_step(
+    alloc: Global,
+    goal: &Goal,
+    x: &Variable,
+    p: &Term,
+    v: &Variable,
+) -> Result<Step, AllocError>
+    requires same { v.now.1 ≡ x.now.1 }
+    requires body { named_type p.now ≡ Some bool_type }
+    ensures goals { IfOk result (λ step. step.goals.items ≡ concluding goal.now (open_with (free v.now) 0 (nameless (x.now ∷ []) p.now)) ∷ []) }
+    ensures just { IfOk result (λ step. LeavesProperty v.now step.just) }
+{
+    let variable = occurrence(alloc, v)?;
+    let left = instance(alloc, goal, x, p, &variable)?;
+    let just = Just::gen_tac(alloc, v)?;
+    leaving_one(alloc, left, just)
+}
+
+/// EXISTS_TAC leaves `p` of `?x. p`, at a term of the type of `x`.
+pub fn exists_tac(alloc: Global, args: &TacArgs, goal: &Goal, turns: u32) -> Result<Tried, TacFault>
+    ensures answer { AnswersCode code.ExistsTac (args_value args.now) goal.now turns result }
+    ensures valid { IfOk result (λ tried. IsJustified (args_value args.now) goal.now tried.step) }
+{
+    let TacArgs::Term(t) = args else {
+        return Err(TacFault::Refused(turns));
+    };
+    let Some((x, p)) = dest_exists(goal.conclusion()) else {
+        return Err(TacFault::Refused(turns));
+    };
+    if !t.type_of().same(x.ty()) {
+        return Err(TacFault::Refused(turns));
+    }
+    let step = exists_step(alloc, goal, x, p, t)?;
+    Ok(Tried { step, left: turns })
+}
+
+// The step to the property of the witness.
+fn exists_step(
+    alloc: Global,
+    goal: &Goal,
+    x: &Variable,
+    p: &Term,
+    t: &Term,
+) -> Result<Step, AllocError>
+    requires witness { named_type t.now ≡ Some x.now.1 }
+    requires body { named_type p.now ≡ Some bool_type }
+    ensures goals { IfOk result (λ step. step.goals.items ≡ concluding goal.now (open_with (nameless [] t.now) 0 (nameless (x.now ∷ []) p.now)) ∷ []) }
+    ensures just { IfOk result (λ step. LeavesAtWitness goal.now.conclusion (nameless [] t.now) step.just) }
+{
+    let left = instance(alloc, goal, x, p, t)?;
+    let just = Just::exists_tac(alloc, goal.conclusion(), t)?;
+    leaving_one(alloc, left, just)
+}
+
+// The goal with the conclusion `p`, with `t` for `x`.
+fn instance(
+    alloc: Global,
+    goal: &Goal,
+    x: &Variable,
+    p: &Term,
+    t: &Term,
+) -> Result<Goal, AllocError>
+    requires argument { named_type t.now ≡ Some x.now.1 }
+    requires body { named_type p.now ≡ Some bool_type }
+    ensures { IfOk result (λ g. g ≡ concluding goal.now (open_with (nameless [] t.now) 0 (nameless (x.now ∷ []) p.now))) }
+{
+    let conclusion = at(alloc, x, p, t)?;
+    goal.with_conclusion(alloc, &conclusion)
+}
+
+// `p` with `t` for `x`.
+fn at(alloc: Global, x: &Variable, p: &Term, t: &Term) -> Result<Term, AllocError>
+    requires argument { named_type t.now ≡ Some x.now.1 }
+    requires body { named_type p.now ≡ Some bool_type }
+    ensures is { IfOk result (λ r. nameless [] r ≡ open_with (nameless [] t.now) 0 (nameless (x.now ∷ []) p.now)) }
+    ensures typed { IfOk result (λ r. named_type r ≡ Some bool_type) }
+{
+    let mut pairs = Vec::new(alloc);
+    let own = occurrence(alloc, x)?;
+    pairs.push((t.copy()?, own))?;
+    substituted(vsubst(alloc, &pairs, p))
+}
+
+// The term that was substituted, where no pair was bad.
+fn substituted(answer: Result<Term, SubstError>) -> Result<Term, AllocError>
+    requires { IsErrOf answer SubstError.BadPair → ⊥ }
+    ensures { IfOk result (λ t. answer ≡ Ok t) }
+{
+    match answer {
+        Ok(t) => Ok(t),
+        Err(SubstError::Memory) => Err(AllocError),
+        Err(SubstError::BadPair) => unreachable!(),
+    }
+}
+
+// Whether the variable is free in the goal.
+fn is_free_in_goal(goal: &Goal, v: &Variable) -> bool
+    ensures { result ≡ is_free_in (goal_terms goal.now) v.now }
+{
+    if goal.conclusion().vfree_in(v) {
+        return true;
+    }
+    is_free_in_one(goal.assumptions(), v)
+}
+
+// Whether the variable is free in a term of the list.
+fn is_free_in_one(terms: &[Term], v: &Variable) -> bool
+    ensures { result ≡ list_any (λ p. binds (free_occurrences (nameless [] p)) v.now) terms.now }
+{
+    for p in terms {
+        if p.vfree_in(v) {
+            return true;
+        }
+    }
+    false
+}

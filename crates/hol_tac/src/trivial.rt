@@ -1,0 +1,31 @@
+//! ALL_TAC and NO_TAC.
+ghost use Rattle.std.specs.Prelude.{IfOk};
+ghost use Rattle.hol_goal.specs.ArgumentsView.{args_value};
+ghost use Rattle.hol_goal.specs.declared.tac_code.TacCode.TheVariants as code;
+ghost use Rattle.hol_just.specs.Answering.{AnswersCode, IsJustified};
+
+use crate::steps::leaving_one;
+use hol_goal::{Goal, TacArgs};
+use hol_just::{Just, TacFault, Tried};
+use std::alloc::Global;
+
+/// ALL_TAC leaves the goal as it is.
+pub fn all_tac(alloc: Global, args: &TacArgs, goal: &Goal, turns: u32) -> Result<Tried, TacFault>
+    ensures answer { AnswersCode code.AllTac (args_value args.now) goal.now turns result }
+    ensures valid { IfOk result (λ tried. IsJustified (args_value args.now) goal.now tried.step) }
+{
+    let TacArgs::Nothing = args else {
+        return Err(TacFault::Refused(turns));
+    };
+    let same = goal.copy(alloc)?;
+    let step = leaving_one(alloc, same, Just::none(alloc))?;
+    Ok(Tried { step, left: turns })
+}
+
+/// NO_TAC fits no goal.
+pub fn no_tac(_alloc: Global, args: &TacArgs, goal: &Goal, turns: u32) -> Result<Tried, TacFault>
+    ensures answer { AnswersCode code.NoTac (args_value args.now) goal.now turns result }
+    ensures valid { IfOk result (λ tried. IsJustified (args_value args.now) goal.now tried.step) }
+{
+    Err(TacFault::Refused(turns))
+}
