@@ -1,0 +1,76 @@
+-- Elements made of the one before them.
+use Rattle.std.specs.Prelude.{◌≡◌, ℕ, zero, suc, ◌+◌, ◌%◌, ◌<◌, ◌≤◌, List, [], ◌∷◌, ◌++◌, length, drop, take, Result, Err, refl}
+use Rattle.std.specs.FinSet as set
+use Rattle.std.proofs.Common.{ap, sym, ◌∙◌, subst, arith}
+use Rattle.std.proofs.Math.Nat.{mod-lt}
+use Rattle.hol_kernel.specs.Items.{Items}
+use Rattle.hol_kernel.specs.Sequent.{no_hyps}
+use Rattle.hol_kernel.specs.Extends.{Agree}
+use Rattle.hol_kernel.specs.Gives.{Joins}
+use Rattle.hol_kernel.specs.declared.error.KernelError.{KernelError}
+use Rattle.hol_kernel.specs.declared.error.KernelError.TheVariants.{Clash}
+use Rattle.hol_kernel.proofs.Subsets.{subset_left, within_itself}
+use Rattle.hol_goal.specs.Goal.{GoalValue}
+use Rattle.hol_just.specs.Gives.{moved}
+use Rattle.hol_just.specs.Valid.{IsValid}
+use Rattle.hol_just.specs.declared.reason.Move.{Move}
+use Rattle.hol_just.proofs.Validity.{valid_none, valid_at}
+use Rattle.hol_stack.specs.StackValue.{StepValue, StackValue, followed, rotated}
+use Rattle.hol_stack.specs.Calls.{IsStep}
+use Rattle.hol_stack.specs.Sound.{Follows}
+use Rattle.hol_stack.specs.declared.step.Change.TheVariants.{Left, Turned}
+use Rattle.hol_stack.proofs.Turns.{turned_by}
+
+pub no_clash : (a b : Items) (n : List ℕ) (answer : Result Items KernelError) → Agree a b → answer ≡ Err (Clash n) → Joins a b answer → ⊥
+no_clash a b n answer agree is joins =
+    let clash = subst (Joins a b) is joins in
+    let at = clash.2 in
+    at.differ (agree at.first at.second clash.0 at.in_first at.in_second at.name_of_first at.name_of_second)
+
+-- ---- by a step
+
+nothing_more : (n : ℕ) → 0 + n ≡ n
+nothing_more n = omega arith
+
+unmoved : (moves : List Move) → moved 0 moves ≡ moves
+unmoved [] = refl
+unmoved (one ∷ moves) = λ i. record one { place = nothing_more one.place i } ∷ unmoved moves i
+
+step_valid : (basis : Items) (moves : List Move) (left goals : List GoalValue) → IsStep basis moves left goals → IsValid (set.is_subset basis) no_hyps moves goals (left ++ drop 1 goals)
+step_valid basis moves left [] step = absurd step
+step_valid basis moves left (g ∷ gs) step =
+    subst (λ ms. IsValid (set.is_subset basis) no_hyps ms (g ∷ gs) (left ++ gs)) (unmoved moves)
+    (valid_at (set.is_subset basis) no_hyps [] moves (g ∷ gs) [] (g ∷ []) left gs 0 refl (valid_none (set.is_subset basis) no_hyps (g ∷ gs)) step)
+
+pub step_follows :
+    (before next : StepValue) (left : List GoalValue) (basis : Items) (moves : List Move) → IsStep (set.union before.basis basis) moves left before.goals →
+    next ≡ record { goals = left ++ drop 1 before.goals; basis = set.union before.basis basis } → Follows before (Left moves) next
+step_follows before next left basis moves step is =
+    subst (Follows before (Left moves)) (sym is)
+    (record { within = subset_left before.basis basis; changed = step_valid (set.union before.basis basis) moves left before.goals step })
+
+-- ---- by a turn
+
+pub turn_follows :
+    (before next : StepValue) (by : ℕ) → by ≤ length before.goals → next ≡ record before { goals = drop by before.goals ++ take by before.goals } →
+    Follows before (Turned by) next
+turn_follows before next by h is =
+    subst (Follows before (Turned by)) (sym is) (record { within = within_itself before.basis; changed = (h, refl) })
+
+pub rotated_by :
+    (old new : StackValue) (next : StepValue) (times by count : ℕ) → count ≡ length old.newest.goals → by ≡ times % count → by ≤ length old.newest.goals →
+    next ≡ record old.newest { goals = drop by old.newest.goals ++ take by old.newest.goals } → new ≡ followed next old → new ≡ rotated times old
+rotated_by old new next times by count is rest h made follows =
+    follows
+    ∙ ap (λ (s : StepValue). followed s old) made
+    ∙ ap (λ (gs : List GoalValue). followed (record { goals = gs; basis = old.newest.basis }) old) (sym (turned_by times by count old.newest.goals is rest h))
+
+positive : (n : ℕ) → (n ≡ 0 → ⊥) → 0 < n
+positive zero f = absurd (f refl)
+positive (suc n) f = omega arith
+
+pub turn_fits : (times : ℕ) (goals open_goals : List GoalValue) → goals ≡ open_goals → (length goals ≡ 0 → ⊥) → times % length goals ≤ length open_goals
+turn_fits times goals open_goals same some =
+    let below = mod-lt times (positive (length goals) some) in
+    let as_long : length goals ≡ length open_goals = ap length same in
+    omega (arith, below, as_long)

@@ -1,0 +1,5 @@
+pub mod Turns
+pub mod Achieving
+pub mod Histories
+pub mod Elements
+pub mod Exact

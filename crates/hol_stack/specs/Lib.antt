@@ -1,0 +1,4 @@
+pub mod StackValue
+pub mod Codes
+pub mod Calls
+pub mod Sound

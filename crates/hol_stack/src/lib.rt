@@ -1,0 +1,12 @@
+//! Goal stacks (HOL Light's tactics.ml): a goal, and the history of what was left of it.
+//!
+//! Calls that answer a `Result` answer its memory error where memory is short, and nowhere else.
+#![tactic(auto)]
+
+mod error;
+mod finishing;
+mod stack;
+mod step;
+
+pub use error::StackError;
+pub use stack::Stack;

@@ -1,0 +1,174 @@
+//! Goal stacks.
+ghost use Rattle.std.specs.Prelude.{◌≡◌, [], IfOk, OnOk, OnErr};
+ghost use Rattle.std.specs.FinSet as set;
+ghost use Rattle.hol_kernel.specs.Extends.{Agree};
+ghost use Rattle.hol_goal.specs.Achieves.{IsTyped};
+ghost use Rattle.hol_stack.specs.StackValue.{begun, followed, stepped};
+ghost use Rattle.hol_stack.specs.Calls.{IsStep, Undoes, Rotates, Finishes};
+ghost use Rattle.hol_stack.specs.Sound.{Follows};
+
+use crate::error::StackError;
+use crate::finishing::theorem;
+use crate::step::{Change, Earlier, Step};
+use hol_goal::Goal;
+use hol_just::Just;
+use hol_kernel::{Basis, Thm};
+use std::alloc::{AllocError, Global};
+use std::marker::Model;
+use std::mem;
+
+/// A goal stack: the goal that it was set to, and its history. Of the earlier elements the newest stands last.
+#[derive(Drop)]
+pub struct Stack {
+    goal: Goal,
+    newest: Step,
+    earlier: Vec<Earlier>,
+}
+
+impl Model for Stack {
+    ghost use Rattle.std.specs.Prelude.{map, reverse};
+    ghost use Rattle.hol_stack.specs.StackValue.{StackValue};
+    ghost use Rattle.hol_stack.specs.Codes.{stack_code};
+    ghost use Rattle.hol_stack.specs.Sound.{AreSound};
+
+    ghost Value = { StackValue };
+
+    ghost coded = { stack_code };
+
+    ghost view = { λ s. record { goal = s.goal; newest = s.newest; earlier = map (λ one. one.step) (reverse s.earlier.items) } };
+
+    ghost invariant = { λ s. AreSound s.goal s.newest (reverse s.earlier.items) };
+}
+
+impl Stack {
+    /// The stack of one open goal, which has no assumptions (tactics.ml, set_goal).
+    pub fn set(alloc: Global, goal: Goal, basis: Basis) -> Result<Stack, AllocError>
+        requires typed { IsTyped basis goal }
+        requires plain { goal.assumptions ≡ [] }
+        ensures { IfOk result (λ stack. stack ≡ begun goal basis) }
+    {
+        let first = goal.copy(alloc)?;
+        let newest = Step::first(alloc, first, basis)?;
+        Ok(Stack {
+            goal,
+            newest,
+            earlier: Vec::new(alloc),
+        })
+    }
+
+    /// The goal that it was set to.
+    pub fn goal(&self) -> &Goal
+        ensures { result.now ≡ self.now.goal }
+    {
+        &self.goal
+    }
+
+    /// The open goals, in order.
+    pub fn goals(&self) -> &[Goal]
+        ensures { result.now ≡ self.now.newest.goals }
+    {
+        self.newest.goals()
+    }
+
+    /// The basis of all that was resolved.
+    pub fn basis(&self) -> &Basis
+        ensures { result.now ≡ self.now.newest.basis }
+    {
+        self.newest.basis()
+    }
+
+    /// The goals that were left of the first one stand in its place, in a new element of the history (tactics.ml, e). The basis is joined with what was
+    /// resolved for that.
+    pub fn apply(
+        &mut self,
+        alloc: Global,
+        left: Vec<Goal>,
+        just: Just,
+        basis: &Basis,
+    ) -> Result<(), AllocError>
+        requires joins { Agree self.old.newest.basis basis.now }
+        requires step { IsStep (set.union self.old.newest.basis basis.now) just left.items self.old.newest.goals }
+        ensures ok { OnOk result (self.new ≡ stepped left.items basis.now self.old) }
+        ensures err { OnErr result (self.new ≡ self.old) }
+    {
+        let next = self.newest.replaced(alloc, left, basis)?;
+        self.follow(Change::Left(just), next)
+    }
+
+    /// The element before the newest one is the newest again (tactics.ml, b).
+    ///
+    /// Refused by [`StackError::NothingToUndo`] where there is none.
+    pub fn back(&mut self) -> Result<(), StackError>
+        ensures { Undoes self.old self.new result }
+    {
+        let Some(one) = self.earlier.pop() else {
+            return Err(StackError::NothingToUndo);
+        };
+        self.newest = one.step;
+        Ok(())
+    }
+
+    /// The first goal is put last, so many times, in a new element of the history (tactics.ml, r).
+    ///
+    /// Refused by [`StackError::NoGoal`] where no goal is open.
+    pub fn rotate(&mut self, alloc: Global, times: usize) -> Result<(), StackError>
+        ensures { Rotates times self.old self.new result }
+    {
+        let open = self.goals().len();
+        if open == 0 {
+            return Err(StackError::NoGoal);
+        }
+        let by = times % open;
+        let next = self.newest.turned(alloc, by)?;
+        Ok(self.follow(Change::Turned(by), next)?)
+    }
+
+    /// The theorem of the goal that it was set to, on the newest element's basis (tactics.ml, top_thm).
+    ///
+    /// Refused by [`StackError::GoalsRemain`] where a goal is open.
+    pub fn finish(&self, alloc: Global) -> Result<Thm, StackError>
+        ensures { Finishes self.now result }
+    {
+        if !self.goals().is_empty() {
+            return Err(StackError::GoalsRemain);
+        }
+        Ok(theorem(alloc, &self.goal, self.earlier.as_slice(), &self.newest)?)
+    }
+
+    /// An equal stack.
+    pub fn copy(&self, alloc: Global) -> Result<Stack, AllocError>
+        ensures { IfOk result (λ stack. stack ≡ self.now) }
+    {
+        let goal = self.goal.copy(alloc)?;
+        let newest = self.newest.copy(alloc)?;
+        let earlier = copies(alloc, self.earlier.as_slice())?;
+        Ok(Stack {
+            goal,
+            newest,
+            earlier,
+        })
+    }
+
+    // A new element of the history, made of the newest one.
+    fn follow(&mut self, change: Change, next: Step) -> Result<(), AllocError>
+        requires { Follows self.old.newest change next }
+        ensures ok { OnOk result (self.new ≡ followed next self.old) }
+        ensures err { OnErr result (self.new ≡ self.old) }
+    {
+        self.earlier.reserve(1)?;
+        let step = mem::replace(&mut self.newest, next);
+        self.earlier.push_reserved(Earlier { step, change });
+        Ok(())
+    }
+}
+
+// Copies of the elements.
+fn copies(alloc: Global, earlier: &[Earlier]) -> Result<Vec<Earlier>, AllocError>
+    ensures { IfOk result (λ copied. copied.items ≡ earlier.now) }
+{
+    let mut copied = Vec::with_capacity(alloc, earlier.len())?;
+    for one in earlier {
+        copied.push(one.copy(alloc)?)?;
+    }
+    Ok(copied)
+}
