@@ -1,127 +1,112 @@
-//! Formulas made and taken apart.
-use crate::fixtures::{boolean, constant, relations, truth};
+//! Formulas made and taken apart, by their sign.
+use crate::written::{term, ty, variable};
 use hol_formulas::{
     dest_conj, dest_disj, dest_eq, dest_exists, dest_forall, dest_imp, dest_neg, is_falsity,
     is_truth, mk_conj, mk_disj, mk_exists, mk_falsity, mk_forall, mk_iff, mk_imp, mk_neg, mk_truth,
-    variable,
 };
-use hol_terms::{Term, TermNode};
-use hol_types::Ty;
-use std::alloc::Global;
+use hol_terms::{Term, Variable};
+use hol_types::Name;
+use std::alloc::{AllocError, Global};
+use std::test::Fail;
 
-// What follows are the calls without what they promise.
-fn conjunction(alloc: Global) -> Option<Term> {
-    mk_conj(alloc, &mk_truth(alloc).ok()?, &mk_falsity(alloc).ok()?).ok()
+// What is made of `T` and `F`.
+fn joined(alloc: Global, sign: &str) -> Result<Term, AllocError> {
+    let p = mk_truth(alloc)?;
+    let q = mk_falsity(alloc)?;
+    match sign {
+        "/\\" => mk_conj(alloc, &p, &q),
+        "\\/" => mk_disj(alloc, &p, &q),
+        "==>" => mk_imp(alloc, &p, &q),
+        _ => mk_iff(alloc, &p, &q),
+    }
 }
 
-fn disjunction(alloc: Global) -> Option<Term> {
-    mk_disj(alloc, &mk_truth(alloc).ok()?, &mk_falsity(alloc).ok()?).ok()
+fn parts<'a>(sign: &str, t: &'a Term) -> Option<(&'a Term, &'a Term)> {
+    match sign {
+        "/\\" => dest_conj(t),
+        "\\/" => dest_disj(t),
+        "==>" => dest_imp(t),
+        _ => dest_eq(t).map(|sides| (sides.left, sides.right)),
+    }
 }
 
-fn implication(alloc: Global) -> Option<Term> {
-    mk_imp(alloc, &mk_truth(alloc).ok()?, &mk_falsity(alloc).ok()?).ok()
-}
-
-fn equivalence(alloc: Global) -> Option<Term> {
-    mk_iff(alloc, &mk_truth(alloc).ok()?, &mk_falsity(alloc).ok()?).ok()
-}
-
-fn negation(alloc: Global) -> Option<Term> {
-    mk_neg(alloc, &mk_falsity(alloc).ok()?).ok()
-}
-
-fn everywhere(alloc: Global, ty: &Ty) -> Option<Term> {
-    let x = variable(alloc, "x", ty).ok()?;
-    mk_forall(alloc, &x, &mk_truth(alloc).ok()?).ok()
-}
-
-fn somewhere(alloc: Global, ty: &Ty) -> Option<Term> {
-    let x = variable(alloc, "x", ty).ok()?;
-    mk_exists(alloc, &x, &mk_truth(alloc).ok()?).ok()
-}
-
-fn is_pair(parts: Option<(&Term, &Term)>) -> bool {
-    match parts {
+// Whether the sign stands between the parts, `T` and `F`.
+fn is_joined(sign: &str, t: &Term) -> bool {
+    match parts(sign, t) {
         Some((p, q)) => is_truth(p) && is_falsity(q),
         None => false,
     }
 }
 
-// Whether the term is the constant of this name, between `T` and `F`.
-fn stands_between(term: &Term, name: &str) -> Option<bool> {
-    let TermNode::Comb(applied, _) = term.node() else {
-        return None;
-    };
-    let TermNode::Comb(connective, _) = applied.node() else {
-        return None;
-    };
-    match connective.node() {
-        TermNode::Const(own, _) => Some(own.as_str() == name),
-        _ => None,
+#[test]
+fn connectives_are_made_and_taken_apart(rt: HostRuntime) -> Result<(), Fail> {
+    let rows = [
+        ("/\\", "T /\\ F"),
+        ("\\/", "T \\/ F"),
+        ("==>", "T ==> F"),
+        ("<=>", "T <=> F"),
+    ];
+    for (sign, text) in rows {
+        let written = term(rt.alloc(), text)?;
+        assert!(rt; joined(rt.alloc(), sign)?.same(&written), "{text}");
+        for (other, _text) in rows {
+            assert_eq!(rt;
+                is_joined(other, &written),
+                other == sign,
+                "{text} by {other}"
+            );
+        }
+    }
+    Ok(())
+}
+
+// What is made of `x` and `T`.
+fn bound(alloc: Global, sign: &str) -> Result<Term, Fail> {
+    let x = variable(alloc, "x:bool")?;
+    let p = mk_truth(alloc)?;
+    match sign {
+        "!" => Ok(mk_forall(alloc, &x, &p)?),
+        _ => Ok(mk_exists(alloc, &x, &p)?),
+    }
+}
+
+fn scope<'a>(sign: &str, t: &'a Term) -> Option<(&'a Variable, &'a Term)> {
+    match sign {
+        "!" => dest_forall(t),
+        _ => dest_exists(t),
     }
 }
 
 #[test]
-fn connectives_are_taken_apart(rt: HostRuntime) {
-    let alloc = rt.alloc();
-    let (Some(p), Some(q)) = (conjunction(alloc), disjunction(alloc)) else {
-        panic!(rt; "no terms");
-    };
-    assert!(rt; stands_between(&p, "/\\") == Some(true) && is_pair(dest_conj(&p)));
-    assert!(rt; stands_between(&q, "\\/") == Some(true) && is_pair(dest_disj(&q)));
-    assert!(rt; dest_disj(&p).is_none() && dest_conj(&q).is_none());
+fn quantifications_are_made_and_taken_apart(rt: HostRuntime) -> Result<(), Fail> {
+    for (sign, other, text) in [("!", "?", "!x:bool. T"), ("?", "!", "?x:bool. T")] {
+        let written = term(rt.alloc(), text)?;
+        let made = bound(rt.alloc(), sign)?;
+        assert!(rt;
+            made.same(&written) && scope(other, &written).is_none(),
+            "{text}"
+        );
+        assert!(rt;
+            scope(sign, &written).is_some_and(|x| is_truth(x.1)),
+            "{text}"
+        );
+    }
+    Ok(())
+}
+
+// A constant of the name of conjunction, of another type, between truth values: no text has it.
+fn false_conjunction(alloc: Global) -> Result<Term, Fail> {
+    let ty = ty(alloc, "bool->bool->bool->bool")?;
+    let sign = Term::constant(alloc, &Name::new(alloc, "/\\")?, &ty)?;
+    let p = term(alloc, "p:bool")?;
+    Ok(Term::comb(alloc, &Term::comb(alloc, &sign, &p)?, &p)?)
 }
 
 #[test]
-fn implications_and_equivalences_are_taken_apart(rt: HostRuntime) {
-    let alloc = rt.alloc();
-    let (Some(p), Some(q)) = (implication(alloc), equivalence(alloc)) else {
-        panic!(rt; "no terms");
-    };
-    assert!(rt; stands_between(&p, "==>") == Some(true) && is_pair(dest_imp(&p)));
-    let sides = dest_eq(&q).map(|sides| (sides.left, sides.right));
-    assert!(rt; stands_between(&q, "=") == Some(true) && is_pair(sides));
-}
-
-#[test]
-fn negations_are_taken_apart(rt: HostRuntime) {
-    let Some(p) = negation(rt.alloc()) else {
-        panic!(rt; "no term");
-    };
-    assert!(rt; dest_neg(&p).is_some_and(|q| is_falsity(q)));
-}
-
-#[test]
-fn quantifications_are_taken_apart(rt: HostRuntime) {
-    let alloc = rt.alloc();
-    let Some(ty) = boolean(alloc) else {
-        panic!(rt; "no type");
-    };
-    let (Some(p), Some(q)) = (everywhere(alloc, &ty), somewhere(alloc, &ty)) else {
-        panic!(rt; "no terms");
-    };
-    assert!(rt; dest_forall(&p).is_some_and(|x| is_truth(x.1)));
-    assert!(rt; dest_exists(&q).is_some_and(|x| is_truth(x.1)));
-    assert!(rt; dest_exists(&p).is_none());
-}
-
-// A constant of the name of conjunction, of another type, between truth values.
-fn false_conjunction(alloc: Global) -> Option<Term> {
-    let ty = Ty::fun(
-        alloc,
-        &boolean(alloc)?,
-        &relations(alloc, &boolean(alloc)?)?,
-    )
-    .ok()?;
-    let sign = constant(alloc, "/\\", Some(ty))?;
-    let half = Term::comb(alloc, &sign, &truth(alloc, "p")?).ok()?;
-    Term::comb(alloc, &half, &truth(alloc, "q")?).ok()
-}
-
-#[test]
-fn a_connective_has_its_type(rt: HostRuntime) {
-    let Some(p) = false_conjunction(rt.alloc()) else {
-        panic!(rt; "no term");
-    };
-    assert!(rt; dest_conj(&p).is_none());
+fn negations_and_signs_of_other_types(rt: HostRuntime) -> Result<(), Fail> {
+    let written = term(rt.alloc(), "~F")?;
+    assert!(rt; mk_neg(rt.alloc(), &mk_falsity(rt.alloc())?)?.same(&written));
+    assert!(rt; dest_neg(&written).is_some_and(|p| is_falsity(p)));
+    assert!(rt; dest_conj(&false_conjunction(rt.alloc())?).is_none());
+    Ok(())
 }

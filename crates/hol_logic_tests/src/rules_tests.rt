@@ -1,263 +1,236 @@
-//! Each rule that substitutes nothing, once where it applies and once where it is refused.
-ghost use Rattle.std.specs.Prelude.{◌≡◌, IfSome};
-
-use crate::fixtures::{
-    Made, abstracted, applied, boolean, empty, equal, equal_truths, functions, identity,
-    is_refused, name, of_no_type, proves, proves_from, proves_from_two, truth, variable,
-};
-use hol_kernel::{Basis, Rule, Thm};
-use hol_terms::Term;
+//! Each rule, once where it applies and once where it is refused: its name, the terms and the premises that it is handed, and what it makes.
+use crate::bases::{Step, basis};
+use crate::rules::{made, premise};
+use crate::sequents::{Made, found, told};
+use crate::written::term;
+use hol_kernel::{Basis, Given, Postulate, Thm};
 use std::alloc::Global;
+use std::test::Fail;
 
-// What follows are the rules without what they promise, over no items, to assumptions of the terms.
-fn reflexive(alloc: Global, term: Option<Term>) -> Made<Thm> {
-    let term = term?;
-    let basis = empty(alloc)?;
-    Some(Thm::refl(alloc, &basis, &term))
+#[test]
+fn rules_of_the_kernel(rt: HostRuntime) -> Result<(), Fail> {
+    let rows = [
+        ("REFL", "p:bool", "", "|- p:bool = p"),
+        ("REFL", "x:foo", "", "Refused(Refl)"),
+        ("ASSUME", "p:bool", "", "p:bool |- p:bool"),
+        ("ASSUME", "f:bool->bool", "", "Refused(Assume)"),
+        (
+            "TRANS",
+            "",
+            "q:bool = p | p:bool = r",
+            "p:bool = r, q:bool = p |- q:bool = r",
+        ),
+        ("TRANS", "", "p:bool = q | p:bool = q", "Refused(Trans)"),
+        (
+            "MK_COMB",
+            "",
+            "f:bool->bool = f | p:bool = q",
+            "p:bool = q, f:bool->bool = f |- (f:bool->bool) p = f q",
+        ),
+        (
+            "MK_COMB",
+            "",
+            "f:bool->bool = f | f:bool->bool = f",
+            "Refused(MkComb)",
+        ),
+        (
+            "ABS",
+            "x:bool",
+            "REFL x:bool",
+            "|- (\\x:bool. x) = (\\x. x)",
+        ),
+        ("ABS", "x:bool", "x:bool = y", "Refused(Abs)"),
+        ("BETA", "(\\x:bool. x) x", "", "|- (\\x:bool. x) x = x"),
+        ("BETA", "(\\x:bool. x) y", "", "Refused(Beta)"),
+        (
+            "EQ_MP",
+            "",
+            "p:bool = q | p:bool",
+            "p:bool, p:bool = q |- q:bool",
+        ),
+        ("EQ_MP", "", "p:bool = q | q:bool", "Refused(EqMp)"),
+        (
+            "DEDUCT_ANTISYM_RULE",
+            "",
+            "p:bool | p:bool",
+            "|- p:bool = p",
+        ),
+        ("INST_TYPE", "A:bool", "x:A = y", "x:bool = y |- x:bool = y"),
+        ("INST_TYPE", "A:foo", "x:A = y", "Refused(InstType)"),
+        ("INST", "y:bool, x:bool", "x:bool", "y:bool |- y:bool"),
+        ("INST", "y:A, x:bool", "x:bool", "Refused(Inst)"),
+    ];
+    for (rule, terms, premises, wanted) in rows {
+        let found = found(rt.alloc(), made(rt.alloc(), rule, terms, premises)?, wanted)?;
+        assert_eq!(rt; found.as_str(), wanted, "{rule} {terms} {premises}");
+    }
+    Ok(())
 }
 
-fn assumed(alloc: Global, p: Option<Term>) -> Made<Thm> {
-    let p = p?;
-    let basis = empty(alloc)?;
-    Some(Thm::assume(alloc, &basis, &p))
+#[test]
+fn rules_of_equations(rt: HostRuntime) -> Result<(), Fail> {
+    let rows = [
+        ("SYM", "", "q:bool = p", "q:bool = p |- p:bool = q"),
+        ("SYM", "", "p:bool", "Refused(Sym)"),
+        (
+            "AP_TERM",
+            "f:bool->bool",
+            "q:bool = p",
+            "q:bool = p |- (f:bool->bool) q = f p",
+        ),
+        ("AP_TERM", "p:bool", "q:bool = p", "Refused(ApTerm)"),
+        (
+            "AP_THM",
+            "p:bool",
+            "f:bool->bool = f",
+            "f:bool->bool = f |- (f:bool->bool) p = f p",
+        ),
+        ("AP_THM", "p:bool", "q:bool = p", "Refused(ApThm)"),
+        (
+            "ALPHA",
+            "\\x:bool. x, \\y:bool. y",
+            "",
+            "|- (\\x:bool. x) = (\\y. y)",
+        ),
+        ("ALPHA", "p:bool, q:bool", "", "Refused(Alpha)"),
+        ("BETA_CONV", "(\\x:bool. x) p", "", "|- (\\x:bool. x) p = p"),
+        ("BETA_CONV", "p:bool", "", "Refused(BetaConv)"),
+        (
+            "PROVE_HYP",
+            "",
+            "q:bool = p | p:bool",
+            "p:bool, q:bool = p |- p:bool",
+        ),
+    ];
+    for (rule, terms, premises, wanted) in rows {
+        let found = found(rt.alloc(), made(rt.alloc(), rule, terms, premises)?, wanted)?;
+        assert_eq!(rt; found.as_str(), wanted, "{rule} {terms} {premises}");
+    }
+    Ok(())
 }
 
-fn reduced(alloc: Global, term: Option<Term>) -> Made<Thm> {
-    let term = term?;
-    let basis = empty(alloc)?;
-    Some(Thm::beta(alloc, &basis, &term))
+#[test]
+fn rules_of_connectives_and_quantifiers(rt: HostRuntime) -> Result<(), Fail> {
+    let rows = [
+        ("EQT_INTRO", "", "p:bool", "p:bool |- p <=> T"),
+        ("SPEC", "p:bool", "!x. x", "!x. x |- p:bool"),
+        ("SPEC", "f:bool->bool", "!x. x", "Refused(Spec)"),
+        ("GEN", "q:bool", "p:bool", "p:bool |- !q:bool. p"),
+        ("GEN", "p:bool", "p:bool", "Refused(Gen)"),
+    ];
+    for (rule, terms, premises, wanted) in rows {
+        let found = found(rt.alloc(), made(rt.alloc(), rule, terms, premises)?, wanted)?;
+        assert_eq!(rt; found.as_str(), wanted, "{rule} {terms} {premises}");
+    }
+    Ok(())
 }
 
-fn generalized(alloc: Global, v: Option<Term>, th: Made<Thm>) -> Made<Thm> {
-    let v = v?;
-    let th = th?.ok()?;
-    Some(Thm::abs(alloc, &v, &th))
+// Each as HOL Light states it.
+#[test]
+fn definitions_and_axioms_of_the_prelude(rt: HostRuntime) -> Result<(), Fail> {
+    let rows = [
+        (Postulate::TDef, "|- T = ((\\p:bool. p) = (\\p. p))"),
+        (
+            Postulate::AndDef,
+            "|- (/\\) = (\\p. \\q. (\\f:bool->bool->bool. f p q) = (\\f. f T T))",
+        ),
+        (Postulate::ImpDef, "|- (==>) = (\\p. \\q. p /\\ q <=> p)"),
+        (Postulate::ForallDef, "|- (!) = (\\P:A->bool. P = (\\x. T))"),
+        (
+            Postulate::ExistsDef,
+            "|- (?) = (\\P:A->bool. !q. (!x. P x ==> q) ==> q)",
+        ),
+        (
+            Postulate::OrDef,
+            "|- (\\/) = (\\p. \\q. !r. (p ==> r) ==> (q ==> r) ==> r)",
+        ),
+        (Postulate::FDef, "|- F = (!p. p)"),
+        (Postulate::NotDef, "|- (~) = (\\p. p ==> F)"),
+        (
+            Postulate::ExistsUniqueDef,
+            "|- (?!) = (\\P:A->bool. (?) P /\\ (!x y. P x /\\ P y ==> x = y))",
+        ),
+        (Postulate::EtaAx, "|- !t:A->B. (\\x. t x) = t"),
+        (Postulate::SelectAx, "|- !(P:A->bool) x. P x ==> P ((@) P)"),
+        (
+            Postulate::OneOne,
+            "|- ONE_ONE = (\\f:A->B. !x1 x2. f x1 = f x2 ==> x1 = x2)",
+        ),
+        (Postulate::Onto, "|- ONTO = (\\f:A->B. !y. ?x. y = f x)"),
+        (
+            Postulate::InfinityAx,
+            "|- ?f:ind->ind. ONE_ONE f /\\ ~ONTO f",
+        ),
+    ];
+    for (which, wanted) in rows {
+        let th = Thm::prelude(rt.alloc(), which)?;
+        let found = found(rt.alloc(), Ok(th), wanted)?;
+        assert_eq!(rt; found.as_str(), wanted);
+    }
+    Ok(())
 }
 
-// The assumption of the term over the basis.
-fn assumed_over(alloc: Global, basis: &Basis, p: Option<Term>) -> Option<Thm>
-    ensures { IfSome result (λ th. th.basis ≡ basis.now) }
-{
-    let p = p?;
-    match Thm::assume(alloc, basis, &p) {
-        Ok(th) => Some(th),
-        Err(_) => None,
+// The assumption of `p`, over the basis of the constant `c` too.
+fn widened(alloc: Global) -> Result<Thm, Fail> {
+    let own = Basis::empty(alloc)?;
+    let th = premise(alloc, &own, "p:bool")?;
+    let basis = Basis::join(alloc, &own, &basis(alloc, Step::Constant("c", "bool"))?)?;
+    Ok(th.widen(&basis)?)
+}
+
+#[test]
+fn a_widened_theorem_has_the_larger_basis(rt: HostRuntime) -> Result<(), Fail> {
+    let th = widened(rt.alloc())?;
+    assert_eq!(rt; th.basis().items().len(), 1);
+    let found = found(rt.alloc(), Ok(th), "p:bool |- p:bool")?;
+    assert_eq!(rt; found.as_str(), "p:bool |- p:bool");
+    Ok(())
+}
+
+// A copy of the assumption of `p`, by way of what is given.
+#[tactic(auto, using(hol_kernel::proofs::Subsets::within))]
+fn itself(alloc: Global) -> Result<Made<Thm>, Fail> {
+    let basis = Basis::empty(alloc)?;
+    let th = premise(alloc, &basis, "p:bool")?;
+    let given = Given::theorem(&th)?;
+    told(alloc, given.over(alloc, &basis))
+}
+
+// The assumption of the term over no items, by way of what is given.
+fn given(alloc: Global, text: &str) -> Result<Made<Thm>, Fail> {
+    let basis = Basis::empty(alloc)?;
+    match Given::assumed(&term(alloc, text)?) {
+        Ok(given) => told(alloc, given.over(alloc, &basis)),
+        Err(refusal) => told(alloc, Err(refusal)),
     }
 }
 
-// The assumptions of two terms.
-fn both(alloc: Global, p: Option<Term>, q: Option<Term>) -> Option<(Thm, Thm)>
-    ensures { IfSome result (λ ths. ths.0.basis ≡ ths.1.basis) }
-{
-    let basis = empty(alloc)?;
-    let first = assumed_over(alloc, &basis, p)?;
-    let second = assumed_over(alloc, &basis, q)?;
-    Some((first, second))
-}
-
-fn chained(alloc: Global, p: Option<Term>, q: Option<Term>) -> Made<Thm> {
-    let (first, second) = both(alloc, p, q)?;
-    Some(Thm::trans(alloc, &first, &second))
-}
-
-fn combined(alloc: Global, p: Option<Term>, q: Option<Term>) -> Made<Thm> {
-    let (first, second) = both(alloc, p, q)?;
-    Some(Thm::mk_comb(alloc, &first, &second))
-}
-
-fn carried(alloc: Global, p: Option<Term>, q: Option<Term>) -> Made<Thm> {
-    let (first, second) = both(alloc, p, q)?;
-    Some(Thm::eq_mp(alloc, &first, &second))
-}
-
-fn deduced(alloc: Global, p: Option<Term>, q: Option<Term>) -> Made<Thm> {
-    let (first, second) = both(alloc, p, q)?;
-    let th = Thm::deduct_antisym(alloc, &first, &second).ok()?;
-    Some(Ok(th))
-}
-
-// The function of truth values of this name.
-fn connective(alloc: Global, text: &str) -> Option<Term> {
-    variable(
-        alloc,
-        text,
-        functions(alloc, boolean(alloc), boolean(alloc)),
-    )
-}
-
-// `f = f`, for the function of truth values f.
-fn equal_functions(alloc: Global) -> Option<Term> {
-    equal(alloc, connective(alloc, "f"), connective(alloc, "f"))
-}
-
-// `f p`, for the function of truth values f and the truth value of this name.
-fn value(alloc: Global, argument: &str) -> Option<Term> {
-    applied(alloc, connective(alloc, "f"), truth(alloc, argument))
-}
-
-// The identity of truth values, as the abstraction of x, at the truth value of this name.
-fn redex(alloc: Global, argument: &str) -> Option<Term> {
-    applied(
-        alloc,
-        identity(alloc, "x", boolean(alloc)),
-        truth(alloc, argument),
-    )
+#[test]
+fn terms_are_given(rt: HostRuntime) -> Result<(), Fail> {
+    let rows = [
+        ("p:bool", "p:bool |- p:bool"),
+        ("x:ind", "Refused(Assume)"),
+        ("x:foo = x", "Refused(Assume)"),
+    ];
+    for (text, wanted) in rows {
+        let found = found(rt.alloc(), given(rt.alloc(), text)?, wanted)?;
+        assert_eq!(rt; found.as_str(), wanted, "{text}");
+    }
+    Ok(())
 }
 
 #[test]
-fn a_term_equals_itself(rt: HostRuntime) {
-    let made = reflexive(rt.alloc(), truth(rt.alloc(), "p"));
-    assert!(rt; proves(made, equal_truths(rt.alloc(), "p", "p")));
+fn a_theorem_is_given(rt: HostRuntime) -> Result<(), Fail> {
+    let found = found(rt.alloc(), itself(rt.alloc())?, "p:bool |- p:bool")?;
+    assert_eq!(rt; found.as_str(), "p:bool |- p:bool");
+    Ok(())
 }
 
+// What is given as the assumption of `p`, copied: the number of its hypotheses, and its conclusion.
 #[test]
-fn a_term_of_no_type_is_not_equal_to_itself(rt: HostRuntime) {
-    let made = reflexive(rt.alloc(), of_no_type(rt.alloc()));
-    assert!(rt; is_refused(&made, Rule::Refl));
-}
-
-#[test]
-fn an_assumption_is_its_hypothesis(rt: HostRuntime) {
-    let made = assumed(rt.alloc(), truth(rt.alloc(), "p"));
-    assert!(rt; proves_from(made, truth(rt.alloc(), "p"), truth(rt.alloc(), "p")));
-}
-
-#[test]
-fn only_truth_values_are_assumed(rt: HostRuntime) {
-    let made = assumed(rt.alloc(), connective(rt.alloc(), "f"));
-    assert!(rt; is_refused(&made, Rule::Assume));
-}
-
-// What follows from `q = p` and `p = r`.
-fn chain(alloc: Global) -> Made<Thm> {
-    chained(
-        alloc,
-        equal_truths(alloc, "q", "p"),
-        equal_truths(alloc, "p", "r"),
-    )
-}
-
-#[test]
-fn equations_are_chained(rt: HostRuntime) {
-    let alloc = rt.alloc();
-    let (first, second) = (equal_truths(alloc, "q", "p"), equal_truths(alloc, "p", "r"));
-    assert!(rt; proves_from_two(chain(alloc), second, first, equal_truths(alloc, "q", "r")));
-}
-
-#[test]
-fn other_equations_are_not_chained(rt: HostRuntime) {
-    let alloc = rt.alloc();
-    let made = chained(
-        alloc,
-        equal_truths(alloc, "p", "q"),
-        equal_truths(alloc, "p", "q"),
-    );
-    assert!(rt; is_refused(&made, Rule::Trans));
-}
-
-#[test]
-fn equal_functions_have_equal_values(rt: HostRuntime) {
-    let alloc = rt.alloc();
-    let made = combined(alloc, equal_functions(alloc), equal_truths(alloc, "p", "q"));
-    let concl = equal(alloc, value(alloc, "p"), value(alloc, "q"));
-    let hyps = (equal_truths(alloc, "p", "q"), equal_functions(alloc));
-    assert!(rt; proves_from_two(made, hyps.0, hyps.1, concl));
-}
-
-#[test]
-fn arguments_of_other_types_are_refused(rt: HostRuntime) {
-    let made = combined(
-        rt.alloc(),
-        equal_functions(rt.alloc()),
-        equal_functions(rt.alloc()),
-    );
-    assert!(rt; is_refused(&made, Rule::MkComb));
-}
-
-#[test]
-fn both_sides_are_abstracted(rt: HostRuntime) {
-    let alloc = rt.alloc();
-    let same = reflexive(alloc, truth(alloc, "x"));
-    let made = generalized(alloc, truth(alloc, "x"), same);
-    let side = abstracted(alloc, truth(alloc, "x"), truth(alloc, "x"));
-    assert!(rt;
-        proves(
-            made,
-            equal(alloc, side, identity(alloc, "x", boolean(alloc)))
-        )
-    );
-}
-
-#[test]
-fn a_variable_of_a_hypothesis_is_not_abstracted(rt: HostRuntime) {
-    let th = assumed(rt.alloc(), equal_truths(rt.alloc(), "x", "y"));
-    let made = generalized(rt.alloc(), truth(rt.alloc(), "x"), th);
-    assert!(rt; is_refused(&made, Rule::Abs));
-}
-
-#[test]
-fn a_redex_of_its_own_variable_is_its_body(rt: HostRuntime) {
-    let alloc = rt.alloc();
-    let made = reduced(alloc, redex(alloc, "x"));
-    assert!(rt; proves(made, equal(alloc, redex(alloc, "x"), truth(alloc, "x"))));
-}
-
-#[test]
-fn a_redex_of_another_variable_is_refused(rt: HostRuntime) {
-    let made = reduced(rt.alloc(), redex(rt.alloc(), "y"));
-    assert!(rt; is_refused(&made, Rule::Beta));
-}
-
-#[test]
-fn an_equation_carries_truth_over(rt: HostRuntime) {
-    let alloc = rt.alloc();
-    let made = carried(alloc, equal_truths(alloc, "p", "q"), truth(alloc, "p"));
-    let hyps = (truth(alloc, "p"), equal_truths(alloc, "p", "q"));
-    assert!(rt; proves_from_two(made, hyps.0, hyps.1, truth(alloc, "q")));
-}
-
-#[test]
-fn a_premise_other_than_the_left_side_is_refused(rt: HostRuntime) {
-    let alloc = rt.alloc();
-    let made = carried(alloc, equal_truths(alloc, "p", "q"), truth(alloc, "q"));
-    assert!(rt; is_refused(&made, Rule::EqMp));
-}
-
-#[test]
-fn two_assumptions_of_one_term_discharge_each_other(rt: HostRuntime) {
-    let made = deduced(rt.alloc(), truth(rt.alloc(), "p"), truth(rt.alloc(), "p"));
-    assert!(rt; proves(made, equal_truths(rt.alloc(), "p", "p")));
-}
-
-// The basis of the constant `c` of the type.
-fn declared(alloc: Global) -> Option<Basis> {
-    let own = empty(alloc)?;
-    let c = name(alloc, "c")?;
-    let ty = boolean(alloc)?;
-    own.declare_const(alloc, &c, &ty).ok()
-}
-
-// The theorem over a basis that has the items of both.
-fn widened(alloc: Global, own: &Basis, th: &Thm, more: &Basis) -> Option<Thm>
-    requires { th.now.basis ≡ own.now }
-{
-    let basis = Basis::join(alloc, own, more).ok()?;
-    th.widen(&basis).ok()
-}
-
-// The assumption of `p`, over the basis of the constant too.
-fn widened_assumption(alloc: Global) -> Option<Thm> {
-    let own = Basis::empty(alloc).ok()?;
-    let th = assumed_over(alloc, &own, truth(alloc, "p"))?;
-    widened(alloc, &own, &th, &declared(alloc)?)
-}
-
-#[test]
-fn a_widened_theorem_has_the_larger_basis(rt: HostRuntime) {
-    let Some(th) = widened_assumption(rt.alloc()) else {
-        panic!(rt; "no theorem");
-    };
-    assert!(rt; th.basis().items().len() == 1);
-    let p = truth(rt.alloc(), "p");
-    assert!(rt; proves_from(Some(Ok(th)), p, truth(rt.alloc(), "p")));
+fn what_is_given_has_a_sequent(rt: HostRuntime) -> Result<(), Fail> {
+    let p = term(rt.alloc(), "p:bool")?;
+    let given = Given::assumed(&p)?.copy()?;
+    assert!(rt; given.hyps().len() == 1 && given.concl().same(&p));
+    Ok(())
 }

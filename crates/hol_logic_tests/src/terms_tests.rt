@@ -5,20 +5,16 @@ use hol_types::Name;
 use std::alloc::Global;
 use std::test::Fail;
 
-fn is_copied(alloc: Global, words: &str) -> Result<bool, Fail> {
-    let t = term(alloc, words)?;
-    Ok(t.copy()?.same(&t))
-}
-
-fn copied_and_primed(alloc: Global, word: &str) -> Result<Name, Fail> {
-    let v = variable(alloc, word)?.copy()?.primed(alloc)?;
+fn primed(alloc: Global, text: &str) -> Result<Name, Fail> {
+    let v = variable(alloc, text)?.copy()?.primed(alloc)?;
     Ok(v.name().copy()?)
 }
 
 #[test]
 fn variables_and_terms_are_copied(rt: HostRuntime) -> Result<(), Fail> {
-    assert!(rt; is_copied(rt.alloc(), ".c:A>A x:A @ \\x:A")?);
-    assert_eq!(rt; copied_and_primed(rt.alloc(), "x:A")?.as_str(), "x'");
+    let t = term(rt.alloc(), "\\x:A. (c:A->A) x")?;
+    assert!(rt; t.copy()?.same(&t));
+    assert_eq!(rt; primed(rt.alloc(), "x:A")?.as_str(), "x'");
     Ok(())
 }
 
@@ -27,8 +23,7 @@ fn terms_that_do_not_fit_are_refused(rt: HostRuntime) -> Result<(), Fail> {
     let x = term(rt.alloc(), "x:A")?;
     let refusal = Term::comb(rt.alloc(), &x, &x).err();
     assert_eq!(rt; refusal, Some(TermError::TypesDontFit));
-    let t = Term::abs(rt.alloc(), &x, &x)?;
-    let refusal = Term::abs(rt.alloc(), &t, &x).err();
+    let refusal = Term::abs(rt.alloc(), &term(rt.alloc(), "\\x:A. x")?, &x).err();
     assert_eq!(rt; refusal, Some(TermError::NotAVariable));
     Ok(())
 }
@@ -42,20 +37,15 @@ fn compared(alloc: Global, s: &str, t: &str) -> Result<(bool, bool), Fail> {
 
 #[test]
 fn base_names_count_for_equality_alone(rt: HostRuntime) -> Result<(), Fail> {
-    assert_eq!(rt;
-        compared(rt.alloc(), "x:A \\x:A", "y:A \\y:A")?,
-        (false, true)
-    );
-    assert_eq!(rt;
-        compared(rt.alloc(), "x:A \\x:A", "x':A \\x':A")?,
-        (true, true)
-    );
+    for (t, wanted) in [("\\y:A. y", (false, true)), ("\\x':A. x'", (true, true))] {
+        assert_eq!(rt; compared(rt.alloc(), "\\x:A. x", t)?, wanted, "{t}");
+    }
     Ok(())
 }
 
 #[test]
 fn free_variables_come_once(rt: HostRuntime) -> Result<(), Fail> {
-    let t = term(rt.alloc(), "f:A>A>A y:A @ y:A @ \\f:A>A>A")?;
+    let t = term(rt.alloc(), "\\f:A->A->A. f (y:A) y")?;
     let found = t.frees(rt.alloc())?;
     assert_eq!(rt; found.len(), 1);
     assert_eq!(rt; found[0].name().as_str(), "y");
@@ -64,13 +54,14 @@ fn free_variables_come_once(rt: HostRuntime) -> Result<(), Fail> {
 
 #[test]
 fn a_base_name_has_no_primes_at_its_end(rt: HostRuntime) {
-    assert_eq!(rt; base_name("x'y''"), "x'y");
-    assert_eq!(rt; base_name("''"), "");
+    for (name, wanted) in [("x'y''", "x'y"), ("''", "")] {
+        assert_eq!(rt; base_name(name), wanted);
+    }
 }
 
 // A term whose tree has a variable of type A at 2^60 places, over two nodes a level.
 fn doubled(alloc: Global, leaf: &str) -> Result<Term, Fail> {
-    let f = term(alloc, "f:A>A>A")?;
+    let f = term(alloc, "f:A->A->A")?;
     let mut t = term(alloc, leaf)?;
     for _ in 0..60 {
         t = Term::comb(alloc, &Term::comb(alloc, &f, &t)?, &t)?;
@@ -82,13 +73,8 @@ fn doubled(alloc: Global, leaf: &str) -> Result<Term, Fail> {
 #[test]
 fn a_shared_term_is_not_walked(rt: HostRuntime) -> Result<(), Fail> {
     let t = doubled(rt.alloc(), "p:A")?;
-    let u = doubled(rt.alloc(), "q:A")?;
     assert_eq!(rt; t.size(), 20_001);
-    assert!(rt; !is_free(rt.alloc(), "q:A", &t)?);
-    assert!(rt; !t.same(&u));
+    assert!(rt; !t.vfree_in(&variable(rt.alloc(), "q:A")?));
+    assert!(rt; !t.same(&doubled(rt.alloc(), "q:A")?));
     Ok(())
-}
-
-fn is_free(alloc: Global, word: &str, t: &Term) -> Result<bool, Fail> {
-    Ok(t.vfree_in(&variable(alloc, word)?))
 }

@@ -1,124 +1,93 @@
-//! Terms for tests, written as words, each part before what is made of it: `x:A` is a variable, `.c:A` a constant, `@` the application of
-//! the term before the last to the last, and `\x:A` the abstraction of a variable in the last.
-use hol_terms::{Term, TermError, TermNode, Variable};
-use hol_types::{Name, Ty, TyNode};
+//! Types and terms for tests, as they are written.
+use hol_infer::{elaborate, elaborate_type};
+use hol_kernel::{prelude_constants, prelude_types};
+use hol_notation_terms::{PreTerm, PreType, read_term, read_type};
+use hol_notation_tokens::scan;
+use hol_terms::{Term, TermNode, Variable};
+use hol_types::{Name, Ty};
 use std::alloc::Global;
 use std::test::Fail;
 
-// The type that is written so: some types of functions, bool, or a type variable.
-fn ty(alloc: Global, text: &str) -> Result<Ty, Fail> {
-    match text {
-        "bool" => Ok(Ty::app(alloc, &Name::new(alloc, text)?, &[])?),
-        "A>A" => {
-            let a = ty_variable(alloc, "A")?;
-            Ok(Ty::fun(alloc, &a, &a)?)
-        }
-        "A>A>A" => {
-            let a = ty_variable(alloc, "A")?;
-            Ok(Ty::fun(alloc, &a, &Ty::fun(alloc, &a, &a)?)?)
-        }
-        name => ty_variable(alloc, name),
+// The type constructors that a text may name: those of the prelude, and two that stand over no items.
+fn constructors(alloc: Global) -> Result<Vec<(Name, usize)>, Fail> {
+    let mut list = prelude_types(alloc)?;
+    for name in ["foo", "one"] {
+        list.push((Name::new(alloc, name)?, 0))?;
     }
+    Ok(list)
 }
 
-fn ty_variable(alloc: Global, name: &str) -> Result<Ty, Fail> {
-    Ok(Ty::var(alloc, &Name::new(alloc, name)?)?)
+// The constant of this name, which may have each type.
+fn constant(alloc: Global, name: &str) -> Result<(Name, Ty), Fail> {
+    let generic = Ty::var(alloc, &Name::new(alloc, "A")?)?;
+    Ok((Name::new(alloc, name)?, generic))
 }
 
-/// The variable that a word is.
-pub fn variable(alloc: Global, word: &str) -> Result<Variable, Fail> {
-    let Some((name, written)) = word.split_once(':') else {
-        return Err(TermError::NotAVariable.into());
-    };
-    let ty = ty(alloc, written)?;
-    Ok(Variable::new(&Name::new(alloc, name)?, &ty)?)
+// The constants that a text may name: those of the prelude, and four that stand over no items.
+fn constants(alloc: Global) -> Result<Vec<(Name, Ty)>, Fail> {
+    let mut list = prelude_constants(alloc)?;
+    for name in ["c", "d'", "abs", "rep"] {
+        list.push(constant(alloc, name)?)?;
+    }
+    Ok(list)
+}
+
+fn written_type(alloc: Global, text: &str) -> Result<PreType, Fail> {
+    let (words, end) = scan(alloc, text)?;
+    let (ty, _rest) = read_type(alloc, &words, end)?;
+    Ok(ty)
+}
+
+fn written_term(alloc: Global, text: &str) -> Result<PreTerm, Fail> {
+    let (words, end) = scan(alloc, text)?;
+    let (term, _rest) = read_term(alloc, &words, end)?;
+    Ok(term)
+}
+
+/// The type that is written so.
+pub(crate) fn ty(alloc: Global, text: &str) -> Result<Ty, Fail> {
+    let written = written_type(alloc, text)?;
+    let constructors = constructors(alloc)?;
+    Ok(elaborate_type(alloc, &written, &constructors)?)
 }
 
 /// The term that is written so.
-pub fn term(alloc: Global, words: &str) -> Result<Term, Fail> {
-    let mut stack = Vec::new(alloc);
-    for word in words.split_whitespace() {
-        let made = made(alloc, &mut stack, word)?;
-        stack.push(made)?;
-    }
-    last(&mut stack)
+pub(crate) fn term(alloc: Global, text: &str) -> Result<Term, Fail> {
+    let written = written_term(alloc, text)?;
+    let constructors = constructors(alloc)?;
+    let constants = constants(alloc)?;
+    Ok(elaborate(alloc, &written, &constants, &constructors)?)
 }
 
-// Takes the last term.
-fn last(stack: &mut Vec<Term>) -> Result<Term, Fail> {
-    match stack.pop() {
-        Some(term) => Ok(term),
-        None => Err(TermError::TypesDontFit.into()),
-    }
-}
-
-// What the word makes of the last terms, which it takes.
-fn made(alloc: Global, stack: &mut Vec<Term>, word: &str) -> Result<Term, Fail> {
-    if word == "@" {
-        return applied(alloc, stack);
-    }
-    match word.strip_prefix('\\') {
-        Some(bound) => abstracted(alloc, stack, bound),
-        None => leaf(alloc, word),
-    }
-}
-
-fn applied(alloc: Global, stack: &mut Vec<Term>) -> Result<Term, Fail> {
-    let argument = last(stack)?;
-    let function = last(stack)?;
-    Ok(Term::comb(alloc, &function, &argument)?)
-}
-
-fn abstracted(alloc: Global, stack: &mut Vec<Term>, word: &str) -> Result<Term, Fail> {
-    let body = last(stack)?;
-    let v = variable(alloc, word)?;
-    Ok(Term::abstraction(alloc, &v, &body)?)
-}
-
-fn leaf(alloc: Global, word: &str) -> Result<Term, Fail> {
-    match word.strip_prefix('.') {
-        Some(constant) => {
-            let v = variable(alloc, constant)?;
-            Ok(Term::constant(alloc, v.name(), v.ty())?)
-        }
-        None => {
-            let v = variable(alloc, word)?;
-            Ok(Term::var(alloc, &v)?)
+/// The terms between commas, of which there may be none.
+pub(crate) fn terms(alloc: Global, text: &str) -> Result<Vec<Term>, Fail> {
+    let mut list = Vec::new(alloc);
+    for part in text.split(", ") {
+        if !part.is_empty() {
+            list.push(term(alloc, part)?)?;
         }
     }
+    Ok(list)
 }
 
-/// The words of a term, of which the type of functions is `fun`.
-pub fn words(alloc: Global, t: &Term) -> Result<String, Fail> {
-    let mut text = String::new(alloc);
-    add_words(t, &mut text)?;
-    Ok(text)
+/// The variable that is written so.
+pub(crate) fn variable(alloc: Global, text: &str) -> Result<Variable, Fail> {
+    let term = term(alloc, text)?;
+    let TermNode::Var(v) = term.node() else {
+        return Err("no variable".into());
+    };
+    Ok(v.copy()?)
 }
 
-fn add_words(t: &Term, text: &mut String) -> Result<(), Fail> {
-    match t.node() {
-        TermNode::Var(v) => add_word(text, "", v.name(), v.ty()),
-        TermNode::Const(name, ty) => add_word(text, ".", name, ty),
+/// Whether the two are one term, with one name for each bound variable.
+pub(crate) fn is_identical(s: &Term, t: &Term) -> bool {
+    match s.node() {
+        TermNode::Var(_) | TermNode::Const(..) => s.same(t),
         TermNode::Comb(f, x) => {
-            add_words(f, text)?;
-            add_words(x, text)?;
-            Ok(text.push_str(" @")?)
+            matches!(t.node(), TermNode::Comb(g, y) if is_identical(f, g) && is_identical(x, y))
         }
         TermNode::Abs(v, b) => {
-            add_words(b, text)?;
-            add_word(text, "\\", v.name(), v.ty())
+            matches!(t.node(), TermNode::Abs(w, d) if v.same(w) && is_identical(b, d))
         }
     }
-}
-
-fn add_word(text: &mut String, mark: &str, name: &Name, ty: &Ty) -> Result<(), Fail> {
-    let head = match ty.node() {
-        TyNode::Var(name) => name,
-        TyNode::App(name, _) => name,
-    };
-    text.push_str(" ")?;
-    text.push_str(mark)?;
-    text.push_str(name.as_str())?;
-    text.push_str(":")?;
-    Ok(text.push_str(head.as_str())?)
 }
