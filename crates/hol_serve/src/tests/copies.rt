@@ -68,26 +68,30 @@ fn copies_are_same(alloc: Global, step: &Step) -> Result<bool, Fail> {
     )
 }
 
-// Whether the key of this kind and name equals its copy, and something stands under it.
-fn stands(alloc: Global, state: &State, kind: Kind, name: &str) -> Result<bool, Fail> {
-    let key = Key::new(alloc, kind, name)?;
+// Whether the text is a command that is, carried out, the same as its copies.
+fn is_copied(alloc: Global, text: &str, state: &mut State) -> Result<bool, Fail> {
+    let setup = setup(alloc)?;
+    match carry_out(alloc, &setup, text, state)? {
+        Some(step) => copies_are_same(alloc, &step),
+        None => Ok(false),
+    }
+}
+
+// Whether the key of a theorem of this name equals its copy, and something stands under it.
+fn stands(alloc: Global, state: &State, name: &str) -> Result<bool, Fail> {
+    let key = Key::new(alloc, Kind::Theorem, name)?;
     let copy = key.copy(alloc)?;
     Ok(key == copy && hash_of(&key) == hash_of(&copy) && state.entry(&copy).is_some())
 }
 
 #[test]
 fn copies_of_steps_and_keys_are_the_same(rt: HostRuntime) -> Result<(), Fail> {
-    let setup = setup(rt.alloc())?;
     let mut state = State::new(rt.alloc());
     for text in ["qed", PROOF[0], PROOF[1], PROOF[2]] {
-        let step = carry_out(rt.alloc(), &setup, text, &mut state)?;
-        assert!(rt; step.is_some());
-        if let Some(step) = &step {
-            assert!(rt; copies_are_same(rt.alloc(), step)?);
-        }
+        assert!(rt; is_copied(rt.alloc(), text, &mut state)?, "at {text}");
     }
-    assert!(rt; stands(rt.alloc(), &state, Kind::Theorem, "REFL1")?);
-    assert!(rt; !stands(rt.alloc(), &state, Kind::Theorem, "REFL2")?);
+    assert!(rt; stands(rt.alloc(), &state, "REFL1")?);
+    assert!(rt; !stands(rt.alloc(), &state, "REFL2")?);
     Ok(())
 }
 
