@@ -4,6 +4,7 @@ use crate::tests::support::{expect_reports, reply_to_last};
 use std::fmt::Write;
 use std::test::Fail;
 
+// Of commands with one report the last is as the goal is shown: so what is shown reads as the goal.
 #[test]
 fn shows_statements(rt: HostRuntime) -> Result<(), Fail> {
     expect_reports(
@@ -12,12 +13,56 @@ fn shows_statements(rt: HostRuntime) -> Result<(), Fail> {
         r#"
 > g N `(p /\\ q) /\\ r`
 < {"goals":[{"asl":[],"free":["p:bool","q:bool","r:bool"],"goal":"(p /\\ q) /\\ r"}],"ok":true}
+> g N `p /\\ (q /\\ r)`
+> g N `p /\\ q /\\ r`
+< {"goals":[{"asl":[],"free":["p:bool","q:bool","r:bool"],"goal":"p /\\ q /\\ r"}],"ok":true}
+> g N `(p <=> q) <=> r`
+< {"goals":[{"asl":[],"free":["p:bool","q:bool","r:bool"],"goal":"(p <=> q) <=> r"}],"ok":true}
+> g N `p <=> (q <=> r)`
+> g N `p <=> q <=> r`
+< {"goals":[{"asl":[],"free":["p:bool","q:bool","r:bool"],"goal":"p <=> q <=> r"}],"ok":true}
+> g N `(p ==> q) ==> r`
+< {"goals":[{"asl":[],"free":["p:bool","q:bool","r:bool"],"goal":"(p ==> q) ==> r"}],"ok":true}
+> g N `p /\\ (q \\/ ~r) ==> (s <=> t)`
+< {"goals":[{"asl":[],"free":["p:bool","q:bool","r:bool","s:bool","t:bool"],"goal":"p /\\ (q \\/ ~r) ==> (s <=> t)"}],"ok":true}
 > g N `~(p:bool = q)`
+> g N `~(p <=> q)`
 < {"goals":[{"asl":[],"free":["p:bool","q:bool"],"goal":"~(p <=> q)"}],"ok":true}
+> g N `T`
+< {"goals":[{"asl":[],"free":[],"goal":"T"}],"ok":true}
+> g N `T = F`
+> g N `T <=> F`
+< {"goals":[{"asl":[],"free":[],"goal":"T <=> F"}],"ok":true}
 > g N `(!) (\\x. x)`
+> g N `!x. x`
 < {"goals":[{"asl":[],"free":[],"goal":"!x. x"}],"ok":true}
+> g N `!x y:A. x = y`
+> g N `!x y. x = y`
+< {"goals":[{"asl":[],"free":[],"goal":"!x y. x = y"}],"ok":true}
+> g N `?!x:A. x = x`
+> g N `?!x. x = x`
+< {"goals":[{"asl":[],"free":[],"goal":"?!x. x = x"}],"ok":true}
+> g N `!x. ?x. x`
+< {"goals":[{"asl":[],"free":[],"goal":"!x. ?x. x"}],"ok":true}
+> g N `!x. ?y. x /\\ (\\x. y x = x) p`
+< {"goals":[{"asl":[],"free":["p:?0"],"goal":"!x. ?y. x /\\ (\\x. y x = x) p"}],"ok":true}
+> g N `(\\p. ~p) = (~)`
+< {"goals":[{"asl":[],"free":[],"goal":"(\\p. ~p) = (~)"}],"ok":true}
+> g N `(!) = (\\p. p = (\\x. T))`
+< {"goals":[{"asl":[],"free":[],"goal":"(!) = (\\p. p = (\\x. T))"}],"ok":true}
+> g N `P (@x. P x) ==> (?!y. Q y)`
+< {"goals":[{"asl":[],"free":["P:?0->bool","Q:?1->bool"],"goal":"P (@x. P x) ==> (?!y. Q y)"}],"ok":true}
+> g N `ONE_ONE f /\\ ~(ONTO (\\x. f (f x)))`
+> g N `ONE_ONE f /\\ ~ONTO (\\x. f (f x))`
+< {"goals":[{"asl":[],"free":["f:?0->?0"],"goal":"ONE_ONE f /\\ ~ONTO (\\x. f (f x))"}],"ok":true}
+> g N `(\\x x'. f x' x) = (\\x x. f x x)`
+< {"goals":[{"asl":[],"free":["f:?0->?0->?1"],"goal":"(\\x x'. f x' x) = (\\x x. f x x)"}],"ok":true}
+> g N `g = f:A->B`
+< {"goals":[{"asl":[],"free":["f:A->B","g:A->B"],"goal":"g = f"}],"ok":true}
 > g F `f x = y`
 < {"goals":[{"asl":[],"free":["f:?1->?0","x:?1","y:?0"],"goal":"f x = y"}],"ok":true}
+> g N `f x = g (y z)`
+< {"goals":[{"asl":[],"free":["f:?1->?0","g:?2->?0","x:?1","y:?3->?2","z:?3"],"goal":"f x = g (y z)"}],"ok":true}
 > g V `(\\x. y) = z`
 < {"goals":[{"asl":[],"free":["y:?1","z:?0->?1"],"goal":"(\\x. y) = z"}],"ok":true}
 "#,
@@ -31,25 +76,40 @@ fn refuses_in_the_order_of_numbers(rt: HostRuntime) -> Result<(), Fail> {
         "",
         r#"
 > qedx
+> b
+> r 2
+> import M
+> new_type t 0
+> new_constant c `:bool`
+> new_axiom N `T`
+> new_basic_type_definition a b c d e f
+> e REPEAT REFL_TAC
+> e REFL_TAC THEN REFL_TAC
+> e (REFL_TAC)
+> e(REFL_TAC)
 < {"arg":"0","ok":true,"refusal":1,"text":"syntax"}
+>  new_definition D `c = T`
+< {"arg":"1","ok":true,"refusal":1,"text":"syntax"}
+>   oops
+> e THEN
+< {"arg":"2","ok":true,"refusal":1,"text":"syntax"}
 > g N `p /\\ `
 < {"arg":"10","ok":true,"refusal":1,"text":"syntax"}
->   oops
-< {"arg":"2","ok":true,"refusal":1,"text":"syntax"}
-> e REPEAT REFL_TAC
-< {"arg":"0","ok":true,"refusal":1,"text":"syntax"}
-> e (REFL_TAC)
-< {"arg":"0","ok":true,"refusal":1,"text":"syntax"}
 > new_type t 17
 < {"arg":"11","ok":true,"refusal":1,"text":"syntax"}
 > e REFL_TAC
-< {"arg":"","ok":true,"refusal":3,"text":"no proof open"}
+> e REFL_TAC NOPE
 > qed
 < {"arg":"","ok":true,"refusal":3,"text":"no proof open"}
 > g N `x:bool bool = y y`
+> g N `x:fun = x:A`
 < {"arg":"4","ok":true,"refusal":9,"text":"type constructor's arity"}
 > g U `(\\x. x x) = y`
+> g N `x:A = x:B`
+> g N `x x`
 < {"arg":"4","ok":true,"refusal":7,"text":"untypable"}
+> g N `\\x:bool. x`
+< {"arg":"4","ok":true,"refusal":8,"text":"not bool"}
 > g N  `x`
 < {"arg":"5","ok":true,"refusal":8,"text":"not bool"}
 "#,
@@ -67,30 +127,27 @@ g M `p = p`
 ",
         r#"
 > g N `x = x`
+> g L `x x`
 < {"arg":"","ok":true,"refusal":2,"text":"in a proof"}
 > qed
 < {"arg":"","ok":true,"refusal":19,"text":"goals remain"}
 > e ACCEPT_TAC NOPE
-< {"arg":"NOPE","ok":true,"refusal":5,"text":"unknown theorem"}
-> e REFL_TAC [N; NOPE; NONE]
-< {"arg":"NOPE","ok":true,"refusal":5,"text":"unknown theorem"}
+> e REFL_TAC [SYM N; NOPE; MP NONE N]
 > e ACCEPT_TAC (MP N NOPE)
-< {"arg":"NOPE","ok":true,"refusal":5,"text":"unknown theorem"}
 > e ACCEPT_TAC (CONJUNCT1 NOPE)
-< {"arg":"NOPE","ok":true,"refusal":5,"text":"unknown theorem"}
 > e ACCEPT_TAC (CONJUNCT2 NOPE)
-< {"arg":"NOPE","ok":true,"refusal":5,"text":"unknown theorem"}
 > e ACCEPT_TAC (SYM NOPE)
-< {"arg":"NOPE","ok":true,"refusal":5,"text":"unknown theorem"}
 > e ACCEPT_TAC (SPEC `p` NOPE)
-< {"arg":"NOPE","ok":true,"refusal":5,"text":"unknown theorem"}
 > e ACCEPT_TAC (INST_TYPE [`:A`, `:B`] NOPE)
 < {"arg":"NOPE","ok":true,"refusal":5,"text":"unknown theorem"}
+> e FOO_TAC
+< {"arg":"FOO_TAC","ok":true,"refusal":6,"text":"unknown TAC or wrong arguments"}
+> e ACCEPT_TAC N
 > e ACCEPT_TAC (ASSUME `p`)
-< {"arg":"ACCEPT_TAC","ok":true,"refusal":6,"text":"unknown TAC or wrong arguments"}
 > e ACCEPT_TAC (REFL `p`)
 < {"arg":"ACCEPT_TAC","ok":true,"refusal":6,"text":"unknown TAC or wrong arguments"}
 > e REFL_TAC N
+> e REFL_TAC `x x`
 < {"arg":"REFL_TAC","ok":true,"refusal":6,"text":"unknown TAC or wrong arguments"}
 > e REFL_TAC
 < {"goals":[],"ok":true}
@@ -98,18 +155,22 @@ g M `p = p`
     )?;
     expect_reports(
         &rt,
-        "g N `p = p`\ne REFL_TAC\n",
+        "g N `(!x:A. P x) <=> !y. P y`\ne REFL_TAC\n",
         r#"
 > qed
-< {"made":["thm N |- p = p"],"ok":true}
+< {"made":["thm N |- (!x. P x) <=> (!y. P y)"],"ok":true}
 > e REFL_TAC
 < {"arg":"","ok":true,"refusal":16,"text":"no goal open"}
 "#,
     )?;
     expect_reports(
         &rt,
-        "g N `p = p`\ne REFL_TAC\nqed\n",
+        "g M `x x`\ng N `p = p`\ne REFL_TAC\nqed\n",
         r#"
+> g N `x x`
+< {"arg":"4","ok":true,"refusal":7,"text":"untypable"}
+> g N `x:A`
+< {"arg":"4","ok":true,"refusal":8,"text":"not bool"}
 > g N `x = x`
 < {"arg":"thm:N","ok":true,"refusal":10,"text":"name taken"}
 "#,

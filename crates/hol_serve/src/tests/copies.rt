@@ -1,13 +1,14 @@
-//! Copies of what commands read, of their outcomes and of reports.
+//! Copies of commands, of what they read, of their outcomes, of keys and of reports.
 
 use crate::begun::begun;
 use hol_document::Docs;
 use hol_exec::{
-    Outcome, Parsed, Reads, Report, Setup, ShownGoal, State, TacCode, apply, parse, run_local,
-    set_up,
+    Key, Kind, LocalCommand, Outcome, Parsed, Reads, Report, Setup, ShownGoal, State, TacCode,
+    apply, parse, run_local, set_up,
 };
 use std::alloc::Global;
 use std::fmt::Write;
+use std::hash::{DefaultHasher, Hash, Hasher};
 use std::test::Fail;
 
 // What a proof of `x = x` is.
@@ -19,41 +20,77 @@ fn setup(alloc: Global) -> Result<Setup, Fail> {
     Ok(set_up(table, 10))
 }
 
-// Carries out a command, and gives what it read and its outcome.
+// A command that was carried out, what it read and its outcome.
+#[derive(Drop)]
+struct Step {
+    command: LocalCommand,
+    reads: Reads,
+    outcome: Outcome,
+}
+
+// Carries out a command.
 #[tactic(auto, using(crate::proofs::Applied::local_outcome_applies))]
-fn step(
+fn carry_out(
     alloc: Global,
     setup: &Setup,
     text: &str,
     state: &mut State,
-) -> Result<Option<(Reads, Outcome)>, Fail> {
+) -> Result<Option<Step>, Fail> {
     let Parsed::Local(command) = parse(alloc, text)? else {
         return Ok(None);
     };
     let reads = Reads::of(alloc, &command, state)?;
     let outcome = run_local(alloc, setup, &command, &reads)?;
     apply(alloc, state, &outcome)?;
-    Ok(Some((reads, outcome)))
+    Ok(Some(Step {
+        command,
+        reads,
+        outcome,
+    }))
 }
 
-// Whether what the command read and its outcome are the same as their copies.
-fn copies_are_same(alloc: Global, reads: &Reads, outcome: &Outcome) -> Result<bool, Fail> {
-    let reads_copy = reads.copy(alloc)?;
-    let outcome_copy = outcome.copy(alloc)?;
-    Ok(reads.same(&reads_copy) && outcome.same(&outcome_copy))
+fn hash_of<T: Hash>(value: &T) -> u64 {
+    let mut state = DefaultHasher::new();
+    value.hash(&mut state);
+    state.finish()
+}
+
+// Whether the command, what it read and its outcome are the same as their copies.
+fn copies_are_same(alloc: Global, step: &Step) -> Result<bool, Fail> {
+    let command = step.command.copy(alloc)?;
+    let reads = step.reads.copy(alloc)?;
+    let outcome = step.outcome.copy(alloc)?;
+    Ok(
+        step.command.same(&command)
+            && step.reads == reads
+            && hash_of(&step.reads) == hash_of(&reads)
+            && step.outcome.same(&outcome),
+    )
+}
+
+// Whether the text is a command that is, carried out, the same as its copies.
+fn is_copied(alloc: Global, text: &str, state: &mut State) -> Result<bool, Fail> {
+    let setup = setup(alloc)?;
+    match carry_out(alloc, &setup, text, state)? {
+        Some(step) => copies_are_same(alloc, &step),
+        None => Ok(false),
+    }
+}
+
+// Whether the key of a theorem of this name equals its copy, and something stands under it.
+fn stands(alloc: Global, state: &State, name: &str) -> Result<bool, Fail> {
+    let key = Key::new(alloc, Kind::Theorem, name)?;
+    let copy = key.copy(alloc)?;
+    Ok(key == copy && hash_of(&key) == hash_of(&copy) && state.entry(&copy).is_some())
 }
 
 #[test]
-fn copies_of_reads_and_outcomes_are_the_same(rt: HostRuntime) -> Result<(), Fail> {
-    let setup = setup(rt.alloc())?;
+fn copies_of_steps_and_keys_are_the_same(rt: HostRuntime) -> Result<(), Fail> {
     let mut state = State::new(rt.alloc());
     for text in ["qed", PROOF[0], PROOF[1], PROOF[2]] {
-        let step = step(rt.alloc(), &setup, text, &mut state)?;
-        assert!(rt; step.is_some());
-        if let Some((reads, outcome)) = &step {
-            assert!(rt; copies_are_same(rt.alloc(), reads, outcome)?);
-        }
+        assert!(rt; is_copied(rt.alloc(), text, &mut state)?);
     }
+    assert!(rt; stands(rt.alloc(), &state, "REFL1")?);
     Ok(())
 }
 

@@ -6,7 +6,6 @@ use crate::settings::{Words, settings};
 use crate::tests::readers::{FaultyReader, FaultyWriter};
 use crate::tests::support::{REFL1_LINES, REFL1_REPLIES};
 use std::alloc::Global;
-use std::test::Fail;
 
 // What the program comes to where a read or a write fails once, if any does: its status, what it writes, and what it tells.
 fn outcome(
@@ -70,25 +69,28 @@ fn ends_with_a_status_and_a_line(rt: HostRuntime) {
 }
 
 #[test]
-fn takes_turns_and_cache(rt: HostRuntime) -> Result<(), Fail> {
-    let alloc = rt.alloc();
-    for (words, want) in [
-        (["--cache=256", "--turns", "4"], Ok((4, 256))),
-        (["--cache=4096", "--turns", "100000"], Ok((100_000, 4_096))),
-        (["--cache=1", "--turns", "0"], Err(Words::Bad)),
-        (["--cache=1", "--turns", "100001"], Err(Words::Bad)),
-        (["--cache=1", "--turns", "x"], Err(Words::Bad)),
-        (["--cache=0", "--turns", "1"], Err(Words::Bad)),
-        (["--cache=4097", "--turns", "1"], Err(Words::Bad)),
-        (["--cache=1", "--turns", "--help"], Err(Words::Bad)),
-    ] {
-        let [cache, turns, number] = words;
-        assert_eq!(rt;
-            settings(alloc, &["hol-serve", cache, turns, number]),
-            want,
-            "at {words:?}"
-        );
+fn takes_turns_and_cache(rt: HostRuntime) {
+    let cases: [(&[&str], Result<(u32, u32), Words>); 12] = [
+        (&["hol-serve"], Ok((10_000, 256))),
+        (&["hol-serve", "--turns", "4"], Ok((4, 256))),
+        (
+            &["hol-serve", "--cache=4096", "--turns", "100000"],
+            Ok((100_000, 4_096)),
+        ),
+        (&["hol-serve", "--turns", "0"], Err(Words::Bad)),
+        (&["hol-serve", "--turns", "100001"], Err(Words::Bad)),
+        (&["hol-serve", "--turns", "x"], Err(Words::Bad)),
+        (&["hol-serve", "--turns"], Err(Words::Bad)),
+        (
+            &["hol-serve", "--turns", "1", "--turns", "1"],
+            Err(Words::Bad),
+        ),
+        (&["hol-serve", "--cache", "0"], Err(Words::Bad)),
+        (&["hol-serve", "--cache", "4097"], Err(Words::Bad)),
+        (&["hol-serve", "--help"], Err(Words::Bad)),
+        (&["hol-serve", "more"], Err(Words::Bad)),
+    ];
+    for (words, want) in cases {
+        assert_eq!(rt; settings(rt.alloc(), words), want, "at {words:?}");
     }
-    assert_eq!(rt; settings(alloc, &["hol-serve"])?, (10_000, 256));
-    Ok(())
 }

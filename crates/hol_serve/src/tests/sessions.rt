@@ -38,6 +38,10 @@ fn tells_of_theories(rt: HostRuntime) -> Result<(), Fail> {
 < {"ok":true}
 > {"op":"report","theory":"B","at":0}
 < {"arg":"","ok":true,"refusal":3,"text":"no proof open"}
+> {"op":"insert","theory":"B","at":1,"text":""}
+< {"ok":true}
+> {"op":"report","theory":"B","at":1}
+< {"arg":"0","ok":true,"refusal":1,"text":"syntax"}
 "#,
     )
 }
@@ -100,30 +104,36 @@ fn refuses_what_is_no_request(rt: HostRuntime) -> Result<(), Fail> {
 {"op":"new_theory","name":"A"}
 {"op":"basis","theory":"B"}
 {"op":"basis","name":"N"}
-7"#,
+7"#
+                .as_bytes(),
             "{\"error\":3,\"ok\":false,\"text\":\"shape\"}\n",
         ),
         (
-            "\n \n\r\nnul
+            b"\n \n\r\nnul
 {\"op\":\"report\",\"theory\":\"B\",\"at\":0
 {\"op\":\"report\",\"theory\":\"B\",\"at\":0} x
 {\"op\":\"report\",\"theory\":\"B\",\"at\":1e400}
 {\"op\":\"report\",\"theory\":\"B\",\"at\":01}
 {\"op\":\"report\",\"theory\":\"\\ud800\",\"at\":0}
-{\"op\":\"report\",\"theory\":\"\t\",\"at\":0}",
+{\"op\":\"report\",\"theory\":\"\t\",\"at\":0}
+{\"op\":\"report\",\"theory\":\"\xff\",\"at\":0}"
+                .as_slice(),
             "{\"error\":2,\"ok\":false,\"text\":\"not JSON\"}\n",
         ),
         (
             r#"{"op":"report","theory":"B","at":18446744073709551615}
 {"op":"x","op":"report","theory":7,"theory":"B","at":-1,"at":0,"other":null}
- { "at" : 0 , "op" : "report" , "theory" : "B" } "#,
+ { "at" : 0 , "op" : "report" , "theory" : "B" } "#
+                .as_bytes(),
             "{\"error\":4,\"ok\":false,\"text\":\"unknown theory\"}\n",
         ),
     ] {
-        let replies = String::from_utf8(replies_to(alloc, lines.as_bytes())?)?;
+        let replies = String::from_utf8(replies_to(alloc, lines)?)?;
         assert_eq!(rt;
             replies.as_str(),
-            reply.repeat(alloc, lines.split('\n').count())?.as_str()
+            reply
+                .repeat(alloc, lines.split(|byte| *byte == b'\n').count())?
+                .as_str()
         );
     }
     Ok(())
@@ -147,7 +157,7 @@ fn cuts_and_reads_lines(rt: HostRuntime) -> Result<(), Fail> {
             "{{\"op\":\"report\",\"theory\":\"B\",\"at\":0,\"x\":{opened}{closed}}}"
         )?;
     }
-    text.push_str("{\"op\":\"new")?;
+    text.push_str(" ".repeat(alloc, 65_537)?.as_str())?;
     let replies = String::from_utf8(replies_to(alloc, text.as_bytes())?)?;
     assert_eq!(rt;
         replies.as_str(),
@@ -156,7 +166,7 @@ fn cuts_and_reads_lines(rt: HostRuntime) -> Result<(), Fail> {
 {"error":1,"ok":false,"text":"line too long"}
 {"error":4,"ok":false,"text":"unknown theory"}
 {"error":2,"ok":false,"text":"not JSON"}
-{"error":2,"ok":false,"text":"not JSON"}
+{"error":1,"ok":false,"text":"line too long"}
 "#
     );
     Ok(())

@@ -85,20 +85,34 @@ pub(crate) fn reply_to_last(alloc: Global, commands: &str) -> Result<String, Fai
     Ok(String::from_str(alloc, replies.lines().last().unwrap_or(""))?)
 }
 
-/// That commands have these reports: each line after `> ` is a command, put after those in `before`, and the line after it its report.
+// That each of these commands, one a line, put after those in `before`, has this report.
+fn expect_report<R: Abort + AllocGlobal>(
+    rt: &R,
+    before: &str,
+    commands: &str,
+    want: &str,
+) -> Result<(), Fail> {
+    for command in commands.lines() {
+        let text = format!(in rt.alloc(); "{before}{command}")?;
+        let reply = reply_to_last(rt.alloc(), text.as_str())?;
+        assert_eq!(rt; reply.as_str(), want, "after {text}");
+    }
+    Ok(())
+}
+
+/// That commands have these reports: each line after `> ` is a command, put after those in `before`, and the next line after `< ` its report.
 pub(crate) fn expect_reports<R: Abort + AllocGlobal>(
     rt: &R,
     before: &str,
     reports: &str,
 ) -> Result<(), Fail> {
-    let mut commands = String::from_str(rt.alloc(), before)?;
+    let mut commands = String::new(rt.alloc());
     for line in reports.lines() {
         if let Some(command) = line.strip_prefix("> ") {
-            commands = String::from_str(rt.alloc(), before)?;
-            commands.push_str(command)?;
+            writeln!(commands, "{command}")?;
         } else if let Some(want) = line.strip_prefix("< ") {
-            let reply = reply_to_last(rt.alloc(), commands.as_str())?;
-            assert_eq!(rt; reply.as_str(), want, "after {commands}");
+            expect_report(rt, before, commands.as_str(), want)?;
+            commands.clear();
         }
     }
     Ok(())
