@@ -71,7 +71,8 @@ IsResolvedCall setup call cited (Unresolved kind arg) = ⊥
 abbrev pub idle_tactical : ResolutionValue
 idle_tactical = Unresolved refusal.UnknownTac []
 
--- where all theorems are known and all calls fit
+-- Where all theorems are known and all calls fit. What is quoted is read after that and before anything is resolved; of a call that runs no
+-- argument is quoted, so no refusal of a reading stands here.
 abbrev pub IsResolvedFitting : SetupValue → TacText → Values → ResolutionValue → Type 0
 IsResolvedFitting setup (Call call) cited resolution = IsResolvedCall setup call cited resolution
 IsResolvedFitting setup (Then t u) cited resolution = resolution ≡ idle_tactical

@@ -26,6 +26,7 @@ pub mod At
 pub mod Valid
 pub mod Codes
 pub mod SameReads
+pub mod SameCommand
 pub mod ReportValue
 pub mod ReportView
 pub mod ReportOf

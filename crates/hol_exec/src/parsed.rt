@@ -8,6 +8,7 @@ use hol_notation_tactics::{TacExpr, TacExprNode};
 use hol_notation_terms::Quotation;
 use hol_notation_tokens::{SyntaxError, skip};
 use std::alloc::{AllocError, Global};
+use std::hash::{Hash, Hasher};
 
 /// A command whose outcome is a function of what it reads.
 #[derive(Drop)]
@@ -65,7 +66,7 @@ impl LocalCommand {
         }
     }
 
-    /// The name to hash: those of equal commands are equal.
+    /// A name in the command: what it makes, or the TAC that is written first.
     pub fn leading_name(&self) -> &str
         ensures { result.now ≡ leading_name (local_text self.now) }
     {
@@ -74,6 +75,39 @@ impl LocalCommand {
             LocalCommand::Apply(tactic) => tactic.leading_name(),
             LocalCommand::Qed => "",
         }
+    }
+}
+
+impl PartialEq for LocalCommand {
+    ghost use Rattle.hol_exec.specs.SameCommand.{same_command, same_command_partial_laws};
+
+    ghost eq = { same_command };
+
+    ghost laws = { same_command_partial_laws };
+
+    fn eq(&self, other: &LocalCommand) -> bool {
+        self.same(other)
+    }
+}
+
+impl Eq for LocalCommand {
+    ghost use Rattle.hol_exec.specs.SameCommand.{same_command_laws};
+
+    ghost laws = { same_command_laws };
+}
+
+impl Hash for LocalCommand {
+    ghost use Rattle.std.specs.Hash as fed;
+    ghost use Rattle.hol_exec.specs.Parsed.{leading_name};
+    ghost use Rattle.hol_exec.specs.ParsedView.{local_text};
+    ghost use Rattle.hol_exec.specs.SameCommand.{command_fed};
+
+    ghost hash_input = { λ c. fed.str (leading_name (local_text c)) };
+
+    ghost respects_eq = { command_fed };
+
+    fn hash<H: Hasher>(&self, state: &mut H) {
+        self.leading_name().hash(state);
     }
 }
 
