@@ -11,7 +11,7 @@ use Rattle.hol_exec.specs.ReadsValue.{Values}
 use Rattle.hol_exec.specs.Standing.{first_unknown}
 use Rattle.hol_exec.specs.ExprValue.{ExprValue, Calls, TacArgsValue, Nothing}
 use Rattle.hol_exec.specs.Tac.{arguments_of, CalledValue, called}
-use Rattle.hol_exec.specs.Expr.{AreArguments, IsExpr, ResolutionValue, Resolved, Unresolved, calls_of, first_unfit, IsResolvedFitting, IsResolvedKnown, IsResolvedCited, IsResolution}
+use Rattle.hol_exec.specs.Expr.{AreArguments, IsCallExpr, ResolutionValue, Resolved, Unresolved, calls_of, first_unfit, IsResolvedFitting, IsResolvedKnown, IsResolvedCited, IsResolution}
 
 module _ (setup : SetupValue) (cited : Values) where
   -- a call that is a whole expression
@@ -37,7 +37,7 @@ module _ (setup : SetupValue) (cited : Values) where
   arguments_basis : (kind : ArgumentKind) (arguments : List ArgumentText) (args : TacArgsValue) (basis : Items) → AreArguments kind arguments cited args basis → basis ≡ no_items
   arguments_basis NoArguments arguments Nothing basis h = h
 
-  expr_basis : (call : CallText) (e : ExprValue) (basis : Items) → IsExpr setup call cited e basis → basis ≡ no_items
+  expr_basis : (call : CallText) (e : ExprValue) (basis : Items) → IsCallExpr setup Whole call cited e basis → basis ≡ no_items
   expr_basis call (Calls name code args) basis h = arguments_basis (arguments_of code) call.arguments args basis h.2
 
   fitting_basis : (tactic : TacText) (e : ExprValue) (basis : Items) → IsResolvedFitting setup tactic cited (Resolved e basis) → basis ≡ no_items

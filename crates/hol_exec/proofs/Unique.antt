@@ -17,11 +17,12 @@ use Rattle.hol_exec.specs.StateValue.{StateValue, EndedTheory}
 use Rattle.hol_exec.specs.ReadsValue.{ReadsValue, Values, reads_of}
 use Rattle.hol_exec.specs.declared.tac.ArgumentKind.{ArgumentKind}
 use Rattle.hol_exec.specs.declared.tac.ArgumentKind.TheVariants.{NoArguments}
+use Rattle.hol_exec.specs.declared.tac.CallRole.TheVariants.{Whole}
 use Rattle.hol_exec.specs.declared.tac.TacCode.{TacCode}
 use Rattle.hol_exec.specs.Standing.{first_unknown}
 use Rattle.hol_exec.specs.ExprValue.{ExprValue, Calls, TacArgsValue, Nothing}
 use Rattle.hol_exec.specs.Tac.{arguments_of, Registered}
-use Rattle.hol_exec.specs.Expr.{AreArguments, IsExpr, ResolutionValue, Resolved, Unresolved, calls_of, first_unfit, IsResolvedCall, IsResolvedFitting, IsResolvedKnown, IsResolvedCited}
+use Rattle.hol_exec.specs.Expr.{AreArguments, IsCallExpr, ResolutionValue, Resolved, Unresolved, calls_of, first_unfit, IsResolvedCall, IsResolvedFitting, IsResolvedKnown, IsResolvedCited}
 use Rattle.hol_exec.specs.OutcomeValue.{OutcomeValue}
 use Rattle.hol_exec.specs.Local.{opens_read, IsOpening, resolved_outcome, IsApplying, IsLocalOutcome}
 use Rattle.hol_exec.specs.At.{IsOutcome}
@@ -72,7 +73,7 @@ module _ (setup : SetupValue) (cited : Values) where
   one_arguments : (kind : ArgumentKind) (arguments : List ArgumentText) (a b : TacArgsValue) (x y : Items) → AreArguments kind arguments cited a x → AreArguments kind arguments cited b y → (a ≡ b) × (x ≡ y)
   one_arguments NoArguments arguments Nothing Nothing x y p q = (refl, p ∙ sym q)
 
-  one_expr : (call : CallText) (a b : ExprValue) (x y : Items) → IsExpr setup call cited a x → IsExpr setup call cited b y → (a ≡ b) × (x ≡ y)
+  one_expr : (call : CallText) (a b : ExprValue) (x y : Items) → IsCallExpr setup Whole call cited a x → IsCallExpr setup Whole call cited b y → (a ≡ b) × (x ≡ y)
   one_expr call (Calls m c s) (Calls n d t) x y p q =
       let names : m ≡ n = p.0 ∙ sym q.0 in
       let some : Some (Registered c) ≡ Some (Registered d) = sym p.1 ∙ q.1 in

@@ -23,10 +23,10 @@ use Rattle.hol_exec.specs.Tac.{arguments_of, Registered, called, UsedValue, Answ
 abbrev pub AreArguments : ArgumentKind → List ArgumentText → Values → TacArgsValue → Items → Type 0
 AreArguments NoArguments arguments cited Nothing basis = basis ≡ no_items
 
--- a call resolves to the expression
-abbrev pub IsExpr : SetupValue → CallText → Values → ExprValue → Items → Type 0
-IsExpr setup call cited (Calls name code args) basis =
-    (name ≡ call.name) × (called setup Whole call cited ≡ Some (Registered code)) × AreArguments (arguments_of code) call.arguments cited args basis
+-- a call of the role resolves to the expression
+abbrev pub IsCallExpr : SetupValue → CallRole → CallText → Values → ExprValue → Items → Type 0
+IsCallExpr setup role call cited (Calls name code args) basis =
+    (name ≡ call.name) × (called setup role call cited ≡ Some (Registered code)) × AreArguments (arguments_of code) call.arguments cited args basis
 
 -- ---- resolving, of one number all that is written before the next: unknown theorem; unknown TAC or wrong arguments
 
@@ -64,7 +64,7 @@ first_unfit setup ((role, call) ∷ calls) cited = cond (is_some (called setup r
 
 -- a call that fits: nothing else is refused
 abbrev pub IsResolvedCall : SetupValue → CallText → Values → ResolutionValue → Type 0
-IsResolvedCall setup call cited (Resolved expr basis) = IsExpr setup call cited expr basis
+IsResolvedCall setup call cited (Resolved expr basis) = IsCallExpr setup Whole call cited expr basis
 IsResolvedCall setup call cited (Unresolved kind arg) = ⊥
 
 -- No tactical runs: a text with one is no command of this kind, and what is written would be refused.

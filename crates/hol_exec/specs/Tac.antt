@@ -36,10 +36,10 @@ fits NoArguments Whole [] = true
 fits NoArguments Whole (a ∷ arguments) = false
 fits NoArguments TheoremTactic arguments = false
 
--- what a name stands for, over the values of what is cited: it is registered, or nothing
-abbrev pub named : Option TacCode → Values → Option CalledValue
-named None cited = None
-named (Some code) cited = Some (Registered code)
+-- what a name stands for, from what is registered under it and the values of what is cited: the registered TAC, or nothing
+abbrev pub named : List ℕ → Option TacCode → Values → Option CalledValue
+named name None cited = None
+named name (Some code) cited = Some (Registered code)
 
 abbrev pub fitting : Option CalledValue → CallRole → List ArgumentText → Option CalledValue
 fitting None role arguments = None
@@ -47,7 +47,7 @@ fitting (Some c) role arguments = cond (fits (kind_of c) role arguments) (Some c
 
 -- what a call of the role calls, where the name stands for something and the arguments are of its kind
 abbrev pub called : SetupValue → CallRole → CallText → Values → Option CalledValue
-called setup role call cited = fitting (named (lookup (bytes_eq call.name) setup.table) cited) role call.arguments
+called setup role call cited = fitting (named call.name (lookup (bytes_eq call.name) setup.table) cited) role call.arguments
 
 -- ---- what a TAC leaves
 

@@ -115,7 +115,7 @@ impl Hash for LocalCommand {
 #[derive(Clone, Copy)]
 pub enum DirectCommand {
     /// A text that is refused as `syntax` at the byte where it is no command any more, or at its first word where it is a command that
-    /// doesn't run yet.
+    /// isn't run.
     Unread(usize),
 }
 
@@ -198,7 +198,7 @@ fn parsed_tactic(text: &str, tactic: &TacExpr) -> Result<Parsed, AllocError>
     }
 }
 
-// A command that doesn't run yet.
+// A command that isn't run.
 fn idle(text: &str) -> Parsed
     ensures { parsed_value result ≡ idle text.now }
 {

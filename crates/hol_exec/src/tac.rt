@@ -105,7 +105,7 @@ fn fits(kind: ArgumentKind, role: CallRole, arguments: &[TacArg]) -> bool
 
 // What the name of the call stands for.
 fn named(setup: &Setup, call: &TacCall, _reads: &Reads) -> Option<Callee>
-    ensures { called_option result ≡ named (lookup (bytes_eq call.now.name) (setup_value setup.now).table) _reads.now.cited }
+    ensures { called_option result ≡ named call.now.name (lookup (bytes_eq call.now.name) (setup_value setup.now).table) _reads.now.cited }
 {
     let code = code_of(setup, call.name.as_str())?;
     Some(Callee::Registered(code))
