@@ -15,7 +15,7 @@ use Rattle.hol_exec.specs.Setup.{SetupValue}
 use Rattle.hol_exec.specs.Parsed.{LocalText, Goal, Apply, Qed, Unread, ParsedValue, Local, Direct}
 use Rattle.hol_exec.specs.Reading.{ReadingValue, WrongArity, NoTyping, LargeReading, ReadsAs}
 use Rattle.hol_exec.specs.StateValue.{ProofValue, StateValue, EndedTheory}
-use Rattle.hol_exec.specs.ReadsValue.{ReadsValue, ClosingValue, reads_of, first_goal, first_of}
+use Rattle.hol_exec.specs.ReadsValue.{ReadsValue, ClosingValue, reads_of, AreReads, first_goal, first_of}
 use Rattle.hol_exec.specs.OutcomeValue.{OutcomeValue, Opens, Leaves, Makes, Refuses, MakesTheorems}
 use Rattle.hol_exec.specs.Local.{opens, opens_read, IsOpening, run_outcome, at_start, applied, resolved_outcome, IsApplying, finishes, IsLocalOutcome}
 use Rattle.hol_exec.specs.Lookups.{reading_basis}
@@ -79,9 +79,12 @@ module _ (goal : GoalValue) (goals : List GoalValue) (basis : Items) where
   local_first setup (Apply tactic) s h = applying_first _ setup tactic (reads_of (Apply tactic) s) h
   local_first setup Qed s h = absurd (finish_none (reads_of Qed s).closing h)
 
-  outcome_first : (setup : SetupValue) (earlier : List EndedTheory) (s : StateValue) (value : ParsedValue) → IsOutcome setup earlier s value (Leaves goal goals basis) → first_goal s.proof ≡ Some goal
-  outcome_first setup earlier s (Local command) h = local_first setup command s h
-  outcome_first setup earlier s (Direct (Unread place)) h = absurd (cc)
+  outcome_first : (setup : SetupValue) (earlier : List EndedTheory) (s : StateValue) (value : ParsedValue) (reads : Option ReadsValue) →
+      AreReads value s reads → IsOutcome setup earlier s value reads (Leaves goal goals basis) → first_goal s.proof ≡ Some goal
+  outcome_first setup earlier s (Local command) None are h = absurd h
+  outcome_first setup earlier s (Local command) (Some reads) are h = let same : reads ≡ reads_of command s = cc in local_first setup command s (rw same at h)
+  outcome_first setup earlier s (Direct (Unread place)) None are h = absurd (cc)
+  outcome_first setup earlier s (Direct (Unread place)) (Some reads) are h = absurd h
 
   -- the proof whose first goal is proved by reflexivity
   closes_proof : (p : ProofValue) → IsSoundProof p → first_of p.newest.goals ≡ Some goal → IsReflexive goal.conclusion → IsReflexive p.statement
@@ -98,7 +101,7 @@ pub step_closes : (s : StateValue) (outcome : OutcomeValue) → IsOutcomeAt s ou
 step_closes s outcome h sound goal goals basis e closed = by s.proof refl sound
   where
     first : first_goal s.proof ≡ Some goal
-    first = outcome_first goal goals basis h.0 h.1 s h.2 (rw e at h.3)
+    first = outcome_first goal goals basis h.setup h.earlier s h.value h.reads h.read (rw e at h.gets)
 
     by : (o : Option ProofValue) → s.proof ≡ o → IfSome o IsSoundProof → IfSome o (λ p. IsReflexive p.statement)
     by None z k = tt

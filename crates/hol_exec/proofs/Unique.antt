@@ -14,7 +14,7 @@ use Rattle.hol_exec.specs.Parsed.{LocalText, Goal, Apply, Qed, ParsedValue, Loca
 use Rattle.hol_exec.specs.Lookups.{LookupsValue, lookups_of}
 use Rattle.hol_exec.specs.Reading.{ReadingValue, WrongArity, NoTyping, LargeReading, ReadsAs, IsReadAs, IsTermReadAs}
 use Rattle.hol_exec.specs.StateValue.{StateValue, EndedTheory}
-use Rattle.hol_exec.specs.ReadsValue.{ReadsValue, Values, reads_of}
+use Rattle.hol_exec.specs.ReadsValue.{ReadsValue, Values}
 use Rattle.hol_exec.specs.declared.tac.ArgumentKind.{ArgumentKind}
 use Rattle.hol_exec.specs.declared.tac.ArgumentKind.TheVariants.{NoArguments}
 use Rattle.hol_exec.specs.declared.tac.CallRole.TheVariants.{Whole}
@@ -127,6 +127,9 @@ one_local setup (Goal name quotation) reads a b p q = one_opening reads.in_proof
 one_local setup (Apply tactic) reads a b p q = one_applying reads.in_proof setup tactic reads a b p q
 one_local setup Qed reads a b p q = p ∙ sym q
 
-pub one_outcome : (setup : SetupValue) (earlier : List EndedTheory) (s : StateValue) (value : ParsedValue) (a b : OutcomeValue) → IsOutcome setup earlier s value a → IsOutcome setup earlier s value b → a ≡ b
-one_outcome setup earlier s (Local command) a b p q = one_local setup command (reads_of command s) a b p q
-one_outcome setup earlier s (Direct command) a b p q = p ∙ sym q
+pub one_outcome : (setup : SetupValue) (earlier : List EndedTheory) (s : StateValue) (value : ParsedValue) (reads : Option ReadsValue) (a b : OutcomeValue) →
+    IsOutcome setup earlier s value reads a → IsOutcome setup earlier s value reads b → a ≡ b
+one_outcome setup earlier s (Local command) None a b p q = absurd p
+one_outcome setup earlier s (Local command) (Some reads) a b p q = one_local setup command reads a b p q
+one_outcome setup earlier s (Direct command) None a b p q = p ∙ sym q
+one_outcome setup earlier s (Direct command) (Some reads) a b p q = absurd p
