@@ -9,7 +9,8 @@ use Rattle.hol_kernel.specs.Items.{Items, no_items}
 use Rattle.hol_formulas.specs.Equation.{bool_type, Sides, dest_eq}
 use Rattle.hol_kernel.specs.Typing.{is_type_at}
 use Rattle.hol_terms.specs.Alpha.{alpha_eq}
-use Rattle.hol_exec.specs.Goal.{GoalValue}
+use Rattle.hol_goal.specs.Goal.{GoalValue}
+use Rattle.hol_goal.specs.Answer.{UsedValue, AnswerResult, Left, Unfit, result_of}
 use Rattle.hol_exec.specs.Key.{KeyValue}
 use Rattle.hol_exec.specs.Setup.{SetupValue}
 use Rattle.hol_exec.specs.Parsed.{LocalText, Goal, Apply, Qed, Unread, ParsedValue, Local, Direct}
@@ -27,7 +28,7 @@ use Rattle.hol_exec.specs.Entry.{Entries, EachIsEntry}
 use Rattle.hol_exec.specs.At.{IsOutcome, IsOutcomeAt}
 use Rattle.hol_exec.specs.declared.tac.TacCode.{TacCode}
 use Rattle.hol_exec.specs.declared.tac.TacCode.TheVariants.{ReflTac}
-use Rattle.hol_exec.specs.Tac.{UsedValue, AnswerResult, Left, Unfit, tac, closes_sides}
+use Rattle.hol_exec.specs.Tac.{tac, closes_sides}
 use Rattle.hol_exec.specs.Valid.{IsStatement, IsReflexive, IsSoundProof, IsSoundClosing, IsValid, Proves}
 
 module _ (goal : GoalValue) (goals : List GoalValue) (basis : Items) where
@@ -141,11 +142,11 @@ makes_theorems (Refuses kind arg) h = tt
 tac_closes : (code : TacCode) (args : TacArgsValue) (goal : GoalValue) (goals : List GoalValue) (used : UsedValue) → Left goals ≡ (tac code args goal used).result → (goals ≡ []) × IsReflexive goal.conclusion
 tac_closes ReflTac Nothing goal goals used e = found (dest_eq goal.conclusion) refl e
   where
-    same : (x : Sides) (w : Bool) → dest_eq goal.conclusion ≡ Some x → alpha_eq x.left x.right ≡ w → Left goals ≡ cond w (Left []) Unfit → (goals ≡ []) × IsReflexive goal.conclusion
+    same : (x : Sides) (w : Bool) → dest_eq goal.conclusion ≡ Some x → alpha_eq x.left x.right ≡ w → Left goals ≡ result_of (cond w (Some []) None) → (goals ≡ []) × IsReflexive goal.conclusion
     same x true f g h = let none : goals ≡ [] = cc in (none, record { sides = x; equates = f; same = g })
     same x false f g h = absurd (cc)
 
-    found : (o : Option Sides) → dest_eq goal.conclusion ≡ o → Left goals ≡ closes_sides o → (goals ≡ []) × IsReflexive goal.conclusion
+    found : (o : Option Sides) → dest_eq goal.conclusion ≡ o → Left goals ≡ result_of (closes_sides o) → (goals ≡ []) × IsReflexive goal.conclusion
     found None f g = absurd (cc)
     found (Some x) f g = same x (alpha_eq x.left x.right) f refl g
 

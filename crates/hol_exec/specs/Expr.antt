@@ -10,12 +10,13 @@ use Rattle.hol_exec.specs.declared.tac.CallRole.TheVariants.{Whole, TheoremTacti
 use Rattle.hol_exec.specs.declared.tac.TacCode.{TacCode}
 use Rattle.hol_exec.specs.declared.refusal.RefusalKind.{RefusalKind}
 use Rattle.hol_exec.specs.declared.refusal.RefusalKind.TheVariants as refusal
-use Rattle.hol_exec.specs.Goal.{GoalValue}
+use Rattle.hol_goal.specs.Goal.{GoalValue}
+use Rattle.hol_goal.specs.Answer.{UsedValue, AnswerResult, AnswerValue, Left, Unfit}
 use Rattle.hol_exec.specs.Setup.{SetupValue}
 use Rattle.hol_exec.specs.ExprValue.{TacArgsValue, Nothing, ExprValue, Calls}
 use Rattle.hol_exec.specs.ReadsValue.{Values}
 use Rattle.hol_exec.specs.Standing.{first_unknown}
-use Rattle.hol_exec.specs.Tac.{arguments_of, Registered, called, UsedValue, AnswerResult, AnswerValue, Left, Unfit, tac}
+use Rattle.hol_exec.specs.Tac.{arguments_of, Registered, called, tac}
 
 -- ---- resolved expressions
 

@@ -7,7 +7,6 @@ pub mod SetupView
 pub mod Parsed
 pub mod ParsedView
 pub mod Keys
-pub mod Goal
 pub mod StateValue
 pub mod ReadsValue
 pub mod Lookups

@@ -6,7 +6,7 @@ use Rattle.hol_terms.specs.Alpha.{alpha_eq}
 use Rattle.hol_kernel.specs.Items.{Items, no_items}
 use Rattle.hol_kernel.specs.Typing.{HasType}
 use Rattle.hol_formulas.specs.Equation.{bool_type, Sides, dest_eq}
-use Rattle.hol_exec.specs.Goal.{GoalValue}
+use Rattle.hol_goal.specs.Goal.{GoalValue}
 use Rattle.hol_exec.specs.Entry.{EachIsEntry}
 use Rattle.hol_exec.specs.StateValue.{StepValue, ProofValue}
 use Rattle.hol_exec.specs.ReadsValue.{ClosingValue}

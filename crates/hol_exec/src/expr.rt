@@ -7,13 +7,13 @@ ghost use Rattle.hol_exec.specs.Expr.{calls_of, first_unfit, IsResolvedCall, IsR
 ghost use Rattle.hol_exec.specs.ExprView.{expr_value, resolution_value, run_value};
 
 use crate::calls::{calls_of, first_unfit};
-use crate::goal::Goal;
 use crate::reads::Reads;
 use crate::refusal::RefusalKind;
 use crate::setup::Setup;
 use crate::tac::{
     ArgumentKind, CallRole, Callee, TacArgs, TacCode, TacResult, Used, arguments_of, called, tac,
 };
+use hol_goal::Goal;
 use hol_kernel::Basis;
 use hol_notation_tactics::{TacCall, TacExpr, TacExprNode};
 use std::alloc::{AllocError, Global};
