@@ -22,7 +22,7 @@ use Rattle.hol_exec.specs.Local.{opens, opens_read, IsOpening, run_outcome, at_s
 use Rattle.hol_exec.specs.Lookups.{reading_basis}
 use Rattle.hol_exec.specs.Standing.{first_taken}
 use Rattle.hol_exec.specs.ExprValue.{TacArgsValue, Nothing, ExprValue, Calls}
-use Rattle.hol_exec.specs.Expr.{ResolutionValue, Resolved, Unresolved, RunResult, Leaving, RefusedBy, OutOfTurns, run_result, run_call, run_expr}
+use Rattle.hol_exec.specs.Expr.{ResolutionValue, Resolved, Unresolved, RunResult, Leaving, LargeGoal, RefusedBy, OutOfTurns, has_large, run_result, run_call, run_expr}
 use Rattle.hol_exec.specs.declared.refusal.RefusalKind.TheVariants as refusal
 use Rattle.hol_exec.specs.Entry.{Entries, EachIsEntry}
 use Rattle.hol_exec.specs.At.{IsOutcome, IsOutcomeAt}
@@ -60,6 +60,7 @@ module _ (goal : GoalValue) (goals : List GoalValue) (basis : Items) where
 
   run_first : (g : GoalValue) (b : Items) (r : RunResult) → Leaves goal goals basis ≡ run_outcome g b r → g ≡ goal
   run_first g b (Leaving more) e = cc
+  run_first g b LargeGoal e = absurd (cc)
   run_first g b (RefusedBy name) e = absurd (cc)
   run_first g b OutOfTurns e = absurd (cc)
 
@@ -158,8 +159,12 @@ call_closes name code args goal goals used (suc turns) e = by (tac code args goa
     left : UsedValue
     left = record used { turns_left = turns }
 
+    kept : (gs : List GoalValue) (large : Bool) → Leaving goals ≡ cond large LargeGoal (Leaving gs) → gs ≡ goals
+    kept gs true g = absurd (cc)
+    kept gs false g = cc
+
     by : (a : AnswerResult) → a ≡ (tac code args goal left).result → Leaving goals ≡ run_result name a → (goals ≡ []) × IsReflexive goal.conclusion
-    by (Left gs) f g = let same : gs ≡ goals = cc in rw same at (tac_closes code args goal gs left f)
+    by (Left gs) f g = let same : gs ≡ goals = kept gs (has_large gs) g in rw same at (tac_closes code args goal gs left f)
     by Unfit f g = absurd (cc)
 
 run_closes : (e : ExprValue) (goal : GoalValue) (goals : List GoalValue) (used : UsedValue) → Leaving goals ≡ (run_expr e goal used).result → (goals ≡ []) × IsReflexive goal.conclusion
