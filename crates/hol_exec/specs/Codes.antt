@@ -7,13 +7,13 @@ use Rattle.hol_terms.specs.Nameless.{Nameless}
 use Rattle.hol_terms.specs.Code.{coded_nameless}
 use Rattle.hol_kernel.specs.Items.{Items, items_code}
 use Rattle.hol_kernel.specs.Theorem.{Theorem, theorem_code}
+use Rattle.hol_goal.specs.Goal.{GoalValue, goal_code}
 use Rattle.hol_exec.specs.declared.key.Kind.{Kind}
 use Rattle.hol_exec.specs.declared.key.Kind.TheVariants as key_kind
 use Rattle.hol_exec.specs.declared.refusal.RefusalKind.{RefusalKind}
 use Rattle.hol_exec.specs.declared.refusal.RefusalKind.TheVariants.{Syntax, InProof, NoProofOpen, UnknownTheorem, UnknownTac, Untypable, NotBool, Arity, NameTaken, TooLarge, NoGoalOpen, Refused, TurnLimit, GoalsRemain}
 use Rattle.hol_exec.specs.Key.{KeyValue, kind_rank}
 use Rattle.hol_exec.specs.Entry.{EntryValue, ATheorem, Entries}
-use Rattle.hol_goal.specs.Goal.{GoalValue, goal_code}
 use Rattle.hol_exec.specs.StateValue.{StepValue, ProofValue, StateValue}
 use Rattle.hol_exec.specs.ReadsValue.{ClosingValue, Values, ReadsValue}
 use Rattle.hol_exec.specs.OutcomeValue.{OutcomeValue, Opens, Leaves, Makes, Refuses}

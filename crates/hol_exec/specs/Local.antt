@@ -10,9 +10,9 @@ use Rattle.hol_kernel.specs.Theorem.{theorem_over}
 use Rattle.hol_kernel.specs.Typing.{is_type_at}
 use Rattle.hol_notation_terms.specs.Text.{QuotationText}
 use Rattle.hol_notation_tactics.specs.Text.{TacText}
-use Rattle.hol_exec.specs.declared.refusal.RefusalKind.TheVariants as refusal
 use Rattle.hol_goal.specs.Goal.{GoalValue}
 use Rattle.hol_goal.specs.Answer.{UsedValue}
+use Rattle.hol_exec.specs.declared.refusal.RefusalKind.TheVariants as refusal
 use Rattle.hol_exec.specs.Key.{KeyValue, theorem_key, key_text}
 use Rattle.hol_exec.specs.Entry.{ATheorem}
 use Rattle.hol_exec.specs.Setup.{SetupValue}

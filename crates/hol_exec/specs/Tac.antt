@@ -5,14 +5,14 @@ use Rattle.std.specs.Map.{lookup}
 use Rattle.hol_terms.specs.Alpha.{alpha_eq}
 use Rattle.hol_formulas.specs.Equation.{Sides, dest_eq}
 use Rattle.hol_notation_tactics.specs.Text.{ArgumentText, CallText}
+use Rattle.hol_goal.specs.Goal.{GoalValue}
+use Rattle.hol_goal.specs.Answer.{UsedValue, AnswerValue, answered}
 use Rattle.hol_exec.specs.declared.tac.ArgumentKind.{ArgumentKind}
 use Rattle.hol_exec.specs.declared.tac.ArgumentKind.TheVariants.{NoArguments}
 use Rattle.hol_exec.specs.declared.tac.CallRole.{CallRole}
 use Rattle.hol_exec.specs.declared.tac.CallRole.TheVariants.{Whole, TheoremTactic}
 use Rattle.hol_exec.specs.declared.tac.TacCode.{TacCode}
 use Rattle.hol_exec.specs.declared.tac.TacCode.TheVariants.{ReflTac}
-use Rattle.hol_goal.specs.Goal.{GoalValue}
-use Rattle.hol_goal.specs.Answer.{UsedValue, AnswerValue, answered}
 use Rattle.hol_exec.specs.Setup.{SetupValue}
 use Rattle.hol_exec.specs.ExprValue.{TacArgsValue, Nothing}
 use Rattle.hol_exec.specs.ReadsValue.{Values}

@@ -1,6 +1,5 @@
 -- What the code's arguments, calls and answers of TACs stand for.
 use Rattle.std.specs.Prelude.{Option, Some, None}
-use Rattle.hol_goal.specs.Goal.{GoalValue}
 use Rattle.hol_goal.specs.Answer.{UsedValue, AnswerResult, AnswerValue, Left, Unfit}
 use Rattle.hol_exec.specs.declared.tac.TacArgs.{TacArgs}
 use Rattle.hol_exec.specs.declared.tac.TacArgs.TheVariants as args

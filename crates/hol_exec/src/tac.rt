@@ -2,10 +2,10 @@
 ghost use Rattle.std.specs.Prelude.{◌≡◌, bytes_eq};
 ghost use Rattle.std.specs.Option.{option_map};
 ghost use Rattle.std.specs.Map.{lookup};
-ghost use Rattle.hol_goal.specs.Answer.{result_of, answered};
+ghost use Rattle.hol_goal.specs.Answer.{answered};
 ghost use Rattle.hol_exec.specs.SetupView.{setup_value};
 ghost use Rattle.hol_exec.specs.Tac.{arguments_of, kind_of, fits, named, called, tac, refl_tac};
-ghost use Rattle.hol_exec.specs.TacView.{args_value, called_value, called_option, used_value, tac_result, answer_value};
+ghost use Rattle.hol_exec.specs.TacView.{args_value, called_value, called_option, used_value, answer_value};
 
 use crate::reads::Reads;
 use crate::setup::{Setup, code_of};
