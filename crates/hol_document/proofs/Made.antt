@@ -100,7 +100,7 @@ rows_made setup earlier before s (text ∷ texts) (row ∷ rows) last h k m =
     subst (λ done. All (IsMadeIn done) last.entries) (append_assoc before (row ∷ []) rows)
     (rows_made setup earlier (before ++ row ∷ []) (after s row.outcome) texts rows last h.1
     (goal_next s row.outcome ∙ (ap (λ g. goal_after g row.outcome) k ∙ sym (open_goal_more None before row)))
-    (next_made before row s row.outcome refl m (row_finishes setup earlier before s row.value row.outcome h.0.gets k)))
+    (next_made before row s row.outcome refl m (row_finishes setup earlier before s row.value row.reads row.outcome h.0.read h.0.gets k)))
 
 pub entries_made : (setup : SetupValue) (earlier : List EndedTheory) (texts : List (List ℕ)) (rows : List Row) (last : StateValue)
     → AreRows setup earlier start texts rows last → All (IsMadeIn rows) last.entries

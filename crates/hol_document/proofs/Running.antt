@@ -26,13 +26,14 @@ use Rattle.hol_document.proofs.Made.{entries_made}
 
 -- the outcome of what a text is, is that of a row
 pub row_of : (setup : SetupValue) (earlier : List EndedTheory) (s : StateValue) (text : List ℕ) (value : ParsedValue) (outcome : OutcomeValue)
-    → IsParsed text value → IsOutcome setup earlier s value outcome → HasOutcome setup earlier s text outcome
+    → IsParsed text value → IsOutcome setup earlier s value (reads_at value s) outcome → HasOutcome setup earlier s text outcome
 row_of setup earlier s text value outcome parsed gets =
     (record { value = value; reads = reads_at value s; outcome = outcome }, record { parsed = parsed; read = refl; gets = gets }, refl)
 
 pub outcome_at : (setup : SetupValue) (earlier : List EndedTheory) (s : StateValue) (text : List ℕ) (outcome : OutcomeValue)
     → HasOutcome setup earlier s text outcome → IsOutcomeAt s outcome
-outcome_at setup earlier s text outcome (row, is, same) = (setup, earlier, row.value, rw same at is.gets)
+outcome_at setup earlier s text outcome (row, is, same) =
+    record { setup = setup; earlier = earlier; value = row.value; reads = row.reads; read = is.read; gets = rw same at is.gets }
 
 rows_more : (setup : SetupValue) (earlier : List EndedTheory) (s mid : StateValue) (texts : List (List ℕ)) (text : List ℕ) (rows : List Row) (row : Row)
     → AreRows setup earlier s texts rows mid → IsRow setup earlier mid text row → AreRows setup earlier s (texts ++ text ∷ []) (rows ++ row ∷ []) (after mid row.outcome)
@@ -79,7 +80,7 @@ ends_next setup theories i theory ends ends' s h is (runs, are, same) (rows, lea
 
 -- the outcome of what a text is, where it is known to be that, is that of a row
 pub rows_of : {E : Type 0} (setup : SetupValue) (earlier : List EndedTheory) (s : StateValue) (text : List ℕ) (value known : ParsedValue) (r : Result OutcomeValue E)
-    → IsParsed text value → value ≡ known → IfOk r (IsOutcome setup earlier s known) → IfOk r (HasOutcome setup earlier s text)
+    → IsParsed text value → value ≡ known → IfOk r (IsOutcome setup earlier s known (reads_at known s)) → IfOk r (HasOutcome setup earlier s text)
 rows_of setup earlier s text value known (Ok outcome) parsed is gets = row_of setup earlier s text value outcome parsed (rw is gets)
 rows_of setup earlier s text value known (Err e) parsed is gets = tt
 

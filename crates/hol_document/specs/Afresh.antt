@@ -5,12 +5,12 @@ use Rattle.std.specs.Prelude.{◌≡◌, ℕ, List, [], ◌∷◌, ◌++◌, Opt
 use Rattle.hol_exec.specs.Setup.{SetupValue}
 use Rattle.hol_exec.specs.Parsed.{ParsedValue, IsParsed}
 use Rattle.hol_exec.specs.StateValue.{StateValue, EndedTheory, start}
-use Rattle.hol_exec.specs.ReadsValue.{ReadsValue, reads_at}
+use Rattle.hol_exec.specs.ReadsValue.{ReadsValue, AreReads}
 use Rattle.hol_exec.specs.OutcomeValue.{OutcomeValue, after}
 use Rattle.hol_exec.specs.At.{IsOutcome}
 use Rattle.hol_document.specs.Documents.{TheoryText, Documents}
 
--- what running a text comes to: what it is to the engine, what that reads, and its outcome
+-- what running a text comes to: what it is to the engine, what that reads, and its outcome from these
 pub record Row : Type 0 where
   pub value : ParsedValue
   pub reads : Option ReadsValue
@@ -19,8 +19,8 @@ pub record Row : Type 0 where
 -- the row of a text at a state
 pub record IsRow (setup : SetupValue) (earlier : List EndedTheory) (s : StateValue) (text : List ℕ) (row : Row) : Type 0 where
   pub parsed : IsParsed text row.value
-  pub read : row.reads ≡ reads_at row.value s
-  pub gets : IsOutcome setup earlier s row.value row.outcome
+  pub read : AreReads row.value s row.reads
+  pub gets : IsOutcome setup earlier s row.value row.reads row.outcome
 
 -- The texts have these rows, each at the state that the one before it gives, and so lead from the first state to the last.
 abbrev pub AreRows : SetupValue → List EndedTheory → StateValue → List (List ℕ) → List Row → StateValue → Type 0

@@ -8,6 +8,9 @@ use Rattle.hol_terms.specs.Named.{Named}
 use Rattle.hol_kernel.specs.Item.{Item}
 use Rattle.hol_exec.specs.ReadsValue.{ReadsValue}
 use Rattle.hol_exec.specs.SameReads.{same_reads, same_reads_are}
+use Rattle.hol_exec.specs.declared.parsed.LocalCommand.{LocalCommand}
+use Rattle.hol_exec.specs.ParsedView.{local_text}
+use Rattle.hol_exec.specs.SameCommand.{same_texts_are, same_command}
 use Rattle.hol_kernel.specs.Items.{Items, item_set, in_order}
 use Rattle.hol_subst.specs.AlphaOrder.{nameless_cmp}
 use Rattle.hol_kernel.specs.Sequent.{Hyps, hyp_of, hyps_of}
@@ -53,4 +56,14 @@ test_is false a b h = by (same_reads a b) refl
   where
     by : (w : Bool) → same_reads a b ≡ w → false ≡ w
     by true e = h.1 ((same_reads_are a b).0 e)
+    by false e = refl
+
+-- ---- commands
+
+pub same_command_is : (r : Bool) (a b : LocalCommand) → IsTrue r ↔ (local_text a ≡ local_text b) → r ≡ same_command a b
+same_command_is true a b h = sym ((same_texts_are (local_text a) (local_text b)).1 (h.0 refl))
+same_command_is false a b h = by (same_command a b) refl
+  where
+    by : (w : Bool) → same_command a b ≡ w → false ≡ w
+    by true e = h.1 ((same_texts_are (local_text a) (local_text b)).0 e)
     by false e = refl

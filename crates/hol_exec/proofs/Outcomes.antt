@@ -9,25 +9,26 @@ use Rattle.hol_kernel.specs.Items.{Items, no_items}
 use Rattle.hol_formulas.specs.Equation.{bool_type, Sides, dest_eq}
 use Rattle.hol_kernel.specs.Typing.{is_type_at}
 use Rattle.hol_terms.specs.Alpha.{alpha_eq}
-use Rattle.hol_exec.specs.Goal.{GoalValue}
+use Rattle.hol_goal.specs.Goal.{GoalValue}
+use Rattle.hol_goal.specs.Answer.{UsedValue, AnswerResult, Left, Unfit, result_of}
 use Rattle.hol_exec.specs.Key.{KeyValue}
 use Rattle.hol_exec.specs.Setup.{SetupValue}
 use Rattle.hol_exec.specs.Parsed.{LocalText, Goal, Apply, Qed, Unread, ParsedValue, Local, Direct}
 use Rattle.hol_exec.specs.Reading.{ReadingValue, WrongArity, NoTyping, LargeReading, ReadsAs}
 use Rattle.hol_exec.specs.StateValue.{ProofValue, StateValue, EndedTheory}
-use Rattle.hol_exec.specs.ReadsValue.{ReadsValue, ClosingValue, reads_of, first_goal, first_of}
+use Rattle.hol_exec.specs.ReadsValue.{ReadsValue, ClosingValue, reads_of, AreReads, first_goal, first_of}
 use Rattle.hol_exec.specs.OutcomeValue.{OutcomeValue, Opens, Leaves, Makes, Refuses, MakesTheorems}
 use Rattle.hol_exec.specs.Local.{opens, opens_read, IsOpening, run_outcome, at_start, applied, resolved_outcome, IsApplying, finishes, IsLocalOutcome}
 use Rattle.hol_exec.specs.Lookups.{reading_basis}
 use Rattle.hol_exec.specs.Standing.{first_taken}
 use Rattle.hol_exec.specs.ExprValue.{TacArgsValue, Nothing, ExprValue, Calls}
-use Rattle.hol_exec.specs.Expr.{ResolutionValue, Resolved, Unresolved, RunResult, Leaving, RefusedBy, OutOfTurns, run_result, run_call, run_expr}
+use Rattle.hol_exec.specs.Expr.{ResolutionValue, Resolved, Unresolved, RunResult, Leaving, LargeGoal, RefusedBy, OutOfTurns, has_large, run_result, run_call, run_expr}
 use Rattle.hol_exec.specs.declared.refusal.RefusalKind.TheVariants as refusal
 use Rattle.hol_exec.specs.Entry.{Entries, EachIsEntry}
 use Rattle.hol_exec.specs.At.{IsOutcome, IsOutcomeAt}
 use Rattle.hol_exec.specs.declared.tac.TacCode.{TacCode}
 use Rattle.hol_exec.specs.declared.tac.TacCode.TheVariants.{ReflTac}
-use Rattle.hol_exec.specs.Tac.{UsedValue, AnswerResult, Left, Unfit, tac, closes_sides}
+use Rattle.hol_exec.specs.Tac.{tac, closes_sides}
 use Rattle.hol_exec.specs.Valid.{IsStatement, IsReflexive, IsSoundProof, IsSoundClosing, IsValid, Proves}
 
 module _ (goal : GoalValue) (goals : List GoalValue) (basis : Items) where
@@ -59,6 +60,7 @@ module _ (goal : GoalValue) (goals : List GoalValue) (basis : Items) where
 
   run_first : (g : GoalValue) (b : Items) (r : RunResult) → Leaves goal goals basis ≡ run_outcome g b r → g ≡ goal
   run_first g b (Leaving more) e = cc
+  run_first g b LargeGoal e = absurd (cc)
   run_first g b (RefusedBy name) e = absurd (cc)
   run_first g b OutOfTurns e = absurd (cc)
 
@@ -79,9 +81,12 @@ module _ (goal : GoalValue) (goals : List GoalValue) (basis : Items) where
   local_first setup (Apply tactic) s h = applying_first _ setup tactic (reads_of (Apply tactic) s) h
   local_first setup Qed s h = absurd (finish_none (reads_of Qed s).closing h)
 
-  outcome_first : (setup : SetupValue) (earlier : List EndedTheory) (s : StateValue) (value : ParsedValue) → IsOutcome setup earlier s value (Leaves goal goals basis) → first_goal s.proof ≡ Some goal
-  outcome_first setup earlier s (Local command) h = local_first setup command s h
-  outcome_first setup earlier s (Direct (Unread place)) h = absurd (cc)
+  outcome_first : (setup : SetupValue) (earlier : List EndedTheory) (s : StateValue) (value : ParsedValue) (reads : Option ReadsValue) →
+      AreReads value s reads → IsOutcome setup earlier s value reads (Leaves goal goals basis) → first_goal s.proof ≡ Some goal
+  outcome_first setup earlier s (Local command) None are h = absurd h
+  outcome_first setup earlier s (Local command) (Some reads) are h = let same : reads ≡ reads_of command s = cc in local_first setup command s (rw same at h)
+  outcome_first setup earlier s (Direct (Unread place)) None are h = absurd (cc)
+  outcome_first setup earlier s (Direct (Unread place)) (Some reads) are h = absurd h
 
   -- the proof whose first goal is proved by reflexivity
   closes_proof : (p : ProofValue) → IsSoundProof p → first_of p.newest.goals ≡ Some goal → IsReflexive goal.conclusion → IsReflexive p.statement
@@ -98,7 +103,7 @@ pub step_closes : (s : StateValue) (outcome : OutcomeValue) → IsOutcomeAt s ou
 step_closes s outcome h sound goal goals basis e closed = by s.proof refl sound
   where
     first : first_goal s.proof ≡ Some goal
-    first = outcome_first goal goals basis h.0 h.1 s h.2 (rw e at h.3)
+    first = outcome_first goal goals basis h.setup h.earlier s h.value h.reads h.read (rw e at h.gets)
 
     by : (o : Option ProofValue) → s.proof ≡ o → IfSome o IsSoundProof → IfSome o (λ p. IsReflexive p.statement)
     by None z k = tt
@@ -138,11 +143,11 @@ makes_theorems (Refuses kind arg) h = tt
 tac_closes : (code : TacCode) (args : TacArgsValue) (goal : GoalValue) (goals : List GoalValue) (used : UsedValue) → Left goals ≡ (tac code args goal used).result → (goals ≡ []) × IsReflexive goal.conclusion
 tac_closes ReflTac Nothing goal goals used e = found (dest_eq goal.conclusion) refl e
   where
-    same : (x : Sides) (w : Bool) → dest_eq goal.conclusion ≡ Some x → alpha_eq x.left x.right ≡ w → Left goals ≡ cond w (Left []) Unfit → (goals ≡ []) × IsReflexive goal.conclusion
+    same : (x : Sides) (w : Bool) → dest_eq goal.conclusion ≡ Some x → alpha_eq x.left x.right ≡ w → Left goals ≡ result_of (cond w (Some []) None) → (goals ≡ []) × IsReflexive goal.conclusion
     same x true f g h = let none : goals ≡ [] = cc in (none, record { sides = x; equates = f; same = g })
     same x false f g h = absurd (cc)
 
-    found : (o : Option Sides) → dest_eq goal.conclusion ≡ o → Left goals ≡ closes_sides o → (goals ≡ []) × IsReflexive goal.conclusion
+    found : (o : Option Sides) → dest_eq goal.conclusion ≡ o → Left goals ≡ result_of (closes_sides o) → (goals ≡ []) × IsReflexive goal.conclusion
     found None f g = absurd (cc)
     found (Some x) f g = same x (alpha_eq x.left x.right) f refl g
 
@@ -154,8 +159,12 @@ call_closes name code args goal goals used (suc turns) e = by (tac code args goa
     left : UsedValue
     left = record used { turns_left = turns }
 
+    kept : (gs : List GoalValue) (large : Bool) → Leaving goals ≡ cond large LargeGoal (Leaving gs) → gs ≡ goals
+    kept gs true g = absurd (cc)
+    kept gs false g = cc
+
     by : (a : AnswerResult) → a ≡ (tac code args goal left).result → Leaving goals ≡ run_result name a → (goals ≡ []) × IsReflexive goal.conclusion
-    by (Left gs) f g = let same : gs ≡ goals = cc in rw same at (tac_closes code args goal gs left f)
+    by (Left gs) f g = let same : gs ≡ goals = kept gs (has_large gs) g in rw same at (tac_closes code args goal gs left f)
     by Unfit f g = absurd (cc)
 
 run_closes : (e : ExprValue) (goal : GoalValue) (goals : List GoalValue) (used : UsedValue) → Leaving goals ≡ (run_expr e goal used).result → (goals ≡ []) × IsReflexive goal.conclusion

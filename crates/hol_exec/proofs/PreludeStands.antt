@@ -1,4 +1,4 @@
--- What stands for readings today is the prelude alone, and what a quotation reads as is well typed over it.
+-- What stands for readings is the prelude alone, and what a quotation reads as is well typed over it.
 use Rattle.std.specs.Prelude.{◌≡◌, ℕ, Bool, true, false, cond, ◌&&◌, ◌||◌, ◌==◌, List, [], ◌∷◌, ◌++◌, bytes_eq, codes, Option, Some, None, refl, suc}
 use Rattle.std.specs.List.{list_any, list_all}
 use Rattle.std.proofs.Common.{ap, sym, ◌∙◌}
@@ -13,6 +13,8 @@ use Rattle.hol_kernel.specs.Signature.{makes_type, makes_constant, has_arity, ha
 use Rattle.hol_formulas.specs.Constants.{prelude_types, prelude_constants, is_constructor, generic_in, is_instance_of}
 use Rattle.hol_kernel.specs.Typing.{types_count, is_type, are_types, is_known}
 use Rattle.hol_formulas.proofs.Instance.{instance_of_subst}
+use Rattle.hol_kernel.proofs.ItemOrder.{total, only}
+use Rattle.hol_kernel.proofs.SortedSets.{union_none_left}
 use Rattle.hol_notation_terms.specs.Text.{TermText}
 use Rattle.hol_infer.specs.Resolving.{arity_of, generic_type_of}
 use Rattle.hol_infer.specs.Standing.{stands, all_stand, TermStands, AreStanding, types_count as count}
@@ -134,5 +136,5 @@ reading_known cited t p h = known_reading (lookups_of cited) t p (same_lookups c
 
 pub no_basis : (cited : Values) (p : Nameless) → reading_basis cited p ≡ no_items
 no_basis [] p = refl
-no_basis ((key, None) ∷ more) p = no_basis more p
-no_basis ((key, Some (ATheorem th)) ∷ more) p = no_basis more p
+no_basis ((key, None) ∷ more) p = union_none_left total only (reading_basis more p) ∙ no_basis more p
+no_basis ((key, Some (ATheorem th)) ∷ more) p = union_none_left total only (reading_basis more p) ∙ no_basis more p

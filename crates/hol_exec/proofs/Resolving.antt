@@ -2,6 +2,7 @@
 use Rattle.std.specs.Prelude.{◌≡◌, ℕ, List, Option, Some, None, IsSome, cond, is_some, refl}
 use Rattle.hol_kernel.specs.Items.{Items, no_items}
 use Rattle.hol_notation_tactics.specs.Text.{ArgumentText, CallText, TacText, Call, Then, ThenL, OrElse, Repeat, Try, Changed, Every, First, Replicate, DischThen, PopAssum, FirstAssum, SubgoalThen}
+use Rattle.hol_exec.specs.declared.refusal.RefusalKind.{RefusalKind}
 use Rattle.hol_exec.specs.declared.refusal.RefusalKind.TheVariants as refusal
 use Rattle.hol_exec.specs.declared.tac.ArgumentKind.{ArgumentKind}
 use Rattle.hol_exec.specs.declared.tac.ArgumentKind.TheVariants.{NoArguments}
@@ -11,7 +12,7 @@ use Rattle.hol_exec.specs.ReadsValue.{Values}
 use Rattle.hol_exec.specs.Standing.{first_unknown}
 use Rattle.hol_exec.specs.ExprValue.{ExprValue, Calls, TacArgsValue, Nothing}
 use Rattle.hol_exec.specs.Tac.{arguments_of, CalledValue, called}
-use Rattle.hol_exec.specs.Expr.{AreArguments, IsExpr, ResolutionValue, Resolved, Unresolved, calls_of, first_unfit, IsResolvedFitting, IsResolvedKnown, IsResolvedCited, IsResolution}
+use Rattle.hol_exec.specs.Expr.{AreArguments, IsCallExpr, ResolutionValue, Resolved, Unresolved, calls_of, first_unfit, named_refusals, first_refusal, IsResolvedFitting, IsResolvedPast, IsResolution}
 
 module _ (setup : SetupValue) (cited : Values) where
   -- a call that is a whole expression
@@ -37,7 +38,7 @@ module _ (setup : SetupValue) (cited : Values) where
   arguments_basis : (kind : ArgumentKind) (arguments : List ArgumentText) (args : TacArgsValue) (basis : Items) → AreArguments kind arguments cited args basis → basis ≡ no_items
   arguments_basis NoArguments arguments Nothing basis h = h
 
-  expr_basis : (call : CallText) (e : ExprValue) (basis : Items) → IsExpr setup call cited e basis → basis ≡ no_items
+  expr_basis : (call : CallText) (e : ExprValue) (basis : Items) → IsCallExpr setup Whole call cited e basis → basis ≡ no_items
   expr_basis call (Calls name code args) basis h = arguments_basis (arguments_of code) call.arguments args basis h.2
 
   fitting_basis : (tactic : TacText) (e : ExprValue) (basis : Items) → IsResolvedFitting setup tactic cited (Resolved e basis) → basis ≡ no_items
@@ -57,13 +58,9 @@ module _ (setup : SetupValue) (cited : Values) where
   fitting_basis (SubgoalThen p call) e basis h = absurd (cc)
 
   module _ (tactic : TacText) where
-    known_basis : (unfit : Option (List ℕ)) (e : ExprValue) (basis : Items) → IsResolvedKnown setup tactic cited unfit (Resolved e basis) → basis ≡ no_items
-    known_basis (Some name) e basis h = absurd (cc)
-    known_basis None e basis h = fitting_basis tactic e basis h
-
-    cited_basis : (unknown : Option (List ℕ)) (e : ExprValue) (basis : Items) → IsResolvedCited setup tactic cited unknown (Resolved e basis) → basis ≡ no_items
-    cited_basis (Some name) e basis h = absurd (cc)
-    cited_basis None e basis h = known_basis (first_unfit setup (calls_of tactic) cited) e basis h
+    past_basis : (o : Option (RefusalKind × List ℕ)) (e : ExprValue) (basis : Items) → IsResolvedPast setup tactic cited o (Resolved e basis) → basis ≡ no_items
+    past_basis (Some refused) e basis h = absurd (cc)
+    past_basis None e basis h = fitting_basis tactic e basis h
 
     pub resolved_basis : (e : ExprValue) (basis : Items) → IsResolution setup tactic cited (Resolved e basis) → basis ≡ no_items
-    resolved_basis e basis h = cited_basis (first_unknown cited) e basis h
+    resolved_basis e basis h = past_basis (first_refusal (named_refusals setup tactic cited)) e basis h

@@ -1,13 +1,15 @@
--- What elaboration says of a term.
+-- What elaboration says of a term, and what a statement is.
 use Rattle.std.specs.Prelude.{◌≡◌, ℕ, Bool, true, List, [], Option, Some, None}
 use Rattle.std.proofs.Common.{ap, sym, ◌∙◌}
 use Rattle.hol_types.specs.Tree.{TypeTree}
 use Rattle.hol_types.proofs.OrderLaws.{type_cmp_decides}
-use Rattle.hol_terms.specs.Nameless.{Nameless, nameless_type}
+use Rattle.hol_terms.specs.Named.{Named, named_type}
+use Rattle.hol_terms.specs.Nameless.{Nameless, nameless, nameless_type}
+use Rattle.hol_terms.proofs.Typing.{type_outside}
 use Rattle.hol_formulas.specs.Equation.{bool_type}
-use Rattle.hol_kernel.specs.Items.{no_items}
+use Rattle.hol_kernel.specs.Items.{Items, no_items}
 use Rattle.hol_kernel.specs.Typing.{is_type_at, is_known}
-use Rattle.hol_kernel.proofs.Variables.{typed_known}
+use Rattle.hol_kernel.proofs.Variables.{typed_known, known_typed}
 use Rattle.hol_notation_terms.specs.Text.{TermText}
 use Rattle.hol_infer.specs.Resolving.{raw_of, term_has_arities}
 use Rattle.hol_exec.specs.ReadsValue.{Values}
@@ -25,3 +27,7 @@ of_bool (Some a) e = ap Some ((type_cmp_decides a bool_type).0 e)
 
 pub statement_typed : (p : Nameless) (b : Bool) → is_known no_items p ≡ true → b ≡ true → b ≡ is_type_at (nameless_type [] p) bool_type → IsStatement no_items p
 statement_typed p b known e f = typed_known no_items p bool_type known (of_bool (nameless_type [] p) (sym f ∙ e))
+
+-- a statement, as it is made, is a term of type bool
+pub formula_of : (basis : Items) (t : Named) → IsStatement basis (nameless [] t) → named_type t ≡ Some bool_type
+formula_of basis t h = sym (type_outside t) ∙ (known_typed basis (nameless [] t) bool_type h).1

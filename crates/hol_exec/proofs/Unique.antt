@@ -14,14 +14,15 @@ use Rattle.hol_exec.specs.Parsed.{LocalText, Goal, Apply, Qed, ParsedValue, Loca
 use Rattle.hol_exec.specs.Lookups.{LookupsValue, lookups_of}
 use Rattle.hol_exec.specs.Reading.{ReadingValue, WrongArity, NoTyping, LargeReading, ReadsAs, IsReadAs, IsTermReadAs}
 use Rattle.hol_exec.specs.StateValue.{StateValue, EndedTheory}
-use Rattle.hol_exec.specs.ReadsValue.{ReadsValue, Values, reads_of}
+use Rattle.hol_exec.specs.ReadsValue.{ReadsValue, Values}
+use Rattle.hol_exec.specs.declared.refusal.RefusalKind.{RefusalKind}
 use Rattle.hol_exec.specs.declared.tac.ArgumentKind.{ArgumentKind}
 use Rattle.hol_exec.specs.declared.tac.ArgumentKind.TheVariants.{NoArguments}
+use Rattle.hol_exec.specs.declared.tac.CallRole.TheVariants.{Whole}
 use Rattle.hol_exec.specs.declared.tac.TacCode.{TacCode}
-use Rattle.hol_exec.specs.Standing.{first_unknown}
 use Rattle.hol_exec.specs.ExprValue.{ExprValue, Calls, TacArgsValue, Nothing}
 use Rattle.hol_exec.specs.Tac.{arguments_of, Registered}
-use Rattle.hol_exec.specs.Expr.{AreArguments, IsExpr, ResolutionValue, Resolved, Unresolved, calls_of, first_unfit, IsResolvedCall, IsResolvedFitting, IsResolvedKnown, IsResolvedCited}
+use Rattle.hol_exec.specs.Expr.{AreArguments, IsCallExpr, ResolutionValue, Resolved, Unresolved, named_refusals, first_refusal, IsResolvedCall, IsResolvedFitting, IsResolvedPast}
 use Rattle.hol_exec.specs.OutcomeValue.{OutcomeValue}
 use Rattle.hol_exec.specs.Local.{opens_read, IsOpening, resolved_outcome, IsApplying, IsLocalOutcome}
 use Rattle.hol_exec.specs.At.{IsOutcome}
@@ -72,7 +73,7 @@ module _ (setup : SetupValue) (cited : Values) where
   one_arguments : (kind : ArgumentKind) (arguments : List ArgumentText) (a b : TacArgsValue) (x y : Items) → AreArguments kind arguments cited a x → AreArguments kind arguments cited b y → (a ≡ b) × (x ≡ y)
   one_arguments NoArguments arguments Nothing Nothing x y p q = (refl, p ∙ sym q)
 
-  one_expr : (call : CallText) (a b : ExprValue) (x y : Items) → IsExpr setup call cited a x → IsExpr setup call cited b y → (a ≡ b) × (x ≡ y)
+  one_expr : (call : CallText) (a b : ExprValue) (x y : Items) → IsCallExpr setup Whole call cited a x → IsCallExpr setup Whole call cited b y → (a ≡ b) × (x ≡ y)
   one_expr call (Calls m c s) (Calls n d t) x y p q =
       let names : m ≡ n = p.0 ∙ sym q.0 in
       let some : Some (Registered c) ≡ Some (Registered d) = sym p.1 ∙ q.1 in
@@ -101,13 +102,9 @@ module _ (setup : SetupValue) (cited : Values) where
   one_fitting (FirstAssum call) a b p q = p ∙ sym q
   one_fitting (SubgoalThen term call) a b p q = p ∙ sym q
 
-  one_known : (tactic : TacText) (unfit : Option (List ℕ)) (a b : ResolutionValue) → IsResolvedKnown setup tactic cited unfit a → IsResolvedKnown setup tactic cited unfit b → a ≡ b
-  one_known tactic (Some name) a b p q = p ∙ sym q
-  one_known tactic None a b p q = one_fitting tactic a b p q
-
-  one_cited : (tactic : TacText) (unknown : Option (List ℕ)) (a b : ResolutionValue) → IsResolvedCited setup tactic cited unknown a → IsResolvedCited setup tactic cited unknown b → a ≡ b
-  one_cited tactic (Some name) a b p q = p ∙ sym q
-  one_cited tactic None a b p q = one_known tactic (first_unfit setup (calls_of tactic) cited) a b p q
+  one_past : (tactic : TacText) (o : Option (RefusalKind × List ℕ)) (a b : ResolutionValue) → IsResolvedPast setup tactic cited o a → IsResolvedPast setup tactic cited o b → a ≡ b
+  one_past tactic (Some refused) a b p q = p ∙ sym q
+  one_past tactic None a b p q = one_fitting tactic a b p q
 
 -- ---- outcomes
 
@@ -119,13 +116,16 @@ one_opening false name quotation reads a b p q =
 one_applying : (in_proof : Bool) (setup : SetupValue) (tactic : TacText) (reads : ReadsValue) (a b : OutcomeValue) → IsApplying in_proof setup tactic reads a → IsApplying in_proof setup tactic reads b → a ≡ b
 one_applying false setup tactic reads a b p q = p ∙ sym q
 one_applying true setup tactic reads a b p q =
-    p.2 ∙ ap (resolved_outcome reads.goal setup.turns) (one_cited setup reads.cited tactic (first_unknown reads.cited) p.0 q.0 p.1 q.1) ∙ sym q.2
+    p.2 ∙ ap (resolved_outcome reads.goal setup.turns) (one_past setup reads.cited tactic (first_refusal (named_refusals setup tactic reads.cited)) p.0 q.0 p.1 q.1) ∙ sym q.2
 
 pub one_local : (setup : SetupValue) (command : LocalText) (reads : ReadsValue) (a b : OutcomeValue) → IsLocalOutcome setup command reads a → IsLocalOutcome setup command reads b → a ≡ b
 one_local setup (Goal name quotation) reads a b p q = one_opening reads.in_proof name quotation reads a b p q
 one_local setup (Apply tactic) reads a b p q = one_applying reads.in_proof setup tactic reads a b p q
 one_local setup Qed reads a b p q = p ∙ sym q
 
-pub one_outcome : (setup : SetupValue) (earlier : List EndedTheory) (s : StateValue) (value : ParsedValue) (a b : OutcomeValue) → IsOutcome setup earlier s value a → IsOutcome setup earlier s value b → a ≡ b
-one_outcome setup earlier s (Local command) a b p q = one_local setup command (reads_of command s) a b p q
-one_outcome setup earlier s (Direct command) a b p q = p ∙ sym q
+pub one_outcome : (setup : SetupValue) (earlier : List EndedTheory) (s : StateValue) (value : ParsedValue) (reads : Option ReadsValue) (a b : OutcomeValue) →
+    IsOutcome setup earlier s value reads a → IsOutcome setup earlier s value reads b → a ≡ b
+one_outcome setup earlier s (Local command) None a b p q = absurd p
+one_outcome setup earlier s (Local command) (Some reads) a b p q = one_local setup command reads a b p q
+one_outcome setup earlier s (Direct command) None a b p q = p ∙ sym q
+one_outcome setup earlier s (Direct command) (Some reads) a b p q = absurd p

@@ -1,4 +1,4 @@
--- How the logic stores keys, entries, goals, proofs, states, reads and outcomes.
+-- How the logic stores keys, entries, proofs, states, reads and outcomes.
 use Rattle.std.specs.Prelude.{◌≡◌, ◌⊎◌, ◌==◌, ℕ, List, Option, Bool, if◌then◌else◌, refl}
 use Rattle.std.proofs.Common.{inl, inr}
 use Rattle.std.specs.Coded.{Coded, code_by, coded×, coded⊎, coded_ℕ, coded_bool, coded_list, coded_option}
@@ -7,13 +7,13 @@ use Rattle.hol_terms.specs.Nameless.{Nameless}
 use Rattle.hol_terms.specs.Code.{coded_nameless}
 use Rattle.hol_kernel.specs.Items.{Items, items_code}
 use Rattle.hol_kernel.specs.Theorem.{Theorem, theorem_code}
+use Rattle.hol_goal.specs.Goal.{GoalValue, goal_code}
 use Rattle.hol_exec.specs.declared.key.Kind.{Kind}
 use Rattle.hol_exec.specs.declared.key.Kind.TheVariants as key_kind
 use Rattle.hol_exec.specs.declared.refusal.RefusalKind.{RefusalKind}
 use Rattle.hol_exec.specs.declared.refusal.RefusalKind.TheVariants.{Syntax, InProof, NoProofOpen, UnknownTheorem, UnknownTac, Untypable, NotBool, Arity, NameTaken, TooLarge, NoGoalOpen, Refused, TurnLimit, GoalsRemain}
 use Rattle.hol_exec.specs.Key.{KeyValue, kind_rank}
 use Rattle.hol_exec.specs.Entry.{EntryValue, ATheorem, Entries}
-use Rattle.hol_exec.specs.Goal.{GoalValue}
 use Rattle.hol_exec.specs.StateValue.{StepValue, ProofValue, StateValue}
 use Rattle.hol_exec.specs.ReadsValue.{ClosingValue, Values, ReadsValue}
 use Rattle.hol_exec.specs.OutcomeValue.{OutcomeValue, Opens, Leaves, Makes, Refuses}
@@ -52,16 +52,9 @@ coded_entries = coded_list (coded× coded_key coded_entry)
 
 -- ---- states
 
-abbrev pub coded_goal : Coded GoalValue
-coded_goal =
-    code_by (List Nameless × Nameless) (coded× (coded_list coded_nameless) coded_nameless)
-    (λ g. (g.assumptions, g.conclusion))
-    (λ p. record { assumptions = p.0; conclusion = p.1 })
-    (λ _. refl)
-
 abbrev pub coded_step : Coded StepValue
 coded_step =
-    code_by (List GoalValue × Items) (coded× (coded_list coded_goal) items_code)
+    code_by (List GoalValue × Items) (coded× (coded_list goal_code) items_code)
     (λ s. (s.goals, s.basis))
     (λ p. record { goals = p.0; basis = p.1 })
     (λ _. refl)
@@ -96,7 +89,7 @@ coded_values = coded_list (coded× coded_key (coded_option coded_entry))
 abbrev pub coded_reads : Coded ReadsValue
 coded_reads =
     code_by ((Values × Values) × (Bool × (Option GoalValue × Option ClosingValue)))
-    (coded× (coded× coded_values coded_values) (coded× coded_bool (coded× (coded_option coded_goal) (coded_option coded_closing))))
+    (coded× (coded× coded_values coded_values) (coded× coded_bool (coded× (coded_option goal_code) (coded_option coded_closing))))
     (λ r. ((r.cited, r.made), (r.in_proof, (r.goal, r.closing))))
     (λ p. record { cited = p.0.0; made = p.0.1; in_proof = p.1.0; goal = p.1.1.0; closing = p.1.1.1 })
     (λ _. refl)
@@ -151,6 +144,6 @@ abbrev pub coded_outcome : Coded OutcomeValue
 coded_outcome =
     code_by Cases
     (coded⊎ (coded× coded_name (coded× coded_nameless items_code))
-    (coded⊎ (coded× coded_goal (coded× (coded_list coded_goal) items_code))
+    (coded⊎ (coded× goal_code (coded× (coded_list goal_code) items_code))
     (coded⊎ coded_entries (coded× (code_by ℕ coded_ℕ kind_number refusal_at refusal_back) coded_name))))
     cases outcome outcome_back

@@ -1,8 +1,11 @@
 -- Expressions of functions on goals: what they resolve to, and how they run.
 -- Sources: the tactics of the HOL Light Reference Manual; turns are this project's.
-use Rattle.std.specs.Prelude.{◌≡◌, ℕ, zero, suc, List, [], ◌∷◌, ◌++◌, cond, Option, Some, None, is_some}
+use Rattle.std.specs.Prelude.{◌≡◌, ℕ, zero, suc, List, [], ◌∷◌, ◌++◌, Bool, nat_lt, cond, Option, Some, None, is_some}
+use Rattle.std.specs.List.{list_any}
 use Rattle.hol_kernel.specs.Items.{Items, no_items}
 use Rattle.hol_notation_tactics.specs.Text.{ArgumentText, CallText, TacText, TacTexts, Call, Then, ThenL, OrElse, Repeat, Try, Changed, Every, First, Replicate, DischThen, PopAssum, FirstAssum, SubgoalThen, no_tacs, more_tacs}
+use Rattle.hol_goal.specs.Goal.{GoalValue, goal_size}
+use Rattle.hol_goal.specs.Answer.{UsedValue, AnswerResult, AnswerValue, Left, Unfit}
 use Rattle.hol_exec.specs.declared.tac.ArgumentKind.{ArgumentKind}
 use Rattle.hol_exec.specs.declared.tac.ArgumentKind.TheVariants.{NoArguments}
 use Rattle.hol_exec.specs.declared.tac.CallRole.{CallRole}
@@ -10,12 +13,11 @@ use Rattle.hol_exec.specs.declared.tac.CallRole.TheVariants.{Whole, TheoremTacti
 use Rattle.hol_exec.specs.declared.tac.TacCode.{TacCode}
 use Rattle.hol_exec.specs.declared.refusal.RefusalKind.{RefusalKind}
 use Rattle.hol_exec.specs.declared.refusal.RefusalKind.TheVariants as refusal
-use Rattle.hol_exec.specs.Goal.{GoalValue}
 use Rattle.hol_exec.specs.Setup.{SetupValue}
 use Rattle.hol_exec.specs.ExprValue.{TacArgsValue, Nothing, ExprValue, Calls}
 use Rattle.hol_exec.specs.ReadsValue.{Values}
 use Rattle.hol_exec.specs.Standing.{first_unknown}
-use Rattle.hol_exec.specs.Tac.{arguments_of, Registered, called, UsedValue, AnswerResult, AnswerValue, Left, Unfit, tac}
+use Rattle.hol_exec.specs.Tac.{arguments_of, Registered, called, tac}
 
 -- ---- resolved expressions
 
@@ -23,12 +25,12 @@ use Rattle.hol_exec.specs.Tac.{arguments_of, Registered, called, UsedValue, Answ
 abbrev pub AreArguments : ArgumentKind → List ArgumentText → Values → TacArgsValue → Items → Type 0
 AreArguments NoArguments arguments cited Nothing basis = basis ≡ no_items
 
--- a call resolves to the expression
-abbrev pub IsExpr : SetupValue → CallText → Values → ExprValue → Items → Type 0
-IsExpr setup call cited (Calls name code args) basis =
-    (name ≡ call.name) × (called setup Whole call cited ≡ Some (Registered code)) × AreArguments (arguments_of code) call.arguments cited args basis
+-- a call of the role resolves to the expression
+abbrev pub IsCallExpr : SetupValue → CallRole → CallText → Values → ExprValue → Items → Type 0
+IsCallExpr setup role call cited (Calls name code args) basis =
+    (name ≡ call.name) × (called setup role call cited ≡ Some (Registered code)) × AreArguments (arguments_of code) call.arguments cited args basis
 
--- ---- resolving, of one number all that is written before the next: unknown theorem; unknown TAC or wrong arguments
+-- ---- resolving, of one number all that is written before the next
 
 -- what resolving comes to: an expression that can be run, with the basis of all that was resolved, or the refusal
 pub data ResolutionValue : Type 0 where
@@ -62,16 +64,32 @@ abbrev pub first_unfit : SetupValue → List (CallRole × CallText) → Values �
 first_unfit setup [] cited = None
 first_unfit setup ((role, call) ∷ calls) cited = cond (is_some (called setup role call cited)) (first_unfit setup calls cited) (Some call.name)
 
+-- a name is refused
+abbrev pub refused_name : RefusalKind → Option (List ℕ) → Option (RefusalKind × List ℕ)
+refused_name kind None = None
+refused_name kind (Some name) = Some (kind, name)
+
+-- what is refused of the names, in order: an unknown theorem; a call that doesn't fit
+abbrev pub named_refusals : SetupValue → TacText → Values → List (Option (RefusalKind × List ℕ))
+named_refusals setup tactic cited =
+    refused_name refusal.UnknownTheorem (first_unknown cited) ∷ refused_name refusal.UnknownTac (first_unfit setup (calls_of tactic) cited) ∷ []
+
+abbrev pub first_refusal : List (Option (RefusalKind × List ℕ)) → Option (RefusalKind × List ℕ)
+first_refusal [] = None
+first_refusal (None ∷ more) = first_refusal more
+first_refusal (Some refused ∷ more) = Some refused
+
 -- a call that fits: nothing else is refused
 abbrev pub IsResolvedCall : SetupValue → CallText → Values → ResolutionValue → Type 0
-IsResolvedCall setup call cited (Resolved expr basis) = IsExpr setup call cited expr basis
+IsResolvedCall setup call cited (Resolved expr basis) = IsCallExpr setup Whole call cited expr basis
 IsResolvedCall setup call cited (Unresolved kind arg) = ⊥
 
 -- No tactical runs: a text with one is no command of this kind, and what is written would be refused.
 abbrev pub idle_tactical : ResolutionValue
 idle_tactical = Unresolved refusal.UnknownTac []
 
--- where all theorems are known and all calls fit
+-- Where all theorems are known and all calls fit. What is quoted is read after that and before anything is resolved; of a call that runs no
+-- argument is quoted, so no refusal of a reading stands here.
 abbrev pub IsResolvedFitting : SetupValue → TacText → Values → ResolutionValue → Type 0
 IsResolvedFitting setup (Call call) cited resolution = IsResolvedCall setup call cited resolution
 IsResolvedFitting setup (Then t u) cited resolution = resolution ≡ idle_tactical
@@ -88,24 +106,21 @@ IsResolvedFitting setup (PopAssum call) cited resolution = resolution ≡ idle_t
 IsResolvedFitting setup (FirstAssum call) cited resolution = resolution ≡ idle_tactical
 IsResolvedFitting setup (SubgoalThen p call) cited resolution = resolution ≡ idle_tactical
 
--- where all theorems are known
-abbrev pub IsResolvedKnown : SetupValue → TacText → Values → Option (List ℕ) → ResolutionValue → Type 0
-IsResolvedKnown setup tactic cited (Some name) resolution = resolution ≡ Unresolved refusal.UnknownTac name
-IsResolvedKnown setup tactic cited None resolution = IsResolvedFitting setup tactic cited resolution
-
-abbrev pub IsResolvedCited : SetupValue → TacText → Values → Option (List ℕ) → ResolutionValue → Type 0
-IsResolvedCited setup tactic cited (Some name) resolution = resolution ≡ Unresolved refusal.UnknownTheorem name
-IsResolvedCited setup tactic cited None resolution = IsResolvedKnown setup tactic cited (first_unfit setup (calls_of tactic) cited) resolution
+-- past what is refused of names
+abbrev pub IsResolvedPast : SetupValue → TacText → Values → Option (RefusalKind × List ℕ) → ResolutionValue → Type 0
+IsResolvedPast setup tactic cited (Some refused) resolution = resolution ≡ Unresolved refused.0 refused.1
+IsResolvedPast setup tactic cited None resolution = IsResolvedFitting setup tactic cited resolution
 
 -- what is written comes to this, over the values of what it cites
 abbrev pub IsResolution : SetupValue → TacText → Values → ResolutionValue → Type 0
-IsResolution setup tactic cited resolution = IsResolvedCited setup tactic cited (first_unknown cited) resolution
+IsResolution setup tactic cited resolution = IsResolvedPast setup tactic cited (first_refusal (named_refusals setup tactic cited)) resolution
 
 -- ---- runs
 
--- the goals left, or the refusal of the TAC of a name, or no turn was left to go on with
+-- the goals left, or a goal that is left is too large, or the refusal of the TAC of a name, or no turn was left to go on with
 pub data RunResult : Type 0 where
   Leaving : List GoalValue → RunResult
+  LargeGoal : RunResult
   RefusedBy : List ℕ → RunResult
   OutOfTurns : RunResult
 
@@ -114,8 +129,12 @@ pub record RunValue : Type 0 where
   pub result : RunResult
   pub used : UsedValue
 
+-- a goal may have 20,000 nodes
+abbrev pub has_large : List GoalValue → Bool
+has_large goals = list_any (λ g. nat_lt 20000 (goal_size g)) goals
+
 abbrev pub run_result : List ℕ → AnswerResult → RunResult
-run_result name (Left goals) = Leaving goals
+run_result name (Left goals) = cond (has_large goals) LargeGoal (Leaving goals)
 run_result name Unfit = RefusedBy name
 
 abbrev pub run_answer : List ℕ → AnswerValue → RunValue

@@ -9,7 +9,7 @@ use Rattle.hol_exec.specs.declared.expr.RunEnd.TheVariants as run
 use Rattle.hol_exec.specs.declared.expr.Run.{Run}
 use Rattle.hol_exec.specs.TacView.{args_value, used_value}
 use Rattle.hol_exec.specs.ExprValue.{ExprValue, Calls}
-use Rattle.hol_exec.specs.Expr.{ResolutionValue, Resolved, Unresolved, RunResult, RunValue, Leaving, RefusedBy, OutOfTurns}
+use Rattle.hol_exec.specs.Expr.{ResolutionValue, Resolved, Unresolved, RunResult, RunValue, Leaving, LargeGoal, RefusedBy, OutOfTurns}
 
 abbrev pub expr_value : Expr → ExprValue
 expr_value (expr.Calls name code args) = Calls (string_bytes name) code (args_value args)
@@ -20,6 +20,7 @@ resolution_value (resolution.Unresolved kind arg) = Unresolved kind (string_byte
 
 abbrev pub run_end : RunEnd → RunResult
 run_end (run.Leaving goals) = Leaving goals.items
+run_end run.LargeGoal = LargeGoal
 run_end (run.RefusedBy name) = RefusedBy (string_bytes name)
 run_end run.OutOfTurns = OutOfTurns
 

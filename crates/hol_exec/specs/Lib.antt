@@ -7,7 +7,6 @@ pub mod SetupView
 pub mod Parsed
 pub mod ParsedView
 pub mod Keys
-pub mod Goal
 pub mod StateValue
 pub mod ReadsValue
 pub mod Lookups
@@ -26,6 +25,7 @@ pub mod At
 pub mod Valid
 pub mod Codes
 pub mod SameReads
+pub mod SameCommand
 pub mod ReportValue
 pub mod ReportView
 pub mod ReportOf

@@ -10,8 +10,9 @@ use Rattle.hol_kernel.specs.Theorem.{theorem_over}
 use Rattle.hol_kernel.specs.Typing.{is_type_at}
 use Rattle.hol_notation_terms.specs.Text.{QuotationText}
 use Rattle.hol_notation_tactics.specs.Text.{TacText}
+use Rattle.hol_goal.specs.Goal.{GoalValue}
+use Rattle.hol_goal.specs.Answer.{UsedValue}
 use Rattle.hol_exec.specs.declared.refusal.RefusalKind.TheVariants as refusal
-use Rattle.hol_exec.specs.Goal.{GoalValue}
 use Rattle.hol_exec.specs.Key.{KeyValue, theorem_key, key_text}
 use Rattle.hol_exec.specs.Entry.{ATheorem}
 use Rattle.hol_exec.specs.Setup.{SetupValue}
@@ -21,8 +22,7 @@ use Rattle.hol_exec.specs.Lookups.{lookups_of, reading_basis}
 use Rattle.hol_exec.specs.Reading.{ReadingValue, WrongArity, NoTyping, LargeReading, ReadsAs, IsTermReadAs}
 use Rattle.hol_exec.specs.Standing.{first_taken}
 use Rattle.hol_exec.specs.ExprValue.{ExprValue}
-use Rattle.hol_exec.specs.Tac.{UsedValue}
-use Rattle.hol_exec.specs.Expr.{ResolutionValue, Resolved, Unresolved, IsResolution, RunResult, Leaving, RefusedBy, OutOfTurns, run_expr}
+use Rattle.hol_exec.specs.Expr.{ResolutionValue, Resolved, Unresolved, IsResolution, RunResult, Leaving, LargeGoal, RefusedBy, OutOfTurns, run_expr}
 use Rattle.hol_exec.specs.OutcomeValue.{OutcomeValue, Opens, Leaves, Makes, Refuses}
 
 -- ---- `g`: in a proof; arity; untypable; too large; not bool; name taken
@@ -52,6 +52,7 @@ IsOpening false name quotation reads outcome =
 
 abbrev pub run_outcome : GoalValue → Items → RunResult → OutcomeValue
 run_outcome goal basis (Leaving goals) = Leaves goal goals basis
+run_outcome goal basis LargeGoal = Refuses refusal.TooLarge []
 run_outcome goal basis (RefusedBy name) = Refuses refusal.Refused name
 run_outcome goal basis OutOfTurns = Refuses refusal.TurnLimit []
 

@@ -1,5 +1,5 @@
 -- What a text is to the engine: a command whose outcome is a function of what it reads, or one that is answered directly. This is the one
--- place where commands are told apart. Until a command runs, its text is refused as `syntax`, at its first word.
+-- place where commands are told apart. A command that is none of these is refused as `syntax`, at its first word.
 -- Source: this project.
 use Rattle.std.specs.Prelude.{◌≡◌, ◌⊎◌, ◌+◌, ◌==◌, ℕ, List, [], ◌∷◌, drop, Bool, true, false}
 use Rattle.hol_notation_tokens.specs.Token.{skip}

@@ -1,9 +1,9 @@
 -- What a command reads of a state: its outcome is a function of the command and of this alone.
 -- Source: this project.
-use Rattle.std.specs.Prelude.{ℕ, List, [], ◌∷◌, Bool, length, map, Option, Some, None, is_some}
+use Rattle.std.specs.Prelude.{◌≡◌, ℕ, List, [], ◌∷◌, Bool, length, map, Option, Some, None, is_some}
 use Rattle.hol_terms.specs.Nameless.{Nameless}
 use Rattle.hol_kernel.specs.Items.{Items}
-use Rattle.hol_exec.specs.Goal.{GoalValue}
+use Rattle.hol_goal.specs.Goal.{GoalValue}
 use Rattle.hol_exec.specs.Key.{KeyValue}
 use Rattle.hol_exec.specs.Entry.{Entries, EntryValue, entry_at}
 use Rattle.hol_exec.specs.StateValue.{ProofValue, StateValue, open_goals}
@@ -67,3 +67,7 @@ reads_of command s = record {
 abbrev pub reads_at : ParsedValue → StateValue → Option ReadsValue
 reads_at (Local command) s = Some (reads_of command s)
 reads_at (Direct command) s = None
+
+-- these are the reads of what a text is, at a state
+abbrev pub AreReads : ParsedValue → StateValue → Option ReadsValue → Type 0
+AreReads value s reads = reads ≡ reads_at value s

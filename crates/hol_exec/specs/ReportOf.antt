@@ -1,7 +1,7 @@
 -- The report on a command: what it made, why it was refused, or all goals that are open after it.
 use Rattle.std.specs.Prelude.{ℕ, List, ◌++◌, codes, map}
 use Rattle.hol_terms.specs.Nameless.{Nameless}
-use Rattle.hol_exec.specs.Goal.{GoalValue}
+use Rattle.hol_goal.specs.Goal.{GoalValue}
 use Rattle.hol_exec.specs.Key.{KeyValue}
 use Rattle.hol_exec.specs.Entry.{EntryValue, ATheorem}
 use Rattle.hol_exec.specs.StateValue.{StateValue, open_goals}

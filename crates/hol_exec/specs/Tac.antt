@@ -5,13 +5,14 @@ use Rattle.std.specs.Map.{lookup}
 use Rattle.hol_terms.specs.Alpha.{alpha_eq}
 use Rattle.hol_formulas.specs.Equation.{Sides, dest_eq}
 use Rattle.hol_notation_tactics.specs.Text.{ArgumentText, CallText}
+use Rattle.hol_goal.specs.Goal.{GoalValue}
+use Rattle.hol_goal.specs.Answer.{UsedValue, AnswerValue, answered}
 use Rattle.hol_exec.specs.declared.tac.ArgumentKind.{ArgumentKind}
 use Rattle.hol_exec.specs.declared.tac.ArgumentKind.TheVariants.{NoArguments}
 use Rattle.hol_exec.specs.declared.tac.CallRole.{CallRole}
 use Rattle.hol_exec.specs.declared.tac.CallRole.TheVariants.{Whole, TheoremTactic}
 use Rattle.hol_exec.specs.declared.tac.TacCode.{TacCode}
 use Rattle.hol_exec.specs.declared.tac.TacCode.TheVariants.{ReflTac}
-use Rattle.hol_exec.specs.Goal.{GoalValue}
 use Rattle.hol_exec.specs.Setup.{SetupValue}
 use Rattle.hol_exec.specs.ExprValue.{TacArgsValue, Nothing}
 use Rattle.hol_exec.specs.ReadsValue.{Values}
@@ -36,10 +37,10 @@ fits NoArguments Whole [] = true
 fits NoArguments Whole (a ∷ arguments) = false
 fits NoArguments TheoremTactic arguments = false
 
--- what a name stands for, over the values of what is cited: it is registered, or nothing
-abbrev pub named : Option TacCode → Values → Option CalledValue
-named None cited = None
-named (Some code) cited = Some (Registered code)
+-- what a name stands for, from what is registered under it and the values of what is cited: the registered TAC, or nothing
+abbrev pub named : List ℕ → Option TacCode → Values → Option CalledValue
+named name None cited = None
+named name (Some code) cited = Some (Registered code)
 
 abbrev pub fitting : Option CalledValue → CallRole → List ArgumentText → Option CalledValue
 fitting None role arguments = None
@@ -47,31 +48,18 @@ fitting (Some c) role arguments = cond (fits (kind_of c) role arguments) (Some c
 
 -- what a call of the role calls, where the name stands for something and the arguments are of its kind
 abbrev pub called : SetupValue → CallRole → CallText → Values → Option CalledValue
-called setup role call cited = fitting (named (lookup (bytes_eq call.name) setup.table) cited) role call.arguments
+called setup role call cited = fitting (named call.name (lookup (bytes_eq call.name) setup.table) cited) role call.arguments
 
 -- ---- what a TAC leaves
 
--- what a run may still use: turns
-pub record UsedValue : Type 0 where
-  pub turns_left : ℕ
-
--- the goals that are left, or the TAC doesn't fit the goal
-pub data AnswerResult : Type 0 where
-  Left : List GoalValue → AnswerResult
-  Unfit : AnswerResult
-
-pub record AnswerValue : Type 0 where
-  pub result : AnswerResult
-  pub used : UsedValue
-
-abbrev pub closes_sides : Option Sides → AnswerResult
-closes_sides None = Unfit
-closes_sides (Some s) = cond (alpha_eq s.left s.right) (Left []) Unfit
+abbrev pub closes_sides : Option Sides → Option (List GoalValue)
+closes_sides None = None
+closes_sides (Some s) = cond (alpha_eq s.left s.right) (Some []) None
 
 -- REFL_TAC closes a goal `s = s`, up to bound names
-abbrev pub refl_tac : GoalValue → UsedValue → AnswerValue
-refl_tac goal used = record { result = closes_sides (dest_eq goal.conclusion); used = used }
+abbrev pub refl_tac : GoalValue → Option (List GoalValue)
+refl_tac goal = closes_sides (dest_eq goal.conclusion)
 
--- what the TAC answers on a goal, with what a run has used before
+-- what the TAC answers on a goal, with what the run may still use
 abbrev pub tac : TacCode → TacArgsValue → GoalValue → UsedValue → AnswerValue
-tac ReflTac Nothing goal used = refl_tac goal used
+tac ReflTac Nothing goal used = answered (refl_tac goal) used

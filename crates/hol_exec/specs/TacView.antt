@@ -1,5 +1,6 @@
 -- What the code's arguments, calls and answers of TACs stand for.
 use Rattle.std.specs.Prelude.{Option, Some, None}
+use Rattle.hol_goal.specs.Answer.{UsedValue, AnswerResult, AnswerValue, Left, Unfit}
 use Rattle.hol_exec.specs.declared.tac.TacArgs.{TacArgs}
 use Rattle.hol_exec.specs.declared.tac.TacArgs.TheVariants as args
 use Rattle.hol_exec.specs.declared.tac.Callee.{Callee}
@@ -9,7 +10,7 @@ use Rattle.hol_exec.specs.declared.tac.TacResult.{TacResult}
 use Rattle.hol_exec.specs.declared.tac.TacResult.TheVariants as code
 use Rattle.hol_exec.specs.declared.tac.Answer.{Answer}
 use Rattle.hol_exec.specs.ExprValue.{TacArgsValue, Nothing}
-use Rattle.hol_exec.specs.Tac.{CalledValue, Registered, UsedValue, AnswerResult, AnswerValue, Left, Unfit}
+use Rattle.hol_exec.specs.Tac.{CalledValue, Registered}
 
 abbrev pub args_value : TacArgs → TacArgsValue
 args_value args.Nothing = Nothing

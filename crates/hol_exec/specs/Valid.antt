@@ -6,7 +6,7 @@ use Rattle.hol_terms.specs.Alpha.{alpha_eq}
 use Rattle.hol_kernel.specs.Items.{Items, no_items}
 use Rattle.hol_kernel.specs.Typing.{HasType}
 use Rattle.hol_formulas.specs.Equation.{bool_type, Sides, dest_eq}
-use Rattle.hol_exec.specs.Goal.{GoalValue}
+use Rattle.hol_goal.specs.Goal.{GoalValue}
 use Rattle.hol_exec.specs.Entry.{EachIsEntry}
 use Rattle.hol_exec.specs.StateValue.{StepValue, ProofValue}
 use Rattle.hol_exec.specs.ReadsValue.{ClosingValue}
@@ -22,8 +22,8 @@ pub record IsReflexive (t : Nameless) : Type 0 where
   pub equates : dest_eq t ≡ Some sides
   pub same : alpha_eq sides.left sides.right ≡ true
 
--- An opened statement is well typed. A step of today's only TAC closes its goal by reflexivity, and resolves nothing that rests on items. What is
--- made are entries.
+-- An opened statement is well typed. A step closes its goal by reflexivity, which is all that a TAC does, and resolves nothing that rests on
+-- items. What is made are entries.
 abbrev pub IsValid : OutcomeValue → Type 0
 IsValid (Opens name statement basis) = IsStatement basis statement
 IsValid (Leaves goal goals basis) = (goals ≡ []) × (basis ≡ no_items) × IsReflexive goal.conclusion

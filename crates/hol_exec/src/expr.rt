@@ -1,22 +1,25 @@
 //! Expressions of TACs: what is written, resolved, and its run.
 ghost use Rattle.std.specs.Prelude.{◌≡◌, IfOk, IsSome, None};
 ghost use Rattle.hol_exec.specs.SetupView.{setup_value};
-ghost use Rattle.hol_exec.specs.TacView.{args_value, used_value};
+ghost use Rattle.hol_exec.specs.TacView.{args_value, used_value, tac_result};
 ghost use Rattle.hol_exec.specs.Tac.{called};
-ghost use Rattle.hol_exec.specs.Expr.{calls_of, first_unfit, IsResolvedCall, IsResolvedFitting, IsResolution, run_call, run_expr};
-ghost use Rattle.hol_exec.specs.ExprView.{expr_value, resolution_value, run_value};
+ghost use Rattle.hol_exec.specs.Expr.{calls_of, first_unfit, IsResolvedCall, IsResolvedFitting, IsResolution, has_large, run_result, run_call, run_expr};
+ghost use Rattle.hol_exec.specs.ExprView.{expr_value, resolution_value, run_end, run_value};
 
 use crate::calls::{calls_of, first_unfit};
-use crate::goal::Goal;
 use crate::reads::Reads;
 use crate::refusal::RefusalKind;
 use crate::setup::Setup;
 use crate::tac::{
     ArgumentKind, CallRole, Callee, TacArgs, TacCode, TacResult, Used, arguments_of, called, tac,
 };
+use hol_goal::Goal;
 use hol_kernel::Basis;
 use hol_notation_tactics::{TacCall, TacExpr, TacExprNode};
 use std::alloc::{AllocError, Global};
+
+// The most nodes that a goal may have.
+const LARGEST_GOAL: u32 = 20_000;
 
 /// An expression whose names are resolved.
 #[derive(Drop)]
@@ -39,6 +42,8 @@ pub(crate) enum Resolution {
 pub(crate) enum RunEnd {
     /// With these goals left.
     Leaving(Vec<Goal>),
+    /// A goal that is left has over 20,000 nodes.
+    LargeGoal,
     /// The TAC of this name refused.
     RefusedBy(String),
     /// No turn was left to go on with.
@@ -165,9 +170,34 @@ fn run_call(
     };
     let answer = tac(alloc, code, args, goal, left);
     let used = answer.used;
-    let result = match answer.result {
-        TacResult::Left(goals) => RunEnd::Leaving(goals),
-        TacResult::Unfit => RunEnd::RefusedBy(String::from_str(alloc, name)?),
-    };
+    let result = run_result(alloc, name, answer.result)?;
     Ok(Run { result, used })
+}
+
+// How the run of a TAC of the name ends that makes this of the goal.
+fn run_result(alloc: Global, name: &str, made: TacResult) -> Result<RunEnd, AllocError>
+    ensures { IfOk result (λ r. run_end r ≡ run_result name.now (tac_result made)) }
+{
+    match made {
+        TacResult::Left(goals) => {
+            if has_large(&goals) {
+                Ok(RunEnd::LargeGoal)
+            } else {
+                Ok(RunEnd::Leaving(goals))
+            }
+        }
+        TacResult::Unfit => Ok(RunEnd::RefusedBy(String::from_str(alloc, name)?)),
+    }
+}
+
+// Whether one of the goals has over 20,000 nodes.
+fn has_large(goals: &[Goal]) -> bool
+    ensures { result ≡ has_large goals.now }
+{
+    for goal in goals {
+        if goal.size() > LARGEST_GOAL {
+            return true;
+        }
+    }
+    false
 }

@@ -8,7 +8,7 @@ mod closing;
 mod direct_outcome;
 mod entry;
 mod expr;
-mod goal;
+mod goals;
 mod key;
 mod keys;
 mod laws;

@@ -30,17 +30,17 @@ pub(crate) fn lookups_of(
         types: prelude_types(alloc)?,
     };
     for value in cited {
-        add_value(&mut lookups, &value.1);
+        add_value(&mut lookups, value);
     }
     Ok(lookups)
 }
 
-// Adds what the value is for readings: a theorem is no constant and no type.
-fn add_value(_lookups: &mut Lookups, value: &Option<Entry>)
-    ensures constants { _lookups.new.constants.items ≡ _lookups.old.constants.items ++ value_constants value.now }
-    ensures types { _lookups.new.types.items ≡ _lookups.old.types.items ++ value_types value.now }
+// Adds what stands under the key: a theorem is no constant and no type.
+fn add_value(_lookups: &mut Lookups, value: &(Key, Option<Entry>))
+    ensures constants { _lookups.new.constants.items ≡ _lookups.old.constants.items ++ value_constants value.now.0 value.now.1 }
+    ensures types { _lookups.new.types.items ≡ _lookups.old.types.items ++ value_types value.now.0 value.now.1 }
 {
-    let Some(entry) = value else {
+    let Some(entry) = &value.1 else {
         return;
     };
     match entry.node() {

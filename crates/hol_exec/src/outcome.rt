@@ -7,10 +7,11 @@ ghost use Rattle.hol_exec.specs.OutcomeView.{outcome_of};
 ghost use Rattle.hol_exec.specs.Valid.{IsStatement, IsValid};
 
 use crate::entry::{Entry, Made, copies};
-use crate::goal::{Goal, copies as goal_copies};
+use crate::goals::copies as goal_copies;
 use crate::key::Key;
 use crate::refusal::RefusalKind;
 use crate::same::{Same, same_basis, same_each};
+use hol_goal::Goal;
 use hol_kernel::Basis;
 use hol_terms::Term;
 use std::alloc::{AllocError, Global};

@@ -8,6 +8,7 @@ use hol_notation_tactics::{TacExpr, TacExprNode};
 use hol_notation_terms::Quotation;
 use hol_notation_tokens::{SyntaxError, skip};
 use std::alloc::{AllocError, Global};
+use std::hash::{Hash, Hasher};
 
 /// A command whose outcome is a function of what it reads.
 #[derive(Drop)]
@@ -65,7 +66,7 @@ impl LocalCommand {
         }
     }
 
-    /// The name to hash: those of equal commands are equal.
+    /// A name in the command: what it makes, or the TAC that is written first.
     pub fn leading_name(&self) -> &str
         ensures { result.now ≡ leading_name (local_text self.now) }
     {
@@ -77,11 +78,44 @@ impl LocalCommand {
     }
 }
 
+impl PartialEq for LocalCommand {
+    ghost use Rattle.hol_exec.specs.SameCommand.{same_command, same_command_partial_laws};
+
+    ghost eq = { same_command };
+
+    ghost laws = { same_command_partial_laws };
+
+    fn eq(&self, other: &LocalCommand) -> bool {
+        self.same(other)
+    }
+}
+
+impl Eq for LocalCommand {
+    ghost use Rattle.hol_exec.specs.SameCommand.{same_command_laws};
+
+    ghost laws = { same_command_laws };
+}
+
+impl Hash for LocalCommand {
+    ghost use Rattle.std.specs.Hash as fed;
+    ghost use Rattle.hol_exec.specs.Parsed.{leading_name};
+    ghost use Rattle.hol_exec.specs.ParsedView.{local_text};
+    ghost use Rattle.hol_exec.specs.SameCommand.{command_fed};
+
+    ghost hash_input = { λ c. fed.str (leading_name (local_text c)) };
+
+    ghost respects_eq = { command_fed };
+
+    fn hash<H: Hasher>(&self, state: &mut H) {
+        self.leading_name().hash(state);
+    }
+}
+
 /// What is answered directly.
 #[derive(Clone, Copy)]
 pub enum DirectCommand {
     /// A text that is refused as `syntax` at the byte where it is no command any more, or at its first word where it is a command that
-    /// doesn't run yet.
+    /// isn't run.
     Unread(usize),
 }
 
@@ -164,7 +198,7 @@ fn parsed_tactic(text: &str, tactic: &TacExpr) -> Result<Parsed, AllocError>
     }
 }
 
-// A command that doesn't run yet.
+// A command that isn't run.
 fn idle(text: &str) -> Parsed
     ensures { parsed_value result ≡ idle text.now }
 {

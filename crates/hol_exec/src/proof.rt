@@ -1,11 +1,14 @@
 //! Open proofs.
-ghost use Rattle.std.specs.Prelude.{◌≡◌, ◌++◌, [], OnOk, OnErr, IfOk, string_bytes, drop};
+ghost use Rattle.std.specs.Prelude.{◌≡◌, ◌++◌, [], OnOk, OnErr, IfOk, Some, string_bytes, drop};
+ghost use Rattle.hol_terms.specs.Named.{named_type};
 ghost use Rattle.hol_terms.specs.Nameless.{nameless};
+ghost use Rattle.hol_formulas.specs.Equation.{bool_type};
 ghost use Rattle.hol_kernel.specs.Items.{no_items};
 ghost use Rattle.hol_exec.specs.OutcomeValue.{opened, stepped};
 ghost use Rattle.hol_exec.specs.Valid.{IsStatement, IsReflexive, IsSoundProof};
 
-use crate::goal::{Goal, add_copies};
+use crate::goals::add_copies;
+use hol_goal::Goal;
 use hol_kernel::Basis;
 use hol_terms::Term;
 use std::alloc::{AllocError, Global};
@@ -57,6 +60,7 @@ impl Model for Proof {
 
 impl Proof {
     /// A proof of a statement, which is its one open goal.
+    #[tactic(auto, using(crate::proofs::Statements::formula_of))]
     pub(crate) fn begin(
         alloc: Global,
         name: &str,
@@ -68,7 +72,7 @@ impl Proof {
     {
         let name = String::from_str(alloc, name)?;
         let mut goals = Vec::new(alloc);
-        goals.push(Goal::new(Vec::new(alloc), statement.copy()?))?;
+        goals.push(stated(alloc, statement)?)?;
         let statement = statement.copy()?;
         let basis = basis.copy()?;
         Ok(Proof {
@@ -131,6 +135,14 @@ impl Proof {
         self.earlier.push_reserved(newest);
         Ok(())
     }
+}
+
+// The goal of a statement, without assumptions.
+fn stated(alloc: Global, statement: &Term) -> Result<Goal, AllocError>
+    requires { named_type statement.now ≡ Some bool_type }
+    ensures { IfOk result (λ g. g ≡ record { assumptions = []; conclusion = nameless [] statement.now }) }
+{
+    Ok(Goal::new(Vec::new(alloc), statement.copy()?))
 }
 
 // The goals left, and then the open goals after the first.

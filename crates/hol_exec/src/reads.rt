@@ -10,13 +10,13 @@ ghost use Rattle.hol_exec.specs.ReadsValue.{ReadsValue, values_of, goal_for, clo
 
 use crate::closing::Closing;
 use crate::entry::Entry;
-use crate::goal::Goal;
 use crate::key::Key;
 use crate::keys::{cited_keys, made_keys};
 use crate::parsed::LocalCommand;
 use crate::same::{same_each, same_options};
 use crate::standing::{is_standing, is_unknown};
 use crate::state::State;
+use hol_goal::Goal;
 use std::alloc::{AllocError, Global};
 use std::hash::{Hash, Hasher};
 use std::marker::Model;

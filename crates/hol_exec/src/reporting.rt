@@ -4,11 +4,11 @@ ghost use Rattle.hol_exec.specs.ReportOf.{report_of, entry_text, shown_goal};
 ghost use Rattle.hol_exec.specs.ReportView.{report_value, shown_goal_text};
 
 use crate::entry::{Entry, EntryNode};
-use crate::goal::Goal;
 use crate::key::Key;
 use crate::outcome::{Change, Outcome};
 use crate::report::{Report, ShownGoal};
 use crate::state::State;
+use hol_goal::Goal;
 use hol_print::{show_goal, show_term};
 use std::alloc::{AllocError, Global};
 

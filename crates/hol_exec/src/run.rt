@@ -156,6 +156,7 @@ fn applied(
     let Run { result, used: _ } = run_expr(alloc, expr, goal, Used { turns_left: turns })?;
     match result {
         RunEnd::Leaving(goals) => Ok(Outcome::leaves(goal.copy(alloc)?, goals, basis)),
+        RunEnd::LargeGoal => Ok(refused(alloc, RefusalKind::TooLarge)),
         RunEnd::RefusedBy(name) => Ok(Outcome::refuses(RefusalKind::Refused, name)),
         RunEnd::OutOfTurns => Ok(refused(alloc, RefusalKind::TurnLimit)),
     }

@@ -9,9 +9,9 @@ ghost use Rattle.hol_exec.specs.OutcomeValue.{stepped_in};
 ghost use Rattle.hol_exec.specs.Valid.{IsReflexive, IsSoundProof};
 
 use crate::entry::{Entry, Made, copies};
-use crate::goal::Goal;
 use crate::key::Key;
 use crate::proof::Proof;
+use hol_goal::Goal;
 use indexmap::IndexMap;
 use std::alloc::{AllocError, Global};
 use std::marker::Model;

@@ -1,15 +1,16 @@
 //! TACs by code: what arguments each takes, and what it leaves of a goal.
 ghost use Rattle.std.specs.Prelude.{◌≡◌, bytes_eq};
+ghost use Rattle.std.specs.Option.{option_map};
 ghost use Rattle.std.specs.Map.{lookup};
-ghost use Rattle.hol_formulas.specs.Equation.{dest_eq};
+ghost use Rattle.hol_goal.specs.Answer.{answered};
 ghost use Rattle.hol_exec.specs.SetupView.{setup_value};
-ghost use Rattle.hol_exec.specs.Tac.{arguments_of, kind_of, fits, named, called, tac, refl_tac, closes_sides};
-ghost use Rattle.hol_exec.specs.TacView.{args_value, called_value, called_option, used_value, tac_result, answer_value};
+ghost use Rattle.hol_exec.specs.Tac.{arguments_of, kind_of, fits, named, called, tac, refl_tac};
+ghost use Rattle.hol_exec.specs.TacView.{args_value, called_value, called_option, used_value, answer_value};
 
-use crate::goal::Goal;
 use crate::reads::Reads;
 use crate::setup::{Setup, code_of};
 use hol_formulas::dest_eq;
+use hol_goal::Goal;
 use hol_notation_tactics::{TacArg, TacCall};
 use std::alloc::Global;
 
@@ -105,7 +106,7 @@ fn fits(kind: ArgumentKind, role: CallRole, arguments: &[TacArg]) -> bool
 
 // What the name of the call stands for.
 fn named(setup: &Setup, call: &TacCall, _reads: &Reads) -> Option<Callee>
-    ensures { called_option result ≡ named (lookup (bytes_eq call.now.name) (setup_value setup.now).table) _reads.now.cited }
+    ensures { called_option result ≡ named call.now.name (lookup (bytes_eq call.now.name) (setup_value setup.now).table) _reads.now.cited }
 {
     let code = code_of(setup, call.name.as_str())?;
     Some(Callee::Registered(code))
@@ -128,30 +129,29 @@ pub(crate) fn tac(alloc: Global, code: TacCode, args: TacArgs, goal: &Goal, used
     ensures { answer_value result ≡ tac code (args_value args) goal.now (used_value used) }
 {
     match (code, args) {
-        (TacCode::ReflTac, TacArgs::Nothing) => refl_tac(alloc, goal, used),
+        (TacCode::ReflTac, TacArgs::Nothing) => answered(refl_tac(alloc, goal), used),
     }
 }
 
-fn refl_tac(alloc: Global, goal: &Goal, used: Used) -> Answer
-    ensures { answer_value result ≡ refl_tac goal.now (used_value used) }
+// The answer of a TAC that uses nothing.
+fn answered(goals: Option<Vec<Goal>>, used: Used) -> Answer
+    ensures { answer_value result ≡ answered (option_map (λ left. left.items) goals) (used_value used) }
 {
-    Answer {
-        result: closed_by_reflexivity(alloc, goal),
-        used,
-    }
-}
-
-fn closed_by_reflexivity(alloc: Global, goal: &Goal) -> TacResult
-    ensures { tac_result result ≡ closes_sides (dest_eq goal.now.conclusion) }
-{
-    match dest_eq(goal.conclusion()) {
-        Some(sides) => {
-            if sides.left.alpha_equivalent(sides.right) {
-                TacResult::Left(Vec::new(alloc))
-            } else {
-                TacResult::Unfit
-            }
-        }
+    let result = match goals {
+        Some(goals) => TacResult::Left(goals),
         None => TacResult::Unfit,
+    };
+    Answer { result, used }
+}
+
+// The goals that REFL_TAC leaves, which are none, where it fits the goal.
+fn refl_tac(alloc: Global, goal: &Goal) -> Option<Vec<Goal>>
+    ensures { option_map (λ left. left.items) result ≡ refl_tac goal.now }
+{
+    let sides = dest_eq(goal.conclusion())?;
+    if sides.left.alpha_equivalent(sides.right) {
+        Some(Vec::new(alloc))
+    } else {
+        None
     }
 }
