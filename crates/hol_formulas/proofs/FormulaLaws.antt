@@ -1,14 +1,14 @@
 -- Formulas that are made are taken apart into what they were made of, and only these are.
 use Rattle.std.specs.Prelude.{◌≡◌, ℕ, Bool, true, false, cond, ◌&&◌, List, bytes_eq, codes, Option, Some, None, refl}
 use Rattle.std.specs.Option.{option_and_then, option_map}
-use Rattle.std.proofs.Common.{ap, sym, ◌∙◌}
+use Rattle.std.proofs.Common.{ap, ◌∙◌}
 use Rattle.std.proofs.lemmas.Slice.Eq.{bytes_eq-Decides}
 use Rattle.hol_types.specs.Tree.{TypeTree}
 use Rattle.hol_types.specs.Equal.{type_eq}
-use Rattle.hol_types.specs.Fun.{fun_type, fun_parts}
+use Rattle.hol_types.specs.Fun.{fun_type}
 use Rattle.hol_terms.specs.Nameless.{Nameless, free, bound, fixed, app, lam}
-use Rattle.hol_formulas.specs.Equation.{bool_type, equality_type, equation, dest_comb, Sides, sides_at, sides_under, dest_eq}
-use Rattle.hol_formulas.specs.Formula.{connective_type, negation_type, quantifier_type, conjunction, disjunction, implication, negation, Abstraction, quantified, universal, existential, is_constant, dest_abs, dest_unary, dest_binary, dest_quantifier, dest_conj, dest_disj, dest_imp, dest_neg, dest_forall, dest_exists}
+use Rattle.hol_formulas.specs.Equation.{bool_type, equality_type, equation, dest_comb, dest_eq}
+use Rattle.hol_formulas.specs.Formula.{quantifier_type, conjunction, disjunction, implication, negation, Abstraction, quantified, universal, existential, is_constant, dest_abs, dest_unary, dest_binary, dest_quantifier, dest_conj, dest_disj, dest_imp, dest_neg, dest_forall, dest_exists}
 use Rattle.hol_formulas.proofs.EquationTypes.{type_eq_itself}
 use Rattle.hol_formulas.proofs.TypeTests.{same_type}
 use Rattle.hol_formulas.proofs.TakingApart.{sides_yes}

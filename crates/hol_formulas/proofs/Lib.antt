@@ -4,3 +4,4 @@ pub mod TypeTests
 pub mod TakingApart
 pub mod PartTypes
 pub mod FormulaLaws
+pub mod WrittenParts

@@ -3,3 +3,4 @@ pub mod Formula
 pub mod Making
 pub mod Constants
 pub mod Prelude
+pub mod Written

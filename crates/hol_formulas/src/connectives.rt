@@ -176,8 +176,8 @@ pub(crate) fn applied_to_two(
     Term::application(alloc, &one, q)
 }
 
-// The connective of the name between two terms of type `bool`.
-fn mk_binary(alloc: Global, name: &str, p: &Term, q: &Term) -> Result<Term, AllocError>
+/// The connective of the name between two terms of type `bool`.
+pub(crate) fn mk_binary(alloc: Global, name: &str, p: &Term, q: &Term) -> Result<Term, AllocError>
     requires first { named_type p.now ≡ Some bool_type }
     requires second { named_type q.now ≡ Some bool_type }
     ensures is { IfOk result (λ t. t ≡ mk_binary name.now p.now q.now) }

@@ -3,20 +3,18 @@
 //! Calls that answer a `Result` answer its memory error where memory is short, and nowhere else.
 #![tactic(auto)]
 
-mod axioms;
 mod connectives;
-mod elements;
 mod equations;
 mod laws;
 mod postulate;
 mod prelude;
-mod propositional;
 mod quantifiers;
-mod right_sides;
+mod sort;
 mod standing;
 mod statements;
 mod terms;
 mod types;
+mod written;
 
 pub use connectives::{
     dest_conj, dest_disj, dest_imp, dest_neg, is_conj, is_disj, is_falsity, is_imp, is_neg,

@@ -7,7 +7,7 @@ ghost use Rattle.hol_terms.specs.Named.{constant};
 ghost use Rattle.hol_formulas.specs.Equation.{equality_type};
 ghost use Rattle.hol_formulas.specs.Constants.{var_a, binder_type, choice_type, function_property_type, prelude_types, is_constructor, is_instance, prelude_generic, is_instance_of};
 
-use crate::elements::function_type;
+use crate::sort::function_type;
 use crate::types::{
     bool_type, connective_type, equality_type, negation_type, quantifier_type, type_variable,
 };

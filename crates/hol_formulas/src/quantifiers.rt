@@ -80,9 +80,14 @@ fn quantifier_over(alloc: Global, name: &str, domain: &Ty) -> Result<Term, Alloc
     constant_named(alloc, name, &ty)
 }
 
-// The quantifier of the name over the variable.
+/// The quantifier of the name over the variable.
 #[tactic(auto, using(crate::proofs::PartTypes::applications))]
-fn mk_quantifier(alloc: Global, name: &str, v: &Variable, p: &Term) -> Result<Term, AllocError>
+pub(crate) fn mk_quantifier(
+    alloc: Global,
+    name: &str,
+    v: &Variable,
+    p: &Term,
+) -> Result<Term, AllocError>
     requires body { named_type p.now ≡ Some bool_type }
     ensures is { IfOk result (λ t. t ≡ mk_quantifier name.now v.now p.now) }
     ensures typed { IfOk result (λ t. named_type t ≡ Some bool_type) }

@@ -1,4 +1,4 @@
-use Rattle.std.proofs.Common.{◌≡◌, [], true, Some, ap, sym, ◌∙◌, rules}
+use Rattle.std.proofs.Common.{◌≡◌, [], true, ap, sym, ◌∙◌, rules}
 use Rattle.hol_terms.specs.Named.{comb, abs, named_type}
 use Rattle.hol_terms.specs.Nameless.{nameless}
 use Rattle.hol_formulas.specs.Formula.{quantifier_type, is_constant}
