@@ -6,12 +6,13 @@ use Rattle.hol_kernel.specs.Items.{Items}
 use Rattle.hol_kernel.specs.Given.{Given, given_sequent}
 use Rattle.hol_kernel.specs.Sequent.{Hyps, no_hyps}
 use Rattle.hol_goal.specs.Goal.{GoalValue}
+use Rattle.hol_goal.specs.Answer.{UsedValue, AnswerResult, Left, Unfit, AnswerValue}
 use Rattle.hol_goal.specs.Achieves.{AreAllowed}
 use Rattle.hol_goal.specs.Arguments.{TacArgsValue, Nothing, Term, Pair, Theorem, TermAndTheorem, Theorems}
 use Rattle.hol_goal.specs.declared.tac_code.TacCode.{TacCode}
 use Rattle.hol_just.specs.Valid.{IsValid}
 use Rattle.hol_just.specs.Justifies.{holds_term, holds_given}
-use Rattle.hol_just.specs.Tac.{AnswerValue, Left, Unfit, tac}
+use Rattle.hol_just.specs.Tac.{Meaning, tac}
 use Rattle.hol_just.specs.declared.tried.Step.{Step}
 use Rattle.hol_just.specs.declared.tried.Tried.{Tried}
 use Rattle.hol_just.specs.declared.tried.TacFault.{TacFault}
@@ -20,18 +21,21 @@ use Rattle.hol_just.specs.declared.tried.TacFault.TheVariants.{Refused, Memory}
 -- ---- the answer
 
 -- The answer is the one that is right. Want of memory may come in its place.
+abbrev pub IsResult : AnswerResult → UsedValue → Result Tried TacFault → Type 0
+IsResult (Left goals) used (Ok tried) = (tried.step.goals.items ≡ goals) × (tried.left ≡ used.turns_left)
+IsResult (Left goals) used (Err (Refused left)) = ⊥
+IsResult (Left goals) used (Err Memory) = Unit {0}
+IsResult Unfit used (Ok tried) = ⊥
+IsResult Unfit used (Err (Refused left)) = left ≡ used.turns_left
+IsResult Unfit used (Err Memory) = Unit {0}
+
 abbrev pub IsAnswered : AnswerValue → Result Tried TacFault → Type 0
-IsAnswered (Left goals turns) (Ok tried) = (tried.step.goals.items ≡ goals) × (tried.left ≡ turns)
-IsAnswered (Left goals turns) (Err (Refused left)) = ⊥
-IsAnswered (Left goals turns) (Err Memory) = Unit {0}
-IsAnswered (Unfit turns) (Ok tried) = ⊥
-IsAnswered (Unfit turns) (Err (Refused left)) = left ≡ turns
-IsAnswered (Unfit turns) (Err Memory) = Unit {0}
+IsAnswered answer result = IsResult answer.result answer.used result
 
 -- the same by the code, which has a meaning
-abbrev pub IsAnsweredBy : Option (TacArgsValue → GoalValue → ℕ → AnswerValue) → TacArgsValue → GoalValue → ℕ → Result Tried TacFault → Type 0
+abbrev pub IsAnsweredBy : Option Meaning → TacArgsValue → GoalValue → ℕ → Result Tried TacFault → Type 0
 IsAnsweredBy None args goal turns result = ⊥
-IsAnsweredBy (Some f) args goal turns result = IsAnswered (f args goal turns) result
+IsAnsweredBy (Some f) args goal turns result = IsAnswered (f args goal (record { turns_left = turns })) result
 
 abbrev pub AnswersCode : TacCode → TacArgsValue → GoalValue → ℕ → Result Tried TacFault → Type 0
 AnswersCode code args goal turns result = IsAnsweredBy (tac code) args goal turns result
