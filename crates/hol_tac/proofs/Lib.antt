@@ -3,3 +3,4 @@ pub mod Valid
 pub mod ApplicationLaws
 pub mod Instances
 pub mod AssumptionLaws
+pub mod FreshNames

@@ -76,8 +76,8 @@ fn take_out(
     Ok(None)
 }
 
-// Puts copies of the terms at the end.
-fn add_copies(to: &mut Vec<Term>, terms: &[Term]) -> Result<(), AllocError>
+/// Puts copies of the terms at the end.
+pub(crate) fn add_copies(to: &mut Vec<Term>, terms: &[Term]) -> Result<(), AllocError>
     ensures { OnOk result (to.new.items ≡ to.old.items ++ terms.now) }
 {
     for term in terms {
