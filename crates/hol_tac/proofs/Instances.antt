@@ -1,15 +1,14 @@
 -- Quantified formulas at terms.
-use Rattle.std.specs.Prelude.{◌≡◌, ℕ, Bool, true, false, ◌||◌, List, [], ◌∷◌, map, codes, Result, Ok, Err, IfOk, IsErrOf, Some, refl}
+use Rattle.std.specs.Prelude.{◌≡◌, ℕ, Bool, true, false, ◌||◌, List, [], ◌∷◌, map, codes, Result, Ok, Err, IfOk, Some, refl}
 use Rattle.std.specs.List.{list_any}
-use Rattle.std.specs.FinSet as set
 use Rattle.std.proofs.Common.{ap, sym, ◌∙◌, subst, inl, inr}
 use Rattle.hol_types.specs.Tree.{TypeTree}
 use Rattle.hol_terms.specs.Named.{Named, var, named_type}
 use Rattle.hol_terms.specs.Nameless.{Nameless, free, nameless, nameless_type, free_occurrences}
 use Rattle.hol_terms.specs.Scoped.{binds}
 use Rattle.hol_terms.proofs.Typing.{type_under, type_outside}
-use Rattle.hol_subst.specs.Closing.{close, open_with}
-use Rattle.hol_subst.specs.Pairs.{nameless_pairs, HasBadPair, IsGoodPair}
+use Rattle.hol_subst.specs.Closing.{open_with}
+use Rattle.hol_subst.specs.Pairs.{nameless_pairs, HasBadPair}
 use Rattle.hol_subst.specs.Substitution.{term_subst}
 use Rattle.hol_subst.specs.Variant.{is_free_in}
 use Rattle.hol_subst.proofs.Closing.{close_under}

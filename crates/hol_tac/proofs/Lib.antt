@@ -2,3 +2,5 @@ pub mod Justified
 pub mod Valid
 pub mod ApplicationLaws
 pub mod Instances
+pub mod AssumptionLaws
+pub mod FreshNames

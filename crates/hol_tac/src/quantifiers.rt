@@ -1,8 +1,8 @@
 //! The functions on quantifiers.
-ghost use Rattle.std.specs.Prelude.{◌≡◌, ◌∷◌, IfOk, IsErrOf, Ok, Some, []};
+ghost use Rattle.std.specs.Prelude.{◌≡◌, ◌∷◌, false, map, IfOk, IsErrOf, Ok, Some, []};
 ghost use Rattle.std.specs.List.{list_any};
 ghost use Rattle.hol_terms.specs.Named.{named_type};
-ghost use Rattle.hol_terms.specs.Nameless.{free, nameless, free_occurrences};
+ghost use Rattle.hol_terms.specs.Nameless.{free, nameless, base_of, free_occurrences};
 ghost use Rattle.hol_terms.specs.Scoped.{binds};
 ghost use Rattle.hol_subst.specs.Closing.{open_with};
 ghost use Rattle.hol_subst.specs.Variant.{is_free_in};
@@ -10,17 +10,67 @@ ghost use Rattle.hol_subst.specs.declared.error.SubstError.TheVariants as SubstE
 ghost use Rattle.hol_formulas.specs.Equation.{bool_type};
 ghost use Rattle.hol_goal.specs.ArgumentsView.{args_value};
 ghost use Rattle.hol_goal.specs.declared.tac_code.TacCode.TheVariants as code;
+ghost use Rattle.hol_just.specs.FreeNames.{free_name};
 ghost use Rattle.hol_just.specs.Leaving.{concluding, goal_terms};
 ghost use Rattle.hol_just.specs.Justifies.{LeavesProperty, LeavesAtWitness};
 ghost use Rattle.hol_just.specs.Answering.{AnswersCode, IsJustified};
 
+use crate::assumptions::add_copies;
 use crate::steps::leaving_one;
 use hol_formulas::{dest_exists, dest_forall, occurrence};
 use hol_goal::{Goal, TacArgs};
 use hol_just::{Just, Step, TacFault, Tried};
-use hol_subst::{SubstError, vsubst};
-use hol_terms::{Term, TermNode, Variable};
+use hol_subst::{SubstError, free_name, vsubst};
+use hol_terms::{Term, TermNode, Variable, base_name};
+use hol_types::Name;
 use std::alloc::{AllocError, Global};
+
+/// GEN_TAC leaves `p` of `!x. p`, at a variable whose name no free variable and no constant of the goal has.
+pub fn gen_tac(alloc: Global, args: &TacArgs, goal: &Goal, turns: u32) -> Result<Tried, TacFault>
+    ensures answer { AnswersCode code.GenTac (args_value args.now) goal.now turns result }
+    ensures valid { IfOk result (λ tried. IsJustified (args_value args.now) goal.now tried.step) }
+{
+    let TacArgs::Nothing = args else {
+        return Err(TacFault::Refused(turns));
+    };
+    let Some((x, p)) = dest_forall(goal.conclusion()) else {
+        return Err(TacFault::Refused(turns));
+    };
+    let step = gen_step(alloc, goal, x, p)?;
+    Ok(Tried { step, left: turns })
+}
+
+// The step to the property at a new variable.
+fn gen_step(alloc: Global, goal: &Goal, x: &Variable, p: &Term) -> Result<Step, AllocError>
+    requires body { named_type p.now ≡ Some bool_type }
+    ensures goals { IfOk result (λ step. step.goals.items ≡ concluding goal.now (open_with (free (free_name (goal_terms goal.now) (base_of x.now.0), x.now.1)) 0 (nameless (x.now ∷ []) p.now)) ∷ []) }
+    ensures just { IfOk result (λ step. LeavesProperty (free_name (goal_terms goal.now) (base_of x.now.0), x.now.1) step.just) }
+    ensures absent { IfOk result (λ step. is_free_in (goal_terms goal.now) (free_name (goal_terms goal.now) (base_of x.now.0), x.now.1) ≡ false) }
+{
+    let v = new_variable(alloc, goal, x)?;
+    x_gen_step(alloc, goal, x, p, &v)
+}
+
+// A variable of the type of `x` whose name is its base with the fewest primes that make it new.
+fn new_variable(alloc: Global, goal: &Goal, x: &Variable) -> Result<Variable, AllocError>
+    ensures is { IfOk result (λ v. v ≡ (free_name (goal_terms goal.now) (base_of x.now.0), x.now.1)) }
+    ensures absent { IfOk result (λ v. is_free_in (goal_terms goal.now) (free_name (goal_terms goal.now) (base_of x.now.0), x.now.1) ≡ false) }
+{
+    let avoid = all_terms(alloc, goal)?;
+    let base = Name::new(alloc, base_name(x.name().as_str()))?;
+    let name = free_name(alloc, avoid.as_slice(), &base)?;
+    Variable::new(&name, x.ty())
+}
+
+// Copies of all its terms.
+fn all_terms(alloc: Global, goal: &Goal) -> Result<Vec<Term>, AllocError>
+    ensures { IfOk result (λ terms. map (nameless []) terms.items ≡ goal_terms goal.now) }
+{
+    let mut terms = Vec::new(alloc);
+    terms.push(goal.conclusion().copy()?)?;
+    add_copies(&mut terms, goal.assumptions())?;
+    Ok(terms)
+}
 
 /// X_GEN_TAC leaves `p` of `!x. p`, at a variable of the type of `x` that is not free in the goal.
 pub fn x_gen_tac(alloc: Global, args: &TacArgs, goal: &Goal, turns: u32) -> Result<Tried, TacFault>

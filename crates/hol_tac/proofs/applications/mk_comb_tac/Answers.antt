@@ -1,5 +1,4 @@
-use Rattle.std.proofs.Common.{ap, sym, ◌∙◌, refl, ◌≡◌, Some}
-use Rattle.hol_terms.specs.Named.{named_type}
+use Rattle.std.proofs.Common.{ap, sym, ◌∙◌, refl, Some}
 use Rattle.hol_kernel.specs.Sequent.{no_hyps}
 use Rattle.hol_tac.proofs.Justified.{by_nothing}
 use Rattle.hol_tac.proofs.ApplicationLaws.{same_arguments, mk_comb_valid}

@@ -1,4 +1,4 @@
-use Rattle.std.proofs.Common.{◌≡◌, [], ◌∷◌, ap, sym, ◌∙◌, rules}
+use Rattle.std.proofs.Common.{◌≡◌, [], ◌∷◌, ap, ◌∙◌, rules}
 use Rattle.std.specs.Prelude.{List, IfOk, Some}
 use Rattle.hol_terms.specs.Named.{Named, var, named_type}
 use Rattle.hol_terms.specs.Nameless.{nameless}

@@ -1,5 +1,4 @@
 use Rattle.std.proofs.Common.{[], ◌∷◌, ap, ◌∙◌, refl, Some}
-use Rattle.hol_terms.specs.Named.{named_type}
 use Rattle.hol_terms.specs.Nameless.{nameless}
 use Rattle.hol_terms.specs.Nameless.{base_of}
 use Rattle.hol_subst.specs.Closing.{open_with}

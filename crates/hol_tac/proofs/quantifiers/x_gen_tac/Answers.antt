@@ -1,5 +1,5 @@
-use Rattle.std.proofs.Common.{[], ◌∷◌, ap, sym, ◌∙◌, refl, subst, Some}
-use Rattle.hol_terms.specs.Named.{Named, var}
+use Rattle.std.proofs.Common.{[], ◌∷◌, ap, sym, ◌∙◌, refl}
+use Rattle.hol_terms.specs.Named.{var}
 use Rattle.hol_terms.specs.View.{named_of}
 use Rattle.hol_terms.specs.Nameless.{free, nameless, base_of}
 use Rattle.hol_subst.specs.Closing.{open_with}
