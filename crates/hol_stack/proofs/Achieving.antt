@@ -1,5 +1,5 @@
 -- Sequents that achieve goals.
-use Rattle.std.specs.Prelude.{◌≡◌, ℕ, ◌-◌, List, [], ◌∷◌, ◌++◌, length, drop, take, Option, Some, None, IsSome, refl}
+use Rattle.std.specs.Prelude.{◌≡◌, ℕ, ◌-◌, List, [], ◌∷◌, ◌++◌, length, drop, take, refl}
 use Rattle.std.proofs.Common.{ap, sym, ◌∙◌, subst, arith, suc, inl, inr}
 use Rattle.std.proofs.lemmas.List.{take-append-drop, length-drop, length-append, length-map, map-append, drop-map, take-map}
 use Rattle.hol_kernel.specs.Sequent.{Hyps, Sequent, no_hyps}
@@ -9,16 +9,9 @@ use Rattle.hol_kernel.proofs.Members.{in_union_cases, not_in_empty, same_members
 use Rattle.hol_goal.specs.Goal.{GoalValue}
 use Rattle.hol_goal.specs.Achieves.{Achieves, AreAllowed, assumed}
 use Rattle.hol_just.specs.Over.{sequents}
-use Rattle.hol_just.specs.Valid.{AchieveAll, Answers}
+use Rattle.hol_just.specs.Valid.{AchieveAll}
 
-pub answered : (extra : Hyps) (o : Option (List Sequent)) (goals : List GoalValue) → Answers extra o goals → IsSome o
-answered extra (Some ss) goals a = refl
-answered extra None goals a = absurd a
-
-pub answered_by : (extra : Hyps) (o : Option (List Sequent)) (ss : List Sequent) (goals : List GoalValue) → o ≡ Some ss → Answers extra o goals → AchieveAll extra ss goals
-answered_by extra o ss goals is a = subst (λ r. Answers extra r goals) is a
-
-pub achieve_length : (extra : Hyps) (ss : List Sequent) (gs : List GoalValue) → AchieveAll extra ss gs → length ss ≡ length gs
+achieve_length : (extra : Hyps) (ss : List Sequent) (gs : List GoalValue) → AchieveAll extra ss gs → length ss ≡ length gs
 achieve_length extra [] [] a = refl
 achieve_length extra [] (g ∷ gs) a = absurd a
 achieve_length extra (s ∷ ss) [] a = absurd a

@@ -1,18 +1,17 @@
-use Rattle.std.specs.Prelude.{◌-◌, [], take, reverse}
+use Rattle.std.specs.Prelude.{◌-◌, take, reverse}
 use Rattle.std.proofs.Common.{ap, sym, ◌∙◌, subst, arith}
 use Rattle.std.proofs.lemmas.Result.{IfOk-weaker}
-use Rattle.hol_terms.specs.Nameless.{Nameless, nameless}
+use Rattle.hol_terms.specs.Nameless.{Nameless}
 use Rattle.hol_terms.specs.Alpha.{strip}
 use Rattle.hol_formulas.specs.Equation.{bool_type}
 use Rattle.hol_kernel.specs.Items.{Items}
 use Rattle.hol_kernel.specs.Sequent.{no_hyps}
 use Rattle.hol_kernel.specs.Theorem.{theorem_over}
 use Rattle.hol_kernel.specs.Typing.{HasType}
-use Rattle.hol_kernel.proofs.Subsets.{within_itself}
 use Rattle.hol_just.specs.Over.{AreOver, sequents}
 use Rattle.hol_stack.specs.Sound.{AchievesNext}
-use Rattle.hol_stack.proofs.Histories.{none_over, back_begins, back_to, next_achieved, before_achieved, back_ends, goal_typed, goal_plain}
-use Rattle.hol_stack.proofs.Exact.{IsLast, last_is}
+use Rattle.hol_stack.proofs.Histories.{none_over, back_begins, back_to, next_achieved, before_achieved}
+use Rattle.hol_stack.proofs.Exact.{last_left, last_typed}
 use Rattle.hol_stack.proofs.finishing.theorem.Goals as goal
 
 pub back-init : goal.back-init
@@ -49,42 +48,29 @@ back-preserved c =
 
 pub exactly-requires-clause-alike : goal.exactly-requires-clause-alike
 exactly-requires-clause-alike c =
-    let last : IsLast c.args.newest.now.basis c.args.goal.now c.in-Some.thm =
-    last_is c.args.newest.now.basis c.args.goal.now c.back.thms.items c.pop.new.self.items c.in-Some.thm
-    (goal_plain c.args.goal.now c.args.newest.now (reverse c.args.earlier.now) c.requires.sound)
-    (back_ends c.args.goal.now c.args.newest.now.basis c.args.earlier.now c.back.left (sequents c.back.thms.items) (omega arith) c.back.invariant.back)
-    c.back.invariant.over
-    c.in-Some.ensures.items in
+    let last =
+    last_left c.args.goal.now c.args.newest.now c.args.earlier.now c.back.left c.back.thms.items c.pop.new.self.items c.in-Some.thm c.requires.sound (omega arith)
+    c.back.invariant.back c.back.invariant.over c.in-Some.ensures.items in
     last.alike ∙ ap strip (sym c.conclusion.ensures.term)
 
 pub exactly-requires-clause-typed : goal.exactly-requires-clause-typed
 exactly-requires-clause-typed c =
-    let last : IsLast c.args.newest.now.basis c.args.goal.now c.in-Some.thm =
-    last_is c.args.newest.now.basis c.args.goal.now c.back.thms.items c.pop.new.self.items c.in-Some.thm
-    (goal_plain c.args.goal.now c.args.newest.now (reverse c.args.earlier.now) c.requires.sound)
-    (back_ends c.args.goal.now c.args.newest.now.basis c.args.earlier.now c.back.left (sequents c.back.thms.items) (omega arith) c.back.invariant.back)
-    c.back.invariant.over
-    c.in-Some.ensures.items in
-    let typed = goal_typed c.args.goal.now c.args.newest.now (reverse c.args.earlier.now) c.args.newest.now.basis c.requires.sound (within_itself c.args.newest.now.basis) in
-    subst (λ (b : Items). HasType b (nameless [] c.conclusion.result.now) bool_type) (sym last.over)
-    (subst (λ (t : Nameless). HasType c.args.newest.now.basis t bool_type) (sym c.conclusion.ensures.term) typed.conclusion)
+    let last =
+    last_left c.args.goal.now c.args.newest.now c.args.earlier.now c.back.left c.back.thms.items c.pop.new.self.items c.in-Some.thm c.requires.sound (omega arith)
+    c.back.invariant.back c.back.invariant.over c.in-Some.ensures.items in
+    subst (λ (t : Nameless). HasType c.in-Some.thm.basis t bool_type) (sym c.conclusion.ensures.term)
+    (last_typed c.args.goal.now c.args.newest.now c.args.earlier.now c.in-Some.thm c.requires.sound last)
 
 pub exactly-requires-clause-free : goal.exactly-requires-clause-free
 exactly-requires-clause-free c =
-    let last : IsLast c.args.newest.now.basis c.args.goal.now c.in-Some.thm =
-    last_is c.args.newest.now.basis c.args.goal.now c.back.thms.items c.pop.new.self.items c.in-Some.thm
-    (goal_plain c.args.goal.now c.args.newest.now (reverse c.args.earlier.now) c.requires.sound)
-    (back_ends c.args.goal.now c.args.newest.now.basis c.args.earlier.now c.back.left (sequents c.back.thms.items) (omega arith) c.back.invariant.back)
-    c.back.invariant.over
-    c.in-Some.ensures.items in
+    let last =
+    last_left c.args.goal.now c.args.newest.now c.args.earlier.now c.back.left c.back.thms.items c.pop.new.self.items c.in-Some.thm c.requires.sound (omega arith)
+    c.back.invariant.back c.back.invariant.over c.in-Some.ensures.items in
     last.free
 
 pub returns : goal.returns
 returns c =
-    let last : IsLast c.args.newest.now.basis c.args.goal.now c.in-Some.thm =
-    last_is c.args.newest.now.basis c.args.goal.now c.back.thms.items c.pop.new.self.items c.in-Some.thm
-    (goal_plain c.args.goal.now c.args.newest.now (reverse c.args.earlier.now) c.requires.sound)
-    (back_ends c.args.goal.now c.args.newest.now.basis c.args.earlier.now c.back.left (sequents c.back.thms.items) (omega arith) c.back.invariant.back)
-    c.back.invariant.over
-    c.in-Some.ensures.items in
+    let last =
+    last_left c.args.goal.now c.args.newest.now c.args.earlier.now c.back.left c.back.thms.items c.pop.new.self.items c.in-Some.thm c.requires.sound (omega arith)
+    c.back.invariant.back c.back.invariant.over c.in-Some.ensures.items in
     IfOk-weaker c.exactly.result _ _ (λ th made. made ∙ (λ i. theorem_over (last.over i) no_hyps (c.conclusion.ensures.term i))) c.exactly.ensures
