@@ -1,8 +1,8 @@
--- Hypotheses that the derivations of the rules of falsity, disjunction and existence leave, the types of parts of formulas, and the bodies of definitions at closed terms.
-use Rattle.std.specs.Prelude.{◌≡◌, ℕ, ◌+◌, true, false, not, ◌&&◌, ◌||◌, Bool, List, [], ◌∷◌, codes, Some, None, refl}
+-- Hypotheses that the derivations of the rules of falsity, disjunction and existence leave, and the body of the definition of \/ at closed terms.
+use Rattle.std.specs.Prelude.{◌≡◌, ℕ, true, false, not, ◌&&◌, ◌||◌, Bool, List, [], ◌∷◌, codes, Some, None, refl}
 use Rattle.std.specs.Cmp.{Equal-is}
 use Rattle.std.specs.FinSet as set
-use Rattle.std.proofs.Common.{ap, sym, ◌∙◌, arith}
+use Rattle.std.proofs.Common.{ap, sym, ◌∙◌}
 use mathlib.Core.Bool.{true≢false}
 use Rattle.hol_types.specs.Tree.{TypeTree}
 use Rattle.hol_types.specs.Fun.{fun_type}
@@ -13,9 +13,9 @@ use Rattle.hol_terms.specs.Scoped.{binds}
 use Rattle.hol_subst.specs.AlphaOrder.{nameless_cmp}
 use Rattle.hol_subst.specs.Closing.{open_with}
 use Rattle.hol_subst.specs.Variant.{is_free_in}
-use Rattle.hol_subst.proofs.Closing.{IsClosed, below, closed_more, shift_whole}
+use Rattle.hol_subst.proofs.Closing.{IsClosed, shift_whole}
 use Rattle.hol_formulas.specs.Equation.{bool_type}
-use Rattle.hol_formulas.specs.Formula.{connective_type, disjunction, implication, universal}
+use Rattle.hol_formulas.specs.Formula.{disjunction, implication, universal}
 use Rattle.hol_formulas.specs.Prelude.{boolean}
 use Rattle.hol_kernel.specs.Items.{Items}
 use Rattle.hol_kernel.specs.Sequent.{Hyps, no_hyps, only_hyp}
@@ -27,6 +27,7 @@ use Rattle.hol_equal.proofs.Typings.{parts_typed}
 use Rattle.hol_bool.specs.Unfolded.{either, either_for_all, letter, side_name, reached_from}
 use Rattle.hol_bool.specs.declared.disjunction.Side.{Side}
 use Rattle.hol_bool.specs.declared.disjunction.Side.TheVariants.{Left, Right}
+use Rattle.hol_bool.proofs.Bodies.{open_whole}
 use Rattle.hol_bool.proofs.HypLaws.{is, has, same, in_union, in_rest, in_one, in_none}
 
 pub not_none : {A : Type 0} (x : A) → Some x ≡ None → ⊥
@@ -43,17 +44,6 @@ module _ (basis : Items) where
       let is : fun_type d r ≡ fun_type p.domain b = some_is (fun_type d r) (fun_type p.domain b) q.1 in
       let same : p.domain ≡ d = cc in
       p.argument ∙ ap Some same
-
-  -- what a connective stands between
-  pub operands_typed : (c : List ℕ) (b : TypeTree) (p q : Nameless) → HasType basis (app (app (fixed c connective_type) p) q) b → HasType basis p bool_type × HasType basis q bool_type
-  operands_typed c b p q h =
-      let o = parts_typed basis (app (fixed c connective_type) p) q b h in
-      let n = parts_typed basis (fixed c connective_type) p (fun_type o.domain b) o.function in
-      let k = known_typed basis (fixed c connective_type) (fun_type n.domain (fun_type o.domain b)) n.function in
-      let is : connective_type ≡ fun_type n.domain (fun_type o.domain b) = some_is connective_type (fun_type n.domain (fun_type o.domain b)) k.1 in
-      let first : n.domain ≡ bool_type = cc in
-      let second : o.domain ≡ bool_type = cc in
-      (n.argument ∙ ap Some first, o.argument ∙ ap Some second)
 
 -- ---- EQF_INTRO
 
@@ -80,19 +70,6 @@ denied hs d p f =
     ∙ ap (λ b. not (is q (strip p)) && b) (in_union (only_hyp d) (only_hyp p) q ∙ (λ j. in_one d q j || in_one p q j))) i)))
     ∙ denied_ways (has hs q) (is q (strip d)) (is q (strip f)) (is q (strip p)))
 
--- ---- opening closed terms
-
-open_closed : (r : Nameless) (k : ℕ) (n : Nameless) → IsClosed k n → open_with r k n ≡ n
-open_closed r k (free v) c = refl
-open_closed r k (bound i) c = rw (below i k c) refl
-open_closed r k (fixed d s) c = refl
-open_closed r k (app f x) c = λ i. app (open_closed r k f c.0 i) (open_closed r k x c.1 i)
-open_closed r k (lam a s b) c = ap (lam a s) (open_closed r (k + 1) b c)
-
--- a term without free indices stays
-pub open_stays : (r : Nameless) (k : ℕ) (n : Nameless) → IsClosed 0 n → open_with r k n ≡ n
-open_stays r k n c = open_closed r k n (closed_more 0 k n (omega arith) c)
-
 -- ---- the definition of \/
 
 -- \q r. (u ==> r) ==> (q ==> r) ==> r
@@ -104,17 +81,17 @@ module _ (p q : Nameless) (c : IsClosed 0 p) (d : IsClosed 0 q) where
   first_opened = ap or_half (shift_whole 2 0 p c)
 
   pub second_opened : open_with q 0 (universal (record { base = codes "r"; domain = bool_type; body = either p (bound 1) (bound 0) })) ≡ universal (either_for_all p q)
-  second_opened = λ i. universal (either_for_all (open_stays q 1 p c i) (shift_whole 1 0 q d i))
+  second_opened = λ i. universal (either_for_all (open_whole q 1 p c i) (shift_whole 1 0 q d i))
 
   pub either_opened : (r : Nameless) → IsClosed 0 r → open_with r 0 (either p q (bound 0)) ≡ either p q r
-  either_opened r e = λ i. either (open_stays r 0 p c i) (open_stays r 0 q d i) (shift_whole 0 0 r e i)
+  either_opened r e = λ i. either (open_whole r 0 p c i) (open_whole r 0 q d i) (shift_whole 0 0 r e i)
 
   -- !q. p ==> p \/ q at q, and !q. q ==> p \/ q
   pub left_opened : open_with q 0 (implication p (disjunction p (bound 0))) ≡ implication p (disjunction p q)
-  left_opened = λ i. implication (open_stays q 0 p c i) (disjunction (open_stays q 0 p c i) (shift_whole 0 0 q d i))
+  left_opened = λ i. implication (open_whole q 0 p c i) (disjunction (open_whole q 0 p c i) (shift_whole 0 0 q d i))
 
   pub right_opened : open_with q 0 (implication (bound 0) (disjunction p (bound 0))) ≡ implication q (disjunction p q)
-  right_opened = λ i. implication (shift_whole 0 0 q d i) (disjunction (open_stays q 0 p c i) (shift_whole 0 0 q d i))
+  right_opened = λ i. implication (shift_whole 0 0 q d i) (disjunction (open_whole q 0 p c i) (shift_whole 0 0 q d i))
 
 abbrev pub left_at : Nameless → Nameless
 left_at p = universal (record { base = codes "q"; domain = bool_type; body = implication p (disjunction p (bound 0)) })

@@ -1,5 +1,6 @@
 use Rattle.std.specs.FinSet as set
-use Rattle.hol_bool.proofs.Disjunctions.{not_none, operands_typed}
+use Rattle.hol_bool.proofs.Connected.{operands_typed}
+use Rattle.hol_bool.proofs.Disjunctions.{not_none}
 use Rattle.hol_bool.specs.Applied.{by_cases, discharged, implied}
 use Rattle.hol_bool.specs.Unfolded.{either}
 use Rattle.hol_equal.proofs.Outcomes.{became}
@@ -36,7 +37,7 @@ eliminated-requires c =
     let pp : nameless [] c.in-Some.p.now ≡ p = sym (ap lhs whole) in
     let qq : nameless [] c.in-Some.q.now ≡ q = sym (ap rhs whole) in
     let rr : nameless [] c.concl-2.result.now ≡ r = c.concl-2.ensures.concl in
-    let types = operands_typed B (codes "\\/") bool_type p q (subst (λ (n : Nameless). HasType B n bool_type) c.requires.is c.well_typed.ensures.conclusion) in
+    let types = operands_typed B (codes "\\/") p q bool_type (subst (λ (n : Nameless). HasType B n bool_type) c.requires.is c.well_typed.ensures.conclusion) in
     let third : HasType B r bool_type = subst (λ (b : Items). HasType b r bool_type) (sym c.requires.one_basis) c.well_typed-2.ensures.conclusion in
     rw (pp, qq, rr) record { is = c.requires.is; first = types.0; second = types.1; third = third }
 
@@ -49,7 +50,7 @@ disch-requires c =
     let found : dest_disj s.concl ≡ Some (nameless [] c.in-Some.p.now, nameless [] c.in-Some.q.now) = ap dest_disj (sym c.concl.ensures.concl) ∙ c.in-Some.ensures.parts in
     let whole : s.concl ≡ disjunction (nameless [] c.in-Some.p.now) (nameless [] c.in-Some.q.now) = dest_binary_is (codes "\\/") connective_type s.concl (nameless [] c.in-Some.p.now, nameless [] c.in-Some.q.now) found in
     let pp : nameless [] c.in-Some.p.now ≡ p = sym (ap lhs whole) in
-    let types = operands_typed B (codes "\\/") bool_type p q (subst (λ (n : Nameless). HasType B n bool_type) c.requires.is c.well_typed.ensures.conclusion) in
+    let types = operands_typed B (codes "\\/") p q bool_type (subst (λ (n : Nameless). HasType B n bool_type) c.requires.is c.well_typed.ensures.conclusion) in
     rw (pp, sym c.requires.one_basis) record { typed = types.0 }
 
 pub mp-requires : goal.mp-requires
@@ -78,7 +79,7 @@ disch-requires-2 c =
     let found : dest_disj s.concl ≡ Some (nameless [] c.in-Some.p.now, nameless [] c.in-Some.q.now) = ap dest_disj (sym c.concl.ensures.concl) ∙ c.in-Some.ensures.parts in
     let whole : s.concl ≡ disjunction (nameless [] c.in-Some.p.now) (nameless [] c.in-Some.q.now) = dest_binary_is (codes "\\/") connective_type s.concl (nameless [] c.in-Some.p.now, nameless [] c.in-Some.q.now) found in
     let qq : nameless [] c.in-Some.q.now ≡ q = sym (ap rhs whole) in
-    let types = operands_typed B (codes "\\/") bool_type p q (subst (λ (n : Nameless). HasType B n bool_type) c.requires.is c.well_typed.ensures.conclusion) in
+    let types = operands_typed B (codes "\\/") p q bool_type (subst (λ (n : Nameless). HasType B n bool_type) c.requires.is c.well_typed.ensures.conclusion) in
     rw (qq, sym c.requires.same_basis) record { typed = types.1 }
 
 pub mp-requires-2 : goal.mp-requires-2
