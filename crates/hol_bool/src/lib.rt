@@ -22,6 +22,7 @@ pub use conjunction::conj;
 pub use connectives::{
     conjunct1, conjunct2, contr, disch, disj_cases, disj1, disj2, eqf_intro, mp, undisch,
 };
+pub use definitions::unfold;
 pub use error::{BoolError, Rule};
 pub use laws::{rules_keep_hypotheses, rules_widen};
 pub use rules::{choose, exists, generalize, spec};
