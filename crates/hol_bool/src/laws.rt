@@ -9,7 +9,7 @@ ghost use Rattle.hol_kernel.specs.Items.{Items};
 ghost use Rattle.hol_kernel.specs.Sequent.{only_hyp, Sequent};
 ghost use Rattle.hol_kernel.specs.Widening.{IsMonotone};
 ghost use Rattle.hol_bool.specs.Hypotheses.{StaysWithin};
-ghost use Rattle.hol_bool.specs.Rules.{spec_of, gen_of, conj_of, conjunct1_of, conjunct2_of, mp_of, disch_of, undisch_of, disj1_of, disj2_of, contr_of, exists_of};
+ghost use Rattle.hol_bool.specs.Rules.{spec_of, gen_of, exists_of, choose_of, conj_of, conjunct1_of, conjunct2_of, mp_of, disch_of, undisch_of, disj1_of, disj2_of, disj_cases_of, contr_of, eqt_intro_of, eqf_intro_of};
 
 /// A rule that takes a term or a variable over a set of items gives the same sequent over every larger set. The other rules take sequents alone, so that they do so by
 /// their form.
@@ -23,8 +23,7 @@ pub fn rules_widen()
     ensures exists { (e t : Nameless) (a : Sequent) → IsMonotone (λ basis. exists_of basis e t a) }
 {}
 
-/// The hypotheses of what a rule of conjunction or implication gives are among those of its premises; `disch` leaves none that is the formula up to bound names, and `undisch` adds
-/// what the implication is from.
+/// The hypotheses of what a rule gives are among those of its premises; `disch` leaves none that is the formula up to bound names, and `undisch` adds what the implication is from.
 pub fn rules_keep_hypotheses()
     ensures conj { (a b : Sequent) → StaysWithin (set.union a.hyps b.hyps) (Some (conj_of a b)) }
     ensures conjunct1 { (a : Sequent) → StaysWithin a.hyps (conjunct1_of a) }
@@ -32,5 +31,15 @@ pub fn rules_keep_hypotheses()
     ensures mp { (a b : Sequent) → StaysWithin (set.union a.hyps b.hyps) (mp_of a b) }
     ensures disch { (basis : Items) (p : Nameless) (a : Sequent) → StaysWithin a.hyps (disch_of basis p a) }
     ensures discharged { (basis : Items) (p : Nameless) (a s : Sequent) → disch_of basis p a ≡ Some s → set.contains s.hyps (strip p) ≡ false }
+    ensures spec { (basis : Items) (t : Nameless) (a : Sequent) → StaysWithin a.hyps (spec_of basis t a) }
+    ensures generalize { (basis : Items) (v : Named) (a : Sequent) → StaysWithin a.hyps (gen_of basis v a) }
+    ensures exists { (basis : Items) (e t : Nameless) (a : Sequent) → StaysWithin a.hyps (exists_of basis e t a) }
+    ensures choose { (v : Named) (a b : Sequent) → StaysWithin (set.union a.hyps b.hyps) (choose_of v a b) }
+    ensures disj1 { (basis : Items) (a : Sequent) (q : Nameless) → StaysWithin a.hyps (disj1_of basis a q) }
+    ensures disj2 { (basis : Items) (p : Nameless) (a : Sequent) → StaysWithin a.hyps (disj2_of basis p a) }
+    ensures disj_cases { (a b c : Sequent) → StaysWithin (set.union (set.union a.hyps b.hyps) c.hyps) (disj_cases_of a b c) }
+    ensures contr { (basis : Items) (p : Nameless) (a : Sequent) → StaysWithin a.hyps (contr_of basis p a) }
+    ensures eqt_intro { (a : Sequent) → StaysWithin a.hyps (Some (eqt_intro_of a)) }
+    ensures eqf_intro { (a : Sequent) → StaysWithin a.hyps (eqf_intro_of a) }
     ensures undisch { (a : Sequent) (p q : Nameless) → dest_imp a.concl ≡ Some (p, q) → StaysWithin (set.union a.hyps (only_hyp p)) (undisch_of a) }
 {}
