@@ -10,7 +10,7 @@ use Rattle.hol_kernel.specs.Given.{Given, given_sequent}
 use Rattle.hol_kernel.proofs.Declared.{has_type_of}
 use Rattle.hol_kernel.proofs.Sound.{strip_type}
 use Rattle.hol_just.specs.Gives.{moved}
-use Rattle.hol_just.specs.Justifies.{goal_at, always, holds_given, holds_formula, ClosesEquation, ClosesByGiven, ClosesByFalsity, SplitsApplications, LeavesArguments, LeavesFunctions, SplitsEquivalence, SplitsIntoImplications, LeavesConsequent, UnfoldsNegation, LeavesRefutation, TakesOut, SplitsByImplication, LeavesImplication, LeavesFalsity}
+use Rattle.hol_just.specs.Justifies.{goal_at, always, holds_given, holds_formula, ClosesEquation, ClosesByGiven, ClosesByFalsity, SplitsApplications, LeavesArguments, LeavesFunctions, SplitsEquivalence, SplitsIntoImplications, LeavesConsequent, UnfoldsNegation, LeavesRefutation, TakesOut, SplitsByImplication, LeavesImplication, LeavesAssuming, LeavesFalsity}
 use Rattle.hol_just.specs.declared.reason.Move.{Move}
 use Rattle.hol_just.proofs.Givens.{IsFormula}
 use Rattle.hol_just.proofs.Validity.{valid_at, valid_under}
@@ -50,6 +50,15 @@ leaves_implication th splits closes all formula s c is =
     (λ basis suit. has_type_of basis (given_sequent th).concl bool_type (formula basis suit))
     (s extra assumptions (given_sequent th).concl q))
     (c extra (goal_at assumptions (given_sequent th).concl) refl allowed))
+
+pub leaves_assuming : (th : Given) (c : Nameless) (leaves assumes all : List Move) → c ≡ (given_sequent th).concl → LeavesImplication th leaves → LeavesConsequent c assumes → all ≡ leaves ++ moved 0 assumes → LeavesAssuming th all
+leaves_assuming th c leaves assumes all concl l a is =
+    subst (LeavesAssuming th) (sym is)
+    (λ extra assumptions q allowed.
+    valid_at (holds_given th) extra leaves assumes (goal_at assumptions q ∷ []) [] (goal_at assumptions (implication (given_sequent th).concl q) ∷ []) (goal_at ((given_sequent th).concl ∷ assumptions) q ∷ []) [] 0 refl
+    (l extra assumptions q allowed)
+    (valid_under always (holds_given th) extra assumes (goal_at assumptions (implication (given_sequent th).concl q) ∷ []) (goal_at ((given_sequent th).concl ∷ assumptions) q ∷ []) (λ basis suit. refl)
+    (subst (λ p. LeavesConsequent p assumes) concl a extra assumptions q)))
 
 pub closes_by_falsity : (p : Nameless) (th : Given) (splits closes all : List Move) → LeavesFalsity p splits → ClosesByGiven th closes → all ≡ splits ++ moved 0 closes → ClosesByFalsity p th all
 closes_by_falsity p th splits closes all s c is =

@@ -39,6 +39,10 @@ undisch_tac t goal = option_map (λ r. record { assumptions = r.1; conclusion = 
 abbrev pub mp_tac : Given → GoalValue → Option (List GoalValue)
 mp_tac th goal = Some (concluding goal (implication (given_sequent th).concl goal.conclusion) ∷ [])
 
+-- ASSUME_TAC assumes a theorem c.
+abbrev pub assume_tac : Given → GoalValue → Option (List GoalValue)
+assume_tac th goal = Some (assuming goal (given_sequent th).concl goal.conclusion ∷ [])
+
 -- CONTR_TAC closes every goal by a theorem F.
 abbrev pub contr_tac : Given → GoalValue → Option (List GoalValue)
 contr_tac th goal = cond (is_falsity (given_sequent th).concl) (Some []) None

@@ -134,6 +134,12 @@ LeavesImplication th moves =
     (extra : Hyps) (assumptions : List Nameless) (q : Nameless) → AreAllowed extra assumptions (given_sequent th).hyps →
     IsValid (holds_given th) extra moves (goal_at assumptions q ∷ []) (goal_at assumptions (implication (given_sequent th).concl q) ∷ [])
 
+-- ASSUME_TAC leaves q with c assumed, for a theorem c.
+abbrev pub LeavesAssuming : Given → List Move → Type 0
+LeavesAssuming th moves =
+    (extra : Hyps) (assumptions : List Nameless) (q : Nameless) → AreAllowed extra assumptions (given_sequent th).hyps →
+    IsValid (holds_given th) extra moves (goal_at assumptions q ∷ []) (goal_at ((given_sequent th).concl ∷ assumptions) q ∷ [])
+
 -- p from F
 abbrev pub LeavesFalsity : Nameless → List Move → Type 0
 LeavesFalsity p moves = (extra : Hyps) (assumptions : List Nameless) → IsValid always extra moves (goal_at assumptions p ∷ []) (goal_at assumptions falsity ∷ [])

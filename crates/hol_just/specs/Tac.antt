@@ -7,7 +7,7 @@ use Rattle.hol_goal.specs.declared.tac_code.TacCode.{TacCode}
 use Rattle.hol_goal.specs.declared.tac_code.TacCode.TheVariants.{AllTac, NoTac, ReflTac, AcceptTac, ConjTac, Disj1Tac, Disj2Tac, EqTac, DischTac, GenTac, XGenTac, ExistsTac, SpecTac, MpTac, AssumeTac, ContrTac, ChooseTac, XChooseTac, DisjCasesTac, Subst1Tac, ApTermTac, ApThmTac, MkCombTac, UndischTac, StripAssumeTac, StripTac, MatchMpTac, BetaTac, RewriteTac, OnceRewriteTac, AsmRewriteTac, OnceAsmRewriteTac, PureRewriteTac}
 use Rattle.hol_just.specs.Leaving.{with_nothing, with_term, with_theorem}
 use Rattle.hol_just.specs.EquationTacs.{refl_tac, eq_tac, ap_term_tac, ap_thm_tac, mk_comb_tac}
-use Rattle.hol_just.specs.ConnectiveTacs.{accept_tac, conj_tac, disj1_tac, disj2_tac, disch_tac, undisch_tac, mp_tac, contr_tac}
+use Rattle.hol_just.specs.ConnectiveTacs.{accept_tac, conj_tac, disj1_tac, disj2_tac, disch_tac, undisch_tac, mp_tac, assume_tac, contr_tac}
 use Rattle.hol_just.specs.QuantifierTacs.{gen_tac, x_gen_tac, exists_tac}
 
 -- what a function answers, from its arguments, the goal, and what the run may still use
@@ -31,7 +31,7 @@ tac XGenTac = Some (λ args goal used. answered (with_term args (λ t. x_gen_tac
 tac ExistsTac = Some (λ args goal used. answered (with_term args (λ t. exists_tac t goal)) used)
 tac SpecTac = None
 tac MpTac = Some (λ args goal used. answered (with_theorem args (λ th. mp_tac th goal)) used)
-tac AssumeTac = None
+tac AssumeTac = Some (λ args goal used. answered (with_theorem args (λ th. assume_tac th goal)) used)
 tac ContrTac = Some (λ args goal used. answered (with_theorem args (λ th. contr_tac th goal)) used)
 tac ChooseTac = None
 tac XChooseTac = None

@@ -6,7 +6,7 @@ ghost use Rattle.hol_kernel.specs.Items.{Items};
 ghost use Rattle.hol_kernel.specs.Given.{given_sequent};
 ghost use Rattle.hol_kernel.specs.Typing.{HasType};
 ghost use Rattle.hol_just.specs.Justifies.{holds_given, ClosesEquation, ClosesByGiven, ClosesByFalsity, SplitsApplications, LeavesArguments, LeavesFunctions, SplitsEquivalence, SplitsIntoImplications};
-ghost use Rattle.hol_just.specs.Justifies.{SplitsConjunction, LeavesLeft, LeavesRight, LeavesConsequent, UnfoldsNegation, LeavesRefutation, TakesOut, SplitsByImplication, LeavesImplication, LeavesFalsity, LeavesProperty, LeavesAtWitness};
+ghost use Rattle.hol_just.specs.Justifies.{SplitsConjunction, LeavesLeft, LeavesRight, LeavesConsequent, UnfoldsNegation, LeavesRefutation, TakesOut, SplitsByImplication, LeavesImplication, LeavesAssuming, LeavesFalsity, LeavesProperty, LeavesAtWitness};
 
 use crate::just::Just;
 use crate::reason::Reason;
@@ -142,6 +142,16 @@ impl Just {
         let closing = Just::accept_tac(alloc, th)?;
         let mut just = Just::mp(alloc)?;
         just.then_at(1, &closing)?;
+        Ok(just)
+    }
+
+    /// That of ASSUME_TAC by this theorem: MP_TAC leaves an implication from it, and of that what it assumes.
+    pub fn assume_tac(alloc: Global, th: &Given) -> Result<Just, AllocError>
+        ensures { IfOk result (λ just. LeavesAssuming th.now just) }
+    {
+        let assuming = Just::disch_tac(alloc, th.concl())?;
+        let mut just = Just::mp_tac(alloc, th)?;
+        just.then_at(0, &assuming)?;
         Ok(just)
     }
 

@@ -7,7 +7,7 @@ ghost use Rattle.hol_just.specs.Answering.{AnswersCode, IsJustified};
 use crate::applications::{ap_term_tac, ap_thm_tac, mk_comb_tac};
 use crate::assumptions::undisch_tac;
 use crate::connectives::{
-    accept_tac, conj_tac, contr_tac, disch_tac, disj1_tac, disj2_tac, mp_tac,
+    accept_tac, assume_tac, conj_tac, contr_tac, disch_tac, disj1_tac, disj2_tac, mp_tac,
 };
 use crate::equations::{eq_tac, refl_tac};
 use crate::quantifiers::{exists_tac, gen_tac, x_gen_tac};
@@ -41,13 +41,13 @@ pub fn tac(
         TacCode::XGenTac => Some(x_gen_tac(alloc, args, goal, turns)),
         TacCode::ExistsTac => Some(exists_tac(alloc, args, goal, turns)),
         TacCode::MpTac => Some(mp_tac(alloc, args, goal, turns)),
+        TacCode::AssumeTac => Some(assume_tac(alloc, args, goal, turns)),
         TacCode::ContrTac => Some(contr_tac(alloc, args, goal, turns)),
         TacCode::ApTermTac => Some(ap_term_tac(alloc, args, goal, turns)),
         TacCode::ApThmTac => Some(ap_thm_tac(alloc, args, goal, turns)),
         TacCode::MkCombTac => Some(mk_comb_tac(alloc, args, goal, turns)),
         TacCode::UndischTac => Some(undisch_tac(alloc, args, goal, turns)),
         TacCode::SpecTac
-        | TacCode::AssumeTac
         | TacCode::ChooseTac
         | TacCode::XChooseTac
         | TacCode::DisjCasesTac

@@ -8,7 +8,7 @@ ghost use Rattle.hol_kernel.specs.Given.{given_sequent};
 ghost use Rattle.hol_goal.specs.ArgumentsView.{args_value};
 ghost use Rattle.hol_goal.specs.declared.tac_code.TacCode.TheVariants as code;
 ghost use Rattle.hol_just.specs.Leaving.{concluding, assuming};
-ghost use Rattle.hol_just.specs.Justifies.{SplitsConjunction, LeavesLeft, LeavesRight, LeavesConsequent, LeavesRefutation, LeavesImplication};
+ghost use Rattle.hol_just.specs.Justifies.{SplitsConjunction, LeavesLeft, LeavesRight, LeavesConsequent, LeavesRefutation, LeavesImplication, LeavesAssuming};
 ghost use Rattle.hol_just.specs.Answering.{AnswersCode, IsJustified};
 
 use crate::steps::{assume, closing, implying, leaving_one, leaving_two};
@@ -144,6 +144,28 @@ fn mp_step(alloc: Global, th: &Given, goal: &Goal) -> Result<Step, AllocError>
 {
     let left = implying(alloc, goal, th.concl(), goal.conclusion())?;
     let just = Just::mp_tac(alloc, th)?;
+    leaving_one(alloc, left, just)
+}
+
+/// ASSUME_TAC assumes a theorem.
+pub fn assume_tac(alloc: Global, args: &TacArgs, goal: &Goal, turns: u32) -> Result<Tried, TacFault>
+    ensures answer { AnswersCode code.AssumeTac (args_value args.now) goal.now turns result }
+    ensures valid { IfOk result (λ tried. IsJustified (args_value args.now) goal.now tried.step) }
+{
+    let TacArgs::Theorem(th) = args else {
+        return Err(TacFault::Refused(turns));
+    };
+    let step = assume_step(alloc, th, goal)?;
+    Ok(Tried { step, left: turns })
+}
+
+// The step to the goal with the theorem assumed.
+fn assume_step(alloc: Global, th: &Given, goal: &Goal) -> Result<Step, AllocError>
+    ensures goals { IfOk result (λ step. step.goals.items ≡ assuming goal.now (given_sequent th.now).concl goal.now.conclusion ∷ []) }
+    ensures just { IfOk result (λ step. LeavesAssuming th.now step.just) }
+{
+    let left = assume(alloc, goal, th.concl(), goal.conclusion())?;
+    let just = Just::assume_tac(alloc, th)?;
     leaving_one(alloc, left, just)
 }
 
