@@ -1,4 +1,6 @@
 //! Bases that are built of declarations and definitions.
+ghost use Rattle.std.specs.Prelude.{◌≡◌};
+
 use crate::rules::premise;
 use crate::sequents::{Made, told};
 use crate::written::{term, ty};
@@ -94,7 +96,6 @@ fn with_type(
 }
 
 /// The definition of the type `one` by the premise, over the basis.
-#[tactic(auto, using(hol_kernel::proofs::Subsets::within))]
 pub(crate) fn type_defined(
     alloc: Global,
     basis: &Basis,
@@ -103,10 +104,23 @@ pub(crate) fn type_defined(
     by: &str,
 ) -> Result<Made<TypeDefinition>, Fail> {
     let th = premise(alloc, basis, by)?;
-    let ty = Name::new(alloc, "one")?;
     let abs = Name::new(alloc, abs)?;
     let rep = Name::new(alloc, rep)?;
-    told(alloc, basis.type_define(alloc, &ty, &abs, &rep, &th))
+    of_premise(alloc, basis, &abs, &rep, &th)
+}
+
+#[tactic(auto, using(hol_kernel::proofs::Subsets::within))]
+fn of_premise(
+    alloc: Global,
+    basis: &Basis,
+    abs: &Name,
+    rep: &Name,
+    th: &Thm,
+) -> Result<Made<TypeDefinition>, Fail>
+    requires { th.now.basis ≡ basis.now }
+{
+    let ty = Name::new(alloc, "one")?;
+    told(alloc, basis.type_define(alloc, &ty, abs, rep, th))
 }
 
 /// The basis of two steps over no items.

@@ -11,76 +11,62 @@ use std::test::Fail;
 
 const IDENTITY: Step<'static> = Step::Definition("c", "\\x:A. x");
 
-// Whether the steps are taken, or why not.
-fn outcome(alloc: Global, first: Step<'_>, second: Step<'_>) -> Result<String, Fail> {
+// The step of these words, the last of which are a text.
+fn step(text: &str) -> Option<Step<'_>> {
+    let (kind, rest) = text.split_once(' ')?;
+    let (name, right) = rest.split_once(' ')?;
+    match kind {
+        "type" => Some(Step::Constructor(name, right.parse().ok()?)),
+        "constant" => Some(Step::Constant(name, right)),
+        "axiom" => Some(Step::Axiom(name, right)),
+        "define" => Some(Step::Definition(name, right)),
+        _ => Some(Step::Type(kind, name, right)),
+    }
+}
+
+// Whether the steps between bars are taken, or why not.
+fn outcome(alloc: Global, steps: &str) -> Result<String, Fail> {
+    let (first, second) = steps.split_once(" | ").unwrap_or(("", steps));
+    let first = step(first).unwrap_or(Step::Nothing);
+    let second = step(second).ok_or("no step")?;
     match built(alloc, first, second)? {
         Ok(_basis) => Ok(String::from_str(alloc, "taken")?),
         Err(refusal) => Ok(refusal),
     }
 }
 
+// The steps, and whether they are taken. A type is defined by the names of its two constants and a premise.
+const STEPS: [(&str, &str); 11] = [
+    ("type list 1", "taken"),
+    ("type fun 2", "Refused(DeclareType)"),
+    ("constant c bool | constant c bool", "Refused(DeclareConst)"),
+    ("axiom EXCLUDED x:ind", "Refused(DeclareAxiom)"),
+    ("define c \\x:A. x | define c \\x:A. x", "Refused(Define)"),
+    ("define c x:bool", "Refused(Define)"),
+    (
+        "define c \\x:bool. (\\y:A. y) = (\\y:A. y)",
+        "Refused(Define)",
+    ),
+    ("abs rep (\\x:bool. x) = (\\x. x)", "Refused(TypeDefine)"),
+    ("abs rep REFL x:bool", "Refused(TypeDefine)"),
+    ("abs abs REFL \\x:bool. x", "Refused(TypeDefine)"),
+    ("abs T REFL \\x:bool. x", "Refused(TypeDefine)"),
+];
+
+// The first steps of which this is not so, with what is found, or nothing.
+fn untaken(alloc: Global, rows: &[(&str, &str)]) -> Result<String, Fail> {
+    for (steps, wanted) in rows {
+        let found = outcome(alloc, steps)?;
+        if found.as_str() != *wanted {
+            return Ok(format!(in alloc; "{steps}: {found}")?);
+        }
+    }
+    Ok(String::new(alloc))
+}
+
 #[test]
 fn steps_are_taken_or_refused(rt: HostRuntime) -> Result<(), Fail> {
-    let none = Step::Nothing;
-    let c = Step::Constant("c", "bool");
-    let hidden = Step::Definition("c", "\\x:bool. (\\y:A. y) = (\\y:A. y)");
-    let rows = [
-        ("a type", none, Step::Constructor("list", 1), "taken"),
-        (
-            "a type of the prelude",
-            none,
-            Step::Constructor("fun", 2),
-            "Refused(DeclareType)",
-        ),
-        ("a constant twice", c, c, "Refused(DeclareConst)"),
-        (
-            "an axiom of type ind",
-            none,
-            Step::Axiom("EXCLUDED", "x:ind"),
-            "Refused(DeclareAxiom)",
-        ),
-        ("a definition twice", IDENTITY, IDENTITY, "Refused(Define)"),
-        (
-            "an open definition",
-            none,
-            Step::Definition("c", "x:bool"),
-            "Refused(Define)",
-        ),
-        (
-            "a type variable that is not in the type",
-            none,
-            hidden,
-            "Refused(Define)",
-        ),
-        (
-            "a type by a premise with a hypothesis",
-            none,
-            Step::Type("abs", "rep", "(\\x:bool. x) = (\\x. x)"),
-            "Refused(TypeDefine)",
-        ),
-        (
-            "a type by an open predicate",
-            none,
-            Step::Type("abs", "rep", "REFL x:bool"),
-            "Refused(TypeDefine)",
-        ),
-        (
-            "one name for both constants",
-            none,
-            Step::Type("abs", "abs", "REFL \\x:bool. x"),
-            "Refused(TypeDefine)",
-        ),
-        (
-            "a name of the prelude",
-            none,
-            Step::Type("abs", "T", "REFL \\x:bool. x"),
-            "Refused(TypeDefine)",
-        ),
-    ];
-    for (what, first, second, wanted) in rows {
-        let found = outcome(rt.alloc(), first, second)?;
-        assert_eq!(rt; found.as_str(), wanted, "{what}");
-    }
+    assert_eq!(rt; untaken(rt.alloc(), &STEPS)?.as_str(), "");
     Ok(())
 }
 
@@ -201,14 +187,27 @@ fn copy_makes(alloc: Global, basis: &Basis) -> Result<bool, Fail> {
     )
 }
 
+fn makes_constant(alloc: Global) -> Result<bool, Fail> {
+    let larger = basis(alloc, Step::Constant("c", "bool"))?;
+    copy_makes(alloc, &larger)
+}
+
+// Whether `list` has one argument, or none, and is new as a constant, or as a type.
+fn kinds(alloc: Global) -> Result<[bool; 4], Fail> {
+    let larger = basis(alloc, Step::Constructor("list", 1))?;
+    let list = Name::new(alloc, "list")?;
+    Ok([
+        larger.has_arity(&list, 1),
+        larger.has_arity(&list, 0),
+        larger.is_new(ItemKind::Constant, &list),
+        larger.is_new(ItemKind::Type, &list),
+    ])
+}
+
 #[test]
 fn a_declaration_is_an_item(rt: HostRuntime) -> Result<(), Fail> {
-    let larger = basis(rt.alloc(), Step::Constant("c", "bool"))?;
-    assert!(rt; copy_makes(rt.alloc(), &larger)?);
-    let list = Name::new(rt.alloc(), "list")?;
-    let larger = basis(rt.alloc(), Step::Constructor("list", 1))?;
-    assert!(rt; larger.has_arity(&list, 1) && !larger.has_arity(&list, 0));
-    assert!(rt; larger.is_new(ItemKind::Constant, &list) && !larger.is_new(ItemKind::Type, &list));
+    assert!(rt; makes_constant(rt.alloc())?);
+    assert_eq!(rt; kinds(rt.alloc())?, [true, false, true, false]);
     Ok(())
 }
 
@@ -249,28 +248,36 @@ fn is_constant(alloc: Global, own: Option<&(Name, Ty)>, row: &str) -> Result<boo
     Ok(own.0.as_str() == name && own.1.same(&ty(alloc, text)?))
 }
 
+const CONSTANTS: [&str; 13] = [
+    "= of A->A->bool",
+    "@ of (A->bool)->A",
+    "T of bool",
+    "F of bool",
+    "/\\ of bool->bool->bool",
+    "\\/ of bool->bool->bool",
+    "==> of bool->bool->bool",
+    "~ of bool->bool",
+    "! of (A->bool)->bool",
+    "? of (A->bool)->bool",
+    "?! of (A->bool)->bool",
+    "ONE_ONE of (A->B)->bool",
+    "ONTO of (A->B)->bool",
+];
+
+// Whether these are the constants, in this order.
+fn are_constants(alloc: Global, rows: &[&str]) -> Result<bool, Fail> {
+    let given = prelude_constants(alloc)?;
+    for (place, row) in rows.iter().enumerate() {
+        if !is_constant(alloc, given.get(place), row)? {
+            return Ok(false);
+        }
+    }
+    Ok(given.len() == rows.len())
+}
+
 #[test]
 fn constants_of_the_prelude(rt: HostRuntime) -> Result<(), Fail> {
-    let given = prelude_constants(rt.alloc())?;
-    let rows = [
-        "= of A->A->bool",
-        "@ of (A->bool)->A",
-        "T of bool",
-        "F of bool",
-        "/\\ of bool->bool->bool",
-        "\\/ of bool->bool->bool",
-        "==> of bool->bool->bool",
-        "~ of bool->bool",
-        "! of (A->bool)->bool",
-        "? of (A->bool)->bool",
-        "?! of (A->bool)->bool",
-        "ONE_ONE of (A->B)->bool",
-        "ONTO of (A->B)->bool",
-    ];
-    assert_eq!(rt; given.len(), rows.len());
-    for (place, row) in rows.iter().enumerate() {
-        assert!(rt; is_constant(rt.alloc(), given.get(place), row)?, "{row}");
-    }
+    assert!(rt; are_constants(rt.alloc(), &CONSTANTS)?);
     Ok(())
 }
 

@@ -77,19 +77,18 @@ fn scope<'a>(sign: &str, t: &'a Term) -> Option<(&'a Variable, &'a Term)> {
     }
 }
 
+// Whether the quantification is made so, and taken apart by its sign alone.
+fn is_bound(alloc: Global, sign: &str, other: &str, text: &str) -> Result<bool, Fail> {
+    let written = term(alloc, text)?;
+    let made = bound(alloc, sign)?;
+    let is_own = scope(sign, &written).is_some_and(|x| is_truth(x.1));
+    Ok(made.same(&written) && scope(other, &written).is_none() && is_own)
+}
+
 #[test]
 fn quantifications_are_made_and_taken_apart(rt: HostRuntime) -> Result<(), Fail> {
     for (sign, other, text) in [("!", "?", "!x:bool. T"), ("?", "!", "?x:bool. T")] {
-        let written = term(rt.alloc(), text)?;
-        let made = bound(rt.alloc(), sign)?;
-        assert!(rt;
-            made.same(&written) && scope(other, &written).is_none(),
-            "{text}"
-        );
-        assert!(rt;
-            scope(sign, &written).is_some_and(|x| is_truth(x.1)),
-            "{text}"
-        );
+        assert!(rt; is_bound(rt.alloc(), sign, other, text)?, "{text}");
     }
     Ok(())
 }

@@ -3,8 +3,11 @@ ghost use Rattle.std.specs.Prelude.{◌≡◌, IfOk};
 
 use crate::sequents::{Made, told};
 use crate::written::{term, terms};
-use hol_bool::{eqt_intro, generalize, spec};
-use hol_equal::{alpha, ap_term, ap_thm, beta_conv, prove_hyp, sym};
+use hol_bool::{
+    choose, conj, conjunct1, conjunct2, contr, disch, disj_cases, disj1, disj2, eqf_intro,
+    eqt_intro, exists, generalize, mp, not_intro, spec, undisch,
+};
+use hol_equal::{alpha, ap_term, ap_thm, beta_conv, prove_hyp, subst, sym};
 use hol_kernel::{Basis, Thm};
 use hol_terms::{Term, TermNode};
 use std::alloc::Global;
@@ -15,9 +18,23 @@ pub(crate) fn premise(alloc: Global, basis: &Basis, text: &str) -> Result<Thm, F
     ensures { IfOk result (λ th. th.basis ≡ basis.now) }
 {
     match text.strip_prefix("REFL ") {
-        Some(side) => Ok(Thm::refl(alloc, basis, &term(alloc, side)?)?),
-        None => Ok(Thm::assume(alloc, basis, &term(alloc, text)?)?),
+        Some(side) => reflexivity(alloc, basis, side),
+        None => assumption(alloc, basis, text),
     }
+}
+
+fn reflexivity(alloc: Global, basis: &Basis, text: &str) -> Result<Thm, Fail>
+    ensures { IfOk result (λ th. th.basis ≡ basis.now) }
+{
+    let side = term(alloc, text)?;
+    Ok(Thm::refl(alloc, basis, &side)?)
+}
+
+fn assumption(alloc: Global, basis: &Basis, text: &str) -> Result<Thm, Fail>
+    ensures { IfOk result (λ th. th.basis ≡ basis.now) }
+{
+    let p = term(alloc, text)?;
+    Ok(Thm::assume(alloc, basis, &p)?)
 }
 
 /// What the rule makes, over no items, of the terms between commas and the premises between bars.
@@ -27,21 +44,64 @@ pub(crate) fn made(
     terms_text: &str,
     premises: &str,
 ) -> Result<Made<Thm>, Fail> {
-    let basis = Basis::empty(alloc)?;
     let arguments = terms(alloc, terms_text)?;
+    with_terms(alloc, rule, &arguments, premises)
+}
+
+fn with_terms(
+    alloc: Global,
+    rule: &str,
+    terms: &[Term],
+    premises: &str,
+) -> Result<Made<Thm>, Fail> {
+    let basis = Basis::empty(alloc)?;
     if premises.is_empty() {
-        return of_terms(alloc, &basis, rule, &arguments);
+        return of_terms(alloc, &basis, rule, terms);
     }
-    let Some((first, second)) = premises.split_once(" | ") else {
-        return of_one(alloc, rule, &arguments, &premise(alloc, &basis, premises)?);
-    };
-    of_two(
-        alloc,
-        rule,
-        &arguments,
-        &premise(alloc, &basis, first)?,
-        second,
-    )
+    let (first, others) = premises.split_once(" | ").unwrap_or((premises, ""));
+    let a = premise(alloc, &basis, first)?;
+    if others.is_empty() {
+        of_one(alloc, rule, terms, &a)
+    } else {
+        of_more(alloc, rule, terms, &a, others)
+    }
+}
+
+// Of two premises or three, and terms.
+fn of_more(
+    alloc: Global,
+    rule: &str,
+    terms: &[Term],
+    a: &Thm,
+    others: &str,
+) -> Result<Made<Thm>, Fail> {
+    match others.split_once(" | ") {
+        Some((second, third)) => of_three(alloc, rule, a, second, third),
+        None => of_two(alloc, rule, terms, a, others),
+    }
+}
+
+// Of three premises.
+fn of_three(
+    alloc: Global,
+    rule: &str,
+    a: &Thm,
+    second: &str,
+    third: &str,
+) -> Result<Made<Thm>, Fail> {
+    let b = premise(alloc, a.basis(), second)?;
+    let c = premise(alloc, a.basis(), third)?;
+    by_three(alloc, rule, a, &b, &c)
+}
+
+fn by_three(alloc: Global, rule: &str, a: &Thm, b: &Thm, c: &Thm) -> Result<Made<Thm>, Fail>
+    requires second { a.now.basis ≡ b.now.basis }
+    requires third { a.now.basis ≡ c.now.basis }
+{
+    match rule {
+        "DISJ_CASES" => told(alloc, disj_cases(alloc, a, b, c)),
+        _ => Err("no such rule".into()),
+    }
 }
 
 // Of terms alone.
@@ -70,6 +130,11 @@ fn with_none(alloc: Global, rule: &str, a: &Thm) -> Result<Made<Thm>, Fail> {
     match rule {
         "SYM" => told(alloc, sym(alloc, a)),
         "EQT_INTRO" => told(alloc, eqt_intro(alloc, a)),
+        "EQF_INTRO" => told(alloc, eqf_intro(alloc, a)),
+        "CONJUNCT1" => told(alloc, conjunct1(alloc, a)),
+        "CONJUNCT2" => told(alloc, conjunct2(alloc, a)),
+        "UNDISCH" => told(alloc, undisch(alloc, a)),
+        "NOT_INTRO" => told(alloc, not_intro(alloc, a)),
         _ => Err("no such rule".into()),
     }
 }
@@ -80,8 +145,18 @@ fn with_one(alloc: Global, rule: &str, t: &Term, a: &Thm) -> Result<Made<Thm>, F
         "INST_TYPE" => with_type(alloc, t, a),
         "AP_TERM" => told(alloc, ap_term(alloc, t, a)),
         "AP_THM" => told(alloc, ap_thm(alloc, a, t)),
+        _ => with_formula(alloc, rule, t, a),
+    }
+}
+
+fn with_formula(alloc: Global, rule: &str, t: &Term, a: &Thm) -> Result<Made<Thm>, Fail> {
+    match rule {
         "SPEC" => told(alloc, spec(alloc, t, a)),
         "GEN" => told(alloc, generalize(alloc, t, a)),
+        "DISCH" => told(alloc, disch(alloc, t, a)),
+        "DISJ1" => told(alloc, disj1(alloc, a, t)),
+        "DISJ2" => told(alloc, disj2(alloc, t, a)),
+        "CONTR" => told(alloc, contr(alloc, t, a)),
         _ => Err("no such rule".into()),
     }
 }
@@ -101,6 +176,7 @@ fn with_two(alloc: Global, rule: &str, s: &Term, t: &Term, a: &Thm) -> Result<Ma
             let pairs = [(s.copy()?, t.copy()?)];
             told(alloc, Thm::inst(alloc, &pairs, a))
         }
+        "EXISTS" => told(alloc, exists(alloc, s, t, a)),
         _ => Err("no such rule".into()),
     }
 }
@@ -114,12 +190,36 @@ fn of_two(
     second: &str,
 ) -> Result<Made<Thm>, Fail> {
     let b = premise(alloc, a.basis(), second)?;
+    by_two(alloc, rule, terms, a, &b)
+}
+
+fn by_two(alloc: Global, rule: &str, terms: &[Term], a: &Thm, b: &Thm) -> Result<Made<Thm>, Fail>
+    requires { a.now.basis ≡ b.now.basis }
+{
     match (rule, terms) {
-        ("TRANS", []) => told(alloc, Thm::trans(alloc, a, &b)),
-        ("MK_COMB", []) => told(alloc, Thm::mk_comb(alloc, a, &b)),
-        ("EQ_MP", []) => told(alloc, Thm::eq_mp(alloc, a, &b)),
-        ("DEDUCT_ANTISYM_RULE", []) => told(alloc, Thm::deduct_antisym(alloc, a, &b)),
-        ("PROVE_HYP", []) => told(alloc, prove_hyp(alloc, a, &b)),
+        ("TRANS", []) => told(alloc, Thm::trans(alloc, a, b)),
+        ("MK_COMB", []) => told(alloc, Thm::mk_comb(alloc, a, b)),
+        ("EQ_MP", []) => told(alloc, Thm::eq_mp(alloc, a, b)),
+        ("DEDUCT_ANTISYM_RULE", []) => told(alloc, Thm::deduct_antisym(alloc, a, b)),
+        ("PROVE_HYP", []) => told(alloc, prove_hyp(alloc, a, b)),
+        _ => by_formulas(alloc, rule, terms, a, b),
+    }
+}
+
+fn by_formulas(
+    alloc: Global,
+    rule: &str,
+    terms: &[Term],
+    a: &Thm,
+    b: &Thm,
+) -> Result<Made<Thm>, Fail>
+    requires { a.now.basis ≡ b.now.basis }
+{
+    match (rule, terms) {
+        ("CONJ", []) => told(alloc, conj(alloc, a, b)),
+        ("MP", []) => told(alloc, mp(alloc, a, b)),
+        ("CHOOSE", [v]) => told(alloc, choose(alloc, v, a, b)),
+        ("SUBST", [v, m]) => told(alloc, subst(alloc, a, v, m, b)),
         _ => Err("no such rule".into()),
     }
 }

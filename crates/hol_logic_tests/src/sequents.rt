@@ -45,13 +45,16 @@ fn is_written(alloc: Global, th: &Thm, written: &str) -> Result<bool, Fail> {
 // The theorem as it is shown, for a row that is not met.
 fn shown(alloc: Global, th: &Thm) -> Result<String, Fail> {
     let goal = show_goal(alloc, th.hyps(), th.concl())?;
-    let mut text = String::from_str(alloc, "shown: ")?;
-    for hyp in &goal.asl {
+    let hyps = listed(alloc, &goal.asl)?;
+    Ok(format!(in alloc; "shown: {hyps}|- {}", goal.goal)?)
+}
+
+fn listed(alloc: Global, hyps: &[String]) -> Result<String, Fail> {
+    let mut text = String::new(alloc);
+    for hyp in hyps {
         text.push_str(hyp.as_str())?;
         text.push_str(" ")?;
     }
-    text.push_str("|- ")?;
-    text.push_str(goal.goal.as_str())?;
     Ok(text)
 }
 

@@ -63,13 +63,21 @@ fn types(alloc: Global, names: &str) -> Result<Vec<(Ty, Name)>, Fail> {
 // several types, which no text has.
 fn abstracted(alloc: Global, v: &str, body: &str) -> Result<Term, Fail> {
     let v = variable(alloc, v)?;
-    match body.split_once(", ") {
-        Some((f, x)) => {
-            let body = Term::comb(alloc, &term(alloc, f)?, &term(alloc, x)?)?;
-            Ok(Term::abstraction(alloc, &v, &body)?)
-        }
-        None => Ok(Term::abstraction(alloc, &v, &term(alloc, body)?)?),
+    let body = applied(alloc, body)?;
+    Ok(Term::abstraction(alloc, &v, &body)?)
+}
+
+fn applied(alloc: Global, terms: &str) -> Result<Term, Fail> {
+    match terms.split_once(", ") {
+        Some((f, x)) => application(alloc, f, x),
+        None => term(alloc, terms),
     }
+}
+
+fn application(alloc: Global, f: &str, x: &str) -> Result<Term, Fail> {
+    let f = term(alloc, f)?;
+    let x = term(alloc, x)?;
+    Ok(Term::comb(alloc, &f, &x)?)
 }
 
 // The instance with bool for these type variables.
@@ -79,34 +87,37 @@ fn instance(alloc: Global, names: &str, v: &str, body: &str) -> Result<Term, Fai
     Ok(inst(alloc, &pairs, &t)?)
 }
 
+// What it is, the type variables, the abstraction, and its instance.
+const CAPTURES: [(&str, &str, &str, &str, &str, &str); 4] = [
+    ("x is captured", "A B", "x:A", "x:B", "x':bool", "x:bool"),
+    (
+        "nothing is captured",
+        "A B",
+        "x:A",
+        "x:A",
+        "x:bool",
+        "x:bool",
+    ),
+    ("nothing changes", "C D", "x:A", "x:B", "x:A", "x:B"),
+    (
+        "the renamed variable is also where no type changes",
+        "A",
+        "x:bool",
+        "\\y:A. x:bool, x:A",
+        "x':bool",
+        "\\y:bool. x':bool, x:bool",
+    ),
+];
+
+fn is_instance(alloc: Global, instance: &Term, v: &str, body: &str) -> Result<bool, Fail> {
+    Ok(is_identical(instance, &abstracted(alloc, v, body)?))
+}
+
 #[test]
 fn instances_rename_what_would_capture(rt: HostRuntime) -> Result<(), Fail> {
-    let rows = [
-        ("x is captured", "A B", "x:A", "x:B", "x':bool", "x:bool"),
-        (
-            "nothing is captured",
-            "A B",
-            "x:A",
-            "x:A",
-            "x:bool",
-            "x:bool",
-        ),
-        ("nothing changes", "C D", "x:A", "x:B", "x:A", "x:B"),
-        (
-            "the renamed variable is also where no type changes",
-            "A",
-            "x:bool",
-            "\\y:A. x:bool, x:A",
-            "x':bool",
-            "\\y:bool. x':bool, x:bool",
-        ),
-    ];
-    for (what, names, v, body, new, wanted) in rows {
+    for (what, names, v, body, new, wanted) in CAPTURES {
         let found = instance(rt.alloc(), names, v, body)?;
-        assert!(rt;
-            is_identical(&found, &abstracted(rt.alloc(), new, wanted)?),
-            "{what}"
-        );
+        assert!(rt; is_instance(rt.alloc(), &found, new, wanted)?, "{what}");
     }
     Ok(())
 }
@@ -131,6 +142,11 @@ fn names_are_avoided(rt: HostRuntime) -> Result<(), Fail> {
     ] {
         assert_eq!(rt; free(rt.alloc(), avoid, base)?.as_str(), wanted, "{avoid}");
     }
+    Ok(())
+}
+
+#[test]
+fn a_variant_is_new(rt: HostRuntime) -> Result<(), Fail> {
     assert_eq!(rt; varied(rt.alloc(), "x':A, x:A", "x:A")?.as_str(), "x''");
     Ok(())
 }
@@ -142,10 +158,15 @@ fn pair(alloc: Global, new: &str, old: &str) -> Result<Vec<(Term, Term)>, Fail> 
     Ok(pairs)
 }
 
+fn replaced(alloc: Global, t: &str, new: &str) -> Result<Term, Fail> {
+    let pairs = pair(alloc, new, "y:A")?;
+    let t = term(alloc, t)?;
+    Ok(vsubst(alloc, &pairs, &t)?)
+}
+
 // Whether the term with the new one for `y` is as it is written.
 fn is_replaced(alloc: Global, t: &str, new: &str, wanted: &str) -> Result<bool, Fail> {
-    let pairs = pair(alloc, new, "y:A")?;
-    let found = vsubst(alloc, &pairs, &term(alloc, t)?)?;
+    let found = replaced(alloc, t, new)?;
     Ok(is_identical(&found, &term(alloc, wanted)?))
 }
 

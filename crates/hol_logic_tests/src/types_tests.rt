@@ -54,14 +54,27 @@ fn doubled(alloc: Global, leaf: &str, levels: u32) -> Result<Ty, Fail> {
     Ok(own)
 }
 
+// The sizes of such a type, and with bool for `A`.
+fn sizes(alloc: Global) -> Result<(u32, u32), Fail> {
+    let large = doubled(alloc, "B", 60)?;
+    Ok((large.size(), with_bool(alloc, &large)?.size()))
+}
+
+fn compared(alloc: Global) -> Result<Ordering, Fail> {
+    let large = doubled(alloc, "B", 60)?;
+    Ok(large.order(&doubled(alloc, "B", 61)?))
+}
+
+fn variables(alloc: Global) -> Result<usize, Fail> {
+    let closed = doubled(alloc, "bool", 60)?;
+    Ok(closed.tyvars(alloc)?.len())
+}
+
 // It would not end in the reader's lifetime if a call walked the tree.
 #[test]
 fn a_shared_type_is_not_walked(rt: HostRuntime) -> Result<(), Fail> {
-    let large = doubled(rt.alloc(), "B", 60)?;
-    assert_eq!(rt; large.size(), 20_001);
-    assert_eq!(rt; large.order(&doubled(rt.alloc(), "B", 61)?), Ordering::Less);
-    assert_eq!(rt; with_bool(rt.alloc(), &large)?.size(), 20_001);
-    let closed = doubled(rt.alloc(), "bool", 60)?;
-    assert_eq!(rt; closed.tyvars(rt.alloc())?.len(), 0);
+    assert_eq!(rt; sizes(rt.alloc())?, (20_001, 20_001));
+    assert_eq!(rt; compared(rt.alloc())?, Ordering::Less);
+    assert_eq!(rt; variables(rt.alloc())?, 0);
     Ok(())
 }

@@ -1,6 +1,7 @@
 //! Types and terms for tests, as they are written.
 use hol_infer::{elaborate, elaborate_type};
 use hol_kernel::{prelude_constants, prelude_types};
+use hol_notation_commands::{Command, CommandNode, read_command};
 use hol_notation_terms::{PreTerm, PreType, read_term, read_type};
 use hol_notation_tokens::scan;
 use hol_terms::{Term, TermNode, Variable};
@@ -57,6 +58,35 @@ pub(crate) fn term(alloc: Global, text: &str) -> Result<Term, Fail> {
     let constructors = constructors(alloc)?;
     let constants = constants(alloc)?;
     Ok(elaborate(alloc, &written, &constants, &constructors)?)
+}
+
+fn written_command(alloc: Global, text: &str) -> Result<Command, Fail> {
+    Ok(read_command(alloc, text)?)
+}
+
+// The term, of the constants of the prelude alone.
+fn closed(alloc: Global, written: &PreTerm) -> Result<Term, Fail> {
+    let constructors = prelude_types(alloc)?;
+    let constants = prelude_constants(alloc)?;
+    Ok(elaborate(alloc, written, &constants, &constructors)?)
+}
+
+fn named(alloc: Global, name: &str, statement: &PreTerm) -> Result<(String, Term), Fail> {
+    let name = String::from_str(alloc, name)?;
+    Ok((name, closed(alloc, statement)?))
+}
+
+fn opened(alloc: Global, command: &Command) -> Result<(String, Term), Fail> {
+    let CommandNode::Goal { name, quotation } = command.node() else {
+        return Err("no goal".into());
+    };
+    named(alloc, name.as_str(), &quotation.term)
+}
+
+/// The name and the statement of a command that opens a goal.
+pub(crate) fn goal(alloc: Global, text: &str) -> Result<(String, Term), Fail> {
+    let command = written_command(alloc, text)?;
+    opened(alloc, &command)
 }
 
 /// The terms between commas, of which there may be none.
