@@ -15,11 +15,9 @@ use Rattle.hol_kernel.specs.Typing.{has_type}
 use Rattle.hol_kernel.proofs.HypothesisLists.{hyps_total, hyps_same}
 use Rattle.hol_kernel.proofs.Members.{itself}
 use Rattle.hol_bool.specs.Applied.{discharged}
-use Rattle.hol_bool.specs.Hypotheses.{StaysWithin}
+use Rattle.hol_equal.specs.Hypotheses.{StaysWithin}
+use Rattle.hol_equal.proofs.KeptHypotheses.{all_within, tested_within}
 use Rattle.hol_bool.specs.Rules.{conj_of, conjunct1_of, conjunct2_of, mp_of, disch_of, undisch_of}
-
-pub all_within : (hs : Hyps) → set.is_subset hs hs ≡ true
-all_within hs = set.contains-is_subset hyps_total hs hs (λ q h. h)
 
 second : (a b : Bool) → (a && b) ≡ true → b ≡ true
 second true b e = e
@@ -36,10 +34,6 @@ none_is hs k = set.contains-remove hyps_total hs k k ∙ ap (λ b. not b && set.
 part_within : (hs : Hyps) (f : Nameless × Nameless → Nameless) (o : Option (Nameless × Nameless)) → StaysWithin hs (option_map (λ p. sequent_of hs (f p)) o)
 part_within hs f None = tt
 part_within hs f (Some p) = all_within hs
-
-pub tested_within : (hs ks : Hyps) (t : Nameless) (k : Bool) → set.is_subset ks hs ≡ true → StaysWithin hs (cond k (Some (sequent_of ks t)) None)
-tested_within hs ks t true e = e
-tested_within hs ks t false e = tt
 
 pub conj_keeps : (a b : Sequent) → StaysWithin (set.union a.hyps b.hyps) (Some (conj_of a b))
 conj_keeps a b = all_within (set.union a.hyps b.hyps)

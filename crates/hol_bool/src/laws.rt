@@ -8,7 +8,7 @@ ghost use Rattle.hol_formulas.specs.Formula.{dest_imp};
 ghost use Rattle.hol_kernel.specs.Items.{Items};
 ghost use Rattle.hol_kernel.specs.Sequent.{only_hyp, Sequent};
 ghost use Rattle.hol_kernel.specs.Widening.{IsMonotone};
-ghost use Rattle.hol_bool.specs.Hypotheses.{StaysWithin};
+ghost use Rattle.hol_equal.specs.Hypotheses.{StaysWithin};
 ghost use Rattle.hol_bool.specs.Rules.{spec_of, gen_of, exists_of, choose_of, conj_of, conjunct1_of, conjunct2_of, mp_of, disch_of, undisch_of, disj1_of, disj2_of, disj_cases_of, contr_of, eqt_intro_of, eqf_intro_of};
 
 /// A rule that takes a term or a variable over a set of items gives the same sequent over every larger set. The other rules take sequents alone, so that they do so by
