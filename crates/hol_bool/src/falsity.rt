@@ -11,9 +11,10 @@ ghost use Rattle.hol_bool.specs.Applied.{negated, false_of};
 ghost use Rattle.hol_bool.specs.Unfolded.{not_unfolded, refuted_under, false_under};
 
 use crate::definitions::{definition, unfold};
+use crate::equations::eq_mp_sym;
 use crate::implication::undisch;
 use crate::universal::spec;
-use hol_equal::applied::{assume, eq_mp, sym};
+use hol_equal::applied::{assume, eq_mp};
 use hol_equal::prove_hyp;
 use hol_formulas::{Postulate, bool_type, dest_imp, dest_neg, mk_falsity};
 use hol_kernel::{Basis, Thm};
@@ -51,8 +52,7 @@ pub fn not_intro(alloc: Global, a: &Thm) -> Result<Thm, AllocError>
         unreachable!()
     };
     let own = not_at(alloc, a.basis(), p)?;
-    let back = sym(alloc, &own)?;
-    eq_mp(alloc, &back, a)
+    eq_mp_sym(alloc, &own, a)
 }
 
 // From `~p`, `F` under the hypothesis `p`.

@@ -11,7 +11,7 @@ use Rattle.hol_kernel.specs.Typing.{HasType}
 use Rattle.hol_subst.specs.Closing.{open_with}
 use Rattle.hol_terms.specs.Nameless.{Nameless, app, lam, nameless}
 use Rattle.std.proofs.Common.{Some, [], ap, refl, subst, sym, ◌≡◌}
-use Rattle.hol_bool.proofs.existential.contracted.Goals as goal
+use Rattle.hol_bool.proofs.equations.contracted.Goals as goal
 
 pub application-requires : goal.application-requires
 application-requires c =
