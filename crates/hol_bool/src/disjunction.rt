@@ -14,13 +14,13 @@ ghost use Rattle.hol_equal.specs.Applied.{lhs, rhs};
 ghost use Rattle.hol_bool.specs.Applied.{with_right, with_left, by_cases, implied, discharged};
 ghost use Rattle.hol_bool.specs.Unfolded.{or_unfolded, either, either_for_all, letter, side_name, injection, reached_from};
 
-use crate::definitions::{definition, unfold};
+use crate::definitions::{definition, unfold_first, unfold_last};
 use crate::equations::eq_mp_sym;
 use crate::implication::{disch, mp};
 use crate::letters::{for_every, letter};
 use crate::universal::spec;
 use hol_equal::applied::{assume, eq_mp};
-use hol_formulas::{Postulate, bool_type, dest_disj, mk_imp, negation_type};
+use hol_formulas::{Postulate, dest_disj, mk_imp};
 use hol_kernel::{Basis, Thm};
 use hol_terms::Term;
 use std::alloc::{AllocError, Global};
@@ -32,10 +32,8 @@ fn or_at(alloc: Global, basis: &Basis, p: &Term, q: &Term) -> Result<Thm, AllocE
     ensures { IfOk result (λ th. th ≡ theorem_on basis.now (or_unfolded (nameless [] p.now) (nameless [] q.now))) }
 {
     let own = definition(alloc, basis, Postulate::OrDef)?;
-    let truth = bool_type(alloc)?;
-    let rest = negation_type(alloc)?;
-    let one = unfold(alloc, &own, &truth, &rest, p)?;
-    unfold(alloc, &one, &truth, &truth, q)
+    let one = unfold_first(alloc, &own, p)?;
+    unfold_last(alloc, &one, q)
 }
 
 // From `p \/ q`, `(p ==> r) ==> (q ==> r) ==> r`.

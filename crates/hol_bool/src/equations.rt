@@ -17,7 +17,7 @@ use hol_equal::applied::{ap_term, beta_conv, eq_mp, sym};
 use hol_formulas::{bool_type, connective_type, constant};
 use hol_kernel::{Basis, Thm};
 use hol_terms::Term;
-use hol_types::Name;
+use hol_types::{Name, Ty};
 use std::alloc::{AllocError, Global};
 
 /// EQ_MP after SYM: from `l = r` and `m`, where `r` and `m` are equal up to bound names, `l`.
@@ -31,7 +31,23 @@ pub(crate) fn eq_mp_sym(alloc: Global, equal: &Thm, a: &Thm) -> Result<Thm, Allo
     eq_mp(alloc, &back, a)
 }
 
-/// `(\x. s) t = s` with `t` for `x`, where `f` is the abstraction.
+/// `(\x. s) t = s` with `t` for `x`, where `f` is the abstraction and `range` the type of `s`.
+pub(crate) fn contracted_at(
+    alloc: Global,
+    basis: &Basis,
+    range: &Ty,
+    f: &Term,
+    t: &Term,
+) -> Result<Thm, AllocError>
+    requires function { nameless [] f.now ≡ abstraction_term (abstraction_in (nameless [] f.now)) }
+    requires typed { HasType basis.now (app (nameless [] f.now) (nameless [] t.now)) range.now }
+    ensures { IfOk result (λ th. th ≡ theorem_on basis.now (sequent_of no_hyps (equation range.now (app (nameless [] f.now) (nameless [] t.now)) (open_with (nameless [] t.now) 0 (abstraction_in (nameless [] f.now)).body)))) }
+{
+    let redex = Term::application(alloc, f, t)?;
+    beta_conv(alloc, basis, range, &redex)
+}
+
+/// The same for a predicate.
 pub(crate) fn contracted(
     alloc: Global,
     basis: &Basis,
@@ -42,9 +58,8 @@ pub(crate) fn contracted(
     requires typed { HasType basis.now (app (nameless [] f.now) (nameless [] t.now)) bool_type }
     ensures { IfOk result (λ th. th ≡ theorem_on basis.now (sequent_of no_hyps (equation bool_type (app (nameless [] f.now) (nameless [] t.now)) (open_with (nameless [] t.now) 0 (abstraction_in (nameless [] f.now)).body)))) }
 {
-    let redex = Term::application(alloc, f, t)?;
     let truth = bool_type(alloc)?;
-    beta_conv(alloc, basis, &truth, &redex)
+    contracted_at(alloc, basis, &truth, f, t)
 }
 
 // The sign of the connective of the name.

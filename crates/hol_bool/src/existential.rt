@@ -16,7 +16,7 @@ ghost use Rattle.hol_bool.specs.Applied.{abstraction_in, abstraction_term, bound
 ghost use Rattle.hol_bool.specs.Rules.{choose_left};
 ghost use Rattle.hol_bool.specs.Unfolded.{exists_in, exists_unfolded, all_imply, antecedents_equal, each_witness};
 
-use crate::definitions::{definition_at, unfold};
+use crate::definitions::{definition_at, unfold_quantifier};
 use crate::equations::{contracted, eq_mp_sym, under_connective};
 use crate::implication::{disch, mp};
 use crate::universal::{generalize, spec};
@@ -35,9 +35,7 @@ pub(crate) fn exists_at(alloc: Global, basis: &Basis, ty: &Ty, f: &Term) -> Resu
     ensures { IfOk result (λ th. th ≡ theorem_on basis.now (exists_unfolded ty.now (nameless [] f.now))) }
 {
     let general = definition_at(alloc, basis, Postulate::ExistsDef, ty)?;
-    let truth = bool_type(alloc)?;
-    let predicate = Ty::fun(alloc, ty, &truth)?;
-    unfold(alloc, &general, &predicate, &truth, f)
+    unfold_quantifier(alloc, &general, ty, f)
 }
 
 // From `s` with `t` for `x`, `(\x. s) t`, where `f` is the abstraction.
