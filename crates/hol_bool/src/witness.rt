@@ -83,7 +83,8 @@ fn of_element(alloc: Global) -> Result<Term, AllocError>
 
 // `P x ==> q`.
 fn implies_letter(alloc: Global) -> Result<Term, AllocError>
-    ensures { IfOk result (λ t. t ≡ mk_imp (of_element (codes "x")) (var (boolean (codes "q")))) }
+    ensures is { IfOk result (λ t. t ≡ mk_imp (of_element (codes "x")) (var (boolean (codes "q")))) }
+    ensures typed { IfOk result (λ t. named_type t ≡ Some bool_type) }
 {
     let holds = of_element(alloc)?;
     let q = letter(alloc, "q")?;
