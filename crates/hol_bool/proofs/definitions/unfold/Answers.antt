@@ -5,6 +5,7 @@ use Rattle.hol_terms.specs.Nameless.{Nameless, nameless, app, lam}
 use Rattle.hol_subst.specs.Closing.{open_with}
 use Rattle.hol_formulas.specs.Equation.{equation, dest_eq, bool_type}
 use Rattle.hol_kernel.specs.Sequent.{no_hyps, sequent_of, Hyps}
+use Rattle.hol_kernel.specs.Items.{Items}
 use Rattle.hol_kernel.specs.Typing.{HasType}
 use Rattle.hol_kernel.specs.Theorem.{theorem_on}
 use Rattle.hol_kernel.proofs.WellTyped.{sides_typed}
@@ -13,7 +14,7 @@ use Rattle.hol_equal.proofs.Applies.{sides, mk_comb_yes}
 use Rattle.hol_equal.proofs.HypSets.{none_right}
 use Rattle.hol_equal.proofs.Outcomes.{became}
 use Rattle.hol_equal.specs.Applied.{transitive, at_argument, lhs, rhs, body}
-use Rattle.hol_bool.specs.Applied.{abstraction_in, base_in, unfolded}
+use Rattle.hol_bool.specs.Applied.{abstraction_in, abstraction_term, base_in, unfolded}
 use Rattle.hol_bool.proofs.Chains.{one_basis, trans_fits, chained}
 use Rattle.hol_formulas.proofs.FormulaLaws.{dest_eq_equation}
 use Rattle.hol_bool.proofs.definitions.unfold.Goals as goal
@@ -52,7 +53,9 @@ contracted_at-requires c =
     let x = nameless [] c.args.x.now in
     let right : nameless [] c.in-Some.sides.right.now ≡ lam n d b = sym (ap rhs c.in-Some.ensures) ∙ ap rhs c.requires.is in
     let function : HasType B (lam n d b) (fun_type d e) = (sides_typed B (fun_type d e) bool_type l (lam n d b) (subst (λ (u : Nameless). HasType B u bool_type) c.requires.is c.well_typed.ensures.conclusion)).1 in
-    rw (c.basis.ensures, right) record { function = refl; typed = applied_typed B d e (lam n d b) x function c.requires.typed }
+    let f = nameless [] c.in-Some.sides.right.now in
+    let fits : HasType B (app f x) e = subst (λ (u : Nameless). HasType B (app u x) e) (sym right) (applied_typed B d e (lam n d b) x function c.requires.typed) in
+    record { function = subst (λ (u : Nameless). u ≡ abstraction_term (abstraction_in u)) (sym right) refl; typed = subst (λ (k : Items). HasType k (app f x) e) (sym c.basis.ensures) fits }
 
 pub trans-requires : goal.trans-requires
 trans-requires c =
