@@ -1,4 +1,4 @@
-use Rattle.std.proofs.Common.{◌≡◌, ap, sym, ◌∙◌, subst, [], Some}
+use Rattle.std.proofs.Common.{◌≡◌, ap, sym, ◌∙◌, subst, []}
 use Rattle.hol_terms.specs.Nameless.{Nameless, nameless, app}
 use Rattle.hol_subst.specs.Closing.{bind}
 use Rattle.hol_formulas.specs.Equation.{equation, bool_type}

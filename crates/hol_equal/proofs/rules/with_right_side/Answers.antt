@@ -1,4 +1,4 @@
-use Rattle.std.proofs.Common.{◌≡◌, ap, sym, ◌∙◌, [], Some, true, false, refl}
+use Rattle.std.proofs.Common.{◌≡◌, ap, sym, ◌∙◌, [], true, false, refl}
 use Rattle.hol_terms.specs.Named.{var}
 use Rattle.hol_terms.specs.Nameless.{nameless}
 use Rattle.hol_terms.specs.Alpha.{alpha_eq}
