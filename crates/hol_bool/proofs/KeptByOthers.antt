@@ -15,28 +15,18 @@ use Rattle.hol_kernel.specs.Items.{Items}
 use Rattle.hol_kernel.specs.Sequent.{Hyps, Sequent, sequent_of}
 use Rattle.hol_kernel.specs.Typing.{is_type, is_typed, has_type}
 use Rattle.hol_kernel.proofs.HypothesisLists.{hyps_total}
-use Rattle.hol_bool.specs.Hypotheses.{StaysWithin}
+use Rattle.hol_equal.specs.Hypotheses.{StaysWithin}
+use Rattle.hol_equal.proofs.KeptHypotheses.{all_within, tested_within, removed, left_within}
 use Rattle.hol_bool.specs.Rules.{spec_of, over_variable, gen_of, exists_at, exists_of, choose_left, choose_at, choose_of, disj1_of, disj2_of, disj_cases_at, disj_cases_of, contr_of, eqt_intro_of, eqf_intro_of}
 use Rattle.hol_bool.proofs.HypLaws.{is, has, in_union, in_rest}
-use Rattle.hol_bool.proofs.KeptHypotheses.{all_within, tested_within}
 
 -- ---- hypotheses without some of them
-
-removed : (a n b : Bool) → (a || (n && b)) ≡ true → (a || b) ≡ true
-removed true n b e = refl
-removed false true b e = e
-removed false false b e = absurd (cc)
 
 two_removed : (a n b m c : Bool) → ((a || (n && b)) || (m && c)) ≡ true → ((a || b) || c) ≡ true
 two_removed true n b m c e = refl
 two_removed false true b m c e = removed b m c e
 two_removed false false true m c e = refl
 two_removed false false false m c e = removed false m c e
-
-left_within : (hs ks : Hyps) (k : Nameless) → set.is_subset (set.union hs (set.remove ks k)) (set.union hs ks) ≡ true
-left_within hs ks k =
-    set.contains-is_subset hyps_total (set.union hs (set.remove ks k)) (set.union hs ks)
-    (λ q h. in_union hs ks q ∙ removed (has hs q) (not (is q k)) (has ks q) (ap (λ b. has hs q || b) (sym (in_rest ks k q)) ∙ sym (in_union hs (set.remove ks k) q) ∙ h))
 
 both_left_within : (hs ks ls : Hyps) (k l : Nameless) → set.is_subset (set.union (set.union hs (set.remove ks k)) (set.remove ls l)) (set.union (set.union hs ks) ls) ≡ true
 both_left_within hs ks ls k l =

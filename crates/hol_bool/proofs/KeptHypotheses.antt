@@ -8,18 +8,16 @@ use Rattle.hol_terms.specs.Nameless.{Nameless}
 use Rattle.hol_terms.specs.Alpha.{strip, alpha_eq}
 use Rattle.hol_subst.specs.AlphaOrder.{nameless_cmp}
 use Rattle.hol_formulas.specs.Equation.{bool_type}
-use Rattle.hol_formulas.specs.Formula.{dest_conj, dest_imp}
+use Rattle.hol_formulas.specs.Formula.{negation, is_falsity, dest_conj, dest_imp}
 use Rattle.hol_kernel.specs.Items.{Items}
 use Rattle.hol_kernel.specs.Sequent.{Hyps, only_hyp, Sequent, sequent_of}
 use Rattle.hol_kernel.specs.Typing.{has_type}
 use Rattle.hol_kernel.proofs.HypothesisLists.{hyps_total, hyps_same}
 use Rattle.hol_kernel.proofs.Members.{itself}
 use Rattle.hol_bool.specs.Applied.{discharged}
-use Rattle.hol_bool.specs.Hypotheses.{StaysWithin}
-use Rattle.hol_bool.specs.Rules.{conj_of, conjunct1_of, conjunct2_of, mp_of, disch_of, undisch_of}
-
-pub all_within : (hs : Hyps) → set.is_subset hs hs ≡ true
-all_within hs = set.contains-is_subset hyps_total hs hs (λ q h. h)
+use Rattle.hol_equal.specs.Hypotheses.{StaysWithin}
+use Rattle.hol_equal.proofs.KeptHypotheses.{all_within, tested_within}
+use Rattle.hol_bool.specs.Rules.{conj_of, conjunct1_of, conjunct2_of, mp_of, disch_of, undisch_of, not_intro_of}
 
 second : (a b : Bool) → (a && b) ≡ true → b ≡ true
 second true b e = e
@@ -36,10 +34,6 @@ none_is hs k = set.contains-remove hyps_total hs k k ∙ ap (λ b. not b && set.
 part_within : (hs : Hyps) (f : Nameless × Nameless → Nameless) (o : Option (Nameless × Nameless)) → StaysWithin hs (option_map (λ p. sequent_of hs (f p)) o)
 part_within hs f None = tt
 part_within hs f (Some p) = all_within hs
-
-pub tested_within : (hs ks : Hyps) (t : Nameless) (k : Bool) → set.is_subset ks hs ≡ true → StaysWithin hs (cond k (Some (sequent_of ks t)) None)
-tested_within hs ks t true e = e
-tested_within hs ks t false e = tt
 
 pub conj_keeps : (a b : Sequent) → StaysWithin (set.union a.hyps b.hyps) (Some (conj_of a b))
 conj_keeps a b = all_within (set.union a.hyps b.hyps)
@@ -70,3 +64,10 @@ disch_leaves_none basis p a s e = by (has_type basis p bool_type) e
 pub undisch_keeps : (a : Sequent) (p q : Nameless) → dest_imp a.concl ≡ Some (p, q) → StaysWithin (set.union a.hyps (only_hyp p)) (undisch_of a)
 undisch_keeps a p q e =
     subst (λ (o : Option Sequent). StaysWithin (set.union a.hyps (only_hyp p)) o) (sym (ap (option_map (λ x. sequent_of (set.union a.hyps (only_hyp x.0)) x.1)) e)) (all_within (set.union a.hyps (only_hyp p)))
+
+pub not_intro_keeps : (a : Sequent) → StaysWithin a.hyps (not_intro_of a)
+not_intro_keeps a = by (dest_imp a.concl)
+  where
+    by : (o : Option (Nameless × Nameless)) → StaysWithin a.hyps (option_and_then (λ p. cond (is_falsity p.1) (Some (sequent_of a.hyps (negation p.0))) None) o)
+    by None = tt
+    by (Some p) = tested_within a.hyps a.hyps (negation p.0) (is_falsity p.1) (all_within a.hyps)

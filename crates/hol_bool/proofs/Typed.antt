@@ -1,5 +1,5 @@
 -- Well typed parts of formulas.
-use Rattle.std.specs.Prelude.{◌≡◌, ℕ, true, ◌&&◌, List, [], Some, refl}
+use Rattle.std.specs.Prelude.{◌≡◌, ℕ, true, List, [], Some, refl}
 use Rattle.std.proofs.Common.{ap, ◌∙◌}
 use Rattle.hol_types.specs.Tree.{TypeTree}
 use Rattle.hol_types.specs.Fun.{fun_type}
@@ -11,10 +11,9 @@ use Rattle.hol_terms.specs.Nameless.{nameless}
 use Rattle.hol_kernel.specs.Items.{Items}
 use Rattle.hol_kernel.specs.Typing.{is_type, HasType}
 use Rattle.hol_kernel.proofs.Stands.{some_is, fun_parts_stand}
-use Rattle.hol_kernel.proofs.Variables.{typed_known, known_typed}
+use Rattle.hol_kernel.proofs.Variables.{known_typed}
 use Rattle.hol_kernel.proofs.WellTyped.{own_type_stands}
-use Rattle.hol_equal.proofs.Typings.{parts_typed, applied_typed}
-use Rattle.hol_bool.specs.Applied.{constantly_true}
+use Rattle.hol_equal.proofs.Typings.{parts_typed}
 
 module _ (basis : Items) where
   pub identity_typed : HasType basis (nameless [] identity) (fun_type bool_type bool_type)
@@ -22,15 +21,6 @@ module _ (basis : Items) where
 
   pub truth_typed : HasType basis truth bool_type
   truth_typed = refl
-
-  pub bool_stands : is_type basis bool_type ≡ true
-  bool_stands = refl
-
-  pub constantly_typed : (a : TypeTree) → is_type basis a ≡ true → HasType basis (constantly_true a) (fun_type a bool_type)
-  constantly_typed a stands = typed_known basis (constantly_true a) (fun_type a bool_type) (ap (λ k. k && true) stands) refl
-
-  pub true_typed : (a : TypeTree) (t : Nameless) → is_type basis a ≡ true → HasType basis t a → HasType basis (app (constantly_true a) t) bool_type
-  true_typed a t stands typed = applied_typed basis a bool_type (constantly_true a) t (constantly_typed a stands) typed
 
   -- the predicate under a quantifier
   pub predicate_typed : (c : List ℕ) (d b : TypeTree) (f : Nameless) → HasType basis (app (fixed c (quantifier_type d)) f) b → HasType basis f (fun_type d bool_type)

@@ -5,16 +5,26 @@ use Rattle.hol_types.specs.Tree.{TypeTree}
 use Rattle.hol_types.specs.Fun.{fun_type}
 use Rattle.hol_terms.specs.Nameless.{Nameless, free, bound, fixed, app}
 use Rattle.hol_formulas.specs.Equation.{bool_type, equation}
-use Rattle.hol_formulas.specs.Formula.{Abstraction, quantifier_type, falsity, negation, disjunction, implication, universal}
+use Rattle.hol_formulas.specs.Formula.{Abstraction, quantifier_type, truth, falsity, negation, disjunction, implication, universal}
 use Rattle.hol_formulas.specs.Constants.{var_a}
 use Rattle.hol_formulas.specs.Prelude.{property, element}
 use Rattle.hol_kernel.specs.Sequent.{no_hyps, only_hyp, Sequent, sequent_of}
 use Rattle.hol_kernel.specs.Rules.{deduct_antisym_of}
 use Rattle.hol_equal.specs.Applied.{lhs, rhs}
 use Rattle.hol_bool.specs.Rules.{over_variable, choose_left}
-use Rattle.hol_bool.specs.Applied.{abstraction_in}
+use Rattle.hol_bool.specs.Applied.{abstraction_in, true_under}
 use Rattle.hol_bool.specs.declared.disjunction.Side.{Side}
 use Rattle.hol_bool.specs.declared.disjunction.Side.TheVariants.{Left, Right}
+
+-- l, from l = r and r
+abbrev pub replaced : Sequent → Sequent → Sequent
+replaced e a = sequent_of (set.union e.hyps a.hyps) (lhs e.concl)
+
+-- ---- truth
+
+-- p = (p = T)
+abbrev pub equal_to_truth : Nameless → Sequent
+equal_to_truth p = deduct_antisym_of (sequent_of (only_hyp (equation bool_type p truth)) p) (true_under p)
 
 -- ---- falsity
 

@@ -3,24 +3,23 @@ ghost use Rattle.std.specs.Prelude.{◌≡◌, [], codes, IfOk};
 ghost use Rattle.hol_terms.specs.Named.{var, abs};
 ghost use Rattle.hol_terms.specs.Nameless.{nameless, app, fixed};
 ghost use Rattle.hol_formulas.specs.Equation.{bool_type, equation};
-ghost use Rattle.hol_formulas.specs.Formula.{connective_type, negation_type, conjunction, truth};
+ghost use Rattle.hol_formulas.specs.Formula.{connective_type, conjunction, truth};
+ghost use Rattle.hol_formulas.specs.Prelude.{boolean};
 ghost use Rattle.hol_kernel.specs.Sequent.{no_hyps, sequent_of};
 ghost use Rattle.hol_kernel.specs.Theorem.{theorem_on};
 ghost use Rattle.hol_kernel.specs.Typing.{HasType};
 ghost use Rattle.hol_equal.specs.Applied.{lhs, rhs, side_type, under};
 ghost use Rattle.hol_bool.specs.Applied.{function_of_two, value_of_two, pair, pair_type, both_true, and_unfolded, first_conjunct, second_conjunct};
-ghost use Rattle.hol_bool.specs.Rules.{conj_of};
+ghost use Rattle.hol_bool.specs.Rules.{conj_of, eqt_intro_of};
 
 use crate::definitions::{definition, unfold, unfold_at};
+use crate::equations::{contracted, eq_mp_sym, under_connective};
+use crate::letters::{boolean, letter};
 use crate::truth::{eqt_elim, eqt_intro};
-use hol_equal::applied::{ap_term, beta_conv, eq_mp, mk_comb, refl, sides_of, sym, trans};
-use hol_formulas::{
-    Postulate, bool_type, connective_type, constant, dest_conj, dest_eq, mk_truth, occurrence,
-    variable,
-};
+use hol_equal::applied::{eq_mp, mk_comb, refl, sides_of, trans};
+use hol_formulas::{Postulate, bool_type, connective_type, dest_conj, dest_eq, mk_truth};
 use hol_kernel::{Basis, Thm};
 use hol_terms::Term;
-use hol_types::Name;
 use std::alloc::{AllocError, Global};
 
 // What the definition of `/\` says of two formulas: `p /\ q = ((\f. f p q) = (\f. f T T))`.
@@ -47,30 +46,32 @@ fn itself(alloc: Global, basis: &Basis, e: &Term) -> Result<Thm, AllocError>
     refl(alloc, basis, sides.ty, sides.right)
 }
 
+// What the definition of `/\` says of truth twice: `T /\ T = ((\f. f T T) = (\f. f T T))`.
+fn and_at_truths(alloc: Global, basis: &Basis) -> Result<Thm, AllocError>
+    ensures { IfOk result (λ th. th ≡ theorem_on basis.now (and_unfolded truth truth)) }
+{
+    let holds = mk_truth(alloc)?;
+    and_at(alloc, basis, &holds, &holds)
+}
+
 // `|- T /\ T`.
 fn truths(alloc: Global, basis: &Basis) -> Result<Thm, AllocError>
     ensures { IfOk result (λ th. th ≡ theorem_on basis.now (sequent_of no_hyps (conjunction truth truth))) }
 {
-    let holds = mk_truth(alloc)?;
-    let own = and_at(alloc, basis, &holds, &holds)?;
-    own.well_typed();
+    let own = and_at_truths(alloc, basis)?;
     let Some(sides) = sides_of(&own) else {
         unreachable!()
     };
     let same = itself(alloc, basis, sides.right)?;
-    let back = sym(alloc, &own)?;
-    eq_mp(alloc, &back, &same)
+    eq_mp_sym(alloc, &own, &same)
 }
 
-// From `p = q`, `(/\) p = (/\) q`.
-fn conjoined(alloc: Global, a: &Thm) -> Result<Thm, AllocError>
-    requires { a.now.sequent.concl ≡ equation bool_type (lhs a.now.sequent.concl) (rhs a.now.sequent.concl) }
-    ensures { IfOk result (λ th. th ≡ theorem_on a.now.basis (under connective_type (fixed (codes "/\\") connective_type) a.now.sequent)) }
+// From `p`, `(/\) p = (/\) T`.
+fn left_as_truth(alloc: Global, a: &Thm) -> Result<Thm, AllocError>
+    ensures { IfOk result (λ th. th ≡ theorem_on a.now.basis (under connective_type (fixed (codes "/\\") connective_type) (eqt_intro_of a.now.sequent))) }
 {
-    let name = Name::new(alloc, "/\\")?;
-    let ty = connective_type(alloc)?;
-    let sign = constant(alloc, &name, &ty)?;
-    ap_term(alloc, &ty, &sign, a)
+    let holds = eqt_intro(alloc, a)?;
+    under_connective(alloc, "/\\", &holds)
 }
 
 // From `p` and `q`, `p /\ q = T /\ T`.
@@ -78,10 +79,9 @@ fn as_truths(alloc: Global, a: &Thm, b: &Thm) -> Result<Thm, AllocError>
     requires one_basis { a.now.basis ≡ b.now.basis }
     ensures { IfOk result (λ th. th ≡ theorem_on a.now.basis (sequent_of (conj_of a.now.sequent b.now.sequent).hyps (equation bool_type (conjunction a.now.sequent.concl b.now.sequent.concl) (conjunction truth truth)))) }
 {
-    let first = eqt_intro(alloc, a)?;
-    let second = eqt_intro(alloc, b)?;
-    let left = conjoined(alloc, &first)?;
-    mk_comb(alloc, &left, &second)
+    let left = left_as_truth(alloc, a)?;
+    let right = eqt_intro(alloc, b)?;
+    mk_comb(alloc, &left, &right)
 }
 
 /// CONJ: from `p` and `q`, `p /\ q`.
@@ -90,23 +90,27 @@ pub fn conj(alloc: Global, a: &Thm, b: &Thm) -> Result<Thm, AllocError>
     ensures { IfOk result (λ th. th ≡ theorem_on a.now.basis (conj_of a.now.sequent b.now.sequent)) }
 {
     let both = as_truths(alloc, a, b)?;
-    let back = sym(alloc, &both)?;
     let holds = truths(alloc, a.basis())?;
-    eq_mp(alloc, &back, &holds)
+    eq_mp_sym(alloc, &both, &holds)
 }
 
 // ---- from a conjunction
 
+// `\q. p` or `\q. q`, by the name of the variable.
+fn function_of_second(alloc: Global, name: &str) -> Result<Term, AllocError>
+    ensures { IfOk result (λ t. t ≡ abs (boolean (codes "q")) (var (boolean name.now))) }
+{
+    let q = boolean(alloc, "q")?;
+    let body = letter(alloc, name)?;
+    Term::abstraction(alloc, &q, &body)
+}
+
 // `\p q. p` or `\p q. q`, by the name of the variable.
 fn projection(alloc: Global, name: &str) -> Result<Term, AllocError>
-    ensures { IfOk result (λ t. t ≡ abs (codes "p", bool_type) (abs (codes "q", bool_type) (var (name.now, bool_type)))) }
+    ensures { IfOk result (λ t. t ≡ abs (boolean (codes "p")) (abs (boolean (codes "q")) (var (boolean name.now)))) }
 {
-    let ty = bool_type(alloc)?;
-    let p = variable(alloc, "p", &ty)?;
-    let q = variable(alloc, "q", &ty)?;
-    let chosen = variable(alloc, name, &ty)?;
-    let body = occurrence(alloc, &chosen)?;
-    let inner = Term::abstraction(alloc, &q, &body)?;
+    let p = boolean(alloc, "p")?;
+    let inner = function_of_second(alloc, name)?;
     Term::abstraction(alloc, &p, &inner)
 }
 
@@ -140,11 +144,30 @@ fn value_of_pair(
     requires second { HasType basis.now (nameless [] q.now) bool_type }
     ensures { IfOk result (λ th. th ≡ theorem_on basis.now (sequent_of no_hyps (equation bool_type (app (pair (nameless [] p.now) (nameless [] q.now)) (nameless [] k.now)) (value_of_two (nameless [] k.now) (nameless [] p.now) (nameless [] q.now))))) }
 {
-    let redex = Term::application(alloc, both, k)?;
-    let ty = bool_type(alloc)?;
-    let contracted = beta_conv(alloc, basis, &ty, &redex)?;
+    let applied = contracted(alloc, basis, both, k)?;
     let own = value(alloc, basis, k, p, q)?;
-    trans(alloc, &contracted, &own)
+    trans(alloc, &applied, &own)
+}
+
+// From `(\f. f p q) = (\f. f T T)`, `(\f. f p q) k = k T T`.
+fn pair_at(alloc: Global, a: &Thm, k: &Term, p: &Term, q: &Term) -> Result<Thm, AllocError>
+    requires pairs { a.now.sequent.concl ≡ both_true (nameless [] p.now) (nameless [] q.now) }
+    requires function { HasType a.now.basis (nameless [] k.now) connective_type }
+    ensures { IfOk result (λ th. th ≡ theorem_on a.now.basis (sequent_of a.now.sequent.hyps (equation bool_type (app (pair (nameless [] p.now) (nameless [] q.now)) (nameless [] k.now)) (app (app (nameless [] k.now) truth) truth)))) }
+{
+    let ty = connective_type(alloc)?;
+    let truth = bool_type(alloc)?;
+    unfold(alloc, a, &ty, &truth, k)
+}
+
+// `k T T = b` with `T` for both variables, where `k` is `\p q. b`.
+fn value_at_truths(alloc: Global, basis: &Basis, k: &Term) -> Result<Thm, AllocError>
+    requires is { nameless [] k.now ≡ function_of_two (nameless [] k.now) }
+    requires function { HasType basis.now (nameless [] k.now) connective_type }
+    ensures { IfOk result (λ th. th ≡ theorem_on basis.now (sequent_of no_hyps (equation bool_type (app (app (nameless [] k.now) truth) truth) (value_of_two (nameless [] k.now) truth truth)))) }
+{
+    let holds = mk_truth(alloc)?;
+    value(alloc, basis, k, &holds, &holds)
 }
 
 // From `(\f. f p q) = (\f. f T T)`, `(\f. f p q) k = b` with `T` for both variables.
@@ -154,12 +177,21 @@ fn value_of_truths(alloc: Global, a: &Thm, k: &Term, p: &Term, q: &Term) -> Resu
     requires function { HasType a.now.basis (nameless [] k.now) connective_type }
     ensures { IfOk result (λ th. th ≡ theorem_on a.now.basis (sequent_of a.now.sequent.hyps (equation bool_type (app (pair (nameless [] p.now) (nameless [] q.now)) (nameless [] k.now)) (value_of_two (nameless [] k.now) truth truth)))) }
 {
-    let ty = connective_type(alloc)?;
-    let truth = bool_type(alloc)?;
-    let applied = unfold(alloc, a, &ty, &truth, k)?;
-    let holds = mk_truth(alloc)?;
-    let own = value(alloc, a.basis(), k, &holds, &holds)?;
+    let applied = pair_at(alloc, a, k, p, q)?;
+    let own = value_at_truths(alloc, a.basis(), k)?;
     trans(alloc, &applied, &own)
+}
+
+// From `(\f. f p q) = (\f. f T T)`, `(\f. f p q) k`, where `b` is `T` of truths.
+fn pair_holds(alloc: Global, a: &Thm, k: &Term, p: &Term, q: &Term) -> Result<Thm, AllocError>
+    requires pairs { a.now.sequent.concl ≡ both_true (nameless [] p.now) (nameless [] q.now) }
+    requires is { nameless [] k.now ≡ function_of_two (nameless [] k.now) }
+    requires truths { value_of_two (nameless [] k.now) truth truth ≡ truth }
+    requires function { HasType a.now.basis (nameless [] k.now) connective_type }
+    ensures { IfOk result (λ th. th ≡ theorem_on a.now.basis (sequent_of a.now.sequent.hyps (app (pair (nameless [] p.now) (nameless [] q.now)) (nameless [] k.now)))) }
+{
+    let equal = value_of_truths(alloc, a, k, p, q)?;
+    eqt_elim(alloc, &equal)
 }
 
 // From `(\f. f p q) = (\f. f T T)`, `b` with `p` and `q` for the variables, where it is `T` of truths.
@@ -177,10 +209,8 @@ fn component(alloc: Global, a: &Thm, k: &Term, p: &Term, q: &Term) -> Result<Thm
         unreachable!()
     };
     let own = value_of_pair(alloc, a.basis(), sides.left, k, p, q)?;
-    let back = sym(alloc, &own)?;
-    let right = value_of_truths(alloc, a, k, p, q)?;
-    let holds = trans(alloc, &back, &right)?;
-    eqt_elim(alloc, &holds)
+    let holds = pair_holds(alloc, a, k, p, q)?;
+    eq_mp(alloc, &own, &holds)
 }
 
 // From `p /\ q`, `b` with `p` and `q` for the variables, where it is `T` of truths.

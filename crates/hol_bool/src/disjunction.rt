@@ -1,26 +1,26 @@
 //! Disjunction, for callers that know that the rule applies (bool.ml: DISJ1, DISJ2, DISJ_CASES).
-ghost use Rattle.std.specs.Prelude.{◌≡◌, IfOk, [], Some, false, codes};
-ghost use Rattle.std.specs.FinSet as set;
-ghost use Rattle.hol_terms.specs.Named.{var, named_type};
+ghost use Rattle.std.specs.Prelude.{◌≡◌, IfOk, [], codes};
+ghost use Rattle.hol_terms.specs.Named.{var};
 ghost use Rattle.hol_terms.specs.Nameless.{nameless};
 ghost use Rattle.hol_terms.specs.Alpha.{strip};
-ghost use Rattle.hol_subst.specs.Variant.{is_free_in};
 ghost use Rattle.hol_formulas.specs.Equation.{bool_type};
-ghost use Rattle.hol_formulas.specs.Formula.{disjunction, universal};
+ghost use Rattle.hol_formulas.specs.Formula.{disjunction, implication, universal};
 ghost use Rattle.hol_formulas.specs.Making.{mk_imp};
 ghost use Rattle.hol_formulas.specs.Prelude.{boolean};
 ghost use Rattle.hol_kernel.specs.Sequent.{no_hyps, only_hyp, sequent_of};
 ghost use Rattle.hol_kernel.specs.Theorem.{theorem_on};
 ghost use Rattle.hol_kernel.specs.Typing.{HasType};
 ghost use Rattle.hol_equal.specs.Applied.{lhs, rhs};
-ghost use Rattle.hol_bool.specs.Applied.{with_right, with_left, by_cases, generalized};
+ghost use Rattle.hol_bool.specs.Applied.{with_right, with_left, by_cases, implied, discharged};
 ghost use Rattle.hol_bool.specs.Unfolded.{or_unfolded, either, either_for_all, letter, side_name, injection, reached_from};
 
-use crate::definitions::{definition, unfold};
+use crate::definitions::{definition, unfold_first, unfold_last};
+use crate::equations::eq_mp_sym;
 use crate::implication::{disch, mp};
-use crate::universal::{generalize, spec};
-use hol_equal::applied::{assume, eq_mp, sym};
-use hol_formulas::{Postulate, bool_type, dest_disj, mk_imp, negation_type, occurrence, variable};
+use crate::letters::{for_every, letter};
+use crate::universal::spec;
+use hol_equal::applied::{assume, eq_mp};
+use hol_formulas::{Postulate, dest_disj, mk_imp};
 use hol_kernel::{Basis, Thm};
 use hol_terms::Term;
 use std::alloc::{AllocError, Global};
@@ -32,10 +32,8 @@ fn or_at(alloc: Global, basis: &Basis, p: &Term, q: &Term) -> Result<Thm, AllocE
     ensures { IfOk result (λ th. th ≡ theorem_on basis.now (or_unfolded (nameless [] p.now) (nameless [] q.now))) }
 {
     let own = definition(alloc, basis, Postulate::OrDef)?;
-    let truth = bool_type(alloc)?;
-    let rest = negation_type(alloc)?;
-    let one = unfold(alloc, &own, &truth, &rest, p)?;
-    unfold(alloc, &one, &truth, &truth, q)
+    let one = unfold_first(alloc, &own, p)?;
+    unfold_last(alloc, &one, q)
 }
 
 // From `p \/ q`, `(p ==> r) ==> (q ==> r) ==> r`.
@@ -49,6 +47,18 @@ fn eliminated(alloc: Global, a: &Thm, p: &Term, q: &Term, r: &Term) -> Result<Th
     let own = or_at(alloc, a.basis(), p, q)?;
     let every = eq_mp(alloc, &own, a)?;
     spec(alloc, r, &every)
+}
+
+// From `(p ==> r) ==> t` and `r'` that is `r` up to bound names, `t` without the hypothesis `p` of the second.
+fn one_case(alloc: Global, a: &Thm, p: &Term, b: &Thm) -> Result<Thm, AllocError>
+    requires one_basis { a.now.basis ≡ b.now.basis }
+    requires typed { HasType a.now.basis (nameless [] p.now) bool_type }
+    requires is { a.now.sequent.concl ≡ implication (implication (nameless [] p.now) (rhs (lhs a.now.sequent.concl))) (rhs a.now.sequent.concl) }
+    requires fits { strip (rhs (lhs a.now.sequent.concl)) ≡ strip b.now.sequent.concl }
+    ensures { IfOk result (λ th. th ≡ theorem_on a.now.basis (implied a.now.sequent (discharged (nameless [] p.now) b.now.sequent))) }
+{
+    let way = disch(alloc, p, b)?;
+    mp(alloc, a, &way)
 }
 
 /// DISJ_CASES: from `p \/ q`, `r` and `r'` that is `r` up to bound names, `r` without the hypotheses `p` of the one and `q` of the other.
@@ -65,10 +75,8 @@ pub fn disj_cases(alloc: Global, a: &Thm, b: &Thm, c: &Thm) -> Result<Thm, Alloc
         unreachable!()
     };
     let either = eliminated(alloc, a, p, q, b.concl())?;
-    let first = disch(alloc, p, b)?;
-    let rest = mp(alloc, &either, &first)?;
-    let second = disch(alloc, q, c)?;
-    mp(alloc, &rest, &second)
+    let rest = one_case(alloc, &either, p, b)?;
+    one_case(alloc, &rest, q, c)
 }
 
 // A side of a disjunction.
@@ -92,16 +100,6 @@ impl Side {
     }
 }
 
-/// The variable of the name of type `bool`.
-pub(crate) fn letter(alloc: Global, name: &str) -> Result<Term, AllocError>
-    ensures is { IfOk result (λ t. t ≡ var (boolean name.now)) }
-    ensures typed { IfOk result (λ t. named_type t ≡ Some bool_type) }
-{
-    let truth = bool_type(alloc)?;
-    let v = variable(alloc, name, &truth)?;
-    occurrence(alloc, &v)
-}
-
 // `x ==> r`, for the variable `x` of the name.
 fn implies_letter(alloc: Global, name: &str) -> Result<Term, AllocError>
     ensures { IfOk result (λ t. t ≡ mk_imp (var (boolean name.now)) (var (boolean (codes "r")))) }
@@ -111,15 +109,37 @@ fn implies_letter(alloc: Global, name: &str) -> Result<Term, AllocError>
     mk_imp(alloc, &x, &r)
 }
 
+// `x ==> r` under the hypothesis `x ==> r`.
+fn assumed_rule(alloc: Global, basis: &Basis, name: &str) -> Result<Thm, AllocError>
+    ensures { IfOk result (λ th. th ≡ theorem_on basis.now (sequent_of (only_hyp (implication (letter name.now) (letter (codes "r")))) (implication (letter name.now) (letter (codes "r"))))) }
+{
+    let implies = implies_letter(alloc, name)?;
+    assume(alloc, basis, &implies)
+}
+
+// `x` under the hypothesis `x`.
+fn assumed_letter(alloc: Global, basis: &Basis, name: &str) -> Result<Thm, AllocError>
+    ensures { IfOk result (λ th. th ≡ theorem_on basis.now (sequent_of (only_hyp (letter name.now)) (letter name.now))) }
+{
+    let x = letter(alloc, name)?;
+    assume(alloc, basis, &x)
+}
+
 // From `x ==> r` and `x`, `r`.
 fn reached(alloc: Global, basis: &Basis, name: &str) -> Result<Thm, AllocError>
     ensures { IfOk result (λ th. th ≡ theorem_on basis.now (reached_from name.now)) }
 {
-    let implies = implies_letter(alloc, name)?;
-    let rule = assume(alloc, basis, &implies)?;
-    let x = letter(alloc, name)?;
-    let holds = assume(alloc, basis, &x)?;
+    let rule = assumed_rule(alloc, basis, name)?;
+    let holds = assumed_letter(alloc, basis, name)?;
     mp(alloc, &rule, &holds)
+}
+
+// DISCH of `x ==> r`, for the variable `x` of the name.
+fn from_rule(alloc: Global, name: &str, a: &Thm) -> Result<Thm, AllocError>
+    ensures { IfOk result (λ th. th ≡ theorem_on a.now.basis (discharged (implication (letter name.now) (letter (codes "r"))) a.now.sequent)) }
+{
+    let implies = implies_letter(alloc, name)?;
+    disch(alloc, &implies, a)
 }
 
 // `(p ==> r) ==> (q ==> r) ==> r` under the hypothesis of the side.
@@ -127,20 +147,17 @@ fn both_ways(alloc: Global, basis: &Basis, side: Side) -> Result<Thm, AllocError
     ensures { IfOk result (λ th. th ≡ theorem_on basis.now (sequent_of (only_hyp (letter (side_name side))) (either (letter (codes "p")) (letter (codes "q")) (letter (codes "r"))))) }
 {
     let holds = reached(alloc, basis, side.letter())?;
-    let second = implies_letter(alloc, "q")?;
-    let inner = disch(alloc, &second, &holds)?;
-    let first = implies_letter(alloc, "p")?;
-    disch(alloc, &first, &inner)
+    let inner = from_rule(alloc, "q", &holds)?;
+    from_rule(alloc, "p", &inner)
 }
 
-/// GEN over the variable of the name of type `bool`, which is free in no hypothesis.
-pub(crate) fn for_every(alloc: Global, name: &str, a: &Thm) -> Result<Thm, AllocError>
-    requires absent { is_free_in (set.items a.now.sequent.hyps) (boolean name.now) ≡ false }
-    ensures { IfOk result (λ th. th ≡ theorem_on a.now.basis (generalized (boolean name.now) a.now.sequent)) }
+// What the definition of `\/` says of the variables `p` and `q`.
+fn or_at_letters(alloc: Global, basis: &Basis) -> Result<Thm, AllocError>
+    ensures { IfOk result (λ th. th ≡ theorem_on basis.now (or_unfolded (letter (codes "p")) (letter (codes "q")))) }
 {
-    let truth = bool_type(alloc)?;
-    let v = variable(alloc, name, &truth)?;
-    generalize(alloc, &v, a)
+    let p = letter(alloc, "p")?;
+    let q = letter(alloc, "q")?;
+    or_at(alloc, basis, &p, &q)
 }
 
 // From what the definition of `\/` says of `p` and `q`, `p \/ q`.
@@ -148,11 +165,8 @@ fn folded(alloc: Global, a: &Thm) -> Result<Thm, AllocError>
     requires is { a.now.sequent.concl ≡ universal (either_for_all (letter (codes "p")) (letter (codes "q"))) }
     ensures { IfOk result (λ th. th ≡ theorem_on a.now.basis (sequent_of a.now.sequent.hyps (disjunction (letter (codes "p")) (letter (codes "q"))))) }
 {
-    let p = letter(alloc, "p")?;
-    let q = letter(alloc, "q")?;
-    let own = or_at(alloc, a.basis(), &p, &q)?;
-    let back = sym(alloc, &own)?;
-    eq_mp(alloc, &back, a)
+    let own = or_at_letters(alloc, a.basis())?;
+    eq_mp_sym(alloc, &own, a)
 }
 
 // `p \/ q` under the hypothesis of the side.
@@ -164,13 +178,20 @@ fn from_side(alloc: Global, basis: &Basis, side: Side) -> Result<Thm, AllocError
     folded(alloc, &every)
 }
 
+// `x ==> p \/ q`, where `x` is the variable of the side.
+fn side_implies(alloc: Global, basis: &Basis, side: Side) -> Result<Thm, AllocError>
+    ensures { IfOk result (λ th. th ≡ theorem_on basis.now (sequent_of no_hyps (implication (letter (side_name side)) (disjunction (letter (codes "p")) (letter (codes "q")))))) }
+{
+    let holds = from_side(alloc, basis, side)?;
+    let x = letter(alloc, side.letter())?;
+    disch(alloc, &x, &holds)
+}
+
 // `!p q. x ==> p \/ q`, where `x` is the variable of the side.
 fn injection(alloc: Global, basis: &Basis, side: Side) -> Result<Thm, AllocError>
     ensures { IfOk result (λ th. th ≡ theorem_on basis.now (sequent_of no_hyps (injection (side_name side)))) }
 {
-    let holds = from_side(alloc, basis, side)?;
-    let x = letter(alloc, side.letter())?;
-    let implies = disch(alloc, &x, &holds)?;
+    let implies = side_implies(alloc, basis, side)?;
     let inner = for_every(alloc, "q", &implies)?;
     for_every(alloc, "p", &inner)
 }

@@ -1,15 +1,14 @@
 //! Existential quantification, for callers that know that the rule applies (bool.ml: EXISTS, CHOOSE).
-ghost use Rattle.std.specs.Prelude.{◌≡◌, ◌∷◌, IfOk, [], true, false, codes};
+ghost use Rattle.std.specs.Prelude.{◌≡◌, ◌∷◌, IfOk, [], true, false};
 ghost use Rattle.std.specs.FinSet as set;
 ghost use Rattle.hol_types.specs.Fun.{fun_type};
-ghost use Rattle.hol_terms.specs.Named.{constant};
 ghost use Rattle.hol_terms.specs.Nameless.{nameless, app};
 ghost use Rattle.hol_terms.specs.Alpha.{strip};
 ghost use Rattle.hol_subst.specs.Closing.{open_with};
 ghost use Rattle.hol_subst.specs.Variant.{is_free_in};
 ghost use Rattle.hol_formulas.specs.Equation.{bool_type, equation};
-ghost use Rattle.hol_formulas.specs.Formula.{connective_type, existential, implication};
-ghost use Rattle.hol_kernel.specs.Sequent.{no_hyps, sequent_of};
+ghost use Rattle.hol_formulas.specs.Formula.{existential, implication};
+ghost use Rattle.hol_kernel.specs.Sequent.{sequent_of};
 ghost use Rattle.hol_kernel.specs.Theorem.{theorem_on};
 ghost use Rattle.hol_kernel.specs.Typing.{HasType, is_type};
 ghost use Rattle.hol_equal.specs.Applied.{rand, lhs, rhs};
@@ -17,15 +16,16 @@ ghost use Rattle.hol_bool.specs.Applied.{abstraction_in, abstraction_term, bound
 ghost use Rattle.hol_bool.specs.Rules.{choose_left};
 ghost use Rattle.hol_bool.specs.Unfolded.{exists_in, exists_unfolded, all_imply, antecedents_equal, each_witness};
 
-use crate::definitions::{definition_at, unfold};
+use crate::definitions::{definition_at, unfold_quantifier};
+use crate::equations::{contracted, eq_mp_sym, under_connective};
 use crate::implication::{disch, mp};
 use crate::universal::{generalize, spec};
 use crate::witness::witness_rule;
-use hol_equal::applied::{ap_term, ap_thm, beta_conv, eq_mp, sides_of, sym};
-use hol_formulas::{Postulate, bool_type, connective_type, constant, dest_exists, occurrence};
+use hol_equal::applied::{ap_thm, eq_mp, sides_of};
+use hol_formulas::{Postulate, bool_type, dest_exists, occurrence};
 use hol_kernel::{Basis, Thm};
 use hol_terms::{Term, Variable};
-use hol_types::{Name, Ty};
+use hol_types::Ty;
 use std::alloc::{AllocError, Global};
 
 /// What the definition of `?` says of a predicate: `(?) f = (!q. (!x. f x ==> q) ==> q)`.
@@ -35,25 +35,7 @@ pub(crate) fn exists_at(alloc: Global, basis: &Basis, ty: &Ty, f: &Term) -> Resu
     ensures { IfOk result (λ th. th ≡ theorem_on basis.now (exists_unfolded ty.now (nameless [] f.now))) }
 {
     let general = definition_at(alloc, basis, Postulate::ExistsDef, ty)?;
-    let truth = bool_type(alloc)?;
-    let predicate = Ty::fun(alloc, ty, &truth)?;
-    unfold(alloc, &general, &predicate, &truth, f)
-}
-
-/// `(\x. s) t = s` with `t` for `x`, where `f` is the abstraction.
-pub(crate) fn contracted(
-    alloc: Global,
-    basis: &Basis,
-    f: &Term,
-    t: &Term,
-) -> Result<Thm, AllocError>
-    requires function { nameless [] f.now ≡ abstraction_term (abstraction_in (nameless [] f.now)) }
-    requires typed { HasType basis.now (app (nameless [] f.now) (nameless [] t.now)) bool_type }
-    ensures { IfOk result (λ th. th ≡ theorem_on basis.now (sequent_of no_hyps (equation bool_type (app (nameless [] f.now) (nameless [] t.now)) (open_with (nameless [] t.now) 0 (abstraction_in (nameless [] f.now)).body)))) }
-{
-    let redex = Term::application(alloc, f, t)?;
-    let truth = bool_type(alloc)?;
-    beta_conv(alloc, basis, &truth, &redex)
+    unfold_quantifier(alloc, &general, ty, f)
 }
 
 // From `s` with `t` for `x`, `(\x. s) t`, where `f` is the abstraction.
@@ -64,8 +46,7 @@ fn expanded(alloc: Global, a: &Thm, f: &Term, t: &Term) -> Result<Thm, AllocErro
     ensures { IfOk result (λ th. th ≡ theorem_on a.now.basis (sequent_of a.now.sequent.hyps (app (nameless [] f.now) (nameless [] t.now)))) }
 {
     let equal = contracted(alloc, a.basis(), f, t)?;
-    let back = sym(alloc, &equal)?;
-    eq_mp(alloc, &back, a)
+    eq_mp_sym(alloc, &equal, a)
 }
 
 /// EXISTS: from `p` with `t` for `x`, up to bound names, the formula `?x. p` that is handed in, well typed over the basis.
@@ -98,24 +79,13 @@ fn eliminated(alloc: Global, a: &Thm, ty: &Ty, f: &Term, t: &Term) -> Result<Thm
     spec(alloc, t, &every)
 }
 
-// The sign `==>`.
-fn implies_sign(alloc: Global) -> Result<Term, AllocError>
-    ensures { IfOk result (λ t. t ≡ constant (codes "==>") connective_type) }
-{
-    let ty = connective_type(alloc)?;
-    let name = Name::new(alloc, "==>")?;
-    constant(alloc, &name, &ty)
-}
-
 // From `l = r`, `(l ==> t) = (r ==> t)`.
 fn antecedents(alloc: Global, equal: &Thm, t: &Term) -> Result<Thm, AllocError>
     requires is { equal.now.sequent.concl ≡ equation bool_type (lhs equal.now.sequent.concl) (rhs equal.now.sequent.concl) }
     requires typed { HasType equal.now.basis (nameless [] t.now) bool_type }
     ensures { IfOk result (λ th. th ≡ theorem_on equal.now.basis (antecedents_equal (nameless [] t.now) equal.now.sequent)) }
 {
-    let ty = connective_type(alloc)?;
-    let sign = implies_sign(alloc)?;
-    let applied = ap_term(alloc, &ty, &sign, equal)?;
+    let applied = under_connective(alloc, "==>", equal)?;
     let truth = bool_type(alloc)?;
     ap_thm(alloc, &applied, &truth, t)
 }
@@ -129,8 +99,7 @@ fn with_antecedent(alloc: Global, equal: &Thm, a: &Thm, t: &Term) -> Result<Thm,
     ensures { IfOk result (λ th. th ≡ theorem_on equal.now.basis (sequent_of (set.union equal.now.sequent.hyps a.now.sequent.hyps) (implication (lhs equal.now.sequent.concl) (nameless [] t.now)))) }
 {
     let iff = antecedents(alloc, equal, t)?;
-    let back = sym(alloc, &iff)?;
-    eq_mp(alloc, &back, a)
+    eq_mp_sym(alloc, &iff, a)
 }
 
 /// `(\x. s) v ==> t` from `t`, without the hypothesis `s` with `v` for `x`; `f` is the abstraction and `own` the variable.

@@ -10,12 +10,13 @@ ghost use Rattle.hol_equal.specs.Applied.{rand, lhs};
 ghost use Rattle.hol_bool.specs.Applied.{negated, false_of};
 ghost use Rattle.hol_bool.specs.Unfolded.{not_unfolded, refuted_under, false_under};
 
-use crate::definitions::{definition, unfold};
+use crate::definitions::{definition, unfold_last};
+use crate::equations::eq_mp_sym;
 use crate::implication::undisch;
 use crate::universal::spec;
-use hol_equal::applied::{assume, eq_mp, sym};
+use hol_equal::applied::{assume, eq_mp};
 use hol_equal::prove_hyp;
-use hol_formulas::{Postulate, bool_type, dest_imp, dest_neg, mk_falsity};
+use hol_formulas::{Postulate, dest_imp, dest_neg, mk_falsity};
 use hol_kernel::{Basis, Thm};
 use hol_terms::Term;
 use std::alloc::{AllocError, Global};
@@ -37,8 +38,7 @@ fn not_at(alloc: Global, basis: &Basis, p: &Term) -> Result<Thm, AllocError>
     ensures { IfOk result (λ th. th ≡ theorem_on basis.now (not_unfolded (nameless [] p.now))) }
 {
     let own = definition(alloc, basis, Postulate::NotDef)?;
-    let truth = bool_type(alloc)?;
-    unfold(alloc, &own, &truth, &truth, p)
+    unfold_last(alloc, &own, p)
 }
 
 /// NOT_INTRO: from `p ==> F`, `~p`.
@@ -51,8 +51,7 @@ pub fn not_intro(alloc: Global, a: &Thm) -> Result<Thm, AllocError>
         unreachable!()
     };
     let own = not_at(alloc, a.basis(), p)?;
-    let back = sym(alloc, &own)?;
-    eq_mp(alloc, &back, a)
+    eq_mp_sym(alloc, &own, a)
 }
 
 // From `~p`, `F` under the hypothesis `p`.

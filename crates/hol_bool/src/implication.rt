@@ -13,7 +13,8 @@ ghost use Rattle.hol_bool.specs.Applied.{imp_unfolded, implied, discharged, undi
 
 use crate::conjunction::{conj, conjunct1, conjunct2};
 use crate::definitions::{definition, unfold_at};
-use hol_equal::applied::{assume, eq_mp, sym};
+use crate::equations::eq_mp_sym;
+use hol_equal::applied::{assume, eq_mp};
 use hol_formulas::{Postulate, dest_imp};
 use hol_kernel::{Basis, Thm};
 use hol_terms::Term;
@@ -50,8 +51,7 @@ pub fn mp(alloc: Global, a: &Thm, b: &Thm) -> Result<Thm, AllocError>
     ensures { IfOk result (λ th. th ≡ theorem_on a.now.basis (implied a.now.sequent b.now.sequent)) }
 {
     let own = as_equivalence(alloc, a)?;
-    let back = sym(alloc, &own)?;
-    let both = eq_mp(alloc, &back, b)?;
+    let both = eq_mp_sym(alloc, &own, b)?;
     conjunct2(alloc, &both)
 }
 
@@ -65,13 +65,21 @@ fn first_of(alloc: Global, basis: &Basis, both: &Term) -> Result<Thm, AllocError
     conjunct1(alloc, &assumed)
 }
 
+// From `q`, `p /\ q` under the hypothesis `p`.
+fn with_assumed(alloc: Global, p: &Term, a: &Thm) -> Result<Thm, AllocError>
+    requires typed { HasType a.now.basis (nameless [] p.now) bool_type }
+    ensures { IfOk result (λ th. th ≡ theorem_on a.now.basis (sequent_of (set.union (only_hyp (nameless [] p.now)) a.now.sequent.hyps) (conjunction (nameless [] p.now) a.now.sequent.concl))) }
+{
+    let assumed = assume(alloc, a.basis(), p)?;
+    conj(alloc, &assumed, a)
+}
+
 // From `q`, `p /\ q <=> p` without the hypothesis `p`.
 fn with_first(alloc: Global, p: &Term, a: &Thm) -> Result<Thm, AllocError>
     requires typed { HasType a.now.basis (nameless [] p.now) bool_type }
     ensures { IfOk result (λ th. th ≡ theorem_on a.now.basis (sequent_of (set.remove a.now.sequent.hyps (strip (nameless [] p.now))) (equivalence (conjunction (nameless [] p.now) a.now.sequent.concl) (nameless [] p.now)))) }
 {
-    let assumed = assume(alloc, a.basis(), p)?;
-    let both = conj(alloc, &assumed, a)?;
+    let both = with_assumed(alloc, p, a)?;
     both.well_typed();
     let first = first_of(alloc, a.basis(), both.concl())?;
     Thm::deduct_antisym(alloc, &both, &first)
@@ -85,8 +93,7 @@ pub fn disch(alloc: Global, p: &Term, a: &Thm) -> Result<Thm, AllocError>
     a.well_typed();
     let holds = with_first(alloc, p, a)?;
     let own = imp_at(alloc, a.basis(), p, a.concl())?;
-    let back = sym(alloc, &own)?;
-    eq_mp(alloc, &back, &holds)
+    eq_mp_sym(alloc, &own, &holds)
 }
 
 /// UNDISCH: from `p ==> q`, `q` under the hypothesis `p`.

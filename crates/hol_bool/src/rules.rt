@@ -17,8 +17,9 @@ ghost use Rattle.hol_bool.specs.Refusals.{in_bool};
 ghost use Rattle.hol_bool.specs.declared.error.Rule.TheVariants as rule;
 
 use crate::applied;
+use crate::equations::contracted;
 use crate::error::{BoolError, Rule};
-use crate::existential::{contracted, witness_implies};
+use crate::existential::witness_implies;
 use crate::universal::forall_of;
 use hol_equal::applied::sides_of;
 use hol_formulas::{dest_exists, occurrence};

@@ -2,7 +2,7 @@
 use Rattle.std.specs.Prelude.{◌≡◌, ℕ, true, false, cond, ◌&&◌, List, [], ◌∷◌, Some, None}
 use Rattle.std.specs.Option.{option_map}
 use Rattle.std.specs.FinSet as set
-use Rattle.std.proofs.Common.{ap, ◌∙◌}
+use Rattle.std.proofs.Common.{ap, sym, ◌∙◌}
 use Rattle.hol_types.specs.Tree.{TypeTree}
 use Rattle.hol_types.specs.Fun.{fun_type}
 use Rattle.hol_terms.specs.Nameless.{Nameless, app, lam}
@@ -10,7 +10,7 @@ use Rattle.hol_equal.specs.Applied.{contraction}
 use Rattle.hol_equal.specs.Rules.{reversed, sym_of, beta_conv_of}
 use Rattle.hol_terms.specs.Alpha.{strip}
 use Rattle.hol_terms.proofs.Alpha.{alpha_eq_decides}
-use Rattle.hol_formulas.specs.Equation.{bool_type, equation, Sides}
+use Rattle.hol_formulas.specs.Equation.{bool_type, equation, Sides, dest_eq}
 use Rattle.hol_formulas.proofs.EquationTypes.{type_eq_itself}
 use Rattle.hol_formulas.proofs.FormulaLaws.{dest_eq_equation}
 use Rattle.hol_kernel.specs.Items.{Items}
@@ -25,6 +25,11 @@ use Rattle.hol_kernel.specs.Rules.{trans_sides, trans_of, comb_sides, mk_comb_of
 
 abbrev pub sides : TypeTree → Nameless → Nameless → Sides
 sides a l r = record { sides_type = a; left = l; right = r }
+
+-- an equation has sides
+pub has_sides : (c : Nameless) (s : TypeTree) (l r : Nameless) → c ≡ equation s l r → dest_eq c ≡ None → ⊥
+has_sides c s l r is e =
+    let found : Some (sides s l r) ≡ None = sym (ap dest_eq is ∙ dest_eq_equation s l r) ∙ e in absurd (cc)
 
 pub mk_comb_yes : (hs ks : Hyps) (a b : TypeTree) (f g x y : Nameless) → mk_comb_of (sequent_of hs (equation (fun_type a b) f g)) (sequent_of ks (equation a x y)) ≡ Some (sequent_of (set.union hs ks) (equation b (app f x) (app g y)))
 mk_comb_yes hs ks a b f g x y =

@@ -8,3 +8,4 @@ pub mod Answered
 pub mod RuleLaws
 pub mod Abstractions
 pub mod Replaced
+pub mod KeptHypotheses

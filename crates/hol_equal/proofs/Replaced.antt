@@ -5,7 +5,7 @@ use Rattle.std.specs.FinSet as set
 use Rattle.std.proofs.Common.{ap, sym, ◌∙◌}
 use Rattle.hol_types.specs.Tree.{TypeTree}
 use Rattle.hol_types.specs.Equal.{type_eq}
-use Rattle.hol_terms.specs.Named.{Named, var, constant, comb, abs}
+use Rattle.hol_terms.specs.Named.{var}
 use Rattle.hol_terms.specs.Nameless.{Nameless}
 use Rattle.hol_terms.specs.Alpha.{alpha_eq}
 use Rattle.hol_formulas.specs.Equation.{bool_type, equation, dest_eq}

@@ -1,14 +1,16 @@
 //! The rules for callers that know that they apply: such a call is not refused.
 ghost use Rattle.std.specs.Prelude.{◌≡◌, true, IfOk, MatchOption, Some, None, Ok, [], ◌∷◌, codes};
-ghost use Rattle.hol_terms.specs.Nameless.{nameless};
+ghost use Rattle.hol_types.specs.Fun.{fun_type};
+ghost use Rattle.hol_terms.specs.Nameless.{nameless, fixed, app};
+ghost use Rattle.hol_terms.specs.Alpha.{alpha_eq};
 ghost use Rattle.hol_subst.specs.Substitution.{term_subst, types_inst};
 ghost use Rattle.hol_formulas.specs.Equation.{bool_type, equality_type, equation, dest_eq};
 ghost use Rattle.hol_terms.specs.Named.{var, constant, comb, abs, named_type};
 ghost use Rattle.hol_kernel.specs.Rules.{reflexive, trans_of, mk_comb_of, abs_of, eq_mp_of, beta_of, inst_of, sequent_image};
-ghost use Rattle.hol_kernel.specs.Typing.{HasType, is_type};
-ghost use Rattle.hol_kernel.specs.Sequent.{sequent_of, only_hyp};
+ghost use Rattle.hol_kernel.specs.Typing.{HasType, is_type, is_typed};
+ghost use Rattle.hol_kernel.specs.Sequent.{sequent_of, no_hyps, only_hyp};
 ghost use Rattle.hol_kernel.specs.Theorem.{theorem_on};
-ghost use Rattle.hol_equal.specs.Applied.{transitive, combined, concluded, symmetric, under, at_argument, abstracted, contraction, own_contraction};
+ghost use Rattle.hol_equal.specs.Applied.{lhs, rhs, rand, transitive, combined, concluded, symmetric, under, at_argument, abstracted, contraction, own_contraction};
 ghost use Rattle.hol_equal.specs.Rules.{sym_of, prove_hyp_of, beta_conv_of};
 ghost use Rattle.hol_equal.specs.Unrefused.{IsUnrefused};
 
@@ -99,22 +101,66 @@ pub fn sides_of(th: &Thm) -> Option<Sides<'_>>
     dest_eq(th.concl())
 }
 
+/// The sides of a theorem that is an equation.
+pub(crate) fn known_sides(th: &Thm) -> Sides<'_>
+    requires equation { dest_eq th.now.sequent.concl ≡ None → ⊥ }
+    ensures { th.now.sequent.concl ≡ equation result.ty.now (nameless [] result.left.now) (nameless [] result.right.now) }
+{
+    let Some(sides) = sides_of(th) else {
+        unreachable!()
+    };
+    sides
+}
+
+/// ALPHA: `s = t`, for terms that are well typed over the basis and equal up to bound names; the type is that of `s`.
+pub(crate) fn alpha(
+    alloc: Global,
+    basis: &Basis,
+    ty: &Ty,
+    s: &Term,
+    t: &Term,
+) -> Result<Thm, AllocError>
+    requires typed { HasType basis.now (nameless [] s.now) ty.now }
+    requires second { is_typed basis.now (nameless [] t.now) ≡ true }
+    requires equal { alpha_eq (nameless [] s.now) (nameless [] t.now) ≡ true }
+    ensures { IfOk result (λ th. th ≡ theorem_on basis.now (sequent_of no_hyps (equation ty.now (nameless [] s.now) (nameless [] t.now)))) }
+{
+    let left = refl(alloc, basis, ty, s)?;
+    let right = refl(alloc, basis, t.type_of(), t)?;
+    trans(alloc, &left, &right)
+}
+
+// From `l = r`, `(=) l = (=) r`; the type is that of `l`.
+fn under_equality(alloc: Global, ty: &Ty, a: &Thm) -> Result<Thm, AllocError>
+    requires equal { a.now.sequent.concl ≡ equation ty.now (lhs a.now.sequent.concl) (rhs a.now.sequent.concl) }
+    ensures { IfOk result (λ th. th ≡ theorem_on a.now.basis (under (equality_type ty.now) (fixed (codes "=") (equality_type ty.now)) a.now.sequent)) }
+{
+    a.well_typed();
+    let own = equality_type(alloc, ty)?;
+    let sign = equality(alloc, &own)?;
+    ap_term(alloc, &own, &sign, a)
+}
+
+// From `(=) l = (=) r`, `r = l`; the type is that of `l`.
+fn turned(alloc: Global, ty: &Ty, left: &Term, a: &Thm) -> Result<Thm, AllocError>
+    requires typed { HasType a.now.basis (nameless [] left.now) ty.now }
+    requires equal { a.now.sequent.concl ≡ equation (fun_type ty.now bool_type) (app (fixed (codes "=") (equality_type ty.now)) (nameless [] left.now)) (app (fixed (codes "=") (equality_type ty.now)) (rand (rhs a.now.sequent.concl))) }
+    ensures { IfOk result (λ th. th ≡ theorem_on a.now.basis (sequent_of a.now.sequent.hyps (equation ty.now (rand (rhs a.now.sequent.concl)) (nameless [] left.now)))) }
+{
+    let same = refl(alloc, a.basis(), ty, left)?;
+    let both = mk_comb(alloc, a, &same)?;
+    eq_mp(alloc, &both, &same)
+}
+
 /// SYM: from `s = t`, `t = s`.
 pub fn sym(alloc: Global, a: &Thm) -> Result<Thm, AllocError>
     requires applies { sym_of a.now.sequent ≡ Some (symmetric a.now.sequent) }
     ensures { IfOk result (λ th. th ≡ theorem_on a.now.basis (symmetric a.now.sequent)) }
 {
     a.well_typed();
-    let Some(sides) = sides_of(a) else {
-        unreachable!()
-    };
-    let ty = equality_type(alloc, sides.ty)?;
-    let sign = equality(alloc, &ty)?;
-    let same_sign = refl(alloc, a.basis(), &ty, &sign)?;
-    let applied = mk_comb(alloc, &same_sign, a)?;
-    let same = refl(alloc, a.basis(), sides.ty, sides.left)?;
-    let both = mk_comb(alloc, &applied, &same)?;
-    eq_mp(alloc, &both, &same)
+    let sides = known_sides(a);
+    let applied = under_equality(alloc, sides.ty, a)?;
+    turned(alloc, sides.ty, sides.left, &applied)
 }
 
 /// AP_TERM: from `s = t`, `f s = f t`, for a function of the type.

@@ -11,5 +11,5 @@ mod rules;
 
 pub use applied::prove_hyp;
 pub use error::{EqualError, Rule};
-pub use laws::rules_widen;
+pub use laws::{rules_keep_hypotheses, rules_widen};
 pub use rules::{alpha, ap_term, ap_thm, beta_conv, subst, sym};

@@ -11,7 +11,7 @@ ghost use Rattle.hol_kernel.specs.Typing.{HasType};
 ghost use Rattle.hol_equal.specs.Applied.{lhs, rhs, replaced, substituted};
 ghost use Rattle.hol_equal.specs.Rules.{m_with};
 
-use crate::applied::{ap_term, beta_conv, eq_mp, sides_of, sym, trans};
+use crate::applied::{ap_term, beta_conv, eq_mp, known_sides, sym, trans};
 use hol_formulas::bool_type;
 use hol_kernel::{Basis, Thm};
 use hol_terms::{Term, Variable};
@@ -36,17 +36,39 @@ fn image(
     beta_conv(alloc, basis, &truth, &redex)
 }
 
-// From `l = f s`, `f s = f t` and `f t = r`: `l = r`.
-fn joined(alloc: Global, back: &Thm, a: &Thm, right: &Thm) -> Result<Thm, AllocError>
-    requires one_basis { back.now.basis ≡ a.now.basis }
-    requires same_basis { back.now.basis ≡ right.now.basis }
-    requires first { back.now.sequent ≡ sequent_of no_hyps (equation bool_type (lhs back.now.sequent.concl) (lhs a.now.sequent.concl)) }
-    requires second { a.now.sequent ≡ sequent_of a.now.sequent.hyps (equation bool_type (lhs a.now.sequent.concl) (rhs a.now.sequent.concl)) }
-    requires third { right.now.sequent ≡ sequent_of no_hyps (equation bool_type (rhs a.now.sequent.concl) (rhs right.now.sequent.concl)) }
-    ensures { IfOk result (λ th. th ≡ theorem_on back.now.basis (sequent_of a.now.sequent.hyps (equation bool_type (lhs back.now.sequent.concl) (rhs right.now.sequent.concl)))) }
+// `m` with `s` for `v` equals `(\v. m) s`, for `s = t`; `f` is the abstraction.
+fn left_image(alloc: Global, v: &Variable, m: &Term, f: &Term, a: &Thm) -> Result<Thm, AllocError>
+    requires is { nameless [] f.now ≡ bind v.now (nameless [] m.now) }
+    requires function { HasType a.now.basis (nameless [] f.now) (fun_type v.now.1 bool_type) }
+    requires equal { a.now.sequent.concl ≡ equation v.now.1 (lhs a.now.sequent.concl) (rhs a.now.sequent.concl) }
+    ensures { IfOk result (λ th. th ≡ theorem_on a.now.basis (sequent_of no_hyps (equation bool_type (m_with (lhs a.now.sequent.concl) v.now (nameless [] m.now)) (app (bind v.now (nameless [] m.now)) (lhs a.now.sequent.concl))))) }
 {
-    let first = trans(alloc, back, a)?;
-    trans(alloc, &first, right)
+    a.well_typed();
+    let sides = known_sides(a);
+    let left = image(alloc, a.basis(), v, m, f, sides.left)?;
+    sym(alloc, &left)
+}
+
+// `(\v. m) s` equals `m` with `t` for `v`, from `s = t`; `f` is the abstraction, of the type.
+fn right_image(
+    alloc: Global,
+    v: &Variable,
+    m: &Term,
+    f: &Term,
+    ty: &Ty,
+    a: &Thm,
+) -> Result<Thm, AllocError>
+    requires is { nameless [] f.now ≡ bind v.now (nameless [] m.now) }
+    requires function { HasType a.now.basis (nameless [] f.now) ty.now }
+    requires of_type { ty.now ≡ fun_type v.now.1 bool_type }
+    requires equal { a.now.sequent.concl ≡ equation v.now.1 (lhs a.now.sequent.concl) (rhs a.now.sequent.concl) }
+    ensures { IfOk result (λ th. th ≡ theorem_on a.now.basis (sequent_of a.now.sequent.hyps (equation bool_type (app (bind v.now (nameless [] m.now)) (lhs a.now.sequent.concl)) (m_with (rhs a.now.sequent.concl) v.now (nameless [] m.now))))) }
+{
+    a.well_typed();
+    let sides = known_sides(a);
+    let right = image(alloc, a.basis(), v, m, f, sides.right)?;
+    let applied = ap_term(alloc, ty, f, a)?;
+    trans(alloc, &applied, &right)
 }
 
 // `m` with `s` for `v` equals `m` with `t` for `v`, from `s = t`; `f` is the abstraction of `m`, of the type.
@@ -64,15 +86,9 @@ fn replaced(
     requires equal { a.now.sequent.concl ≡ equation v.now.1 (lhs a.now.sequent.concl) (rhs a.now.sequent.concl) }
     ensures { IfOk result (λ th. th ≡ theorem_on a.now.basis (replaced v.now (nameless [] m.now) a.now.sequent)) }
 {
-    a.well_typed();
-    let Some(sides) = sides_of(a) else {
-        unreachable!()
-    };
-    let left = image(alloc, a.basis(), v, m, f, sides.left)?;
-    let right = image(alloc, a.basis(), v, m, f, sides.right)?;
-    let applied = ap_term(alloc, ty, f, a)?;
-    let back = sym(alloc, &left)?;
-    joined(alloc, &back, &applied, &right)
+    let left = left_image(alloc, v, m, f, a)?;
+    let right = right_image(alloc, v, m, f, ty, a)?;
+    trans(alloc, &left, &right)
 }
 
 /// `m` with `s` for `v` equals `m` with `t` for `v`, from `s = t`; `m` is a formula over the basis.

@@ -11,7 +11,7 @@ ghost use Rattle.hol_equal.specs.Rules.{sym_of, ap_term_of, ap_thm_of, alpha_of,
 ghost use Rattle.hol_equal.specs.Refusals.{in_equal};
 ghost use Rattle.hol_equal.specs.declared.error.Rule.TheVariants as rule;
 
-use crate::applied::{self, sides_of};
+use crate::applied::{self, known_sides, sides_of};
 use crate::error::{EqualError, Rule};
 use crate::replacement::equal_images;
 use hol_formulas::bool_type;
@@ -49,9 +49,7 @@ pub fn alpha(alloc: Global, basis: &Basis, s: &Term, t: &Term) -> Result<Thm, Eq
     if !basis.is_typed(alloc, t)? {
         return Err(EqualError::Refused(Rule::Alpha));
     }
-    let left = applied::refl(alloc, basis, s.type_of(), s)?;
-    let right = applied::refl(alloc, basis, t.type_of(), t)?;
-    Ok(applied::trans(alloc, &left, &right)?)
+    Ok(applied::alpha(alloc, basis, s.type_of(), s, t)?)
 }
 
 // Whether the term is well typed over the basis, of the type.
@@ -173,9 +171,7 @@ fn with_right_side(
     ensures basis { IfOk result (λ th. th.basis ≡ a.now.basis) }
 {
     let same = equal_images(alloc, a, v, m)?;
-    let Some(images) = sides_of(&same) else {
-        unreachable!()
-    };
+    let images = known_sides(&same);
     if !images.left.alpha_equivalent(b.concl()) {
         return Err(EqualError::Refused(Rule::Subst));
     }

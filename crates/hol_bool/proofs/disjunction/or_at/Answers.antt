@@ -13,14 +13,14 @@ use Rattle.hol_terms.specs.Nameless.{Nameless, app, fixed, nameless}
 use Rattle.std.proofs.Common.{[], ap, codes, refl, ◌≡◌}
 use Rattle.hol_bool.proofs.disjunction.or_at.Goals as goal
 
-pub unfold-requires : goal.unfold-requires
-unfold-requires c =
+pub unfold_first-requires : goal.unfold_first-requires
+unfold_first-requires c =
     let B = c.args.basis.now in
     let own : c.in_ok-own.own ≡ theorem_on B (postulate_of OrDef) = c.in_ok-own.ensures in
-    rw (own, c.in_ok-truth.ensures, c.in_ok-rest.ensures) record { is = refl; typed = c.requires.first }
+    rw own record { is = refl; typed = c.requires.first }
 
-pub unfold-requires-2 : goal.unfold-requires-2
-unfold-requires-2 c =
+pub unfold_last-requires : goal.unfold_last-requires
+unfold_last-requires c =
     let B = c.args.basis.now in
     let p = nameless [] c.args.p.now in
     let q = nameless [] c.args.q.now in
@@ -29,7 +29,7 @@ unfold-requires-2 c =
     let sign = fixed (codes "\\/") connective_type in
     let own : c.in_ok-own.own ≡ theorem_on B (postulate_of OrDef) = c.in_ok-own.ensures in
     let one : c.in_ok-one.one ≡ theorem_on B (sequent_of no_hyps (equation negation_type (app sign p) (or_half p))) = rw (c.in_ok-one.ensures, own) (ap (λ (u : Nameless). theorem_on B (sequent_of no_hyps (equation negation_type (app sign p) u))) (first_opened p q cp cq)) in
-    rw (one, c.in_ok-truth.ensures) record { is = refl; typed = c.requires.second }
+    rw one record { is = refl; typed = c.requires.second }
 
 pub returns : goal.returns
 returns c =
@@ -41,5 +41,5 @@ returns c =
     let sign = fixed (codes "\\/") connective_type in
     let own : c.in_ok-own.own ≡ theorem_on B (postulate_of OrDef) = c.in_ok-own.ensures in
     let one : c.in_ok-one.one ≡ theorem_on B (sequent_of no_hyps (equation negation_type (app sign p) (or_half p))) = rw (c.in_ok-one.ensures, own) (ap (λ (u : Nameless). theorem_on B (sequent_of no_hyps (equation negation_type (app sign p) u))) (first_opened p q cp cq)) in
-    became c.unfold-2.result (theorem_on c.in_ok-one.one.basis (unfolded q c.in_ok-one.one.sequent)) (theorem_on B (or_unfolded p q)) c.unfold-2.ensures
+    became c.unfold_last.result (theorem_on c.in_ok-one.one.basis (unfolded q c.in_ok-one.one.sequent)) (theorem_on B (or_unfolded p q)) c.unfold_last.ensures
     (rw one (ap (λ (u : Nameless). theorem_on B (sequent_of no_hyps (equation bool_type (disjunction p q) u))) (second_opened p q cp cq)))

@@ -10,18 +10,14 @@ use Rattle.hol_terms.specs.Nameless.{Nameless, nameless}
 use Rattle.std.proofs.Common.{[], ap, refl}
 use Rattle.hol_bool.proofs.existential.exists_at.Goals as goal
 
-pub unfold-requires-clause-is : goal.unfold-requires-clause-is
-unfold-requires-clause-is c =
-    rw (c.in_ok-general.ensures, c.in_ok-predicate.ensures, c.in_ok-truth.ensures) refl
-
-pub unfold-requires-clause-typed : goal.unfold-requires-clause-typed
-unfold-requires-clause-typed c =
-    rw (c.in_ok-general.ensures, c.in_ok-predicate.ensures, c.in_ok-truth.ensures) c.requires.typed
+pub unfold_quantifier-requires : goal.unfold_quantifier-requires
+unfold_quantifier-requires c =
+    rw c.in_ok-general.ensures record { is = refl; typed = c.requires.typed }
 
 pub returns : goal.returns
 returns c =
     let B = c.args.basis.now in
     let a = c.args.ty.now in
     let f = nameless [] c.args.f.now in
-    became c.unfold.result (theorem_on c.in_ok-general.general.basis (unfolded f c.in_ok-general.general.sequent)) (theorem_on B (exists_unfolded a f)) c.unfold.ensures
+    became c.unfold_quantifier.result (theorem_on c.in_ok-general.general.basis (unfolded f c.in_ok-general.general.sequent)) (theorem_on B (exists_unfolded a f)) c.unfold_quantifier.ensures
     (rw c.in_ok-general.ensures (ap (λ (g : Nameless). theorem_on B (sequent_of no_hyps (equation bool_type (exists_in a f) (universal (implied_by_all a g))))) (shift_whole 2 0 f (closed_named c.args.f.now))))

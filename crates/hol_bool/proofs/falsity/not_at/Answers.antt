@@ -10,14 +10,14 @@ use Rattle.hol_terms.specs.Nameless.{Nameless, nameless}
 use Rattle.std.proofs.Common.{[], ap, refl, ◌∙◌}
 use Rattle.hol_bool.proofs.falsity.not_at.Goals as goal
 
-pub unfold-requires : goal.unfold-requires
-unfold-requires c =
-    rw (c.in_ok-own.ensures, c.in_ok-truth.ensures) record { is = refl; typed = c.requires.typed }
+pub unfold_last-requires : goal.unfold_last-requires
+unfold_last-requires c =
+    rw c.in_ok-own.ensures record { is = refl; typed = c.requires.typed }
 
 pub returns : goal.returns
 returns c =
     let B = c.args.basis.now in
     let p = nameless [] c.args.p.now in
-    became c.unfold.result (theorem_on c.in_ok-own.own.basis (unfolded p c.in_ok-own.own.sequent)) (theorem_on B (not_unfolded p)) c.unfold.ensures
+    became c.unfold_last.result (theorem_on c.in_ok-own.own.basis (unfolded p c.in_ok-own.own.sequent)) (theorem_on B (not_unfolded p)) c.unfold_last.ensures
     ((λ i. theorem_on (c.in_ok-own.ensures i).basis (unfolded p (c.in_ok-own.ensures i).sequent))
     ∙ ap (λ (u : Nameless). theorem_on B (sequent_of no_hyps (equation bool_type (negation p) (implication u falsity)))) (shift_whole 0 0 p (closed_named c.args.p.now)))

@@ -8,9 +8,9 @@ use Rattle.hol_kernel.specs.Sequent.{no_hyps, sequent_of, Hyps}
 use Rattle.hol_kernel.specs.Theorem.{theorem_on}
 use Rattle.hol_equal.proofs.HypSets.{none_left}
 use Rattle.hol_equal.proofs.Outcomes.{became}
-use Rattle.hol_equal.specs.Applied.{concluded}
 use Rattle.hol_bool.specs.Applied.{discharged, imp_unfolded}
-use Rattle.hol_bool.proofs.Chains.{one_basis, sym_fits, turned, eq_mp_fits, followed}
+use Rattle.hol_bool.specs.Unfolded.{replaced}
+use Rattle.hol_bool.proofs.Chains.{one_basis, is_equation, right_fits, given_back}
 use Rattle.hol_bool.proofs.implication.disch.Goals as goal
 
 pub with_first-requires : goal.with_first-requires
@@ -21,37 +21,25 @@ pub imp_at-requires : goal.imp_at-requires
 imp_at-requires c =
     rw (c.basis.ensures, c.concl.ensures.concl) record { first = c.requires.typed; second = c.well_typed.ensures.conclusion }
 
-pub sym-requires : goal.sym-requires
-sym-requires c =
+pub eq_mp_sym-requires : goal.eq_mp_sym-requires
+eq_mp_sym-requires c =
     let B = c.args.a.now.basis in
     let s = c.args.a.now.sequent in
     let p = nameless [] c.args.p.now in
-    let whole = implication p s.concl in
-    let body = equivalence (conjunction p s.concl) p in
-    let own : c.in_ok-own.own ≡ theorem_on B (sequent_of no_hyps (equation bool_type whole body)) = c.in_ok-own.ensures ∙ (λ i. theorem_on (c.basis.ensures i) (imp_unfolded p (c.concl.ensures.concl i))) in
-    record { applies = sym_fits B c.in_ok-own.own no_hyps bool_type whole body own }
-
-pub eq_mp-requires : goal.eq_mp-requires
-eq_mp-requires c =
-    let B = c.args.a.now.basis in
-    let s = c.args.a.now.sequent in
-    let p = nameless [] c.args.p.now in
-    let whole = implication p s.concl in
-    let body = equivalence (conjunction p s.concl) p in
-    let own : c.in_ok-own.own ≡ theorem_on B (sequent_of no_hyps (equation bool_type whole body)) = c.in_ok-own.ensures ∙ (λ i. theorem_on (c.basis.ensures i) (imp_unfolded p (c.concl.ensures.concl i))) in
     let left = set.remove s.hyps (strip p) in
-    let back : c.in_ok-back.back ≡ theorem_on B (sequent_of no_hyps (equation bool_type body whole)) = c.in_ok-back.ensures ∙ turned B c.in_ok-own.own no_hyps bool_type whole body own in
-    record { one_basis = one_basis B c.in_ok-back.back c.in_ok-holds.holds (sequent_of no_hyps (equation bool_type body whole)) (sequent_of left body) back c.in_ok-holds.ensures; applies = eq_mp_fits B c.in_ok-back.back c.in_ok-holds.holds no_hyps left bool_type body whole body refl back c.in_ok-holds.ensures }
+    let whole = implication p s.concl in
+    let body = equivalence (conjunction p s.concl) p in
+    let own : c.in_ok-own.own ≡ theorem_on B (sequent_of no_hyps (equation bool_type whole body)) = c.in_ok-own.ensures ∙ (λ i. theorem_on (c.basis.ensures i) (imp_unfolded p (c.concl.ensures.concl i))) in
+    record { one_basis = one_basis B c.in_ok-own.own c.in_ok-holds.holds (sequent_of no_hyps (equation bool_type whole body)) (sequent_of left body) own c.in_ok-holds.ensures; is = is_equation B c.in_ok-own.own c.in_ok-holds.holds no_hyps left whole body body refl own c.in_ok-holds.ensures; fits = right_fits B c.in_ok-own.own c.in_ok-holds.holds no_hyps left whole body body refl own c.in_ok-holds.ensures }
 
 pub returns : goal.returns
 returns c =
     let B = c.args.a.now.basis in
     let s = c.args.a.now.sequent in
     let p = nameless [] c.args.p.now in
+    let left = set.remove s.hyps (strip p) in
     let whole = implication p s.concl in
     let body = equivalence (conjunction p s.concl) p in
     let own : c.in_ok-own.own ≡ theorem_on B (sequent_of no_hyps (equation bool_type whole body)) = c.in_ok-own.ensures ∙ (λ i. theorem_on (c.basis.ensures i) (imp_unfolded p (c.concl.ensures.concl i))) in
-    let left = set.remove s.hyps (strip p) in
-    let back : c.in_ok-back.back ≡ theorem_on B (sequent_of no_hyps (equation bool_type body whole)) = c.in_ok-back.ensures ∙ turned B c.in_ok-own.own no_hyps bool_type whole body own in
-    became c.eq_mp.result (theorem_on c.in_ok-back.back.basis (concluded c.in_ok-back.back.sequent c.in_ok-holds.holds.sequent)) (theorem_on B (discharged p s)) c.eq_mp.ensures
-    (followed B c.in_ok-back.back c.in_ok-holds.holds no_hyps left bool_type body whole body refl back c.in_ok-holds.ensures ∙ ap (λ (hs : Hyps). theorem_on B (sequent_of hs whole)) (none_left left))
+    became c.eq_mp_sym.result (theorem_on c.in_ok-own.own.basis (replaced c.in_ok-own.own.sequent c.in_ok-holds.holds.sequent)) (theorem_on B (discharged p s)) c.eq_mp_sym.ensures
+    (given_back B c.in_ok-own.own c.in_ok-holds.holds no_hyps left whole body body refl own c.in_ok-holds.ensures ∙ ap (λ (hs : Hyps). theorem_on B (sequent_of hs whole)) (none_left left))

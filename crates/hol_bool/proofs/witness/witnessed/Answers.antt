@@ -10,28 +10,16 @@ use Rattle.hol_kernel.specs.Rules.{sequent_image}
 use Rattle.hol_kernel.specs.Sequent.{Hyps, no_hyps, sequent_of}
 use Rattle.hol_kernel.specs.Theorem.{theorem_on}
 use Rattle.hol_subst.specs.Substitution.{types_inst}
-use Rattle.std.proofs.Common.{[], ap, codes, refl, ◌∷◌, ◌≡◌}
+use Rattle.std.proofs.Common.{[], ap, codes, refl, ◌∙◌, ◌∷◌, ◌≡◌}
 use Rattle.hol_bool.proofs.witness.witnessed.Goals as goal
 
 pub generalize-requires : goal.generalize-requires
 generalize-requires c =
-    rw (c.in_ok-implies.ensures, c.in_ok-x.ensures) record { stands = refl; absent = free_in_none (element (codes "x")) }
-
-pub generalize-requires-2 : goal.generalize-requires-2
-generalize-requires-2 c =
-    let B = c.args.basis.now in
-    let one = generalized (element (codes "x")) (sequent_of no_hyps (implication of_witness (exists_in var_a predicate))) in
-    let inner : c.in_ok-inner.inner ≡ theorem_on B one = rw (c.in_ok-inner.ensures, c.in_ok-implies.ensures, c.in_ok-x.ensures) refl in
-    rw (inner, c.in_ok-p.ensures) record { stands = refl; absent = free_in_none property }
+    rw (c.in_ok-inner.ensures, c.in_ok-p.ensures) record { stands = refl; absent = free_in_none property }
 
 pub inst_type-requires : goal.inst_type-requires
 inst_type-requires c =
-    let B = c.args.basis.now in
-    let one = generalized (element (codes "x")) (sequent_of no_hyps (implication of_witness (exists_in var_a predicate))) in
-    let two = generalized property one in
-    let inner : c.in_ok-inner.inner ≡ theorem_on B one = rw (c.in_ok-inner.ensures, c.in_ok-implies.ensures, c.in_ok-x.ensures) refl in
-    let whole : c.in_ok-general.general ≡ theorem_on B two = rw (c.in_ok-general.ensures, inner, c.in_ok-p.ensures) refl in
-    rw whole record { stands = c.requires }
+    rw (c.in_ok-general.ensures, c.in_ok-inner.ensures) record { stands = c.requires }
 
 pub returns : goal.returns
 returns c =
@@ -39,8 +27,6 @@ returns c =
     let a = c.args.ty.now in
     let put = types_inst ((a, codes "A") ∷ []) in
     let one = generalized (element (codes "x")) (sequent_of no_hyps (implication of_witness (exists_in var_a predicate))) in
-    let two = generalized property one in
-    let inner : c.in_ok-inner.inner ≡ theorem_on B one = rw (c.in_ok-inner.ensures, c.in_ok-implies.ensures, c.in_ok-x.ensures) refl in
-    let whole : c.in_ok-general.general ≡ theorem_on B two = rw (c.in_ok-general.ensures, inner, c.in_ok-p.ensures) refl in
+    let whole : c.in_ok-general.general ≡ theorem_on B (generalized property one) = c.in_ok-general.ensures ∙ (λ i. theorem_on (c.in_ok-inner.ensures i).basis (generalized (c.in_ok-p.ensures i) (c.in_ok-inner.ensures i).sequent)) in
     became c.inst_type.result (theorem_on c.in_ok-general.general.basis (sequent_image put c.in_ok-general.general.sequent)) (theorem_on B (sequent_of no_hyps (witnessed a))) c.inst_type.ensures
     (rw whole (ap (λ (hs : Hyps). theorem_on B (sequent_of hs (witnessed a))) (image_none put)))

@@ -1,16 +1,10 @@
 use Rattle.std.proofs.Common.{◌≡◌, ap, sym, ◌∙◌, [], true, refl, rules}
-use Rattle.hol_types.specs.Tree.{TypeTree}
-use Rattle.hol_terms.specs.Named.{Named, var}
+use Rattle.hol_terms.specs.Named.{var}
 use Rattle.hol_terms.specs.View.{named_of}
 use Rattle.hol_terms.specs.Nameless.{nameless}
 use Rattle.hol_formulas.specs.Equation.{bool_type}
-use Rattle.hol_kernel.specs.Gives.{Gives}
-use Rattle.hol_kernel.specs.Theorem.{over}
 use Rattle.hol_kernel.specs.Typing.{has_type}
 use Rattle.hol_kernel.proofs.Declared.{has_type_is}
-use Rattle.hol_equal.specs.Refusals.{in_equal}
-use Rattle.hol_equal.specs.Rules.{subst_of}
-use Rattle.hol_equal.specs.declared.error.Rule.TheVariants as rule
 use Rattle.hol_equal.proofs.Replaced.{sides_in}
 use Rattle.hol_equal.proofs.rules.subst.Goals as goal
 
