@@ -1,12 +1,18 @@
 #!/usr/bin/env python3
-"""How many rules of the kernel and substitutions are done in a second, and what is asked of shared types.
+"""How many rules of the kernel, derived rules, functions on goals and substitutions are done in a second, and what is asked of shared types.
 
-    python3 bench/kernel.py --program PATH [--rounds N]
+    python3 bench/kernel.py --program PATH [--rounds N] [--only PREFIX]
 
 PATH is the built program, crates/hol_bench/out/hol_bench. Its jobs:
 
   refl, trans, mk_comb, beta, inst, inst_type
             a rule over the basis without items, on a term of so many applications, of 5 nodes each
+  sym, ap_term, alpha, beta_conv, prove_hyp, spec, generalize, exists, choose, conj, conjunct1, conjunct2, mp, disch, undisch, disj1, disj2, disj_cases, contr, eqt_intro,
+  eqf_intro
+            a derived rule over the basis without items, of the equation t = t, where t has so many applications, and of what the rule takes of it
+  many_RULE the same of t = t from so many hypotheses, where t has 4 applications
+  NAME_tac  a function on a goal that is made of t = t, where t has so many applications; the answer is the size of the goal, 0 where the function is refused (no_tac)
+  prelude   the prelude's 21 theorems are derived; the answer is the size of AND_CLAUSES
   tower     a variable under so many applications is replaced: the whole term is made anew
   beside    a variable beside so many applications, in which it does not occur: these keep their nodes
   captures  a variable under so many binders, all of whose variables are free in the term that comes in: each binder is renamed
@@ -17,7 +23,7 @@ PATH is the built program, crates/hol_bench/out/hol_bench. Its jobs:
   order     the orders of these types against a type variable
 
 Each line has the size that the job is given, its answer (the nodes of the result or the conclusion, 20,001 for more; of the last two a sum), and how many
-times it is done in a second of processor time. The times are medians of the rounds.
+times it is done in a second of processor time. The times are medians of the rounds, less those of a run that prepares the same and does nothing.
 
 Needs Python 3.8 and Linux, and nothing else.
 """
@@ -29,8 +35,29 @@ import statistics
 import subprocess
 
 RULES = ("refl", "trans", "mk_comb", "beta", "inst", "inst_type")
+DERIVED = (
+    "sym", "ap_term", "alpha", "beta_conv", "prove_hyp", "spec", "generalize", "exists", "choose", "conj", "conjunct1", "conjunct2", "mp",
+    "disch", "undisch", "disj1", "disj2", "disj_cases", "contr", "eqt_intro", "eqf_intro",
+)
+TACS = (
+    "all", "no", "refl", "accept", "conj", "contr", "disj1", "disj2", "mp", "eq", "ap_term", "ap_thm", "mk_comb", "undisch", "exists", "gen", "x_gen",
+)
 HEIGHTS = ((4, 20000), (40, 2000), (400, 200))
-JOBS = tuple((rule, height, times) for rule in RULES for height, times in HEIGHTS) + (
+DERIVED_HEIGHTS = ((1, 1000), (19, 200), (199, 20))
+# Functions whose goal has t = t twice.
+DOUBLED = ("conj", "disj1", "disj2", "eq", "undisch")
+HYPOTHESES = ((10, 500), (100, 50), (1000, 5))
+# The goal has about 100 or 10,000 nodes.
+TAC_HEIGHTS = ((9, 20000), (990, 200))
+DOUBLE_HEIGHTS = ((4, 20000), (498, 200))
+JOBS = tuple((rule, height, times) for rule in RULES for height, times in HEIGHTS) + tuple(
+    (rule, height, times) for rule in DERIVED for height, times in DERIVED_HEIGHTS
+) + tuple(
+    (f"many_{rule}", count, times) for rule in DERIVED for count, times in HYPOTHESES
+) + tuple(
+    (f"{tac}_tac", height, times) for tac in TACS for height, times in (DOUBLE_HEIGHTS if tac in DOUBLED else TAC_HEIGHTS)
+) + (
+    ("prelude", 0, 100),
     ("tower", 200, 5000),
     ("tower", 3990, 200),
     ("beside", 200, 200000),
@@ -59,13 +86,17 @@ def main():
     parser = argparse.ArgumentParser(description=__doc__, formatter_class=argparse.RawDescriptionHelpFormatter)
     parser.add_argument("--program", required=True)
     parser.add_argument("--rounds", type=int, default=5)
+    parser.add_argument("--only", default="", help="the jobs whose names begin so")
     given = parser.parse_args()
     program = os.path.abspath(given.program)
-    print(f"{'job':13}{'size':>6}{'answer':>11}{'a second':>12}")
+    print(f"{'job':16}{'size':>6}{'answer':>11}{'a second':>12}{'ms':>12}")
     for job, size, times in JOBS:
+        if not job.startswith(given.only):
+            continue
         runs = [processor_seconds(program, job, size, times) for _ in range(given.rounds)]
-        seconds = statistics.median(run[0] for run in runs)
-        print(f"{job:13}{size:6}{runs[0][1]:>11}{times / seconds:12,.0f}")
+        idle = [processor_seconds(program, job, size, 0) for _ in range(given.rounds)]
+        seconds = max(statistics.median(run[0] for run in runs) - statistics.median(run[0] for run in idle), 1e-6)
+        print(f"{job:16}{size:6}{runs[0][1]:>11}{times / seconds:12,.0f}{1000 * seconds / times:12.4f}")
 
 
 if __name__ == "__main__":

@@ -1,13 +1,18 @@
 //! Does one call of the crates below so many times on terms of a size, so that a clock outside can time it: `hol_bench JOB SIZE TIMES`.
 #![tactic(auto)]
 
+mod derived;
 mod failure;
+mod formulas;
+mod goals;
 mod rules;
 mod sharing;
 mod substitution;
 mod terms;
 
+use crate::derived::derived;
 use crate::failure::Failure;
+use crate::goals::goals;
 use crate::rules::rules;
 use crate::sharing::sharing;
 use crate::substitution::substitution;
@@ -43,8 +48,19 @@ fn done(alloc: Global, work: &Work) -> Result<u32, Failure> {
         "tower" | "beside" | "captures" | "types" | "types_beside" => {
             substitution(alloc, work.job.as_str(), work.size, work.times)
         }
-        job => rules(alloc, job, work.size, work.times),
+        "refl" | "trans" | "mk_comb" | "beta" | "inst" | "inst_type" => {
+            rules(alloc, work.job.as_str(), work.size, work.times)
+        }
+        job => above(alloc, job, work.size, work.times),
     }
+}
+
+// What stands on the kernel.
+fn above(alloc: Global, job: &str, size: u32, times: u32) -> Result<u32, Failure> {
+    if job.ends_with("_tac") {
+        return goals(alloc, job, size, times);
+    }
+    derived(alloc, job, size, times)
 }
 
 fn report(rt: &HostRuntime) -> Result<(), Failure> {

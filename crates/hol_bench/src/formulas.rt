@@ -1,0 +1,67 @@
+//! The formulas that are worked on.
+ghost use Rattle.std.specs.Prelude.{◌≡◌, IfOk, Some};
+ghost use Rattle.hol_terms.specs.Named.{named_type};
+ghost use Rattle.hol_formulas.specs.Equation.{bool_type};
+
+use crate::failure::Failure;
+use crate::terms::variable_of_a;
+use hol_formulas::{mk_conj, mk_disj, mk_eq, mk_exists, mk_forall, mk_iff};
+use hol_terms::{Term, TermNode, Variable};
+use std::alloc::Global;
+
+/// `t = t`.
+pub fn equation(alloc: Global, t: &Term) -> Result<Term, Failure>
+    ensures { IfOk result (λ p. named_type p ≡ Some bool_type) }
+{
+    Ok(mk_eq(alloc, t.type_of(), t, t)?)
+}
+
+/// What the function on goals fits, of p.
+pub fn conclusion(alloc: Global, tac: &str, p: &Term) -> Result<Term, Failure>
+    requires { named_type p.now ≡ Some bool_type }
+    ensures { IfOk result (λ q. named_type q ≡ Some bool_type) }
+{
+    match tac {
+        "gen_tac" | "x_gen_tac" => every(alloc, p),
+        "exists_tac" => some(alloc, p),
+        _ => connected(alloc, tac, p),
+    }
+}
+
+fn connected(alloc: Global, tac: &str, p: &Term) -> Result<Term, Failure>
+    requires { named_type p.now ≡ Some bool_type }
+    ensures { IfOk result (λ q. named_type q ≡ Some bool_type) }
+{
+    let made = match tac {
+        "conj_tac" => mk_conj(alloc, p, p),
+        "disj1_tac" | "disj2_tac" => mk_disj(alloc, p, p),
+        "eq_tac" => mk_iff(alloc, p, p),
+        _ => p.copy(),
+    };
+    Ok(made?)
+}
+
+// `x`.
+fn bound(alloc: Global) -> Result<Variable, Failure> {
+    let x = variable_of_a(alloc, "x")?;
+    let TermNode::Var(v) = x.node() else {
+        return Err(Failure::Refused);
+    };
+    Ok(v.copy()?)
+}
+
+// `!x. p`.
+fn every(alloc: Global, p: &Term) -> Result<Term, Failure>
+    requires { named_type p.now ≡ Some bool_type }
+    ensures { IfOk result (λ q. named_type q ≡ Some bool_type) }
+{
+    Ok(mk_forall(alloc, &bound(alloc)?, p)?)
+}
+
+// `?x. p`.
+fn some(alloc: Global, p: &Term) -> Result<Term, Failure>
+    requires { named_type p.now ≡ Some bool_type }
+    ensures { IfOk result (λ q. named_type q ≡ Some bool_type) }
+{
+    Ok(mk_exists(alloc, &bound(alloc)?, p)?)
+}
