@@ -1,4 +1,4 @@
--- What the rules of falsity, disjunction and existence answer, from what the code tested, and that they give the same over larger sets of items.
+-- What the rules of negation, falsity, disjunction and existence answer, from what the code tested, and that they give the same over larger sets of items.
 use Rattle.std.specs.Prelude.{◌≡◌, ℕ, Bool, true, false, cond, not, ◌&&◌, ◌||◌, List, ◌∷◌, codes, Option, Some, None, is_some, refl}
 use Rattle.std.specs.Option.{option_map, option_and_then}
 use Rattle.std.specs.FinSet as set
@@ -14,7 +14,7 @@ use Rattle.hol_terms.specs.Scoped.{binds}
 use Rattle.hol_subst.specs.Closing.{open_with}
 use Rattle.hol_subst.specs.Variant.{is_free_in}
 use Rattle.hol_formulas.specs.Equation.{bool_type}
-use Rattle.hol_formulas.specs.Formula.{Abstraction, connective_type, negation_type, quantifier_type, falsity, disjunction, negation, equivalence, existential, is_falsity, is_disj, is_neg, dest_disj, dest_neg, dest_exists}
+use Rattle.hol_formulas.specs.Formula.{Abstraction, connective_type, negation_type, quantifier_type, falsity, disjunction, implication, negation, equivalence, existential, is_falsity, is_disj, is_neg, dest_disj, dest_imp, dest_neg, dest_exists}
 use Rattle.hol_formulas.proofs.FormulaLaws.{is_constant_is, dest_unary_is, dest_binary_is, dest_quantifier_is}
 use Rattle.hol_kernel.specs.Items.{Items}
 use Rattle.hol_kernel.specs.Sequent.{Sequent, sequent_of}
@@ -26,8 +26,8 @@ use Rattle.hol_kernel.proofs.Variables.{known_typed}
 use Rattle.hol_kernel.proofs.Weaken.{HasType-more, has_type_more}
 use Rattle.hol_equal.proofs.Typings.{parts_typed}
 use Rattle.hol_equal.specs.Applied.{lhs, rhs, rand}
-use Rattle.hol_bool.specs.Applied.{with_right, with_left, by_cases, false_of, chosen, abstraction_in}
-use Rattle.hol_bool.specs.Rules.{choose_left, choose_at, choose_of, exists_at, exists_of, disj1_of, disj2_of, disj_cases_at, disj_cases_of, contr_of, eqf_intro_of}
+use Rattle.hol_bool.specs.Applied.{with_right, with_left, by_cases, negated, false_of, chosen, abstraction_in}
+use Rattle.hol_bool.specs.Rules.{choose_left, choose_at, choose_of, exists_at, exists_of, disj1_of, disj2_of, disj_cases_at, disj_cases_of, contr_of, not_intro_of, eqf_intro_of}
 
 -- ---- formulas that were tested
 
@@ -122,6 +122,31 @@ module _ (a : Sequent) where
   pub eqf_gives : is_neg a.concl ≡ true → eqf_intro_of a ≡ Some (false_of a)
   eqf_gives e = ap (λ u. option_map (λ p. sequent_of a.hyps (equivalence p falsity)) (dest_neg u)) (is_negation a.concl e)
 
+-- ---- negation
+
+module _ (a : Sequent) where
+  pub not_intro_none : dest_imp a.concl ≡ None → not_intro_of a ≡ None
+  not_intro_none e = ap (option_and_then (λ p. cond (is_falsity p.1) (Some (sequent_of a.hyps (negation p.0))) None)) e
+
+  module _ (p q : Nameless) (found : dest_imp a.concl ≡ Some (p, q)) where
+    not_intro_at : (k : Bool) → is_falsity q ≡ k → not_intro_of a ≡ cond k (Some (sequent_of a.hyps (negation p))) None
+    not_intro_at k e =
+        ap (option_and_then (λ p. cond (is_falsity p.1) (Some (sequent_of a.hyps (negation p.0))) None)) found
+        ∙ ap (λ k. cond k (Some (sequent_of a.hyps (negation p))) None) e
+
+    pub not_intro_other : is_falsity q ≡ false → not_intro_of a ≡ None
+    not_intro_other e = not_intro_at false e
+
+    module _ (falsehood : is_falsity q ≡ true) where
+      denies : a.concl ≡ implication p falsity
+      denies = dest_binary_is (codes "==>") connective_type a.concl (p, q) found ∙ ap (implication p) (is_false q falsehood)
+
+      pub not_intro_is : a.concl ≡ implication (lhs a.concl) falsity
+      not_intro_is = denies ∙ ap (λ t. implication (lhs t) falsity) (sym denies)
+
+      pub not_intro_gives : not_intro_of a ≡ Some (negated a)
+      not_intro_gives = not_intro_at true falsehood ∙ ap (λ t. Some (sequent_of a.hyps (negation (lhs t)))) (sym denies)
+
 -- ---- existence
 
 module _ (e : Nameless) (x : Abstraction) (found : dest_exists e ≡ Some x) where
@@ -208,7 +233,7 @@ module _ (v : List ℕ × TypeTree) (a b : Sequent) where
         choose_test true false p q
         ∙ ap (λ (y : Abstraction). Some (sequent_of (set.union a.hyps (choose_left v b.hyps y)) b.concl)) (sym (inner_is a.concl x found))
 
-pub ruleset refused = (disj1_none, disj2_none, disj_cases_none, disj_cases_other, contr_other, contr_none, eqf_none, exists_none, exists_untyped, exists_mistyped, exists_other, choose_none, choose_mistyped, choose_in_first, choose_in_second, choose_in_left)
+pub ruleset refused = (disj1_none, disj2_none, disj_cases_none, disj_cases_other, contr_other, contr_none, eqf_none, not_intro_none, not_intro_other, exists_none, exists_untyped, exists_mistyped, exists_other, choose_none, choose_mistyped, choose_in_first, choose_in_second, choose_in_left)
 
 -- ---- larger sets of items
 

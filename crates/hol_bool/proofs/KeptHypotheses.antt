@@ -18,7 +18,7 @@ use Rattle.hol_bool.specs.Applied.{discharged}
 use Rattle.hol_bool.specs.Hypotheses.{StaysWithin}
 use Rattle.hol_bool.specs.Rules.{conj_of, conjunct1_of, conjunct2_of, mp_of, disch_of, undisch_of}
 
-all_within : (hs : Hyps) → set.is_subset hs hs ≡ true
+pub all_within : (hs : Hyps) → set.is_subset hs hs ≡ true
 all_within hs = set.contains-is_subset hyps_total hs hs (λ q h. h)
 
 second : (a b : Bool) → (a && b) ≡ true → b ≡ true
@@ -37,7 +37,7 @@ part_within : (hs : Hyps) (f : Nameless × Nameless → Nameless) (o : Option (N
 part_within hs f None = tt
 part_within hs f (Some p) = all_within hs
 
-tested_within : (hs ks : Hyps) (t : Nameless) (k : Bool) → set.is_subset ks hs ≡ true → StaysWithin hs (cond k (Some (sequent_of ks t)) None)
+pub tested_within : (hs ks : Hyps) (t : Nameless) (k : Bool) → set.is_subset ks hs ≡ true → StaysWithin hs (cond k (Some (sequent_of ks t)) None)
 tested_within hs ks t true e = e
 tested_within hs ks t false e = tt
 

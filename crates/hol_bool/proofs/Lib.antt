@@ -8,5 +8,6 @@ pub mod Chains
 pub mod Answered
 pub mod ConnectiveRules
 pub mod KeptHypotheses
+pub mod KeptByOthers
 pub mod DisjunctionRules
 pub mod RuleLaws

@@ -7,7 +7,7 @@ use Rattle.hol_terms.specs.Nameless.{Nameless, free, bound, fixed, app, lam}
 use Rattle.hol_subst.specs.Closing.{open_with}
 use Rattle.hol_formulas.specs.Equation.{bool_type, equation}
 use Rattle.hol_terms.specs.Alpha.{strip}
-use Rattle.hol_formulas.specs.Formula.{Abstraction, connective_type, quantifier_type, truth, falsity, conjunction, disjunction, implication, equivalence, universal}
+use Rattle.hol_formulas.specs.Formula.{Abstraction, connective_type, quantifier_type, truth, falsity, conjunction, disjunction, implication, negation, equivalence, universal}
 use Rattle.hol_kernel.specs.Sequent.{no_hyps, only_hyp, Sequent, sequent_of}
 use Rattle.hol_kernel.specs.Rules.{deduct_antisym_of}
 use Rattle.hol_bool.specs.Rules.{over_variable, choose_left}
@@ -119,6 +119,10 @@ discharged p a = sequent_of (set.remove a.hyps (strip p)) (implication p a.concl
 
 abbrev pub undischarged : Sequent → Sequent
 undischarged a = sequent_of (set.union a.hyps (only_hyp (lhs a.concl))) (rhs a.concl)
+
+-- NOT_INTRO
+abbrev pub negated : Sequent → Sequent
+negated a = sequent_of a.hyps (negation (lhs a.concl))
 
 -- DISJ1, DISJ2, DISJ_CASES
 abbrev pub with_right : Sequent → Nameless → Sequent

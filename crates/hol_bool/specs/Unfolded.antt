@@ -5,7 +5,7 @@ use Rattle.hol_types.specs.Tree.{TypeTree}
 use Rattle.hol_types.specs.Fun.{fun_type}
 use Rattle.hol_terms.specs.Nameless.{Nameless, free, bound, fixed, app}
 use Rattle.hol_formulas.specs.Equation.{bool_type, equation}
-use Rattle.hol_formulas.specs.Formula.{Abstraction, quantifier_type, falsity, disjunction, implication, universal}
+use Rattle.hol_formulas.specs.Formula.{Abstraction, quantifier_type, falsity, negation, disjunction, implication, universal}
 use Rattle.hol_formulas.specs.Constants.{var_a}
 use Rattle.hol_formulas.specs.Prelude.{property, element}
 use Rattle.hol_kernel.specs.Sequent.{no_hyps, only_hyp, Sequent, sequent_of}
@@ -17,6 +17,10 @@ use Rattle.hol_bool.specs.declared.disjunction.Side.{Side}
 use Rattle.hol_bool.specs.declared.disjunction.Side.TheVariants.{Left, Right}
 
 -- ---- falsity
+
+-- ~p = (p ==> F)
+abbrev pub not_unfolded : Nameless → Sequent
+not_unfolded p = sequent_of no_hyps (equation bool_type (negation p) (implication p falsity))
 
 -- F under the hypotheses hs and p
 abbrev pub refuted_under : Sequent → Nameless → Sequent

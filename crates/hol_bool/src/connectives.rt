@@ -3,7 +3,7 @@ ghost use Rattle.std.specs.Prelude.{◌≡◌, IfOk, []};
 ghost use Rattle.hol_terms.specs.Nameless.{nameless};
 ghost use Rattle.hol_kernel.specs.Theorem.{over};
 ghost use Rattle.hol_kernel.specs.Gives.{Gives};
-ghost use Rattle.hol_bool.specs.Rules.{conjunct1_of, conjunct2_of, mp_of, disch_of, undisch_of, disj1_of, disj2_of, disj_cases_of, contr_of, eqf_intro_of};
+ghost use Rattle.hol_bool.specs.Rules.{conjunct1_of, conjunct2_of, mp_of, disch_of, undisch_of, not_intro_of, disj1_of, disj2_of, disj_cases_of, contr_of, eqf_intro_of};
 ghost use Rattle.hol_bool.specs.Refusals.{in_bool};
 ghost use Rattle.hol_bool.specs.declared.error.Rule.TheVariants as rule;
 
@@ -88,6 +88,23 @@ pub fn undisch(alloc: Global, a: &Thm) -> Result<Thm, BoolError>
         return Err(BoolError::Refused(Rule::Undisch));
     }
     Ok(applied::undisch(alloc, a)?)
+}
+
+/// The rule of negations (bool.ml, NOT_INTRO): from `p ==> F`, `~p`.
+///
+/// Refused by [`Rule::NotIntro`] where the theorem is no implication of `F`.
+#[tactic(auto, using(crate::proofs::DisjunctionRules::refused))]
+pub fn not_intro(alloc: Global, a: &Thm) -> Result<Thm, BoolError>
+    ensures sequent { Gives in_bool rule.NotIntro (over a.now.basis (not_intro_of a.now.sequent)) result }
+    ensures basis { IfOk result (λ th. th.basis ≡ a.now.basis) }
+{
+    let Some((_, q)) = dest_imp(a.concl()) else {
+        return Err(BoolError::Refused(Rule::NotIntro));
+    };
+    if !is_falsity(q) {
+        return Err(BoolError::Refused(Rule::NotIntro));
+    }
+    Ok(applied::not_intro(alloc, a)?)
 }
 
 /// The rule of the left disjunct (bool.ml, DISJ1): from `p`, `p \/ q`.

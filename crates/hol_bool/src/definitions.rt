@@ -41,7 +41,7 @@ pub(crate) fn definition_at(
 }
 
 /// What a defining equation of a function says at an argument: from `c = (\v. b)`, `c x = b` with `x` for `v`.
-pub(crate) fn unfold(
+pub fn unfold(
     alloc: Global,
     definition: &Thm,
     domain: &Ty,

@@ -1,21 +1,21 @@
-//! Falsity, for callers that know that the rule applies (bool.ml: CONTR, EQF_INTRO).
+//! Falsity and negation, for callers that know that the rule applies (bool.ml: CONTR, NOT_INTRO, EQF_INTRO).
 ghost use Rattle.std.specs.Prelude.{◌≡◌, IfOk, []};
 ghost use Rattle.hol_terms.specs.Nameless.{nameless};
 ghost use Rattle.hol_formulas.specs.Equation.{bool_type};
-ghost use Rattle.hol_formulas.specs.Formula.{falsity, negation};
+ghost use Rattle.hol_formulas.specs.Formula.{falsity, implication, negation};
 ghost use Rattle.hol_kernel.specs.Sequent.{only_hyp, sequent_of};
 ghost use Rattle.hol_kernel.specs.Theorem.{theorem_on};
 ghost use Rattle.hol_kernel.specs.Typing.{HasType};
-ghost use Rattle.hol_equal.specs.Applied.{rand};
-ghost use Rattle.hol_bool.specs.Applied.{false_of};
-ghost use Rattle.hol_bool.specs.Unfolded.{refuted_under, false_under};
+ghost use Rattle.hol_equal.specs.Applied.{rand, lhs};
+ghost use Rattle.hol_bool.specs.Applied.{negated, false_of};
+ghost use Rattle.hol_bool.specs.Unfolded.{not_unfolded, refuted_under, false_under};
 
 use crate::definitions::{definition, unfold};
 use crate::implication::undisch;
 use crate::universal::spec;
-use hol_equal::applied::{assume, eq_mp};
+use hol_equal::applied::{assume, eq_mp, sym};
 use hol_equal::prove_hyp;
-use hol_formulas::{Postulate, bool_type, dest_neg, mk_falsity};
+use hol_formulas::{Postulate, bool_type, dest_imp, dest_neg, mk_falsity};
 use hol_kernel::{Basis, Thm};
 use hol_terms::Term;
 use std::alloc::{AllocError, Global};
@@ -31,15 +31,37 @@ pub fn contr(alloc: Global, p: &Term, a: &Thm) -> Result<Thm, AllocError>
     spec(alloc, p, &every)
 }
 
+// What the definition of `~` says of a formula: `~p = (p ==> F)`.
+fn not_at(alloc: Global, basis: &Basis, p: &Term) -> Result<Thm, AllocError>
+    requires typed { HasType basis.now (nameless [] p.now) bool_type }
+    ensures { IfOk result (λ th. th ≡ theorem_on basis.now (not_unfolded (nameless [] p.now))) }
+{
+    let own = definition(alloc, basis, Postulate::NotDef)?;
+    let truth = bool_type(alloc)?;
+    unfold(alloc, &own, &truth, &truth, p)
+}
+
+/// NOT_INTRO: from `p ==> F`, `~p`.
+pub fn not_intro(alloc: Global, a: &Thm) -> Result<Thm, AllocError>
+    requires is { a.now.sequent.concl ≡ implication (lhs a.now.sequent.concl) falsity }
+    ensures { IfOk result (λ th. th ≡ theorem_on a.now.basis (negated a.now.sequent)) }
+{
+    a.well_typed();
+    let Some((p, _)) = dest_imp(a.concl()) else {
+        unreachable!()
+    };
+    let own = not_at(alloc, a.basis(), p)?;
+    let back = sym(alloc, &own)?;
+    eq_mp(alloc, &back, a)
+}
+
 // From `~p`, `F` under the hypothesis `p`.
 fn refuted(alloc: Global, a: &Thm, p: &Term) -> Result<Thm, AllocError>
     requires is { a.now.sequent.concl ≡ negation (nameless [] p.now) }
     requires typed { HasType a.now.basis (nameless [] p.now) bool_type }
     ensures { IfOk result (λ th. th ≡ theorem_on a.now.basis (refuted_under a.now.sequent (nameless [] p.now))) }
 {
-    let own = definition(alloc, a.basis(), Postulate::NotDef)?;
-    let truth = bool_type(alloc)?;
-    let meaning = unfold(alloc, &own, &truth, &truth, p)?;
+    let meaning = not_at(alloc, a.basis(), p)?;
     let implies = eq_mp(alloc, &meaning, a)?;
     undisch(alloc, &implies)
 }

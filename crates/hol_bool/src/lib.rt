@@ -20,8 +20,9 @@ mod witness;
 
 pub use conjunction::conj;
 pub use connectives::{
-    conjunct1, conjunct2, contr, disch, disj_cases, disj1, disj2, eqf_intro, mp, undisch,
+    conjunct1, conjunct2, contr, disch, disj_cases, disj1, disj2, eqf_intro, mp, not_intro, undisch,
 };
+pub use definitions::unfold;
 pub use error::{BoolError, Rule};
 pub use laws::{rules_keep_hypotheses, rules_widen};
 pub use rules::{choose, exists, generalize, spec};

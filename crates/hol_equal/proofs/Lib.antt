@@ -6,3 +6,5 @@ pub mod HypSets
 pub mod Beta
 pub mod Answered
 pub mod RuleLaws
+pub mod Abstractions
+pub mod Replaced

@@ -7,6 +7,7 @@ use Rattle.hol_terms.specs.Nameless.{Nameless, free, bound, fixed, app, lam, nam
 use Rattle.hol_terms.specs.Named.{Named, var, comb, abs}
 use Rattle.hol_subst.specs.Closing.{bind, open_with}
 use Rattle.hol_formulas.specs.Equation.{bool_type, equation}
+use Rattle.hol_equal.specs.Rules.{m_with}
 use Rattle.hol_kernel.specs.Sequent.{no_hyps, Sequent, sequent_of}
 
 -- ---- parts of terms; a term without the part stands for it
@@ -105,3 +106,10 @@ contraction s t = sequent_of no_hyps (equation s t (reduct t))
 -- for a redex of the type s whose argument is the abstraction's own variable
 abbrev pub own_contraction : TypeTree → List ℕ × TypeTree → Named → Sequent
 own_contraction s v b = sequent_of no_hyps (equation s (nameless [] (comb (abs v b) (var v))) (nameless [] b))
+
+-- SUBST: the sides of the equation for v in m, and m with the right side
+abbrev pub replaced : List ℕ × TypeTree → Nameless → Sequent → Sequent
+replaced v m a = sequent_of a.hyps (equation bool_type (m_with (lhs a.concl) v m) (m_with (rhs a.concl) v m))
+
+abbrev pub substituted : List ℕ × TypeTree → Nameless → Sequent → Sequent → Sequent
+substituted v m a b = sequent_of (set.union a.hyps b.hyps) (m_with (rhs a.concl) v m)

@@ -1,17 +1,19 @@
 -- What each rule of equations makes of sequents, or nothing where it does not apply. A term that is handed in has to be well typed over the prelude and a set of items;
 -- a rule on sequents alone asks nothing of items.
 -- Hypotheses are sets of terms up to the names of bound variables (`strip`); conclusions keep base names.
--- Source: HOL Light's equal.ml (SYM, AP_TERM, AP_THM, ALPHA, BETA_CONV) and bool.ml (PROVE_HYP).
-use Rattle.std.specs.Prelude.{cond, ◌&&◌, Option, Some, None}
+-- Source: HOL Light's equal.ml (SYM, AP_TERM, AP_THM, ALPHA, BETA_CONV) and bool.ml (PROVE_HYP); SUBST is this project's own.
+use Rattle.std.specs.Prelude.{ℕ, List, [], ◌∷◌, cond, ◌&&◌, Option, Some, None}
 use Rattle.std.specs.Option.{option_map, option_and_then}
 use Rattle.std.specs.FinSet as set
 use Rattle.hol_types.specs.Tree.{TypeTree}
 use Rattle.hol_types.specs.Equal.{type_eq}
 use Rattle.hol_types.specs.Fun.{fun_parts}
+use Rattle.hol_terms.specs.Named.{Named, var, constant, comb, abs}
 use Rattle.hol_terms.specs.Nameless.{Nameless, app}
 use Rattle.hol_terms.specs.Alpha.{strip, alpha_eq}
+use Rattle.hol_subst.specs.Substitution.{term_subst}
 use Rattle.hol_subst.specs.Closing.{open_with}
-use Rattle.hol_formulas.specs.Equation.{equation, Sides, dest_eq, dest_comb}
+use Rattle.hol_formulas.specs.Equation.{bool_type, equation, Sides, dest_eq, dest_comb}
 use Rattle.hol_formulas.specs.Formula.{Abstraction, dest_abs}
 use Rattle.hol_kernel.specs.Items.{Items}
 use Rattle.hol_kernel.specs.Sequent.{Hyps, no_hyps, Sequent, sequent_of}
@@ -55,3 +57,17 @@ beta_conv_of basis t = option_and_then (λ p. option_and_then (contracted basis 
 -- PROVE_HYP: from A |- p and B |- q, A u (B - p) |- q
 abbrev pub prove_hyp_of : Sequent → Sequent → Sequent
 prove_hyp_of a b = sequent_of (set.union a.hyps (set.remove b.hyps (strip a.concl))) b.concl
+
+-- SUBST: from s = t and m with s for the variable v, m with t for v; m is a formula
+abbrev pub m_with : Nameless → List ℕ × TypeTree → Nameless → Nameless
+m_with r v m = term_subst ((r, v) ∷ []) 0 m
+
+abbrev pub subst_sides : Items → List ℕ × TypeTree → Nameless → Hyps → Nameless → Sides → Option Sequent
+subst_sides basis v m hs q e =
+    cond (type_eq v.1 e.sides_type && (has_type basis m bool_type && alpha_eq (m_with e.left v m) q)) (Some (sequent_of hs (m_with e.right v m))) None
+
+abbrev pub subst_of : Items → Sequent → Named → Nameless → Sequent → Option Sequent
+subst_of basis a (var v) m b = option_and_then (subst_sides basis v m (set.union a.hyps b.hyps) b.concl) (dest_eq a.concl)
+subst_of basis a (constant c s) m b = None
+subst_of basis a (comb f x) m b = None
+subst_of basis a (abs v p) m b = None

@@ -12,6 +12,7 @@ ghost use Rattle.hol_equal.specs.Applied.{transitive, combined, concluded, symme
 ghost use Rattle.hol_equal.specs.Rules.{sym_of, prove_hyp_of, beta_conv_of};
 ghost use Rattle.hol_equal.specs.Unrefused.{IsUnrefused};
 
+pub use crate::replacement::subst;
 use hol_formulas::{Sides, constant, dest_eq, equality_type, occurrence};
 use hol_kernel::{Basis, KernelError, Thm};
 use hol_terms::{Term, TermNode, Variable};

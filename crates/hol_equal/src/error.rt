@@ -18,6 +18,8 @@ pub enum Rule {
     Alpha,
     /// `(\x. b) r = b` with `r` for `x`.
     BetaConv,
+    /// From `s = t` and `m` with `s` for a variable, `m` with `t` for it.
+    Subst,
 }
 
 /// Why a rule of equations gives nothing.

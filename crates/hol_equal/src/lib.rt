@@ -6,9 +6,10 @@
 pub mod applied;
 mod error;
 mod laws;
+mod replacement;
 mod rules;
 
 pub use applied::prove_hyp;
 pub use error::{EqualError, Rule};
 pub use laws::rules_widen;
-pub use rules::{alpha, ap_term, ap_thm, beta_conv, sym};
+pub use rules::{alpha, ap_term, ap_thm, beta_conv, subst, sym};

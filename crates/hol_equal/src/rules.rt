@@ -1,17 +1,22 @@
 //! Rules of equations (equal.ml, bool.ml). The names of bound variables in what they give are those of what they were handed.
 ghost use Rattle.std.specs.Prelude.{◌≡◌, IfOk, []};
+ghost use Rattle.hol_terms.specs.Named.{var};
 ghost use Rattle.hol_terms.specs.Nameless.{nameless};
-ghost use Rattle.hol_kernel.specs.Typing.{has_type};
+ghost use Rattle.hol_formulas.specs.Equation.{bool_type, equation};
+ghost use Rattle.hol_kernel.specs.Typing.{has_type, HasType};
 ghost use Rattle.hol_kernel.specs.Theorem.{over};
 ghost use Rattle.hol_kernel.specs.Gives.{Gives};
-ghost use Rattle.hol_equal.specs.Rules.{sym_of, ap_term_of, ap_thm_of, alpha_of, beta_conv_of};
+ghost use Rattle.hol_equal.specs.Applied.{lhs, rhs};
+ghost use Rattle.hol_equal.specs.Rules.{sym_of, ap_term_of, ap_thm_of, alpha_of, beta_conv_of, subst_of};
 ghost use Rattle.hol_equal.specs.Refusals.{in_equal};
 ghost use Rattle.hol_equal.specs.declared.error.Rule.TheVariants as rule;
 
 use crate::applied::{self, sides_of};
 use crate::error::{EqualError, Rule};
+use crate::replacement::equal_images;
+use hol_formulas::bool_type;
 use hol_kernel::{Basis, Thm};
-use hol_terms::{Term, TermNode};
+use hol_terms::{Term, TermNode, Variable};
 use hol_types::Ty;
 use std::alloc::{AllocError, Global};
 
@@ -124,4 +129,55 @@ pub fn beta_conv(alloc: Global, basis: &Basis, redex: &Term) -> Result<Thm, Equa
         return Err(EqualError::Refused(Rule::BetaConv));
     }
     Ok(applied::beta_conv(alloc, basis, redex.type_of(), redex)?)
+}
+
+/// The rule of substitution (SUBST): from `s = t` and a theorem that concludes `m` with `s` for `v`, up to bound names, `m` with `t` for `v`.
+///
+/// Refused by [`Rule::Subst`] where `v` is no variable of the type of `s` or the first theorem no equation, where `m` is no formula that is well
+/// typed over the prelude and the theorems' basis, and where the second theorem concludes something else.
+#[tactic(auto, using(crate::proofs::Replaced::substs))]
+pub fn subst(alloc: Global, a: &Thm, v: &Term, m: &Term, b: &Thm) -> Result<Thm, EqualError>
+    requires one_basis { a.now.basis ≡ b.now.basis }
+    ensures sequent { Gives in_equal rule.Subst (over a.now.basis (subst_of a.now.basis a.now.sequent v.now (nameless [] m.now) b.now.sequent)) result }
+    ensures basis { IfOk result (λ th. th.basis ≡ a.now.basis) }
+{
+    let TermNode::Var(variable) = v.node() else {
+        return Err(EqualError::Refused(Rule::Subst));
+    };
+    let Some(sides) = sides_of(a) else {
+        return Err(EqualError::Refused(Rule::Subst));
+    };
+    if !variable.ty().same(sides.ty) {
+        return Err(EqualError::Refused(Rule::Subst));
+    }
+    let truth = bool_type(alloc)?;
+    if !is_of_type(alloc, a.basis(), m, &truth)? {
+        return Err(EqualError::Refused(Rule::Subst));
+    }
+    with_right_side(alloc, a, variable, m, b)
+}
+
+// SUBST, for an equation of the variable's type and a formula.
+#[tactic(auto, using(crate::proofs::Replaced::substs))]
+fn with_right_side(
+    alloc: Global,
+    a: &Thm,
+    v: &Variable,
+    m: &Term,
+    b: &Thm,
+) -> Result<Thm, EqualError>
+    requires one_basis { a.now.basis ≡ b.now.basis }
+    requires equal { a.now.sequent.concl ≡ equation v.now.1 (lhs a.now.sequent.concl) (rhs a.now.sequent.concl) }
+    requires typed { HasType a.now.basis (nameless [] m.now) bool_type }
+    ensures sequent { Gives in_equal rule.Subst (over a.now.basis (subst_of a.now.basis a.now.sequent (var v.now) (nameless [] m.now) b.now.sequent)) result }
+    ensures basis { IfOk result (λ th. th.basis ≡ a.now.basis) }
+{
+    let same = equal_images(alloc, a, v, m)?;
+    let Some(images) = sides_of(&same) else {
+        unreachable!()
+    };
+    if !images.left.alpha_equivalent(b.concl()) {
+        return Err(EqualError::Refused(Rule::Subst));
+    }
+    Ok(applied::eq_mp(alloc, &same, b)?)
 }

@@ -7,15 +7,15 @@ use Rattle.hol_types.specs.Names.{is_among}
 use Rattle.hol_types.specs.Equal.{type_eq, variable_eq}
 use Rattle.hol_types.specs.Fun.{fun_type}
 use Rattle.hol_types.proofs.OrderLaws.{type_cmp_decides}
-use Rattle.hol_terms.specs.Named.{Named, comb, named_type, applied_type}
-use Rattle.hol_terms.specs.Nameless.{Nameless, free, bound, fixed, app, lam, place, nameless, nameless_type}
+use Rattle.hol_terms.specs.Named.{Named, comb, abs, named_type, applied_type}
+use Rattle.hol_terms.specs.Nameless.{Nameless, free, bound, fixed, app, lam, place, base_of, nameless, nameless_type}
 use Rattle.hol_terms.proofs.Typing.{type_under}
 use Rattle.std.specs.Prelude.{Result, Ok, Err, IsErrOf, IsOkUnless}
 use Rattle.hol_terms.specs.declared.term.TermError.{TermError}
 use Rattle.hol_terms.specs.declared.term.TermError.TheVariants.{TypesDontFit, NotAVariable, Memory}
 use Rattle.hol_infer.specs.Raw.{RawTree, RawBound, RawConstant, RawFree, RawApply, RawAbstraction, RawAnnotated}
 use Rattle.hol_infer.specs.Typing.{IsTyping}
-use Rattle.hol_infer.specs.SlotTree.{SlotTree, SlotApply, SlotAbstraction, slot_nodes}
+use Rattle.hol_infer.specs.SlotTree.{SlotTree, SlotApply, SlotAbstraction, slot_nodes, typed}
 use Rattle.hol_infer.specs.Scoped.{IsFirstAt}
 use Rattle.hol_infer.specs.Solved.{IsWellTyped}
 
@@ -115,6 +115,17 @@ typed_body env a s b (t, e) = by (nameless_type (s ∷ env) b) refl e
 
 app_same : (u u' v v' : Nameless) → u ≡ u' → v ≡ v' → app u v ≡ app u' v'
 app_same u u' v v' p q = cc
+
+lam_same : (x y : List ℕ) (s t : TypeTree) (p q : Nameless) → x ≡ y → s ≡ t → p ≡ q → lam x s p ≡ lam y t q
+lam_same x y s t p q e g h = cc
+
+-- the abstraction that a skeleton's is built into
+pub abstraction_built : (types : ℕ → TypeTree) (env : Env) (term : SlotTree) (x : List ℕ) (slot : ℕ) (body : SlotTree) (v : List ℕ × TypeTree) (inner r : Named) →
+    term ≡ SlotAbstraction x slot body → v ≡ (x, types slot) → nameless (v ∷ env) inner ≡ typed types body → r ≡ abs v inner → nameless env r ≡ typed types term
+abstraction_built types env term x slot body v inner r e g h is =
+    ap (nameless env) is
+    ∙ lam_same (base_of v.0) (base_of x) v.1 (types slot) (nameless (v ∷ env) inner) (typed types body) (ap (λ (u : List ℕ × TypeTree). base_of u.0) g) (ap (λ (u : List ℕ × TypeTree). u.1) g) h
+    ∙ sym (ap (typed types) e)
 
 none_some : (t : TypeTree) → None ≡ Some t → ⊥
 none_some t e = cc

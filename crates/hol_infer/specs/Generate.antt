@@ -66,6 +66,12 @@ pub record IsEquated (g h : Graph) (left right : ℕ) : Type 0 where
   pub well_formed : IsWellFormed h
   pub solves : (type_of : List ℕ → TypeTree) (types : ℕ → TypeTree) → Solves h type_of types ↔ (Solves g type_of types × (types left ≡ types right))
 
+-- h is g with a slot for the type of functions from that of slot d, which is new too, to that of slot e
+pub record OpensApplication (g h : Graph) (d slot e : ℕ) : Type 0 where
+  pub middle : Graph
+  pub domain : IsFresh g middle d Unknown
+  pub function : IsFunction middle h slot d e
+
 -- h is g with n slots more, of which nothing is known
 pub record AddsUnknown (g h : Graph) (n : ℕ) : Type 0 where
   pub well_formed : IsWellFormed h
@@ -136,6 +142,24 @@ pub record BuildsVariable (g h : Graph) (slot : ℕ) (annotation : Option TypeTr
   pub sound : (type_of : List ℕ → TypeTree) (types : ℕ → TypeTree) → Solves h type_of types → Solves g type_of types × Meets annotation (types slot)
   pub complete : (type_of : List ℕ → TypeTree) (types : ℕ → TypeTree) (t : TypeTree) → Solves g type_of types → Meets annotation t →
       (types' : ℕ → TypeTree) × Agree (slots g) types types' × Solves h type_of types' × (types' slot ≡ t)
+
+-- h is g with slots for a bound variable and for what a function of it gives, where slot e has the type of the function
+pub record OpensAbstraction (g h : Graph) (v r e : ℕ) (annotation : Option TypeTree) : Type 0 where
+  pub first : Graph
+  pub second : Graph
+  pub third : Graph
+  pub slot : ℕ
+  pub variable : BuildsVariable g first v annotation
+  pub range : IsFresh first second r Unknown
+  pub whole : IsFunction second third slot v r
+  pub same : IsEquated third h slot e
+
+-- h is g where the slot e has the type that is written
+pub record OpensAnnotation (g h : Graph) (e : ℕ) (ty : TypeTree) : Type 0 where
+  pub middle : Graph
+  pub slot : ℕ
+  pub builds : BuildsType g middle [] 0 slot ty
+  pub same : IsEquated middle h slot e
 
 -- each index has an abstraction, of which there are so many around the term, and annotations have no open type variables
 abbrev pub IsRigidOption : Option TypeTree → Type 0

@@ -1,10 +1,10 @@
 //! Terms from their skeletons, with named types in place of open slots.
 ghost use Rattle.std.specs.Prelude.{◌≡◌, map, ◌<◌, length, slice_get, IfOk, IsOkUnless, OnOk, MatchOption, Some, None};
-ghost use Rattle.hol_terms.specs.Named.{var, constant};
+ghost use Rattle.hol_terms.specs.Named.{var, constant, abs};
 ghost use Rattle.hol_terms.specs.Scope.{binders};
-ghost use Rattle.hol_terms.specs.Nameless.{nameless};
+ghost use Rattle.hol_terms.specs.Nameless.{nameless, bound};
 ghost use Rattle.hol_infer.specs.RawView.{slot_tree};
-ghost use Rattle.hol_infer.specs.SlotTree.{typed, AreSlotsIn};
+ghost use Rattle.hol_infer.specs.SlotTree.{SlotBound, typed, AreSlotsIn};
 ghost use Rattle.hol_infer.specs.Scoped.{IsSlotScoped};
 ghost use Rattle.hol_infer.specs.Found.{types_at};
 ghost use Rattle.hol_infer.specs.Holes.{add_holes, open_type};
@@ -32,13 +32,11 @@ pub fn add_term_holes(
         Skeleton::Free(_, slot) => shapes[*slot].add_holes(order),
         Skeleton::Apply(function, argument) => {
             add_term_holes(shapes, function, order)?;
-            add_term_holes(shapes, argument, order)?;
-            Ok(())
+            add_term_holes(shapes, argument, order)
         }
         Skeleton::Abstraction(_, slot, body) => {
             shapes[*slot].add_holes(order)?;
-            add_term_holes(shapes, body, order)?;
-            Ok(())
+            add_term_holes(shapes, body, order)
         }
     }
 }
@@ -57,6 +55,26 @@ fn variable_at<'a>(scope: &Scope<'a>, index: usize) -> Option<&'a Variable>
             }
         }
     }
+}
+
+// The same, as a term.
+fn bound_at(alloc: Global, scope: &Scope<'_>, index: usize) -> Result<Term, TermError>
+    requires { IsSlotScoped (map (λ v. v.0) (binders scope.now)) (SlotBound index) }
+    ensures ok { IfOk result (λ t. nameless (binders scope.now) t ≡ bound index) }
+    ensures memory { IsOkUnless result TermError.Memory }
+{
+    match variable_at(scope, index) {
+        Some(variable) => Ok(Term::var(alloc, variable)?),
+        None => Err(TermError::NotAVariable),
+    }
+}
+
+// The abstraction of the variable in a term.
+fn abstracted(alloc: Global, variable: &Variable, body: &Term) -> Result<Term, TermError>
+    ensures ok { IfOk result (λ t. t ≡ abs variable.now body.now) }
+    ensures memory { IsOkUnless result TermError.Memory }
+{
+    Ok(Term::abstraction(alloc, variable, body)?)
 }
 
 // The type of a slot.
@@ -134,10 +152,7 @@ pub fn build(
     ensures memory { IsOkUnless result TermError.Memory }
 {
     match term {
-        Skeleton::Bound(index) => match variable_at(scope, *index) {
-            Some(variable) => Ok(Term::var(alloc, variable)?),
-            None => Err(TermError::NotAVariable),
-        },
+        Skeleton::Bound(index) => bound_at(alloc, &*scope, *index),
         Skeleton::Constant(name, slot) => constant_at(alloc, shapes, order, name, *slot),
         Skeleton::Free(name, slot) => free_at(alloc, shapes, order, name, *slot),
         Skeleton::Apply(function, argument) => {
@@ -149,7 +164,7 @@ pub fn build(
             let variable = variable_of(alloc, shapes, order, name, *slot)?;
             let inside = Scope::Inside(&variable, &*scope);
             let inner = build(alloc, shapes, order, &inside, body)?;
-            Ok(Term::abstraction(alloc, &variable, &inner)?)
+            abstracted(alloc, &variable, &inner)
         }
     }
 }

@@ -7,7 +7,9 @@ ghost use Rattle.hol_infer.specs.RawView.{raw_tree};
 ghost use Rattle.hol_infer.specs.Resolving.{annotated, at_bool, right_raw, value_raw, right_has_arities, value_has_arities, definition_has_arities, without, operator_raw, definition_raw};
 
 use crate::raw::RawTerm;
-use crate::resolving::{Names, ResolveError, operator, resolve, resolve_annotation, truth_type};
+use crate::resolving::{
+    Names, ResolveError, applied, operator, over, resolve, resolve_annotation, truth_type,
+};
 use hol_notation_terms::{Definition, Operator, PreVariable, RightSide};
 use hol_types::{Name, Ty};
 use std::alloc::{AllocError, Global};
@@ -33,6 +35,20 @@ fn at_bool(alloc: Global, is_iff: bool, term: RawTerm) -> Result<RawTerm, AllocE
     RawTerm::annotated(alloc, term, truth)
 }
 
+// The term with the type that is written for it, if there is one, and of type `bool` where the sign is `<=>`.
+fn typed_right(
+    alloc: Global,
+    annotation: Option<Ty>,
+    is_iff: bool,
+    term: RawTerm,
+) -> Result<RawTerm, ResolveError>
+    ensures ok { IfOk result (λ t. raw_tree t ≡ at_bool is_iff (annotated annotation (raw_tree term))) }
+    ensures memory { IsOkUnless result ResolveError.Memory }
+{
+    let inner = annotated(alloc, annotation, term)?;
+    Ok(at_bool(alloc, is_iff, inner)?)
+}
+
 // The right side, under abstractions over variables of these names.
 fn resolve_right(
     alloc: Global,
@@ -46,8 +62,7 @@ fn resolve_right(
 {
     let term = resolve(alloc, constants, arities, &*names, &right.term)?;
     let annotation = resolve_annotation(alloc, arities, &right.annotation)?;
-    let typed = annotated(alloc, annotation, term)?;
-    Ok(at_bool(alloc, right.is_iff, typed)?)
+    typed_right(alloc, annotation, right.is_iff, term)
 }
 
 // `\v1 .. vn. r`, the first variable outermost, under abstractions over variables of these names.
@@ -68,7 +83,7 @@ fn resolve_value(
             let annotation = resolve_annotation(alloc, arities, &variable.annotation)?;
             let inside = Names::Inside(variable.name.as_str(), &*names);
             let inner = resolve_value(alloc, constants, arities, &inside, rest, right)?;
-            Ok(RawTerm::abstraction(alloc, variable.name.as_str(), annotation, inner)?)
+            over(alloc, variable.name.as_str(), annotation, inner)
         }
     }
 }
@@ -122,7 +137,7 @@ fn equality_with(
 {
     let equality = operator(alloc, constants, &Names::Outermost, Operator::Equals)?;
     let name = Name::new(alloc, defined)?;
-    Ok(RawTerm::apply(alloc, equality, RawTerm::Free(name))?)
+    applied(alloc, equality, RawTerm::Free(name))
 }
 
 /// `c = \v1 .. vn. r`, its identifiers resolved: c is a free variable whatever stands.
@@ -139,5 +154,5 @@ pub fn resolve_definition(
 {
     let value = resolve_parameters(alloc, constants, arities, definition)?;
     let left = equality_with(alloc, constants, definition.name.as_str())?;
-    Ok(RawTerm::apply(alloc, left, value)?)
+    applied(alloc, left, value)
 }

@@ -1,9 +1,10 @@
 //! The equations between slots that the typings of a term meet.
 ghost use Rattle.std.specs.Prelude.{◌≡◌, ◌+◌, ◌<◌, ◌≤◌, ℕ, List, [], length, IfOk, OnOk, MatchOption, Some, None};
 ghost use Rattle.std.specs.List.{All};
+ghost use Rattle.hol_types.specs.Tree.{TyVar};
 ghost use Rattle.hol_infer.specs.Raw.{RawBound, RawConstant, RawFree};
 ghost use Rattle.hol_infer.specs.RawView.{raw_tree, slot_tree, scope_slots};
-ghost use Rattle.hol_infer.specs.Generate.{slots, slot_of, IsWellFormed, IsNewCell, IsFresh, IsFunction, IsEquated, AddsUnknown, IsPlace, HasNoPlace, IsRigidBut, IsRigidOption, IsClosedAt, BuildsType, Instantiates, FindsName, BuildsVariable, Generates};
+ghost use Rattle.hol_infer.specs.Generate.{slots, slot_of, IsWellFormed, IsNewCell, IsFresh, IsFunction, IsEquated, OpensApplication, OpensAbstraction, OpensAnnotation, AddsUnknown, IsPlace, HasNoPlace, IsRigidBut, IsRigidOption, IsClosedAt, BuildsType, Instantiates, FindsName, BuildsVariable, Generates};
 
 use crate::cell::{Cell, Equation};
 use crate::raw::RawTerm;
@@ -83,6 +84,24 @@ impl Graph {
         Ok(base)
     }
 
+    // The slot of a type variable, for which that at its place from `base` on stands where it is one of the names.
+    fn type_variable_slot(
+        &mut self,
+        names: &[Name],
+        base: usize,
+        name: &Name,
+    ) -> Result<usize, AllocError>
+        requires well_formed { IsWellFormed self.old }
+        requires base_in { base + length names.now ≤ slots self.old }
+        requires rigid { IsRigidBut names.now (TyVar name.now) }
+        ensures { IfOk result (λ slot. BuildsType self.old self.new names.now base slot (TyVar name.now)) }
+    {
+        match place(names, name) {
+            Some(at) => Ok(base + at),
+            None => self.fresh(Cell::Rigid(name.copy()?)),
+        }
+    }
+
     // A slot for a type, in which the slots from `base` on stand for the names.
     fn type_slot(
         &mut self,
@@ -97,10 +116,7 @@ impl Graph {
         ensures { IfOk result (λ slot. BuildsType self.old self.new names.now base slot ty.now) }
     {
         match ty.node() {
-            TyNode::Var(name) => match place(names, name) {
-                Some(at) => Ok(base + at),
-                None => self.fresh(Cell::Rigid(name.copy()?)),
-            },
+            TyNode::Var(name) => self.type_variable_slot(names, base, name),
             TyNode::App(name, args) => {
                 let mut parts = Vec::with_capacity(alloc, args.len())?;
                 for arg in args {
@@ -212,6 +228,59 @@ impl Graph {
         Ok(Skeleton::Free(name.copy()?, expected))
     }
 
+    // Two slots more: for the type of functions to that of the slot `expected`, and for the type that these are from.
+    fn open_application(
+        &mut self,
+        alloc: Global,
+        expected: usize,
+    ) -> Result<(usize, usize), AllocError>
+        requires well_formed { IsWellFormed self.old }
+        requires expected_in { expected < slots self.old }
+        ensures opens { IfOk result (λ p. OpensApplication self.old self.new p.1 p.0 expected) }
+        ensures well_formed { OnOk result (IsWellFormed self.new) }
+        ensures more { OnOk result (slots self.old ≤ slots self.new) }
+        ensures slots_in { IfOk result (λ p. (p.0 < slots self.new) × (p.1 < slots self.new)) }
+    {
+        let domain = self.fresh(Cell::Unknown)?;
+        let whole = self.function(alloc, domain, expected)?;
+        Ok((whole, domain))
+    }
+
+    // The slots of a bound variable and of what a function of it gives, where the function's type is that of the slot `expected`.
+    fn open_abstraction(
+        &mut self,
+        alloc: Global,
+        annotation: &Option<Ty>,
+        expected: usize,
+    ) -> Result<(usize, usize), AllocError>
+        requires well_formed { IsWellFormed self.old }
+        requires rigid { IsRigidOption annotation.now }
+        requires expected_in { expected < slots self.old }
+        ensures opens { IfOk result (λ p. OpensAbstraction self.old self.new p.0 p.1 expected annotation.now) }
+        ensures well_formed { OnOk result (IsWellFormed self.new) }
+        ensures more { OnOk result (slots self.old ≤ slots self.new) }
+        ensures slots_in { IfOk result (λ p. (p.0 < slots self.new) × (p.1 < slots self.new)) }
+    {
+        let variable = self.variable_slot(alloc, annotation)?;
+        let range = self.fresh(Cell::Unknown)?;
+        let whole = self.function(alloc, variable, range)?;
+        self.equate(whole, expected)?;
+        Ok((variable, range))
+    }
+
+    // Gives the slot `expected` the type that is written.
+    fn open_annotation(&mut self, alloc: Global, ty: &Ty, expected: usize) -> Result<(), AllocError>
+        requires well_formed { IsWellFormed self.old }
+        requires rigid { IsRigidBut [] ty.now }
+        requires expected_in { expected < slots self.old }
+        ensures opens { OnOk result (OpensAnnotation self.old self.new expected ty.now) }
+        ensures well_formed { OnOk result (IsWellFormed self.new) }
+        ensures more { OnOk result (slots self.old ≤ slots self.new) }
+    {
+        let slot = self.type_slot(alloc, &[], 0, ty)?;
+        self.equate(slot, expected)
+    }
+
     /// Adds slots and equations for the term, whose type is that of the slot `expected`.
     pub fn generate(
         &mut self,
@@ -231,24 +300,19 @@ impl Graph {
             RawTerm::Constant(name, generic) => self.constant(alloc, name, generic, expected),
             RawTerm::Free(name) => self.free(name, expected),
             RawTerm::Apply(function, argument) => {
-                let domain = self.fresh(Cell::Unknown)?;
-                let function_slot = self.function(alloc, domain, expected)?;
+                let (function_slot, domain) = self.open_application(alloc, expected)?;
                 let left = self.generate(alloc, &*scope, function, function_slot)?;
                 let right = self.generate(alloc, &*scope, argument, domain)?;
                 Skeleton::apply(alloc, left, right)
             }
             RawTerm::Abstraction(name, annotation, body) => {
-                let variable = self.variable_slot(alloc, annotation)?;
-                let range = self.fresh(Cell::Unknown)?;
-                let whole = self.function(alloc, variable, range)?;
-                self.equate(whole, expected)?;
+                let (variable, range) = self.open_abstraction(alloc, annotation, expected)?;
                 let inside = Scope::Inside(variable, &*scope);
                 let inner = self.generate(alloc, &inside, body, range)?;
                 Skeleton::abstraction(alloc, name, variable, inner)
             }
             RawTerm::Annotated(inner, ty) => {
-                let slot = self.type_slot(alloc, &[], 0, ty)?;
-                self.equate(slot, expected)?;
+                self.open_annotation(alloc, ty, expected)?;
                 self.generate(alloc, &*scope, inner, expected)
             }
         }

@@ -1,5 +1,5 @@
 //! An order of slots in which each comes after its parts.
-ghost use Rattle.std.specs.Prelude.{◌<◌, length, IfOk};
+ghost use Rattle.std.specs.Prelude.{◌<◌, length, IfOk, OnOk};
 ghost use Rattle.std.specs.List.{All};
 
 use crate::cell::Cell;
@@ -71,6 +71,28 @@ fn enter(
     Ok(())
 }
 
+// Makes a visit: a slot that it is back at is the next in order.
+fn make(
+    cells: &[Cell],
+    visits: &mut Vec<Visit>,
+    seen: &mut [bool],
+    order: &mut Vec<usize>,
+    visit: Visit,
+) -> Result<(), AllocError>
+    requires { All (λ s. s < length cells.now) order.old.items }
+    ensures { OnOk result (All (λ s. s < length cells.now) order.new.items) }
+{
+    match visit {
+        Visit::Enter(slot) => enter(cells, visits, seen, slot),
+        Visit::Leave(slot) => {
+            if slot < cells.len() {
+                order.push(slot)?;
+            }
+            Ok(())
+        }
+    }
+}
+
 /// The slots of the cells, each after its parts where no slot is a part of itself.
 pub(crate) fn parts_first(alloc: Global, cells: &[Cell]) -> Result<Vec<usize>, AllocError>
     ensures { IfOk result (λ order. All (λ s. s < length cells.now) order.items) }
@@ -79,12 +101,7 @@ pub(crate) fn parts_first(alloc: Global, cells: &[Cell]) -> Result<Vec<usize>, A
     let mut order = Vec::with_capacity(alloc, cells.len())?;
     for _ in 0..visits_count(cells) {
         match visits.pop() {
-            Some(Visit::Enter(slot)) => enter(cells, &mut visits, &mut seen, slot)?,
-            Some(Visit::Leave(slot)) => {
-                if slot < cells.len() {
-                    order.push(slot)?;
-                }
-            }
+            Some(visit) => make(cells, &mut visits, &mut seen, &mut order, visit)?,
             None => return Ok(order),
         }
     }

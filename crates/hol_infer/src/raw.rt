@@ -41,7 +41,19 @@ impl RawTerm {
         ensures { IfOk result (λ t. raw_tree t ≡ RawAbstraction name.now annotation (raw_tree body)) }
     {
         let own_name = Name::new(alloc, name)?;
-        Ok(RawTerm::Abstraction(own_name, annotation, Box::new(alloc, body)?))
+        RawTerm::over(alloc, own_name, annotation, body)
+    }
+
+    // The same, where the name is made.
+    fn over(
+        alloc: Global,
+        name: Name,
+        annotation: Option<Ty>,
+        body: RawTerm,
+    ) -> Result<RawTerm, AllocError>
+        ensures { IfOk result (λ t. raw_tree t ≡ RawAbstraction name annotation (raw_tree body)) }
+    {
+        Ok(RawTerm::Abstraction(name, annotation, Box::new(alloc, body)?))
     }
 
     /// The term with its type written.

@@ -12,7 +12,7 @@ ghost use Rattle.hol_infer.specs.declared.reading.ReadingError.TheVariants.{Memo
 
 use crate::building::{add_term_holes, build};
 use crate::fault::Fault;
-use crate::principal::{principal, size};
+use crate::principal::{Typed, principal, size};
 use crate::raw::RawTerm;
 use crate::shape::{Shape, TOO_LARGE};
 use crate::skeleton::{self, Skeleton};
@@ -59,6 +59,22 @@ fn named(alloc: Global, shapes: &[Shape], skeleton: &Skeleton) -> Result<Term, T
     Ok(term)
 }
 
+// The named term of a typing, unless it is too large.
+fn reading_of(alloc: Global, typed: &Typed) -> Result<Term, ReadingError>
+    requires typing { (raw : RawTree) × IsScoped [] raw × IsGeneralTyping raw typed.now.shapes.items (slot_tree typed.now.skeleton) }
+    ensures reading { IfOk result (λ t. (raw : RawTree) → IsGeneralTyping raw typed.now.shapes.items (slot_tree typed.now.skeleton) → IsReading raw (nameless [] t)) }
+    ensures small { IfOk result (λ t. term_size [] (nameless [] t) ≤ 20000) }
+    ensures no_arity { IfErr result (λ e. e ≡ ReadingError.Arity → ⊥) }
+    ensures no_untypable { IfErr result (λ e. e ≡ ReadingError.Untypable → ⊥) }
+    ensures too_large { IfErr result (λ e. e ≡ ReadingError.TooLarge → (raw : RawTree) → IsGeneralTyping raw typed.now.shapes.items (slot_tree typed.now.skeleton) → HasLargeReading raw) }
+{
+    let outermost = skeleton::Scope::Outermost;
+    if size(&typed.shapes, &outermost, &typed.skeleton) >= TOO_LARGE {
+        return Err(ReadingError::TooLarge);
+    }
+    Ok(named(alloc, &typed.shapes, &typed.skeleton)?)
+}
+
 /// The reading of a term whose identifiers are resolved: the most general typing, its open types named as they occur.
 ///
 /// Answers `Untypable` exactly where there is no typing, and `TooLarge` exactly where the most general typings, which are all of one size,
@@ -73,14 +89,7 @@ pub fn read(alloc: Global, term: &RawTerm) -> Result<Term, ReadingError>
     ensures too_large { IfErr result (λ e. e ≡ ReadingError.TooLarge → HasLargeReading (raw_tree term.now)) }
 {
     match principal(alloc, term) {
-        Ok(typed) => {
-            let outermost = skeleton::Scope::Outermost;
-            if size(&typed.shapes, &outermost, &typed.skeleton) >= TOO_LARGE {
-                return Err(ReadingError::TooLarge);
-            }
-            let reading = named(alloc, &typed.shapes, &typed.skeleton)?;
-            Ok(reading)
-        }
+        Ok(typed) => reading_of(alloc, &typed),
         Err(Fault::Untypable) => Err(ReadingError::Untypable),
         Err(Fault::Memory) => Err(ReadingError::Memory),
     }

@@ -141,12 +141,21 @@ fn ident_type(alloc: Global, arities: &[(Name, usize)], name: &str) -> Result<Ty
     }
 }
 
+// The type of functions.
+fn arrow(alloc: Global, domain: &Ty, range: &Ty) -> Result<Ty, ResolveError>
+    ensures ok { IfOk result (λ t. t ≡ fun_type domain.now range.now) }
+    ensures memory { IsOkUnless result ResolveError.Memory }
+{
+    Ok(Ty::fun(alloc, domain, range)?)
+}
+
 // The constructor of the name applied to the types.
-fn constructed(alloc: Global, constructor: &str, types: &[Ty]) -> Result<Ty, AllocError>
-    ensures { IfOk result (λ t. t ≡ TyApp constructor.now (type_list types.now)) }
+fn constructed(alloc: Global, constructor: &str, types: &[Ty]) -> Result<Ty, ResolveError>
+    ensures ok { IfOk result (λ t. t ≡ TyApp constructor.now (type_list types.now)) }
+    ensures memory { IsOkUnless result ResolveError.Memory }
 {
     let name = Name::new(alloc, constructor)?;
-    Ty::app(alloc, &name, types)
+    Ok(Ty::app(alloc, &name, types)?)
 }
 
 /// The type that is written, among constructors of these arities.
@@ -166,7 +175,7 @@ pub fn resolve_type(
         PreTypeNode::Arrow(from, to) => {
             let domain = resolve_type(alloc, arities, from)?;
             let range = resolve_type(alloc, arities, to)?;
-            Ok(Ty::fun(alloc, &domain, &range)?)
+            arrow(alloc, &domain, &range)
         }
         PreTypeNode::Apply(constructor, args) => {
             if !takes(arities, constructor.as_str(), args.len()) {
@@ -177,8 +186,7 @@ pub fn resolve_type(
                 let ty = resolve_type(alloc, arities, arg)?;
                 types.push(ty)?;
             }
-            let ty = constructed(alloc, constructor.as_str(), &types)?;
-            Ok(ty)
+            constructed(alloc, constructor.as_str(), &types)
         }
     }
 }
@@ -288,12 +296,29 @@ pub fn operator(
     }
 }
 
-// The application of the first to the second.
-fn applied(alloc: Global, function: RawTerm, argument: RawTerm) -> Result<RawTerm, ResolveError>
+/// The application of the first to the second.
+pub(crate) fn applied(
+    alloc: Global,
+    function: RawTerm,
+    argument: RawTerm,
+) -> Result<RawTerm, ResolveError>
     ensures ok { IfOk result (λ t. raw_tree t ≡ RawApply (raw_tree function) (raw_tree argument)) }
     ensures memory { IsOkUnless result ResolveError.Memory }
 {
     Ok(RawTerm::apply(alloc, function, argument)?)
+}
+
+/// The abstraction over a variable of this name.
+pub(crate) fn over(
+    alloc: Global,
+    name: &str,
+    annotation: Option<Ty>,
+    body: RawTerm,
+) -> Result<RawTerm, ResolveError>
+    ensures ok { IfOk result (λ t. raw_tree t ≡ RawAbstraction name.now annotation (raw_tree body)) }
+    ensures memory { IsOkUnless result ResolveError.Memory }
+{
+    Ok(RawTerm::abstraction(alloc, name, annotation, body)?)
 }
 
 // The abstraction over the variable that is written.
@@ -307,7 +332,7 @@ fn abstracted(
     ensures arity { IfErr result (λ e. e ≡ ResolveError.Arity → option_has_arities arities.now variable.now.annotation ≡ false) }
 {
     let annotation = resolve_annotation(alloc, arities, &variable.annotation)?;
-    Ok(RawTerm::abstraction(alloc, variable.name.as_str(), annotation, body)?)
+    over(alloc, variable.name.as_str(), annotation, body)
 }
 
 // The term with the type that is written.

@@ -127,10 +127,7 @@ impl Shape {
         ensures { IfOk result (λ t. t ≡ fill (open_type order.now) self.now) }
     {
         match &*self.node {
-            ShapeNode::Open(slot) => {
-                let name = open_name(alloc, hole_index(order, *slot))?;
-                Ty::var(alloc, &name)
-            }
+            ShapeNode::Open(slot) => open_ty(alloc, order, *slot),
             ShapeNode::Rigid(name) => Ty::var(alloc, name),
             ShapeNode::App(name, parts) => {
                 let mut args = Vec::with_capacity(alloc, parts.len())?;
@@ -184,6 +181,14 @@ fn open_name(alloc: Global, k: usize) -> Result<Name, AllocError>
 {
     let text = format!(in alloc; "?{k}")?;
     Name::new(alloc, text.as_str())
+}
+
+// The type of an open slot: the type variable named by its place in the order.
+fn open_ty(alloc: Global, order: &[usize], slot: usize) -> Result<Ty, AllocError>
+    ensures { IfOk result (λ t. t ≡ open_type order.now slot) }
+{
+    let name = open_name(alloc, hole_index(order, slot))?;
+    Ty::var(alloc, &name)
 }
 
 // The number of nodes of a constructor with these parts, or 20,001 where there are more.

@@ -1,5 +1,5 @@
 -- Rules applied after a cut.
-use Rattle.std.specs.Prelude.{◌≡◌, List, ◌∷◌, Option, Some, None, refl}
+use Rattle.std.specs.Prelude.{◌≡◌, List, [], ◌∷◌, Option, Some, None, refl}
 use Rattle.std.specs.Option.{option_map}
 use Rattle.std.specs.Prelude.{Result, Ok, Err, OnOk, IfOk, IsSome, is_some}
 use Rattle.std.proofs.Common.{ap, sym, ◌∙◌, subst}
@@ -17,17 +17,15 @@ put_given : (s : Option Sequent) (basis : Items) (th : Theorem) (rest : List Seq
 put_given (Some s) basis th rest e = let h : theorem_on basis s ≡ th = cc in λ i. Some ((h i).sequent ∷ rest)
 put_given None basis th rest e = absurd cc
 
-pub from_two_taken :
-    (rule : Sequent → Sequent → Option Sequent) (basis : Items) (old mid last new : CutValue) (a b th : Theorem) → IsFirst old mid a → IsFirst mid last b →
-    over basis (rule a.sequent b.sequent) ≡ Some th → new ≡ record last { after = th.sequent ∷ last.after } → Infers (from_two rule) old new
-from_two_taken rule basis old mid last new a b th p q given put =
+-- a rule that asks nothing of it
+pub second_taken :
+    (rule : Sequent → Option Sequent) (basis : Items) (old last new : CutValue) (a th : Theorem) → IsFirst old last a → over basis (rule a.sequent) ≡ Some th →
+    new ≡ record last { after = th.sequent ∷ last.after } → Infers (from_one rule) old new
+second_taken rule basis old last new a th p given put =
     record {
-      basis = ap (λ (c : CutValue). c.basis) put ∙ q.basis ∙ p.basis;
-      before = ap (λ (c : CutValue). c.before) put ∙ q.before ∙ p.before;
-      after =
-          ap (inferred (from_two rule)) (p.after ∙ ap (λ ss. a.sequent ∷ ss) q.after)
-          ∙ put_given (rule a.sequent b.sequent) basis th last.after given
-          ∙ ap (λ (c : CutValue). Some c.after) (sym put);
+      basis = ap (λ (c : CutValue). c.basis) put ∙ p.basis;
+      before = ap (λ (c : CutValue). c.before) put ∙ p.before;
+      after = ap (inferred (from_one rule)) p.after ∙ put_given (rule a.sequent) basis th last.after given ∙ ap (λ (c : CutValue). Some c.after) (sym put);
     }
 
 -- a rule that asks something of the basis
@@ -100,10 +98,28 @@ one_applies rule old last a p some =
     (subst (λ (b : Items). IsSome (rule b a.sequent)) (sym p.over)
     (some_mapped (λ r. r ∷ last.after) (rule old.basis a.sequent) (subst (λ (ss : List Sequent). IsSome (inferred (from_one (rule old.basis)) ss)) p.after some)))
 
-pub two_apply :
-    (rule : Sequent → Sequent → Option Sequent) (old mid last : CutValue) (a b : Theorem) → IsFirst old mid a → IsFirst mid last b → IsSome (inferred (from_two rule) old.after) →
-    IsSome (over a.basis (rule a.sequent b.sequent))
-two_apply rule old mid last a b p q some =
-    mapped_some (theorem_on a.basis) (rule a.sequent b.sequent)
-    (some_mapped (λ r. r ∷ last.after) (rule a.sequent b.sequent)
-    (subst (λ (ss : List Sequent). IsSome (inferred (from_two rule) ss)) (p.after ∙ ap (λ (ss : List Sequent). a.sequent ∷ ss) q.after) some))
+pub second_applies :
+    (rule : Sequent → Option Sequent) (basis : Items) (old last : CutValue) (a : Theorem) → IsFirst old last a → IsSome (inferred (from_one rule) old.after) → IsSome (over basis (rule a.sequent))
+second_applies rule basis old last a p some =
+    mapped_some (theorem_on basis) (rule a.sequent) (some_mapped (λ r. r ∷ last.after) (rule a.sequent) (subst (λ (ss : List Sequent). IsSome (inferred (from_one rule) ss)) p.after some))
+
+-- ---- rules of two theorems, the first of which was taken
+
+first_given : (rule : Sequent → Sequent → Option Sequent) (s : Sequent) (rest : List Sequent) → inferred (from_two rule) (s ∷ rest) ≡ inferred (from_one (rule s)) rest
+first_given rule s [] = refl
+first_given rule s (b ∷ rest) = refl
+
+module _ (rule : Sequent → Sequent → Option Sequent) (old mid : CutValue) (a : Theorem) (p : IsFirst old mid a) where
+  pub first_over : a.basis ≡ mid.basis
+  first_over = p.over ∙ sym p.basis
+
+  pub first_applies : IsSome (inferred (from_two rule) old.after) → IsSome (inferred (from_one (rule a.sequent)) mid.after)
+  first_applies some = subst (λ (o : Option (List Sequent)). IsSome o) (ap (inferred (from_two rule)) p.after ∙ first_given rule a.sequent mid.after) some
+
+  pub first_infers : (new : CutValue) → Infers (from_one (rule a.sequent)) mid new → Infers (from_two rule) old new
+  first_infers new rest =
+      record {
+        basis = rest.basis ∙ p.basis;
+        before = rest.before ∙ p.before;
+        after = ap (inferred (from_two rule)) p.after ∙ first_given rule a.sequent mid.after ∙ rest.after;
+      }

@@ -4,24 +4,24 @@ use Rattle.std.specs.Option.{option_map, option_and_then}
 use Rattle.std.specs.FinSet as set
 use Rattle.std.proofs.Common.{ap, sym, ◌∙◌}
 use Rattle.hol_terms.specs.Named.{Named}
-use Rattle.hol_terms.specs.Nameless.{Nameless, nameless}
+use Rattle.hol_terms.specs.Nameless.{Nameless, fixed, nameless}
 use Rattle.hol_terms.specs.Alpha.{strip, alpha_eq}
 use Rattle.hol_terms.proofs.Alpha.{alpha_eq_decides}
 use Rattle.hol_formulas.specs.Equation.{bool_type}
-use Rattle.hol_formulas.specs.Formula.{connective_type, falsity, conjunction, disjunction, implication, is_falsity, dest_imp}
+use Rattle.hol_formulas.specs.Formula.{connective_type, falsity, conjunction, disjunction, implication, negation, negation_type, is_falsity, dest_imp}
 use Rattle.hol_kernel.specs.Items.{Items}
 use Rattle.hol_kernel.specs.Sequent.{Hyps, only_hyp, Sequent, sequent_of}
 use Rattle.hol_kernel.specs.Typing.{HasType}
 use Rattle.hol_kernel.proofs.Declared.{has_type_is, has_type_of}
-use Rattle.hol_bool.specs.Rules.{conj_of, disch_of, undisch_of, mp_of, disj1_of, disj2_of, contr_of}
+use Rattle.hol_bool.specs.Rules.{conj_of, disch_of, undisch_of, not_intro_of, mp_of, disj1_of, disj2_of, contr_of}
 use Rattle.hol_goal.specs.Achieves.{assumed, Achieves}
 use Rattle.hol_just.specs.Reasons.{conjoined, left_disjunct}
-use Rattle.hol_just.specs.Justifies.{goal_at, always, holds_formula, SplitsConjunction, LeavesLeft, LeavesRight, LeavesConsequent, TakesOut, SplitsByImplication, LeavesFalsity}
-use Rattle.hol_just.specs.declared.reason.Reason.TheVariants.{Conjunction, LeftDisjunct, RightDisjunct, Discharge, Undischarge, ModusPonens, Contradiction}
+use Rattle.hol_just.specs.Justifies.{goal_at, always, holds_formula, SplitsConjunction, LeavesLeft, LeavesRight, LeavesConsequent, UnfoldsNegation, TakesOut, SplitsByImplication, LeavesFalsity}
+use Rattle.hol_just.specs.declared.reason.Reason.TheVariants.{Conjunction, LeftDisjunct, RightDisjunct, Discharge, Undischarge, Negation, ModusPonens, Contradiction}
 use Rattle.hol_just.proofs.Allowed.{assumed_there, assumed_still, allowed_union, allowed_less, allowed_more, allowed_only}
 use Rattle.hol_just.proofs.Likeness.{like_binary, like_fixed}
 use Rattle.hol_just.proofs.OneMove.{one, one_valid, by_one, by_two, IsAnswer, answer_by}
-use Rattle.hol_just.proofs.Typings.{operands_typed, implication_typed}
+use Rattle.hol_just.proofs.Typings.{operands_typed, implication_typed, parts_at}
 use Rattle.hol_just.proofs.Validity.{all_both, all_left, all_right}
 
 -- ---- the rules
@@ -56,6 +56,14 @@ module _ (extra : Hyps) (assumptions : List Nameless) where
       (ap (λ c. option_and_then (λ r. cond (alpha_eq r.0 t.concl) (Some (sequent_of (set.union s.hyps t.hyps) r.1)) None) (dest_imp c)) b.is
       ∙ ap (λ v. cond v (Some (sequent_of (set.union s.hyps t.hyps) b.second)) None) ((alpha_eq_decides b.first t.concl).1 (b.firsts ∙ sym k.concludes)))
       (record { concludes = b.seconds; allowed = allowed_union extra assumptions s.hyps t.hyps h.allowed k.allowed })
+
+  not_intro_achieves : (p : Nameless) (s : Sequent) → Achieves extra s (goal_at assumptions (implication p falsity)) → IsAnswer extra (not_intro_of s) (goal_at assumptions (negation p))
+  not_intro_achieves p s h =
+      let b = like_binary s.concl (codes "==>") connective_type (strip p) falsity h.concludes in
+      answer_by extra (not_intro_of s) (sequent_of s.hyps (negation b.first)) (goal_at assumptions (negation p))
+      (ap (λ t. option_and_then (λ r. cond (is_falsity r.1) (Some (sequent_of s.hyps (negation r.0))) None) (dest_imp t)) b.is
+      ∙ ap (λ t. cond (is_falsity t) (Some (sequent_of s.hyps (negation b.first))) None) (like_fixed b.second (codes "F") bool_type b.seconds))
+      (record { concludes = ap negation b.firsts; allowed = h.allowed })
 
   contr_achieves : (basis : Items) (p : Nameless) (s : Sequent) → HasType basis p bool_type → Achieves extra s (goal_at assumptions falsity) → IsAnswer extra (contr_of basis p s) (goal_at assumptions p)
   contr_achieves basis p s typed h =
@@ -127,6 +135,17 @@ discharge_leaves p extra assumptions q =
       fits = tt;
       justifies = by_one extra (goal_at assumptions (implication (nameless [] p) q)) (disch_of basis (nameless [] p)) (goal_at (nameless [] p ∷ assumptions) q)
           (λ s h. disch_achieves extra assumptions basis (nameless [] p) q s parts.0 h);
+    })
+
+pub negation_unfolds : UnfoldsNegation (one Negation)
+negation_unfolds extra assumptions p =
+    one_valid always extra Negation (goal_at assumptions (negation p)) (goal_at assumptions (implication p falsity) ∷ [])
+    (λ basis suit typed.
+    let denied = parts_at basis bool_type bool_type bool_type (fixed (codes "~") negation_type) p refl typed.conclusion in
+    record {
+      typed = (record { assumptions = typed.assumptions; conclusion = implication_typed basis p falsity denied.1 refl }, tt);
+      fits = tt;
+      justifies = by_one extra (goal_at assumptions (negation p)) not_intro_of (goal_at assumptions (implication p falsity)) (not_intro_achieves extra assumptions p);
     })
 
 pub undischarge_takes_out : TakesOut (one Undischarge)

@@ -5,12 +5,12 @@ use Rattle.hol_types.specs.Fun.{fun_type}
 use Rattle.hol_terms.specs.Nameless.{Nameless, app, nameless_type}
 use Rattle.hol_terms.specs.Alpha.{strip}
 use Rattle.hol_formulas.specs.Equation.{bool_type, equation}
-use Rattle.hol_formulas.specs.Formula.{falsity, implication}
+use Rattle.hol_formulas.specs.Formula.{falsity, implication, negation}
 use Rattle.hol_kernel.specs.Given.{Given, given_sequent}
 use Rattle.hol_kernel.proofs.Declared.{has_type_of}
 use Rattle.hol_kernel.proofs.Sound.{strip_type}
 use Rattle.hol_just.specs.Gives.{moved}
-use Rattle.hol_just.specs.Justifies.{goal_at, always, holds_given, holds_formula, ClosesEquation, ClosesByGiven, ClosesByFalsity, SplitsApplications, LeavesArguments, LeavesFunctions, SplitsEquivalence, SplitsIntoImplications, TakesOut, SplitsByImplication, LeavesImplication, LeavesFalsity}
+use Rattle.hol_just.specs.Justifies.{goal_at, always, holds_given, holds_formula, ClosesEquation, ClosesByGiven, ClosesByFalsity, SplitsApplications, LeavesArguments, LeavesFunctions, SplitsEquivalence, SplitsIntoImplications, LeavesConsequent, UnfoldsNegation, LeavesRefutation, TakesOut, SplitsByImplication, LeavesImplication, LeavesFalsity}
 use Rattle.hol_just.specs.declared.reason.Move.{Move}
 use Rattle.hol_just.proofs.Givens.{IsFormula}
 use Rattle.hol_just.proofs.Validity.{valid_at, valid_under}
@@ -58,3 +58,11 @@ closes_by_falsity p th splits closes all s c is =
     valid_at (holds_given th) extra splits closes (goal_at assumptions p ∷ []) [] (goal_at assumptions falsity ∷ []) [] [] 0 refl
     (valid_under always (holds_given th) extra splits (goal_at assumptions p ∷ []) (goal_at assumptions falsity ∷ []) (λ basis suit. refl) (s extra assumptions))
     (c extra (goal_at assumptions falsity) (ap strip false_is) allowed))
+
+pub leaves_refutation : (p : Nameless) (unfolds assumes all : List Move) → UnfoldsNegation unfolds → LeavesConsequent p assumes → all ≡ unfolds ++ moved 0 assumes → LeavesRefutation p all
+leaves_refutation p unfolds assumes all u c is =
+    subst (LeavesRefutation p) (sym is)
+    (λ extra assumptions.
+    valid_at always extra unfolds assumes (goal_at assumptions (negation p) ∷ []) [] (goal_at assumptions (implication p falsity) ∷ []) (goal_at (p ∷ assumptions) falsity ∷ []) [] 0 refl
+    (u extra assumptions p)
+    (c extra assumptions falsity))

@@ -12,7 +12,7 @@ use Rattle.hol_goal.specs.Achieves.{Achieves, IsTyped}
 use Rattle.hol_just.specs.Reasons.{Fits}
 use Rattle.hol_just.specs.Valid.{AchieveAll, Answers, FitsAt, IsValid}
 use Rattle.hol_just.specs.declared.reason.Reason.{Reason}
-use Rattle.hol_just.specs.declared.reason.Reason.TheVariants.{Reflexivity, Premise, Combination, Antisymmetry, Conjunction, LeftDisjunct, RightDisjunct, Discharge, Undischarge, ModusPonens, Contradiction, Generalization, Existence}
+use Rattle.hol_just.specs.declared.reason.Reason.TheVariants.{Reflexivity, Premise, Combination, Antisymmetry, Conjunction, LeftDisjunct, RightDisjunct, Discharge, Undischarge, Negation, ModusPonens, Contradiction, Generalization, Existence}
 use Rattle.hol_just.specs.declared.reason.Move.{Move}
 
 achieves_prop : (extra : Hyps) (s : Sequent) (g : GoalValue) → IsProp (Achieves extra s g)
@@ -45,6 +45,7 @@ fits_prop basis (LeftDisjunct q) = Unit-prop
 fits_prop basis (RightDisjunct p) = Unit-prop
 fits_prop basis (Discharge p) = Unit-prop
 fits_prop basis Undischarge = Unit-prop
+fits_prop basis Negation = Unit-prop
 fits_prop basis ModusPonens = Unit-prop
 fits_prop basis (Contradiction p) = Unit-prop
 fits_prop basis (Generalization v) = Unit-prop

@@ -10,7 +10,7 @@ use Rattle.hol_subst.specs.Closing.{open_with}
 use Rattle.hol_subst.specs.Variant.{is_free_in}
 use Rattle.hol_terms.specs.Alpha.{strip}
 use Rattle.hol_formulas.specs.Equation.{bool_type, equation}
-use Rattle.hol_formulas.specs.Formula.{Abstraction, falsity, conjunction, disjunction, implication, universal, existential}
+use Rattle.hol_formulas.specs.Formula.{Abstraction, falsity, conjunction, disjunction, implication, negation, universal, existential}
 use Rattle.hol_kernel.specs.Items.{Items}
 use Rattle.hol_kernel.specs.Sequent.{Hyps}
 use Rattle.hol_kernel.specs.Typing.{is_typed, has_type}
@@ -108,6 +108,15 @@ LeavesRight p moves = (extra : Hyps) (assumptions : List Nameless) (q : Nameless
 -- DISCH_TAC leaves q of `p ==> q`, with p assumed.
 abbrev pub LeavesConsequent : Nameless → List Move → Type 0
 LeavesConsequent p moves = (extra : Hyps) (assumptions : List Nameless) (q : Nameless) → IsValid always extra moves (goal_at assumptions (implication p q) ∷ []) (goal_at (p ∷ assumptions) q ∷ [])
+
+-- `~p` from `p ==> F`
+abbrev pub UnfoldsNegation : List Move → Type 0
+UnfoldsNegation moves =
+    (extra : Hyps) (assumptions : List Nameless) (p : Nameless) → IsValid always extra moves (goal_at assumptions (negation p) ∷ []) (goal_at assumptions (implication p falsity) ∷ [])
+
+-- DISCH_TAC leaves F of `~p`, with p assumed.
+abbrev pub LeavesRefutation : Nameless → List Move → Type 0
+LeavesRefutation p moves = (extra : Hyps) (assumptions : List Nameless) → IsValid always extra moves (goal_at assumptions (negation p) ∷ []) (goal_at (p ∷ assumptions) falsity ∷ [])
 
 -- UNDISCH_TAC takes the assumption p out, and leaves `p ==> q` of q.
 abbrev pub TakesOut : List Move → Type 0

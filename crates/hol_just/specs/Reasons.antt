@@ -6,10 +6,10 @@ use Rattle.hol_kernel.specs.Items.{Items}
 use Rattle.hol_kernel.specs.Sequent.{Sequent}
 use Rattle.hol_kernel.specs.Given as premise
 use Rattle.hol_kernel.specs.Rules.{refl_of, mk_comb_of, deduct_antisym_of}
-use Rattle.hol_bool.specs.Rules.{conj_of, disj1_of, disj2_of, disch_of, undisch_of, mp_of, contr_of, gen_of, exists_of}
+use Rattle.hol_bool.specs.Rules.{conj_of, disj1_of, disj2_of, disch_of, undisch_of, not_intro_of, mp_of, contr_of, gen_of, exists_of}
 use Rattle.hol_just.specs.Inference.{Inference, from_none, from_one, from_two}
 use Rattle.hol_just.specs.declared.reason.Reason.{Reason}
-use Rattle.hol_just.specs.declared.reason.Reason.TheVariants.{Reflexivity, Premise, Combination, Antisymmetry, Conjunction, LeftDisjunct, RightDisjunct, Discharge, Undischarge, ModusPonens, Contradiction, Generalization, Existence}
+use Rattle.hol_just.specs.declared.reason.Reason.TheVariants.{Reflexivity, Premise, Combination, Antisymmetry, Conjunction, LeftDisjunct, RightDisjunct, Discharge, Undischarge, Negation, ModusPonens, Contradiction, Generalization, Existence}
 
 -- the sequent of a premise over a basis
 abbrev pub premise_of : Items → premise.Given → Option Sequent
@@ -38,6 +38,7 @@ inference basis (LeftDisjunct q) = from_one (left_disjunct basis (nameless [] q)
 inference basis (RightDisjunct p) = from_one (disj2_of basis (nameless [] p))
 inference basis (Discharge p) = from_one (disch_of basis (nameless [] p))
 inference basis Undischarge = from_one undisch_of
+inference basis Negation = from_one not_intro_of
 inference basis ModusPonens = from_two mp_of
 inference basis (Contradiction p) = from_one (contr_of basis (nameless [] p))
 inference basis (Generalization v) = from_one (gen_of basis v)
@@ -54,6 +55,7 @@ Fits basis (LeftDisjunct q) = Unit {0}
 Fits basis (RightDisjunct p) = Unit {0}
 Fits basis (Discharge p) = Unit {0}
 Fits basis Undischarge = Unit {0}
+Fits basis Negation = Unit {0}
 Fits basis ModusPonens = Unit {0}
 Fits basis (Contradiction p) = Unit {0}
 Fits basis (Generalization v) = Unit {0}

@@ -1,14 +1,15 @@
 //! Reasons by the rules of connectives and quantifiers, applied to theorems.
-ghost use Rattle.std.specs.Prelude.{IsSome, [], OnOk};
+ghost use Rattle.std.specs.Prelude.{◌≡◌, IsSome, [], OnOk};
 ghost use Rattle.hol_terms.specs.Nameless.{nameless};
-ghost use Rattle.hol_bool.specs.Rules.{disj2_of, disch_of, undisch_of, mp_of, contr_of, gen_of, exists_of};
+ghost use Rattle.hol_bool.specs.Rules.{disj2_of, disch_of, undisch_of, not_intro_of, mp_of, contr_of, gen_of, exists_of};
 ghost use Rattle.hol_just.specs.Inference.{from_one, from_two, inferred};
 ghost use Rattle.hol_just.specs.Reasons.{conjoined, left_disjunct};
 ghost use Rattle.hol_just.specs.Over.{Infers};
 
 use crate::cursor::Cursor;
 use crate::refusals::made_in_bool;
-use hol_bool::{conj, contr, disch, disj1, disj2, exists, generalize, mp, undisch};
+use hol_bool::{conj, contr, disch, disj1, disj2, exists, generalize, mp, not_intro, undisch};
+use hol_kernel::Thm;
 use hol_terms::Term;
 use std::alloc::{AllocError, Global};
 
@@ -17,7 +18,19 @@ pub(crate) fn conjunction(alloc: Global, thms: &mut Cursor) -> Result<(), AllocE
     requires { IsSome (inferred (from_two conjoined) thms.old.after) }
     ensures { OnOk result (Infers (from_two conjoined) thms.old thms.new) }
 {
-    let (Some(left), Some(right)) = (thms.take(), thms.take()) else {
+    let Some(left) = thms.take() else {
+        unreachable!()
+    };
+    conjunction_with(alloc, left, thms)
+}
+
+// CONJ of the theorem and the one after the place.
+fn conjunction_with(alloc: Global, left: Thm, thms: &mut Cursor) -> Result<(), AllocError>
+    requires over { left.basis ≡ thms.old.basis }
+    requires gives { IsSome (inferred (from_one (conjoined left.sequent)) thms.old.after) }
+    ensures { OnOk result (Infers (from_one (conjoined left.sequent)) thms.old thms.new) }
+{
+    let Some(right) = thms.take() else {
         unreachable!()
     };
     let thm = conj(alloc, &left, &right)?;
@@ -72,12 +85,36 @@ pub(crate) fn undischarge(alloc: Global, thms: &mut Cursor) -> Result<(), AllocE
     thms.put(thm)
 }
 
+/// NOT_INTRO of the theorem after the place.
+pub(crate) fn negation(alloc: Global, thms: &mut Cursor) -> Result<(), AllocError>
+    requires { IsSome (inferred (from_one not_intro_of) thms.old.after) }
+    ensures { OnOk result (Infers (from_one not_intro_of) thms.old thms.new) }
+{
+    let Some(implication) = thms.take() else {
+        unreachable!()
+    };
+    let thm = made_in_bool(not_intro(alloc, &implication))?;
+    thms.put(thm)
+}
+
 /// MP of the two theorems after the place.
 pub(crate) fn modus_ponens(alloc: Global, thms: &mut Cursor) -> Result<(), AllocError>
     requires { IsSome (inferred (from_two mp_of) thms.old.after) }
     ensures { OnOk result (Infers (from_two mp_of) thms.old thms.new) }
 {
-    let (Some(implication), Some(premise)) = (thms.take(), thms.take()) else {
+    let Some(implication) = thms.take() else {
+        unreachable!()
+    };
+    modus_ponens_with(alloc, implication, thms)
+}
+
+// MP of the theorem and the one after the place.
+fn modus_ponens_with(alloc: Global, implication: Thm, thms: &mut Cursor) -> Result<(), AllocError>
+    requires over { implication.basis ≡ thms.old.basis }
+    requires gives { IsSome (inferred (from_one (mp_of implication.sequent)) thms.old.after) }
+    ensures { OnOk result (Infers (from_one (mp_of implication.sequent)) thms.old thms.new) }
+{
+    let Some(premise) = thms.take() else {
         unreachable!()
     };
     let thm = made_in_bool(mp(alloc, &implication, &premise))?;

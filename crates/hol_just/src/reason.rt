@@ -26,6 +26,8 @@ pub enum Reason {
     Discharge(Term),
     /// Leaves `p ==> q`: `q` from `p` (UNDISCH).
     Undischarge,
+    /// Leaves `p ==> F`: `~p` (NOT_INTRO).
+    Negation,
     /// Leaves `p ==> q` and `p`: `q` (MP).
     ModusPonens,
     /// Leaves `F`: the term (CONTR).
@@ -60,6 +62,7 @@ impl Reason {
             Reason::RightDisjunct(p) => Reason::RightDisjunct(p.copy()?),
             Reason::Discharge(p) => Reason::Discharge(p.copy()?),
             Reason::Undischarge => Reason::Undischarge,
+            Reason::Negation => Reason::Negation,
             Reason::ModusPonens => Reason::ModusPonens,
             Reason::Contradiction(p) => Reason::Contradiction(p.copy()?),
             Reason::Generalization(v) => Reason::Generalization(v.copy()?),

@@ -3,13 +3,13 @@ ghost use Rattle.std.specs.Prelude.{◌≡◌, ◌++◌, IsSome, [], OnOk};
 ghost use Rattle.hol_terms.specs.Nameless.{nameless};
 ghost use Rattle.hol_kernel.specs.Given as premise;
 ghost use Rattle.hol_kernel.specs.Rules.{refl_of, mk_comb_of};
-ghost use Rattle.hol_just.specs.Inference.{from_none, from_two, inferred};
+ghost use Rattle.hol_just.specs.Inference.{from_none, from_one, from_two, inferred};
 ghost use Rattle.hol_just.specs.Reasons.{premise_of, antisymmetric, inference, Fits};
 ghost use Rattle.hol_just.specs.Over.{Infers};
 
 use crate::bool_steps::{
     conjunction, contradiction, discharge, existence, generalization, left_disjunct, modus_ponens,
-    right_disjunct, undischarge,
+    negation, right_disjunct, undischarge,
 };
 use crate::cursor::Cursor;
 use crate::reason::Reason;
@@ -34,6 +34,7 @@ pub(crate) fn infer(alloc: Global, reason: &Reason, thms: &mut Cursor) -> Result
         Reason::RightDisjunct(p) => right_disjunct(alloc, p, thms),
         Reason::Discharge(p) => discharge(alloc, p, thms),
         Reason::Undischarge => undischarge(alloc, thms),
+        Reason::Negation => negation(alloc, thms),
         Reason::ModusPonens => modus_ponens(alloc, thms),
         Reason::Contradiction(p) => contradiction(alloc, p, thms),
         Reason::Generalization(v) => generalization(alloc, v, thms),
@@ -62,7 +63,19 @@ fn combination(alloc: Global, thms: &mut Cursor) -> Result<(), AllocError>
     requires { IsSome (inferred (from_two mk_comb_of) thms.old.after) }
     ensures { OnOk result (Infers (from_two mk_comb_of) thms.old thms.new) }
 {
-    let (Some(functions), Some(arguments)) = (thms.take(), thms.take()) else {
+    let Some(functions) = thms.take() else {
+        unreachable!()
+    };
+    combination_with(alloc, functions, thms)
+}
+
+// MK_COMB of the theorem and the one after the place.
+fn combination_with(alloc: Global, functions: Thm, thms: &mut Cursor) -> Result<(), AllocError>
+    requires over { functions.basis ≡ thms.old.basis }
+    requires gives { IsSome (inferred (from_one (mk_comb_of functions.sequent)) thms.old.after) }
+    ensures { OnOk result (Infers (from_one (mk_comb_of functions.sequent)) thms.old thms.new) }
+{
+    let Some(arguments) = thms.take() else {
         unreachable!()
     };
     let thm = made_in_kernel(Thm::mk_comb(alloc, &functions, &arguments))?;
@@ -73,7 +86,19 @@ fn antisymmetry(alloc: Global, thms: &mut Cursor) -> Result<(), AllocError>
     requires { IsSome (inferred (from_two antisymmetric) thms.old.after) }
     ensures { OnOk result (Infers (from_two antisymmetric) thms.old thms.new) }
 {
-    let (Some(there), Some(back)) = (thms.take(), thms.take()) else {
+    let Some(there) = thms.take() else {
+        unreachable!()
+    };
+    antisymmetry_with(alloc, there, thms)
+}
+
+// DEDUCT_ANTISYM_RULE of the one after the place and the theorem.
+fn antisymmetry_with(alloc: Global, there: Thm, thms: &mut Cursor) -> Result<(), AllocError>
+    requires over { there.basis ≡ thms.old.basis }
+    requires gives { IsSome (inferred (from_one (antisymmetric there.sequent)) thms.old.after) }
+    ensures { OnOk result (Infers (from_one (antisymmetric there.sequent)) thms.old thms.new) }
+{
+    let Some(back) = thms.take() else {
         unreachable!()
     };
     let thm = Thm::deduct_antisym(alloc, &back, &there)?;

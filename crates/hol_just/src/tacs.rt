@@ -6,7 +6,7 @@ ghost use Rattle.hol_kernel.specs.Items.{Items};
 ghost use Rattle.hol_kernel.specs.Given.{given_sequent};
 ghost use Rattle.hol_kernel.specs.Typing.{HasType};
 ghost use Rattle.hol_just.specs.Justifies.{holds_given, ClosesEquation, ClosesByGiven, ClosesByFalsity, SplitsApplications, LeavesArguments, LeavesFunctions, SplitsEquivalence, SplitsIntoImplications};
-ghost use Rattle.hol_just.specs.Justifies.{SplitsConjunction, LeavesLeft, LeavesRight, LeavesConsequent, TakesOut, SplitsByImplication, LeavesImplication, LeavesFalsity, LeavesProperty, LeavesAtWitness};
+ghost use Rattle.hol_just.specs.Justifies.{SplitsConjunction, LeavesLeft, LeavesRight, LeavesConsequent, UnfoldsNegation, LeavesRefutation, TakesOut, SplitsByImplication, LeavesImplication, LeavesFalsity, LeavesProperty, LeavesAtWitness};
 
 use crate::just::Just;
 use crate::reason::Reason;
@@ -101,6 +101,23 @@ impl Just {
         ensures { IfOk result (λ just. LeavesConsequent (nameless [] antecedent.now) just) }
     {
         Just::one(alloc, Reason::Discharge(antecedent.copy()?))
+    }
+
+    /// That of leaving `p ==> F` of `~p`.
+    pub fn not_intro(alloc: Global) -> Result<Just, AllocError>
+        ensures { IfOk result (λ just. UnfoldsNegation just) }
+    {
+        Just::one(alloc, Reason::Negation)
+    }
+
+    /// That of DISCH_TAC on a negation of this term: `p ==> F` is left, and of that what it assumes.
+    pub fn disch_neg_tac(alloc: Global, denied: &Term) -> Result<Just, AllocError>
+        ensures { IfOk result (λ just. LeavesRefutation (nameless [] denied.now) just) }
+    {
+        let assuming = Just::disch_tac(alloc, denied)?;
+        let mut just = Just::not_intro(alloc)?;
+        just.then_at(0, &assuming)?;
+        Ok(just)
     }
 
     /// That of UNDISCH_TAC.

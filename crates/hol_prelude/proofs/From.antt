@@ -1,39 +1,14 @@
 -- What theorems assume, where it is nothing but one formula.
 use Rattle.std.specs.Prelude.{◌≡◌, true, false, not, ◌&&◌, ◌||◌, Bool, refl}
-use Rattle.std.specs.Ordering.{eq_by_cmp}
 use Rattle.std.specs.FinSet as set
 use Rattle.std.proofs.Common.{ap, sym, ◌∙◌}
 use Rattle.hol_terms.specs.Nameless.{Nameless}
 use Rattle.hol_terms.specs.Alpha.{strip}
-use Rattle.hol_subst.specs.AlphaOrder.{nameless_cmp}
 use Rattle.hol_kernel.specs.Sequent.{Hyps, no_hyps, only_hyp}
-use Rattle.hol_kernel.proofs.HypothesisLists.{hyps_total, hyps_same}
-use Rattle.hol_kernel.specs.Items.{no_items}
 use Rattle.hol_kernel.specs.Theorem.{Theorem, theorem_over}
 use Rattle.hol_equal.proofs.HypSets.{none_left, none_without}
-use Rattle.hol_formulas.specs.Formula.{disjunction}
+use Rattle.hol_bool.proofs.HypLaws.{is, has, same, in_union, in_rest, in_one, in_none}
 use Rattle.hol_prelude.specs.Deduction.{theorem_of, theorem_under, IsFrom}
-
-abbrev is : Nameless → Nameless → Bool
-is q k = eq_by_cmp nameless_cmp q k
-
-abbrev has : Hyps → Nameless → Bool
-has hs q = set.contains hs q
-
-same : (hs ks : Hyps) → ((q : Nameless) → has hs q ≡ has ks q) → hs ≡ ks
-same hs ks e = set.same_set hyps_total hyps_same hs ks e
-
-in_union : (hs ks : Hyps) (q : Nameless) → has (set.union hs ks) q ≡ (has hs q || has ks q)
-in_union hs ks q = set.contains-union hyps_total hs ks q
-
-in_rest : (hs : Hyps) (k q : Nameless) → has (set.remove hs k) q ≡ (not (is q k) && has hs q)
-in_rest hs k q = set.contains-remove hyps_total hs k q
-
-in_one : (p q : Nameless) → has (only_hyp p) q ≡ (is q (strip p) || false)
-in_one p q = set.contains-insert hyps_total no_hyps (strip p) q ∙ ap (λ b. is q (strip p) || b) (set.contains-empty nameless_cmp q)
-
-in_none : (q : Nameless) → has no_hyps q ≡ false
-in_none q = set.contains-empty nameless_cmp q
 
 -- ---- a formula alone
 
@@ -44,9 +19,6 @@ one_way false = refl
 pub one_alone : (p : Nameless) → set.remove (only_hyp p) (strip p) ≡ no_hyps
 one_alone p =
     same _ _ (λ q. in_rest (only_hyp p) (strip p) q ∙ ap (λ b. not (is q (strip p)) && b) (in_one p q) ∙ one_way (is q (strip p)) ∙ sym (in_none q))
-
-pub none_alone : (k : Nameless) → set.remove no_hyps k ≡ no_hyps
-none_alone k = none_without k
 
 -- ---- two sets
 
@@ -100,13 +72,3 @@ of_from k p = record { over = refl; alone = none_without (strip k) }
 -- a theorem over the items of the first, from the hypotheses of both
 pub union_from : (k q : Nameless) (a b : Theorem) → IsFrom k a → IsFrom k b → IsFrom k (theorem_over a.basis (set.union a.sequent.hyps b.sequent.hyps) q)
 union_from k q a b f g = record { over = f.over; alone = union_alone a.sequent.hyps b.sequent.hyps (strip k) f.alone g.alone }
-
--- what a disjunction gives by its cases
-pub cases_from : (p q r : Nameless) (b c : Theorem) → IsFrom p b → IsFrom q c → IsFrom (disjunction p q) (theorem_over no_items (set.union (set.union (only_hyp (disjunction p q)) (set.remove b.sequent.hyps (strip p))) (set.remove c.sequent.hyps (strip q))) r)
-cases_from p q r b c f g =
-    let d = disjunction p q in
-    record {
-      over = refl;
-      alone = (λ i. set.remove (set.union (set.union (only_hyp d) (f.alone i)) (g.alone i)) (strip d))
-          ∙ union_alone (set.union (only_hyp d) no_hyps) no_hyps (strip d) (union_alone (only_hyp d) no_hyps (strip d) (one_alone d) (none_without (strip d))) (none_without (strip d));
-    }

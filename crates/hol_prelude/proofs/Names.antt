@@ -31,14 +31,15 @@ pub last : {U X : Type 0} (r : Result U X) (old xs ys part : List Entry) (e f : 
 last (Ok u) old xs ys part e f h g same = further old xs ys part e f h g same
 last (Err x) old xs ys part e f h g same = g
 
--- ---- all of them
+-- ---- further theorems, and all of them
 
-pub all_named : (a b c d e f : List Entry) → a ≡ [] → b ≡ a ++ named_theorems (take 6 prelude_statements) → c ≡ b ++ named_theorems (take 5 (drop 6 prelude_statements)) → d ≡ c ++ named_theorems (take 4 (drop 11 prelude_statements)) → e ≡ d ++ named_theorems (take 3 (drop 15 prelude_statements)) → f ≡ e ++ named_theorems (drop 18 prelude_statements) → f ≡ prelude_theorems
-all_named a b c d e f g h k l m n =
-    n
-    ∙ ap (λ (s : List Entry). s ++ named_theorems (drop 18 prelude_statements))
-    (m
-    ∙ ap (λ (s : List Entry). s ++ named_theorems (take 3 (drop 15 prelude_statements)))
-    (l
-    ∙ ap (λ (s : List Entry). s ++ named_theorems (take 4 (drop 11 prelude_statements)))
-    (k ∙ ap (λ (s : List Entry). s ++ named_theorems (take 5 (drop 6 prelude_statements))) (h ∙ ap (λ (s : List Entry). s ++ named_theorems (take 6 prelude_statements)) g))))
+pub joined : (old xs ys a b : List Entry) → xs ≡ old ++ a → ys ≡ xs ++ b → ys ≡ old ++ (a ++ b)
+joined old xs ys a b g h = h ∙ ap (λ (s : List Entry). s ++ b) g ∙ append_assoc old a b
+
+pub joined_last : {U X : Type 0} (r : Result U X) (old xs ys a b : List Entry) → xs ≡ old ++ a → IfOk r (λ _. ys ≡ xs ++ b) → IfOk r (λ _. ys ≡ old ++ (a ++ b))
+joined_last (Ok u) old xs ys a b g h = joined old xs ys a b g h
+joined_last (Err x) old xs ys a b g h = h
+
+pub all_named : (a b c : List Entry) → a ≡ [] → b ≡ a ++ named_theorems (take 15 prelude_statements) → c ≡ b ++ named_theorems (drop 15 prelude_statements) → c ≡ prelude_theorems
+all_named a b c g h k =
+    k ∙ ap (λ (s : List Entry). s ++ named_theorems (drop 15 prelude_statements)) (h ∙ ap (λ (s : List Entry). s ++ named_theorems (take 15 prelude_statements)) g)

@@ -17,42 +17,88 @@ use hol_formulas::mk_neg;
 use hol_kernel::Thm;
 use std::alloc::{AllocError, Global};
 
-// `(p <=> q) <=> (q <=> p)`, for the sides of what the theorem concludes.
+// `{p <=> q} |- q <=> p`, for what the theorem concludes.
+fn assumed_turned(alloc: Global, equal: &Thm) -> Result<Thm, AllocError>
+    requires over { equal.now.basis ≡ no_items }
+    requires is { concl_of equal.now ≡ equivalence (lhs (concl_of equal.now)) (rhs (concl_of equal.now)) }
+    ensures { IfOk result (λ th. th ≡ theorem_under (concl_of equal.now) (equivalence (rhs (concl_of equal.now)) (lhs (concl_of equal.now)))) }
+{
+    let own = assumed_conclusion(alloc, equal)?;
+    sym(alloc, &own)
+}
+
+// `(p <=> q) <=> (q <=> p)`, for the same.
 fn turned(alloc: Global, equal: &Thm) -> Result<Thm, AllocError>
     requires over { equal.now.basis ≡ no_items }
     requires is { concl_of equal.now ≡ equivalence (lhs (concl_of equal.now)) (rhs (concl_of equal.now)) }
     ensures { IfOk result (λ th. th ≡ theorem_of (equivalence (concl_of equal.now) (equivalence (rhs (concl_of equal.now)) (lhs (concl_of equal.now))))) }
 {
-    let own = assumed_conclusion(alloc, equal)?;
-    let back = sym(alloc, &own)?;
-    let other = assumed_conclusion(alloc, &back)?;
-    let forward = sym(alloc, &other)?;
+    let back = assumed_turned(alloc, equal)?;
+    let forward = assumed_turned(alloc, &back)?;
     equivalent(alloc, &forward, &back)
 }
 
-// `(T <=> p) <=> p`, from `T`, and `p` that assumes `p` alone.
-fn truth_is(alloc: Global, holds: &Thm, p: &Thm) -> Result<Thm, AllocError>
-    requires holds { holds.now ≡ theorem_of truth }
-    requires own { IsFrom (concl_of p.now) p.now }
-    ensures { IfOk result (λ th. th ≡ theorem_of (equivalence (equivalence truth (concl_of p.now)) (concl_of p.now))) }
+// `T <=> p`, from `p`.
+fn truth_equal(alloc: Global, p: &Thm) -> Result<Thm, AllocError>
+    requires over { p.now.basis ≡ no_items }
+    ensures { IfOk result (λ th. th ≡ theorem_over no_items p.now.sequent.hyps (equivalence truth (concl_of p.now))) }
 {
     let same = eqt_intro(alloc, p)?;
-    let back = sym(alloc, &same)?;
-    let all = assumed_conclusion(alloc, &back)?;
-    let own = eq_mp(alloc, &all, holds)?;
+    sym(alloc, &same)
+}
+
+// `{T <=> p} |- p`, for what the theorem concludes.
+fn from_truth_equal(alloc: Global, equal: &Thm) -> Result<Thm, AllocError>
+    requires over { equal.now.basis ≡ no_items }
+    requires is { concl_of equal.now ≡ equivalence truth (rhs (concl_of equal.now)) }
+    ensures { IfOk result (λ th. th ≡ theorem_under (concl_of equal.now) (rhs (concl_of equal.now))) }
+{
+    let holds = truth(alloc)?;
+    let all = assumed_conclusion(alloc, equal)?;
+    eq_mp(alloc, &all, &holds)
+}
+
+// `(T <=> p) <=> p`, from `p` that assumes `p` alone.
+fn truth_is(alloc: Global, p: &Thm) -> Result<Thm, AllocError>
+    requires { IsFrom (concl_of p.now) p.now }
+    ensures { IfOk result (λ th. th ≡ theorem_of (equivalence (equivalence truth (concl_of p.now)) (concl_of p.now))) }
+{
+    let back = truth_equal(alloc, p)?;
+    let own = from_truth_equal(alloc, &back)?;
     equivalent(alloc, &back, &own)
 }
 
-// `(p <=> T) <=> p`, from the same.
-fn is_truth(alloc: Global, holds: &Thm, p: &Thm) -> Result<Thm, AllocError>
-    requires holds { holds.now ≡ theorem_of truth }
-    requires own { IsFrom (concl_of p.now) p.now }
+// `(p <=> T) <=> p`, from a theorem that concludes `p`, and `(T <=> p) <=> p`.
+fn is_truth(alloc: Global, p: &Thm, first: &Thm) -> Result<Thm, AllocError>
+    requires over { p.now.basis ≡ no_items }
+    requires is { first.now ≡ theorem_of (equivalence (equivalence truth (concl_of p.now)) (concl_of p.now)) }
     ensures { IfOk result (λ th. th ≡ theorem_of (equivalence (equivalence (concl_of p.now) truth) (concl_of p.now))) }
 {
     let same = eqt_intro(alloc, p)?;
-    let first = turned(alloc, &same)?;
-    let second = truth_is(alloc, holds, p)?;
-    chained(alloc, &first, &second)
+    let back = turned(alloc, &same)?;
+    chained(alloc, &back, first)
+}
+
+// `((p <=> T) <=> p) /\ r`, from the same and `r`.
+fn is_truth_joined(alloc: Global, p: &Thm, first: &Thm, rest: &Thm) -> Result<Thm, AllocError>
+    requires over { p.now.basis ≡ no_items }
+    requires is { first.now ≡ theorem_of (equivalence (equivalence truth (concl_of p.now)) (concl_of p.now)) }
+    requires rest { rest.now ≡ theorem_of (concl_of rest.now) }
+    ensures { IfOk result (λ th. th ≡ theorem_of (conjunction (equivalence (equivalence (concl_of p.now) truth) (concl_of p.now)) (concl_of rest.now))) }
+{
+    let second = is_truth(alloc, p, first)?;
+    both(alloc, &second, rest)
+}
+
+// `((T <=> p) <=> p) /\ ((p <=> T) <=> p) /\ r`, from `p` that assumes `p` alone, and `r`.
+fn with_truth(alloc: Global, p: &Thm, rest: &Thm) -> Result<Thm, AllocError>
+    requires own { IsFrom (concl_of p.now) p.now }
+    requires rest { rest.now ≡ theorem_of (concl_of rest.now) }
+    ensures { IfOk result (λ th. th ≡ theorem_of (conjunction (equivalence (equivalence truth (concl_of p.now)) (concl_of p.now)) (conjunction (equivalence (equivalence (concl_of p.now) truth) (concl_of p.now)) (concl_of rest.now)))) }
+{
+    let first = truth_is(alloc, p)?;
+    let tail = is_truth_joined(alloc, p, &first, rest)?;
+    both(alloc, &first, &tail)
 }
 
 // `{~p} |- p <=> F`, for what the theorem concludes.
@@ -66,7 +112,18 @@ fn false_if_denied(alloc: Global, p: &Thm) -> Result<Thm, AllocError>
     eqf_intro(alloc, &own)
 }
 
-// `~p` that assumes `p <=> F` and what `p` assumes but `p`, from a theorem that concludes this equation, and `p`.
+// `F` that assumes `p <=> F` and what `p` assumes, from a theorem that concludes this equation, and `p`.
+fn falsity_from(alloc: Global, equal: &Thm, p: &Thm) -> Result<Thm, AllocError>
+    requires over { equal.now.basis ≡ no_items }
+    requires is { concl_of equal.now ≡ equivalence (concl_of p.now) falsity }
+    requires own { p.now.basis ≡ no_items }
+    ensures { IfOk result (λ th. th ≡ theorem_over no_items (set.union (only_hyp (concl_of equal.now)) p.now.sequent.hyps) falsity) }
+{
+    let all = assumed_conclusion(alloc, equal)?;
+    eq_mp(alloc, &all, p)
+}
+
+// `~p` that assumes `p <=> F` and what `p` assumes but `p`, from the same.
 fn denied_if_false(alloc: Global, equal: &Thm, p: &Thm) -> Result<Thm, AllocError>
     requires over { equal.now.basis ≡ no_items }
     requires is { concl_of equal.now ≡ equivalence (concl_of p.now) falsity }
@@ -74,8 +131,7 @@ fn denied_if_false(alloc: Global, equal: &Thm, p: &Thm) -> Result<Thm, AllocErro
     ensures { IfOk result (λ th. th ≡ theorem_over no_items (set.remove (set.union (only_hyp (concl_of equal.now)) p.now.sequent.hyps) (strip (concl_of p.now))) (negation (concl_of p.now))) }
 {
     p.well_typed();
-    let all = assumed_conclusion(alloc, equal)?;
-    let none = eq_mp(alloc, &all, p)?;
+    let none = falsity_from(alloc, equal, p)?;
     let implies = disch(alloc, p.concl(), &none)?;
     denied(alloc, p, &implies)
 }
@@ -90,16 +146,24 @@ fn is_falsity(alloc: Global, p: &Thm) -> Result<Thm, AllocError>
     equivalent(alloc, &equal, &not)
 }
 
-// `(F <=> p) <=> ~p`, from the same.
-fn falsity_is(alloc: Global, p: &Thm) -> Result<Thm, AllocError>
-    requires { IsFrom (concl_of p.now) p.now }
-    ensures { IfOk result (λ th. th ≡ theorem_of (equivalence (equivalence falsity (concl_of p.now)) (negation (concl_of p.now)))) }
+// `(F <=> p) <=> (p <=> F)`, for what the theorem concludes.
+fn falsity_turned(alloc: Global, p: &Thm) -> Result<Thm, AllocError>
+    requires over { p.now.basis ≡ no_items }
+    ensures { IfOk result (λ th. th ≡ theorem_of (equivalence (equivalence falsity (concl_of p.now)) (equivalence (concl_of p.now) falsity))) }
 {
     let equal = false_if_denied(alloc, p)?;
     let back = sym(alloc, &equal)?;
-    let first = turned(alloc, &back)?;
-    let second = is_falsity(alloc, p)?;
-    chained(alloc, &first, &second)
+    turned(alloc, &back)
+}
+
+// `(F <=> p) <=> ~p`, from a theorem that concludes `p`, and `(p <=> F) <=> ~p`.
+fn falsity_is(alloc: Global, p: &Thm, second: &Thm) -> Result<Thm, AllocError>
+    requires over { p.now.basis ≡ no_items }
+    requires is { second.now ≡ theorem_of (equivalence (equivalence (concl_of p.now) falsity) (negation (concl_of p.now))) }
+    ensures { IfOk result (λ th. th ≡ theorem_of (equivalence (equivalence falsity (concl_of p.now)) (negation (concl_of p.now)))) }
+{
+    let first = falsity_turned(alloc, p)?;
+    chained(alloc, &first, second)
 }
 
 // `((F <=> p) <=> ~p) /\ ((p <=> F) <=> ~p)`, from `p` that assumes `p` alone.
@@ -107,8 +171,8 @@ fn with_falsity(alloc: Global, p: &Thm) -> Result<Thm, AllocError>
     requires { IsFrom (concl_of p.now) p.now }
     ensures { IfOk result (λ th. th ≡ theorem_of (conjunction (equivalence (equivalence falsity (concl_of p.now)) (negation (concl_of p.now))) (equivalence (equivalence (concl_of p.now) falsity) (negation (concl_of p.now))))) }
 {
-    let left = falsity_is(alloc, p)?;
     let right = is_falsity(alloc, p)?;
+    let left = falsity_is(alloc, p, &right)?;
     both(alloc, &left, &right)
 }
 
@@ -117,10 +181,6 @@ pub(crate) fn eq_rewrites(alloc: Global, p: &Thm) -> Result<Thm, AllocError>
     requires { IsFrom (concl_of p.now) p.now }
     ensures { IfOk result (λ th. th ≡ theorem_of (eq_rewrites (concl_of p.now))) }
 {
-    let holds = truth(alloc)?;
-    let first = truth_is(alloc, &holds, p)?;
-    let second = is_truth(alloc, &holds, p)?;
     let rest = with_falsity(alloc, p)?;
-    let tail = both(alloc, &second, &rest)?;
-    both(alloc, &first, &tail)
+    with_truth(alloc, p, &rest)
 }

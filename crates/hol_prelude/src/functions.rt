@@ -1,5 +1,6 @@
 //! ONE_ONE and ONTO as they are read: of each function.
 ghost use Rattle.std.specs.Prelude.{◌≡◌, IfOk};
+ghost use Rattle.hol_types.specs.Tree.{TyVar};
 ghost use Rattle.hol_types.specs.Fun.{fun_type};
 ghost use Rattle.hol_terms.specs.Nameless.{free};
 ghost use Rattle.hol_formulas.specs.Constants.{var_a, var_b};
@@ -9,24 +10,31 @@ ghost use Rattle.hol_kernel.specs.Items.{no_items};
 ghost use Rattle.hol_kernel.specs.Rules.{postulate_of};
 ghost use Rattle.hol_kernel.specs.Theorem.{theorem_on};
 ghost use Rattle.hol_bool.specs.Applied.{defining, unfolded};
+ghost use Rattle.hol_prelude.specs.Deduction.{concl_of};
 ghost use Rattle.hol_prelude.specs.Statements.{stated, one_one, onto};
 
-use crate::unfolding::unfold;
 use hol_bool::applied::generalize;
+use hol_bool::unfold;
 use hol_formulas::{Postulate, bool_type, occurrence, variable};
 use hol_kernel::Thm;
 use hol_terms::Variable;
 use hol_types::{Name, Ty};
 use std::alloc::{AllocError, Global};
 
+/// A type variable.
+pub(crate) fn type_variable(alloc: Global, name: &str) -> Result<Ty, AllocError>
+    ensures { IfOk result (λ ty. ty ≡ TyVar name.now) }
+{
+    let own = Name::new(alloc, name)?;
+    Ty::var(alloc, &own)
+}
+
 // `A->B`.
 fn function_type(alloc: Global) -> Result<Ty, AllocError>
     ensures { IfOk result (λ ty. ty ≡ fun_type var_a var_b) }
 {
-    let a = Name::new(alloc, "A")?;
-    let b = Name::new(alloc, "B")?;
-    let domain = Ty::var(alloc, &a)?;
-    let range = Ty::var(alloc, &b)?;
+    let domain = type_variable(alloc, "A")?;
+    let range = type_variable(alloc, "B")?;
     Ty::fun(alloc, &domain, &range)
 }
 
@@ -39,15 +47,25 @@ fn function(alloc: Global) -> Result<Variable, AllocError>
 }
 
 // What the definition of a property of functions says of `f`.
+fn unfold_at(alloc: Global, definition: &Thm, f: &Variable) -> Result<Thm, AllocError>
+    requires over { definition.now.basis ≡ no_items }
+    requires function { f.now ≡ function }
+    requires is { concl_of definition.now ≡ defining (fun_type var_a var_b) bool_type (concl_of definition.now) }
+    ensures { IfOk result (λ th. th ≡ theorem_on no_items (unfolded (free function) definition.now.sequent)) }
+{
+    let range = bool_type(alloc)?;
+    let x = occurrence(alloc, f)?;
+    unfold(alloc, definition, f.ty(), &range, &x)
+}
+
+// The same of a property of the prelude.
 fn at_function(alloc: Global, property: Postulate, f: &Variable) -> Result<Thm, AllocError>
     requires function { f.now ≡ function }
     requires is { statement_of property ≡ defining (fun_type var_a var_b) bool_type (statement_of property) }
     ensures { IfOk result (λ th. th ≡ theorem_on no_items (unfolded (free function) (postulate_of property))) }
 {
     let own = Thm::prelude(alloc, property)?;
-    let range = bool_type(alloc)?;
-    let x = occurrence(alloc, f)?;
-    unfold(alloc, &own, f.ty(), &range, &x)
+    unfold_at(alloc, &own, f)
 }
 
 /// ONE_ONE: `!f. ONE_ONE f <=> (!x1 x2. f x1 = f x2 ==> x1 = x2)`.

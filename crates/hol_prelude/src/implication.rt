@@ -2,6 +2,7 @@
 ghost use Rattle.std.specs.Prelude.{◌≡◌, IfOk};
 ghost use Rattle.hol_formulas.specs.Formula.{truth, falsity, conjunction, implication, equivalence, negation};
 ghost use Rattle.hol_kernel.specs.Items.{no_items};
+ghost use Rattle.hol_equal.specs.Applied.{rhs};
 ghost use Rattle.hol_prelude.specs.Deduction.{theorem_of, theorem_under, concl_of, IsFrom, imp_rewrites};
 
 use crate::deduction::{
@@ -24,6 +25,28 @@ pub(crate) fn always(alloc: Global, p: &Thm, q: &Thm) -> Result<Thm, AllocError>
     holds(alloc, &own)
 }
 
+// `((p ==> q) <=> T) /\ r`, from the same and `r`.
+fn always_joined(alloc: Global, p: &Thm, q: &Thm, rest: &Thm) -> Result<Thm, AllocError>
+    requires over { p.now.basis ≡ no_items }
+    requires implied { IsFrom (concl_of p.now) q.now }
+    requires rest { rest.now ≡ theorem_of (concl_of rest.now) }
+    ensures { IfOk result (λ th. th ≡ theorem_of (conjunction (equivalence (implication (concl_of p.now) (concl_of q.now)) truth) (concl_of rest.now))) }
+{
+    let first = always(alloc, p, q)?;
+    both(alloc, &first, rest)
+}
+
+// `{T ==> p} |- p`, for what the first theorem concludes, and `T`.
+fn from_truth_implies(alloc: Global, implies: &Thm, holds: &Thm) -> Result<Thm, AllocError>
+    requires over { implies.now.basis ≡ no_items }
+    requires is { concl_of implies.now ≡ implication truth (rhs (concl_of implies.now)) }
+    requires holds { holds.now ≡ theorem_of truth }
+    ensures { IfOk result (λ th. th ≡ theorem_under (concl_of implies.now) (rhs (concl_of implies.now))) }
+{
+    let all = assumed_conclusion(alloc, implies)?;
+    mp(alloc, &all, holds)
+}
+
 /// `(T ==> p) <=> p`, from `T`, and `p` that assumes `p` alone.
 pub(crate) fn truth_implies(alloc: Global, holds: &Thm, p: &Thm) -> Result<Thm, AllocError>
     requires holds { holds.now ≡ theorem_of truth }
@@ -31,9 +54,19 @@ pub(crate) fn truth_implies(alloc: Global, holds: &Thm, p: &Thm) -> Result<Thm, 
     ensures { IfOk result (λ th. th ≡ theorem_of (equivalence (implication truth (concl_of p.now)) (concl_of p.now))) }
 {
     let back = disch(alloc, holds.concl(), p)?;
-    let all = assumed_conclusion(alloc, &back)?;
-    let own = mp(alloc, &all, holds)?;
+    let own = from_truth_implies(alloc, &back, holds)?;
     equivalent(alloc, &back, &own)
+}
+
+// `((T ==> p) <=> p) /\ r`, from the same and `r`.
+fn truth_implies_joined(alloc: Global, holds: &Thm, p: &Thm, rest: &Thm) -> Result<Thm, AllocError>
+    requires holds { holds.now ≡ theorem_of truth }
+    requires own { IsFrom (concl_of p.now) p.now }
+    requires rest { rest.now ≡ theorem_of (concl_of rest.now) }
+    ensures { IfOk result (λ th. th ≡ theorem_of (conjunction (equivalence (implication truth (concl_of p.now)) (concl_of p.now)) (concl_of rest.now))) }
+{
+    let first = truth_implies(alloc, holds, p)?;
+    both(alloc, &first, rest)
 }
 
 // `(p ==> F) <=> ~p`, for what the theorem concludes.
@@ -52,24 +85,29 @@ fn with_truth(alloc: Global, p: &Thm, rest: &Thm) -> Result<Thm, AllocError>
     ensures { IfOk result (λ th. th ≡ theorem_of (conjunction (equivalence (implication truth (concl_of p.now)) (concl_of p.now)) (conjunction (equivalence (implication (concl_of p.now) truth) truth) (concl_of rest.now)))) }
 {
     let holds = truth(alloc)?;
-    let left = truth_implies(alloc, &holds, p)?;
-    let right = always(alloc, p, &holds)?;
-    let tail = both(alloc, &right, rest)?;
-    both(alloc, &left, &tail)
+    let tail = always_joined(alloc, p, &holds, rest)?;
+    truth_implies_joined(alloc, &holds, p, &tail)
 }
 
-// `(F ==> p <=> T) /\ (p ==> p <=> T) /\ r`, from `{p} |- p`, `{F} |- p` and `r`.
-fn with_itself(alloc: Global, p: &Thm, any: &Thm, rest: &Thm) -> Result<Thm, AllocError>
+// `(F ==> p <=> T) /\ r`, from a theorem that concludes `p`, and `r`.
+fn with_falsity(alloc: Global, p: &Thm, rest: &Thm) -> Result<Thm, AllocError>
+    requires over { p.now.basis ≡ no_items }
+    requires rest { rest.now ≡ theorem_of (concl_of rest.now) }
+    ensures { IfOk result (λ th. th ≡ theorem_of (conjunction (equivalence (implication falsity (concl_of p.now)) truth) (concl_of rest.now))) }
+{
+    let own = assumed_falsity(alloc)?;
+    let any = absurd(alloc, p)?;
+    always_joined(alloc, &own, &any, rest)
+}
+
+// `(F ==> p <=> T) /\ (p ==> p <=> T) /\ r`, from `{p} |- p` and `r`.
+fn with_itself(alloc: Global, p: &Thm, rest: &Thm) -> Result<Thm, AllocError>
     requires own { IsFrom (concl_of p.now) p.now }
-    requires absurd { any.now ≡ theorem_under falsity (concl_of p.now) }
     requires rest { rest.now ≡ theorem_of (concl_of rest.now) }
     ensures { IfOk result (λ th. th ≡ theorem_of (conjunction (equivalence (implication falsity (concl_of p.now)) truth) (conjunction (equivalence (implication (concl_of p.now) (concl_of p.now)) truth) (concl_of rest.now)))) }
 {
-    let own = assumed_falsity(alloc)?;
-    let left = always(alloc, &own, any)?;
-    let right = always(alloc, p, p)?;
-    let tail = both(alloc, &right, rest)?;
-    both(alloc, &left, &tail)
+    let tail = always_joined(alloc, p, p, rest)?;
+    with_falsity(alloc, p, &tail)
 }
 
 /// The rewrites of `p` beside truth values and itself, from `{p} |- p`.
@@ -78,7 +116,6 @@ pub(crate) fn imp_rewrites(alloc: Global, p: &Thm) -> Result<Thm, AllocError>
     ensures { IfOk result (λ th. th ≡ theorem_of (imp_rewrites (concl_of p.now))) }
 {
     let last = implies_falsity(alloc, p)?;
-    let any = absurd(alloc, p)?;
-    let rest = with_itself(alloc, p, &any, &last)?;
+    let rest = with_itself(alloc, p, &last)?;
     with_truth(alloc, p, &rest)
 }

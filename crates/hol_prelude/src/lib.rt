@@ -12,6 +12,5 @@ mod implication;
 mod negation;
 mod prelude;
 mod rewrites;
-mod unfolding;
 
 pub use prelude::Prelude;

@@ -3,9 +3,11 @@ ghost use Rattle.std.specs.Prelude.{◌≡◌, IfOk};
 ghost use Rattle.hol_formulas.specs.Formula.{falsity, implication, equivalence, negation};
 ghost use Rattle.hol_kernel.specs.Items.{no_items};
 ghost use Rattle.hol_kernel.specs.Theorem.{theorem_over};
+ghost use Rattle.hol_equal.specs.Applied.{rhs};
 ghost use Rattle.hol_prelude.specs.Deduction.{theorem_of, concl_of};
 
-use crate::unfolding::unfold;
+use crate::deduction::chained;
+use hol_bool::unfold;
 use hol_equal::applied::{eq_mp, sym};
 use hol_formulas::bool_type;
 use hol_kernel::{Postulate, Thm};
@@ -31,4 +33,14 @@ pub(crate) fn denied(alloc: Global, p: &Thm, implies: &Thm) -> Result<Thm, Alloc
     let own = negation_unfolded(alloc, p)?;
     let back = sym(alloc, &own)?;
     eq_mp(alloc, &back, implies)
+}
+
+/// `~p <=> q`, from a theorem that concludes `p`, and `(p ==> F) <=> q`.
+pub(crate) fn denial(alloc: Global, p: &Thm, implied: &Thm) -> Result<Thm, AllocError>
+    requires over { p.now.basis ≡ no_items }
+    requires is { implied.now ≡ theorem_of (equivalence (implication (concl_of p.now) falsity) (rhs (concl_of implied.now))) }
+    ensures { IfOk result (λ th. th ≡ theorem_of (equivalence (negation (concl_of p.now)) (rhs (concl_of implied.now)))) }
+{
+    let unfolded = negation_unfolded(alloc, p)?;
+    chained(alloc, &unfolded, implied)
 }

@@ -43,11 +43,8 @@ impl Prelude {
         ensures { IfOk result (λ prelude. prelude ≡ prelude_theorems) }
     {
         let mut theorems = Vec::new(alloc);
-        add_connectives(alloc, &mut theorems)?;
-        add_axioms(alloc, &mut theorems)?;
-        add_functions(alloc, &mut theorems)?;
-        add_first_rewrites(alloc, &mut theorems)?;
-        add_last_rewrites(alloc, &mut theorems)?;
+        add_given(alloc, &mut theorems)?;
+        add_rewrites(alloc, &mut theorems)?;
         Ok(Prelude { theorems })
     }
 
@@ -144,6 +141,15 @@ fn add_functions(alloc: Global, theorems: &mut Vec<(Name, Thm)>) -> Result<(), A
     add(alloc, theorems, "TRUTH", truth(alloc)?)
 }
 
+// T_DEF to TRUTH.
+fn add_given(alloc: Global, theorems: &mut Vec<(Name, Thm)>) -> Result<(), AllocError>
+    ensures { IfOk result (λ _. theorems.new.items ≡ theorems.old.items ++ named_theorems (take 15 prelude_statements)) }
+{
+    add_connectives(alloc, theorems)?;
+    add_axioms(alloc, theorems)?;
+    add_functions(alloc, theorems)
+}
+
 // REFL_CLAUSE to NOT_CLAUSES_WEAK.
 fn add_first_rewrites(alloc: Global, theorems: &mut Vec<(Name, Thm)>) -> Result<(), AllocError>
     ensures { IfOk result (λ _. theorems.new.items ≡ theorems.old.items ++ named_theorems (take 3 (drop 15 prelude_statements))) }
@@ -165,4 +171,12 @@ fn add_last_rewrites(alloc: Global, theorems: &mut Vec<(Name, Thm)>) -> Result<(
     add(alloc, theorems, "AND_CLAUSES", and_clauses(alloc)?)?;
     add(alloc, theorems, "OR_CLAUSES", or_clauses(alloc)?)?;
     add(alloc, theorems, "IMP_CLAUSES", imp_clauses(alloc)?)
+}
+
+// The basic rewrites.
+fn add_rewrites(alloc: Global, theorems: &mut Vec<(Name, Thm)>) -> Result<(), AllocError>
+    ensures { IfOk result (λ _. theorems.new.items ≡ theorems.old.items ++ named_theorems (drop 15 prelude_statements)) }
+{
+    add_first_rewrites(alloc, theorems)?;
+    add_last_rewrites(alloc, theorems)
 }

@@ -2,25 +2,27 @@
 ghost use Rattle.std.specs.Prelude.{◌≡◌, IfOk, true, codes};
 ghost use Rattle.hol_terms.specs.Nameless.{free};
 ghost use Rattle.hol_formulas.specs.Equation.{equation};
-ghost use Rattle.hol_formulas.specs.Formula.{truth, falsity, conjunction, equivalence, negation};
+ghost use Rattle.hol_formulas.specs.Formula.{truth, falsity, implication, equivalence, negation};
 ghost use Rattle.hol_formulas.specs.Prelude.{boolean, element};
 ghost use Rattle.hol_kernel.specs.Items.{no_items};
 ghost use Rattle.hol_kernel.specs.Typing.{is_type};
-ghost use Rattle.hol_prelude.specs.Deduction.{theorem_of, theorem_under};
+ghost use Rattle.hol_kernel.specs.Theorem.{theorem_on};
+ghost use Rattle.hol_bool.specs.Applied.{generalized};
+ghost use Rattle.hol_prelude.specs.Deduction.{theorem_of, theorem_under, concl_of};
 ghost use Rattle.hol_prelude.specs.Statements.{stated, refl_clause, eq_clauses, not_clauses_weak, and_clauses, or_clauses, imp_clauses};
 
 use crate::conjunction::conj_rewrites;
-use crate::deduction::{assumed, assumed_falsity, both, chained, truth};
+use crate::deduction::{assumed, assumed_falsity, both, truth};
 use crate::disjunction::disj_rewrites;
 use crate::equality::eq_rewrites;
+use crate::functions::type_variable;
 use crate::implication::{always, imp_rewrites, truth_implies};
-use crate::negation::negation_unfolded;
+use crate::negation::denial;
 use hol_bool::applied::{eqt_intro, generalize};
 use hol_equal::applied::refl;
 use hol_formulas::{bool_type, occurrence, variable};
 use hol_kernel::{Basis, Thm};
 use hol_terms::Variable;
-use hol_types::{Name, Ty};
 use std::alloc::{AllocError, Global};
 
 // `t:bool`.
@@ -44,8 +46,7 @@ fn assumed_truth_value(alloc: Global) -> Result<Thm, AllocError>
 fn any_element(alloc: Global) -> Result<Variable, AllocError>
     ensures { IfOk result (λ v. v ≡ element (codes "x")) }
 {
-    let name = Name::new(alloc, "A")?;
-    let ty = Ty::var(alloc, &name)?;
+    let ty = type_variable(alloc, "A")?;
     variable(alloc, "x", &ty)
 }
 
@@ -59,24 +60,49 @@ fn itself(alloc: Global, v: &Variable) -> Result<Thm, AllocError>
     refl(alloc, &basis, v.ty(), &x)
 }
 
+// `x = x <=> T`, for the same.
+fn itself_holds(alloc: Global, v: &Variable) -> Result<Thm, AllocError>
+    requires { is_type no_items v.now.1 ≡ true }
+    ensures { IfOk result (λ th. th ≡ theorem_of (equivalence (equation v.now.1 (free v.now) (free v.now)) truth)) }
+{
+    let same = itself(alloc, v)?;
+    eqt_intro(alloc, &same)
+}
+
 /// REFL_CLAUSE: `!x:A. x = x <=> T`.
 pub(crate) fn refl_clause(alloc: Global) -> Result<Thm, AllocError>
     ensures { IfOk result (λ th. th ≡ stated refl_clause) }
 {
     let x = any_element(alloc)?;
-    let same = itself(alloc, &x)?;
-    let holds = eqt_intro(alloc, &same)?;
+    let holds = itself_holds(alloc, &x)?;
     generalize(alloc, &x, &holds)
+}
+
+// `!t. p`, from `p`.
+fn for_truth_values(alloc: Global, p: &Thm) -> Result<Thm, AllocError>
+    requires { p.now ≡ theorem_of (concl_of p.now) }
+    ensures { IfOk result (λ th. th ≡ theorem_on no_items (generalized (boolean (codes "t")) p.now.sequent)) }
+{
+    let t = truth_value(alloc)?;
+    generalize(alloc, &t, p)
 }
 
 /// EQ_CLAUSES: the rewrites of `<=>`.
 pub(crate) fn eq_clauses(alloc: Global) -> Result<Thm, AllocError>
     ensures { IfOk result (λ th. th ≡ stated eq_clauses) }
 {
-    let t = truth_value(alloc)?;
     let own = assumed_truth_value(alloc)?;
     let all = eq_rewrites(alloc, &own)?;
-    generalize(alloc, &t, &all)
+    for_truth_values(alloc, &all)
+}
+
+// `(T ==> F) <=> F`, from `T`.
+fn truth_implies_falsity(alloc: Global, holds: &Thm) -> Result<Thm, AllocError>
+    requires { holds.now ≡ theorem_of truth }
+    ensures { IfOk result (λ th. th ≡ theorem_of (equivalence (implication truth falsity) falsity)) }
+{
+    let own = assumed_falsity(alloc)?;
+    truth_implies(alloc, holds, &own)
 }
 
 // `~T <=> F`.
@@ -84,10 +110,8 @@ fn not_truth(alloc: Global) -> Result<Thm, AllocError>
     ensures { IfOk result (λ th. th ≡ theorem_of (equivalence (negation truth) falsity)) }
 {
     let holds = truth(alloc)?;
-    let own = assumed_falsity(alloc)?;
-    let unfolded = negation_unfolded(alloc, &holds)?;
-    let implied = truth_implies(alloc, &holds, &own)?;
-    chained(alloc, &unfolded, &implied)
+    let implied = truth_implies_falsity(alloc, &holds)?;
+    denial(alloc, &holds, &implied)
 }
 
 // `~F <=> T`.
@@ -95,9 +119,8 @@ fn not_falsity(alloc: Global) -> Result<Thm, AllocError>
     ensures { IfOk result (λ th. th ≡ theorem_of (equivalence (negation falsity) truth)) }
 {
     let own = assumed_falsity(alloc)?;
-    let unfolded = negation_unfolded(alloc, &own)?;
     let implied = always(alloc, &own, &own)?;
-    chained(alloc, &unfolded, &implied)
+    denial(alloc, &own, &implied)
 }
 
 /// NOT_CLAUSES_WEAK: the rewrites of `~T` and `~F`.
@@ -113,28 +136,25 @@ pub(crate) fn not_clauses_weak(alloc: Global) -> Result<Thm, AllocError>
 pub(crate) fn and_clauses(alloc: Global) -> Result<Thm, AllocError>
     ensures { IfOk result (λ th. th ≡ stated and_clauses) }
 {
-    let t = truth_value(alloc)?;
     let own = assumed_truth_value(alloc)?;
     let all = conj_rewrites(alloc, &own)?;
-    generalize(alloc, &t, &all)
+    for_truth_values(alloc, &all)
 }
 
 /// OR_CLAUSES: the rewrites of `\/`.
 pub(crate) fn or_clauses(alloc: Global) -> Result<Thm, AllocError>
     ensures { IfOk result (λ th. th ≡ stated or_clauses) }
 {
-    let t = truth_value(alloc)?;
     let own = assumed_truth_value(alloc)?;
     let all = disj_rewrites(alloc, &own)?;
-    generalize(alloc, &t, &all)
+    for_truth_values(alloc, &all)
 }
 
 /// IMP_CLAUSES: the rewrites of `==>`.
 pub(crate) fn imp_clauses(alloc: Global) -> Result<Thm, AllocError>
     ensures { IfOk result (λ th. th ≡ stated imp_clauses) }
 {
-    let t = truth_value(alloc)?;
     let own = assumed_truth_value(alloc)?;
     let all = imp_rewrites(alloc, &own)?;
-    generalize(alloc, &t, &all)
+    for_truth_values(alloc, &all)
 }

@@ -5,8 +5,8 @@ use Rattle.hol_terms.specs.Nameless.{Nameless}
 use Rattle.hol_terms.specs.Alpha.{strip}
 use Rattle.hol_types.specs.Equal.{type_eq}
 use Rattle.hol_formulas.specs.Equation.{bool_type, equation, Sides, dest_eq}
-use Rattle.hol_formulas.specs.Formula.{connective_type, implication, is_falsity, dest_conj, dest_disj}
-use Rattle.hol_formulas.proofs.FormulaLaws.{dest_binary_is, is_constant_is}
+use Rattle.hol_formulas.specs.Formula.{connective_type, negation_type, falsity, implication, is_falsity, dest_conj, dest_disj, dest_imp, dest_neg}
+use Rattle.hol_formulas.proofs.FormulaLaws.{dest_unary_is, dest_binary_is, is_constant_is}
 use Rattle.hol_formulas.proofs.TypeTests.{same_type}
 use Rattle.hol_kernel.specs.Given.{Given, given_sequent}
 use Rattle.hol_kernel.specs.Sequent.{Hyps}
@@ -14,8 +14,8 @@ use Rattle.hol_kernel.proofs.Sound.{sides_is}
 use Rattle.hol_goal.specs.Goal.{GoalValue}
 use Rattle.hol_goal.specs.Achieves.{AreAllowed}
 use Rattle.hol_just.specs.Valid.{IsValid}
-use Rattle.hol_just.specs.Leaving.{concluding}
-use Rattle.hol_just.specs.Justifies.{goal_at, always, holds_given, ClosesEquation, ClosesByFalsity, SplitsConjunction, SplitsIntoImplications, LeavesLeft, LeavesRight}
+use Rattle.hol_just.specs.Leaving.{concluding, assuming}
+use Rattle.hol_just.specs.Justifies.{goal_at, always, holds_given, ClosesEquation, ClosesByFalsity, SplitsConjunction, SplitsIntoImplications, LeavesLeft, LeavesRight, LeavesConsequent, LeavesRefutation}
 use Rattle.hol_just.specs.declared.reason.Move.{Move}
 
 -- the conclusion, as the code has it
@@ -42,6 +42,18 @@ module _ (extra : Hyps) (goal : GoalValue) (w : Nameless) (same : w ≡ goal.con
       subst (λ (g : Nameless). IsValid always extra moves (goal_at goal.assumptions g ∷ []) (concluding goal q ∷ []))
       (sym (dest_binary_is (codes "\\/") connective_type w (p, q) is) ∙ same)
       (leaves extra goal.assumptions q)
+
+  pub disch_valid : (p q : Nameless) → dest_imp w ≡ Some (p, q) → LeavesConsequent p moves → IsValid always extra moves (goal ∷ []) (assuming goal p q ∷ [])
+  disch_valid p q is leaves =
+      subst (λ (g : Nameless). IsValid always extra moves (goal_at goal.assumptions g ∷ []) (assuming goal p q ∷ []))
+      (sym (dest_binary_is (codes "==>") connective_type w (p, q) is) ∙ same)
+      (leaves extra goal.assumptions q)
+
+  pub disch_neg_valid : (p : Nameless) → dest_neg w ≡ Some p → LeavesRefutation p moves → IsValid always extra moves (goal ∷ []) (assuming goal p falsity ∷ [])
+  disch_neg_valid p is leaves =
+      subst (λ (g : Nameless). IsValid always extra moves (goal_at goal.assumptions g ∷ []) (assuming goal p falsity ∷ []))
+      (sym (dest_unary_is (codes "~") negation_type w p is) ∙ same)
+      (leaves extra goal.assumptions)
 
   pub eq_valid :
       (x : Sides) → dest_eq w ≡ Some x → type_eq x.sides_type bool_type ≡ true → SplitsIntoImplications moves →

@@ -3,16 +3,16 @@ ghost use Rattle.std.specs.Prelude.{◌≡◌, ◌∷◌, IfOk, Some, []};
 ghost use Rattle.hol_terms.specs.Named.{named_type};
 ghost use Rattle.hol_terms.specs.Nameless.{nameless};
 ghost use Rattle.hol_formulas.specs.Equation.{bool_type};
-ghost use Rattle.hol_formulas.specs.Formula.{implication};
+ghost use Rattle.hol_formulas.specs.Formula.{falsity, implication};
 ghost use Rattle.hol_kernel.specs.Given.{given_sequent};
 ghost use Rattle.hol_goal.specs.ArgumentsView.{args_value};
 ghost use Rattle.hol_goal.specs.declared.tac_code.TacCode.TheVariants as code;
-ghost use Rattle.hol_just.specs.Leaving.{concluding};
-ghost use Rattle.hol_just.specs.Justifies.{SplitsConjunction, LeavesLeft, LeavesRight, LeavesImplication};
+ghost use Rattle.hol_just.specs.Leaving.{concluding, assuming};
+ghost use Rattle.hol_just.specs.Justifies.{SplitsConjunction, LeavesLeft, LeavesRight, LeavesConsequent, LeavesRefutation, LeavesImplication};
 ghost use Rattle.hol_just.specs.Answering.{AnswersCode, IsJustified};
 
-use crate::steps::{closing, implying, leaving_one, leaving_two};
-use hol_formulas::{dest_conj, dest_disj, is_falsity};
+use crate::steps::{assume, closing, implying, leaving_one, leaving_two};
+use hol_formulas::{dest_conj, dest_disj, dest_imp, dest_neg, is_falsity, mk_falsity};
 use hol_goal::{Goal, TacArgs};
 use hol_just::{Just, Step, TacFault, Tried};
 use hol_kernel::Given;
@@ -63,6 +63,48 @@ fn conj_step(alloc: Global, goal: &Goal, p: &Term, q: &Term) -> Result<Step, All
     let second = goal.with_conclusion(alloc, q)?;
     let just = Just::conj_tac(alloc)?;
     leaving_two(alloc, first, second, just)
+}
+
+/// DISCH_TAC assumes `p` of `p ==> q`, which leaves `q`, and of `~p`, which leaves `F`.
+pub fn disch_tac(alloc: Global, args: &TacArgs, goal: &Goal, turns: u32) -> Result<Tried, TacFault>
+    ensures answer { AnswersCode code.DischTac (args_value args.now) goal.now turns result }
+    ensures valid { IfOk result (λ tried. IsJustified (args_value args.now) goal.now tried.step) }
+{
+    let TacArgs::Nothing = args else {
+        return Err(TacFault::Refused(turns));
+    };
+    if let Some((p, q)) = dest_imp(goal.conclusion()) {
+        let step = disch_step(alloc, goal, p, q)?;
+        return Ok(Tried { step, left: turns });
+    }
+    let Some(p) = dest_neg(goal.conclusion()) else {
+        return Err(TacFault::Refused(turns));
+    };
+    let step = disch_neg_step(alloc, goal, p)?;
+    Ok(Tried { step, left: turns })
+}
+
+// The step to the consequent of an implication.
+fn disch_step(alloc: Global, goal: &Goal, p: &Term, q: &Term) -> Result<Step, AllocError>
+    requires antecedent { named_type p.now ≡ Some bool_type }
+    requires consequent { named_type q.now ≡ Some bool_type }
+    ensures goals { IfOk result (λ step. step.goals.items ≡ assuming goal.now (nameless [] p.now) (nameless [] q.now) ∷ []) }
+    ensures just { IfOk result (λ step. LeavesConsequent (nameless [] p.now) step.just) }
+{
+    let left = assume(alloc, goal, p, q)?;
+    let just = Just::disch_tac(alloc, p)?;
+    leaving_one(alloc, left, just)
+}
+
+// The step to falsity, of a negation.
+fn disch_neg_step(alloc: Global, goal: &Goal, p: &Term) -> Result<Step, AllocError>
+    requires { named_type p.now ≡ Some bool_type }
+    ensures goals { IfOk result (λ step. step.goals.items ≡ assuming goal.now (nameless [] p.now) falsity ∷ []) }
+    ensures just { IfOk result (λ step. LeavesRefutation (nameless [] p.now) step.just) }
+{
+    let left = assume(alloc, goal, p, &mk_falsity(alloc)?)?;
+    let just = Just::disch_neg_tac(alloc, p)?;
+    leaving_one(alloc, left, just)
 }
 
 /// CONTR_TAC closes the goal by a theorem `F`.

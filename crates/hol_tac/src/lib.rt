@@ -5,6 +5,7 @@
 
 mod applications;
 mod assumptions;
+mod by_code;
 mod connectives;
 mod equations;
 mod quantifiers;
@@ -13,7 +14,8 @@ mod trivial;
 
 pub use applications::{ap_term_tac, ap_thm_tac, mk_comb_tac};
 pub use assumptions::undisch_tac;
-pub use connectives::{accept_tac, conj_tac, contr_tac, disj1_tac, disj2_tac, mp_tac};
+pub use by_code::tac;
+pub use connectives::{accept_tac, conj_tac, contr_tac, disch_tac, disj1_tac, disj2_tac, mp_tac};
 pub use equations::{eq_tac, refl_tac};
 pub use quantifiers::{exists_tac, gen_tac, x_gen_tac};
 pub use trivial::{all_tac, no_tac};

@@ -4,8 +4,9 @@ ghost use Rattle.hol_terms.specs.Named.{named_type};
 ghost use Rattle.hol_terms.specs.Nameless.{nameless};
 ghost use Rattle.hol_formulas.specs.Equation.{bool_type};
 ghost use Rattle.hol_formulas.specs.Formula.{implication};
-ghost use Rattle.hol_just.specs.Leaving.{concluding};
+ghost use Rattle.hol_just.specs.Leaving.{concluding, assuming};
 
+use crate::assumptions::add_copies;
 use hol_formulas::mk_imp;
 use hol_goal::Goal;
 use hol_just::{Just, Step};
@@ -57,4 +58,16 @@ pub(crate) fn implying(alloc: Global, goal: &Goal, p: &Term, q: &Term) -> Result
 {
     let conclusion = mk_imp(alloc, p, q)?;
     goal.with_conclusion(alloc, &conclusion)
+}
+
+/// The goal with the conclusion `q`, and `p` as its newest assumption.
+pub(crate) fn assume(alloc: Global, goal: &Goal, p: &Term, q: &Term) -> Result<Goal, AllocError>
+    requires assumption { named_type p.now ≡ Some bool_type }
+    requires conclusion { named_type q.now ≡ Some bool_type }
+    ensures { IfOk result (λ g. g ≡ assuming goal.now (nameless [] p.now) (nameless [] q.now)) }
+{
+    let mut assumptions = Vec::new(alloc);
+    assumptions.push(p.copy()?)?;
+    add_copies(&mut assumptions, goal.assumptions())?;
+    Ok(Goal::new(assumptions, q.copy()?))
 }

@@ -1,4 +1,4 @@
-use Rattle.hol_equal.proofs.RuleLaws.{ap_term_monotone, ap_thm_monotone, alpha_monotone, beta_conv_monotone}
+use Rattle.hol_equal.proofs.RuleLaws.{ap_term_monotone, ap_thm_monotone, alpha_monotone, beta_conv_monotone, subst_monotone}
 use Rattle.hol_equal.proofs.laws.rules_widen.Goals as goal
 
 pub returns-clause-ap_term : goal.returns-clause-ap_term
@@ -12,3 +12,6 @@ returns-clause-alpha c = λ s t. alpha_monotone s t
 
 pub returns-clause-beta_conv : goal.returns-clause-beta_conv
 returns-clause-beta_conv c = λ t. beta_conv_monotone t
+
+pub returns-clause-subst : goal.returns-clause-subst
+returns-clause-subst c = λ a v m b. subst_monotone a v m b

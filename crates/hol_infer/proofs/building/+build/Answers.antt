@@ -1,16 +1,16 @@
 use Rattle.std.proofs.Common.{◌≡◌, map, length, sym, subst, ap, ◌∙◌, rules, List, ℕ, ◌∷◌}
 use Rattle.std.proofs.lemmas.Result.{IfOk-weaker}
 use Rattle.hol_types.specs.Tree.{TypeTree}
-use Rattle.hol_terms.specs.Named.{var, constant}
+use Rattle.hol_terms.specs.Named.{var, constant, abs}
 use Rattle.hol_terms.specs.Scope.{binders}
-use Rattle.hol_terms.specs.Nameless.{nameless, base_of}
+use Rattle.hol_terms.specs.Nameless.{nameless, bound, base_of}
 use Rattle.hol_infer.specs.RawView.{slot_tree}
 use Rattle.hol_infer.specs.SlotTree.{SlotTree, SlotBound, SlotConstant, SlotFree, SlotApply, SlotAbstraction, typed, AreSlotsIn}
 use Rattle.hol_infer.specs.Scoped.{IsSlotScoped}
 use Rattle.hol_infer.specs.Found.{types_at}
 use Rattle.hol_infer.specs.Holes.{open_type}
 use Rattle.hol_infer.specs.Solved.{IsWellTyped}
-use Rattle.hol_infer.proofs.Named.{bound_place, bound_there, free_place, typed_function, typed_argument, typed_body, comb_fits, only_memory, function_falls, argument_falls, body_falls}
+use Rattle.hol_infer.proofs.Named.{free_place, abstraction_built, typed_function, typed_argument, typed_body, comb_fits, only_memory, function_falls, argument_falls, body_falls}
 use Rattle.hol_infer.proofs.building.+build.Goals as goal
 
 pub build-requires : goal.build-requires
@@ -68,17 +68,19 @@ build-requires-in-Abstraction t c =
       ),
     )
 
-pub returns-in_ok-var-in-Some-clause-ok : goal.returns-in_ok-var-in-Some-clause-ok
-returns-in_ok-var-in-Some-clause-ok t c =
+pub bound_at-requires : goal.bound_at-requires
+bound_at-requires t c =
     let e : slot_tree c.args.term.now ≡ SlotBound c.in-Bound.index = ap slot_tree c.in-Bound.is in
-    ap (nameless (binders c.args.scope.now)) c.in_ok-var-in-Some.ensures
-    ∙ bound_place (binders c.args.scope.now) c.in-Bound.index c.in-Some.variable.now (subst (λ (s : SlotTree). IsSlotScoped (map (λ v. v.0) (binders c.args.scope.now)) s) e c.requires.scoped) c.in-Some.ensures
-    ∙ sym (ap (typed (types_at c.args.shapes.now (open_type c.args.order.now))) e)
+    subst (λ (s : SlotTree). IsSlotScoped (map (λ v. v.0) (binders c.args.scope.now)) s) e c.requires.scoped
 
-pub returns-in-None-clause-memory : goal.returns-in-None-clause-memory
-returns-in-None-clause-memory t c =
+pub returns-in-Bound-clause-ok : goal.returns-in-Bound-clause-ok
+returns-in-Bound-clause-ok t c =
     let e : slot_tree c.args.term.now ≡ SlotBound c.in-Bound.index = ap slot_tree c.in-Bound.is in
-    absurd (bound_there (binders c.args.scope.now) c.in-Bound.index (subst (λ (s : SlotTree). IsSlotScoped (map (λ v. v.0) (binders c.args.scope.now)) s) e c.requires.scoped) c.in-None.ensures)
+    IfOk-weaker c.bound_at.result
+    (λ r. nameless (binders c.args.scope.now) r ≡ bound c.in-Bound.index)
+    (λ r. nameless (binders c.args.scope.now) r ≡ typed (types_at c.args.shapes.now (open_type c.args.order.now)) (slot_tree c.args.term.now))
+    (λ r is. is ∙ sym (ap (typed (types_at c.args.shapes.now (open_type c.args.order.now))) e))
+    c.bound_at.ensures.ok
 
 pub returns-in-Constant-clause-ok : goal.returns-in-Constant-clause-ok
 returns-in-Constant-clause-ok t c =
@@ -111,3 +113,14 @@ returns-in_ok-right-in-Apply-clause-memory t c =
     (typed (types_at c.args.shapes.now (open_type c.args.order.now)) (slot_tree c.in-Apply.function.value)) (typed (types_at c.args.shapes.now (open_type c.args.order.now)) (slot_tree c.in-Apply.argument.value))
     left_is right_is whole (c.comb.ensures.fits.0 bad))
     (λ bad. c.comb.ensures.no_other bad)
+
+pub returns-in_ok-inner-in-Abstraction-clause-ok : goal.returns-in_ok-inner-in-Abstraction-clause-ok
+returns-in_ok-inner-in-Abstraction-clause-ok t c =
+    let e : slot_tree c.args.term.now ≡ SlotAbstraction c.in-Abstraction.name c.in-Abstraction.slot (slot_tree c.in-Abstraction.body.value) = ap slot_tree c.in-Abstraction.is in
+    let inner_is = c.in_ok-inner-in-Abstraction.ensures.ok ∙ ap (λ (s : SlotTree). typed (types_at c.args.shapes.now (open_type c.args.order.now)) s) (ap slot_tree c.deref-in-Abstraction.ensures) in
+    IfOk-weaker c.abstracted.result
+    (λ r. r ≡ abs c.in_ok-variable-in-Abstraction.variable c.in_ok-inner-in-Abstraction.inner)
+    (λ r. nameless (binders c.args.scope.now) r ≡ typed (types_at c.args.shapes.now (open_type c.args.order.now)) (slot_tree c.args.term.now))
+    (λ r is. abstraction_built (types_at c.args.shapes.now (open_type c.args.order.now)) (binders c.args.scope.now) (slot_tree c.args.term.now) c.in-Abstraction.name c.in-Abstraction.slot (slot_tree c.in-Abstraction.body.value)
+    c.in_ok-variable-in-Abstraction.variable c.in_ok-inner-in-Abstraction.inner r e c.in_ok-variable-in-Abstraction.ensures inner_is is)
+    c.abstracted.ensures.ok

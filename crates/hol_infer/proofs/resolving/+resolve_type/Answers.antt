@@ -1,6 +1,6 @@
 use Rattle.std.proofs.Common.{◌≡◌, length, true, false, rules, arith}
 use Rattle.std.proofs.lemmas.Grind.{common_steps}
-use Rattle.std.proofs.lemmas.Result.{err_from_is_err_and}
+use Rattle.std.proofs.lemmas.Result.{IfOk-weaker, err_from_is_err_and}
 use Rattle.hol_types.specs.Tree.{TyApp, type_list}
 use Rattle.hol_infer.specs.Resolving.{arity_of, takes}
 use Rattle.hol_infer.proofs.Resolved.{text_falls, wrong_count, wrong_argument, right_step, types_step, whole_type}
@@ -28,10 +28,13 @@ loop-arg-preserved t c = record {
   right = right_step c.args.arities.now c.deref-arg-items.result.now c.loop-arg.arg-index c.arg-item.result c.loop-arg-test.true c.arg-item.is c.loop-arg.invariant.right c.in_ok-ty-in-Apply.ensures.ok.1;
 }
 
-pub returns-in_ok-ty-in-Apply-2-clause-ok : goal.returns-in_ok-ty-in-Apply-2-clause-ok
-returns-in_ok-ty-in-Apply-2-clause-ok t c =
+pub returns-after-loop-arg-clause-ok : goal.returns-after-loop-arg-clause-ok
+returns-after-loop-arg-clause-ok t c =
     let n : c.len.result ≡ length c.in-Apply.args.items = omega (arith, c.len.ensures, c.in-Apply.args.ok.0) in
     let f : takes (arity_of c.args.arities.now c.as_str-in-Apply.result.now) c.len.result ≡ true = first_of (search rules, grind (arith, common_steps)) in
-    let r : c.in_ok-ty-in-Apply-2.ty ≡ TyApp c.as_str-in-Apply.result.now (type_list c.loop-arg.types.items) = cc (c.in_ok-ty-in-Apply-2.ensures, c.as_str-in-Apply-2.ensures.value, c.as_str-in-Apply.ensures.value, c.deref.ensures.value) in
-    whole_type c.args.arities.now c.args.ty.now _ c.as_str-in-Apply.result.now c.in-Apply.args.items c.deref-arg-items.result.now c.loop-arg.types.items c.len.result c.loop-arg.arg-index c.in_ok-ty-in-Apply-2.ty
-    (rw c.in-Apply.is at c.node.ensures) c.as_str-in-Apply.ensures.value n f c.deref-arg-items.ensures.value c.loop-arg-test.false c.loop-arg.invariant.types c.loop-arg.invariant.right r
+    IfOk-weaker c.constructed.result _ _
+    (λ ty is.
+    let r : ty ≡ TyApp c.as_str-in-Apply.result.now (type_list c.loop-arg.types.items) = cc (is, c.as_str-in-Apply-2.ensures.value, c.as_str-in-Apply.ensures.value, c.deref.ensures.value) in
+    whole_type c.args.arities.now c.args.ty.now _ c.as_str-in-Apply.result.now c.in-Apply.args.items c.deref-arg-items.result.now c.loop-arg.types.items c.len.result c.loop-arg.arg-index ty
+    (rw c.in-Apply.is at c.node.ensures) c.as_str-in-Apply.ensures.value n f c.deref-arg-items.ensures.value c.loop-arg-test.false c.loop-arg.invariant.types c.loop-arg.invariant.right r)
+    c.constructed.ensures.ok

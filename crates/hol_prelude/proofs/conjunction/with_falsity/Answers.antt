@@ -5,25 +5,19 @@ use Rattle.hol_prelude.specs.Deduction.{theorem_of, concl_of}
 use Rattle.hol_prelude.proofs.From.{under_from}
 use Rattle.hol_prelude.proofs.conjunction.with_falsity.Goals as goal
 
-pub implied_on_the_right-requires-clause-own : goal.implied_on_the_right-requires-clause-own
-implied_on_the_right-requires-clause-own c =
-    rw c.in_ok-own.ensures (under_from falsity falsity)
+pub absurd-requires : goal.absurd-requires
+absurd-requires c =
+    record { over = c.requires.over }
 
-pub implied_on_the_right-requires-clause-implied : goal.implied_on_the_right-requires-clause-implied
-implied_on_the_right-requires-clause-implied c =
-    rw (c.in_ok-own.ensures, c.requires.absurd) (under_from falsity (concl_of c.args.p.now))
-
-pub implied_on_the_left-requires-clause-own : goal.implied_on_the_left-requires-clause-own
-implied_on_the_left-requires-clause-own c =
-    rw c.in_ok-own.ensures (under_from falsity falsity)
-
-pub implied_on_the_left-requires-clause-implied : goal.implied_on_the_left-requires-clause-implied
-implied_on_the_left-requires-clause-implied c =
-    rw (c.in_ok-own.ensures, c.requires.absurd) (under_from falsity (concl_of c.args.p.now))
+pub joined_on_both_sides-requires : goal.joined_on_both_sides-requires
+joined_on_both_sides-requires c =
+    rw (c.in_ok-own.ensures, c.in_ok-any.ensures) record { own = under_from falsity falsity; implied = under_from falsity (concl_of c.args.p.now); rest = c.requires.rest }
 
 pub returns : goal.returns
 returns c =
     let p = concl_of c.args.p.now in
     let r = concl_of c.args.rest.now in
-    became c.both-2.result (theorem_of (conjunction (concl_of c.in_ok-right.right) (concl_of c.in_ok-tail.tail))) (theorem_of (conjunction (equivalence (conjunction falsity p) falsity) (conjunction (equivalence (conjunction p falsity) falsity) r))) c.both-2.ensures
-    (rw (c.in_ok-right.ensures, c.in_ok-tail.ensures, c.in_ok-left.ensures, c.in_ok-own.ensures) refl)
+    let o = concl_of c.in_ok-own.own in
+    let a = concl_of c.in_ok-any.any in
+    became c.joined_on_both_sides.result (theorem_of (conjunction (equivalence (conjunction o a) o) (conjunction (equivalence (conjunction a o) o) r))) (theorem_of (conjunction (equivalence (conjunction falsity p) falsity) (conjunction (equivalence (conjunction p falsity) falsity) r))) c.joined_on_both_sides.ensures
+    (rw (c.in_ok-own.ensures, c.in_ok-any.ensures) refl)

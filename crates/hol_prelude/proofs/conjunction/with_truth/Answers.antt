@@ -5,17 +5,17 @@ use Rattle.hol_prelude.specs.Deduction.{theorem_of, concl_of}
 use Rattle.hol_prelude.proofs.From.{of_from}
 use Rattle.hol_prelude.proofs.conjunction.with_truth.Goals as goal
 
-pub implied_on_the_left-requires-clause-implied : goal.implied_on_the_left-requires-clause-implied
-implied_on_the_left-requires-clause-implied c =
-    rw c.in_ok-holds.ensures (of_from (concl_of c.args.p.now) truth)
+pub joined_on_the_right-requires : goal.joined_on_the_right-requires
+joined_on_the_right-requires c =
+    record { own = c.requires.own; implied = rw c.in_ok-holds.ensures (of_from (concl_of c.args.p.now) truth); rest = c.requires.rest }
 
-pub implied_on_the_right-requires-clause-implied : goal.implied_on_the_right-requires-clause-implied
-implied_on_the_right-requires-clause-implied c =
-    rw c.in_ok-holds.ensures (of_from (concl_of c.args.p.now) truth)
+pub joined_on_the_left-requires : goal.joined_on_the_left-requires
+joined_on_the_left-requires c =
+    record { own = c.requires.own; implied = rw c.in_ok-holds.ensures (of_from (concl_of c.args.p.now) truth); rest = rw c.in_ok-tail.ensures refl }
 
 pub returns : goal.returns
 returns c =
     let p = concl_of c.args.p.now in
     let r = concl_of c.args.rest.now in
-    became c.both-2.result (theorem_of (conjunction (concl_of c.in_ok-left.left) (concl_of c.in_ok-tail.tail))) (theorem_of (conjunction (equivalence (conjunction truth p) p) (conjunction (equivalence (conjunction p truth) p) r))) c.both-2.ensures
-    (rw (c.in_ok-left.ensures, c.in_ok-tail.ensures, c.in_ok-right.ensures, c.in_ok-holds.ensures) refl)
+    became c.joined_on_the_left.result (theorem_of (conjunction (equivalence (conjunction (concl_of c.in_ok-holds.holds) p) p) (concl_of c.in_ok-tail.tail))) (theorem_of (conjunction (equivalence (conjunction truth p) p) (conjunction (equivalence (conjunction p truth) p) r))) c.joined_on_the_left.ensures
+    (rw (c.in_ok-tail.ensures, c.in_ok-holds.ensures) refl)

@@ -1,21 +1,20 @@
 use Rattle.std.proofs.Common.{refl}
 use Rattle.hol_formulas.specs.Formula.{truth, conjunction, disjunction, equivalence}
 use Rattle.hol_equal.proofs.Outcomes.{became}
-use Rattle.hol_prelude.specs.Deduction.{theorem_of, concl_of}
-use Rattle.hol_prelude.specs.Deduction.{disj_rewrites}
+use Rattle.hol_prelude.specs.Deduction.{theorem_of, concl_of, disj_rewrites}
 use Rattle.hol_prelude.proofs.disjunction.disj_rewrites.Goals as goal
 
 pub implying_on_the_right-requires : goal.implying_on_the_right-requires
 implying_on_the_right-requires c =
     record { own = c.requires; implied = c.requires; same = refl; over = c.requires.over }
 
-pub absurd-requires : goal.absurd-requires
-absurd-requires c =
-    record { over = c.requires.over }
+pub with_falsity-requires : goal.with_falsity-requires
+with_falsity-requires c =
+    record { own = c.requires; rest = rw c.in_ok-same.ensures refl }
 
-pub with_truth-requires-clause-over : goal.with_truth-requires-clause-over
-with_truth-requires-clause-over c =
-    c.requires.over
+pub with_truth-requires : goal.with_truth-requires
+with_truth-requires c =
+    record { over = c.requires.over; rest = rw c.in_ok-rest.ensures refl }
 
 pub returns : goal.returns
 returns c =

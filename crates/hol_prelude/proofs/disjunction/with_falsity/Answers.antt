@@ -5,17 +5,18 @@ use Rattle.hol_prelude.specs.Deduction.{theorem_of, concl_of}
 use Rattle.hol_prelude.proofs.From.{under_from}
 use Rattle.hol_prelude.proofs.disjunction.with_falsity.Goals as goal
 
-pub implying_on_the_left-requires : goal.implying_on_the_left-requires
-implying_on_the_left-requires c =
-    rw (c.in_ok-own.ensures, c.requires.absurd) record { own = c.requires.own; implied = under_from falsity (concl_of c.args.p.now); same = refl; over = refl }
+pub absurd-requires : goal.absurd-requires
+absurd-requires c =
+    record { over = c.requires.own.over }
 
-pub implying_on_the_right-requires : goal.implying_on_the_right-requires
-implying_on_the_right-requires c =
-    rw (c.in_ok-own.ensures, c.requires.absurd) record { own = c.requires.own; implied = under_from falsity (concl_of c.args.p.now); same = refl; over = refl }
+pub joined_on_both_sides-requires : goal.joined_on_both_sides-requires
+joined_on_both_sides-requires c =
+    rw (c.in_ok-own.ensures, c.in_ok-any.ensures) record { own = c.requires.own; implied = under_from falsity (concl_of c.args.p.now); same = refl; over = refl; rest = c.requires.rest }
 
 pub returns : goal.returns
 returns c =
     let p = concl_of c.args.p.now in
     let r = concl_of c.args.rest.now in
-    became c.both-2.result (theorem_of (conjunction (concl_of c.in_ok-left.left) (concl_of c.in_ok-tail.tail))) (theorem_of (conjunction (equivalence (disjunction falsity p) p) (conjunction (equivalence (disjunction p falsity) p) r))) c.both-2.ensures
-    (rw (c.in_ok-left.ensures, c.in_ok-tail.ensures, c.in_ok-right.ensures, c.in_ok-own.ensures) refl)
+    let o = concl_of c.in_ok-own.own in
+    became c.joined_on_both_sides.result (theorem_of (conjunction (equivalence (disjunction o p) p) (conjunction (equivalence (disjunction p o) p) r))) (theorem_of (conjunction (equivalence (disjunction falsity p) p) (conjunction (equivalence (disjunction p falsity) p) r))) c.joined_on_both_sides.ensures
+    (rw c.in_ok-own.ensures refl)

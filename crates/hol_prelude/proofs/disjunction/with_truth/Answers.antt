@@ -5,17 +5,18 @@ use Rattle.hol_prelude.specs.Deduction.{theorem_of, concl_of}
 use Rattle.hol_prelude.proofs.From.{of_from}
 use Rattle.hol_prelude.proofs.disjunction.with_truth.Goals as goal
 
-pub implying_on_the_right-requires : goal.implying_on_the_right-requires
-implying_on_the_right-requires c =
-    rw c.in_ok-holds.ensures record { own = of_from truth truth; implied = of_from (concl_of c.args.p.now) truth; same = refl; over = c.requires.over }
+pub joined_on_the_left-requires : goal.joined_on_the_left-requires
+joined_on_the_left-requires c =
+    rw c.in_ok-holds.ensures record { own = of_from truth truth; implied = of_from (concl_of c.args.p.now) truth; same = refl; over = c.requires.over; rest = c.requires.rest }
 
-pub implying_on_the_left-requires : goal.implying_on_the_left-requires
-implying_on_the_left-requires c =
-    rw c.in_ok-holds.ensures record { own = of_from truth truth; implied = of_from (concl_of c.args.p.now) truth; same = refl; over = c.requires.over }
+pub joined_on_the_right-requires : goal.joined_on_the_right-requires
+joined_on_the_right-requires c =
+    rw (c.in_ok-tail.ensures, c.in_ok-holds.ensures) record { own = of_from truth truth; implied = of_from (concl_of c.args.p.now) truth; same = refl; over = c.requires.over; rest = refl }
 
 pub returns : goal.returns
 returns c =
     let p = concl_of c.args.p.now in
     let r = concl_of c.args.rest.now in
-    became c.both-2.result (theorem_of (conjunction (concl_of c.in_ok-right.right) (concl_of c.in_ok-tail.tail))) (theorem_of (conjunction (equivalence (disjunction truth p) truth) (conjunction (equivalence (disjunction p truth) truth) r))) c.both-2.ensures
-    (rw (c.in_ok-right.ensures, c.in_ok-tail.ensures, c.in_ok-left.ensures, c.in_ok-holds.ensures) refl)
+    let t = concl_of c.in_ok-holds.holds in
+    became c.joined_on_the_right.result (theorem_of (conjunction (equivalence (disjunction t p) t) (concl_of c.in_ok-tail.tail))) (theorem_of (conjunction (equivalence (disjunction truth p) truth) (conjunction (equivalence (disjunction p truth) truth) r))) c.joined_on_the_right.ensures
+    (rw (c.in_ok-tail.ensures, c.in_ok-holds.ensures) refl)

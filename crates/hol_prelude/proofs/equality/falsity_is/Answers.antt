@@ -1,36 +1,20 @@
-use Rattle.std.proofs.Common.{◌≡◌, ◌∙◌, refl}
-use Rattle.hol_formulas.specs.Equation.{bool_type}
+use Rattle.std.proofs.Common.{refl}
 use Rattle.hol_formulas.specs.Formula.{falsity, equivalence, negation}
-use Rattle.hol_kernel.specs.Sequent.{only_hyp}
-use Rattle.hol_kernel.specs.Theorem.{theorem_on}
-use Rattle.hol_equal.proofs.Applies.{sym_yes}
 use Rattle.hol_equal.proofs.Outcomes.{became}
-use Rattle.hol_equal.specs.Applied.{symmetric, lhs, rhs}
-use Rattle.hol_prelude.specs.Deduction.{theorem_of, theorem_under, concl_of}
+use Rattle.hol_equal.specs.Applied.{lhs, rhs}
+use Rattle.hol_prelude.specs.Deduction.{theorem_of, concl_of}
 use Rattle.hol_prelude.proofs.equality.falsity_is.Goals as goal
 
-pub sym-requires : goal.sym-requires
-sym-requires c =
-    let p = concl_of c.args.p.now in
-    record { applies = rw c.in_ok-equal.ensures (sym_yes (only_hyp (negation p)) bool_type p falsity) }
-
-pub turned-requires : goal.turned-requires
-turned-requires c =
-    let p = concl_of c.args.p.now in
-    let back : c.in_ok-back.back ≡ theorem_under (negation p) (equivalence falsity p) = c.in_ok-back.ensures ∙ (λ i. theorem_on (c.in_ok-equal.ensures i).basis (symmetric (c.in_ok-equal.ensures i).sequent)) in
-    rw back record { over = refl; is = refl }
+pub falsity_turned-requires : goal.falsity_turned-requires
+falsity_turned-requires c =
+    record { over = c.requires.over }
 
 pub chained-requires : goal.chained-requires
 chained-requires c =
-    let p = concl_of c.args.p.now in
-    let back : c.in_ok-back.back ≡ theorem_under (negation p) (equivalence falsity p) = c.in_ok-back.ensures ∙ (λ i. theorem_on (c.in_ok-equal.ensures i).basis (symmetric (c.in_ok-equal.ensures i).sequent)) in
-    let first : c.in_ok-first.first ≡ theorem_of (equivalence (equivalence falsity p) (equivalence p falsity)) = c.in_ok-first.ensures ∙ (λ i. theorem_of (equivalence (concl_of (back i)) (equivalence (rhs (concl_of (back i))) (lhs (concl_of (back i)))))) in
-    rw (first, c.in_ok-second.ensures) record { first = refl; second = refl }
+    rw (c.in_ok-first.ensures, c.requires.is) record { first = refl; second = refl }
 
 pub returns : goal.returns
 returns c =
     let p = concl_of c.args.p.now in
-    let back : c.in_ok-back.back ≡ theorem_under (negation p) (equivalence falsity p) = c.in_ok-back.ensures ∙ (λ i. theorem_on (c.in_ok-equal.ensures i).basis (symmetric (c.in_ok-equal.ensures i).sequent)) in
-    let first : c.in_ok-first.first ≡ theorem_of (equivalence (equivalence falsity p) (equivalence p falsity)) = c.in_ok-first.ensures ∙ (λ i. theorem_of (equivalence (concl_of (back i)) (equivalence (rhs (concl_of (back i))) (lhs (concl_of (back i)))))) in
-    became c.chained.result (theorem_of (equivalence (lhs (concl_of c.in_ok-first.first)) (rhs (concl_of c.in_ok-second.second)))) (theorem_of (equivalence (equivalence falsity p) (negation p))) c.chained.ensures
-    (λ i. theorem_of (equivalence (lhs (concl_of (first i))) (rhs (concl_of (c.in_ok-second.ensures i)))))
+    became c.chained.result (theorem_of (equivalence (lhs (concl_of c.in_ok-first.first)) (rhs (concl_of c.args.second.now)))) (theorem_of (equivalence (equivalence falsity p) (negation p))) c.chained.ensures
+    (λ i. theorem_of (equivalence (lhs (concl_of (c.in_ok-first.ensures i))) (rhs (concl_of (c.requires.is i)))))

@@ -1,7 +1,20 @@
+use Rattle.std.proofs.Common.{refl}
 use Rattle.hol_formulas.specs.Formula.{falsity, conjunction, equivalence, negation}
 use Rattle.hol_equal.proofs.Outcomes.{became}
 use Rattle.hol_prelude.specs.Deduction.{theorem_of, concl_of}
 use Rattle.hol_prelude.proofs.equality.with_falsity.Goals as goal
+
+pub is_falsity-requires : goal.is_falsity-requires
+is_falsity-requires c =
+    c.requires
+
+pub falsity_is-requires : goal.falsity_is-requires
+falsity_is-requires c =
+    record { over = c.requires.over; is = c.in_ok-right.ensures }
+
+pub both-requires : goal.both-requires
+both-requires c =
+    rw (c.in_ok-left.ensures, c.in_ok-right.ensures) record { first = refl; second = refl }
 
 pub returns : goal.returns
 returns c =

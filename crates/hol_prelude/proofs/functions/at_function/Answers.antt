@@ -1,5 +1,5 @@
-use Rattle.std.proofs.Common.{[], refl}
-use Rattle.hol_terms.specs.Nameless.{nameless, free}
+use Rattle.std.proofs.Common.{refl}
+use Rattle.hol_terms.specs.Nameless.{free}
 use Rattle.hol_kernel.specs.Items.{no_items}
 use Rattle.hol_kernel.specs.Theorem.{theorem_on}
 use Rattle.hol_equal.proofs.Outcomes.{became}
@@ -8,11 +8,11 @@ use Rattle.hol_kernel.specs.Rules.{postulate_of}
 use Rattle.hol_formulas.specs.Prelude.{function}
 use Rattle.hol_prelude.proofs.functions.at_function.Goals as goal
 
-pub unfold-requires : goal.unfold-requires
-unfold-requires c =
-    rw (c.in_ok-own.ensures, c.in_ok-range.ensures, c.ty.ensures, c.in_ok-x.ensures.is, c.requires.function) record { is = c.requires.is; typed = refl }
+pub unfold_at-requires : goal.unfold_at-requires
+unfold_at-requires c =
+    rw c.in_ok-own.ensures record { over = refl; function = c.requires.function; is = c.requires.is }
 
 pub returns : goal.returns
 returns c =
-    became c.unfold.result (theorem_on c.in_ok-own.own.basis (unfolded (nameless [] c.in_ok-x.x) c.in_ok-own.own.sequent)) (theorem_on no_items (unfolded (free function) (postulate_of c.args.property))) c.unfold.ensures
-    (rw (c.in_ok-own.ensures, c.in_ok-x.ensures.is, c.requires.function) refl)
+    became c.unfold_at.result (theorem_on no_items (unfolded (free function) c.in_ok-own.own.sequent)) (theorem_on no_items (unfolded (free function) (postulate_of c.args.property))) c.unfold_at.ensures
+    (λ i. theorem_on no_items (unfolded (free function) (c.in_ok-own.ensures i).sequent))

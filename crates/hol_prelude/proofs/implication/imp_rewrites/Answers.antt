@@ -1,17 +1,20 @@
 use Rattle.std.proofs.Common.{refl}
 use Rattle.hol_formulas.specs.Formula.{truth, conjunction, implication, equivalence}
 use Rattle.hol_equal.proofs.Outcomes.{became}
-use Rattle.hol_prelude.specs.Deduction.{theorem_of, concl_of}
-use Rattle.hol_prelude.specs.Deduction.{imp_rewrites}
+use Rattle.hol_prelude.specs.Deduction.{theorem_of, concl_of, imp_rewrites}
 use Rattle.hol_prelude.proofs.implication.imp_rewrites.Goals as goal
 
 pub implies_falsity-requires : goal.implies_falsity-requires
 implies_falsity-requires c =
     record { over = c.requires.over }
 
-pub absurd-requires : goal.absurd-requires
-absurd-requires c =
-    record { over = c.requires.over }
+pub with_itself-requires : goal.with_itself-requires
+with_itself-requires c =
+    record { own = c.requires; rest = rw c.in_ok-last.ensures refl }
+
+pub with_truth-requires : goal.with_truth-requires
+with_truth-requires c =
+    record { own = c.requires; rest = rw c.in_ok-rest.ensures refl }
 
 pub returns : goal.returns
 returns c =

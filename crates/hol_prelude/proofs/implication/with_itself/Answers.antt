@@ -2,20 +2,19 @@ use Rattle.std.proofs.Common.{refl}
 use Rattle.hol_formulas.specs.Formula.{truth, falsity, conjunction, implication, equivalence}
 use Rattle.hol_equal.proofs.Outcomes.{became}
 use Rattle.hol_prelude.specs.Deduction.{theorem_of, concl_of}
-use Rattle.hol_prelude.proofs.From.{under_from}
 use Rattle.hol_prelude.proofs.implication.with_itself.Goals as goal
 
-pub always-requires : goal.always-requires
-always-requires c =
-    rw (c.in_ok-own.ensures, c.requires.absurd) record { over = refl; implied = under_from falsity (concl_of c.args.p.now) }
+pub always_joined-requires : goal.always_joined-requires
+always_joined-requires c =
+    record { over = c.requires.own.over; implied = c.requires.own; rest = c.requires.rest }
 
-pub always-requires-2 : goal.always-requires-2
-always-requires-2 c =
-    record { over = c.requires.own.over; implied = c.requires.own }
+pub with_falsity-requires : goal.with_falsity-requires
+with_falsity-requires c =
+    record { over = c.requires.own.over; rest = rw c.in_ok-tail.ensures refl }
 
 pub returns : goal.returns
 returns c =
     let p = concl_of c.args.p.now in
     let r = concl_of c.args.rest.now in
-    became c.both-2.result (theorem_of (conjunction (concl_of c.in_ok-left.left) (concl_of c.in_ok-tail.tail))) (theorem_of (conjunction (equivalence (implication falsity p) truth) (conjunction (equivalence (implication p p) truth) r))) c.both-2.ensures
-    (rw (c.in_ok-left.ensures, c.in_ok-tail.ensures, c.in_ok-right.ensures, c.in_ok-own.ensures, c.requires.absurd) refl)
+    became c.with_falsity.result (theorem_of (conjunction (equivalence (implication falsity p) truth) (concl_of c.in_ok-tail.tail))) (theorem_of (conjunction (equivalence (implication falsity p) truth) (conjunction (equivalence (implication p p) truth) r))) c.with_falsity.ensures
+    (λ i. theorem_of (conjunction (equivalence (implication falsity p) truth) (concl_of (c.in_ok-tail.ensures i))))

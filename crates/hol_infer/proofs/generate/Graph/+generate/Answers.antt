@@ -39,11 +39,11 @@ returns-in_ok-right-in-Apply t c =
     (RawApply (raw_tree c.in-Apply.function.value) (raw_tree c.in-Apply.argument.value)) (raw_tree c.args.term.now) c.args.expected
     (SlotApply (slot_tree c.in_ok-left-in-Apply.left) (slot_tree c.in_ok-right-in-Apply.right)) (slot_tree s)
     (sym e) (sym whole)
-    (generates_apply c.args.self.now c.fresh.new.self c.function.new.self c.generate.new.self c.generate-in-Apply.new.self (scope_slots c.args.scope.now)
-    (raw_tree c.in-Apply.function.value) (raw_tree c.in-Apply.argument.value) c.args.expected c.in_ok-domain-in-Apply.domain c.in_ok-function_slot-in-Apply.function_slot
+    (generates_apply c.args.self.now c.in_ok-function_slot-in-Apply.ensures.opens.middle c.open_application.new.self c.generate.new.self c.generate-in-Apply.new.self (scope_slots c.args.scope.now)
+    (raw_tree c.in-Apply.function.value) (raw_tree c.in-Apply.argument.value) c.args.expected c.in_ok-function_slot-in-Apply.domain c.in_ok-function_slot-in-Apply.function_slot
     (slot_tree c.in_ok-left-in-Apply.left) (slot_tree c.in_ok-right-in-Apply.right)
     c.requires.well_formed c.requires.bound_in c.requires.expected_in
-    c.in_ok-domain-in-Apply.ensures c.in_ok-function_slot-in-Apply.ensures
+    c.in_ok-function_slot-in-Apply.ensures.opens.domain c.in_ok-function_slot-in-Apply.ensures.opens.function
     (generates_same _ _ _ _ _ _ _ _ (ap raw_tree c.deref.ensures) refl c.in_ok-left-in-Apply.ensures)
     (generates_same _ _ _ _ _ _ _ _ (ap raw_tree c.deref-in-Apply.ensures) refl c.in_ok-right-in-Apply.ensures)))
     c.apply.ensures
@@ -56,24 +56,24 @@ returns-in_ok-inner-in-Abstraction t c =
     (RawAbstraction c.in-Abstraction.name c.in-Abstraction.annotation (raw_tree c.in-Abstraction.body.value)) (raw_tree c.args.term.now) c.args.expected
     (SlotAbstraction c.in-Abstraction.name c.in_ok-variable-in-Abstraction.variable (slot_tree c.in_ok-inner-in-Abstraction.inner)) (slot_tree s)
     (sym e) (sym whole)
-    (generates_abstraction c.args.self.now c.variable_slot.new.self c.fresh-in-Abstraction.new.self c.function-in-Abstraction.new.self c.equate.new.self c.generate-in-Abstraction.new.self (scope_slots c.args.scope.now)
-    c.in-Abstraction.name c.in-Abstraction.annotation (raw_tree c.in-Abstraction.body.value) c.args.expected c.in_ok-variable-in-Abstraction.variable c.in_ok-range-in-Abstraction.range c.in_ok-whole-in-Abstraction.whole (slot_tree c.in_ok-inner-in-Abstraction.inner)
+    (generates_abstraction c.args.self.now c.in_ok-variable-in-Abstraction.ensures.opens.first c.in_ok-variable-in-Abstraction.ensures.opens.second c.in_ok-variable-in-Abstraction.ensures.opens.third c.open_abstraction.new.self c.generate-in-Abstraction.new.self (scope_slots c.args.scope.now)
+    c.in-Abstraction.name c.in-Abstraction.annotation (raw_tree c.in-Abstraction.body.value) c.args.expected c.in_ok-variable-in-Abstraction.variable c.in_ok-variable-in-Abstraction.range c.in_ok-variable-in-Abstraction.ensures.opens.slot (slot_tree c.in_ok-inner-in-Abstraction.inner)
     c.requires.well_formed c.requires.bound_in c.requires.expected_in
-    c.in_ok-variable-in-Abstraction.ensures c.in_ok-range-in-Abstraction.ensures c.in_ok-whole-in-Abstraction.ensures c.in_ok-equate-in-Abstraction.ensures
+    c.in_ok-variable-in-Abstraction.ensures.opens.variable c.in_ok-variable-in-Abstraction.ensures.opens.range c.in_ok-variable-in-Abstraction.ensures.opens.whole c.in_ok-variable-in-Abstraction.ensures.opens.same
     (generates_same _ _ _ _ _ _ _ _ (ap raw_tree c.deref-in-Abstraction.ensures) refl c.in_ok-inner-in-Abstraction.ensures)))
     c.abstraction.ensures
 
-pub returns-in_ok-equate-in-Annotated : goal.returns-in_ok-equate-in-Annotated
-returns-in_ok-equate-in-Annotated t c =
+pub returns-in_ok-open_annotation-in-Annotated : goal.returns-in_ok-open_annotation-in-Annotated
+returns-in_ok-open_annotation-in-Annotated t c =
     let e : raw_tree c.args.term.now ≡ RawAnnotated (raw_tree c.in-Annotated.inner.value) c.in-Annotated.ty = ap raw_tree c.in-Annotated.is in
     IfOk-weaker _ _ _
     (λ s inner. generates_same c.args.self.now c.generate-in-Annotated.new.self (scope_slots c.args.scope.now)
     (RawAnnotated (raw_tree c.in-Annotated.inner.value) c.in-Annotated.ty) (raw_tree c.args.term.now) c.args.expected
     (slot_tree s) (slot_tree s)
     (sym e) refl
-    (generates_annotated c.args.self.now c.type_slot.new.self c.equate-in-Annotated.new.self c.generate-in-Annotated.new.self (scope_slots c.args.scope.now)
-    (raw_tree c.in-Annotated.inner.value) c.in-Annotated.ty c.args.expected c.in_ok-slot-in-Annotated.slot (slot_tree s)
+    (generates_annotated c.args.self.now c.in_ok-open_annotation-in-Annotated.ensures.opens.middle c.open_annotation.new.self c.generate-in-Annotated.new.self (scope_slots c.args.scope.now)
+    (raw_tree c.in-Annotated.inner.value) c.in-Annotated.ty c.args.expected c.in_ok-open_annotation-in-Annotated.ensures.opens.slot (slot_tree s)
     c.requires.bound_in c.requires.expected_in
-    c.in_ok-slot-in-Annotated.ensures c.in_ok-equate-in-Annotated.ensures
+    c.in_ok-open_annotation-in-Annotated.ensures.opens.builds c.in_ok-open_annotation-in-Annotated.ensures.opens.same
     (generates_same _ _ _ _ _ _ _ _ (ap raw_tree c.deref-in-Annotated.ensures) refl inner)))
     c.generate-in-Annotated.ensures

@@ -1,6 +1,8 @@
-use Rattle.std.proofs.Common.{arith, rules}
+use Rattle.std.proofs.Common.{arith, rules, subst}
 use Rattle.std.proofs.lemmas.Result.{IfOk-weaker}
-use Rattle.hol_infer.proofs.Types.{arg_falls, types_step, rigid_step, rigid_slot, app_slot}
+use Rattle.hol_types.specs.Tree.{TypeTree}
+use Rattle.hol_infer.specs.Generate.{BuildsType}
+use Rattle.hol_infer.proofs.Types.{arg_falls, types_step, rigid_step, app_slot}
 use Rattle.hol_infer.proofs.generate.Graph.+type_slot.Goals as goal
 
 pub type_slot-requires : goal.type_slot-requires
@@ -17,15 +19,14 @@ loop-arg-preserved t c = record {
   rigid = (rigid_step c.args.names.now c.deref-arg-items.result.now c.loop-arg.arg-index c.arg-item.result c.loop-arg-test.true c.arg-item.is c.loop-arg.invariant.rigid).1;
 }
 
-pub returns-in_ok-copy-in-None : goal.returns-in_ok-copy-in-None
-returns-in_ok-copy-in-None t c = IfOk-weaker c.fresh.result _ _
-    (λ slot f. rigid_slot c.args.self.now c.fresh.new.self c.args.names.now c.args.base slot c.args.ty.now c.in-Var.name c.in_ok-copy-in-None.field-0
-    c.requires.well_formed (rw c.in-Var.is at c.node.ensures) c.in_ok-copy-in-None.ensures c.requires.rigid c.in-None.ensures f)
-    c.fresh.ensures
+pub returns-in-Var : goal.returns-in-Var
+returns-in-Var t c = IfOk-weaker c.type_variable_slot.result _ _
+    (λ slot b. subst (λ (ty : TypeTree). BuildsType c.args.self.now c.type_variable_slot.new.self c.args.names.now c.args.base slot ty) (rw c.in-Var.is at c.node.ensures) b)
+    c.type_variable_slot.ensures
 
 pub returns-in_ok-copy-in-App : goal.returns-in_ok-copy-in-App
-returns-in_ok-copy-in-App t c = IfOk-weaker c.fresh-in-App.result _ _
-    (λ slot f. app_slot c.args.self.now c.loop-arg.self c.fresh-in-App.new.self c.args.names.now c.args.base slot c.args.ty.now c.in-App.name c.in_ok-copy-in-App.field-0 _
+returns-in_ok-copy-in-App t c = IfOk-weaker c.fresh.result _ _
+    (λ slot f. app_slot c.args.self.now c.loop-arg.self c.fresh.new.self c.args.names.now c.args.base slot c.args.ty.now c.in-App.name c.in_ok-copy-in-App.field-0 _
     c.loop-arg.parts.items c.in-App.args.items c.deref-arg-items.result.now c.loop-arg.arg-index (λ types u. (λ e. e, λ e. e)) c.loop-arg.invariant.builds.parts_in
     (rw c.in-App.is at c.node.ensures) c.in_ok-copy-in-App.ensures c.deref-arg-items.ensures.value c.loop-arg-test.false c.loop-arg.invariant.builds f)
-    c.fresh-in-App.ensures
+    c.fresh.ensures

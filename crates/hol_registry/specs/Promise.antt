@@ -1,0 +1,32 @@
+-- What is stored beside a closure has one proof at most.
+use Rattle.std.specs.Prelude.{ℕ, List, [], ◌∷◌, Option, Some, None, Result, Ok, Err, IfOk}
+use Rattle.std.specs.Coded.{Coded-set, coded_ℕ, coded_list, Unit-prop, ×_prop, Π_prop}
+use Rattle.hol_goal.specs.Goal.{GoalValue, goal_code}
+use Rattle.hol_goal.specs.Answer.{UsedValue, AnswerResult, Left, Unfit}
+use Rattle.hol_goal.specs.Arguments.{TacArgsValue}
+use Rattle.hol_goal.specs.declared.tac_code.TacCode.{TacCode}
+use Rattle.hol_just.specs.Tac.{Meaning, tac}
+use Rattle.hol_just.specs.Answering.{IsResult, IsAnsweredBy, AnswersCode, IsJustified, suits}
+use Rattle.hol_just.specs.declared.tried.Tried.{Tried}
+use Rattle.hol_just.specs.declared.tried.TacFault.{TacFault}
+use Rattle.hol_just.specs.declared.tried.TacFault.TheVariants.{Refused, Memory}
+use Rattle.hol_just.proofs.Proposition.{valid_prop}
+
+result_prop : (answer : AnswerResult) (used : UsedValue) (result : Result Tried TacFault) → IsProp (IsResult answer used result)
+result_prop (Left goals) used (Ok tried) = ×_prop (Coded-set (coded_list goal_code) _ _) (Coded-set coded_ℕ _ _)
+result_prop (Left goals) used (Err (Refused left)) = hlevel
+result_prop (Left goals) used (Err Memory) = Unit-prop
+result_prop Unfit used (Ok tried) = hlevel
+result_prop Unfit used (Err (Refused left)) = Coded-set coded_ℕ _ _
+result_prop Unfit used (Err Memory) = Unit-prop
+
+answered_prop : (meaning : Option Meaning) (args : TacArgsValue) (goal : GoalValue) (turns : ℕ) (result : Result Tried TacFault) → IsProp (IsAnsweredBy meaning args goal turns result)
+answered_prop None args goal turns result = hlevel
+answered_prop (Some f) args goal turns result = let used : UsedValue = record { turns_left = turns } in result_prop (f args goal used).result (f args goal used).used result
+
+pub answers_prop : (code : TacCode) (args : TacArgsValue) (goal : GoalValue) (turns : ℕ) (result : Result Tried TacFault) → IsProp (AnswersCode code args goal turns result)
+answers_prop code = answered_prop (tac code)
+
+pub justified_prop : (args : TacArgsValue) (goal : GoalValue) (result : Result Tried TacFault) → IsProp (IfOk result (λ tried. IsJustified args goal tried.step))
+justified_prop args goal (Ok tried) = Π_prop (λ extra. Π_prop (λ _. valid_prop (suits args) extra tried.step.just (goal ∷ []) tried.step.goals.items))
+justified_prop args goal (Err fault) = Unit-prop

@@ -1,0 +1,15 @@
+//! Registered functions on goals: a name, a code, and a closure that does what the code means.
+//!
+//! The closures are boxed by the caller.
+#![tactic(auto)]
+
+mod entry;
+mod error;
+mod named;
+mod registry;
+#[cfg(test)]
+mod tests;
+
+pub use entry::Entry;
+pub use error::RegistryError;
+pub use registry::Registry;

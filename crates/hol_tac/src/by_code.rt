@@ -1,0 +1,65 @@
+//! The functions on goals by their codes.
+ghost use Rattle.std.specs.Prelude.{◌≡◌, IfOk, IfSome, MatchOption, None};
+ghost use Rattle.hol_goal.specs.ArgumentsView.{args_value};
+ghost use Rattle.hol_just.specs.Tac.{tac};
+ghost use Rattle.hol_just.specs.Answering.{AnswersCode, IsJustified};
+
+use crate::applications::{ap_term_tac, ap_thm_tac, mk_comb_tac};
+use crate::assumptions::undisch_tac;
+use crate::connectives::{
+    accept_tac, conj_tac, contr_tac, disch_tac, disj1_tac, disj2_tac, mp_tac,
+};
+use crate::equations::{eq_tac, refl_tac};
+use crate::quantifiers::{exists_tac, gen_tac, x_gen_tac};
+use crate::trivial::{all_tac, no_tac};
+use hol_goal::{Goal, TacArgs, TacCode};
+use hol_just::{TacFault, Tried};
+use std::alloc::Global;
+
+/// What the function of a code answers, and `None` for a code that has no meaning yet.
+pub fn tac(
+    alloc: Global,
+    code: TacCode,
+    args: &TacArgs,
+    goal: &Goal,
+    turns: u32,
+) -> Option<Result<Tried, TacFault>>
+    ensures answer { MatchOption result (tac code ≡ None) (λ r. AnswersCode code (args_value args.now) goal.now turns r) }
+    ensures valid { IfSome result (λ r. IfOk r (λ tried. IsJustified (args_value args.now) goal.now tried.step)) }
+{
+    match code {
+        TacCode::AllTac => Some(all_tac(alloc, args, goal, turns)),
+        TacCode::NoTac => Some(no_tac(alloc, args, goal, turns)),
+        TacCode::ReflTac => Some(refl_tac(alloc, args, goal, turns)),
+        TacCode::AcceptTac => Some(accept_tac(alloc, args, goal, turns)),
+        TacCode::ConjTac => Some(conj_tac(alloc, args, goal, turns)),
+        TacCode::Disj1Tac => Some(disj1_tac(alloc, args, goal, turns)),
+        TacCode::Disj2Tac => Some(disj2_tac(alloc, args, goal, turns)),
+        TacCode::EqTac => Some(eq_tac(alloc, args, goal, turns)),
+        TacCode::DischTac => Some(disch_tac(alloc, args, goal, turns)),
+        TacCode::GenTac => Some(gen_tac(alloc, args, goal, turns)),
+        TacCode::XGenTac => Some(x_gen_tac(alloc, args, goal, turns)),
+        TacCode::ExistsTac => Some(exists_tac(alloc, args, goal, turns)),
+        TacCode::MpTac => Some(mp_tac(alloc, args, goal, turns)),
+        TacCode::ContrTac => Some(contr_tac(alloc, args, goal, turns)),
+        TacCode::ApTermTac => Some(ap_term_tac(alloc, args, goal, turns)),
+        TacCode::ApThmTac => Some(ap_thm_tac(alloc, args, goal, turns)),
+        TacCode::MkCombTac => Some(mk_comb_tac(alloc, args, goal, turns)),
+        TacCode::UndischTac => Some(undisch_tac(alloc, args, goal, turns)),
+        TacCode::SpecTac
+        | TacCode::AssumeTac
+        | TacCode::ChooseTac
+        | TacCode::XChooseTac
+        | TacCode::DisjCasesTac
+        | TacCode::Subst1Tac
+        | TacCode::StripAssumeTac
+        | TacCode::StripTac
+        | TacCode::MatchMpTac
+        | TacCode::BetaTac
+        | TacCode::RewriteTac
+        | TacCode::OnceRewriteTac
+        | TacCode::AsmRewriteTac
+        | TacCode::OnceAsmRewriteTac
+        | TacCode::PureRewriteTac => None,
+    }
+}
