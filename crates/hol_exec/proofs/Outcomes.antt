@@ -1,5 +1,5 @@
 -- What the outcomes that a state may get say of it: a step runs on the first goal.
-use Rattle.std.proofs.Common.{◌≡◌, ℕ, List, refl, ap, subst, Bool, true, false, cond, decimal, nat_eq}
+use Rattle.std.proofs.Common.{◌≡◌, ℕ, List, [], refl, ap, subst, Bool, true, false, cond, decimal, nat_eq}
 use Rattle.std.specs.Prelude.{Option, Some, None, IfSome}
 use Rattle.hol_terms.specs.Nameless.{Nameless, nameless_type}
 use Rattle.hol_notation_terms.specs.Text.{QuotationText}

@@ -49,9 +49,9 @@ left_same basis own moves kept goal first left goals d e f g h =
     (subst (λ (x : GoalValue). IsLeft basis moves x goals) (sym f)
     (subst (λ (gs : List GoalValue). IsLeft basis moves goal gs) (sym g) h)))
 
-pub same_step : (basis : Items) (moves kept : List Move) (left goals open : List GoalValue) → kept ≡ moves → goals ≡ left → IsStep basis moves left open → IsStep basis kept goals open
-same_step basis moves kept left goals open e f h =
-    subst (λ (ms : List Move). IsStep basis ms goals open) (sym e) (subst (λ (gs : List GoalValue). IsStep basis moves gs open) (sym f) h)
+pub same_step : (basis : Items) (moves kept : List Move) (left goals standing : List GoalValue) → kept ≡ moves → goals ≡ left → IsStep basis moves left standing → IsStep basis kept goals standing
+same_step basis moves kept left goals standing e f h =
+    subst (λ (ms : List Move). IsStep basis ms goals standing) (sym e) (subst (λ (gs : List GoalValue). IsStep basis moves gs standing) (sym f) h)
 
 -- ---- the step of a proof
 
