@@ -1,11 +1,11 @@
 pub mod Parsing
-pub mod Steps
 pub mod PreludeStands
 pub mod Statements
-pub mod Closed
+pub mod Steps
 pub mod Outcomes
 pub mod Entries
 pub mod Resolving
+pub mod Answered
 pub mod Runs
 pub mod Unique
 pub mod Comparing

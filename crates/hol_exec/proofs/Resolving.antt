@@ -1,20 +1,42 @@
 -- What is written, resolved, from the steps of resolving.
 use Rattle.std.specs.Prelude.{◌≡◌, ℕ, List, Option, Some, None, IsSome, cond, is_some, refl}
+use Rattle.std.proofs.Common.{sym}
 use Rattle.hol_kernel.specs.Items.{Items, no_items}
 use Rattle.hol_notation_tactics.specs.Text.{ArgumentText, CallText, TacText, Call, Then, ThenL, OrElse, Repeat, Try, Changed, Every, First, Replicate, DischThen, PopAssum, FirstAssum, SubgoalThen}
 use Rattle.hol_exec.specs.declared.refusal.RefusalKind.{RefusalKind}
 use Rattle.hol_exec.specs.declared.refusal.RefusalKind.TheVariants as refusal
-use Rattle.hol_exec.specs.declared.tac.ArgumentKind.{ArgumentKind}
-use Rattle.hol_exec.specs.declared.tac.ArgumentKind.TheVariants.{NoArguments}
+use Rattle.hol_goal.specs.Arguments.{TacArgsValue, Nothing, arguments_of}
+use Rattle.hol_goal.specs.declared.tac_args.ArgumentKind.{ArgumentKind}
+use Rattle.hol_goal.specs.declared.tac_args.ArgumentKind.TheVariants as takes
+use Rattle.hol_exec.specs.declared.running_tac.RunningTac.{RunningTac}
+use Rattle.hol_exec.specs.declared.running_tac.RunningTac.TheVariants as running
+use Rattle.hol_exec.specs.TacView.{code_of}
 use Rattle.hol_exec.specs.declared.tac.CallRole.TheVariants.{Whole}
 use Rattle.hol_exec.specs.Setup.{SetupValue}
 use Rattle.hol_exec.specs.ReadsValue.{Values}
 use Rattle.hol_exec.specs.Standing.{first_unknown}
-use Rattle.hol_exec.specs.ExprValue.{ExprValue, Calls, TacArgsValue, Nothing}
-use Rattle.hol_exec.specs.Tac.{arguments_of, CalledValue, called}
+use Rattle.hol_exec.specs.ExprValue.{ExprValue, Calls}
+use Rattle.hol_exec.specs.Tac.{CalledValue, Registered, called}
 use Rattle.hol_exec.specs.Expr.{AreArguments, IsCallExpr, ResolutionValue, Resolved, Unresolved, calls_of, first_unfit, named_refusals, first_refusal, IsResolvedFitting, IsResolvedPast, IsResolution}
 
+-- what is registered takes no arguments
+takes_nothing : (tac : RunningTac) → arguments_of (code_of tac) ≡ takes.Nothing
+takes_nothing running.AllTac = refl
+takes_nothing running.NoTac = refl
+takes_nothing running.ReflTac = refl
+takes_nothing running.ConjTac = refl
+takes_nothing running.Disj1Tac = refl
+takes_nothing running.Disj2Tac = refl
+takes_nothing running.EqTac = refl
+takes_nothing running.GenTac = refl
+takes_nothing running.ApTermTac = refl
+takes_nothing running.ApThmTac = refl
+takes_nothing running.MkCombTac = refl
+
 module _ (setup : SetupValue) (cited : Values) where
+  pub resolved_call : (call : CallText) (name : List ℕ) (tac : RunningTac) (basis : Items) → name ≡ call.name → Some (Registered (code_of tac)) ≡ called setup Whole call cited → basis ≡ no_items → IsCallExpr setup Whole call cited (Calls name (code_of tac) Nothing) basis
+  resolved_call call name tac basis named is plain = (named, sym is, rw (takes_nothing tac) (refl, plain))
+
   -- a call that is a whole expression
   pub call_fits : (tactic : TacText) (call : CallText) → first_unfit setup (calls_of tactic) cited ≡ None → tactic ≡ Call call → IsSome (called setup Whole call cited)
   call_fits tactic call e f = by (called setup Whole call cited) (rw f at e)
@@ -36,7 +58,12 @@ module _ (setup : SetupValue) (cited : Values) where
   -- ---- nothing that is resolved rests on items
 
   arguments_basis : (kind : ArgumentKind) (arguments : List ArgumentText) (args : TacArgsValue) (basis : Items) → AreArguments kind arguments cited args basis → basis ≡ no_items
-  arguments_basis NoArguments arguments Nothing basis h = h
+  arguments_basis takes.Nothing arguments args basis h = h.1
+  arguments_basis takes.Term arguments args basis h = absurd h
+  arguments_basis takes.Pair arguments args basis h = absurd h
+  arguments_basis takes.Theorem arguments args basis h = absurd h
+  arguments_basis takes.TermAndTheorem arguments args basis h = absurd h
+  arguments_basis takes.Theorems arguments args basis h = absurd h
 
   expr_basis : (call : CallText) (e : ExprValue) (basis : Items) → IsCallExpr setup Whole call cited e basis → basis ≡ no_items
   expr_basis call (Calls name code args) basis h = arguments_basis (arguments_of code) call.arguments args basis h.2

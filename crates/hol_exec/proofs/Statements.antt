@@ -1,6 +1,6 @@
 -- What elaboration says of a term, and what a statement is.
 use Rattle.std.specs.Prelude.{◌≡◌, ℕ, Bool, true, List, [], Option, Some, None}
-use Rattle.std.proofs.Common.{ap, sym, ◌∙◌}
+use Rattle.std.proofs.Common.{ap, sym, ◌∙◌, subst}
 use Rattle.hol_types.specs.Tree.{TypeTree}
 use Rattle.hol_types.proofs.OrderLaws.{type_cmp_decides}
 use Rattle.hol_terms.specs.Named.{Named, named_type}
@@ -12,6 +12,8 @@ use Rattle.hol_kernel.specs.Typing.{is_type_at, is_known}
 use Rattle.hol_kernel.proofs.Variables.{typed_known, known_typed}
 use Rattle.hol_notation_terms.specs.Text.{TermText}
 use Rattle.hol_infer.specs.Resolving.{raw_of, term_has_arities}
+use Rattle.hol_goal.specs.Goal.{GoalValue}
+use Rattle.hol_goal.specs.Achieves.{IsTyped}
 use Rattle.hol_exec.specs.ReadsValue.{Values}
 use Rattle.hol_exec.specs.Lookups.{lookups_of}
 use Rattle.hol_exec.specs.Reading.{ReadingValue, IsReadAs, IsTermReadAs}
@@ -31,3 +33,11 @@ statement_typed p b known e f = typed_known no_items p bool_type known (of_bool 
 -- a statement, as it is made, is a term of type bool
 pub formula_of : (basis : Items) (t : Named) → IsStatement basis (nameless [] t) → named_type t ≡ Some bool_type
 formula_of basis t h = sym (type_outside t) ∙ (known_typed basis (nameless [] t) bool_type h).1
+
+-- and its goal is well typed
+pub goal_typed : (basis own : Items) (t : Nameless) (g : GoalValue) → IsStatement basis t → own ≡ basis → g ≡ record { assumptions = []; conclusion = t } → IsTyped own g
+goal_typed basis own t g h same is =
+    subst (IsTyped own) (sym is) (subst (λ (b : Items). IsTyped b (record { assumptions = []; conclusion = t })) (sym same) (record { assumptions = tt; conclusion = h }))
+
+pub goal_plain : (t : Nameless) (g : GoalValue) → g ≡ record { assumptions = []; conclusion = t } → g.assumptions ≡ []
+goal_plain t g is = ap (λ (x : GoalValue). x.assumptions) is

@@ -1,13 +1,77 @@
--- A new element of a proof's history.
-use Rattle.std.specs.Prelude.{◌≡◌, List, [], ◌∷◌, ◌++◌, reverse}
+-- What is left of a goal, and when a proof can take that step.
+use Rattle.std.specs.Prelude.{◌≡◌, List, [], ◌∷◌, length, refl, Some}
 use Rattle.std.specs.FinSet as set
-use Rattle.std.proofs.lemmas.List.{reverse-append}
-use Rattle.hol_kernel.proofs.ItemOrder.{total, only}
+use Rattle.std.proofs.Common.{ap, sym, ◌∙◌, subst}
 use Rattle.hol_kernel.specs.Items.{Items, no_items}
-use Rattle.hol_kernel.proofs.SortedSets.{union_none_right}
+use Rattle.hol_kernel.specs.Extends.{Agree}
+use Rattle.hol_kernel.specs.Sequent.{no_hyps}
+use Rattle.hol_kernel.proofs.HypothesisLists.{hyps_total, hyps_same}
+use Rattle.hol_kernel.proofs.ItemOrder.{total, only}
+use Rattle.hol_kernel.proofs.Members.{not_in_empty}
+use Rattle.hol_kernel.proofs.Subsets.{subset_trans, subset_right}
+use Rattle.hol_goal.specs.Goal.{GoalValue}
+use Rattle.hol_goal.specs.Arguments.{Nothing}
+use Rattle.hol_just.specs.Answering.{AreLeft, suits}
+use Rattle.hol_just.specs.Valid.{IsValid}
+use Rattle.hol_just.specs.declared.reason.Move.{Move}
+use Rattle.hol_just.specs.declared.tried.Step.{Step}
+use Rattle.hol_just.proofs.Validity.{valid_under}
+use Rattle.hol_stack.specs.Calls.{IsStep}
+use Rattle.hol_exec.specs.declared.expr.RunEnd.{RunEnd}
+use Rattle.hol_exec.specs.declared.expr.RunEnd.TheVariants.{Leaving}
+use Rattle.hol_exec.specs.StateValue.{ProofValue}
+use Rattle.hol_exec.specs.ReadsValue.{first_of}
+use Rattle.hol_exec.specs.Valid.{IsJustifiedEnd, IsLeft, CanStep}
 
-pub reverse_push : {A : Type 0} (xs : List A) (x : A) → reverse (xs ++ x ∷ []) ≡ x ∷ reverse xs
-reverse_push xs x = reverse-append xs (x ∷ [])
+-- ---- what a run left
 
-pub union_none : (items : Items) → set.union items no_items ≡ items
-union_none items = union_none_right total only items
+-- where there are no arguments no hypotheses are theirs
+nothing_left : (goal : GoalValue) → AreLeft no_hyps Nothing goal
+nothing_left goal = record {
+  among = set.contains-is_subset hyps_total no_hyps no_hyps (λ q h. h);
+  all = λ p h. absurd (not_in_empty hyps_total hyps_same p h);
+}
+
+pub left_by : (basis : Items) (first goal : GoalValue) (step : Step) (ended : RunEnd) → basis ≡ no_items → goal ≡ first → ended ≡ Leaving step → IsJustifiedEnd first ended → IsLeft basis step.just goal step.goals.items
+left_by basis first goal step ended plain same is h = record {
+  plain = plain;
+  valid =
+      subst (λ (g : GoalValue). IsValid (set.is_subset basis) no_hyps step.just (g ∷ []) step.goals.items) (sym same)
+      (valid_under (suits Nothing) (set.is_subset basis) no_hyps step.just (first ∷ []) step.goals.items (λ more k. refl)
+      (subst (IsJustifiedEnd first) is h no_hyps (nothing_left first)));
+}
+
+-- equal values are left so too
+pub left_same : (basis own : Items) (moves kept : List Move) (goal first : GoalValue) (left goals : List GoalValue) → own ≡ basis → kept ≡ moves → first ≡ goal → goals ≡ left → IsLeft basis moves goal left → IsLeft own kept first goals
+left_same basis own moves kept goal first left goals d e f g h =
+    subst (λ (b : Items). IsLeft b kept first goals) (sym d)
+    (subst (λ (ms : List Move). IsLeft basis ms first goals) (sym e)
+    (subst (λ (x : GoalValue). IsLeft basis moves x goals) (sym f)
+    (subst (λ (gs : List GoalValue). IsLeft basis moves goal gs) (sym g) h)))
+
+pub same_step : (basis : Items) (moves kept : List Move) (left goals standing : List GoalValue) → kept ≡ moves → goals ≡ left → IsStep basis moves left standing → IsStep basis kept goals standing
+same_step basis moves kept left goals standing e f h =
+    subst (λ (ms : List Move). IsStep basis ms goals standing) (sym e) (subst (λ (gs : List GoalValue). IsStep basis moves gs standing) (sym f) h)
+
+-- ---- the step of a proof
+
+agree_none : (a b : Items) → b ≡ no_items → Agree a b
+agree_none a b e x y k in_a in_b key_x key_y = absurd (not_in_empty total only y (ap (λ (s : Items). set.contains s y) (sym e) ∙ in_b))
+
+module _ (basis : Items) (moves : List Move) (goal : GoalValue) (left : List GoalValue) (h : IsLeft basis moves goal left) where
+  from_first : (own : Items) (goals : List GoalValue) → first_of goals ≡ Some goal → IsStep (set.union own basis) moves left goals
+  from_first own [] e = absurd (cc)
+  from_first own (g ∷ goals) e =
+      let same : g ≡ goal = cc in
+      subst (λ (x : GoalValue). IsValid (set.is_subset (set.union own basis)) no_hyps moves (x ∷ []) left) (sym same)
+      (valid_under (set.is_subset basis) (set.is_subset (set.union own basis)) no_hyps moves (goal ∷ []) left
+      (λ more k. subset_trans basis (set.union own basis) more (subset_right own basis) k) h.valid)
+
+  pub steps : (p : ProofValue) → first_of p.newest.goals ≡ Some goal → CanStep basis moves left p
+  steps p first = record { joins = agree_none p.newest.basis basis h.plain; step = from_first p.newest.basis p.newest.goals first }
+
+-- ---- the end of a proof
+
+pub none_open : (goals : List GoalValue) → length goals ≡ 0 → (goals ≡ [] → ⊥) → ⊥
+none_open [] e f = f refl
+none_open (g ∷ goals) e f = absurd (cc)

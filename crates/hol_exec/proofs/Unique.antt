@@ -16,12 +16,13 @@ use Rattle.hol_exec.specs.Reading.{ReadingValue, WrongArity, NoTyping, LargeRead
 use Rattle.hol_exec.specs.StateValue.{StateValue, EndedTheory}
 use Rattle.hol_exec.specs.ReadsValue.{ReadsValue, Values}
 use Rattle.hol_exec.specs.declared.refusal.RefusalKind.{RefusalKind}
-use Rattle.hol_exec.specs.declared.tac.ArgumentKind.{ArgumentKind}
-use Rattle.hol_exec.specs.declared.tac.ArgumentKind.TheVariants.{NoArguments}
+use Rattle.hol_goal.specs.Arguments.{TacArgsValue, arguments_of}
+use Rattle.hol_goal.specs.declared.tac_args.ArgumentKind.{ArgumentKind}
+use Rattle.hol_goal.specs.declared.tac_args.ArgumentKind.TheVariants as takes
+use Rattle.hol_goal.specs.declared.tac_code.TacCode.{TacCode}
 use Rattle.hol_exec.specs.declared.tac.CallRole.TheVariants.{Whole}
-use Rattle.hol_exec.specs.declared.tac.TacCode.{TacCode}
-use Rattle.hol_exec.specs.ExprValue.{ExprValue, Calls, TacArgsValue, Nothing}
-use Rattle.hol_exec.specs.Tac.{arguments_of, Registered}
+use Rattle.hol_exec.specs.ExprValue.{ExprValue, Calls}
+use Rattle.hol_exec.specs.Tac.{Registered}
 use Rattle.hol_exec.specs.Expr.{AreArguments, IsCallExpr, ResolutionValue, Resolved, Unresolved, named_refusals, first_refusal, IsResolvedCall, IsResolvedFitting, IsResolvedPast}
 use Rattle.hol_exec.specs.OutcomeValue.{OutcomeValue}
 use Rattle.hol_exec.specs.Local.{opens_read, IsOpening, resolved_outcome, IsApplying, IsLocalOutcome}
@@ -71,7 +72,12 @@ one_reading over t a b p q = one_read (term_has_arities over.types t) (raw_of ov
 
 module _ (setup : SetupValue) (cited : Values) where
   one_arguments : (kind : ArgumentKind) (arguments : List ArgumentText) (a b : TacArgsValue) (x y : Items) → AreArguments kind arguments cited a x → AreArguments kind arguments cited b y → (a ≡ b) × (x ≡ y)
-  one_arguments NoArguments arguments Nothing Nothing x y p q = (refl, p ∙ sym q)
+  one_arguments takes.Nothing arguments a b x y p q = (p.0 ∙ sym q.0, p.1 ∙ sym q.1)
+  one_arguments takes.Term arguments a b x y p q = absurd p
+  one_arguments takes.Pair arguments a b x y p q = absurd p
+  one_arguments takes.Theorem arguments a b x y p q = absurd p
+  one_arguments takes.TermAndTheorem arguments a b x y p q = absurd p
+  one_arguments takes.Theorems arguments a b x y p q = absurd p
 
   one_expr : (call : CallText) (a b : ExprValue) (x y : Items) → IsCallExpr setup Whole call cited a x → IsCallExpr setup Whole call cited b y → (a ≡ b) × (x ≡ y)
   one_expr call (Calls m c s) (Calls n d t) x y p q =

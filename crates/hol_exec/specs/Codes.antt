@@ -8,13 +8,15 @@ use Rattle.hol_terms.specs.Code.{coded_nameless}
 use Rattle.hol_kernel.specs.Items.{Items, items_code}
 use Rattle.hol_kernel.specs.Theorem.{Theorem, theorem_code}
 use Rattle.hol_goal.specs.Goal.{GoalValue, goal_code}
+use Rattle.hol_stack.specs.StackValue.{StepValue}
+use Rattle.hol_stack.specs.Codes.{step_code}
 use Rattle.hol_exec.specs.declared.key.Kind.{Kind}
 use Rattle.hol_exec.specs.declared.key.Kind.TheVariants as key_kind
 use Rattle.hol_exec.specs.declared.refusal.RefusalKind.{RefusalKind}
 use Rattle.hol_exec.specs.declared.refusal.RefusalKind.TheVariants.{Syntax, InProof, NoProofOpen, UnknownTheorem, UnknownTac, Untypable, NotBool, Arity, NameTaken, TooLarge, NoGoalOpen, Refused, TurnLimit, GoalsRemain}
 use Rattle.hol_exec.specs.Key.{KeyValue, kind_rank}
 use Rattle.hol_exec.specs.Entry.{EntryValue, ATheorem, Entries}
-use Rattle.hol_exec.specs.StateValue.{StepValue, ProofValue, StateValue}
+use Rattle.hol_exec.specs.StateValue.{ProofValue, StateValue}
 use Rattle.hol_exec.specs.ReadsValue.{ClosingValue, Values, ReadsValue}
 use Rattle.hol_exec.specs.OutcomeValue.{OutcomeValue, Opens, Leaves, Makes, Refuses}
 use Rattle.hol_exec.specs.Refusal.{kind_number}
@@ -52,17 +54,10 @@ coded_entries = coded_list (coded× coded_key coded_entry)
 
 -- ---- states
 
-abbrev pub coded_step : Coded StepValue
-coded_step =
-    code_by (List GoalValue × Items) (coded× (coded_list goal_code) items_code)
-    (λ s. (s.goals, s.basis))
-    (λ p. record { goals = p.0; basis = p.1 })
-    (λ _. refl)
-
 abbrev pub coded_proof : Coded ProofValue
 coded_proof =
     code_by ((List ℕ × Nameless) × (StepValue × List StepValue))
-    (coded× (coded× coded_name coded_nameless) (coded× coded_step (coded_list coded_step)))
+    (coded× (coded× coded_name coded_nameless) (coded× step_code (coded_list step_code)))
     (λ v. ((v.name, v.statement), (v.newest, v.earlier)))
     (λ p. record { name = p.0.0; statement = p.0.1; newest = p.1.0; earlier = p.1.1 })
     (λ _. refl)

@@ -5,25 +5,33 @@ use Rattle.std.specs.List.{list_any}
 use Rattle.hol_kernel.specs.Items.{Items, no_items}
 use Rattle.hol_notation_tactics.specs.Text.{ArgumentText, CallText, TacText, TacTexts, Call, Then, ThenL, OrElse, Repeat, Try, Changed, Every, First, Replicate, DischThen, PopAssum, FirstAssum, SubgoalThen, no_tacs, more_tacs}
 use Rattle.hol_goal.specs.Goal.{GoalValue, goal_size}
-use Rattle.hol_goal.specs.Answer.{UsedValue, AnswerResult, AnswerValue, Left, Unfit}
-use Rattle.hol_exec.specs.declared.tac.ArgumentKind.{ArgumentKind}
-use Rattle.hol_exec.specs.declared.tac.ArgumentKind.TheVariants.{NoArguments}
+use Rattle.hol_goal.specs.Answer.{UsedValue, AnswerResult, AnswerValue, Left, Unfit, answered}
+use Rattle.hol_goal.specs.Arguments.{TacArgsValue, Nothing, arguments_of}
+use Rattle.hol_goal.specs.declared.tac_args.ArgumentKind.{ArgumentKind}
+use Rattle.hol_goal.specs.declared.tac_args.ArgumentKind.TheVariants as takes
+use Rattle.hol_goal.specs.declared.tac_code.TacCode.{TacCode}
+use Rattle.hol_just.specs.Tac.{Meaning, tac}
 use Rattle.hol_exec.specs.declared.tac.CallRole.{CallRole}
 use Rattle.hol_exec.specs.declared.tac.CallRole.TheVariants.{Whole, TheoremTactic}
-use Rattle.hol_exec.specs.declared.tac.TacCode.{TacCode}
 use Rattle.hol_exec.specs.declared.refusal.RefusalKind.{RefusalKind}
 use Rattle.hol_exec.specs.declared.refusal.RefusalKind.TheVariants as refusal
 use Rattle.hol_exec.specs.Setup.{SetupValue}
-use Rattle.hol_exec.specs.ExprValue.{TacArgsValue, Nothing, ExprValue, Calls}
+use Rattle.hol_exec.specs.ExprValue.{ExprValue, Calls}
 use Rattle.hol_exec.specs.ReadsValue.{Values}
 use Rattle.hol_exec.specs.Standing.{first_unknown}
-use Rattle.hol_exec.specs.Tac.{arguments_of, Registered, called, tac}
+use Rattle.hol_exec.specs.Tac.{Registered, called}
 
 -- ---- resolved expressions
 
--- arguments of a kind, as they are written, resolve to these over the values of what is cited, on the union of the bases of all that is resolved
+-- Arguments of a kind, as they are written, resolve to these over the values of what is cited, on the union of the bases of all that is resolved. No
+-- function that takes some is registered.
 abbrev pub AreArguments : ArgumentKind → List ArgumentText → Values → TacArgsValue → Items → Type 0
-AreArguments NoArguments arguments cited Nothing basis = basis ≡ no_items
+AreArguments takes.Nothing arguments cited args basis = (args ≡ Nothing) × (basis ≡ no_items)
+AreArguments takes.Term arguments cited args basis = ⊥
+AreArguments takes.Pair arguments cited args basis = ⊥
+AreArguments takes.Theorem arguments cited args basis = ⊥
+AreArguments takes.TermAndTheorem arguments cited args basis = ⊥
+AreArguments takes.Theorems arguments cited args basis = ⊥
 
 -- a call of the role resolves to the expression
 abbrev pub IsCallExpr : SetupValue → CallRole → CallText → Values → ExprValue → Items → Type 0
@@ -133,17 +141,32 @@ pub record RunValue : Type 0 where
 abbrev pub has_large : List GoalValue → Bool
 has_large goals = list_any (λ g. nat_lt 20000 (goal_size g)) goals
 
+abbrev pub left_result : List GoalValue → RunResult
+left_result goals = cond (has_large goals) LargeGoal (Leaving goals)
+
+-- a run that left goals, and turns
+abbrev pub left_run : List GoalValue → ℕ → RunValue
+left_run goals turns = record { result = left_result goals; used = record { turns_left = turns } }
+
 abbrev pub run_result : List ℕ → AnswerResult → RunResult
-run_result name (Left goals) = cond (has_large goals) LargeGoal (Leaving goals)
+run_result name (Left goals) = left_result goals
 run_result name Unfit = RefusedBy name
 
 abbrev pub run_answer : List ℕ → AnswerValue → RunValue
 run_answer name answer = record { result = run_result name answer.result; used = answer.used }
 
+-- what a function on goals answers by its meaning; none without one is registered
+abbrev pub meant : Option Meaning → TacArgsValue → GoalValue → UsedValue → AnswerValue
+meant None args goal used = answered None used
+meant (Some f) args goal used = f args goal used
+
+abbrev pub run_paid : List ℕ → TacCode → TacArgsValue → GoalValue → UsedValue → RunValue
+run_paid name code args goal used = run_answer name (meant (tac code) args goal used)
+
 -- a call pays one turn, and then calls
 abbrev pub run_call : List ℕ → TacCode → TacArgsValue → GoalValue → UsedValue → ℕ → RunValue
 run_call name code args goal used zero = record { result = OutOfTurns; used = used }
-run_call name code args goal used (suc turns) = run_answer name (tac code args goal (record used { turns_left = turns }))
+run_call name code args goal used (suc turns) = run_paid name code args goal (record used { turns_left = turns })
 
 -- the run of an expression on a goal, with what was used before
 abbrev pub run_expr : ExprValue → GoalValue → UsedValue → RunValue

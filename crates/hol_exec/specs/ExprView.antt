@@ -1,5 +1,6 @@
 -- What the code's expressions, resolutions and runs stand for.
 use Rattle.std.specs.Prelude.{string_bytes}
+use Rattle.hol_goal.specs.Arguments.{Nothing}
 use Rattle.hol_exec.specs.declared.expr.Expr.{Expr}
 use Rattle.hol_exec.specs.declared.expr.Expr.TheVariants as expr
 use Rattle.hol_exec.specs.declared.expr.Resolution.{Resolution}
@@ -7,19 +8,19 @@ use Rattle.hol_exec.specs.declared.expr.Resolution.TheVariants as resolution
 use Rattle.hol_exec.specs.declared.expr.RunEnd.{RunEnd}
 use Rattle.hol_exec.specs.declared.expr.RunEnd.TheVariants as run
 use Rattle.hol_exec.specs.declared.expr.Run.{Run}
-use Rattle.hol_exec.specs.TacView.{args_value, used_value}
+use Rattle.hol_exec.specs.TacView.{code_of, used_value}
 use Rattle.hol_exec.specs.ExprValue.{ExprValue, Calls}
 use Rattle.hol_exec.specs.Expr.{ResolutionValue, Resolved, Unresolved, RunResult, RunValue, Leaving, LargeGoal, RefusedBy, OutOfTurns}
 
 abbrev pub expr_value : Expr → ExprValue
-expr_value (expr.Calls name code args) = Calls (string_bytes name) code (args_value args)
+expr_value (expr.Calls name tac) = Calls (string_bytes name) (code_of tac) Nothing
 
 abbrev pub resolution_value : Resolution → ResolutionValue
 resolution_value (resolution.Resolved e basis) = Resolved (expr_value e) basis
 resolution_value (resolution.Unresolved kind arg) = Unresolved kind (string_bytes arg)
 
 abbrev pub run_end : RunEnd → RunResult
-run_end (run.Leaving goals) = Leaving goals.items
+run_end (run.Leaving step) = Leaving step.goals.items
 run_end run.LargeGoal = LargeGoal
 run_end (run.RefusedBy name) = RefusedBy (string_bytes name)
 run_end run.OutOfTurns = OutOfTurns

@@ -7,6 +7,6 @@ use Rattle.hol_exec.specs.OutcomeValue.{OutcomeValue, Opens, Leaves, Makes, Refu
 
 abbrev pub outcome_of : Change → OutcomeValue
 outcome_of (change.Opens name statement basis) = Opens (string_bytes name) (nameless [] statement) basis
-outcome_of (change.Leaves goal goals basis) = Leaves goal goals.items basis
+outcome_of (change.Leaves goal step basis) = Leaves goal step.goals.items basis
 outcome_of (change.Makes entries) = Makes entries.items
 outcome_of (change.Refuses kind arg) = Refuses kind (string_bytes arg)

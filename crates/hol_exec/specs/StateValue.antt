@@ -2,14 +2,9 @@
 -- Source: HOL Light's goal stacks (tactics.ml); entries are this project's.
 use Rattle.std.specs.Prelude.{ℕ, List, [], Option, Some, None}
 use Rattle.hol_terms.specs.Nameless.{Nameless}
-use Rattle.hol_kernel.specs.Items.{Items}
 use Rattle.hol_goal.specs.Goal.{GoalValue}
+use Rattle.hol_stack.specs.StackValue.{StepValue}
 use Rattle.hol_exec.specs.Entry.{Entries}
-
--- an element of a proof's history: the open goals, and the basis of all that the proof resolved so far
-pub record StepValue : Type 0 where
-  pub goals : List GoalValue
-  pub basis : Items
 
 -- an open proof: the name and the statement of the `g` that opened it, and its history, the newest element apart from the
 -- earlier ones, of which the newest comes first

@@ -1,43 +1,83 @@
--- The functions on goals whose names end in `_TAC` (HOL Light Reference Manual), by code: what arguments each takes, and what it leaves of
--- a goal.
+-- Calls of functions on goals, as they are written: what a name calls, and whether arguments are of its kind. What each function leaves of a goal is said by
+-- its code, in hol_just.
 use Rattle.std.specs.Prelude.{ℕ, List, [], ◌∷◌, Bool, true, false, cond, bytes_eq, Option, Some, None}
 use Rattle.std.specs.Map.{lookup}
-use Rattle.hol_terms.specs.Alpha.{alpha_eq}
-use Rattle.hol_formulas.specs.Equation.{Sides, dest_eq}
-use Rattle.hol_notation_tactics.specs.Text.{ArgumentText, CallText}
-use Rattle.hol_goal.specs.Goal.{GoalValue}
-use Rattle.hol_goal.specs.Answer.{UsedValue, AnswerValue, answered}
-use Rattle.hol_exec.specs.declared.tac.ArgumentKind.{ArgumentKind}
-use Rattle.hol_exec.specs.declared.tac.ArgumentKind.TheVariants.{NoArguments}
+use Rattle.hol_notation_tactics.specs.Text.{ArgumentText, Term, Theorem, Pair, Theorems, CallText}
+use Rattle.hol_goal.specs.Arguments.{arguments_of}
+use Rattle.hol_goal.specs.declared.tac_args.ArgumentKind.{ArgumentKind}
+use Rattle.hol_goal.specs.declared.tac_args.ArgumentKind.TheVariants as takes
+use Rattle.hol_goal.specs.declared.tac_code.TacCode.{TacCode}
 use Rattle.hol_exec.specs.declared.tac.CallRole.{CallRole}
 use Rattle.hol_exec.specs.declared.tac.CallRole.TheVariants.{Whole, TheoremTactic}
-use Rattle.hol_exec.specs.declared.tac.TacCode.{TacCode}
-use Rattle.hol_exec.specs.declared.tac.TacCode.TheVariants.{ReflTac}
 use Rattle.hol_exec.specs.Setup.{SetupValue}
-use Rattle.hol_exec.specs.ExprValue.{TacArgsValue, Nothing}
 use Rattle.hol_exec.specs.ReadsValue.{Values}
 
--- ---- calls
-
--- what a name calls: a registered TAC
+-- what a name calls: a registered function
 pub data CalledValue : Type 0 where
   Registered : TacCode → CalledValue
-
--- the kind of arguments that a TAC takes
-abbrev pub arguments_of : TacCode → ArgumentKind
-arguments_of ReflTac = NoArguments
 
 -- the kind of arguments of what is called
 abbrev pub kind_of : CalledValue → ArgumentKind
 kind_of (Registered code) = arguments_of code
 
+-- ---- the forms of arguments
+
+abbrev pub is_term : ArgumentText → Bool
+is_term (Term t) = true
+is_term (Theorem th) = false
+is_term (Pair s t) = false
+is_term (Theorems ths) = false
+
+abbrev pub is_theorem : ArgumentText → Bool
+is_theorem (Term t) = false
+is_theorem (Theorem th) = true
+is_theorem (Pair s t) = false
+is_theorem (Theorems ths) = false
+
+abbrev pub is_pair : ArgumentText → Bool
+is_pair (Term t) = false
+is_pair (Theorem th) = false
+is_pair (Pair s t) = true
+is_pair (Theorems ths) = false
+
+abbrev pub is_theorems : ArgumentText → Bool
+is_theorems (Term t) = false
+is_theorems (Theorem th) = false
+is_theorems (Pair s t) = false
+is_theorems (Theorems ths) = true
+
+-- no argument, one of a form, or two of two forms
+abbrev pub is_none : List ArgumentText → Bool
+is_none [] = true
+is_none (a ∷ arguments) = false
+
+abbrev pub is_one : (ArgumentText → Bool) → List ArgumentText → Bool
+is_one form [] = false
+is_one form (a ∷ []) = form a
+is_one form (a ∷ b ∷ arguments) = false
+
+abbrev pub are_two : (ArgumentText → Bool) → (ArgumentText → Bool) → List ArgumentText → Bool
+are_two form next [] = false
+are_two form next (a ∷ arguments) = cond (form a) (is_one next arguments) false
+
+-- ---- calls
+
 -- whether arguments, as they are written, are of a kind; a theorem tactic's last argument, a theorem, is left out
 abbrev pub fits : ArgumentKind → CallRole → List ArgumentText → Bool
-fits NoArguments Whole [] = true
-fits NoArguments Whole (a ∷ arguments) = false
-fits NoArguments TheoremTactic arguments = false
+fits takes.Nothing Whole arguments = is_none arguments
+fits takes.Nothing TheoremTactic arguments = false
+fits takes.Term Whole arguments = is_one is_term arguments
+fits takes.Term TheoremTactic arguments = false
+fits takes.Pair Whole arguments = is_one is_pair arguments
+fits takes.Pair TheoremTactic arguments = false
+fits takes.Theorem Whole arguments = is_one is_theorem arguments
+fits takes.Theorem TheoremTactic arguments = is_none arguments
+fits takes.TermAndTheorem Whole arguments = are_two is_term is_theorem arguments
+fits takes.TermAndTheorem TheoremTactic arguments = is_one is_term arguments
+fits takes.Theorems Whole arguments = is_one is_theorems arguments
+fits takes.Theorems TheoremTactic arguments = false
 
--- what a name stands for, from what is registered under it and the values of what is cited: the registered TAC, or nothing
+-- what a name stands for, from what is registered under it and the values of what is cited: the registered function, or nothing
 abbrev pub named : List ℕ → Option TacCode → Values → Option CalledValue
 named name None cited = None
 named name (Some code) cited = Some (Registered code)
@@ -49,17 +89,3 @@ fitting (Some c) role arguments = cond (fits (kind_of c) role arguments) (Some c
 -- what a call of the role calls, where the name stands for something and the arguments are of its kind
 abbrev pub called : SetupValue → CallRole → CallText → Values → Option CalledValue
 called setup role call cited = fitting (named call.name (lookup (bytes_eq call.name) setup.table) cited) role call.arguments
-
--- ---- what a TAC leaves
-
-abbrev pub closes_sides : Option Sides → Option (List GoalValue)
-closes_sides None = None
-closes_sides (Some s) = cond (alpha_eq s.left s.right) (Some []) None
-
--- REFL_TAC closes a goal `s = s`, up to bound names
-abbrev pub refl_tac : GoalValue → Option (List GoalValue)
-refl_tac goal = closes_sides (dest_eq goal.conclusion)
-
--- what the TAC answers on a goal, with what the run may still use
-abbrev pub tac : TacCode → TacArgsValue → GoalValue → UsedValue → AnswerValue
-tac ReflTac Nothing goal used = answered (refl_tac goal) used

@@ -1,22 +1,30 @@
--- What the code's arguments, calls and answers of TACs stand for.
+-- What the code's functions on goals and calls stand for.
 use Rattle.std.specs.Prelude.{Option, Some, None}
-use Rattle.hol_goal.specs.Answer.{UsedValue, AnswerResult, AnswerValue, Left, Unfit}
-use Rattle.hol_exec.specs.declared.tac.TacArgs.{TacArgs}
-use Rattle.hol_exec.specs.declared.tac.TacArgs.TheVariants as args
+use Rattle.hol_goal.specs.Answer.{UsedValue}
+use Rattle.hol_goal.specs.declared.tac_code.TacCode.{TacCode}
+use Rattle.hol_goal.specs.declared.tac_code.TacCode.TheVariants as code
+use Rattle.hol_exec.specs.declared.running_tac.RunningTac.{RunningTac}
+use Rattle.hol_exec.specs.declared.running_tac.RunningTac.TheVariants as running
 use Rattle.hol_exec.specs.declared.tac.Callee.{Callee}
 use Rattle.hol_exec.specs.declared.tac.Callee.TheVariants as calls
-use Rattle.hol_exec.specs.declared.tac.Used.{Used}
-use Rattle.hol_exec.specs.declared.tac.TacResult.{TacResult}
-use Rattle.hol_exec.specs.declared.tac.TacResult.TheVariants as code
-use Rattle.hol_exec.specs.declared.tac.Answer.{Answer}
-use Rattle.hol_exec.specs.ExprValue.{TacArgsValue, Nothing}
+use Rattle.hol_exec.specs.declared.expr.Used.{Used}
 use Rattle.hol_exec.specs.Tac.{CalledValue, Registered}
 
-abbrev pub args_value : TacArgs → TacArgsValue
-args_value args.Nothing = Nothing
+abbrev pub code_of : RunningTac → TacCode
+code_of running.AllTac = code.AllTac
+code_of running.NoTac = code.NoTac
+code_of running.ReflTac = code.ReflTac
+code_of running.ConjTac = code.ConjTac
+code_of running.Disj1Tac = code.Disj1Tac
+code_of running.Disj2Tac = code.Disj2Tac
+code_of running.EqTac = code.EqTac
+code_of running.GenTac = code.GenTac
+code_of running.ApTermTac = code.ApTermTac
+code_of running.ApThmTac = code.ApThmTac
+code_of running.MkCombTac = code.MkCombTac
 
 abbrev pub called_value : Callee → CalledValue
-called_value (calls.Registered tac) = Registered tac
+called_value (calls.Registered tac) = Registered (code_of tac)
 
 abbrev pub called_option : Option Callee → Option CalledValue
 called_option None = None
@@ -24,10 +32,3 @@ called_option (Some c) = Some (called_value c)
 
 abbrev pub used_value : Used → UsedValue
 used_value used = record { turns_left = used.turns_left }
-
-abbrev pub tac_result : TacResult → AnswerResult
-tac_result (code.Left goals) = Left goals.items
-tac_result code.Unfit = Unfit
-
-abbrev pub answer_value : Answer → AnswerValue
-answer_value answer = record { result = tac_result answer.result; used = used_value answer.used }

@@ -1,53 +1,50 @@
--- What only private clauses speak of: what is true of every open proof, and what makes an outcome a valid one.
+-- What only private clauses speak of: what the program keeps of an outcome beside its value, and when a proof can take a step.
 -- Source of validity: LNCS 78: from theorems that achieve the goals left, a theorem is had that achieves the goal.
-use Rattle.std.specs.Prelude.{◌≡◌, ◌⊎◌, List, [], ◌∷◌, true, Some}
-use Rattle.hol_terms.specs.Nameless.{Nameless}
-use Rattle.hol_terms.specs.Alpha.{alpha_eq}
+use Rattle.std.specs.Prelude.{◌≡◌, List, [], ◌∷◌}
+use Rattle.std.specs.FinSet as set
+use Rattle.hol_terms.specs.Nameless.{Nameless, nameless}
 use Rattle.hol_kernel.specs.Items.{Items, no_items}
+use Rattle.hol_kernel.specs.Extends.{Agree}
+use Rattle.hol_kernel.specs.Sequent.{no_hyps}
 use Rattle.hol_kernel.specs.Typing.{HasType}
-use Rattle.hol_formulas.specs.Equation.{bool_type, Sides, dest_eq}
+use Rattle.hol_formulas.specs.Equation.{bool_type}
 use Rattle.hol_goal.specs.Goal.{GoalValue}
+use Rattle.hol_goal.specs.Arguments.{Nothing}
+use Rattle.hol_just.specs.Answering.{IsJustified}
+use Rattle.hol_just.specs.Valid.{IsValid}
+use Rattle.hol_just.specs.declared.reason.Move.{Move}
+use Rattle.hol_stack.specs.Calls.{IsStep}
+use Rattle.hol_exec.specs.declared.expr.RunEnd.{RunEnd}
+use Rattle.hol_exec.specs.declared.expr.RunEnd.TheVariants.{Leaving, LargeGoal, RefusedBy, OutOfTurns}
+use Rattle.hol_exec.specs.declared.outcome.Change.{Change}
+use Rattle.hol_exec.specs.declared.outcome.Change.TheVariants.{Opens, Leaves, Makes, Refuses}
 use Rattle.hol_exec.specs.Entry.{EachIsEntry}
-use Rattle.hol_exec.specs.StateValue.{StepValue, ProofValue}
-use Rattle.hol_exec.specs.ReadsValue.{ClosingValue}
-use Rattle.hol_exec.specs.OutcomeValue.{OutcomeValue, Opens, Leaves, Makes, Refuses}
+use Rattle.hol_exec.specs.StateValue.{ProofValue}
 
 -- a well typed term of type bool
 abbrev pub IsStatement : Items → Nameless → Type 0
 IsStatement basis t = HasType basis t bool_type
 
--- an equation of terms that differ in bound names at most: reflexivity and transitivity prove it
-pub record IsReflexive (t : Nameless) : Type 0 where
-  pub sides : Sides
-  pub equates : dest_eq t ≡ Some sides
-  pub same : alpha_eq sides.left sides.right ≡ true
+-- what a run leaves is justified; it has no arguments
+abbrev pub IsJustifiedEnd : GoalValue → RunEnd → Type 0
+IsJustifiedEnd goal (Leaving step) = IsJustified Nothing goal step
+IsJustifiedEnd goal LargeGoal = Unit {0}
+IsJustifiedEnd goal (RefusedBy name) = Unit {0}
+IsJustifiedEnd goal OutOfTurns = Unit {0}
 
--- An opened statement is well typed. A step closes its goal by reflexivity, which is all that a TAC does, and resolves nothing that rests on
--- items. What is made are entries.
-abbrev pub IsValid : OutcomeValue → Type 0
-IsValid (Opens name statement basis) = IsStatement basis statement
-IsValid (Leaves goal goals basis) = (goals ≡ []) × (basis ≡ no_items) × IsReflexive goal.conclusion
-IsValid (Makes entries) = EachIsEntry entries
-IsValid (Refuses kind arg) = Unit {0}
+-- The moves are valid from the goal to those that are left, over each basis that contains what was resolved, which rests on no items.
+pub record IsLeft (basis : Items) (moves : List Move) (goal : GoalValue) (left : List GoalValue) : Type 0 where
+  pub plain : basis ≡ no_items
+  pub valid : IsValid (set.is_subset basis) no_hyps moves (goal ∷ []) left
 
--- theorems of the goals prove the statement: it is the one goal, or none is left and reflexivity proves it
-abbrev pub Proves : Nameless → List GoalValue → Type 0
-Proves statement goals = (goals ≡ record { assumptions = []; conclusion = statement } ∷ []) ⊎ ((goals ≡ []) × IsReflexive statement)
+-- An opened statement is well typed; goals that are left are so by the justification that is kept beside them; what is made are entries.
+abbrev pub IsValidChange : Change → Type 0
+IsValidChange (Opens name statement basis) = IsStatement basis (nameless [] statement)
+IsValidChange (Leaves goal step basis) = IsLeft basis step.just goal step.goals.items
+IsValidChange (Makes entries) = EachIsEntry entries.items
+IsValidChange (Refuses kind arg) = Unit {0}
 
--- At an element of the history the statement is well typed over the basis, and the open goals prove it.
-pub record IsSoundStep (statement : Nameless) (s : StepValue) : Type 0 where
-  pub typed : IsStatement s.basis statement
-  pub goals : Proves statement s.goals
-
-abbrev pub AreSoundSteps : Nameless → List StepValue → Type 0
-AreSoundSteps statement [] = Unit {0}
-AreSoundSteps statement (s ∷ steps) = IsSoundStep statement s × AreSoundSteps statement steps
-
-pub record IsSoundProof (p : ProofValue) : Type 0 where
-  pub newest : IsSoundStep p.statement p.newest
-  pub earlier : AreSoundSteps p.statement p.earlier
-
--- the same of what `qed` reads
-pub record IsSoundClosing (c : ClosingValue) : Type 0 where
-  pub statement : IsStatement c.basis c.statement
-  pub closed : c.open_goals ≡ 0 → IsReflexive c.statement
+-- The proof can take the step: its basis agrees with what was resolved, and the moves are valid from its first goal.
+pub record CanStep (basis : Items) (moves : List Move) (left : List GoalValue) (p : ProofValue) : Type 0 where
+  pub joins : Agree p.newest.basis basis
+  pub step : IsStep (set.union p.newest.basis basis) moves left p.newest.goals

@@ -1,19 +1,22 @@
-//! Expressions of TACs: what is written, resolved, and its run.
+//! Expressions of functions on goals: what is written, resolved, and its run.
 ghost use Rattle.std.specs.Prelude.{◌≡◌, IfOk, IsSome, None};
+ghost use Rattle.hol_goal.specs.Arguments.{Nothing};
+ghost use Rattle.hol_just.specs.Answering.{IsJustified};
 ghost use Rattle.hol_exec.specs.SetupView.{setup_value};
-ghost use Rattle.hol_exec.specs.TacView.{args_value, used_value, tac_result};
+ghost use Rattle.hol_exec.specs.TacView.{code_of, used_value};
 ghost use Rattle.hol_exec.specs.Tac.{called};
-ghost use Rattle.hol_exec.specs.Expr.{calls_of, first_unfit, IsResolvedCall, IsResolvedFitting, IsResolution, has_large, run_result, run_call, run_expr};
+ghost use Rattle.hol_exec.specs.Expr.{calls_of, first_unfit, IsResolvedCall, IsResolvedFitting, IsResolution, left_run, has_large, run_paid, run_call, run_expr};
 ghost use Rattle.hol_exec.specs.ExprView.{expr_value, resolution_value, run_end, run_value};
+ghost use Rattle.hol_exec.specs.Valid.{IsJustifiedEnd};
 
 use crate::calls::{calls_of, first_unfit};
 use crate::reads::Reads;
 use crate::refusal::RefusalKind;
+use crate::running_tac::RunningTac;
 use crate::setup::Setup;
-use crate::tac::{
-    ArgumentKind, CallRole, Callee, TacArgs, TacCode, TacResult, Used, arguments_of, called, tac,
-};
+use crate::tac::{CallRole, Callee, called};
 use hol_goal::Goal;
+use hol_just::{Step, TacFault, Tried};
 use hol_kernel::Basis;
 use hol_notation_tactics::{TacCall, TacExpr, TacExprNode};
 use std::alloc::{AllocError, Global};
@@ -24,8 +27,8 @@ const LARGEST_GOAL: u32 = 20_000;
 /// An expression whose names are resolved.
 #[derive(Drop)]
 pub(crate) enum Expr {
-    /// A call of a TAC, with the name that it is called by.
-    Calls(String, TacCode, TacArgs),
+    /// A call of a function on goals, with the name that it is called by. It has no arguments.
+    Calls(String, RunningTac),
 }
 
 /// What resolving comes to.
@@ -37,11 +40,18 @@ pub(crate) enum Resolution {
     Unresolved(RefusalKind, String),
 }
 
+/// What a run may still use.
+#[derive(Clone, Copy)]
+pub(crate) struct Used {
+    /// The turns left.
+    pub(crate) turns_left: u32,
+}
+
 /// How a run ends.
 #[derive(Drop)]
 pub(crate) enum RunEnd {
-    /// With these goals left.
-    Leaving(Vec<Goal>),
+    /// With goals left, and why they are.
+    Leaving(Step),
     /// A goal that is left has over 20,000 nodes.
     LargeGoal,
     /// The TAC of this name refused.
@@ -114,6 +124,7 @@ fn resolve_fitting(
 }
 
 // Resolves a call that fits.
+#[tactic(auto, using(crate::proofs::Resolving::resolved_call))]
 fn resolve_call(
     alloc: Global,
     setup: &Setup,
@@ -124,14 +135,10 @@ fn resolve_call(
     ensures { IfOk result (λ r. IsResolvedCall (setup_value setup.now) call.now reads.now.cited (resolution_value r)) }
 {
     let name = String::from_str(alloc, call.name.as_str())?;
-    let Some(Callee::Registered(code)) = called(setup, CallRole::Whole, call, reads) else {
+    let Some(Callee::Registered(tac)) = called(setup, CallRole::Whole, call, reads) else {
         unreachable!()
     };
-    let args = match arguments_of(code) {
-        ArgumentKind::NoArguments => TacArgs::Nothing,
-    };
-    let expr = Expr::Calls(name, code, args);
-    Ok(Resolution::Resolved(expr, Basis::empty(alloc)?))
+    Ok(Resolution::Resolved(Expr::Calls(name, tac), Basis::empty(alloc)?))
 }
 
 /// Runs the expression on the goal, with what may still be used.
@@ -141,10 +148,11 @@ pub(crate) fn run_expr(
     goal: &Goal,
     used: Used,
 ) -> Result<Run, AllocError>
-    ensures { IfOk result (λ run. run_value run ≡ run_expr (expr_value expr.now) goal.now (used_value used)) }
+    ensures run { IfOk result (λ run. run_value run ≡ run_expr (expr_value expr.now) goal.now (used_value used)) }
+    ensures valid { IfOk result (λ run. IsJustifiedEnd goal.now run.result) }
 {
     match expr {
-        Expr::Calls(name, code, args) => run_call(alloc, name.as_str(), *code, *args, goal, used),
+        Expr::Calls(name, tac) => run_call(alloc, name.as_str(), *tac, goal, used),
     }
 }
 
@@ -152,12 +160,12 @@ pub(crate) fn run_expr(
 fn run_call(
     alloc: Global,
     name: &str,
-    code: TacCode,
-    args: TacArgs,
+    tac: RunningTac,
     goal: &Goal,
     used: Used,
 ) -> Result<Run, AllocError>
-    ensures { IfOk result (λ run. run_value run ≡ run_call name.now code (args_value args) goal.now (used_value used) used.turns_left) }
+    ensures run { IfOk result (λ run. run_value run ≡ run_call name.now (code_of tac) Nothing goal.now (used_value used) used.turns_left) }
+    ensures valid { IfOk result (λ run. IsJustifiedEnd goal.now run.result) }
 {
     if used.turns_left == 0 {
         return Ok(Run {
@@ -165,28 +173,48 @@ fn run_call(
             used,
         });
     }
-    let left = Used {
-        turns_left: used.turns_left - 1,
-    };
-    let answer = tac(alloc, code, args, goal, left);
-    let used = answer.used;
-    let result = run_result(alloc, name, answer.result)?;
-    Ok(Run { result, used })
+    run_paid(alloc, name, tac, goal, used.turns_left - 1)
 }
 
-// How the run of a TAC of the name ends that makes this of the goal.
-fn run_result(alloc: Global, name: &str, made: TacResult) -> Result<RunEnd, AllocError>
-    ensures { IfOk result (λ r. run_end r ≡ run_result name.now (tac_result made)) }
+// A call that has paid, so many turns being left.
+#[tactic(auto, using(crate::proofs::Answered::is_left, crate::proofs::Answered::is_refused))]
+fn run_paid(
+    alloc: Global,
+    name: &str,
+    tac: RunningTac,
+    goal: &Goal,
+    turns: u32,
+) -> Result<Run, AllocError>
+    ensures run { IfOk result (λ run. run_value run ≡ run_paid name.now (code_of tac) Nothing goal.now (record { turns_left = turns })) }
+    ensures valid { IfOk result (λ run. IsJustifiedEnd goal.now run.result) }
 {
-    match made {
-        TacResult::Left(goals) => {
-            if has_large(&goals) {
-                Ok(RunEnd::LargeGoal)
-            } else {
-                Ok(RunEnd::Leaving(goals))
-            }
-        }
-        TacResult::Unfit => Ok(RunEnd::RefusedBy(String::from_str(alloc, name)?)),
+    match tac.answer(alloc, goal, turns) {
+        Ok(tried) => Ok(left_of(goal, tried)),
+        Err(TacFault::Refused(turns_left)) => Ok(Run {
+            result: RunEnd::RefusedBy(String::from_str(alloc, name)?),
+            used: Used { turns_left },
+        }),
+        Err(TacFault::Memory) => Err(AllocError),
+    }
+}
+
+// The run that left these goals of the goal, where none of them is too large.
+fn left_of(_goal: &Goal, tried: Tried) -> Run
+    requires { IsJustified Nothing _goal.now tried.step }
+    ensures run { run_value result ≡ left_run tried.step.goals.items tried.left }
+    ensures valid { IsJustifiedEnd _goal.now result.result }
+{
+    let Tried { step, left } = tried;
+    let used = Used { turns_left: left };
+    if has_large(&step.goals) {
+        return Run {
+            result: RunEnd::LargeGoal,
+            used,
+        };
+    }
+    Run {
+        result: RunEnd::Leaving(step),
+        used,
     }
 }
 

@@ -1,8 +1,9 @@
-//! Goals, compared and copied.
+//! Goals, and what leaves them, compared and copied.
 ghost use Rattle.std.specs.Prelude.{◌≡◌, ◌++◌, IfOk, OnOk};
 
 use crate::same::{Same, same_terms};
 use hol_goal::Goal;
+use hol_just::Step;
 use std::alloc::{AllocError, Global};
 
 impl Same for Goal {
@@ -21,12 +22,19 @@ pub(crate) fn copies(alloc: Global, goals: &[Goal]) -> Result<Vec<Goal>, AllocEr
     Ok(copied)
 }
 
-/// Puts copies of the goals at the end.
-pub(crate) fn add_copies(
-    alloc: Global,
-    to: &mut Vec<Goal>,
-    goals: &[Goal],
-) -> Result<(), AllocError>
+/// A copy of the step.
+pub(crate) fn step_copy(alloc: Global, step: &Step) -> Result<Step, AllocError>
+    ensures goals { IfOk result (λ copied. copied.goals.items ≡ step.now.goals.items) }
+    ensures just { IfOk result (λ copied. copied.just ≡ step.now.just) }
+{
+    Ok(Step {
+        goals: copies(alloc, &step.goals)?,
+        just: step.just.copy(alloc)?,
+    })
+}
+
+// Puts copies of the goals at the end.
+fn add_copies(alloc: Global, to: &mut Vec<Goal>, goals: &[Goal]) -> Result<(), AllocError>
     ensures { OnOk result (to.new.items ≡ to.old.items ++ goals.now) }
 {
     for goal in goals {

@@ -14,14 +14,13 @@ pub fn apply(alloc: Global, state: &mut State, outcome: &Outcome) -> Result<(), 
     ensures ok { OnOk result (state.new ≡ after state.old outcome.now) }
     ensures err { OnErr result (state.new ≡ state.old) }
 {
-    state.proof_promise();
     match outcome.change() {
         Change::Opens(name, statement, basis) => {
             let proof = Proof::begin(alloc, name.as_str(), statement, basis)?;
             state.begin(proof);
             Ok(())
         }
-        Change::Leaves(_, goals, _) => state.step(alloc, goals),
+        Change::Leaves(_, step, basis) => state.step(alloc, step, basis),
         Change::Makes(entries) => state.make(alloc, entries),
         Change::Refuses(_, _) => Ok(()),
     }

@@ -4,14 +4,15 @@ ghost use Rattle.hol_terms.specs.Nameless.{nameless};
 ghost use Rattle.hol_exec.specs.Entry.{EachIsEntry};
 ghost use Rattle.hol_exec.specs.OutcomeValue.{OutcomeValue, Opens, Leaves, Makes, Refuses, MakesTheorems};
 ghost use Rattle.hol_exec.specs.OutcomeView.{outcome_of};
-ghost use Rattle.hol_exec.specs.Valid.{IsStatement, IsValid};
+ghost use Rattle.hol_exec.specs.Valid.{IsStatement, IsLeft, IsValidChange};
 
 use crate::entry::{Entry, Made, copies};
-use crate::goals::copies as goal_copies;
+use crate::goals::step_copy;
 use crate::key::Key;
 use crate::refusal::RefusalKind;
 use crate::same::{Same, same_basis, same_each};
 use hol_goal::Goal;
+use hol_just::Step;
 use hol_kernel::Basis;
 use hol_terms::Term;
 use std::alloc::{AllocError, Global};
@@ -28,8 +29,8 @@ pub struct Outcome {
 pub(crate) enum Change {
     /// Opens a proof of this name and statement, on this basis.
     Opens(String, Term, Basis),
-    /// The first goal, which is this one, gives way to these; the basis is that of all that was resolved.
-    Leaves(Goal, Vec<Goal>, Basis),
+    /// The first goal, which is this one, gives way to those that the step left; the basis is that of all that was resolved.
+    Leaves(Goal, Step, Basis),
     /// Makes these entries, after which no proof is open.
     Makes(Vec<(Key, Entry)>),
     /// The command is refused; the text is what the refusal speaks of, or empty.
@@ -39,7 +40,7 @@ pub(crate) enum Change {
 impl Model for Outcome {
     ghost use Rattle.hol_exec.specs.OutcomeValue.{OutcomeValue};
     ghost use Rattle.hol_exec.specs.OutcomeView.{outcome_of};
-    ghost use Rattle.hol_exec.specs.Valid.{IsValid};
+    ghost use Rattle.hol_exec.specs.Valid.{IsValidChange};
     ghost use Rattle.hol_exec.specs.Codes.{coded_outcome};
 
     ghost Value = { OutcomeValue };
@@ -48,7 +49,7 @@ impl Model for Outcome {
 
     ghost view = { λ o. outcome_of o.change };
 
-    ghost invariant = { λ o. IsValid (outcome_of o.change) };
+    ghost invariant = { λ o. IsValidChange o.change };
 }
 
 impl Outcome {
@@ -61,12 +62,12 @@ impl Outcome {
         }
     }
 
-    pub(crate) fn leaves(goal: Goal, goals: Vec<Goal>, basis: Basis) -> Outcome
-        requires { IsValid (Leaves goal goals.items basis) }
-        ensures { result ≡ Leaves goal goals.items basis }
+    pub(crate) fn leaves(goal: Goal, step: Step, basis: Basis) -> Outcome
+        requires { IsLeft basis step.just goal step.goals.items }
+        ensures { result ≡ Leaves goal step.goals.items basis }
     {
         Outcome {
-            change: Change::Leaves(goal, goals, basis),
+            change: Change::Leaves(goal, step, basis),
         }
     }
 
@@ -89,7 +90,7 @@ impl Outcome {
 
     pub(crate) fn change(&self) -> &Change
         ensures change { outcome_of result.now ≡ self.now }
-        ensures valid { IsValid self.now }
+        ensures valid { IsValidChange result.now }
     {
         &self.change
     }
@@ -112,8 +113,10 @@ impl Outcome {
                     && statement.same(statement2)
                     && same_basis(basis, basis2)
             }
-            (Change::Leaves(goal, goals, basis), Change::Leaves(goal2, goals2, basis2)) => {
-                goal.same_as(goal2) && same_each(goals, goals2) && same_basis(basis, basis2)
+            (Change::Leaves(goal, step, basis), Change::Leaves(goal2, step2, basis2)) => {
+                goal.same_as(goal2)
+                    && same_each(&step.goals, &step2.goals)
+                    && same_basis(basis, basis2)
             }
             (Change::Makes(entries), Change::Makes(entries2)) => same_each(entries, entries2),
             (Change::Refuses(kind, arg), Change::Refuses(kind2, arg2)) => {
@@ -138,22 +141,44 @@ impl Outcome {
     pub fn copy(&self, alloc: Global) -> Result<Outcome, AllocError>
         ensures { IfOk result (λ o. o ≡ self.now) }
     {
-        let change = match &self.change {
-            Change::Opens(name, statement, basis) => Change::Opens(
-                String::from_str(alloc, name.as_str())?,
-                statement.copy()?,
-                basis.copy()?,
-            ),
-            Change::Leaves(goal, goals, basis) => Change::Leaves(
-                goal.copy(alloc)?,
-                goal_copies(alloc, goals)?,
-                basis.copy()?,
-            ),
-            Change::Makes(entries) => Change::Makes(copies(alloc, entries)?),
-            Change::Refuses(kind, arg) => {
-                Change::Refuses(*kind, String::from_str(alloc, arg.as_str())?)
+        match self.change() {
+            Change::Opens(name, statement, basis) => {
+                opening_copy(alloc, name.as_str(), statement, basis)
             }
-        };
-        Ok(Outcome { change })
+            Change::Leaves(goal, step, basis) => leaving_copy(alloc, goal, step, basis),
+            Change::Makes(entries) => Ok(Outcome::makes(copies(alloc, entries)?)),
+            Change::Refuses(kind, arg) => Ok(Outcome::refuses(
+                *kind,
+                String::from_str(alloc, arg.as_str())?,
+            )),
+        }
     }
+}
+
+fn opening_copy(
+    alloc: Global,
+    name: &str,
+    statement: &Term,
+    basis: &Basis,
+) -> Result<Outcome, AllocError>
+    requires { IsStatement basis.now (nameless [] statement.now) }
+    ensures { IfOk result (λ o. o ≡ Opens name.now (nameless [] statement.now) basis.now) }
+{
+    let name = String::from_str(alloc, name)?;
+    Ok(Outcome::opens(name, statement.copy()?, basis.copy()?))
+}
+
+#[tactic(auto, using(crate::proofs::Steps::left_same))]
+fn leaving_copy(
+    alloc: Global,
+    goal: &Goal,
+    step: &Step,
+    basis: &Basis,
+) -> Result<Outcome, AllocError>
+    requires { IsLeft basis.now step.now.just goal.now step.now.goals.items }
+    ensures { IfOk result (λ o. o ≡ Leaves goal.now step.now.goals.items basis.now) }
+{
+    let goal = goal.copy(alloc)?;
+    let step = step_copy(alloc, step)?;
+    Ok(Outcome::leaves(goal, step, basis.copy()?))
 }

@@ -1,66 +1,42 @@
 //! Open proofs.
-ghost use Rattle.std.specs.Prelude.{◌≡◌, ◌++◌, [], OnOk, OnErr, IfOk, Some, string_bytes, drop};
+ghost use Rattle.std.specs.Prelude.{◌≡◌, [], OnOk, OnErr, IfOk, Some, string_bytes};
 ghost use Rattle.hol_terms.specs.Named.{named_type};
 ghost use Rattle.hol_terms.specs.Nameless.{nameless};
 ghost use Rattle.hol_formulas.specs.Equation.{bool_type};
-ghost use Rattle.hol_kernel.specs.Items.{no_items};
 ghost use Rattle.hol_exec.specs.OutcomeValue.{opened, stepped};
-ghost use Rattle.hol_exec.specs.Valid.{IsStatement, IsReflexive, IsSoundProof};
+ghost use Rattle.hol_exec.specs.Valid.{IsStatement, CanStep};
 
-use crate::goals::add_copies;
+use crate::goals::step_copy;
 use hol_goal::Goal;
+use hol_just::Step;
 use hol_kernel::Basis;
+use hol_stack::Stack;
 use hol_terms::Term;
 use std::alloc::{AllocError, Global};
 use std::marker::Model;
-use std::mem;
 
-/// An element of a proof's history: the open goals, and the basis of all that the proof resolved so far.
-#[derive(Drop)]
-struct Step {
-    goals: Vec<Goal>,
-    basis: Basis,
-}
-
-impl Model for Step {
-    ghost use Rattle.hol_exec.specs.StateValue.{StepValue};
-    ghost use Rattle.hol_exec.specs.Codes.{coded_step};
-
-    ghost Value = { StepValue };
-
-    ghost coded = { coded_step };
-
-    ghost view = { λ s. record { goals = s.goals.items; basis = s.basis } };
-}
-
-/// An open proof: the name and the statement that it was opened with, and its history. Of the earlier elements the newest stands last.
+/// An open proof: the name that it was opened with, and the stack of its statement.
 #[derive(Drop)]
 pub(crate) struct Proof {
     name: String,
-    statement: Term,
-    newest: Step,
-    earlier: Vec<Step>,
+    stack: Stack,
 }
 
 impl Model for Proof {
-    ghost use Rattle.std.specs.Prelude.{string_bytes, [], reverse};
-    ghost use Rattle.hol_terms.specs.Nameless.{nameless};
+    ghost use Rattle.std.specs.Prelude.{string_bytes};
     ghost use Rattle.hol_exec.specs.StateValue.{ProofValue};
     ghost use Rattle.hol_exec.specs.Codes.{coded_proof};
-    ghost use Rattle.hol_exec.specs.Valid.{IsSoundProof};
 
     ghost Value = { ProofValue };
 
     ghost coded = { coded_proof };
 
-    ghost view = { λ p. record { name = string_bytes p.name; statement = nameless [] p.statement; newest = p.newest; earlier = reverse p.earlier.items } };
-
-    ghost invariant = { λ p. IsSoundProof (record { name = string_bytes p.name; statement = nameless [] p.statement; newest = p.newest; earlier = reverse p.earlier.items }) };
+    ghost view = { λ p. record { name = string_bytes p.name; statement = p.stack.goal.conclusion; newest = p.stack.newest; earlier = p.stack.earlier } };
 }
 
 impl Proof {
     /// A proof of a statement, which is its one open goal.
-    #[tactic(auto, using(crate::proofs::Statements::formula_of))]
+    #[tactic(auto, using(crate::proofs::Statements::formula_of, crate::proofs::Statements::goal_typed, crate::proofs::Statements::goal_plain))]
     pub(crate) fn begin(
         alloc: Global,
         name: &str,
@@ -71,16 +47,9 @@ impl Proof {
         ensures { IfOk result (λ p. p ≡ opened name.now (nameless [] statement.now) basis.now) }
     {
         let name = String::from_str(alloc, name)?;
-        let mut goals = Vec::new(alloc);
-        goals.push(stated(alloc, statement)?)?;
-        let statement = statement.copy()?;
-        let basis = basis.copy()?;
-        Ok(Proof {
-            name,
-            statement,
-            newest: Step { goals, basis },
-            earlier: Vec::new(alloc),
-        })
+        let goal = stated(alloc, statement)?;
+        let stack = Stack::set(alloc, goal, basis.copy()?)?;
+        Ok(Proof { name, stack })
     }
 
     /// The theorem's name.
@@ -90,50 +59,35 @@ impl Proof {
         self.name.as_str()
     }
 
-    /// The statement that the proof was opened with.
-    pub(crate) fn statement(&self) -> &Term
-        ensures { nameless [] result.now ≡ self.now.statement }
+    /// The stack.
+    pub(crate) fn stack(&self) -> &Stack
+        ensures goal { result.now.goal.conclusion ≡ self.now.statement }
+        ensures newest { result.now.newest ≡ self.now.newest }
     {
-        &self.statement
+        &self.stack
     }
 
     /// The open goals, in order.
     pub(crate) fn goals(&self) -> &[Goal]
         ensures { result.now ≡ self.now.newest.goals }
     {
-        let newest = &self.newest;
-        newest.goals.as_slice()
+        self.stack.goals()
     }
 
-    /// The basis of all that the proof resolved.
-    pub(crate) fn basis(&self) -> &Basis
-        ensures { result.now ≡ self.now.newest.basis }
-    {
-        let newest = &self.newest;
-        &newest.basis
-    }
-
-    /// The statement is a well typed term of type `bool`, and is the one open goal or is proved by reflexivity.
-    pub(crate) fn promise(&self)
-        ensures { IsSoundProof self.now }
-    {
-        let _ = &self.name;
-    }
-
-    /// The goals left stand in the place of the first goal, in a new element of the history. What closes the goal rests on no items.
-    #[tactic(auto, using(crate::proofs::Steps::reverse_push, crate::proofs::Steps::union_none))]
-    pub(crate) fn step(&mut self, alloc: Global, left: &[Goal]) -> Result<(), AllocError>
-        requires closes { left.now ≡ [] }
-        requires proved { IsReflexive self.old.statement }
-        ensures ok { OnOk result (self.new ≡ stepped left.now no_items self.old) }
+    /// The goals that the step left stand in the place of the first goal, in a new element of the history; the basis is joined with what was resolved.
+    #[tactic(auto, using(crate::proofs::Steps::same_step))]
+    pub(crate) fn step(
+        &mut self,
+        alloc: Global,
+        step: &Step,
+        basis: &Basis,
+    ) -> Result<(), AllocError>
+        requires { CanStep basis.now step.now.just step.now.goals.items self.old }
+        ensures ok { OnOk result (self.new ≡ stepped step.now.goals.items basis.now self.old) }
         ensures err { OnErr result (self.new ≡ self.old) }
     {
-        let goals = replaced_first(alloc, left, self.goals())?;
-        let basis = self.basis().copy()?;
-        self.earlier.reserve(1)?;
-        let newest = mem::replace(&mut self.newest, Step { goals, basis });
-        self.earlier.push_reserved(newest);
-        Ok(())
+        let Step { goals, just } = step_copy(alloc, step)?;
+        self.stack.apply(alloc, goals, just, basis)
     }
 }
 
@@ -143,16 +97,4 @@ fn stated(alloc: Global, statement: &Term) -> Result<Goal, AllocError>
     ensures { IfOk result (λ g. g ≡ record { assumptions = []; conclusion = nameless [] statement.now }) }
 {
     Ok(Goal::new(Vec::new(alloc), statement.copy()?))
-}
-
-// The goals left, and then the open goals after the first.
-fn replaced_first(alloc: Global, left: &[Goal], goals: &[Goal]) -> Result<Vec<Goal>, AllocError>
-    ensures { IfOk result (λ replaced. replaced.items ≡ left.now ++ drop 1 goals.now) }
-{
-    let mut replaced = Vec::new(alloc);
-    add_copies(alloc, &mut replaced, left)?;
-    if let [_, rest @ ..] = goals {
-        add_copies(alloc, &mut replaced, rest)?;
-    }
-    Ok(replaced)
 }

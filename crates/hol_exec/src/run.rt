@@ -14,7 +14,7 @@ ghost use Rattle.hol_exec.specs.Valid.{IsStatement};
 
 use crate::closing::Closing;
 use crate::entry::Entry;
-use crate::expr::{Expr, Resolution, Run, RunEnd, resolve, run_expr};
+use crate::expr::{Expr, Resolution, Run, RunEnd, Used, resolve, run_expr};
 use crate::key::{Key, Kind};
 use crate::outcome::Outcome;
 use crate::parsed::LocalCommand;
@@ -22,7 +22,6 @@ use crate::reading::{Reading, is_statement, read_term};
 use crate::reads::Reads;
 use crate::refusal::RefusalKind;
 use crate::setup::{Setup, turns_of};
-use crate::tac::Used;
 use hol_kernel::Basis;
 use hol_notation_tactics::TacExpr;
 use hol_notation_terms::Quotation;
@@ -155,7 +154,7 @@ fn applied(
     };
     let Run { result, used: _ } = run_expr(alloc, expr, goal, Used { turns_left: turns })?;
     match result {
-        RunEnd::Leaving(goals) => Ok(Outcome::leaves(goal.copy(alloc)?, goals, basis)),
+        RunEnd::Leaving(step) => Ok(Outcome::leaves(goal.copy(alloc)?, step, basis)),
         RunEnd::LargeGoal => Ok(refused(alloc, RefusalKind::TooLarge)),
         RunEnd::RefusedBy(name) => Ok(Outcome::refuses(RefusalKind::Refused, name)),
         RunEnd::OutOfTurns => Ok(refused(alloc, RefusalKind::TurnLimit)),

@@ -1,17 +1,18 @@
 //! The state of a theory while it is run.
 ghost use Rattle.std.specs.Prelude.{◌≡◌, ◌<◌, ◌≤◌, ◌+◌, OnOk, OnErr, IfSome, Some, None, [], option_copied};
 ghost use Rattle.indexmap.specs.IndexMap.{insert_entry, insert_all, spare, IsUnique};
-ghost use Rattle.hol_kernel.specs.Items.{no_items};
 ghost use Rattle.hol_exec.specs.Key.{key_eq};
 ghost use Rattle.hol_exec.specs.Entry.{entry_at, EachIsEntry};
 ghost use Rattle.hol_exec.specs.StateValue.{StateValue, start, open_goals};
 ghost use Rattle.hol_exec.specs.OutcomeValue.{stepped_in};
-ghost use Rattle.hol_exec.specs.Valid.{IsReflexive, IsSoundProof};
+ghost use Rattle.hol_exec.specs.Valid.{CanStep};
 
 use crate::entry::{Entry, Made, copies};
 use crate::key::Key;
 use crate::proof::Proof;
 use hol_goal::Goal;
+use hol_just::Step;
+use hol_kernel::Basis;
 use indexmap::IndexMap;
 use std::alloc::{AllocError, Global};
 use std::marker::Model;
@@ -81,16 +82,6 @@ impl State {
         let _ = &self.entries;
     }
 
-    /// The statement of the open proof is a well typed term of type `bool`, and is the one open goal or is proved by reflexivity.
-    pub(crate) fn proof_promise(&self)
-        ensures { IfSome self.now.proof IsSoundProof }
-    {
-        match self.proof() {
-            Some(proof) => proof.promise(),
-            None => {}
-        }
-    }
-
     /// Opens the proof, in the place of one that is open.
     pub(crate) fn begin(&mut self, proof: Proof)
         ensures { self.new ≡ record { entries = self.old.entries; proof = Some proof } }
@@ -98,15 +89,19 @@ impl State {
         self.proof = Some(proof);
     }
 
-    /// The goals left stand in the place of the open proof's first goal.
-    pub(crate) fn step(&mut self, alloc: Global, left: &[Goal]) -> Result<(), AllocError>
-        requires closes { left.now ≡ [] }
-        requires proved { IfSome self.old.proof (λ p. IsReflexive p.statement) }
-        ensures ok { OnOk result (self.new ≡ record { entries = self.old.entries; proof = stepped_in left.now no_items self.old.proof }) }
+    /// The goals that the step left stand in the place of the open proof's first goal.
+    pub(crate) fn step(
+        &mut self,
+        alloc: Global,
+        step: &Step,
+        basis: &Basis,
+    ) -> Result<(), AllocError>
+        requires { IfSome self.old.proof (CanStep basis.now step.now.just step.now.goals.items) }
+        ensures ok { OnOk result (self.new ≡ record { entries = self.old.entries; proof = stepped_in step.now.goals.items basis.now self.old.proof }) }
         ensures err { OnErr result (self.new ≡ self.old) }
     {
         match &mut self.proof {
-            Some(proof) => proof.step(alloc, left),
+            Some(proof) => proof.step(alloc, step, basis),
             None => Ok(()),
         }
     }

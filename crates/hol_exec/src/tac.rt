@@ -1,39 +1,15 @@
-//! TACs by code: what arguments each takes, and what it leaves of a goal.
+//! Calls of functions on goals, as they are written: what a name calls, and whether arguments are of its kind.
 ghost use Rattle.std.specs.Prelude.{◌≡◌, bytes_eq};
-ghost use Rattle.std.specs.Option.{option_map};
 ghost use Rattle.std.specs.Map.{lookup};
-ghost use Rattle.hol_goal.specs.Answer.{answered};
 ghost use Rattle.hol_exec.specs.SetupView.{setup_value};
-ghost use Rattle.hol_exec.specs.Tac.{arguments_of, kind_of, fits, named, called, tac, refl_tac};
-ghost use Rattle.hol_exec.specs.TacView.{args_value, called_value, called_option, used_value, answer_value};
+ghost use Rattle.hol_exec.specs.Tac.{kind_of, is_term, is_theorem, is_pair, is_theorems, is_none, is_one, are_two, fits, named, called};
+ghost use Rattle.hol_exec.specs.TacView.{called_value, called_option};
 
 use crate::reads::Reads;
-use crate::setup::{Setup, code_of};
-use hol_formulas::dest_eq;
-use hol_goal::Goal;
-use hol_notation_tactics::{TacArg, TacCall};
-use std::alloc::Global;
-
-/// The TACs, by the names of the HOL Light Reference Manual.
-#[derive(Clone, Copy, Debug, PartialEq, Eq)]
-pub enum TacCode {
-    /// REFL_TAC closes a goal `s = s`.
-    ReflTac,
-}
-
-/// The kinds of arguments that TACs take.
-#[derive(Clone, Copy)]
-pub(crate) enum ArgumentKind {
-    /// None.
-    NoArguments,
-}
-
-/// The arguments of a TAC, resolved.
-#[derive(Clone, Copy)]
-pub(crate) enum TacArgs {
-    /// None.
-    Nothing,
-}
+use crate::running_tac::RunningTac;
+use crate::setup::{Setup, tac_of};
+use hol_goal::ArgumentKind;
+use hol_notation_tactics::{TacArg, TacArgNode, TacCall};
 
 /// How a call stands in an expression.
 #[derive(Clone, Copy)]
@@ -47,42 +23,8 @@ pub(crate) enum CallRole {
 /// What a name calls.
 #[derive(Clone, Copy)]
 pub(crate) enum Callee {
-    /// A registered TAC.
-    Registered(TacCode),
-}
-
-/// What a run may still use.
-#[derive(Clone, Copy)]
-pub(crate) struct Used {
-    /// The turns left.
-    pub(crate) turns_left: u32,
-}
-
-/// What a TAC makes of a goal.
-#[derive(Drop)]
-pub(crate) enum TacResult {
-    /// The goals that are left.
-    Left(Vec<Goal>),
-    /// It doesn't fit the goal.
-    Unfit,
-}
-
-/// What a TAC answers on a goal.
-#[derive(Drop)]
-pub(crate) struct Answer {
-    /// What it makes of the goal.
-    pub(crate) result: TacResult,
-    /// What the run may still use.
-    pub(crate) used: Used,
-}
-
-/// The kind of arguments that the TAC takes.
-pub(crate) fn arguments_of(code: TacCode) -> ArgumentKind
-    ensures { result ≡ arguments_of code }
-{
-    match code {
-        TacCode::ReflTac => ArgumentKind::NoArguments,
-    }
+    /// A registered function on goals.
+    Registered(RunningTac),
 }
 
 // The kind of arguments of what is called.
@@ -90,7 +32,88 @@ fn kind_of(called: Callee) -> ArgumentKind
     ensures { result ≡ kind_of (called_value called) }
 {
     match called {
-        Callee::Registered(code) => arguments_of(code),
+        Callee::Registered(tac) => tac.code().arguments(),
+    }
+}
+
+fn is_term(argument: &TacArg) -> bool
+    ensures { result ≡ is_term argument.now }
+{
+    match argument.node() {
+        TacArgNode::Term(_) => true,
+        TacArgNode::Theorem(_) | TacArgNode::Pair(_, _) | TacArgNode::Theorems(_) => false,
+    }
+}
+
+fn is_theorem(argument: &TacArg) -> bool
+    ensures { result ≡ is_theorem argument.now }
+{
+    match argument.node() {
+        TacArgNode::Theorem(_) => true,
+        TacArgNode::Term(_) | TacArgNode::Pair(_, _) | TacArgNode::Theorems(_) => false,
+    }
+}
+
+fn is_pair(argument: &TacArg) -> bool
+    ensures { result ≡ is_pair argument.now }
+{
+    match argument.node() {
+        TacArgNode::Pair(_, _) => true,
+        TacArgNode::Term(_) | TacArgNode::Theorem(_) | TacArgNode::Theorems(_) => false,
+    }
+}
+
+fn is_theorems(argument: &TacArg) -> bool
+    ensures { result ≡ is_theorems argument.now }
+{
+    match argument.node() {
+        TacArgNode::Theorems(_) => true,
+        TacArgNode::Term(_) | TacArgNode::Theorem(_) | TacArgNode::Pair(_, _) => false,
+    }
+}
+
+fn is_one_term(arguments: &[TacArg]) -> bool
+    ensures { result ≡ is_one is_term arguments.now }
+{
+    match arguments {
+        [one] => is_term(one),
+        [] | [_, _, ..] => false,
+    }
+}
+
+fn is_one_theorem(arguments: &[TacArg]) -> bool
+    ensures { result ≡ is_one is_theorem arguments.now }
+{
+    match arguments {
+        [one] => is_theorem(one),
+        [] | [_, _, ..] => false,
+    }
+}
+
+fn is_one_pair(arguments: &[TacArg]) -> bool
+    ensures { result ≡ is_one is_pair arguments.now }
+{
+    match arguments {
+        [one] => is_pair(one),
+        [] | [_, _, ..] => false,
+    }
+}
+
+fn is_one_of_theorems(arguments: &[TacArg]) -> bool
+    ensures { result ≡ is_one is_theorems arguments.now }
+{
+    match arguments {
+        [one] => is_theorems(one),
+        [] | [_, _, ..] => false,
+    }
+}
+
+fn are_term_and_theorem(arguments: &[TacArg]) -> bool
+    ensures { result ≡ are_two is_term is_theorem arguments.now }
+{
+    match arguments {
+        [first, rest @ ..] => is_term(first) && is_one_theorem(rest),
+        [] => false,
     }
 }
 
@@ -98,9 +121,34 @@ fn kind_of(called: Callee) -> ArgumentKind
 fn fits(kind: ArgumentKind, role: CallRole, arguments: &[TacArg]) -> bool
     ensures { result ≡ fits kind role arguments.now }
 {
-    match (kind, role) {
-        (ArgumentKind::NoArguments, CallRole::Whole) => arguments.is_empty(),
-        (ArgumentKind::NoArguments, CallRole::TheoremTactic) => false,
+    match role {
+        CallRole::Whole => fits_whole(kind, arguments),
+        CallRole::TheoremTactic => fits_in_part(kind, arguments),
+    }
+}
+
+fn fits_whole(kind: ArgumentKind, arguments: &[TacArg]) -> bool
+    ensures { result ≡ fits kind CallRole.Whole arguments.now }
+{
+    match kind {
+        ArgumentKind::Nothing => arguments.is_empty(),
+        ArgumentKind::Term => is_one_term(arguments),
+        ArgumentKind::Pair => is_one_pair(arguments),
+        ArgumentKind::Theorem => is_one_theorem(arguments),
+        ArgumentKind::TermAndTheorem => are_term_and_theorem(arguments),
+        ArgumentKind::Theorems => is_one_of_theorems(arguments),
+    }
+}
+
+// The same where the last argument, a theorem, is left out.
+fn fits_in_part(kind: ArgumentKind, arguments: &[TacArg]) -> bool
+    ensures { result ≡ fits kind CallRole.TheoremTactic arguments.now }
+{
+    match kind {
+        ArgumentKind::Nothing | ArgumentKind::Term | ArgumentKind::Pair | ArgumentKind::Theorems =>
+            false,
+        ArgumentKind::Theorem => arguments.is_empty(),
+        ArgumentKind::TermAndTheorem => is_one_term(arguments),
     }
 }
 
@@ -108,8 +156,8 @@ fn fits(kind: ArgumentKind, role: CallRole, arguments: &[TacArg]) -> bool
 fn named(setup: &Setup, call: &TacCall, _reads: &Reads) -> Option<Callee>
     ensures { called_option result ≡ named call.now.name (lookup (bytes_eq call.now.name) (setup_value setup.now).table) _reads.now.cited }
 {
-    let code = code_of(setup, call.name.as_str())?;
-    Some(Callee::Registered(code))
+    let tac = tac_of(setup, call.name.as_str())?;
+    Some(Callee::Registered(tac))
 }
 
 /// What a call of the role calls, where the name stands for something and the arguments are of its kind.
@@ -119,38 +167,6 @@ pub(crate) fn called(setup: &Setup, role: CallRole, call: &TacCall, reads: &Read
     let called = named(setup, call, reads)?;
     if fits(kind_of(called), role, &call.arguments) {
         Some(called)
-    } else {
-        None
-    }
-}
-
-/// What the TAC answers on the goal, with what the run may still use.
-pub(crate) fn tac(alloc: Global, code: TacCode, args: TacArgs, goal: &Goal, used: Used) -> Answer
-    ensures { answer_value result ≡ tac code (args_value args) goal.now (used_value used) }
-{
-    match (code, args) {
-        (TacCode::ReflTac, TacArgs::Nothing) => answered(refl_tac(alloc, goal), used),
-    }
-}
-
-// The answer of a TAC that uses nothing.
-fn answered(goals: Option<Vec<Goal>>, used: Used) -> Answer
-    ensures { answer_value result ≡ answered (option_map (λ left. left.items) goals) (used_value used) }
-{
-    let result = match goals {
-        Some(goals) => TacResult::Left(goals),
-        None => TacResult::Unfit,
-    };
-    Answer { result, used }
-}
-
-// The goals that REFL_TAC leaves, which are none, where it fits the goal.
-fn refl_tac(alloc: Global, goal: &Goal) -> Option<Vec<Goal>>
-    ensures { option_map (λ left. left.items) result ≡ refl_tac goal.now }
-{
-    let sides = dest_eq(goal.conclusion())?;
-    if sides.left.alpha_equivalent(sides.right) {
-        Some(Vec::new(alloc))
     } else {
         None
     }

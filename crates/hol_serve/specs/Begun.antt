@@ -1,14 +1,16 @@
 -- The documents over which the program begins, from its words.
 use Rattle.std.specs.Prelude.{◌≡◌, ℕ, List, [], ◌∷◌, codes}
 use Rattle.clap.specs.Words.{Text}
-use Rattle.hol_exec.specs.declared.tac.TacCode.{TacCode}
-use Rattle.hol_exec.specs.declared.tac.TacCode.TheVariants.{ReflTac}
+use Rattle.hol_goal.specs.declared.tac_code.TacCode.{TacCode}
+use Rattle.hol_goal.specs.declared.tac_code.TacCode.TheVariants.{AllTac, NoTac, ReflTac, ConjTac, Disj1Tac, Disj2Tac, EqTac, GenTac, ApTermTac, ApThmTac, MkCombTac}
 use Rattle.hol_document.specs.Documents.{Documents}
 use Rattle.hol_serve.specs.Settings.{option_text, IsValue}
 
 -- the functions on goals that the program knows, by name and code
 abbrev pub tacs : List (List ℕ × TacCode)
-tacs = (codes "REFL_TAC", ReflTac) ∷ []
+tacs =
+    (codes "ALL_TAC", AllTac) ∷ (codes "NO_TAC", NoTac) ∷ (codes "REFL_TAC", ReflTac) ∷ (codes "CONJ_TAC", ConjTac) ∷ (codes "DISJ1_TAC", Disj1Tac) ∷ (codes "DISJ2_TAC", Disj2Tac)
+    ∷ (codes "EQ_TAC", EqTac) ∷ (codes "GEN_TAC", GenTac) ∷ (codes "AP_TERM_TAC", ApTermTac) ∷ (codes "AP_THM_TAC", ApThmTac) ∷ (codes "MK_COMB_TAC", MkCombTac) ∷ []
 
 -- no theories stand; what they are run by is the table above, and the number of turns that the words name, or 10,000
 abbrev pub IsBegun : List Text → Documents → Type 0

@@ -1,22 +1,39 @@
 //! The documents over which the program begins.
 
 ghost use Rattle.std.specs.Prelude.{◌≡◌, Err, IfOk, map, string_bytes};
+ghost use Rattle.hol_exec.specs.TacView.{code_of};
 ghost use Rattle.hol_document.specs.DocsView.{documents};
 ghost use Rattle.hol_serve.specs.Begun.{tacs, IsBegun};
 ghost use Rattle.hol_serve.specs.Settings.{AreBad};
 
 use crate::settings::{Words, settings};
 use hol_document::Docs;
-use hol_exec::{TacCode, set_up};
+use hol_exec::{RunningTac, set_up};
 use std::alloc::{AllocError, Global};
 
-// The functions on goals that the program knows, by name and code.
-fn table(alloc: Global) -> Result<Vec<(String, TacCode)>, AllocError>
-    ensures { IfOk result (λ rows. map (λ row. (string_bytes row.0, row.1)) rows.items ≡ tacs) }
+// The functions on goals that the program knows.
+const TACS: [RunningTac; 11] = [
+    RunningTac::AllTac,
+    RunningTac::NoTac,
+    RunningTac::ReflTac,
+    RunningTac::ConjTac,
+    RunningTac::Disj1Tac,
+    RunningTac::Disj2Tac,
+    RunningTac::EqTac,
+    RunningTac::GenTac,
+    RunningTac::ApTermTac,
+    RunningTac::ApThmTac,
+    RunningTac::MkCombTac,
+];
+
+// The functions on goals that the program knows, each under the name of its code.
+fn table(alloc: Global) -> Result<Vec<(String, RunningTac)>, AllocError>
+    ensures { IfOk result (λ rows. map (λ row. (string_bytes row.0, code_of row.1)) rows.items ≡ tacs) }
 {
-    let name = String::from_str(alloc, "REFL_TAC")?;
     let mut rows = Vec::new(alloc);
-    rows.push((name, TacCode::ReflTac))?;
+    for tac in &TACS {
+        rows.push((String::from_str(alloc, tac.code().name())?, *tac))?;
+    }
     Ok(rows)
 }
 

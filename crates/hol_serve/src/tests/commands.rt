@@ -177,6 +177,142 @@ g M `p = p`
     )
 }
 
+// What each function on goals leaves of a goal.
+#[test]
+fn leaves_goals(rt: HostRuntime) -> Result<(), Fail> {
+    let rows = [
+        (
+            "`p <=> p`",
+            "e ALL_TAC",
+            r#"{"goals":[{"asl":[],"free":["p:bool"],"goal":"p <=> p"}],"ok":true}"#,
+        ),
+        (
+            "`p <=> p`",
+            "e NO_TAC",
+            r#"{"arg":"NO_TAC","ok":true,"refusal":17,"text":"refused"}"#,
+        ),
+        (
+            r"`p /\\ q`",
+            "e CONJ_TAC",
+            r#"{"goals":[{"asl":[],"free":["p:bool"],"goal":"p"},{"asl":[],"free":["q:bool"],"goal":"q"}],"ok":true}"#,
+        ),
+        (
+            r"`p /\\ q`",
+            "e DISJ1_TAC",
+            r#"{"arg":"DISJ1_TAC","ok":true,"refusal":17,"text":"refused"}"#,
+        ),
+        (
+            r"`p \\/ q`",
+            "e DISJ1_TAC",
+            r#"{"goals":[{"asl":[],"free":["p:bool"],"goal":"p"}],"ok":true}"#,
+        ),
+        (
+            r"`p \\/ q`",
+            "e DISJ2_TAC",
+            r#"{"goals":[{"asl":[],"free":["q:bool"],"goal":"q"}],"ok":true}"#,
+        ),
+        (
+            "`p <=> q`",
+            "e EQ_TAC",
+            r#"{"goals":[{"asl":[],"free":["p:bool","q:bool"],"goal":"p ==> q"},{"asl":[],"free":["p:bool","q:bool"],"goal":"q ==> p"}],"ok":true}"#,
+        ),
+        (
+            "`!x:A. P x`",
+            "e GEN_TAC",
+            r#"{"goals":[{"asl":[],"free":["P:A->bool","x:A"],"goal":"P x"}],"ok":true}"#,
+        ),
+        (
+            "`(f:A->B) x = f y`",
+            "e AP_TERM_TAC",
+            r#"{"goals":[{"asl":[],"free":["x:A","y:A"],"goal":"x = y"}],"ok":true}"#,
+        ),
+        (
+            "`(f:A->B) x = g x`",
+            "e AP_THM_TAC",
+            r#"{"goals":[{"asl":[],"free":["f:A->B","g:A->B"],"goal":"f = g"}],"ok":true}"#,
+        ),
+        (
+            "`(f:A->B) x = g (y:A)`",
+            "e MK_COMB_TAC",
+            r#"{"goals":[{"asl":[],"free":["f:A->B","g:A->B"],"goal":"f = g"},{"asl":[],"free":["x:A","y:A"],"goal":"x = y"}],"ok":true}"#,
+        ),
+    ];
+    for (goal, command, want) in rows {
+        let commands = format!(in rt.alloc(); "g N {goal}\n{command}")?;
+        let reply = reply_to_last(rt.alloc(), commands.as_str())?;
+        assert_eq!(rt; reply.as_str(), want, "{command} of {goal}");
+    }
+    Ok(())
+}
+
+// Proofs of more than one step, whose theorems are made by their justifications.
+#[test]
+fn proves_by_steps(rt: HostRuntime) -> Result<(), Fail> {
+    let rows = [
+        (
+            r"g N `!x:A. x = x /\\ x = x`
+e GEN_TAC
+e CONJ_TAC
+e REFL_TAC",
+            r#"{"goals":[{"asl":[],"free":["x:A"],"goal":"x = x"}],"ok":true}"#,
+        ),
+        (
+            r"g N `!x:A. x = x /\\ x = x`
+e GEN_TAC
+e CONJ_TAC
+e REFL_TAC
+qed",
+            r#"{"arg":"","ok":true,"refusal":19,"text":"goals remain"}"#,
+        ),
+        (
+            r"g N `!x:A. x = x /\\ x = x`
+e GEN_TAC
+e CONJ_TAC
+e REFL_TAC
+e REFL_TAC
+qed",
+            r#"{"made":["thm N |- !x. x = x /\\ x = x"],"ok":true}"#,
+        ),
+        (
+            r"g N `!x:A. (x = x /\\ (p \\/ x = x)) /\\ (!y:B. y = y)`
+e GEN_TAC
+e CONJ_TAC
+e CONJ_TAC
+e REFL_TAC
+e CONJ_TAC
+e ALL_TAC
+e DISJ2_TAC
+e REFL_TAC
+e GEN_TAC
+e REFL_TAC
+qed",
+            r#"{"made":["thm N |- !x. (x = x /\\ (p \\/ x = x)) /\\ (!y. y = y)"],"ok":true}"#,
+        ),
+        (
+            r"g N `(\\x:A. f x) (y:A) = (\\z. (f:A->B) z) y \\/ F`
+e DISJ1_TAC
+e MK_COMB_TAC
+e REFL_TAC
+e REFL_TAC
+qed",
+            r#"{"made":["thm N |- (\\x. f x) y = (\\z. f z) y \\/ F"],"ok":true}"#,
+        ),
+        (
+            r"g N `(g:B->A) ((f:A->B) x) = g (f x)`
+e AP_TERM_TAC
+e AP_THM_TAC
+e REFL_TAC
+qed",
+            r#"{"made":["thm N |- g (f x) = g (f x)"],"ok":true}"#,
+        ),
+    ];
+    for (commands, want) in rows {
+        let reply = reply_to_last(rt.alloc(), commands)?;
+        assert_eq!(rt; reply.as_str(), want, "after {commands}");
+    }
+    Ok(())
+}
+
 // In each equation a variable is twice in the next one, so its types double.
 #[test]
 fn refuses_a_reading_over_20000_nodes(rt: HostRuntime) -> Result<(), Fail> {

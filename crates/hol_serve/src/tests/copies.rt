@@ -3,7 +3,7 @@
 use crate::begun::begun;
 use hol_document::Docs;
 use hol_exec::{
-    Key, Kind, LocalCommand, Outcome, Parsed, Reads, Report, Setup, ShownGoal, State, TacCode,
+    Key, Kind, LocalCommand, Outcome, Parsed, Reads, Report, RunningTac, Setup, ShownGoal, State,
     apply, parse, run_local, set_up,
 };
 use std::alloc::Global;
@@ -16,7 +16,7 @@ const PROOF: [&str; 3] = ["g REFL1 `x:A = x`", "e REFL_TAC", "qed"];
 
 fn setup(alloc: Global) -> Result<Setup, Fail> {
     let mut table = Vec::new(alloc);
-    table.push((String::from_str(alloc, "REFL_TAC")?, TacCode::ReflTac))?;
+    table.push((String::from_str(alloc, "REFL_TAC")?, RunningTac::ReflTac))?;
     Ok(set_up(table, 10))
 }
 

@@ -1,9 +1,0 @@
-use Rattle.std.proofs.Common.{◌≡◌, drop, map, string_bytes, String, Global, bytes_eq}
-use Rattle.std.specs.Map.{lookup}
-use Rattle.hol_exec.specs.declared.tac.TacCode.{TacCode}
-use Rattle.hol_exec.proofs.setup.code_of.Given as goal
-
-abbrev pub invariant-loop-row : goal.invariant-loop-row
-invariant-loop-row l =
-    lookup (bytes_eq l.name) (map (λ (row : String Global × TacCode). (string_bytes row.0, row.1)) l.row-items)
-    ≡ lookup (bytes_eq l.name) (map (λ (row : String Global × TacCode). (string_bytes row.0, row.1)) (drop l.row-index l.row-items))
