@@ -10,3 +10,4 @@ pub mod Machine
 pub mod Ending
 pub mod Begun
 pub mod Over
+pub mod BegunView

@@ -1,9 +1,9 @@
 //! The documents over which the program begins.
 
-ghost use Rattle.std.specs.Prelude.{◌≡◌, Err, IfOk, map, string_bytes};
-ghost use Rattle.hol_exec.specs.TacView.{code_of};
+ghost use Rattle.std.specs.Prelude.{◌≡◌, Err, IfOk, map};
 ghost use Rattle.hol_document.specs.DocsView.{documents};
 ghost use Rattle.hol_serve.specs.Begun.{tacs, IsBegun};
+ghost use Rattle.hol_serve.specs.BegunView.{row_value, row_of};
 ghost use Rattle.hol_serve.specs.Settings.{AreBad};
 
 use crate::settings::{Words, settings};
@@ -26,15 +26,23 @@ const TACS: [RunningTac; 11] = [
     RunningTac::MkCombTac,
 ];
 
-// The functions on goals that the program knows, each under the name of its code.
-fn table(alloc: Global) -> Result<Vec<(String, RunningTac)>, AllocError>
-    ensures { IfOk result (λ rows. map (λ row. (string_bytes row.0, code_of row.1)) rows.items ≡ tacs) }
+// The functions, each under the name of its code.
+fn rows_of(alloc: Global, tacs: &[RunningTac]) -> Result<Vec<(String, RunningTac)>, AllocError>
+    ensures { IfOk result (λ rows. map row_value rows.items ≡ map row_of tacs.now) }
 {
     let mut rows = Vec::new(alloc);
-    for tac in &TACS {
-        rows.push((String::from_str(alloc, tac.code().name())?, *tac))?;
+    for tac in tacs {
+        let name = String::from_str(alloc, tac.code().name())?;
+        rows.push((name, *tac))?;
     }
     Ok(rows)
+}
+
+// The functions on goals that the program knows, each under the name of its code.
+fn table(alloc: Global) -> Result<Vec<(String, RunningTac)>, AllocError>
+    ensures { IfOk result (λ rows. map row_value rows.items ≡ tacs) }
+{
+    rows_of(alloc, &TACS)
 }
 
 /// Documents without theories, as the program's words say they are run.
