@@ -4,3 +4,4 @@ pub mod Making
 pub mod Constants
 pub mod Prelude
 pub mod Written
+pub mod Bijections

@@ -3,9 +3,11 @@
 //! Calls that answer a `Result` answer its memory error where memory is short, and nowhere else.
 #![tactic(auto)]
 
+mod bijections;
 mod connectives;
 mod equations;
 mod laws;
+mod names;
 mod postulate;
 mod prelude;
 mod quantifiers;
@@ -16,12 +18,14 @@ mod terms;
 mod types;
 mod written;
 
+pub use bijections::{abs_rep, rep_abs};
 pub use connectives::{
     dest_conj, dest_disj, dest_imp, dest_neg, is_conj, is_disj, is_falsity, is_imp, is_neg,
     is_truth, mk_conj, mk_disj, mk_falsity, mk_imp, mk_neg, mk_truth,
 };
 pub use equations::{Sides, dest_eq, is_eq, mk_eq, mk_iff};
 pub use laws::{formulas_have_parts, parts_make_formulas};
+pub use names::{has_axiom_name, has_constant_name, has_type_name};
 pub use postulate::Postulate;
 pub use prelude::{has_constant, has_type, instances_are_substitutions, is_instance};
 pub use quantifiers::{dest_exists, dest_forall, is_exists, is_forall, mk_exists, mk_forall};

@@ -1,15 +1,13 @@
 -- What may define a constant: the test, and what it says.
-use Rattle.std.specs.Prelude.{◌≡◌, ℕ, zero, suc, ◌<◌, ◌==◌, Bool, true, false, cond, ◌&&◌, ◌||◌, List, [], ◌∷◌, ◌++◌, length, Contains, slice_index_or, is_some, bytes_eq, Some, refl}
+use Rattle.std.specs.Prelude.{◌≡◌, ℕ, zero, suc, ◌<◌, Bool, true, false, ◌&&◌, ◌||◌, List, [], ◌∷◌, length, Contains, slice_index_or, is_some, bytes_eq, Some, refl}
 use Rattle.std.proofs.Common.{ap, sym, ◌∙◌, subst, arith}
 use mathlib.Core.Bool.{true≢false}
 use Rattle.std.specs.FinSet as set
-use Rattle.std.proofs.lemmas.Bool.Decides.{nat_tests}
 use Rattle.std.proofs.lemmas.Slice.Eq.{bytes_eq-Decides}
 use Rattle.hol_types.specs.Tree.{TypeTree}
 use Rattle.hol_types.specs.Names.{tyvars, is_among}
 use Rattle.hol_terms.specs.Named.{Named, constant, named_type}
 use Rattle.hol_terms.specs.Nameless.{Nameless, nameless, free_occurrences}
-use Rattle.hol_terms.specs.Scoped.{binds, add_all}
 use Rattle.hol_kernel.specs.Item.{defined_constant}
 use Rattle.hol_kernel.specs.Items.{Items, Holds, IsWithin}
 use Rattle.hol_kernel.specs.Sequent.{Hyps, no_hyps}
@@ -35,21 +33,6 @@ abbrev Variables : Type 0
 Variables = List (List ℕ × TypeTree)
 
 -- ---- closed terms
-
-some_length : (n : ℕ) → (suc n == 0) ≡ false
-some_length n = grind (arith, nat_tests)
-
-some_kept : (v : List ℕ × TypeTree) (vs ws : Variables) → (length (add_all (v ∷ vs) ws) == 0) ≡ false
-some_kept v vs [] = some_length (length vs)
-some_kept v vs (w ∷ ws) = by (binds (v ∷ vs) w) (some_kept v vs ws) (some_kept v (vs ++ w ∷ []) ws)
-  where
-    by : (b : Bool) → (length (add_all (v ∷ vs) ws) == 0) ≡ false → (length (add_all (v ∷ vs ++ w ∷ []) ws) == 0) ≡ false → (length (add_all (cond b (v ∷ vs) ((v ∷ vs) ++ w ∷ [])) ws) == 0) ≡ false
-    by true there more = there
-    by false there more = more
-
-pub none_free : (ws : Variables) → (length (add_all [] ws) == 0) ≡ has_none ws
-none_free [] = refl
-none_free (w ∷ ws) = some_kept w [] ws
 
 none_is : (ws : Variables) → has_none ws ≡ true → ws ≡ []
 none_is [] e = refl

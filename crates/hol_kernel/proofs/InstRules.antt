@@ -1,58 +1,27 @@
 -- What INST_TYPE and INST make of theorems.
-use Rattle.std.specs.Prelude.{◌≡◌, ℕ, Bool, true, false, cond, ◌&&◌, List, [], ◌∷◌, map, Option, Some, None, refl}
+use Rattle.std.specs.Prelude.{◌≡◌, ℕ, Bool, true, false, cond, ◌&&◌, List, [], ◌∷◌, Option, Some, None, refl}
 use Rattle.std.specs.Option.{option_map}
 use Rattle.std.proofs.Common.{ap, sym, ◌∙◌, subst, inl, inr}
 use mathlib.Core.Bool.{true≢false}
-use Rattle.std.specs.FinSet as set
 use Rattle.hol_types.specs.Tree.{TypeTree}
 use Rattle.hol_types.specs.Equal.{type_eq}
 use Rattle.hol_types.proofs.OrderLaws.{type_cmp_decides}
 use Rattle.hol_terms.specs.Named.{Named, var, constant, comb, abs, named_type}
-use Rattle.hol_terms.specs.Nameless.{Nameless, free, bound, fixed, app, lam, nameless, nameless_type}
-use Rattle.hol_terms.specs.Alpha.{strip}
+use Rattle.hol_terms.specs.Nameless.{Nameless, nameless, nameless_type}
 use Rattle.hol_terms.proofs.Typing.{type_outside}
 use Rattle.hol_subst.specs.Pairs.{nameless_pairs, pair_before, IsGoodPair, HasBadPair}
 use Rattle.hol_subst.specs.Substitution.{term_subst, types_inst}
-use Rattle.hol_subst.proofs.Strip.{inst_alpha, subst_alpha}
 use Rattle.hol_subst.proofs.Typing.{subst_type}
 use Rattle.hol_subst.proofs.TypeLaws.{pairs_typed, good_pairs_fit}
 use Rattle.hol_subst.proofs.TypesInst.{typed_instance}
 use Rattle.hol_kernel.specs.Items.{Items}
-use Rattle.hol_kernel.specs.Sequent.{Hyps, hyp_of, hyps_of, hyps_image, Sequent}
-use Rattle.hol_subst.specs.AlphaOrder.{nameless_cmp}
+use Rattle.hol_kernel.specs.Sequent.{Hyps, hyps_image, Sequent}
 use Rattle.hol_formulas.specs.Equation.{bool_type}
 use Rattle.hol_kernel.specs.Typing.{is_known, is_typed, is_type_at, are_types_for, are_typed_for}
 use Rattle.hol_kernel.specs.Derivation.{Derives, by_inst_type, by_inst}
 use Rattle.hol_kernel.specs.Rules.{sequent_image, inst_type_of, inst_of, is_pair_at, are_pairs_over}
 use Rattle.hol_kernel.specs.Theorem.{Theorem, theorem_on, theorem_over, over, IsDerived}
-use Rattle.hol_kernel.proofs.SortedSets.{map_of_set}
-use Rattle.hol_kernel.proofs.HypothesisLists.{hyps_total, hyps_same}
 use Rattle.hol_kernel.proofs.TermRules.{has_type_test}
-
--- ---- base names left out
-
-strip_strip : (n : Nameless) → strip (strip n) ≡ strip n
-strip_strip (free v) = refl
-strip_strip (bound i) = refl
-strip_strip (fixed c s) = refl
-strip_strip (app f x) = λ i. app (strip_strip f i) (strip_strip x i)
-strip_strip (lam a s b) = ap (lam [] s) (strip_strip b)
-
--- ---- the images of hypotheses, by a map under which base names do not count
-
-module _ (f : Nameless → Nameless) (minds : (n : Nameless) → strip (f (strip n)) ≡ strip (f n)) where
-  keys : (ps : List Named) → map (λ h. strip (f h)) (map hyp_of ps) ≡ map strip (map (λ p. f (nameless [] p)) ps)
-  keys [] = refl
-  keys (p ∷ ps) = λ i. minds (nameless [] p) i ∷ keys ps i
-
-  stripped : (rs : List Named) → map hyp_of rs ≡ map strip (map (λ r. nameless [] r) rs)
-  stripped [] = refl
-  stripped (r ∷ rs) = ap (λ ns. hyp_of r ∷ ns) (stripped rs)
-
-  pub image_hyps : (hs : Hyps) (ps rs : List Named) → hyps_of ps ≡ hs → map (λ r. nameless [] r) rs ≡ map (λ p. f (nameless [] p)) ps → hyps_of rs ≡ hyps_image f hs
-  image_hyps hs ps rs is e =
-      ap (λ (ks : List Nameless). set.from_list {R = nameless_cmp} ks) (stripped rs ∙ ap (map strip) e ∙ sym (keys ps))
-      ∙ sym (map_of_set hyps_total hyps_same (λ h. strip (f h)) (map hyp_of ps)) ∙ ap (hyps_image f) is
 
 -- ---- derivations
 
@@ -63,9 +32,6 @@ along_nameless b own h hyps n concl p q r d t = record {
 }
 
 -- ---- types for type variables
-
-pub types_hyps : (pairs : List (TypeTree × List ℕ)) (hs : Hyps) (ps rs : List Named) → hyps_of ps ≡ hs → map (λ r. nameless [] r) rs ≡ map (λ p. types_inst pairs (nameless [] p)) ps → hyps_of rs ≡ hyps_image (types_inst pairs) hs
-types_hyps pairs = image_hyps (types_inst pairs) (λ n. inst_alpha pairs (strip n) n (strip_strip n))
 
 pub types_derived : (basis : Items) (pairs : List (TypeTree × List ℕ)) (s : Sequent) (t : Named) (own : Items) (hyps : Hyps) (concl : Named) → Derives basis s.hyps s.concl → are_types_for basis pairs ≡ true → nameless [] t ≡ s.concl → named_type t ≡ Some bool_type → own ≡ basis → hyps ≡ hyps_image (types_inst pairs) s.hyps → nameless [] concl ≡ types_inst pairs (nameless [] t) → IsDerived own hyps concl
 types_derived basis pairs s t own hyps concl d over is typed p q r =
@@ -132,9 +98,6 @@ pairs_typed_over basis (p ∷ pairs) e =
 
 abbrev put : List (Named × Named) → Nameless → Nameless
 put pairs = term_subst (nameless_pairs pairs) 0
-
-pub terms_hyps : (pairs : List (Named × Named)) (hs : Hyps) (ps rs : List Named) → hyps_of ps ≡ hs → map (λ r. nameless [] r) rs ≡ map (λ p. term_subst (nameless_pairs pairs) 0 (nameless [] p)) ps → hyps_of rs ≡ hyps_image (term_subst (nameless_pairs pairs) 0) hs
-terms_hyps pairs = image_hyps (put pairs) (λ n. subst_alpha (nameless_pairs pairs) 0 (strip n) n (strip_strip n))
 
 pub terms_derived : (basis : Items) (pairs : List (Named × Named)) (s : Sequent) (t : Named) (own : Items) (hyps : Hyps) (concl : Named) → Derives basis s.hyps s.concl → are_pairs_over basis pairs ≡ true → nameless [] t ≡ s.concl → named_type t ≡ Some bool_type → own ≡ basis → hyps ≡ hyps_image (term_subst (nameless_pairs pairs) 0) s.hyps → nameless [] concl ≡ term_subst (nameless_pairs pairs) 0 (nameless [] t) → IsDerived own hyps concl
 terms_derived basis pairs s t own hyps concl d over is typed p q r =

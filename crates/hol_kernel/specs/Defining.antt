@@ -1,27 +1,16 @@
 -- What the code tests before it defines a constant or a type. Laws in proofs/ lead from here to `IsDefinable` and `IsTypeDefine`.
-use Rattle.std.specs.Prelude.{◌≡◌, ℕ, List, [], ◌∷◌, Bool, true, false, not, ◌&&◌, bytes_eq}
-use Rattle.std.specs.List.{list_all}
+use Rattle.std.specs.Prelude.{◌≡◌, ℕ, List, Bool, not, ◌&&◌, bytes_eq}
 use Rattle.hol_types.specs.Tree.{TypeTree}
-use Rattle.hol_types.specs.Names.{tyvars, is_among}
-use Rattle.hol_terms.specs.Nameless.{Nameless, app, free_occurrences}
+use Rattle.hol_types.specs.Names.{tyvars}
+use Rattle.hol_terms.specs.Nameless.{Nameless, app}
+pub use Rattle.hol_subst.specs.ClosedTerm.{has_none, is_closed}
+pub use Rattle.hol_subst.specs.TermTyvars.{are_among}
 use Rattle.hol_kernel.specs.Items.{Items}
 use Rattle.hol_kernel.specs.Sequent.{no_hyps}
 use Rattle.hol_kernel.specs.Signature.{type_key, constant_key, term_tyvars}
 use Rattle.hol_kernel.specs.Typing.{is_typed}
 use Rattle.hol_kernel.specs.Theorem.{Theorem}
 use Rattle.hol_kernel.specs.Clashing.{is_new}
-
-abbrev pub has_none : List (List ℕ × TypeTree) → Bool
-has_none [] = true
-has_none (v ∷ vs) = false
-
--- no variable is free in the term
-abbrev pub is_closed : Nameless → Bool
-is_closed t = has_none (free_occurrences t)
-
--- each of the names is one of the others
-abbrev pub are_among : List (List ℕ) → List (List ℕ) → Bool
-are_among own names = list_all (is_among own) names
 
 -- the term is well typed and closed, and each of its type variables occurs in the type
 abbrev pub is_definable : Items → Nameless → TypeTree → Bool

@@ -5,7 +5,7 @@ pub mod Sequent
 pub mod Signature
 pub mod Typing
 pub mod NamedTyping
-pub mod Bijections
+pub use Rattle.hol_formulas.specs.Bijections
 pub mod Derivation
 pub mod Legal
 pub mod Theorem

@@ -1,29 +1,16 @@
 -- The names that stand: the prelude's (those that fusion.ml starts with, and those of bool.ml, class.ml and nums.ml), and those that items make.
-use Rattle.std.specs.Prelude.{ℕ, Bool, false, cond, ◌&&◌, ◌||◌, ◌==◌, List, [], ◌∷◌, ◌++◌, map, length, bytes_eq, codes, Option, Some, None, is_some}
+use Rattle.std.specs.Prelude.{ℕ, Bool, false, ◌||◌, List, [], ◌∷◌, map, length, bytes_eq, Option, Some, None}
 use Rattle.std.specs.List.{list_any}
 use Rattle.std.specs.Option.{option_and_then}
 use Rattle.hol_types.specs.Tree.{TypeTree, TyVar, TyApp, type_list}
 use Rattle.hol_types.specs.Fun.{fun_type, fun_parts}
-use Rattle.hol_types.specs.Names.{tyvars, insert_names}
-use Rattle.hol_types.specs.Match.{match_type}
-use Rattle.hol_terms.specs.Nameless.{Nameless, free, bound, fixed, app, lam, nameless_type}
+use Rattle.hol_terms.specs.Nameless.{nameless_type}
+pub use Rattle.hol_subst.specs.TermTyvars.{type_names_in, term_tyvars}
 use Rattle.hol_kernel.specs.Item.{Item, declared_type, declared_constant, defined_constant, defined_type, declared_axiom}
 use Rattle.hol_kernel.specs.Items.{Items, in_order}
-use Rattle.hol_formulas.specs.Equation.{bool_type}
 use Rattle.hol_formulas.specs.Constants.{prelude_types, prelude_constants, prelude_axioms, is_constructor, prelude_generic, is_instance_of, is_constant_at}
 
 -- ---- what an item makes
-
--- the names of the type variables in the types of a term, each once, by bytes
-abbrev pub type_names_in : Nameless → List (List ℕ)
-type_names_in (free v) = tyvars v.1
-type_names_in (bound i) = []
-type_names_in (fixed c s) = tyvars s
-type_names_in (app f x) = type_names_in f ++ type_names_in x
-type_names_in (lam a s b) = tyvars s ++ type_names_in b
-
-abbrev pub term_tyvars : Nameless → List (List ℕ)
-term_tyvars t = insert_names [] (type_names_in t)
 
 -- the type that a type definition makes: the constructor over its type variables
 abbrev pub new_type : List ℕ → List (List ℕ) → TypeTree

@@ -10,7 +10,6 @@ ghost use Rattle.hol_kernel.specs.declared.error.Rule.TheVariants as rule;
 
 use crate::basis::Basis;
 use crate::error::{KernelError, Rule};
-use crate::hypotheses::Hypotheses;
 use crate::item::{Item, ItemNode};
 use crate::thm::Thm;
 use hol_terms::Term;
@@ -28,8 +27,7 @@ impl Thm {
             return Err(KernelError::Refused(Rule::AxiomOf));
         };
         let concl = p.copy()?;
-        let hyps = Hypotheses::none(alloc)?;
-        Ok(Thm::closed(basis, hyps, concl)?)
+        Ok(Thm::unconditional(alloc, basis, concl)?)
     }
 
     /// The same sequent over a basis that contains the theorem's.

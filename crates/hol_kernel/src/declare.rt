@@ -1,8 +1,8 @@
 //! Declarations: types, constants and axioms that a larger basis has.
-ghost use Rattle.std.specs.Prelude.{◌≡◌, ◌&&◌, not, [], IfOk, Ok, Err, MatchOption, Some, None};
+ghost use Rattle.std.specs.Prelude.{◌≡◌, ◌&&◌, not, [], IfOk, Ok, Err};
 ghost use Rattle.std.specs.List.{list_any};
 ghost use Rattle.hol_terms.specs.Nameless.{nameless};
-ghost use Rattle.hol_kernel.specs.Signature.{has_key, prelude_has};
+ghost use Rattle.hol_kernel.specs.Signature.{has_key};
 ghost use Rattle.hol_formulas.specs.Equation.{bool_type};
 ghost use Rattle.hol_kernel.specs.Typing.{has_type};
 ghost use Rattle.hol_kernel.specs.Items.{IsSubset};
@@ -48,14 +48,13 @@ impl Basis {
         if !self.is_type(ty) {
             return Err(KernelError::Refused(Rule::DeclareConst));
         }
-        let item = Item::made(alloc, ItemNode::DeclaredConstant(name.copy()?, ty.copy()?))?;
+        let item = Item::constant(alloc, name, ty)?;
         Ok(self.extended(alloc, item)?)
     }
 
     /// The basis with an axiom more (fusion.ml, new_axiom).
     ///
     /// Refused by [`Rule::DeclareAxiom`] where the name is not new among axioms, or `p` is not well typed over the basis, of type `bool`.
-    ///
     pub fn declare_axiom(&self, alloc: Global, name: &Name, p: &Term) -> Result<Basis, KernelError>
         ensures made { GivesSome in_kernel rule.DeclareAxiom (IsDeclareAxiom self.now name.now (nameless [] p.now)) result }
         ensures larger { IfOk result (λ more. IsSubset self.now more) }
@@ -67,7 +66,7 @@ impl Basis {
         if !fits {
             return Err(KernelError::Refused(Rule::DeclareAxiom));
         }
-        let item = Item::made(alloc, ItemNode::Axiom(name.copy()?, p.copy()?))?;
+        let item = Item::axiom(alloc, name, p)?;
         Ok(self.extended(alloc, item)?)
     }
 

@@ -1,28 +1,25 @@
 //! Definitions of constants.
 ghost use Rattle.std.specs.Prelude.{◌≡◌, IfOk, Some, []};
-ghost use Rattle.hol_types.specs.Names.{tyvars, is_among};
 ghost use Rattle.hol_terms.specs.Named.{named_type};
 ghost use Rattle.hol_terms.specs.Nameless.{nameless, fixed};
 ghost use Rattle.hol_kernel.specs.Item.{defined_constant};
 ghost use Rattle.hol_kernel.specs.Items.{Holds, IsSubset};
 ghost use Rattle.hol_kernel.specs.Sequent.{no_hyps};
 ghost use Rattle.hol_formulas.specs.Equation.{equation};
-ghost use Rattle.hol_kernel.specs.Signature.{term_tyvars};
 ghost use Rattle.hol_kernel.specs.Typing.{HasType};
 ghost use Rattle.hol_kernel.specs.Theorem.{theorem_over};
 ghost use Rattle.hol_kernel.specs.Extends.{IsDefine};
 ghost use Rattle.hol_kernel.specs.Gives.{GivesSome, in_kernel};
-ghost use Rattle.hol_kernel.specs.Defining.{is_closed, are_among, is_definable};
+ghost use Rattle.hol_kernel.specs.Defining.{is_definable};
 ghost use Rattle.hol_kernel.specs.declared.error.Rule.TheVariants as rule;
 
 use crate::basis::Basis;
 use crate::error::{KernelError, Rule};
-use crate::hypotheses::Hypotheses;
-use crate::item::{Item, ItemNode};
+use crate::item::Item;
 use crate::item_kind::ItemKind;
-use crate::term_tyvars::term_tyvars;
 use crate::thm::Thm;
 use hol_formulas::{constant, mk_eq};
+use hol_subst::{has_tyvars_in, is_closed};
 use hol_terms::Term;
 use hol_types::{Name, Ty};
 use std::alloc::{AllocError, Global};
@@ -49,10 +46,7 @@ impl Basis {
         if !fits {
             return Err(KernelError::Refused(Rule::Define));
         }
-        let item = Item::made(
-            alloc,
-            ItemNode::DefinedConstant(name.copy()?, right.copy()?),
-        )?;
+        let item = Item::defined(alloc, name, right)?;
         let basis = self.extended(alloc, item)?;
         let th = basis.definition(alloc, name, right, ty)?;
         Ok((basis, th))
@@ -68,9 +62,7 @@ impl Basis {
         if !is_closed(alloc, right)? {
             return Ok(false);
         }
-        let names = term_tyvars(alloc, right)?;
-        let own = ty.tyvars(alloc)?;
-        Ok(are_among(&own, &names))
+        has_tyvars_in(alloc, right, ty)
     }
 
     // The definition of the constant, which the basis has: `|- c = r`.
@@ -88,40 +80,6 @@ impl Basis {
     {
         let left = constant(alloc, name, ty)?;
         let concl = mk_eq(alloc, ty, &left, right)?;
-        let hyps = Hypotheses::none(alloc)?;
-        Thm::closed(self, hyps, concl)
+        Thm::unconditional(alloc, self, concl)
     }
-}
-
-/// Whether no variable is free in the term.
-#[tactic(auto, using(crate::proofs::Definable::none_free))]
-pub fn is_closed(alloc: Global, term: &Term) -> Result<bool, AllocError>
-    ensures { IfOk result (λ is. is ≡ is_closed (nameless [] term.now)) }
-{
-    let variables = term.frees(alloc)?;
-    Ok(variables.is_empty())
-}
-
-// Whether each of the names is one of the others.
-fn are_among(own: &[Name], names: &[Name]) -> bool
-    ensures { result ≡ are_among own.now names.now }
-{
-    for name in names {
-        if !is_among(own, name) {
-            return false;
-        }
-    }
-    true
-}
-
-// Whether the name is one of these.
-fn is_among(own: &[Name], name: &Name) -> bool
-    ensures { result ≡ is_among own.now name.now }
-{
-    for other in own {
-        if name.same(other) {
-            return true;
-        }
-    }
-    false
 }

@@ -1,9 +1,7 @@
 //! The primitive rules of HOL Light (fusion.ml) that substitute: types for type variables, and terms for variables, in all terms of a
 //! theorem.
-ghost use Rattle.std.specs.Prelude.{◌≡◌, IfOk, [], map};
+ghost use Rattle.std.specs.Prelude.{◌≡◌, IfOk, []};
 ghost use Rattle.hol_terms.specs.Nameless.{nameless};
-ghost use Rattle.hol_subst.specs.Substitution.{types_inst, term_subst};
-ghost use Rattle.hol_subst.specs.Pairs.{nameless_pairs, HasBadPair};
 ghost use Rattle.hol_kernel.specs.Typing.{are_types_for};
 ghost use Rattle.hol_kernel.specs.Rules.{inst_type_of, inst_of, is_pair_at, are_pairs_over};
 ghost use Rattle.hol_kernel.specs.Theorem.{over};
@@ -12,9 +10,8 @@ ghost use Rattle.hol_kernel.specs.declared.error.Rule.TheVariants as rule;
 
 use crate::basis::Basis;
 use crate::error::{KernelError, Rule};
-use crate::hypotheses::Hypotheses;
 use crate::thm::Thm;
-use hol_subst::SubstError;
+use hol_subst::vsubst_good;
 use hol_terms::{Term, TermNode};
 use hol_types::{Name, Ty};
 use std::alloc::{AllocError, Global};
@@ -32,9 +29,8 @@ impl Thm {
         if !are_types(a.basis(), pairs) {
             return Err(KernelError::Refused(Rule::InstType));
         }
-        let concl = with_types(alloc, pairs, a.concl())?;
-        let terms = all_with_types(alloc, pairs, a.hyps())?;
-        let hyps = Hypotheses::collected(alloc, &terms)?;
+        let concl = hol_subst::inst(alloc, pairs, a.concl())?;
+        let hyps = a.hypotheses().inst(alloc, pairs)?;
         Ok(Thm::closed(a.basis(), hyps, concl)?)
     }
 
@@ -51,9 +47,8 @@ impl Thm {
         if !are_pairs(alloc, a.basis(), pairs)? {
             return Err(KernelError::Refused(Rule::Inst));
         }
-        let concl = with_terms(alloc, pairs, a.concl())?;
-        let terms = all_with_terms(alloc, pairs, a.hyps())?;
-        let hyps = Hypotheses::collected(alloc, &terms)?;
+        let concl = vsubst_good(alloc, pairs, a.concl())?;
+        let hyps = a.hypotheses().vsubst(alloc, pairs)?;
         Ok(Thm::closed(a.basis(), hyps, concl)?)
     }
 }
@@ -68,28 +63,6 @@ fn are_types(basis: &Basis, pairs: &[(Ty, Name)]) -> bool
         }
     }
     true
-}
-
-// The term with types for its type variables.
-fn with_types(alloc: Global, pairs: &[(Ty, Name)], term: &Term) -> Result<Term, AllocError>
-    ensures { IfOk result (λ r. nameless [] r ≡ types_inst pairs.now (nameless [] term.now)) }
-{
-    hol_subst::inst(alloc, pairs, term)
-}
-
-// The terms with types for their type variables.
-fn all_with_types(
-    alloc: Global,
-    pairs: &[(Ty, Name)],
-    terms: &[Term],
-) -> Result<Vec<Term>, AllocError>
-    ensures { IfOk result (λ rs. map (λ r. nameless [] r) rs.items ≡ map (λ p. types_inst pairs.now (nameless [] p)) terms.now) }
-{
-    let mut instances = Vec::new(alloc);
-    for term in terms {
-        instances.push(with_types(alloc, pairs, term)?)?;
-    }
-    Ok(instances)
 }
 
 // Whether each pair is one of a term over the basis and a variable of its type.
@@ -116,32 +89,4 @@ fn is_pair(alloc: Global, basis: &Basis, term: &Term, u: &Term) -> Result<bool, 
         return Ok(false);
     }
     Ok(basis.is_typed(alloc, term)?)
-}
-
-// The term with terms for its variables.
-fn with_terms(alloc: Global, pairs: &[(Term, Term)], term: &Term) -> Result<Term, AllocError>
-    requires { HasBadPair pairs.now → ⊥ }
-    ensures { IfOk result (λ r. nameless [] r ≡ term_subst (nameless_pairs pairs.now) 0 (nameless [] term.now)) }
-{
-    match hol_subst::vsubst(alloc, pairs, term) {
-        Ok(instance) => Ok(instance),
-        Err(SubstError::Memory) => Err(AllocError),
-        Err(SubstError::BadPair) => unreachable!(),
-    }
-}
-
-// The terms with terms for their variables.
-fn all_with_terms(
-    alloc: Global,
-    pairs: &[(Term, Term)],
-    terms: &[Term],
-) -> Result<Vec<Term>, AllocError>
-    requires { HasBadPair pairs.now → ⊥ }
-    ensures { IfOk result (λ rs. map (λ r. nameless [] r) rs.items ≡ map (λ p. term_subst (nameless_pairs pairs.now) 0 (nameless [] p)) terms.now) }
-{
-    let mut instances = Vec::new(alloc);
-    for term in terms {
-        instances.push(with_terms(alloc, pairs, term)?)?;
-    }
-    Ok(instances)
 }

@@ -1,11 +1,14 @@
 //! Items: what is declared, defined or assumed beyond the prelude.
-ghost use Rattle.std.specs.Prelude.{◌≡◌, [], ◌∷◌, IfOk};
+ghost use Rattle.std.specs.Prelude.{◌≡◌, [], ◌∷◌, ◌++◌, IfOk, OnOk};
 ghost use Rattle.std.specs.List.{list_any};
 ghost use Rattle.hol_types.specs.Fun.{fun_type};
+ghost use Rattle.hol_terms.specs.Nameless.{nameless};
+ghost use Rattle.hol_kernel.specs.Item.{declared_constant, defined_constant, declared_axiom};
 ghost use Rattle.hol_kernel.specs.Signature.{item_types, item_constants, makes_type, makes_constant, new_type};
 ghost use Rattle.hol_formulas.specs.Constants.{is_constant_at};
 ghost use Rattle.hol_kernel.specs.ItemView.{item_of, HasParameters};
 
+use crate::item_kind::ItemKind;
 use hol_formulas::is_instance;
 use hol_terms::Term;
 use hol_types::{Name, Ty};
@@ -64,6 +67,30 @@ impl Item {
         Ok(Item {
             node: Rc::new(alloc, node)?,
         })
+    }
+
+    /// The item of a constant that is declared with this generic type.
+    pub(crate) fn constant(alloc: Global, name: &Name, ty: &Ty) -> Result<Item, AllocError>
+        ensures { IfOk result (λ item. item ≡ declared_constant name.now ty.now) }
+    {
+        let node = ItemNode::DeclaredConstant(name.copy()?, ty.copy()?);
+        Item::made(alloc, node)
+    }
+
+    /// The item of a constant that is defined as the term.
+    pub(crate) fn defined(alloc: Global, name: &Name, right: &Term) -> Result<Item, AllocError>
+        ensures { IfOk result (λ item. item ≡ defined_constant name.now (nameless [] right.now)) }
+    {
+        let node = ItemNode::DefinedConstant(name.copy()?, right.copy()?);
+        Item::made(alloc, node)
+    }
+
+    /// The item of an axiom.
+    pub(crate) fn axiom(alloc: Global, name: &Name, p: &Term) -> Result<Item, AllocError>
+        ensures { IfOk result (λ item. item ≡ declared_axiom name.now (nameless [] p.now)) }
+    {
+        let node = ItemNode::Axiom(name.copy()?, p.copy()?);
+        Item::made(alloc, node)
     }
 
     /// What the item says.
@@ -151,6 +178,9 @@ impl Item {
     ) -> Result<bool, AllocError>
         ensures { IfOk result (λ makes. makes ≡ makes_constant constant.now ty.now self.now) }
     {
+        if !self.has_name(ItemKind::Constant, constant) {
+            return Ok(false);
+        }
         let constants = self.constants(alloc)?;
         is_among(alloc, &constants, constant, ty)
     }
@@ -187,8 +217,20 @@ fn one_constant(alloc: Global, name: &Name, generic: &Ty) -> Result<Vec<(Name, T
     ensures { IfOk result (λ constants. constants.items ≡ (name.now, generic.now) ∷ []) }
 {
     let mut constants = Vec::new(alloc);
-    constants.push((name.copy()?, generic.copy()?))?;
+    push_constant(&mut constants, name, generic)?;
     Ok(constants)
+}
+
+// Puts the constant with its generic type at the end.
+fn push_constant(
+    constants: &mut Vec<(Name, Ty)>,
+    name: &Name,
+    generic: &Ty,
+) -> Result<(), AllocError>
+    ensures { OnOk result (constants.new.items ≡ constants.old.items ++ (name.now, generic.now) ∷ []) }
+{
+    constants.push((name.copy()?, generic.copy()?))?;
+    Ok(())
 }
 
 // The constants to and from a new type, with their generic types.
@@ -202,10 +244,9 @@ fn bijections(
     ensures { IfOk result (λ constants. constants.items ≡ (abs.now, fun_type old.now new.now) ∷ (rep.now, fun_type new.now old.now) ∷ []) }
 {
     let to = Ty::fun(alloc, old, new)?;
+    let mut constants = one_constant(alloc, abs, &to)?;
     let from = Ty::fun(alloc, new, old)?;
-    let mut constants = Vec::new(alloc);
-    constants.push((abs.copy()?, to))?;
-    constants.push((rep.copy()?, from))?;
+    push_constant(&mut constants, rep, &from)?;
     Ok(constants)
 }
 

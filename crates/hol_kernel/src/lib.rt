@@ -5,12 +5,10 @@
 
 mod axiom;
 mod basis;
-mod bijections;
 mod declare;
 mod define;
 mod error;
 mod given;
-mod hypotheses;
 mod instances;
 mod item;
 mod item_kind;
@@ -20,7 +18,6 @@ mod laws;
 mod prelude;
 mod rules;
 mod statements;
-mod term_tyvars;
 mod thm;
 mod type_define;
 mod type_definition;

@@ -1,7 +1,7 @@
 //! The primitive rules of HOL Light (fusion.ml) that need no substitution.
 ghost use Rattle.std.specs.Prelude.{◌≡◌, IfOk, Some, []};
 ghost use Rattle.hol_types.specs.Fun.{fun_type};
-ghost use Rattle.hol_terms.specs.Named.{abs, named_type};
+ghost use Rattle.hol_terms.specs.Named.{abs, comb, named_type};
 ghost use Rattle.hol_formulas.specs.Equation.{bool_type, mk_eq};
 ghost use Rattle.hol_terms.specs.Nameless.{nameless};
 ghost use Rattle.hol_kernel.specs.Rules.{refl_of, assume_of, beta_of, trans_of, mk_comb_of, abs_of, eq_mp_of, deduct_antisym_of};
@@ -11,9 +11,9 @@ ghost use Rattle.hol_kernel.specs.declared.error.Rule.TheVariants as rule;
 
 use crate::basis::Basis;
 use crate::error::{KernelError, Rule};
-use crate::hypotheses::Hypotheses;
 use crate::thm::Thm;
-use hol_formulas::{Sides, bool_type, dest_eq, is_bool, mk_eq};
+use hol_formulas::{Sides, dest_eq, is_bool, mk_eq, mk_iff};
+use hol_subst::Hypotheses;
 use hol_terms::{Term, TermNode, Variable};
 use hol_types::Ty;
 use std::alloc::{AllocError, Global};
@@ -31,8 +31,7 @@ impl Thm {
             return Err(KernelError::Refused(Rule::Refl));
         }
         let concl = mk_eq(alloc, term.type_of(), term, term)?;
-        let hyps = Hypotheses::none(alloc)?;
-        Ok(Thm::closed(basis, hyps, concl)?)
+        Ok(Thm::unconditional(alloc, basis, concl)?)
     }
 
     /// The rule of assumption (fusion.ml, ASSUME): `{p} |- p` over the basis.
@@ -97,9 +96,7 @@ impl Thm {
         if !domain.same(y.ty) {
             return Err(KernelError::Refused(Rule::MkComb));
         }
-        let left = Term::application(alloc, x.left, y.left)?;
-        let right = Term::application(alloc, x.right, y.right)?;
-        let concl = mk_eq(alloc, range, &left, &right)?;
+        let concl = applied(alloc, x, y, range)?;
         let hyps = a.hypotheses().union(alloc, b.hypotheses())?;
         Ok(Thm::closed(a.basis(), hyps, concl)?)
     }
@@ -150,8 +147,7 @@ impl Thm {
             return Err(KernelError::Refused(Rule::Beta));
         }
         let concl = mk_eq(alloc, redex.type_of(), redex, body)?;
-        let hyps = Hypotheses::none(alloc)?;
-        Ok(Thm::closed(basis, hyps, concl)?)
+        Ok(Thm::unconditional(alloc, basis, concl)?)
     }
 
     /// The rule of modus ponens for equations (fusion.ml, EQ_MP): from `l = r` and `m`, where `l` and `m` are alpha equivalent, `r`.
@@ -185,11 +181,26 @@ impl Thm {
         b.promise();
         let first = a.hypotheses().without(alloc, b.concl())?;
         let second = b.hypotheses().without(alloc, a.concl())?;
-        let truth = bool_type(alloc)?;
-        let concl = mk_eq(alloc, &truth, a.concl(), b.concl())?;
+        let concl = mk_iff(alloc, a.concl(), b.concl())?;
         let hyps = first.union(alloc, &second)?;
         Thm::closed(a.basis(), hyps, concl)
     }
+}
+
+// The equation of the applications of the sides: those of `x` are functions to `range`.
+#[tactic(auto, using(hol_formulas::proofs::PartTypes::applications))]
+fn applied(alloc: Global, x: Sides<'_>, y: Sides<'_>, range: &Ty) -> Result<Term, AllocError>
+    requires functions { x.ty.now ≡ fun_type y.ty.now range.now }
+    requires left { named_type x.left.now ≡ Some x.ty.now }
+    requires right { named_type x.right.now ≡ Some x.ty.now }
+    requires left_argument { named_type y.left.now ≡ Some y.ty.now }
+    requires right_argument { named_type y.right.now ≡ Some y.ty.now }
+    ensures is { IfOk result (λ t. t ≡ mk_eq range.now (comb x.entry.left.now y.entry.left.now) (comb x.entry.right.now y.entry.right.now)) }
+    ensures typed { IfOk result (λ t. named_type t ≡ Some bool_type) }
+{
+    let left = Term::application(alloc, x.left, y.left)?;
+    let right = Term::application(alloc, x.right, y.right)?;
+    mk_eq(alloc, range, &left, &right)
 }
 
 // The equation of the abstractions of the sides.

@@ -5,7 +5,6 @@ ghost use Rattle.hol_kernel.specs.Items.{no_items};
 ghost use Rattle.hol_kernel.specs.Theorem.{theorem_on};
 
 use crate::basis::Basis;
-use crate::hypotheses::Hypotheses;
 use crate::thm::Thm;
 use hol_formulas::{Postulate, statement};
 use std::alloc::{AllocError, Global};
@@ -17,7 +16,6 @@ impl Thm {
     {
         let concl = statement(alloc, which)?;
         let basis = Basis::empty(alloc)?;
-        let hyps = Hypotheses::none(alloc)?;
-        Thm::closed(&basis, hyps, concl)
+        Thm::unconditional(alloc, &basis, concl)
     }
 }

@@ -3,15 +3,15 @@ ghost use Rattle.std.specs.Prelude.{◌≡◌, IfOk, [], map};
 ghost use Rattle.std.specs.List.Sorted.{IsStrictlySortedBy};
 ghost use Rattle.hol_terms.specs.Named.{named_type};
 ghost use Rattle.hol_terms.specs.Nameless.{nameless};
-ghost use Rattle.hol_kernel.specs.Sequent.{hyp_of, hyps_of};
+ghost use Rattle.hol_kernel.specs.Sequent.{no_hyps, hyp_of, hyps_of};
 ghost use Rattle.hol_subst.specs.AlphaOrder.{nameless_cmp};
 ghost use Rattle.hol_formulas.specs.Equation.{bool_type};
 ghost use Rattle.hol_kernel.specs.Theorem.{theorem_over, IsDerived, IsTheorem, IsWellTyped};
 
 use crate::basis::Basis;
-use crate::hypotheses::Hypotheses;
+use hol_subst::Hypotheses;
 use hol_terms::Term;
-use std::alloc::AllocError;
+use std::alloc::{AllocError, Global};
 use std::marker::Model;
 
 /// A theorem: its basis is legal in some order, and it has a derivation over its basis.
@@ -47,6 +47,19 @@ impl Thm {
             hyps,
             concl,
         })
+    }
+
+    /// [`Thm::closed`] without hypotheses.
+    pub(crate) fn unconditional(
+        alloc: Global,
+        basis: &Basis,
+        concl: Term,
+    ) -> Result<Thm, AllocError>
+        requires { IsDerived basis.now no_hyps concl }
+        ensures { IfOk result (λ th. th ≡ theorem_over basis.now no_hyps (nameless [] concl)) }
+    {
+        let hyps = Hypotheses::none(alloc)?;
+        Thm::closed(basis, hyps, concl)
     }
 
     /// The basis.

@@ -17,15 +17,12 @@ ghost use Rattle.hol_kernel.specs.Defining.{are_new_names, IsMembership};
 ghost use Rattle.hol_kernel.specs.declared.error.Rule.TheVariants as rule;
 
 use crate::basis::Basis;
-use crate::bijections;
-use crate::define::is_closed;
 use crate::error::{KernelError, Rule};
-use crate::hypotheses::Hypotheses;
 use crate::item::{Item, ItemNode, new_type};
 use crate::item_kind::ItemKind;
-use crate::term_tyvars::term_tyvars;
 use crate::thm::Thm;
 use crate::type_definition::TypeDefinition;
+use hol_subst::{is_closed, term_tyvars};
 use hol_terms::{Term, TermNode};
 use hol_types::{Name, Ty};
 use std::alloc::{AllocError, Global};
@@ -46,8 +43,6 @@ struct NewType<'a> {
     rep: &'a Name,
     // The predicate of the members.
     predicate: Predicate<'a>,
-    // The constructor over the predicate's type variables.
-    ty: &'a Ty,
 }
 
 impl Basis {
@@ -80,24 +75,15 @@ impl Basis {
         if !closed {
             return Err(KernelError::Refused(Rule::TypeDefine));
         }
-        let parameters = term_tyvars(alloc, predicate.term)?;
-        let ty = new_type(alloc, name, &parameters)?;
-        let item = type_item(alloc, name, abs, rep, predicate.term, parameters)?;
-        let basis = self.extended(alloc, item)?;
         let new = NewType {
             name,
             abs,
             rep,
             predicate,
-            ty: &ty,
         };
-        let abs_rep = basis.abs_rep(alloc, &new)?;
-        let rep_abs = basis.rep_abs(alloc, &new)?;
-        Ok(TypeDefinition {
-            basis,
-            abs_rep,
-            rep_abs,
-        })
+        let item = type_item(alloc, &new)?;
+        let basis = self.extended(alloc, item)?;
+        Ok(basis.type_definition(alloc, &new)?)
     }
 
     // Whether the names of a type and of two different constants are new.
@@ -110,37 +96,54 @@ impl Basis {
         self.is_new(ItemKind::Constant, rep) && !abs.same(rep)
     }
 
+    // The basis, which has the type definition, with what this says.
+    fn type_definition(self, alloc: Global, new: &NewType<'_>) -> Result<TypeDefinition, AllocError>
+        requires holds { Holds self (defined_type new.now.name.now new.now.abs.now new.now.rep.now (nameless [] new.now.predicate.term.now)) }
+        requires known { HasType self (nameless [] new.now.predicate.term.now) (fun_type new.now.predicate.domain.now bool_type) }
+        requires typed { named_type new.now.predicate.term.now ≡ Some (fun_type new.now.predicate.domain.now bool_type) }
+        ensures basis { IfOk result (λ made. made.basis ≡ self) }
+        ensures first { IfOk result (λ made. made.abs_rep ≡ theorem_over self no_hyps (abs_rep new.now.abs.now new.now.rep.now new.now.predicate.domain.now (new_type new.now.name.now (term_tyvars (nameless [] new.now.predicate.term.now))))) }
+        ensures second { IfOk result (λ made. made.rep_abs ≡ theorem_over self no_hyps (rep_abs new.now.abs.now new.now.rep.now (nameless [] new.now.predicate.term.now) new.now.predicate.domain.now (new_type new.now.name.now (term_tyvars (nameless [] new.now.predicate.term.now))))) }
+    {
+        let ty = type_made(alloc, new)?;
+        let abs_rep = self.abs_rep(alloc, new, &ty)?;
+        let rep_abs = self.rep_abs(alloc, new, &ty)?;
+        Ok(TypeDefinition {
+            basis: self,
+            abs_rep,
+            rep_abs,
+        })
+    }
+
     // What the type definition that the basis has says first: `|- abs (rep a) = a`.
-    fn abs_rep(&self, alloc: Global, new: &NewType<'_>) -> Result<Thm, AllocError>
+    fn abs_rep(&self, alloc: Global, new: &NewType<'_>, ty: &Ty) -> Result<Thm, AllocError>
         requires holds { Holds self.now (defined_type new.now.name.now new.now.abs.now new.now.rep.now (nameless [] new.now.predicate.term.now)) }
         requires known { HasType self.now (nameless [] new.now.predicate.term.now) (fun_type new.now.predicate.domain.now bool_type) }
-        requires made { new.now.ty.now ≡ new_type new.now.name.now (term_tyvars (nameless [] new.now.predicate.term.now)) }
-        ensures { IfOk result (λ th. th ≡ theorem_over self.now no_hyps (abs_rep new.now.abs.now new.now.rep.now new.now.predicate.domain.now new.now.ty.now)) }
+        requires made { ty.now ≡ new_type new.now.name.now (term_tyvars (nameless [] new.now.predicate.term.now)) }
+        ensures { IfOk result (λ th. th ≡ theorem_over self.now no_hyps (abs_rep new.now.abs.now new.now.rep.now new.now.predicate.domain.now ty.now)) }
     {
-        let concl = bijections::abs_rep(alloc, new.abs, new.rep, new.predicate.domain, new.ty)?;
-        let hyps = Hypotheses::none(alloc)?;
-        Thm::closed(self, hyps, concl)
+        let concl = hol_formulas::abs_rep(alloc, new.abs, new.rep, new.predicate.domain, ty)?;
+        Thm::unconditional(alloc, self, concl)
     }
 
     // What the type definition that the basis has says second: `|- P r = (rep (abs r) = r)`.
-    fn rep_abs(&self, alloc: Global, new: &NewType<'_>) -> Result<Thm, AllocError>
+    fn rep_abs(&self, alloc: Global, new: &NewType<'_>, ty: &Ty) -> Result<Thm, AllocError>
         requires holds { Holds self.now (defined_type new.now.name.now new.now.abs.now new.now.rep.now (nameless [] new.now.predicate.term.now)) }
         requires known { HasType self.now (nameless [] new.now.predicate.term.now) (fun_type new.now.predicate.domain.now bool_type) }
         requires typed { named_type new.now.predicate.term.now ≡ Some (fun_type new.now.predicate.domain.now bool_type) }
-        requires made { new.now.ty.now ≡ new_type new.now.name.now (term_tyvars (nameless [] new.now.predicate.term.now)) }
-        ensures { IfOk result (λ th. th ≡ theorem_over self.now no_hyps (rep_abs new.now.abs.now new.now.rep.now (nameless [] new.now.predicate.term.now) new.now.predicate.domain.now new.now.ty.now)) }
+        requires made { ty.now ≡ new_type new.now.name.now (term_tyvars (nameless [] new.now.predicate.term.now)) }
+        ensures { IfOk result (λ th. th ≡ theorem_over self.now no_hyps (rep_abs new.now.abs.now new.now.rep.now (nameless [] new.now.predicate.term.now) new.now.predicate.domain.now ty.now)) }
     {
         let predicate = new.predicate;
-        let concl = bijections::rep_abs(
+        let concl = hol_formulas::rep_abs(
             alloc,
             new.abs,
             new.rep,
             predicate.term,
             predicate.domain,
-            new.ty,
+            ty,
         )?;
-        let hyps = Hypotheses::none(alloc)?;
-        Thm::closed(self, hyps, concl)
+        Thm::unconditional(alloc, self, concl)
     }
 }
 
@@ -160,23 +163,24 @@ fn predicate_of(th: &Thm) -> Option<Predicate<'_>>
     Some(Predicate { term, domain })
 }
 
-// The item of a type definition.
-fn type_item(
-    alloc: Global,
-    name: &Name,
-    abs: &Name,
-    rep: &Name,
-    predicate: &Term,
-    parameters: Vec<Name>,
-) -> Result<Item, AllocError>
-    requires { parameters.items ≡ term_tyvars (nameless [] predicate.now) }
-    ensures { IfOk result (λ item. item ≡ defined_type name.now abs.now rep.now (nameless [] predicate.now)) }
+// The type that a type definition makes: the constructor over the predicate's type variables.
+fn type_made(alloc: Global, new: &NewType<'_>) -> Result<Ty, AllocError>
+    ensures { IfOk result (λ ty. ty ≡ new_type new.now.name.now (term_tyvars (nameless [] new.now.predicate.term.now))) }
 {
+    let parameters = term_tyvars(alloc, new.predicate.term)?;
+    new_type(alloc, new.name, &parameters)
+}
+
+// The item of a type definition.
+fn type_item(alloc: Global, new: &NewType<'_>) -> Result<Item, AllocError>
+    ensures { IfOk result (λ item. item ≡ defined_type new.now.name.now new.now.abs.now new.now.rep.now (nameless [] new.now.predicate.term.now)) }
+{
+    let parameters = term_tyvars(alloc, new.predicate.term)?;
     let node = ItemNode::DefinedType {
-        name: name.copy()?,
-        abs: abs.copy()?,
-        rep: rep.copy()?,
-        predicate: predicate.copy()?,
+        name: new.name.copy()?,
+        abs: new.abs.copy()?,
+        rep: new.rep.copy()?,
+        predicate: new.predicate.term.copy()?,
         parameters,
     };
     Item::made(alloc, node)

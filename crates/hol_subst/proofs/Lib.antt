@@ -16,3 +16,9 @@ pub mod Kept
 pub mod Binders
 pub mod Opening
 pub mod Composition
+pub mod SortedSets
+pub mod Merging
+pub mod HypothesisLists
+pub mod Images
+pub mod TermNames
+pub mod ClosedTerm

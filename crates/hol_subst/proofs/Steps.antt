@@ -1,5 +1,5 @@
 -- The cases of substitution in a named term, for what the code has at its ends.
-use Rattle.std.proofs.Common.{◌≡◌, ℕ, ◌+◌, ◌<◌, ◌≤◌, List, [], ◌∷◌, length, drop, get_or, refl, ap, sym, ◌∙◌, Bool, true, false, cond, subst, Option, Some, None, unwrap_or, inl, inr, ◌⊎◌, ◌↔◌}
+use Rattle.std.proofs.Common.{◌≡◌, ℕ, ◌+◌, ◌<◌, ◌≤◌, List, [], ◌∷◌, length, drop, get_or, refl, ap, sym, ◌∙◌, Bool, true, false, cond, subst, Option, Some, IsSome, is_some, unwrap_or, inl, inr, ◌⊎◌, ◌↔◌}
 use Rattle.std.proofs.lemmas.Bool.{or_parts}
 use Rattle.std.proofs.lemmas.List.{drop_all}
 use Rattle.hol_types.proofs.Steps.{next_of}
@@ -13,7 +13,7 @@ use Rattle.hol_terms.proofs.Occurs.{occurs_is}
 use Rattle.hol_terms.proofs.Typing.{type_outside}
 use Rattle.hol_subst.specs.Substitution.{term_lookup, term_for, term_subst}
 use Rattle.hol_subst.specs.Pairs.{nameless_pairs, pair_before, IsGoodPair, HasBadPair}
-use Rattle.hol_subst.specs.Capture.{named_pairs, given, has_pair, Fit, touches, comes_in, IsRest, IsRenaming, IsResult}
+use Rattle.hol_subst.specs.Capture.{named_pairs, given, has_pair, Fit, touches, comes_in, IsRest, IsRenaming, IsResult, IsEntry}
 use Rattle.hol_subst.specs.Substituted.{named_at, named_for, IsVsubst}
 use Rattle.hol_subst.proofs.Closing.{shift_whole}
 use Rattle.hol_subst.proofs.Commute.{subst_agree, subst_nothing}
@@ -43,11 +43,10 @@ fit_typed (p ∷ ps) h w = by (variable_eq p.1 w) refl (fit_typed ps h.2 w)
 pub kept_type : (ps : List (Named × (List ℕ × TypeTree))) (t r : Named) → Fit ps → IsSubst ps t r → named_type r ≡ named_type t
 kept_type ps t r h e = sym (type_outside r) ∙ ap (nameless_type []) e ∙ subst_type (named_pairs ps) [] 0 (nameless [] t) (fit_typed ps h) ∙ type_outside t
 
-pub comb_typed : (ps : List (Named × (List ℕ × TypeTree))) (t f x g y : Named) (s : TypeTree) → Fit ps → t ≡ comb f x → named_type t ≡ Some s → IsResult ps f g → IsResult ps x y → named_type (comb g y) ≡ None → ⊥
-comb_typed ps t f x g y s h e k p q n =
+pub comb_fits : (ps : List (Named × (List ℕ × TypeTree))) (t f x g y : Named) → Fit ps → t ≡ comb f x → IsResult ps f g → IsResult ps x y → (s : TypeTree) → named_type t ≡ Some s → IsSome (named_type (comb g y))
+comb_fits ps t f x g y h e p q s k =
     let i : IsSubst ps (comb f x) (comb g y) = (λ j. app (p.terms j) (q.terms j)) in
-    let z : None ≡ Some s = sym n ∙ kept_type ps (comb f x) (comb g y) h i ∙ ap named_type (sym e) ∙ k in
-    absurd (cc)
+    ap is_some (kept_type ps (comb f x) (comb g y) h i ∙ ap named_type (sym e) ∙ k)
 
 pub renaming_fits : (rest pairs : List (Named × (List ℕ × TypeTree))) (v u : List ℕ × TypeTree) → Fit rest → u.1 ≡ v.1 → has_pair rest v ≡ false → pairs ≡ (var u, v) ∷ rest → Fit pairs
 renaming_fits rest pairs v u h t n e = subst Fit (sym e) (ap Some t, n, h)
@@ -83,19 +82,24 @@ at_comb ps t f x g y o e p q r = subst (λ z. IsResult ps z (unwrap_or o z)) (sy
   names = (g, y, r, p.names, q.names);
 })
 
-pub at_kept : (ps rest : List (Named × (List ℕ × TypeTree))) (t b r : Named) (v : List ℕ × TypeTree) (o : Option Named) → t ≡ abs v b → IsRest v b ps rest → comes_in rest v b ≡ false → IsResult rest b r → unwrap_or o (abs v b) ≡ abs v r → IsResult ps t (unwrap_or o t)
-at_kept ps rest t b r v o e g n h k = subst (λ z. IsResult ps z (unwrap_or o z)) (sym e) (subst (λ z. IsResult ps (abs v b) z) (sym k) (record {
-  terms = kept v b r ps rest g n h.terms;
-  names = names_kept v b r ps rest g n h.names;
-}))
+-- nothing comes in, and the binder stays
+pub entry_kept : (ps rest : List (Named × (List ℕ × TypeTree))) (v : List ℕ × TypeTree) (b : Named) (u : List ℕ × TypeTree) → Fit ps → IsRest v b ps rest → comes_in rest v b ≡ false → u ≡ v → IsEntry ps v b u rest
+entry_kept ps rest v b u f g n e = record {
+  fit = g.fit f;
+  gives = λ r h. subst (λ (w : Var). IsResult ps (abs v b) (abs w r)) (sym e) (record { terms = kept v b r ps rest g n h.terms; names = names_kept v b r ps rest g n h.names });
+}
 
-pub at_renamed : (ps rest pairs : List (Named × (List ℕ × TypeTree))) (t b i r w : Named) (v u : List ℕ × TypeTree) → t ≡ abs v b → Fit rest → IsRest v b ps rest → comes_in rest v b ≡ true → IsRenaming rest b v u → pairs ≡ (var u, v) ∷ rest → IsResult pairs b r → i ≡ r → w ≡ abs u i → IsResult ps t w
-at_renamed ps rest pairs t b i r w v u e f g c n p h j k =
-    let own : IsResult ((var u, v) ∷ rest) b r = subst (λ x. IsResult x b r) p h in
-    subst (λ z. IsResult ps z w) (sym e) (subst (λ z. IsResult ps (abs v b) z) (sym (k ∙ ap (abs u) j)) (record {
-      terms = renamed v u b r ps rest g n own.terms;
-      names = names_renamed v u b r ps rest g f c n own.names;
-    }))
+-- the binder would capture, and is renamed
+pub entry_renamed : (ps rest inner : List (Named × (List ℕ × TypeTree))) (v : List ℕ × TypeTree) (b : Named) (u : List ℕ × TypeTree) → Fit ps → IsRest v b ps rest → comes_in rest v b ≡ true → IsRenaming rest b v u → inner ≡ (var u, v) ∷ rest → IsEntry ps v b u inner
+entry_renamed ps rest inner v b u f g c n p = record {
+  fit = renaming_fits rest inner v u (g.fit f) n.same_type g.own p;
+  gives =
+      λ r h. let own : IsResult ((var u, v) ∷ rest) b r = subst (λ x. IsResult x b r) p h in
+      record { terms = renamed v u b r ps rest g n own.terms; names = names_renamed v u b r ps rest g (g.fit f) c n own.names };
+}
+
+pub at_abs : (ps inner : List (Named × (List ℕ × TypeTree))) (t b r : Named) (v u : List ℕ × TypeTree) (o : Option Named) → t ≡ abs v b → IsEntry ps v b u inner → IsResult inner b r → unwrap_or o (abs v b) ≡ abs u r → IsResult ps t (unwrap_or o t)
+at_abs ps inner t b r v u o e n h k = subst (λ z. IsResult ps z (unwrap_or o z)) (sym e) (subst (λ z. IsResult ps (abs v b) z) (sym k) (n.gives r h))
 
 -- what stands for a variable by the pairs that a caller handed in
 nameless_named : (pairs : List (Named × Named)) (w : Var) → term_for (nameless_pairs pairs) w ≡ nameless [] (named_for pairs w)

@@ -2,7 +2,7 @@
 use Rattle.std.specs.Prelude.{◌≡◌, ℕ, ◌<◌, List, [], ◌∷◌, map, Bool, true, false, cond, not, ◌&&◌, ◌||◌, Some}
 use Rattle.hol_types.specs.Tree.{TypeTree}
 use Rattle.hol_types.specs.Equal.{variable_eq}
-use Rattle.hol_terms.specs.Named.{Named, var, named_type}
+use Rattle.hol_terms.specs.Named.{Named, var, abs, named_type}
 use Rattle.hol_terms.specs.Nameless.{Nameless, nameless}
 use Rattle.hol_terms.specs.Scoped.{occurs_in}
 use Rattle.hol_subst.specs.Substitution.{term_subst}
@@ -61,3 +61,8 @@ pub record IsRest (v : List ℕ × TypeTree) (b : Named) (pairs rest : List (Nam
 pub record IsResult (pairs : List (Named × (List ℕ × TypeTree))) (t r : Named) : Type 0 where
   pub terms : nameless [] r ≡ term_subst (named_pairs pairs) 0 (nameless [] t)
   pub names : IsSubstituted (λ v. given pairs v) (λ s. s) t r
+
+-- in the body b of an abstraction over v the substitution of pairs goes on with inner, and u is bound in the place of v
+pub record IsEntry (pairs : List (Named × (List ℕ × TypeTree))) (v : List ℕ × TypeTree) (b : Named) (u : List ℕ × TypeTree) (inner : List (Named × (List ℕ × TypeTree))) : Type 0 where
+  pub fit : Fit inner
+  pub gives : (r : Named) → IsResult inner b r → IsResult pairs (abs v b) (abs u r)

@@ -11,3 +11,6 @@ pub mod Capture
 pub mod Renaming
 pub mod Substituted
 pub mod Laws
+pub mod Hypotheses
+pub mod TermTyvars
+pub mod ClosedTerm

@@ -1,8 +1,7 @@
 //! Instantiation of type variables in terms.
-ghost use Rattle.std.specs.Prelude.{◌≡◌, ◌⊎◌, [], map, IfOk, IsSome, Some, unwrap_or};
-ghost use Rattle.hol_types.specs.Tree.{TypeTree};
+ghost use Rattle.std.specs.Prelude.{◌≡◌, ◌⊎◌, ◌∷◌, ◌++◌, [], map, IfOk, OnOk, unwrap_or};
 ghost use Rattle.hol_types.specs.Subst.{type_subst};
-ghost use Rattle.hol_terms.specs.Named.{var, constant, comb, abs, named_type};
+ghost use Rattle.hol_terms.specs.Named.{var, constant};
 ghost use Rattle.hol_terms.specs.Nameless.{nameless, free_occurrences};
 ghost use Rattle.hol_terms.specs.Scope.{binders};
 ghost use Rattle.hol_terms.specs.Scoped.{add_all};
@@ -13,6 +12,7 @@ ghost use Rattle.hol_subst.specs.Renaming.{image, images_without, KeepsTypes, Is
 ghost use Rattle.hol_types.specs.Filter.{name_bit, pairs_filter};
 ghost use Rattle.std.specs.Int.RustNames.{bit_or};
 
+use crate::rebuilt::{changed_abstraction, changed_application};
 use crate::variants::variant;
 use hol_terms::{Scope, Term, TermNode, Variable};
 use hol_types::{Name, NameFilter, Ty};
@@ -43,6 +43,21 @@ pub fn inst(alloc: Global, pairs: &[(Ty, Name)], t: &Term) -> Result<Term, Alloc
     }
 }
 
+/// The terms with types for their type variables, each as [`inst`] gives it.
+pub(crate) fn inst_all(
+    alloc: Global,
+    pairs: &[(Ty, Name)],
+    terms: &[Term],
+) -> Result<Vec<Term>, AllocError>
+    ensures { IfOk result (λ rs. map (λ r. nameless [] r) rs.items ≡ map (λ p. types_inst pairs.now (nameless [] p)) terms.now) }
+{
+    let mut instances = Vec::new(alloc);
+    for term in terms {
+        instances.push(inst(alloc, pairs, term)?)?;
+    }
+    Ok(instances)
+}
+
 // The instance of the term under the old binders, where the new ones stand for these; nothing where it is the term itself. The pairs'
 // names are among `names`, and those of the binders that were renamed among `renamed`: a part with none of either is passed over.
 fn changed(
@@ -63,10 +78,7 @@ fn changed(
         return Ok(None);
     }
     match t.node() {
-        TermNode::Var(v) => {
-            let u = image(alloc, pairs, old, new, v)?;
-            changed_variable(alloc, v, &u)
-        }
+        TermNode::Var(v) => changed_variable(alloc, pairs, old, new, v),
         TermNode::Const(c, ty) => changed_constant(alloc, pairs, c, ty),
         TermNode::Comb(f, x) => {
             let g = changed(alloc, pairs, names, old, new, renamed, f)?;
@@ -95,14 +107,21 @@ fn with_binder(renamed: NameFilter, v: &Variable, u: &Variable) -> NameFilter
     }
 }
 
-// The variable `u` as a term, or nothing where it is `v`.
-fn changed_variable(alloc: Global, v: &Variable, u: &Variable) -> Result<Option<Term>, AllocError>
-    ensures { IfOk result (λ r. unwrap_or r (var v.now) ≡ var u.now) }
+// What stands for the variable, as a term, or nothing where it is `v`.
+fn changed_variable(
+    alloc: Global,
+    pairs: &[(Ty, Name)],
+    old: &Scope,
+    new: &Scope,
+    v: &Variable,
+) -> Result<Option<Term>, AllocError>
+    ensures { IfOk result (λ r. unwrap_or r (var v.now) ≡ var (image pairs.now (binders old.now) (binders new.now) v.now)) }
 {
+    let u = image(alloc, pairs, old, new, v)?;
     if u.same(v) {
         return Ok(None);
     }
-    Ok(Some(Term::var(alloc, u)?))
+    Ok(Some(Term::var(alloc, &u)?))
 }
 
 // The instance of the constant, or nothing where its type stays.
@@ -119,53 +138,6 @@ fn changed_constant(
         return Ok(None);
     }
     Ok(Some(Term::constant(alloc, c, &new_ty)?))
-}
-
-// The application of what became of `f` to what became of `x`, or nothing where both stayed. It fits if the types of the application
-// `t` still fit.
-fn changed_application(
-    alloc: Global,
-    t: &Term,
-    f: &Term,
-    g: Option<Term>,
-    x: &Term,
-    y: Option<Term>,
-) -> Result<Option<Term>, AllocError>
-    requires { (s : TypeTree) → named_type t.now ≡ Some s → IsSome (named_type (comb (unwrap_or g f.now) (unwrap_or y x.now))) }
-    ensures { IfOk result (λ r. unwrap_or r (comb f.now x.now) ≡ comb (unwrap_or g f.now) (unwrap_or y x.now)) }
-{
-    if g.is_none() && y.is_none() {
-        return Ok(None);
-    }
-    // It has a type, so `t` is known to be well typed.
-    let _ty = t.type_of();
-    Ok(Some(Term::application(alloc, either(&g, f), either(&y, x))?))
-}
-
-// The abstraction of `u` in what became of `b`, or nothing where `u` is `v` and `b` stayed.
-fn changed_abstraction(
-    alloc: Global,
-    v: &Variable,
-    u: &Variable,
-    b: &Term,
-    c: Option<Term>,
-) -> Result<Option<Term>, AllocError>
-    ensures { IfOk result (λ r. unwrap_or r (abs v.now b.now) ≡ abs u.now (unwrap_or c b.now)) }
-{
-    if c.is_none() && u.same(v) {
-        return Ok(None);
-    }
-    Ok(Some(Term::abstraction(alloc, u, either(&c, b))?))
-}
-
-// The new term, or the old one where there is none.
-fn either<'a>(new: &'a Option<Term>, old: &'a Term) -> &'a Term
-    ensures { result.now ≡ unwrap_or new.now old.now }
-{
-    match new {
-        Some(term) => term,
-        None => old,
-    }
 }
 
 // The variable that is bound in the instance of an abstraction: nothing that stands for another free variable of its body.
@@ -199,11 +171,26 @@ fn other_images(
     let mut images = Vec::new(alloc);
     for w in &frees {
         if !w.same(v) {
-            let u = image(alloc, pairs, old, new, w)?;
-            images.push(Term::var(alloc, &u)?)?;
+            push_image(alloc, &mut images, pairs, old, new, w)?;
         }
     }
     Ok(images)
+}
+
+// Puts what stands for the variable at the end, as a term.
+fn push_image(
+    alloc: Global,
+    images: &mut Vec<Term>,
+    pairs: &[(Ty, Name)],
+    old: &Scope,
+    new: &Scope,
+    w: &Variable,
+) -> Result<(), AllocError>
+    ensures { OnOk result (images.new.items ≡ images.old.items ++ var (image pairs.now (binders old.now) (binders new.now) w.now) ∷ []) }
+{
+    let u = image(alloc, pairs, old, new, w)?;
+    images.push(Term::var(alloc, &u)?)?;
+    Ok(())
 }
 
 // What stands for the variable: the new binder where an old one binds it, and else its instance.

@@ -4,17 +4,24 @@
 #![tactic(auto)]
 
 mod alpha;
+mod closed;
 mod error;
+mod hypotheses;
 mod instances;
 pub mod laws;
 mod names;
 mod pairs;
+mod rebuilt;
 mod substitution;
+mod tyvars;
 mod variants;
 
 pub use alpha::{aconv, alpha_order};
+pub use closed::is_closed;
 pub use error::SubstError;
+pub use hypotheses::Hypotheses;
 pub use instances::inst;
 pub use names::free_name;
-pub use substitution::vsubst;
+pub use substitution::{vsubst, vsubst_good};
+pub use tyvars::{has_tyvars_in, term_tyvars};
 pub use variants::variant;

@@ -1,19 +1,27 @@
 //! Substitution of terms for free variables.
-ghost use Rattle.std.specs.Prelude.{◌≡◌, ◌↔◌, ◌∷◌, ◌++◌, [], cond, IfOk, IsErrOf, IsTrue, OnOk, List, ℕ, None, unwrap_or};
+ghost use Rattle.std.specs.Prelude.{◌≡◌, ◌↔◌, ◌∷◌, ◌++◌, [], map, cond, IfOk, IsErrOf, IsTrue, OnOk, List, ℕ, unwrap_or};
 ghost use Rattle.hol_types.specs.Tree.{TypeTree};
-ghost use Rattle.hol_terms.specs.Named.{Named, var, comb, abs, named_type};
+ghost use Rattle.hol_terms.specs.Named.{var};
 ghost use Rattle.hol_terms.specs.Nameless.{nameless};
 ghost use Rattle.hol_subst.specs.Substitution.{term_subst};
 ghost use Rattle.hol_subst.specs.Pairs.{nameless_pairs, IsGoodPair, HasBadPair};
-ghost use Rattle.hol_subst.specs.Capture.{given, has_pair, Fit, IsResult};
+ghost use Rattle.hol_subst.specs.Capture.{given, has_pair, Fit, IsResult, IsEntry};
 ghost use Rattle.hol_subst.specs.Substituted.{named_for, IsVsubst};
 
 use crate::error::SubstError;
 use crate::pairs::{
     add_pair, comes_in, has_pair, may_touch, renaming, renaming_first, replacement, rest_of,
 };
+use crate::rebuilt::{changed_abstraction, changed_application};
 use hol_terms::{Term, TermNode, Variable};
 use std::alloc::{AllocError, Global};
+
+// The variable that is bound in the place of another one, and the pairs that are substituted in the body.
+#[derive(Drop)]
+struct Entry {
+    binder: Variable,
+    pairs: Vec<(Term, Variable)>,
+}
 
 /// The term with terms for its free variables, by pairs of a term and a variable, of which the first of a variable counts.
 ///
@@ -29,9 +37,34 @@ pub fn vsubst(alloc: Global, pairs: &[(Term, Term)], t: &Term) -> Result<Term, S
     if has_bad_pair(pairs) {
         return Err(SubstError::BadPair);
     }
+    Ok(vsubst_good(alloc, pairs, t)?)
+}
+
+/// [`vsubst`] by pairs of which none is bad.
+pub fn vsubst_good(alloc: Global, pairs: &[(Term, Term)], t: &Term) -> Result<Term, AllocError>
+    requires { HasBadPair pairs.now → ⊥ }
+    ensures ok { IfOk result (λ r. nameless [] r ≡ term_subst (nameless_pairs pairs.now) 0 (nameless [] t.now)) }
+    ensures named { IfOk result (λ r. IsVsubst pairs.now t.now r) }
+{
     let pairs = first_pairs(alloc, pairs)?;
     let changed = substituted(alloc, t, &pairs)?;
-    Ok(or_same(changed, t)?)
+    or_same(changed, t)
+}
+
+/// The terms with terms for their free variables, each as [`vsubst_good`] gives it.
+pub(crate) fn vsubst_all(
+    alloc: Global,
+    pairs: &[(Term, Term)],
+    terms: &[Term],
+) -> Result<Vec<Term>, AllocError>
+    requires { HasBadPair pairs.now → ⊥ }
+    ensures { IfOk result (λ rs. map (λ r. nameless [] r) rs.items ≡ map (λ p. term_subst (nameless_pairs pairs.now) 0 (nameless [] p)) terms.now) }
+{
+    let mut instances = Vec::new(alloc);
+    for term in terms {
+        instances.push(vsubst_good(alloc, pairs, term)?)?;
+    }
+    Ok(instances)
 }
 
 // Whether the second part of some pair is no variable of the first part's type.
@@ -101,20 +134,12 @@ fn substituted(
         TermNode::Comb(f, x) => {
             let function = substituted(alloc, f, pairs)?;
             let argument = substituted(alloc, x, pairs)?;
-            // The term has a type, so those of its parts fit.
-            let _ = t.type_of();
-            applied(alloc, f, function, x, argument)
+            changed_application(alloc, t, f, function, x, argument)
         }
         TermNode::Abs(v, b) => {
-            let rest = rest_of(alloc, pairs, v, b)?;
-            if !comes_in(&rest, v, b) {
-                let inside = substituted(alloc, b, &rest)?;
-                return abstracted(alloc, v, inside);
-            }
-            let u = renaming(alloc, &rest, v, b)?;
-            let renamed = renaming_first(alloc, &u, v, rest)?;
-            let inside = substituted(alloc, b, &renamed)?;
-            renamed_abstraction(alloc, &u, inside, b)
+            let entry = entering(alloc, pairs, v, b)?;
+            let inside = substituted(alloc, b, &entry.pairs)?;
+            changed_abstraction(alloc, v, &entry.binder, b, inside)
         }
     }
 }
@@ -129,46 +154,26 @@ fn at_variable(pairs: &[(Term, Variable)], v: &Variable) -> Result<Option<Term>,
     }
 }
 
-// The application of what stands for `f` and for `x` now, or nothing where both are unchanged.
-fn applied(
+// How substitution goes on in the body `b` of an abstraction over `v`: `v` is renamed where it would capture what comes in.
+fn entering(
     alloc: Global,
-    f: &Term,
-    function: Option<Term>,
-    x: &Term,
-    argument: Option<Term>,
-) -> Result<Option<Term>, AllocError>
-    requires { named_type (comb (unwrap_or function f.now) (unwrap_or argument x.now)) ≡ None → ⊥ }
-    ensures { IfOk result (λ r. unwrap_or r (comb f.now x.now) ≡ comb (unwrap_or function f.now) (unwrap_or argument x.now)) }
-{
-    if function.is_none() && argument.is_none() {
-        return Ok(None);
-    }
-    let function = or_same(function, f)?;
-    let argument = or_same(argument, x)?;
-    Ok(Some(Term::application(alloc, &function, &argument)?))
-}
-
-// The abstraction of the variable in a body that was changed.
-fn abstracted(alloc: Global, v: &Variable, inside: Option<Term>) -> Result<Option<Term>, AllocError>
-    ensures { IfOk result (λ r. (b : Named) → unwrap_or r (abs v.now b) ≡ abs v.now (unwrap_or inside b)) }
-{
-    match inside {
-        Some(inside) => Ok(Some(Term::abstraction(alloc, v, &inside)?)),
-        None => Ok(None),
-    }
-}
-
-// The abstraction of another variable, in a body that was changed or in `b`.
-fn renamed_abstraction(
-    alloc: Global,
-    u: &Variable,
-    inside: Option<Term>,
+    pairs: &[(Term, Variable)],
+    v: &Variable,
     b: &Term,
-) -> Result<Option<Term>, AllocError>
-    ensures { IfOk result (λ r. (old : Named) → unwrap_or r old ≡ abs u.now (unwrap_or inside b.now)) }
+) -> Result<Entry, AllocError>
+    requires { Fit pairs.now }
+    ensures { IfOk result (λ entry. IsEntry pairs.now v.now b.now entry.binder entry.pairs.items) }
 {
-    let inside = or_same(inside, b)?;
-    Ok(Some(Term::abstraction(alloc, u, &inside)?))
+    let rest = rest_of(alloc, pairs, v, b)?;
+    if !comes_in(&rest, v, b) {
+        return Ok(Entry {
+            binder: v.copy()?,
+            pairs: rest,
+        });
+    }
+    let u = renaming(alloc, &rest, v, b)?;
+    let pairs = renaming_first(alloc, &u, v, rest)?;
+    Ok(Entry { binder: u, pairs })
 }
 
 // The changed term, or a copy of the old one.

@@ -1,4 +1,4 @@
-use Rattle.std.proofs.Common.{◌≡◌, ap, arith, rules, sym, ◌∙◌}
+use Rattle.std.proofs.Common.{◌≡◌, refl, ap, arith, rules, sym, ◌∙◌}
 use Rattle.std.proofs.lemmas.Grind.{common_steps}
 use Rattle.std.proofs.lemmas.Result.{IfOk-weaker}
 use lib.Bits.{bit_and}
@@ -6,6 +6,7 @@ use Rattle.hol_types.specs.Filter.{pairs_filter}
 use Rattle.hol_terms.specs.Filter.{filter_of, type_filter_of}
 use Rattle.hol_terms.specs.Scope.{binders}
 use Rattle.hol_terms.specs.View.{named_of}
+use Rattle.hol_subst.specs.Renaming.{image}
 use Rattle.hol_subst.proofs.InstSteps.{variable_at, constant_at, application_at, fits_at, abstraction_at}
 use Rattle.hol_subst.proofs.Kept.{kept_instance, renamed_inside}
 use Rattle.hol_subst.proofs.instances.+changed.Goals as goal
@@ -16,11 +17,11 @@ returns-then-not-meets-2 t c =
     let free : bit_and (filter_of c.args.t.now) c.args.renamed.bits ≡ 0 = grind (arith, common_steps) in
     kept_instance c.args.pairs.now (binders c.args.old.now) (binders c.args.new.now) c.args.t.now c.args.renamed.bits c.requires.renamed types free
 
-pub returns-in_ok-u-in-Var : goal.returns-in_ok-u-in-Var
-returns-in_ok-u-in-Var t c =
+pub returns-in-Var : goal.returns-in-Var
+returns-in-Var t c =
     IfOk-weaker _ _ _
-    (λ o changed. variable_at c.args.pairs.now (binders c.args.old.now) (binders c.args.new.now) c.in-Var.v c.in_ok-u-in-Var.u c.args.t.now o
-    (sym c.node.ensures ∙ ap named_of c.in-Var.is) c.requires.types c.in_ok-u-in-Var.ensures changed)
+    (λ o changed. variable_at c.args.pairs.now (binders c.args.old.now) (binders c.args.new.now) c.in-Var.v (image c.args.pairs.now (binders c.args.old.now) (binders c.args.new.now) c.in-Var.v) c.args.t.now o
+    (sym c.node.ensures ∙ ap named_of c.in-Var.is) c.requires.types refl changed)
     c.changed_variable.ensures
 
 pub returns-in-Const : goal.returns-in-Const

@@ -4,4 +4,4 @@ use Rattle.hol_subst.proofs.InstSteps.{same_variable}
 use Rattle.hol_subst.proofs.instances.changed_variable.Goals as goal
 
 pub returns-then-same : goal.returns-then-same
-returns-then-same c = ap var (sym (same_variable c.args.u.now c.args.v.now (sym c.if-same.true ∙ c.same.ensures)))
+returns-then-same c = ap var (sym (same_variable c.in_ok-u.u c.args.v.now (sym c.if-same.true ∙ c.same.ensures)) ∙ c.in_ok-u.ensures)

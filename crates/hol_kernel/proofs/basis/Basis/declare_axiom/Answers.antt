@@ -15,17 +15,17 @@ returns-then-not-fits-clause-made c = (refl, λ t d. no_formula c.args.self.now 
 
 pub extended-requires-clause-new : goal.extended-requires-clause-new
 extended-requires-clause-new c =
-    let is : c.in_ok-item.item ≡ declared_axiom c.args.name.now (nameless [] c.args.p.now) = c.in_ok-item.ensures ∙ (λ i. declared_axiom (c.in_ok-copy.ensures i) (nameless [] (c.in_ok-copy-2.ensures i))) in
+    let is : c.in_ok-item.item ≡ declared_axiom c.args.name.now (nameless [] c.args.p.now) = c.in_ok-item.ensures in
     subst (λ (x : Item). HasNewKeys c.args.self.now x) (sym is) (axiom_new c.args.self.now c.args.name.now (nameless [] c.args.p.now) (sym c.is_new.ensures ∙ c.if-not-is_new.false))
 
 pub extended-requires-clause-sound : goal.extended-requires-clause-sound
 extended-requires-clause-sound c =
-    let is : c.in_ok-item.item ≡ declared_axiom c.args.name.now (nameless [] c.args.p.now) = c.in_ok-item.ensures ∙ (λ i. declared_axiom (c.in_ok-copy.ensures i) (nameless [] (c.in_ok-copy-2.ensures i))) in
+    let is : c.in_ok-item.item ≡ declared_axiom c.args.name.now (nameless [] c.args.p.now) = c.in_ok-item.ensures in
     subst (λ (x : Item). IsSound c.args.self.now x) (sym is) (has_type_is c.args.self.now (nameless [] c.args.p.now) bool_type (sym c.in_ok-fits.ensures ∙ c.if-not-fits.false))
 
 pub returns-clause-made : goal.returns-clause-made
 returns-clause-made c =
-    let is : c.in_ok-item.item ≡ declared_axiom c.args.name.now (nameless [] c.args.p.now) = c.in_ok-item.ensures ∙ (λ i. declared_axiom (c.in_ok-copy.ensures i) (nameless [] (c.in_ok-copy-2.ensures i))) in (
+    let is : c.in_ok-item.item ≡ declared_axiom c.args.name.now (nameless [] c.args.p.now) = c.in_ok-item.ensures in (
       axiom_new c.args.self.now c.args.name.now (nameless [] c.args.p.now) (sym c.is_new.ensures ∙ c.if-not-is_new.false),
       has_type_is c.args.self.now (nameless [] c.args.p.now) bool_type (sym c.in_ok-fits.ensures ∙ c.if-not-fits.false),
       c.in_ok-extended.ensures.is ∙ ap (set.insert c.args.self.now) is,

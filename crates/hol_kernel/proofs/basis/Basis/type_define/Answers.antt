@@ -4,6 +4,7 @@ use Rattle.hol_types.specs.Fun.{fun_type}
 use Rattle.hol_terms.specs.Nameless.{nameless}
 use Rattle.std.specs.FinSet as set
 use Rattle.hol_kernel.specs.Item.{Item}
+use Rattle.hol_kernel.specs.Items.{Items, IsSubset}
 use Rattle.hol_kernel.specs.Sequent.{no_hyps}
 use Rattle.hol_formulas.specs.Equation.{bool_type}
 use Rattle.hol_kernel.specs.Signature.{term_tyvars, new_type}
@@ -28,23 +29,12 @@ extended-requires-clause-sound c =
     (type_sound c.args.self.now c.args.name.now c.args.abs.now c.args.rep.now c.args.th.now c.requires.within c.promise.ensures.derives c.in-Some.predicate.term.now c.in-Some.ensures.found.0 c.in-Some.predicate.domain.now
     c.in-Some.ensures.found.1 c.in-Some.ensures.typed (sym c.are_new.ensures ∙ c.if-not-are_new.false) (sym c.in_ok-closed.ensures ∙ c.if-not-closed.false))
 
-pub abs_rep-requires-clause-holds : goal.abs_rep-requires-clause-holds
-abs_rep-requires-clause-holds c =
+pub type_definition-requires-clause-holds : goal.type_definition-requires-clause-holds
+type_definition-requires-clause-holds c =
     type_held c.args.self.now c.in_ok-basis.basis c.args.name.now c.args.abs.now c.args.rep.now (nameless [] c.in-Some.predicate.term.now) (c.in_ok-basis.ensures.is ∙ ap (set.insert c.args.self.now) c.in_ok-item.ensures)
 
-pub abs_rep-requires-clause-known : goal.abs_rep-requires-clause-known
-abs_rep-requires-clause-known c =
-    typed_in_more c.args.self.now c.in_ok-basis.basis c.args.name.now c.args.abs.now c.args.rep.now (nameless [] c.in-Some.predicate.term.now) (c.in_ok-basis.ensures.is ∙ ap (set.insert c.args.self.now) c.in_ok-item.ensures)
-    (fun_type c.in-Some.predicate.domain.now bool_type)
-    (predicate_typed c.args.self.now c.args.name.now c.args.abs.now c.args.rep.now c.args.th.now c.requires.within c.promise.ensures.derives c.in-Some.predicate.term.now c.in-Some.ensures.found.0 c.in-Some.predicate.domain.now
-    c.in-Some.ensures.found.1 c.in-Some.ensures.typed)
-
-pub rep_abs-requires-clause-holds : goal.rep_abs-requires-clause-holds
-rep_abs-requires-clause-holds c =
-    type_held c.args.self.now c.in_ok-basis.basis c.args.name.now c.args.abs.now c.args.rep.now (nameless [] c.in-Some.predicate.term.now) (c.in_ok-basis.ensures.is ∙ ap (set.insert c.args.self.now) c.in_ok-item.ensures)
-
-pub rep_abs-requires-clause-known : goal.rep_abs-requires-clause-known
-rep_abs-requires-clause-known c =
+pub type_definition-requires-clause-known : goal.type_definition-requires-clause-known
+type_definition-requires-clause-known c =
     typed_in_more c.args.self.now c.in_ok-basis.basis c.args.name.now c.args.abs.now c.args.rep.now (nameless [] c.in-Some.predicate.term.now) (c.in_ok-basis.ensures.is ∙ ap (set.insert c.args.self.now) c.in_ok-item.ensures)
     (fun_type c.in-Some.predicate.domain.now bool_type)
     (predicate_typed c.args.self.now c.args.name.now c.args.abs.now c.args.rep.now c.args.th.now c.requires.within c.promise.ensures.derives c.in-Some.predicate.term.now c.in-Some.ensures.found.0 c.in-Some.predicate.domain.now
@@ -52,9 +42,13 @@ rep_abs-requires-clause-known c =
 
 pub returns-clause-made : goal.returns-clause-made
 returns-clause-made c =
-    let ty : c.in_ok-ty.ty ≡ new_type c.args.name.now (term_tyvars (nameless [] c.in-Some.predicate.term.now)) = c.in_ok-ty.ensures ∙ ap (new_type c.args.name.now) (c.deref.ensures.value ∙ c.in_ok-parameters.ensures) in
+    let same : c.in_ok-type_definition.field-0.basis ≡ c.in_ok-basis.basis = c.in_ok-type_definition.ensures.basis in
+    let new : TypeTree = new_type c.args.name.now (term_tyvars (nameless [] c.in-Some.predicate.term.now)) in
     type_defined c.args.self.now c.args.name.now c.args.abs.now c.args.rep.now c.args.th.now c.requires.within c.promise.ensures.derives c.in-Some.predicate.term.now c.in-Some.ensures.found.0 c.in-Some.predicate.domain.now
-    c.in-Some.ensures.found.1 c.in-Some.ensures.typed c.in_ok-basis.basis c.in_ok-abs_rep.abs_rep c.in_ok-rep_abs.rep_abs (sym c.are_new.ensures ∙ c.if-not-are_new.false) (sym c.in_ok-closed.ensures ∙ c.if-not-closed.false)
-    (c.in_ok-basis.ensures.is ∙ ap (set.insert c.args.self.now) c.in_ok-item.ensures)
-    (c.in_ok-abs_rep.ensures ∙ ap (λ (t : TypeTree). theorem_over c.in_ok-basis.basis no_hyps (abs_rep c.args.abs.now c.args.rep.now c.in-Some.predicate.domain.now t)) ty)
-    (c.in_ok-rep_abs.ensures ∙ ap (λ (t : TypeTree). theorem_over c.in_ok-basis.basis no_hyps (rep_abs c.args.abs.now c.args.rep.now (nameless [] c.in-Some.predicate.term.now) c.in-Some.predicate.domain.now t)) ty)
+    c.in-Some.ensures.found.1 c.in-Some.ensures.typed c.in_ok-type_definition.field-0.basis c.in_ok-type_definition.field-0.abs_rep c.in_ok-type_definition.field-0.rep_abs (sym c.are_new.ensures ∙ c.if-not-are_new.false) (sym c.in_ok-closed.ensures ∙ c.if-not-closed.false)
+    (same ∙ c.in_ok-basis.ensures.is ∙ ap (set.insert c.args.self.now) c.in_ok-item.ensures)
+    (c.in_ok-type_definition.ensures.first ∙ ap (λ (s : Items). theorem_over s no_hyps (abs_rep c.args.abs.now c.args.rep.now c.in-Some.predicate.domain.now new)) (sym same))
+    (c.in_ok-type_definition.ensures.second ∙ ap (λ (s : Items). theorem_over s no_hyps (rep_abs c.args.abs.now c.args.rep.now (nameless [] c.in-Some.predicate.term.now) c.in-Some.predicate.domain.now new)) (sym same))
+
+pub returns-clause-larger : goal.returns-clause-larger
+returns-clause-larger c = subst (λ (s : Items). IsSubset c.args.self.now s) (sym c.in_ok-type_definition.ensures.basis) c.in_ok-basis.ensures.larger

@@ -3,37 +3,35 @@ use Rattle.hol_terms.specs.Nameless.{nameless}
 use Rattle.hol_subst.specs.Pairs.{nameless_pairs}
 use Rattle.hol_subst.specs.Substitution.{term_subst}
 use Rattle.hol_kernel.specs.Items.{Items}
-use Rattle.hol_kernel.specs.Sequent.{hyps_of, hyps_image}
+use Rattle.hol_kernel.specs.Sequent.{hyps_image}
 use Rattle.hol_kernel.specs.Rules.{are_pairs_over}
 use Rattle.hol_kernel.specs.Theorem.{theorem_over}
-use Rattle.hol_kernel.proofs.InstRules.{pairs_good, terms_hyps, terms_derived, terms_given}
+use Rattle.hol_kernel.proofs.InstRules.{pairs_good, terms_derived, terms_given}
 use Rattle.hol_kernel.proofs.thm.Thm.inst.Goals as goal
 
-pub with_terms-requires : goal.with_terms-requires
-with_terms-requires c =
+pub vsubst_good-requires : goal.vsubst_good-requires
+vsubst_good-requires c =
     let over : are_pairs_over c.args.a.now.basis c.args.pairs.now ≡ true = search rules in
     pairs_good c.args.a.now.basis c.args.pairs.now over
 
-pub all_with_terms-requires : goal.all_with_terms-requires
-all_with_terms-requires c =
+pub vsubst-requires : goal.vsubst-requires
+vsubst-requires c =
     let over : are_pairs_over c.args.a.now.basis c.args.pairs.now ≡ true = search rules in
     pairs_good c.args.a.now.basis c.args.pairs.now over
 
 pub closed-requires : goal.closed-requires
 closed-requires c =
     let over : are_pairs_over c.args.a.now.basis c.args.pairs.now ≡ true = search rules in
-    let all : c.in_ok-hyps.hyps ≡ hyps_of c.in_ok-terms.terms.items = search rules in
     let hyps : c.in_ok-hyps.hyps ≡ hyps_image (term_subst (nameless_pairs c.args.pairs.now) 0) c.args.a.now.sequent.hyps =
-    all ∙ terms_hyps c.args.pairs.now c.args.a.now.sequent.hyps c.hyps.result.now c.in_ok-terms.terms.items c.hyps.ensures.set c.in_ok-terms.ensures in
+    c.in_ok-hyps.ensures ∙ ap (hyps_image (term_subst (nameless_pairs c.args.pairs.now) 0)) c.hypotheses.ensures in
     terms_derived c.args.a.now.basis c.args.pairs.now c.args.a.now.sequent c.concl.result.now c.basis-2.result.now c.in_ok-hyps.hyps c.in_ok-concl.concl
-    c.promise.ensures.derives over c.concl.ensures.concl c.concl.ensures.typed (search rules) hyps c.in_ok-concl.ensures
+    c.promise.ensures.derives over c.concl.ensures.concl c.concl.ensures.typed (search rules) hyps c.in_ok-concl.ensures.ok
 
 pub returns-clause-sequent : goal.returns-clause-sequent
 returns-clause-sequent c =
     let over : are_pairs_over c.args.a.now.basis c.args.pairs.now ≡ true = search rules in
-    let all : c.in_ok-hyps.hyps ≡ hyps_of c.in_ok-terms.terms.items = search rules in
     let hyps : c.in_ok-hyps.hyps ≡ hyps_image (term_subst (nameless_pairs c.args.pairs.now) 0) c.args.a.now.sequent.hyps =
-    all ∙ terms_hyps c.args.pairs.now c.args.a.now.sequent.hyps c.hyps.result.now c.in_ok-terms.terms.items c.hyps.ensures.set c.in_ok-terms.ensures in
+    c.in_ok-hyps.ensures ∙ ap (hyps_image (term_subst (nameless_pairs c.args.pairs.now) 0)) c.hypotheses.ensures in
     let made = c.in_ok-closed.ensures ∙ ap (λ (b : Items). theorem_over b c.in_ok-hyps.hyps (nameless [] c.in_ok-concl.concl)) c.basis-2.ensures in
     terms_given c.args.a.now.basis c.args.pairs.now c.args.a.now.sequent _ c.in_ok-hyps.hyps c.concl.result.now c.in_ok-concl.concl
-    over c.concl.ensures.concl hyps c.in_ok-concl.ensures made
+    over c.concl.ensures.concl hyps c.in_ok-concl.ensures.ok made

@@ -1,0 +1,54 @@
+//! Applications and abstractions made again of what became of their parts.
+ghost use Rattle.std.specs.Prelude.{◌≡◌, IfOk, IsSome, Some, unwrap_or};
+ghost use Rattle.hol_types.specs.Tree.{TypeTree};
+ghost use Rattle.hol_terms.specs.Named.{comb, abs, named_type};
+
+use hol_terms::{Term, Variable};
+use std::alloc::{AllocError, Global};
+
+/// The application of what became of `f` to what became of `x`, or nothing where both stayed. It fits if the types of the application
+/// `t` still fit.
+pub(crate) fn changed_application(
+    alloc: Global,
+    t: &Term,
+    f: &Term,
+    g: Option<Term>,
+    x: &Term,
+    y: Option<Term>,
+) -> Result<Option<Term>, AllocError>
+    requires { (s : TypeTree) → named_type t.now ≡ Some s → IsSome (named_type (comb (unwrap_or g f.now) (unwrap_or y x.now))) }
+    ensures { IfOk result (λ r. unwrap_or r (comb f.now x.now) ≡ comb (unwrap_or g f.now) (unwrap_or y x.now)) }
+{
+    if g.is_none() && y.is_none() {
+        return Ok(None);
+    }
+    // It has a type, so `t` is known to be well typed.
+    let _ty = t.type_of();
+    Ok(Some(Term::application(alloc, either(&g, f), either(&y, x))?))
+}
+
+/// The abstraction of `u` in what became of `b`, or nothing where `u` is `v` and `b` stayed.
+pub(crate) fn changed_abstraction(
+    alloc: Global,
+    v: &Variable,
+    u: &Variable,
+    b: &Term,
+    c: Option<Term>,
+) -> Result<Option<Term>, AllocError>
+    ensures { IfOk result (λ r. unwrap_or r (abs v.now b.now) ≡ abs u.now (unwrap_or c b.now)) }
+{
+    if c.is_none() && u.same(v) {
+        return Ok(None);
+    }
+    Ok(Some(Term::abstraction(alloc, u, either(&c, b))?))
+}
+
+// The new term, or the old one where there is none.
+fn either<'a>(new: &'a Option<Term>, old: &'a Term) -> &'a Term
+    ensures { result.now ≡ unwrap_or new.now old.now }
+{
+    match new {
+        Some(term) => term,
+        None => old,
+    }
+}
