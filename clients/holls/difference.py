@@ -1,0 +1,67 @@
+"""The edits that lead from the commands that stand in the server to those that are wanted."""
+
+from __future__ import annotations
+
+from dataclasses import dataclass
+from typing import List, Optional, Sequence
+
+REPLACE, REMOVE, INSERT = "replace", "remove", "insert"
+
+
+@dataclass(frozen=True)
+class Edit:
+    """An edit at a place of a theory's commands: `replace` and `insert` have a text."""
+
+    op: str
+    at: int
+    text: str = ""
+
+    def apply(self, texts: List[str]) -> None:
+        """Does to a list of texts what the server does to the theory."""
+        if self.op == INSERT:
+            texts.insert(self.at, self.text)
+        elif self.op == REPLACE:
+            texts[self.at] = self.text
+        else:
+            del texts[self.at]
+
+
+@dataclass(frozen=True)
+class Middle:
+    """What differs of two lists: `old` elements of the first and `new` of the second, after a common beginning."""
+
+    start: int
+    old: int
+    new: int
+
+
+def middle(old: Sequence[str], new: Sequence[str]) -> Middle:
+    """What is left of two lists without their common beginning and end."""
+    most = min(len(old), len(new))
+    start = 0
+    while start < most and old[start] == new[start]:
+        start += 1
+    end = 0
+    while end < most - start and old[-1 - end] == new[-1 - end]:
+        end += 1
+    return Middle(start, len(old) - start - end, len(new) - start - end)
+
+
+def difference(old: Sequence[str], new: Sequence[str], served: Sequence[str] = (REPLACE, REMOVE)) -> Optional[List[Edit]]:
+    """The edits that make `new` of `old` by what is served beside `insert`; None where that needs more."""
+    part = middle(old, new)
+    removes = REMOVE in served
+    if part.old and REPLACE not in served:
+        return _anew(part, new) if removes else None
+    if part.old > part.new and not removes:
+        return None
+    edits = [Edit(REPLACE, at, new[at]) for at in range(part.start, part.start + min(part.old, part.new)) if old[at] != new[at]]
+    edits += [Edit(REMOVE, at) for at in range(part.start + part.old - 1, part.start + part.new - 1, -1)]
+    edits += [Edit(INSERT, at, new[at]) for at in range(part.start + part.old, part.start + part.new)]
+    return edits
+
+
+def _anew(part: Middle, new: Sequence[str]) -> List[Edit]:
+    """The middle taken out from the back, and the new one put in."""
+    edits = [Edit(REMOVE, at) for at in range(part.start + part.old - 1, part.start - 1, -1)]
+    return edits + [Edit(INSERT, at, new[at]) for at in range(part.start, part.start + part.new)]

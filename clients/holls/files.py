@@ -1,0 +1,109 @@
+"""A file of commands: its text, the commands that it is cut into, and the theory that it wants of the server."""
+
+from __future__ import annotations
+
+import os
+from typing import List, Optional, Tuple
+
+from holls import protocol
+from holls.places import Lines
+from holls.text import Blemish, Command, Cut, cut
+from holls.theory import Entry, Theory
+
+SUFFIX = ".hol"
+
+
+def theory_name(path: str) -> str:
+    """The name of a file's theory: the file's without its suffix."""
+    name = os.path.basename(path)
+    return name[:-len(SUFFIX)] if name.endswith(SUFFIX) else name
+
+
+class File:
+    """A file. Each command has a place in the theory, unless it is too long or one too many."""
+
+    def __init__(self, path: str) -> None:
+        self.path = path
+        self.theory = Theory(theory_name(path))
+        self.blemishes: List[Blemish] = []
+        self._slots: List[Optional[int]] = []
+        self.take("")
+
+    def take(self, text: str, with_oops: bool = False) -> None:
+        """Takes the file's text. With oops, a hidden `oops` stands before each `g` but the first, so that a failed proof ends there."""
+        self.lines = Lines(text)
+        self.cut: Cut = cut(text)
+        self.blemishes = list(self.cut.blemishes)
+        self._check_name()
+        fitting = [self._fits(command) for command in self.commands]
+        texts = self._texts(fitting, with_oops)
+        if with_oops and len(texts) > protocol.COMMANDS:
+            texts = self._texts(fitting, False)
+        self._check_number(texts)
+        self.theory.want(texts[:protocol.COMMANDS])
+        self.theory.imports = tuple(command.name for command in self.commands if command.word == "import" and command.name)
+
+    @property
+    def commands(self) -> List[Command]:
+        """The commands in the order of the file."""
+        return self.cut.commands
+
+    @property
+    def is_sent(self) -> bool:
+        """Whether the file can be a theory."""
+        return protocol.is_name(self.theory.name)
+
+    def slot(self, number: int) -> Optional[int]:
+        """A command's place in the theory."""
+        slot = self._slots[number]
+        return slot if slot is not None and slot < protocol.COMMANDS and self.is_sent else None
+
+    def entry(self, number: int) -> Optional[Entry]:
+        """What is known of a command; None where it isn't sent."""
+        slot = self.slot(number)
+        return None if slot is None else self.theory.entries[slot]
+
+    def number_at(self, place: int) -> Optional[int]:
+        """The last command that begins before a place, or at it."""
+        found = None
+        for number, command in enumerate(self.commands):
+            if command.start > place:
+                break
+            found = number
+        return found
+
+    def _fits(self, command: Command) -> bool:
+        if not protocol.is_too_long(self.theory.name, command.text):
+            return True
+        self.blemishes.append(Blemish(
+            command.start, command.end, "this command is too long: a request's line has at most %d bytes; split it, or name its parts"
+            % protocol.LINE_BYTES, True))
+        return False
+
+    def _texts(self, fitting: List[bool], with_oops: bool) -> List[Tuple[str, bool]]:
+        """What is sent, each with whether it is hidden."""
+        texts: List[Tuple[str, bool]] = []
+        self._slots = []
+        is_first = True
+        for command, fits in zip(self.commands, fitting):
+            if with_oops and fits and command.word == "g":
+                texts += [] if is_first else [("oops", True)]
+                is_first = False
+            self._slots.append(len(texts) if fits else None)
+            texts += [(command.text, False)] if fits else []
+        return texts
+
+    def _check_number(self, texts: List[Tuple[str, bool]]) -> None:
+        if len(texts) <= protocol.COMMANDS:
+            return
+        first = self.commands[self._slots.index(protocol.COMMANDS)]
+        self.blemishes.append(Blemish(
+            first.start, first.end, "a theory has at most %d commands: from here on nothing is checked; split the file"
+            % protocol.COMMANDS, True))
+
+    def _check_name(self) -> None:
+        if self.is_sent:
+            return
+        self.blemishes.append(Blemish(0, self.lines.starts[1] if len(self.lines.starts) > 1 else len(self.lines.text), (
+            "the file's name without %s is the theory's, and `%s` can't be one: it has to be a letter or _, then letters, digits, _ or ', "
+            "at most %d, and no reserved word; rename the file" % (SUFFIX, self.theory.name, protocol.NAME_BYTES)), True))

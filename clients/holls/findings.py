@@ -1,0 +1,152 @@
+"""What there is to say of a file: errors, warnings and hints, each with its range, from the file's form and the server's reports."""
+
+from __future__ import annotations
+
+from dataclasses import dataclass
+from enum import IntEnum
+from typing import List, Optional
+
+from holls import notation, protocol, words
+from holls.files import File
+from holls.protocol import Goals, Lost, Made, Refusal
+
+
+class Severity(IntEnum):
+    """As the Language Server Protocol numbers them."""
+
+    ERROR = 1
+    WARNING = 2
+    NOTE = 3
+    HINT = 4
+
+
+@dataclass(frozen=True)
+class Finding:
+    """Something to say of a range of the file. `is_open` marks a proof that is never ended."""
+
+    start: int
+    end: int
+    severity: Severity
+    text: str
+    is_open: bool = False
+
+
+@dataclass
+class _Proof:
+    """The open proof, as far as the reports tell."""
+
+    number: int
+    name: str
+    line: int
+    broken: Optional[int] = None
+    is_swallowing: bool = False
+    last: Optional[Goals] = None
+
+    def __str__(self) -> str:
+        return "that of %s, from line %d" % (self.name, self.line)
+
+
+class _Walk:
+    """Goes through a file's commands with the open proof in hand."""
+
+    def __init__(self, file: File) -> None:
+        self.file = file
+        self.findings: List[Finding] = []
+        self.proof: Optional[_Proof] = None
+        self.swallowed = 0
+
+    def step(self, number: int) -> None:
+        """Takes one command's report. An unknown report says nothing."""
+        entry = self.file.entry(number)
+        report = entry.report if entry else None
+        if entry and entry.is_slow:
+            self.add(number, Severity.NOTE, "this has been running for over 5 seconds; an edit ends it")
+        if isinstance(report, Lost):
+            self.add(number, Severity.WARNING, "nothing is known of this command: %s" % report.reason)
+        elif isinstance(report, Refusal):
+            self.refused(number, report)
+        elif isinstance(report, Goals):
+            self.accepted(number, report)
+        elif isinstance(report, Made):
+            self.proof = None
+
+    def accepted(self, number: int, report: Goals) -> None:
+        """A command after which a proof is open."""
+        command = self.file.commands[number]
+        if command.word == "g":
+            if self.proof and self.proof.broken is None:
+                self.add(number, Severity.ERROR, "a proof was open before this: %s; end it by qed;; or give it up by oops;;" % self.proof)
+            self.proof = _Proof(number, command.name, self.line(number))
+        if self.proof:
+            self.proof.last = report
+
+    def refused(self, number: int, refusal: Refusal) -> None:
+        """A refused command. What follows from an error above is a note, or isn't said."""
+        command, proof = self.file.commands[number], self.proof
+        if proof and proof.is_swallowing:
+            self.swallowed += 1
+            return
+        start, end, text = words.explain(command.text, refusal, str(proof) if proof else None)
+        severity = Severity.ERROR
+        if refusal.number == protocol.GOALS_REMAIN and proof and proof.last:
+            text += _remaining(proof.last)
+        if refusal.number == protocol.IN_A_PROOF and proof:
+            proof.is_swallowing = True
+            if proof.broken is not None:
+                severity, text = Severity.NOTE, "from here on nothing is checked: the proof of %s isn't mended yet" % proof.name
+        elif proof and refusal.number != protocol.SYNTAX:
+            if proof.broken is not None:
+                severity, text = Severity.NOTE, "%s (after the error on line %d)" % (text, self.line(proof.broken))
+            else:
+                proof.broken = number
+        self.findings.append(Finding(command.place(start), max(command.place(end), command.place(start) + 1), severity, text))
+
+    def finish(self) -> None:
+        """Tells of a proof that is open at the end, unless an error of it was told."""
+        proof = self.proof
+        if proof and proof.broken is None and not proof.is_swallowing:
+            self.add(proof.number, Severity.WARNING, "the proof of %s is never ended: add qed;; or oops;;" % proof.name, True)
+
+    def add(self, number: int, severity: Severity, text: str, is_open: bool = False) -> None:
+        """Says something of a command's first word."""
+        command = self.file.commands[number]
+        end = command.place(len(command.word)) if command.word else command.start + 1
+        self.findings.append(Finding(command.start, end, severity, text, is_open))
+
+    def line(self, number: int) -> int:
+        """The line of a command, from 1."""
+        return self.file.lines.line(self.file.commands[number].start) + 1
+
+
+def _remaining(report: Goals) -> str:
+    """How many goals remain, and the first one."""
+    number = len(report.goals)
+    if not number:
+        return ""
+    shown = report.goals[0].conclusion
+    return " (%d, the first one: %s)" % (number, shown if len(shown) < 200 else shown[:200] + " ..")
+
+
+def findings(file: File) -> List[Finding]:
+    """All that there is to say of the file now, in its order."""
+    walk = _Walk(file)
+    for number in range(len(file.commands)):
+        walk.step(number)
+    walk.finish()
+    said = walk.findings + _form(file) + _hints(file)
+    return sorted(said, key=lambda finding: (finding.start, finding.severity))
+
+
+def _form(file: File) -> List[Finding]:
+    """What is wrong with the file's form."""
+    return [
+        Finding(blemish.start, blemish.end, Severity.ERROR if blemish.is_error else Severity.WARNING, blemish.text)
+        for blemish in file.blemishes]
+
+
+def _hints(file: File) -> List[Finding]:
+    """Words that mean more in HOL Light than here."""
+    return [
+        Finding(command.place(start), command.place(end), Severity.HINT,
+                "`%s` is a plain name here: there are no conditionals and no let" % command.text[start:end])
+        for command in file.commands for start, end in notation.plain_words(command.text)]

@@ -1,0 +1,152 @@
+"""Requests and replies of hol-serve, as docs/PROTOCOL.md has them."""
+
+from __future__ import annotations
+
+import json
+import re
+from dataclasses import dataclass
+from typing import Any, Dict, List, Tuple, Union
+
+LINE_BYTES = 65_536
+COMMANDS = 1_000
+THEORIES = 64
+NAME_BYTES = 64
+TOKENS = 4_096
+BRACKETS = 200
+
+MEMORY = 9
+"""The number of the memory line."""
+SHAPE = 3
+"""The number of the refusal of an unknown op."""
+
+SYNTAX, IN_A_PROOF, NO_PROOF, UNKNOWN_THEORY, UNKNOWN_THEOREM, UNKNOWN_TAC = 1, 2, 3, 4, 5, 6
+UNTYPABLE, NOT_BOOL, ARITY, NAME_TAKEN, TOO_LARGE = 7, 8, 9, 10, 13
+NO_GOAL, REFUSED, TURN_LIMIT, GOALS_REMAIN = 16, 17, 18, 19
+
+RESERVED = frozenset(
+    "THEN THENL ORELSE REPEAT TRY CHANGED_TAC EVERY FIRST REPLICATE_TAC DISCH_THEN POP_ASSUM FIRST_ASSUM SUBGOAL_THEN ASSUME REFL "
+    "SPEC SYM CONJUNCT1 CONJUNCT2 MP INST_TYPE".split())
+
+_NAME = re.compile(r"[A-Za-z_][A-Za-z0-9_']*\Z")
+
+
+@dataclass(frozen=True)
+class Goal:
+    """An open goal: the assumptions with the newest first, the free variables as `name:type`, and the conclusion."""
+
+    assumptions: Tuple[str, ...]
+    free: Tuple[str, ...]
+    conclusion: str
+
+
+@dataclass(frozen=True)
+class Goals:
+    """The report of an accepted command after which a proof is open."""
+
+    goals: Tuple[Goal, ...]
+
+
+@dataclass(frozen=True)
+class Made:
+    """The report of an accepted command after which no proof is open, with the texts of what it made."""
+
+    entries: Tuple[str, ...]
+
+
+@dataclass(frozen=True)
+class Refusal:
+    """The report of a refused command."""
+
+    number: int
+    argument: str
+    text: str
+
+
+@dataclass(frozen=True)
+class Lost:
+    """In place of a report: why there is none."""
+
+    reason: str
+
+
+@dataclass(frozen=True)
+class Done:
+    """The reply to an edit."""
+
+
+@dataclass(frozen=True)
+class Items:
+    """On what a theorem rests; None where no such theorem stands at the theory's end."""
+
+    items: Union[Tuple[str, ...], None]
+
+
+@dataclass(frozen=True)
+class Error:
+    """A request that was refused."""
+
+    number: int
+    text: str
+
+
+@dataclass(frozen=True)
+class Unreadable:
+    """A line that is no reply."""
+
+    line: str
+
+
+Report = Union[Goals, Made, Refusal]
+Reply = Union[Goals, Made, Refusal, Done, Items, Error, Unreadable]
+
+
+def is_name(text: str) -> bool:
+    """Whether the text is a NAME of the notation that can name a theory."""
+    return bool(_NAME.match(text)) and text not in RESERVED and len(text) <= NAME_BYTES
+
+
+def line(request: Dict[str, Any]) -> bytes:
+    """A request as a line without its newline."""
+    return json.dumps(request, separators=(",", ":"), ensure_ascii=False).encode("utf-8", "replace")
+
+
+def is_too_long(theory: str, text: str) -> bool:
+    """Whether a command's text doesn't fit into a request's line, at any place of the theory."""
+    if len(text) * 6 + len(theory) + 100 < LINE_BYTES:
+        return False
+    return len(line({"op": "replace", "theory": theory, "at": COMMANDS, "text": text})) > LINE_BYTES
+
+
+def reply(data: bytes) -> Reply:
+    """What a line of the server says."""
+    try:
+        value = json.loads(data.decode("utf-8"))
+        return _reply(value)
+    except (ValueError, KeyError, TypeError, AttributeError, RecursionError):
+        return Unreadable(data[:200].decode("utf-8", "replace"))
+
+
+def _reply(value: Dict[str, Any]) -> Reply:
+    if value["ok"] is False:
+        return Error(int(value["error"]), str(value["text"]))
+    if "refusal" in value:
+        return Refusal(int(value["refusal"]), str(value["arg"]), str(value["text"]))
+    if "goals" in value:
+        return Goals(tuple(_goal(goal) for goal in value["goals"]))
+    if "made" in value:
+        return Made(_texts(value["made"]))
+    if "items" in value:
+        return Items(None if value["items"] is None else _texts(value["items"]))
+    if value != {"ok": True}:
+        raise ValueError("no reply")
+    return Done()
+
+
+def _goal(value: Dict[str, Any]) -> Goal:
+    return Goal(_texts(value["asl"]), _texts(value["free"]), str(value["goal"]))
+
+
+def _texts(values: List[Any]) -> Tuple[str, ...]:
+    if not isinstance(values, list):
+        raise TypeError("no list")
+    return tuple(str(value) for value in values)

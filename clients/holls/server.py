@@ -1,0 +1,171 @@
+"""The program hol-serve as a process: where it is found, its pipes, and what it serves."""
+
+from __future__ import annotations
+
+import os
+import queue
+import shutil
+import subprocess
+import threading
+from dataclasses import dataclass
+from pathlib import Path
+from typing import FrozenSet, List, Optional, Union
+
+from holls import protocol
+
+VARIABLE = "HOL_SERVE"
+"""The environment variable that names the program."""
+
+REPLY_BYTES = 1 << 28
+"""A longer line is taken for no reply."""
+
+_BUILT = Path(__file__).resolve().parents[2] / "crates" / "hol_serve" / "out" / "hol_serve"
+_PROBES = (
+    ("replace", {"theory": "", "at": 0, "text": ""}),
+    ("remove", {"theory": "", "at": 0}),
+    ("drop_theory", {"name": ""}),
+)
+
+
+class NoServer(Exception):
+    """There is no program to start; the text says what to do."""
+
+
+@dataclass(frozen=True)
+class Line:
+    """A line that a server wrote."""
+
+    server: "Server"
+    data: bytes
+
+
+@dataclass(frozen=True)
+class Ended:
+    """A server that has ended, with words on how."""
+
+    server: "Server"
+    reason: str
+
+
+class Server:
+    """A running server. What it writes, and its end, come as events; nothing here waits."""
+
+    def __init__(self, program: List[str], events: "queue.Queue[object]") -> None:
+        self.process = _start(program)
+        self._events = events
+        self._lines: "queue.Queue[Optional[bytes]]" = queue.Queue()
+        self._complaint = b""
+        self._listener = threading.Thread(target=self._hear, daemon=True)
+        for work in (self._write, self._read):
+            threading.Thread(target=work, daemon=True).start()
+        self._listener.start()
+
+    def send(self, line: bytes) -> None:
+        """Queues a line to be written."""
+        self._lines.put(line + b"\n")
+
+    def stop(self) -> None:
+        """Ends the process at once. Its last events may still come."""
+        self._lines.put(None)
+        self.process.kill()
+
+    def _write(self) -> None:
+        stdin = self.process.stdin
+        try:
+            while True:
+                line = self._lines.get()
+                if line is None:
+                    break
+                stdin.write(line)
+                if self._lines.empty():
+                    stdin.flush()
+        except OSError:
+            pass  # The reader sees the end.
+        try:
+            stdin.close()
+        except OSError:
+            pass
+
+    def _read(self) -> None:
+        line = b""
+        for line in iter(lambda: self.process.stdout.readline(REPLY_BYTES), b""):
+            if not line.endswith(b"\n"):
+                break
+            self._events.put(Line(self, line))
+        if line and not line.endswith(b"\n") and len(line) >= REPLY_BYTES:
+            self.process.kill()
+        status = self.process.wait()
+        self._listener.join(1)
+        self._events.put(Ended(self, _ending(status, self._complaint)))
+
+    def _hear(self) -> None:
+        """Keeps the last of what comes on standard error."""
+        for line in iter(lambda: self.process.stderr.readline(4096), b""):
+            self._complaint = line.strip() or self._complaint
+
+
+def _start(program: List[str]) -> "subprocess.Popen[bytes]":
+    try:
+        return subprocess.Popen(program, stdin=subprocess.PIPE, stdout=subprocess.PIPE, stderr=subprocess.PIPE)
+    except OSError as error:
+        raise NoServer("the program %s can't be started: %s" % (program[0], error.strerror or error)) from None
+
+
+def _ending(status: int, complaint: bytes) -> str:
+    how = "was ended by signal %d" % -status if status < 0 else "ended with status %d" % status
+    said = complaint.decode("utf-8", "replace")
+    return how + (" (%s)" % said if said else "")
+
+
+def find(named: Optional[str] = None) -> List[str]:
+    """The program's words: as named, else as HOL_SERVE names it, else as built in this repository, else on the PATH."""
+    name = named or os.environ.get(VARIABLE)
+    if name:
+        found = shutil.which(name)
+        if not found:
+            raise NoServer("no program is at %s (as %s names it)" % (name, "--server" if named else VARIABLE))
+        return [found]
+    found = str(_BUILT) if _BUILT.is_file() else shutil.which("hol_serve")
+    if not found:
+        raise NoServer(
+            "there is no program hol_serve: build it (`cd crates/hol_serve && rt run < ../../examples/first.jsonl`, "
+            "at the top of the repository), or name it by --server FILE or by the variable " + VARIABLE)
+    return [found]
+
+
+@dataclass(frozen=True)
+class Served:
+    """What a program serves beyond `new_theory`, `insert`, `report` and `basis`: further ops, and whether `oops` runs."""
+
+    ops: FrozenSet[str] = frozenset()
+    oops: bool = False
+
+
+def probe(program: List[str], seconds: float = 20) -> Served:
+    """Asks a program of its own, which ends again, what it serves: an unknown op is refused as `shape`."""
+    requests = [dict(keys, op=op) for op, keys in _PROBES] + [
+        {"op": "new_theory", "name": "A", "at": 0},
+        {"op": "insert", "theory": "A", "at": 0, "text": "oops"},
+        {"op": "report", "theory": "A", "at": 0},
+    ]
+    replies = [protocol.reply(line) for line in _answers(program, requests, seconds)]
+    if len(replies) != len(requests) or any(isinstance(reply, protocol.Unreadable) for reply in replies):
+        raise NoServer("%s doesn't answer as hol_serve does: is it the right program?" % program[0])
+    known = [op for (op, _), reply in zip(_PROBES, replies) if not _is_shape(reply)]
+    last = replies[-1]
+    return Served(frozenset(known), not (isinstance(last, protocol.Refusal) and last.number == protocol.SYNTAX))
+
+
+def _is_shape(reply: Union[protocol.Reply, protocol.Report]) -> bool:
+    return isinstance(reply, protocol.Error) and reply.number == protocol.SHAPE
+
+
+def _answers(program: List[str], requests: List[dict], seconds: float) -> List[bytes]:
+    """The lines that a program writes for a few requests."""
+    with _start(program) as process:
+        try:
+            text = b"".join(protocol.line(request) + b"\n" for request in requests)
+            return process.communicate(text, timeout=seconds)[0].splitlines()
+        except subprocess.TimeoutExpired:
+            process.kill()
+            raise NoServer("%s gave no answer within %d seconds" % (program[0], seconds)) from None

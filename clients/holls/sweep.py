@@ -1,0 +1,55 @@
+"""Which commands are asked for next."""
+
+from __future__ import annotations
+
+from collections import deque
+from typing import Deque, Iterable, Iterator, List, Optional, Sequence
+
+from holls.files import File
+from holls.session import Job
+from holls.theory import Theory
+
+
+def unknown(theory: Theory, places: Iterable[int]) -> Iterator[Job]:
+    """The jobs at those places of which nothing is known and nothing was asked."""
+    for at in places:
+        if at < len(theory.entries) and _is_unknown(theory, at):
+            yield theory, at
+
+
+def _is_unknown(theory: Theory, at: int) -> bool:
+    entry = theory.entries[at]
+    return entry.report is None and not entry.is_asked and not entry.is_hidden
+
+
+def is_known(files: Sequence[File]) -> bool:
+    """Whether every command that is sent has a report."""
+    return all(entry.report is not None or entry.is_hidden for file in files for entry in file.theory.entries)
+
+
+class Sweep:
+    """A queue of jobs, gone through once; it is filled again where commands are still unknown at its end."""
+
+    def __init__(self) -> None:
+        self.files: List[File] = []
+        self._jobs: Deque[Job] = deque()
+
+    def begin(self, files: Sequence[File], first: Iterable[Job] = ()) -> None:
+        """Sets what is asked for: some jobs first, then all that is unknown."""
+        self.files = list(files)
+        self._jobs = deque(first)
+        self._fill()
+
+    def _fill(self) -> None:
+        for file in self.files:
+            self._jobs.extend(unknown(file.theory, range(len(file.theory.entries))))
+
+    def pick(self) -> Optional[Job]:
+        """The next job."""
+        for _ in range(2):
+            while self._jobs:
+                theory, at = self._jobs.popleft()
+                if at < len(theory.entries) and _is_unknown(theory, at):
+                    return theory, at
+            self._fill()
+        return None

@@ -1,0 +1,121 @@
+"""Theories: the commands that are wanted with what is known of them, and the texts that stand in the server."""
+
+from __future__ import annotations
+
+from dataclasses import dataclass, field
+from typing import Any, Dict, Iterable, List, Optional, Sequence, Set, Tuple, Union
+
+from holls import protocol
+from holls.difference import Edit, difference, middle
+
+NEW, DROP = "new_theory", "drop_theory"
+
+
+class Entry:
+    """A command that is wanted: its text, and what is known of it. After an edit above it, a new entry takes its place."""
+
+    __slots__ = ("text", "is_hidden", "report", "is_asked", "is_slow", "strikes")
+
+    def __init__(self, text: str, is_hidden: bool = False) -> None:
+        self.text = text
+        self.is_hidden = is_hidden
+        self.report: Optional[Union[protocol.Report, protocol.Lost]] = None
+        self.is_asked = False
+        self.is_slow = False
+        self.strikes = 0
+
+
+@dataclass
+class Theory:
+    """A theory as it is wanted, with the names of the theories that it imports."""
+
+    name: str
+    entries: List[Entry] = field(default_factory=list)
+    imports: Tuple[str, ...] = ()
+
+    def want(self, texts: Sequence[Tuple[str, bool]]) -> None:
+        """Takes new commands, each with whether it is hidden. What is known above the first change stays."""
+        start = middle([entry.text for entry in self.entries], [text for text, _ in texts]).start
+        for entry, (_, is_hidden) in zip(self.entries[:start], texts):
+            entry.is_hidden = is_hidden
+        self.entries[start:] = [Entry(text, is_hidden) for text, is_hidden in texts[start:]]
+
+    def forget(self, start: int) -> None:
+        """Forgets what is known from a place on."""
+        self.entries[start:] = [Entry(entry.text, entry.is_hidden) for entry in self.entries[start:]]
+
+
+@dataclass(frozen=True)
+class Change:
+    """A change of the theories that stand: an edit of one, or with an op of NEW or DROP the theory itself."""
+
+    op: str
+    theory: str
+    at: int = 0
+    text: str = ""
+
+    def line(self) -> bytes:
+        """The request's line."""
+        keys: Dict[str, Any] = {"op": self.op, "theory": self.theory, "at": self.at, "text": self.text}
+        if self.op in (NEW, DROP):
+            keys = {"op": self.op, "name": self.theory, "at": self.at}
+        return protocol.line(keys)
+
+
+class Standing:
+    """The theories that stand in a server, in order, as its replies tell."""
+
+    def __init__(self) -> None:
+        self.theories: List[Tuple[str, List[str]]] = []
+
+    def apply(self, change: Change) -> None:
+        """Takes a change that the server carried out."""
+        if change.op == NEW:
+            self.theories.insert(change.at, (change.theory, []))
+        elif change.op == DROP:
+            self.theories = [theory for theory in self.theories if theory[0] != change.theory]
+        else:
+            texts = next(texts for name, texts in self.theories if name == change.theory)
+            Edit(change.op, change.at, change.text).apply(texts)
+
+    def changes(self, wanted: Sequence[Theory], served: Iterable[str]) -> Optional[List[Change]]:
+        """What leads to the wanted theories by what is served; None where only a fresh server does."""
+        served = list(served)
+        names = [theory.name for theory in wanted]
+        dropped = [Change(DROP, name) for name, _ in self.theories if name not in names and DROP in served]
+        kept = {name: texts for name, texts in self.theories if DROP not in served or name in names}
+        if not _is_in_order(list(kept), wanted) or len(set(kept) | set(names)) > protocol.THEORIES:
+            return None
+        made = _made(list(kept), names)
+        edits: List[Change] = []
+        for theory in wanted:
+            more = difference(kept.get(theory.name, []), [entry.text for entry in theory.entries], served)
+            if more is None:
+                return None
+            edits += [Change(edit.op, theory.name, edit.at, edit.text) for edit in more]
+        return dropped + made + edits
+
+
+def _is_in_order(standing: List[str], wanted: Sequence[Theory]) -> bool:
+    """Whether each wanted theory that stands does so after those wanted before it that it imports."""
+    places = {name: at for at, name in enumerate(standing)}
+    before: Set[str] = set()
+    for theory in wanted:
+        imports = before.intersection(theory.imports, places) if theory.name in places else ()
+        if any(places[name] > places[theory.name] for name in imports):
+            return False
+        before.add(theory.name)
+    return True
+
+
+def _made(standing: List[str], names: Sequence[str]) -> List[Change]:
+    """The theories that are still to be made, each behind the one before it and before what imports it."""
+    made: List[Change] = []
+    for number, name in enumerate(names):
+        if name in standing:
+            continue
+        later = [standing.index(other) for other in names[number + 1:] if other in standing]
+        at = min(later, default=len(standing))
+        standing.insert(at, name)
+        made.append(Change(NEW, name, at))
+    return made

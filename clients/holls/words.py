@@ -1,0 +1,127 @@
+"""Refusals of commands in words: where the error stands in the command's text, and what to do about it."""
+
+from __future__ import annotations
+
+import difflib
+from typing import Optional, Tuple
+
+from holls import notation, protocol
+from holls.protocol import Refusal
+
+Told = Tuple[int, int, str]
+"""A range in the command's text, and words."""
+
+_FIXED = {
+    protocol.NO_PROOF: "no proof is open here: begin one by g NAME `term`;;",
+    protocol.TOO_LARGE: "too large: a term here has over 20,000 nodes, those of its types counted; split the statement",
+    14: "a rule of a theorem expression doesn't fit its theorem: %s",
+    15: "%s was given a theorem with a hypothesis that is none of the goal's assumptions",
+    protocol.NO_GOAL: "no goal is left here: end the proof by qed;;",
+    protocol.TURN_LIMIT: "the turn limit was reached: the function doesn't end, or needs a larger --turns",
+    protocol.GOALS_REMAIN: "the proof isn't done: goals remain",
+    20: "nothing to undo: the proof is at its beginning",
+    21: "the import gives %s another value than the one that stands here: rename one of the two",
+    protocol.UNKNOWN_THEORY: "there is no theory %s before this one: is its file in the same folder?",
+    protocol.UNKNOWN_THEOREM: "no theorem %s stands before this command",
+    11: "%s is free in what is defined: make it an argument of the constant",
+    12: "the type variable %s occurs in the definition and not in the constant's type: annotate the constant",
+}
+
+
+def explain(text: str, refusal: Refusal, opened: Optional[str] = None) -> Told:
+    """What a refusal of a command says. `opened` tells of the proof that is open, where one is."""
+    number = refusal.number
+    if number == protocol.SYNTAX:
+        return _syntax(text, _place(text, refusal))
+    if number in (protocol.UNTYPABLE, protocol.NOT_BOOL, protocol.ARITY):
+        return _quotation(text, refusal)
+    start, end = notation.word_range(text, refusal.argument.split(":")[-1]) or _first_word(text)
+    if number == protocol.IN_A_PROOF:
+        words = "a proof is open: %s; end it by qed;; or give it up by oops;;" % (opened or "end it first")
+    elif number == protocol.UNKNOWN_TAC:
+        words = _unknown_tac(text, refusal.argument)
+    elif number == protocol.REFUSED:
+        words = _refused(refusal.argument)
+    elif number == protocol.NAME_TAKEN:
+        words = "%s stands already: choose another name" % refusal.argument.replace("thm:", "the theorem ").replace("const:", "the constant ")
+    else:
+        words = _FIXED.get(number, "%s: %%s" % refusal.text if refusal.argument else refusal.text)
+        words = words % refusal.argument if "%s" in words else words
+    return start, end, words
+
+
+def _place(text: str, refusal: Refusal) -> int:
+    """The place that a refusal names: decimal digits, in no more than the text has."""
+    place = refusal.argument
+    return min(int(place), len(text)) if place.isdigit() and len(place) < 9 else 0
+
+
+def _first_word(text: str) -> Tuple[int, int]:
+    word = notation.token(text, 0)
+    return 0, len(word) if word else min(1, len(text))
+
+
+def _syntax(text: str, place: int) -> Told:
+    """The words for refusal 1 at a place."""
+    token = notation.token(text, place)
+    before = notation.tokens_before(text, place)
+    if place >= len(text):
+        return max(0, place - 1), place, "the command ends too soon: something has to follow here"
+    if not before and token in notation.COMMANDS:
+        return place, place + len(token), "the program reads `%s` and doesn't run it in this form yet" % token
+    if not before and token and token[0].isalpha():
+        return place, place + len(token), "`%s` begins no command; commands begin with %s" % (token, ", ".join(notation.COMMANDS))
+    if len(before) >= protocol.TOKENS:
+        return place, place + 1, "a command has at most %d tokens: split the statement" % protocol.TOKENS
+    if sum(before.count(bracket) for bracket in "([") - sum(before.count(bracket) for bracket in ")]") >= protocol.BRACKETS:
+        return place, place + 1, "more than %d brackets are open at once here" % protocol.BRACKETS
+    return _unexpected(text, place, token)
+
+
+def _unexpected(text: str, place: int, token: Optional[str]) -> Told:
+    """The words for a token with which no command goes on, or for a character that begins none."""
+    if token is None:
+        shown = text[place] if text[place].isprintable() else "U+%04X" % ord(text[place])
+        hint = "; `*)` closes no comment here" if text.startswith("*)", place) else ""
+        return place, place + 1, "`%s` begins no symbol of the notation%s" % (shown, hint)
+    hints = {
+        "!": "; a binder as an argument stands in parentheses: f (!x. P x)",
+        "\\": "; a binder as an argument stands in parentheses: f (\\x. t)",
+        "`": "; the quotation ends too soon, or a backquote is missing",
+        ":": "; a binder's variable with a type before another one stands in parentheses: !(x:A) y. p",
+    }
+    return place, place + len(token), "no command goes on with `%s` here%s" % (token, hints.get(token, ""))
+
+
+def _quotation(text: str, refusal: Refusal) -> Told:
+    """The words for the refusals that name a quotation's place."""
+    start, end = notation.quotation(text, _place(text, refusal))
+    words = {
+        protocol.UNTYPABLE: "this term has no typing: some name in it would need two types",
+        protocol.NOT_BOOL: "this term isn't of type bool: annotate what leaves its type open, as in (P:A->bool) x, or state an equation",
+        protocol.ARITY: "a type in this term has arguments that its constructor doesn't take: bool and ind take none, and a name that is "
+                        "no constructor none (a variable before another one stands in parentheses with its type: !(x:A) y. p)",
+    }[refusal.number]
+    return start, end, words
+
+
+def _unknown_tac(text: str, name: str) -> str:
+    """The words for refusal 6."""
+    missing = any(line.split()[:1] and line.split()[0] in notation.COMMANDS for line in text.split("\n")[1:])
+    hint = "; is a `;;` missing before the next line?" if missing else ""
+    if name in notation.TACS:
+        takes = notation.TACS[name] or "no arguments"
+        return "%s takes %s; the program runs it so, or doesn't run it yet%s" % (name, takes, hint)
+    near = difflib.get_close_matches(name, notation.TACS, 1, 0.75)
+    return "there is no function on goals %s%s%s" % (name, "; did you mean %s?" % near[0] if near else "", hint)
+
+
+def _refused(name: str) -> str:
+    """The words for refusal 17."""
+    fits = {
+        "REFL_TAC": "an equation whose sides are equal up to bound names", "CONJ_TAC": "p /\\ q", "DISJ1_TAC": "p \\/ q",
+        "DISJ2_TAC": "p \\/ q", "EQ_TAC": "p <=> q", "GEN_TAC": "!x. p", "DISCH_TAC": "p ==> q or ~p", "AP_TERM_TAC": "f x = f y",
+        "AP_THM_TAC": "f x = g x", "MK_COMB_TAC": "f x = g y with f and g of one type", "NO_TAC": "no goal at all",
+        "EXISTS_TAC": "?x. p, with a term of x's type", "X_GEN_TAC": "!x. p, with a variable of x's type that is free nowhere in the goal",
+    }
+    return "%s doesn't fit the first goal%s" % (name, ": it wants " + fits[name] if name in fits else "")

@@ -1,0 +1,224 @@
+#!/usr/bin/env python3
+"""A small server that follows docs/PROTOCOL.md, for tests: quick, and with faults on demand.
+
+    fake_server.py [--serve OP,..] [--fault KIND:N] [--once FILE] [--log FILE]
+
+It runs `g`, `e`, `qed` and, where they are named, `oops`, `import`, `replace`, `remove`, `drop_theory`. Its terms are texts: CONJ_TAC
+splits at the first ` /\\ `, REFL_TAC closes `s = s`, ALL_TAC keeps the goal, and SLOW_TAC takes two seconds. A fault comes at the Nth request: die (in the middle of a
+line), end, hang, bad (a line that is no reply) or memory (the Nth and the next request get the memory line). With
+--once the fault that ends a process comes in the first process alone, which makes FILE. The log gets each request.
+"""
+
+import argparse
+import json
+import os
+import re
+import sys
+import time
+
+COMMAND = re.compile(r"\s*(\w+)\s*(.*?)\s*\Z", re.S)
+FUNCTIONS = ("ALL_TAC", "CONJ_TAC", "REFL_TAC", "SLOW_TAC")
+
+
+def refusal(number, text, arg=""):
+    return {"arg": arg, "ok": True, "refusal": number, "text": text}
+
+
+class State:
+    """The state of a theory after some commands: its theorems, and the open proof's name, statement and goals."""
+
+    def __init__(self):
+        self.theorems, self.proof, self.goals = {}, None, []
+
+    def report(self):
+        goals = [{"asl": [], "free": ["p:bool"], "goal": goal} for goal in self.goals]
+        return {"goals": goals, "ok": True}
+
+    def run(self, text, commands, earlier):
+        word, rest = COMMAND.match(text).groups() if COMMAND.match(text) else ("", "")
+        runs = {"g": self.open, "e": self.step, "qed": self.end}
+        if word in runs:
+            return runs[word](rest, text)
+        if word == "oops" and "oops" in commands:
+            return self.give_up()
+        if word == "import" and "import" in commands:
+            return self.take(rest, earlier)
+        return refusal(1, "syntax", str(len(text) - len(text.lstrip())))
+
+    def open(self, rest, text):
+        named = re.match(r"(\w+)\s*`([^`]*)`\Z", rest)
+        if not named:
+            return refusal(1, "syntax", str(len(text)))
+        if self.proof:
+            return refusal(2, "in a proof")
+        if named[2].strip() == "x x":
+            return refusal(7, "untypable", str(text.index("`")))
+        if named[1] in self.theorems:
+            return refusal(10, "name taken", "thm:" + named[1])
+        self.proof, self.goals = (named[1], named[2].strip()), [named[2].strip()]
+        return self.report()
+
+    def step(self, rest, _):
+        if not self.proof:
+            return refusal(3, "no proof open")
+        if rest not in FUNCTIONS:
+            return refusal(6, "unknown TAC or wrong arguments", rest.split()[0] if rest else "")
+        if not self.goals:
+            return refusal(16, "no goal open")
+        left = self.left(rest, self.goals[0])
+        if left is None:
+            return refusal(17, "refused", rest)
+        self.goals[:1] = left
+        return self.report()
+
+    def left(self, name, goal):
+        parts = goal.split(" /\\ ", 1)
+        if name == "SLOW_TAC":
+            time.sleep(2)
+        if name == "CONJ_TAC":
+            return parts if len(parts) == 2 else None
+        if name == "REFL_TAC":
+            sides = goal.split(" = ", 1)
+            return [] if sides[0] == sides[-1] and len(sides) == 2 else None
+        return [goal]
+
+    def end(self, rest, text):
+        if rest:
+            return refusal(1, "syntax", str(text.index(rest)))
+        if not self.proof:
+            return refusal(3, "no proof open")
+        if self.goals:
+            return refusal(19, "goals remain")
+        name, statement = self.proof
+        self.theorems[name], self.proof = statement, None
+        return {"made": ["thm %s |- %s" % (name, statement)], "ok": True}
+
+    def give_up(self):
+        if not self.proof:
+            return refusal(3, "no proof open")
+        self.proof, self.goals = None, []
+        return {"made": [], "ok": True}
+
+    def take(self, name, earlier):
+        if name not in earlier:
+            return refusal(4, "unknown theory", name)
+        new = {key: value for key, value in earlier[name].theorems.items() if key not in self.theorems}
+        self.theorems.update(new)
+        return {"made": ["thm %s |- %s" % pair for pair in new.items()], "ok": True}
+
+
+class Documents:
+    """Theories in order, each a list of texts; answers one request at a time."""
+
+    def __init__(self, served=()):
+        self.served, self.theories = set(served), []
+
+    def answer(self, line):
+        try:
+            request = json.loads(line.decode("utf-8"))
+        except ValueError:
+            return {"error": 2, "ok": False, "text": "not JSON"}
+        if len(line) > 65_536:
+            return {"error": 1, "ok": False, "text": "line too long"}
+        op = request.get("op") if isinstance(request, dict) else None
+        known = {"new_theory", "insert", "report", "basis"} | (self.served & {"replace", "remove", "drop_theory"})
+        if op not in known:
+            return {"error": 3, "ok": False, "text": "shape"}
+        return getattr(self, op)(request)
+
+    def texts(self, name):
+        return next((texts for standing, texts in self.theories if standing == name), None)
+
+    def new_theory(self, request):
+        if self.texts(request["name"]) is not None:
+            return {"error": 5, "ok": False, "text": "theory name taken"}
+        if not re.match(r"[A-Za-z_][\w']{0,63}\Z", request["name"]):
+            return {"error": 6, "ok": False, "text": "bad theory name"}
+        if request["at"] > len(self.theories):
+            return {"error": 7, "ok": False, "text": "position out of range"}
+        if len(self.theories) == 64:
+            return {"error": 8, "ok": False, "text": "too many"}
+        self.theories.insert(request["at"], (request["name"], []))
+        return {"ok": True}
+
+    def edit(self, request, most, do):
+        texts = self.texts(request["theory"])
+        if texts is None:
+            return {"error": 4, "ok": False, "text": "unknown theory"}
+        if request["at"] >= len(texts) + most:
+            return {"error": 7, "ok": False, "text": "position out of range"}
+        if most and len(texts) == 1000:
+            return {"error": 8, "ok": False, "text": "too many"}
+        return do(texts) or {"ok": True}
+
+    def insert(self, request):
+        return self.edit(request, 1, lambda texts: texts.insert(request["at"], request["text"]))
+
+    def replace(self, request):
+        return self.edit(request, 0, lambda texts: texts.__setitem__(request["at"], request["text"]))
+
+    def remove(self, request):
+        return self.edit(request, 0, lambda texts: texts.__delitem__(request["at"]))
+
+    def report(self, request):
+        return self.edit(request, 0, lambda _: self.afresh(request["theory"], request["at"])[1])
+
+    def drop_theory(self, request):
+        texts = self.texts(request["name"])
+        if texts is None:
+            return {"error": 4, "ok": False, "text": "unknown theory"}
+        self.theories = [theory for theory in self.theories if theory[0] != request["name"]]
+        return {"ok": True}
+
+    def basis(self, request):
+        if self.texts(request["theory"]) is None:
+            return {"error": 4, "ok": False, "text": "unknown theory"}
+        state, _ = self.afresh(request["theory"])
+        return {"items": [] if request["name"] in state.theorems else None, "ok": True}
+
+    def afresh(self, name, at=None):
+        earlier = {}
+        for theory, texts in self.theories:
+            state, last = State(), None
+            for text in texts if theory != name or at is None else texts[:at + 1]:
+                last = state.run(text, self.served, earlier)
+            if theory == name:
+                return state, last
+            if "import" in self.served:
+                earlier[theory] = state
+
+
+def main():
+    words = argparse.ArgumentParser()
+    words.add_argument("--serve", default="")
+    words.add_argument("--fault", default=":0")
+    words.add_argument("--once", default="")
+    words.add_argument("--log", default="")
+    given = words.parse_args()
+    kind, number = given.fault.split(":")
+    documents = Documents(filter(None, given.serve.split(",")))
+    for count, line in enumerate(iter(sys.stdin.buffer.readline, b""), 1):
+        if given.log:
+            with open(given.log, "ab") as log:
+                log.write(line)
+        reply = json.dumps(documents.answer(line.rstrip(b"\n")) if kind != "memory" or count not in (int(number), int(number) + 1)
+                           else {"error": 9, "ok": False, "text": "memory"}, sort_keys=True, separators=(",", ":"), ensure_ascii=False)
+        is_due = kind and count == int(number) and not (given.once and os.path.exists(given.once))
+        if is_due and given.once:
+            open(given.once, "w").close()
+        if is_due and kind == "end":
+            sys.exit(3)
+        if is_due and kind == "hang":
+            time.sleep(600)
+        if is_due and kind == "die":
+            sys.stdout.write(reply[:5])
+            sys.stdout.flush()
+            os.abort()
+        if is_due and kind == "bad":
+            reply = "no reply {"
+        sys.stdout.write(reply + "\n")
+        sys.stdout.flush()
+
+
+if __name__ == "__main__":
+    main()

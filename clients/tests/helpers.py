@@ -1,0 +1,28 @@
+"""What the tests share: the fake server, and the built one where there is one."""
+
+import os
+import pathlib
+import stat
+import sys
+
+CLIENTS = pathlib.Path(__file__).resolve().parents[1]
+ROOT = CLIENTS.parent
+FAKE = CLIENTS / "tests" / "fake_server.py"
+HOLLS = CLIENTS / "bin" / "holls"
+BUILT = pathlib.Path(os.environ.get("HOL_SERVE") or ROOT / "crates" / "hol_serve" / "out" / "hol_serve")
+EDITS = "replace,remove,drop_theory"
+
+
+def fake(folder, *words):
+    """A program in the folder that runs the fake server with these words, as --server wants one file."""
+    program = pathlib.Path(folder) / "server"
+    quoted = " ".join("'%s'" % word for word in (sys.executable, FAKE) + words)
+    program.write_text("#!/bin/sh\nexec %s\n" % quoted)
+    program.chmod(program.stat().st_mode | stat.S_IXUSR)
+    return str(program)
+
+
+def proofs(number):
+    """A file of so many proofs, four commands each, that the fake server and the real one accept."""
+    return "".join("g N%d `x /\\ x = x`;;\n" % at if at < 0 else
+                   "g N%d `f x = f x`;;\ne ALL_TAC;;\ne REFL_TAC;;\nqed;;\n\n" % at for at in range(number))

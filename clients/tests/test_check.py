@@ -1,0 +1,120 @@
+"""`holls check` as a program, over the fake server and over the real one where it is built."""
+
+import json
+import pathlib
+import subprocess
+import sys
+import tempfile
+import unittest
+
+from tests.helpers import BUILT, HOLLS, ROOT, fake, proofs
+
+
+class Checking(unittest.TestCase):
+    def setUp(self):
+        folder = tempfile.TemporaryDirectory()
+        self.addCleanup(folder.cleanup)
+        self.folder = pathlib.Path(folder.name)
+
+    def check(self, files, *words, server=()):
+        """Status, standard output and standard error over files of these contents."""
+        for name, content in files.items():
+            (self.folder / name).write_bytes(content if isinstance(content, bytes) else content.encode())
+        program = fake(self.folder, *server)
+        done = subprocess.run(
+            [sys.executable, str(HOLLS), "check", "--server", program, *words, *files], cwd=self.folder, capture_output=True, timeout=60)
+        self.assertNotIn(b"Traceback", done.stderr + done.stdout)
+        return done.returncode, done.stdout.decode(), done.stderr.decode()
+
+    def test_status_0_where_all_is_proved(self):
+        status, output, _ = self.check({"A.hol": proofs(3)})
+        self.assertEqual((status, output), (0, "A.hol: 12 commands, 3 theorems, all accepted\n"))
+
+    def test_says_line_and_column_of_the_first_error_and_keeps_what_follows_apart(self):
+        status, output, _ = self.check({"A.hol": "g A `p = q`;;\n  e REFL_TAC;;\nqed;;\n\ng B `x = x`;;\ne REFL_TAC;;\nqed;;\n"})
+        self.assertEqual(status, 1)
+        lines = output.splitlines()
+        self.assertTrue(lines[0].startswith("A.hol:2:5: error: REFL_TAC doesn't fit the first goal"))
+        self.assertTrue(lines[1].startswith("A.hol:3:1: note: "))
+        self.assertTrue(lines[2].startswith("A.hol:5:1: note: from here on nothing is checked: the proof of A"))
+        self.assertEqual(lines[3:], ["A.hol: 6 commands, 0 theorems, 1 errors"])
+
+    def test_an_open_proof_is_an_error(self):
+        status, output, _ = self.check({"A.hol": "g A `x = x`;;\ne REFL_TAC;;\n"})
+        self.assertEqual((status, output.splitlines()[0]), (1, "A.hol:1:1: error: the proof of A is never ended: add qed;; or oops;;"))
+
+    def test_a_forgotten_qed_is_told_at_the_next_goal(self):
+        status, output, _ = self.check({"A.hol": "g A `x = x`;;\ne REFL_TAC;;\ng B `x = x`;; e REFL_TAC;; qed;;\n"})
+        self.assertEqual(status, 1)
+        self.assertIn("A.hol:3:1: error: a proof is open: that of A, from line 1; end it by qed;;", output)
+
+    def test_a_name_twice_a_syntax_error_and_the_places_behind_symbols(self):
+        status, output, _ = self.check({"A.hol": proofs(1) + "g N0 `x = x`;;\n∀;; qedx;;"})
+        self.assertEqual(status, 1)
+        self.assertIn("A.hol:6:3: error: the theorem N0 stands already", output)
+        self.assertIn("A.hol:7:5: error: `qedx` begins no command", output)
+
+    def test_no_utf8_unclosed_comments_bad_names(self):
+        status, output, _ = self.check({"A.hol": b"qed;;\n\xff;;", "B.hol": "(* open\nqed;;", "1C.hol": "qed;;"})
+        self.assertEqual(status, 1)
+        self.assertIn("A.hol:2:1: error: the file is no UTF-8 from here on (byte 0xff)", output)
+        self.assertIn("B.hol:1:1: error: this comment is never closed", output)
+        self.assertIn("1C.hol:1:1: error: the file's name without .hol is the theory's", output)
+
+    def test_too_long_and_too_many_commands_are_told_and_the_rest_is_checked(self):
+        long = "g L `" + "x" * 70_000 + "`;;\n"
+        status, output, _ = self.check({"A.hol": long + proofs(1), "B.hol": proofs(251)})
+        self.assertEqual(status, 1)
+        self.assertIn("A.hol:1:1: error: this command is too long", output)
+        self.assertIn("A.hol: 5 commands, 1 theorems, 1 errors", output)
+        self.assertIn("B.hol:1251:1: error: a theory has at most 1000 commands", output)
+
+    def test_no_file_no_server_bad_words_are_status_2(self):
+        self.assertEqual(self.check({}, "none.hol")[0], 2)
+        self.assertEqual(self.check({}, "--what", "a.hol")[0], 2)
+        status, _, errors = self.check({"A.hol": "qed;;"}, "--server", "/nowhere/hol_serve")
+        self.assertEqual((status, "no program is at /nowhere/hol_serve" in errors), (2, True))
+
+    def test_a_server_that_ends_or_says_nonsense_is_status_2_with_a_line(self):
+        for fault in ("die:3", "end:3", "bad:3", "end:6", "memory:2"):
+            with self.subTest(fault):
+                status, _, errors = self.check({"A.hol": proofs(1)}, server=("--fault", fault))
+                self.assertEqual(status, 0 if fault == "memory:2" else 2)
+                self.assertEqual(errors.count("\n"), 0 if fault == "memory:2" else 1)
+
+    def test_a_server_that_ends_once_is_started_again(self):
+        for fault in ("die:3", "end:7", "bad:2"):
+            with self.subTest(fault):
+                once = self.folder / fault.replace(":", "_")
+                status, output, _ = self.check({"A.hol": proofs(2)}, server=("--fault", fault, "--once", str(once)))
+                self.assertEqual((status, output), (0, "A.hol: 8 commands, 2 theorems, all accepted\n"))
+
+    def test_a_server_that_hangs_is_status_2_and_names_the_command(self):
+        status, _, errors = self.check({"A.hol": proofs(1)}, "--seconds", "1", server=("--fault", "hang:7"))
+        self.assertEqual(status, 2)
+        self.assertIn("A.hol:2: nothing is known of this command: it gave no answer within 1 seconds", errors)
+
+    def test_files_are_checked_after_those_that_they_import(self):
+        files = {"B.hol": "import A;; " + proofs(1).replace("N0", "M"), "A.hol": proofs(1)}
+        status, output, _ = self.check(files, server=("--serve", "import"))
+        self.assertEqual((status, output.splitlines()[0]), (0, "A.hol: 4 commands, 1 theorems, all accepted"))
+        status, output, _ = self.check({"B.hol": "import C;;", "C.hol": "import B;;"}, server=("--serve", "import"))
+        self.assertEqual((status, "imports this one in turn" in output), (1, True))
+
+    def test_json_and_axioms(self):
+        status, output, _ = self.check({"A.hol": proofs(1)}, "--json", "--axioms")
+        self.assertEqual([json.loads(line) for line in output.splitlines()], [
+            {"file": "A.hol", "line": 4, "theorem": "N0", "items": []},
+            {"file": "A.hol", "commands": 4, "theorems": 1, "errors": 0}])
+
+
+@unittest.skipUnless(BUILT.is_file(), "hol_serve isn't built")
+class Examples(unittest.TestCase):
+    def test_the_examples_check(self):
+        files = sorted(map(str, (ROOT / "examples" / "theories").glob("*.hol")))
+        done = subprocess.run([sys.executable, str(HOLLS), "check", "--server", str(BUILT), "--axioms", *files], capture_output=True, timeout=60)
+        self.assertEqual((done.returncode, done.stderr), (0, b""), done.stdout.decode())
+
+
+if __name__ == "__main__":
+    unittest.main()
