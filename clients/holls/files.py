@@ -20,12 +20,17 @@ def theory_name(path: str) -> str:
 
 
 class File:
-    """A file. Each command has a place in the theory, unless it is too long or one too many."""
+    """A file. Each command has a place in the theory, unless it is too long or one too many.
+
+    `blemishes` come from the file alone, `context` from what stands beside it; with `is_shadowed` another file is its theory.
+    """
 
     def __init__(self, path: str) -> None:
         self.path = path
         self.theory = Theory(theory_name(path))
         self.blemishes: List[Blemish] = []
+        self.context: List[Blemish] = []
+        self.is_shadowed = False
         self._slots: List[Optional[int]] = []
         self.take("")
 
@@ -51,7 +56,7 @@ class File:
     @property
     def is_sent(self) -> bool:
         """Whether the file can be a theory."""
-        return protocol.is_name(self.theory.name)
+        return protocol.is_name(self.theory.name) and not self.is_shadowed
 
     def slot(self, number: int) -> Optional[int]:
         """A command's place in the theory."""
@@ -102,8 +107,13 @@ class File:
             % protocol.COMMANDS, True))
 
     def _check_name(self) -> None:
-        if self.is_sent:
+        if protocol.is_name(self.theory.name):
             return
-        self.blemishes.append(Blemish(0, self.lines.starts[1] if len(self.lines.starts) > 1 else len(self.lines.text), (
+        self.blemishes.append(self.first_line((
             "the file's name without %s is the theory's, and `%s` can't be one: it has to be a letter or _, then letters, digits, _ or ', "
-            "at most %d, and no reserved word; rename the file" % (SUFFIX, self.theory.name, protocol.NAME_BYTES)), True))
+            "at most %d, and no reserved word; rename the file" % (SUFFIX, self.theory.name, protocol.NAME_BYTES))))
+
+    def first_line(self, text: str) -> Blemish:
+        """An error that is told of the file as a whole."""
+        end = self.lines.starts[1] if len(self.lines.starts) > 1 else len(self.lines.text)
+        return Blemish(0, end, text, True)

@@ -141,7 +141,7 @@ def _form(file: File) -> List[Finding]:
     """What is wrong with the file's form."""
     return [
         Finding(blemish.start, blemish.end, Severity.ERROR if blemish.is_error else Severity.WARNING, blemish.text)
-        for blemish in file.blemishes]
+        for blemish in file.blemishes + file.context]
 
 
 def _hints(file: File) -> List[Finding]:

@@ -32,7 +32,7 @@ def with_imports(files: Sequence[File], load: Load) -> List[File]:
 
 
 def ordered(files: Sequence[File]) -> List[File]:
-    """The files, each after those that it imports; an import that closes a circle gets a blemish."""
+    """The files, each after those that it imports; an import that closes a circle is told in the file's context."""
     by_name = {file.theory.name: file for file in files}
     order: List[File] = []
     done: Set[str] = set()
@@ -64,7 +64,7 @@ def _visit(first: File, by_name: Dict[str, File], order: List[File], done: Set[s
 def _tell_circle(file: File, name: str) -> None:
     for command in file.commands:
         if command.word == "import" and command.name == name:
-            file.blemishes.append(Blemish(command.start, command.end, "the theory %s imports this one in turn" % name, True))
+            file.context.append(Blemish(command.start, command.end, "the theory %s imports this one in turn" % name, True))
             return
 
 

@@ -123,6 +123,8 @@ class Session:
             if job is None:
                 return
             theory, at = job
+            if theory not in self.theories:
+                continue
             entry = theory.entries[at]
             entry.is_asked = True
             request = protocol.line({"op": "report", "theory": theory.name, "at": at})
@@ -190,6 +192,11 @@ class Session:
         for pending in lost:
             if not pending.is_edit:
                 pending.answer(protocol.Lost("hol_serve was started anew"))
+
+    @property
+    def is_idle(self) -> bool:
+        """Whether no reply is awaited."""
+        return not self._pending
 
     def _age(self) -> float:
         return time.monotonic() - self._since

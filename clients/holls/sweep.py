@@ -32,24 +32,39 @@ class Sweep:
 
     def __init__(self) -> None:
         self.files: List[File] = []
+        self.is_resting = False
+        self._first: Deque[Job] = deque()
         self._jobs: Deque[Job] = deque()
 
-    def begin(self, files: Sequence[File], first: Iterable[Job] = ()) -> None:
-        """Sets what is asked for: some jobs first, then all that is unknown."""
+    def begin(self, files: Sequence[File]) -> None:
+        """Sets what is asked for."""
         self.files = list(files)
-        self._jobs = deque(first)
-        self._fill()
+        self._first.clear()
+        self._jobs.clear()
+
+    def prefer(self, jobs: Iterable[Job]) -> None:
+        """Puts jobs before all others. While the sweep is resting these alone are asked for."""
+        self._first.extendleft(reversed(list(jobs)))
+
+    def pick(self) -> Optional[Job]:
+        """The next job."""
+        job = _take(self._first)
+        if job is None and not self.is_resting:
+            job = _take(self._jobs)
+            if job is None:
+                self._fill()
+                job = _take(self._jobs)
+        return job
 
     def _fill(self) -> None:
         for file in self.files:
             self._jobs.extend(unknown(file.theory, range(len(file.theory.entries))))
 
-    def pick(self) -> Optional[Job]:
-        """The next job."""
-        for _ in range(2):
-            while self._jobs:
-                theory, at = self._jobs.popleft()
-                if at < len(theory.entries) and _is_unknown(theory, at):
-                    return theory, at
-            self._fill()
-        return None
+
+def _take(jobs: Deque[Job]) -> Optional[Job]:
+    """The first job of a queue of which nothing is known and nothing was asked."""
+    while jobs:
+        theory, at = jobs.popleft()
+        if at < len(theory.entries) and _is_unknown(theory, at):
+            return theory, at
+    return None

@@ -25,23 +25,26 @@ class Entry:
         self.strikes = 0
 
 
-@dataclass
+@dataclass(eq=False)
 class Theory:
-    """A theory as it is wanted, with the names of the theories that it imports."""
+    """A theory as it is wanted, with the names of the theories that it imports. `edits` counts what changed what is known of it."""
 
     name: str
     entries: List[Entry] = field(default_factory=list)
     imports: Tuple[str, ...] = ()
+    edits: int = 0
 
     def want(self, texts: Sequence[Tuple[str, bool]]) -> None:
         """Takes new commands, each with whether it is hidden. What is known above the first change stays."""
         start = middle([entry.text for entry in self.entries], [text for text, _ in texts]).start
         for entry, (_, is_hidden) in zip(self.entries[:start], texts):
             entry.is_hidden = is_hidden
+        self.edits += start < max(len(self.entries), len(texts))
         self.entries[start:] = [Entry(text, is_hidden) for text, is_hidden in texts[start:]]
 
     def forget(self, start: int) -> None:
         """Forgets what is known from a place on."""
+        self.edits += 1
         self.entries[start:] = [Entry(entry.text, entry.is_hidden) for entry in self.entries[start:]]
 
 

@@ -1,0 +1,86 @@
+"""The state of a proof at a place of a file, and how it is shown."""
+
+from __future__ import annotations
+
+from dataclasses import dataclass
+from typing import Any, Dict, List, Optional, Union
+
+from holls import words
+from holls.files import File
+from holls.protocol import Goal, Goals, Lost, Made, Refusal
+from holls.session import Job
+
+
+@dataclass(frozen=True)
+class State:
+    """What is known at a place: the open goals or None where no proof is open, what was made, and errors of commands looked back over."""
+
+    number: Optional[int]
+    goals: Optional[Goals]
+    made: Optional[Made]
+    errors: List[str]
+
+
+def state(file: File, number: Optional[int]) -> Union[State, Job]:
+    """The state after a command, looking back over refused ones; or the job that has to be done before it is known."""
+    errors: List[str] = []
+    for at in range(-1 if number is None else number, -1, -1):
+        entry = file.entry(at)
+        report = entry.report if entry else None
+        if entry and report is None:
+            return file.theory, file.slot(at)
+        if isinstance(report, Goals):
+            return State(number, report, None, errors)
+        if isinstance(report, Made):
+            return State(number, None, report if at == number else None, errors)
+        if at == number:
+            errors += _error(file, at, report)
+    return State(number, None, None, errors)
+
+
+def _error(file: File, number: int, report: Union[Refusal, Lost, None]) -> List[str]:
+    """Why a command has changed nothing."""
+    if isinstance(report, Refusal):
+        return ["refused: " + words.explain(file.commands[number].text, report)[2]]
+    if isinstance(report, Lost):
+        return ["nothing is known of this command: " + report.reason]
+    return ["this command wasn't sent"]
+
+
+def text(known: State) -> str:
+    """The state as the goal window shows it."""
+    lines = list(known.errors) + ([""] if known.errors else [])
+    if known.made is not None:
+        lines += list(known.made.entries) or ["no proof is open"]
+    elif known.goals is None:
+        lines.append("no proof is open")
+    elif not known.goals.goals:
+        lines.append("no goals are left: end the proof by qed;;")
+    else:
+        for at, goal in enumerate(known.goals.goals):
+            lines += _goal(goal, at + 1, len(known.goals.goals))
+    return "\n".join(lines).rstrip() + "\n"
+
+
+def _goal(goal: Goal, number: int, count: int) -> List[str]:
+    """A goal: its variables, its assumptions from the oldest, a line, the conclusion."""
+    lines = ["goal %d of %d" % (number, count)] if count > 1 else ["1 goal"]
+    lines += ["  " + name.replace(":", " : ", 1) for name in goal.free]
+    lines += ["  %d  %s" % (at, shown) for at, shown in enumerate(reversed(goal.assumptions))]
+    return lines + ["  " + "-" * 40, "  " + goal.conclusion, ""]
+
+
+def answer(known: State) -> Dict[str, Any]:
+    """The state as coq-lsp's `proof/goals` answers it, with the window's text beside it."""
+    reply: Dict[str, Any] = {"messages": list(known.made.entries) if known.made else [], "text": text(known)}
+    if known.goals is not None:
+        reply["goals"] = {"goals": [_json(goal) for goal in known.goals.goals], "stack": [], "shelf": [], "given_up": []}
+    if known.errors:
+        reply["error"] = known.errors[0]
+    return reply
+
+
+def _json(goal: Goal) -> Dict[str, Any]:
+    free = [{"names": [name.split(":")[0]], "ty": name.split(":", 1)[-1]} for name in goal.free]
+    assumed = [{"names": [str(at)], "ty": shown} for at, shown in enumerate(reversed(goal.assumptions))]
+    return {"hyps": free + assumed, "ty": goal.conclusion}

@@ -1,0 +1,307 @@
+"""`holls lsp` as an editor sees it: scripted sessions over the fake server."""
+
+import json
+import pathlib
+import queue
+import random
+import re
+import subprocess
+import sys
+import tempfile
+import threading
+import time
+import unittest
+
+from holls.lsp import wire
+from tests.fake_server import Documents
+from tests.helpers import EDITS, HOLLS, fake, proofs
+
+SECONDS = 30
+
+
+class Editor:
+    """An editor that speaks to a bridge: its messages, and what was published last."""
+
+    def __init__(self, program, *words):
+        self.process = subprocess.Popen(
+            [sys.executable, str(HOLLS), "lsp", "--server", program, *words], stdin=subprocess.PIPE, stdout=subprocess.PIPE,
+            stderr=subprocess.PIPE)
+        self.messages, self.numbers = queue.Queue(), 0
+        self.published, self.versions, self.shown, self.progress = {}, {}, [], []
+        threading.Thread(target=self._read, daemon=True).start()
+
+    def _read(self):
+        for message in iter(lambda: wire.read(self.process.stdout), None):
+            self.messages.put(message)
+        self.messages.put(None)
+
+    def send(self, method, params, number=None):
+        message = {"method": method, "params": params, "jsonrpc": "2.0"}
+        wire.write(self.process.stdin, dict(message, id=number) if number is not None else message)
+
+    def _next(self, until):
+        message = self.messages.get(timeout=max(0.01, until - time.monotonic()))
+        if message is None:
+            raise AssertionError("the bridge ended: " + self.process.stderr.read().decode())
+        if message.get("method") == "textDocument/publishDiagnostics":
+            params = message["params"]
+            self.published[params["uri"]], self.versions[params["uri"]] = params["diagnostics"], params.get("version")
+        elif message.get("method") == "window/showMessage":
+            self.shown.append(message["params"]["message"])
+        elif message.get("method") == "window/logMessage":
+            raise AssertionError(message["params"]["message"])
+        elif message.get("method") == "$/progress":
+            self.progress.append(message["params"]["value"]["kind"])
+        return message
+
+    def ask(self, method, params):
+        self.numbers += 1
+        self.send(method, params, self.numbers)
+        until = time.monotonic() + SECONDS
+        while True:
+            message = self._next(until)
+            if message.get("id") == self.numbers and "method" not in message:
+                return message.get("result", message.get("error"))
+
+    def until(self, holds):
+        """Reads on until something holds."""
+        until = time.monotonic() + SECONDS
+        while not holds():
+            if time.monotonic() > until:
+                raise AssertionError("not within %d seconds; published: %r" % (SECONDS, self.published))
+            try:
+                self._next(time.monotonic() + 0.05)
+            except queue.Empty:
+                pass
+
+    def begin(self, capabilities=None):
+        found = self.ask("initialize", {"capabilities": capabilities or {}})
+        self.send("initialized", {})
+        return found
+
+    def open(self, uri, text, version=1):
+        self.send("textDocument/didOpen", {"textDocument": {"uri": uri, "languageId": "hol", "version": version, "text": text}})
+
+    def change(self, uri, version, text, span=None):
+        change = {"text": text}
+        if span:
+            change["range"] = {side: {"line": line, "character": column} for side, (line, column) in zip(("start", "end"), span)}
+        self.send("textDocument/didChange", {"textDocument": {"uri": uri, "version": version}, "contentChanges": [change]})
+
+    def goals(self, uri, line, column, mode="After"):
+        return self.ask("proof/goals", {"textDocument": {"uri": uri}, "position": {"line": line, "character": column}, "mode": mode})
+
+    def said(self, uri):
+        """The diagnostics as line, severity and the words' beginning."""
+        return [(found["range"]["start"]["line"], found["severity"], found["message"].split(":")[0]) for found in self.published.get(uri, [])]
+
+    def end(self):
+        try:
+            self.ask("shutdown", {})
+            self.send("exit", {})
+            return self.process.wait(SECONDS)
+        finally:
+            self.kill()
+
+    def kill(self):
+        self.process.kill()
+        for pipe in (self.process.stdin, self.process.stdout, self.process.stderr):
+            try:
+                pipe.close()
+            except OSError:
+                pass
+        self.process.wait()
+
+
+class Bridging(unittest.TestCase):
+    def setUp(self):
+        folder = tempfile.TemporaryDirectory()
+        self.addCleanup(folder.cleanup)
+        self.folder = pathlib.Path(folder.name)
+        self.log = self.folder / "log"
+        self.uri = (self.folder / "A.hol").as_uri()
+
+    def editor(self, *server, words=(), capabilities=None):
+        editor = Editor(fake(self.folder, "--log", str(self.log), *server), *words)
+        self.addCleanup(editor.kill)
+        editor.begin(capabilities)
+        return editor
+
+    def requests(self):
+        return [json.loads(line) for line in self.log.read_bytes().splitlines()] if self.log.exists() else []
+
+    def edits(self):
+        return [request["op"] for request in self.requests() if request["op"] not in ("report", "basis")]
+
+    def test_a_session_from_opening_to_the_end(self):
+        editor = self.editor("--serve", EDITS + ",oops")
+        editor.open(self.uri, "g A `p /\\ q`;;\ne CONJ_TAC;;\ne FOO;;\n\ng B `x = x`;;\ne REFL_TAC;;\nqed;;\n")
+        editor.until(lambda: editor.said(self.uri) == [(2, 1, "there is no function on goals FOO")])
+        goals = editor.goals(self.uri, 1, 3)
+        self.assertEqual([goal["ty"] for goal in goals["goals"]["goals"]], ["p", "q"])
+        self.assertEqual([goal["ty"] for goal in editor.goals(self.uri, 1, 3, "Prev")["goals"]["goals"]], ["p /\\ q"])
+        self.assertIn("goal 1 of 2\n  p : bool\n  ----------------------------------------\n  p\n", goals["text"])
+        refused = editor.goals(self.uri, 2, 3)
+        self.assertEqual(([goal["ty"] for goal in refused["goals"]["goals"]], refused["error"][:8]), (["p", "q"], "refused:"))
+        self.assertEqual(editor.end(), 0)
+
+    def test_an_edit_sends_what_changed_and_mends_what_is_said(self):
+        editor = self.editor("--serve", EDITS)
+        editor.open(self.uri, proofs(250))
+        editor.until(lambda: len(self.requests()) == 6 + 1001 + 1000)
+        before = len(self.edits())
+        editor.change(self.uri, 2, "NO", ((5 * 100 + 1, 2), (5 * 100 + 1, 5)))
+        editor.until(lambda: any(line == 501 and severity == 1 for line, severity, _ in editor.said(self.uri)))
+        self.assertEqual(self.edits()[before:], ["replace"])
+        asked = [request["at"] for request in self.requests() if request["op"] == "report"][1001:1021]
+        self.assertEqual((min(asked), max(asked)), (401, 420))  # What stands above the edit is known, and what is seen comes first.
+        editor.change(self.uri, 3, "ALL", ((501, 2), (501, 4)))
+        editor.until(lambda: editor.said(self.uri) == [])
+        self.assertEqual(editor.versions[self.uri], 3)
+
+    def test_without_replace_a_fresh_server_takes_the_file(self):
+        editor = self.editor()
+        editor.open(self.uri, proofs(2))
+        editor.until(lambda: self.uri in editor.published)
+        editor.change(self.uri, 2, "NO_TAC", ((1, 2), (1, 9)))
+        editor.until(lambda: [found[0] for found in editor.said(self.uri)][:1] == [1])
+        editor.change(self.uri, 3, proofs(1))
+        editor.until(lambda: editor.said(self.uri) == [] and editor.versions[self.uri] == 3)
+        self.assertNotIn("replace", self.edits()[6:])
+
+    def test_random_edits_give_the_reports_of_a_fresh_server(self):
+        editor = self.editor("--serve", EDITS + ",oops")
+        source, text = random.Random(5), proofs(3)
+        pieces = ["g X `p /\\ q`;;\n", "e CONJ_TAC;;\n", "qed;;\n", "oops;;\n", "(* c *)", "(*", "*)", ";;", "e REFL_TAC;;\n", "😀", "g Y `a = a`;;"]
+        editor.open(self.uri, text)
+        for version in range(2, 102):
+            start = source.randrange(len(text) + 1)
+            end = min(len(text), start + source.choice([0, 0, 1, 5, 20]))
+            new = source.choice(pieces)
+            span = [_position(text, place) for place in (start, end)]
+            editor.change(self.uri, version, new, span)
+            text = text[:start] + new + text[end:]
+            if version % 10 == 1:
+                self.compare(editor, text, version)
+        self.assertEqual(editor.end(), 0)
+
+    def compare(self, editor, text, version):
+        """The states after all commands are those that the fake server's own run gives."""
+        from holls.files import File
+        file = File("A.hol")
+        file.take(text, True)
+        documents = Documents(["oops"])
+        documents.new_theory({"name": "A", "at": 0})
+        for at, entry in enumerate(file.theory.entries):
+            documents.insert({"theory": "A", "at": at, "text": entry.text})
+        shown = None
+        for number, command in enumerate(file.commands):
+            report = documents.report({"theory": "A", "at": file.slot(number)})
+            line, column = _position(text, command.start)
+            said = editor.goals(self.uri, line, column)
+            self.assertEqual("refusal" in report, "error" in said, (text, command, report, said))
+            shown = report if "refusal" not in report else shown
+            if "goals" in report:
+                self.assertEqual([goal["ty"] for goal in said["goals"]["goals"]], [goal["goal"] for goal in report["goals"]])
+            elif "made" in report:
+                self.assertEqual(said["messages"], report["made"])
+
+    def test_faults_are_survived(self):
+        for fault in ("die:9", "end:12", "bad:10", "memory:9"):
+            with self.subTest(fault):
+                editor = self.editor("--serve", EDITS, "--fault", fault, "--once", str(self.folder / fault.replace(":", "")))
+                editor.open(self.uri, "g A `p = q`;;\ne REFL_TAC;;\n")
+                editor.until(lambda: [found[:2] for found in editor.said(self.uri)] == [(1, 1)])
+                self.assertEqual(editor.shown, [])
+                self.assertEqual(editor.end(), 0)
+
+    def test_a_server_that_always_ends_is_told_of(self):
+        editor = self.editor("--serve", EDITS, "--fault", "end:7")
+        editor.open(self.uri, proofs(5))
+        editor.until(lambda: any("hol_serve ended with status 3, and again" in found["message"] for found in editor.published.get(self.uri, [])))
+        self.assertEqual(len(editor.shown), 1)
+        self.assertEqual(editor.end(), 0)
+
+    def test_no_server_is_told_of_and_the_text_is_looked_at_all_the_same(self):
+        editor = Editor(str(self.folder / "none"))
+        self.addCleanup(editor.kill)
+        editor.begin()
+        editor.open(self.uri, "(* open")
+        editor.until(lambda: len(editor.said(self.uri)) == 2)
+        self.assertIn("no program is at", editor.published[self.uri][0]["message"])
+        self.assertIn("never closed", editor.published[self.uri][1]["message"])
+        self.assertEqual(editor.end(), 0)
+
+    def test_a_hanging_command_is_marked_and_an_edit_goes_on(self):
+        editor = self.editor("--serve", EDITS, "--fault", "hang:8", "--once", str(self.folder / "once"))
+        editor.open(self.uri, proofs(1))
+        editor.until(lambda: any("over 5 seconds" in found[2] for found in editor.said(self.uri)))
+        editor.change(self.uri, 2, "e NO_TAC", ((1, 0), (1, 9)))
+        editor.until(lambda: (1, 1) in [found[:2] for found in editor.said(self.uri)])
+        self.assertEqual(editor.end(), 0)
+
+    def test_symbols_folding_definition_completion_lenses_and_hover(self):
+        editor = self.editor("--serve", EDITS)
+        editor.open(self.uri, "(* 😀\n *)\n" + proofs(2))
+        editor.until(lambda: self.uri in editor.published)
+        document = {"textDocument": {"uri": self.uri}}
+        symbols = editor.ask("textDocument/documentSymbol", document)
+        self.assertEqual([(symbol["name"], symbol["selectionRange"]["start"]) for symbol in symbols],
+                         [("N0", {"line": 2, "character": 2}), ("N1", {"line": 7, "character": 2})])
+        foldings = editor.ask("textDocument/foldingRange", document)
+        self.assertEqual([(found["startLine"], found["endLine"]) for found in foldings], [(2, 5), (7, 10), (0, 1)])
+        at = dict(document, position={"line": 7, "character": 3})
+        self.assertEqual(editor.ask("textDocument/definition", at)["range"]["start"], {"line": 7, "character": 2})
+        labels = [found["label"] for found in editor.ask("textDocument/completion", at)]
+        self.assertLess({"N0", "CONJ_TAC", "qed", "TRUTH"}, set(labels))
+        hover = editor.ask("textDocument/hover", dict(document, position={"line": 5, "character": 1}))
+        self.assertEqual(hover["contents"]["value"], "```hol\nthm N0 |- f x = f x\nrests on no axioms or definitions of its own\n```")
+        lenses = editor.ask("textDocument/codeLens", document)
+        self.assertEqual(editor.ask("codeLens/resolve", lenses[1])["command"]["title"], "rests on no axioms or definitions of its own")
+
+    def test_two_files_and_a_closed_one(self):
+        editor = self.editor("--serve", EDITS + ",import")
+        other = (self.folder / "B.hol").as_uri()
+        (self.folder / "A.hol").write_text(proofs(1))
+        editor.open(other, "import A;;\nimport C;;\n")
+        editor.until(lambda: editor.said(other) == [(1, 1, "there is no theory C before this one")])
+        editor.open(self.uri, "g A `p = q`;;\n")
+        editor.until(lambda: editor.said(self.uri) == [(0, 2, "the proof of A is never ended")])
+        self.assertEqual(editor.goals(other, 0, 1)["messages"], [])
+        twin = (self.folder / "sub" / "A.hol").as_uri()
+        editor.open(twin, "qed;;")
+        editor.until(lambda: editor.said(twin) and editor.said(twin)[0][:2] == (0, 1))
+        editor.send("textDocument/didClose", {"textDocument": {"uri": self.uri}})
+        editor.until(lambda: editor.said(self.uri) == [] and [found[2] for found in editor.said(twin)] == ["no proof is open here"])
+        self.assertEqual(editor.end(), 0)
+
+    def test_bad_messages_are_refused_and_nothing_ends(self):
+        editor = self.editor()
+        self.assertEqual(editor.ask("textDocument/hover", {"textDocument": {"uri": "file:///none.hol"}})["code"], -32602)
+        self.assertEqual(editor.ask("what/ever", {})["code"], -32601)
+        editor.process.stdin.write(b"Content-Length: 3\r\n\r\n{x}")
+        self.assertEqual(editor.ask("textDocument/completion", {})["code"], -32602)
+        self.assertEqual(editor.end(), 0)
+
+    def test_an_editor_that_goes_away_leaves_no_process(self):
+        editor = self.editor("--fault", "hang:8")
+        editor.open(self.uri, proofs(1))
+        editor.until(lambda: len(self.requests()) >= 14)
+        editor.process.stdin.close()
+        self.assertEqual(editor.process.wait(SECONDS), 1)
+
+    def test_progress_is_shown_where_it_takes_long(self):
+        editor = self.editor("--serve", EDITS, capabilities={"window": {"workDoneProgress": True}})
+        editor.open(self.uri, "g A `p`;;\ne SLOW_TAC;;\n")
+        editor.until(lambda: "end" in editor.progress)
+        self.assertEqual(editor.progress[0], "begin")
+
+
+def _position(text, place):
+    """Line and column in UTF-16 units, counted without the code under test."""
+    before = re.split("\r\n|\r|\n", text[:place])
+    return len(before) - 1, len(before[-1].encode("utf-16-le")) // 2
+
+
+if __name__ == "__main__":
+    unittest.main()
