@@ -68,6 +68,11 @@ class File:
         slot = self.slot(number)
         return None if slot is None else self.theory.entries[slot]
 
+    def is_behind_oops(self, number: int) -> bool:
+        """Whether a hidden `oops` stands before a command, so that no proof is open there."""
+        slot = self.slot(number)
+        return bool(slot) and self.theory.entries[slot - 1].is_hidden
+
     def number_at(self, place: int) -> Optional[int]:
         """The last command that begins before a place, or at it."""
         found = None

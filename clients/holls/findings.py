@@ -53,12 +53,14 @@ class _Walk:
         self.file = file
         self.findings: List[Finding] = []
         self.proof: Optional[_Proof] = None
-        self.swallowed = 0
+        self.refused_goal: Optional[int] = None
 
     def step(self, number: int) -> None:
         """Takes one command's report. An unknown report says nothing."""
         entry = self.file.entry(number)
         report = entry.report if entry else None
+        if self.file.is_behind_oops(number):
+            self.give_up(number)
         if entry and entry.is_slow:
             self.add(number, Severity.NOTE, "this has been running for over 5 seconds; an edit ends it")
         if isinstance(report, Lost):
@@ -68,14 +70,19 @@ class _Walk:
         elif isinstance(report, Goals):
             self.accepted(number, report)
         elif isinstance(report, Made):
-            self.proof = None
+            self.proof = self.refused_goal = None
+
+    def give_up(self, number: int) -> None:
+        """A hidden `oops` before a command ends the open proof."""
+        if self.proof and self.proof.broken is None:
+            self.add(number, Severity.ERROR, "a proof was open before this: %s; end it by qed;; or give it up by oops;;" % self.proof)
+        self.proof = None
 
     def accepted(self, number: int, report: Goals) -> None:
         """A command after which a proof is open."""
         command = self.file.commands[number]
         if command.word == "g":
-            if self.proof and self.proof.broken is None:
-                self.add(number, Severity.ERROR, "a proof was open before this: %s; end it by qed;; or give it up by oops;;" % self.proof)
+            self.refused_goal = None
             self.proof = _Proof(number, command.name, self.line(number))
         if self.proof:
             self.proof.last = report
@@ -84,22 +91,33 @@ class _Walk:
         """A refused command. What follows from an error above is a note, or isn't said."""
         command, proof = self.file.commands[number], self.proof
         if proof and proof.is_swallowing:
-            self.swallowed += 1
             return
         start, end, text = words.explain(command.text, refusal, str(proof) if proof else None)
-        severity = Severity.ERROR
         if refusal.number == protocol.GOALS_REMAIN and proof and proof.last:
             text += _remaining(proof.last)
+        cause = self.cause(number, refusal)
         if refusal.number == protocol.IN_A_PROOF and proof:
             proof.is_swallowing = True
-            if proof.broken is not None:
-                severity, text = Severity.NOTE, "from here on nothing is checked: the proof of %s isn't mended yet" % proof.name
-        elif proof and refusal.number != protocol.SYNTAX:
-            if proof.broken is not None:
-                severity, text = Severity.NOTE, "%s (after the error on line %d)" % (text, self.line(proof.broken))
-            else:
-                proof.broken = number
+            text = text if cause is None else "from here on nothing is checked: the proof of %s isn't mended yet" % proof.name
+        elif cause is not None:
+            text = "%s (after the error on line %d)" % (text, self.line(cause))
+        severity = Severity.ERROR if cause is None else Severity.NOTE
         self.findings.append(Finding(command.place(start), max(command.place(end), command.place(start) + 1), severity, text))
+
+    def cause(self, number: int, refusal: Refusal) -> Optional[int]:
+        """The refused command from which a refusal follows: the first one of the open proof, or a goal; None where it is an error of its own."""
+        command, proof = self.file.commands[number], self.proof
+        if refusal.number == protocol.NO_PROOF and self.refused_goal is not None:
+            cause = self.refused_goal
+            self.refused_goal = None if command.word in ("qed", "oops") else cause
+            return cause
+        if proof and refusal.number != protocol.SYNTAX:
+            if proof.broken is not None:
+                return proof.broken
+            proof.broken = None if refusal.number == protocol.IN_A_PROOF else number
+        elif command.word == "g":
+            self.refused_goal = number
+        return None
 
     def finish(self) -> None:
         """Tells of a proof that is open at the end, unless an error of it was told."""

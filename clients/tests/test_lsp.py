@@ -153,6 +153,7 @@ class Bridging(unittest.TestCase):
         editor.change(self.uri, 2, "NO", ((5 * 100 + 1, 2), (5 * 100 + 1, 5)))
         editor.until(lambda: any(line == 501 and severity == 1 for line, severity, _ in editor.said(self.uri)))
         self.assertEqual(self.edits()[before:], ["replace"])
+        editor.until(lambda: len(self.requests()) > 2030)
         asked = [request["at"] for request in self.requests() if request["op"] == "report"][1001:1021]
         self.assertEqual((min(asked), max(asked)), (401, 420))  # What stands above the edit is known, and what is seen comes first.
         editor.change(self.uri, 3, "ALL", ((501, 2), (501, 4)))

@@ -53,7 +53,9 @@ class Publisher:
 
     def times(self) -> List[Optional[float]]:
         """When there is something to do."""
-        return [document.due for document in self._documents()]
+        is_waiting = self._busy_since is not None and self._token is None and self._shows_progress
+        begin = self._busy_since + PROGRESS_SECONDS if is_waiting else None
+        return [document.due for document in self._documents()] + [begin]
 
     def publish(self) -> None:
         """Sends what is due."""
@@ -63,6 +65,8 @@ class Publisher:
             if document.due is not None and (is_done or document.due <= now or self._is_seen_news(document)):
                 self._send(document)
                 self._progress(is_done)
+        if self._token is None:
+            self._progress(is_done)
         if is_done and self._busy_since is not None:
             self._busy_since = None
             self._progress(True)
@@ -103,7 +107,7 @@ class Publisher:
     def _progress(self, is_done: bool) -> None:
         """Shows how far the sweep is, where it takes long."""
         if self._token is None:
-            is_long = self._busy_since is not None and time.monotonic() - self._busy_since > PROGRESS_SECONDS
+            is_long = self._busy_since is not None and time.monotonic() - self._busy_since >= PROGRESS_SECONDS
             if is_done or not is_long or not self._shows_progress:
                 return
             self._tokens += 1

@@ -1,0 +1,2 @@
+" Files of hol-serve's commands.
+autocmd BufRead,BufNewFile *.hol setfiletype hol

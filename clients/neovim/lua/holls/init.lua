@@ -1,0 +1,170 @@
+-- hol-serve in Neovim (0.7 or later): errors and goals as one types. docs/EDITORS.md says how to use it.
+--
+-- Settings, before the first .hol file:  vim.g.holls = { command = { '/path/to/clients/bin/holls', 'lsp' }, symbols = true }
+-- `command` starts the bridge; without it, the one of the clone that this folder lies in is started. With `symbols`, \forall
+-- and the like become symbols as they are typed.
+local M = {}
+
+local here = vim.fn.fnamemodify(debug.getinfo(1, 'S').source:sub(2), ':p:h:h:h:h')
+local settings = vim.g.holls or {}
+local client_id = nil
+local goals = { buffer = nil, asked = 0 }
+
+local symbols = {
+  forall = '∀', exists = '∃', unique = '∃!', lambda = 'λ', select = 'ε', ['and'] = '∧', ['or'] = '∨', ['not'] = '¬',
+  implies = '⇒', iff = '⇔', to = '→',
+}
+
+local function client()
+  return client_id and vim.lsp.get_client_by_id(client_id) or nil
+end
+
+local function here_is_hol()
+  return vim.bo.filetype == 'hol' and client() ~= nil
+end
+
+local function position()
+  return vim.lsp.util.make_position_params(0, 'utf-16')
+end
+
+-- The window that shows the goals, or nil.
+local function window()
+  for _, found in ipairs(goals.buffer and vim.fn.win_findbuf(goals.buffer) or {}) do
+    return found
+  end
+end
+
+local function show(text)
+  if not (goals.buffer and vim.api.nvim_buf_is_valid(goals.buffer)) then
+    return
+  end
+  vim.bo[goals.buffer].modifiable = true
+  vim.api.nvim_buf_set_lines(goals.buffer, 0, -1, false, vim.split(text:gsub('\n$', ''), '\n'))
+  vim.bo[goals.buffer].modifiable = false
+end
+
+-- Asks for the goals at the cursor. Of several answers under way only the last one asked for is shown.
+function M.update()
+  if not (here_is_hol() and window()) then
+    return
+  end
+  goals.asked = goals.asked + 1
+  local number = goals.asked
+  client().request('proof/goals', position(), function(failure, result)
+    if number == goals.asked then
+      show(failure and ('no answer: ' .. (failure.message or '')) or result and result.text or '')
+    end
+  end, 0)
+end
+
+-- Tells the bridge what is seen, so that it asks for that first.
+function M.tell_view()
+  if here_is_hol() then
+    local start, last = { line = vim.fn.line('w0') - 1, character = 0 }, { line = vim.fn.line('w$') - 1, character = 0 }
+    local params = position()
+    params.range = { start = start, ['end'] = last }
+    client().notify('proof/viewRange', params)
+  end
+end
+
+-- Opens the goal window beside the file, or closes it.
+function M.toggle()
+  local open = window()
+  if open then
+    vim.api.nvim_win_close(open, true)
+    return
+  end
+  if not (goals.buffer and vim.api.nvim_buf_is_valid(goals.buffer)) then
+    goals.buffer = vim.api.nvim_create_buf(false, true)
+    vim.api.nvim_buf_set_name(goals.buffer, 'goals')
+    vim.bo[goals.buffer].bufhidden = 'hide'
+    vim.bo[goals.buffer].modifiable = false
+  end
+  local from = vim.api.nvim_get_current_win()
+  vim.cmd('botright vsplit')
+  vim.api.nvim_win_set_buf(0, goals.buffer)
+  for option, value in pairs({ number = false, relativenumber = false, signcolumn = 'no', wrap = true, winfixwidth = true }) do
+    vim.wo[option] = value
+  end
+  vim.api.nvim_win_set_width(0, math.floor(vim.o.columns * 2 / 5))
+  vim.api.nvim_set_current_win(from)
+  M.update()
+end
+
+-- Starts the server anew, as after it was built.
+function M.restart()
+  if client() then
+    client().request('workspace/executeCommand', { command = 'holls.restart' }, function() end, 0)
+  end
+end
+
+local function config()
+  local command = settings.command or { here .. '/bin/holls', 'lsp' }
+  return {
+    name = 'holls',
+    cmd = command,
+    root_dir = vim.fn.getcwd(),
+    flags = { debounce_text_changes = 50 },
+    capabilities = vim.lsp.protocol.make_client_capabilities(),
+    handlers = {
+      ['textDocument/publishDiagnostics'] = function(...)
+        vim.lsp.handlers['textDocument/publishDiagnostics'](...)
+        M.update()
+      end,
+    },
+    on_exit = function(status)
+      client_id = nil
+      if status ~= 0 and vim.v.exiting == vim.NIL then
+        vim.schedule(function()
+          vim.notify('holls ended with status ' .. status .. '; is Python 3.8 on the PATH? :HolRestart starts it again', vim.log.levels.ERROR)
+        end)
+      end
+    end,
+  }
+end
+
+local function abbreviations()
+  for name, symbol in pairs(symbols) do
+    vim.keymap.set('i', '\\' .. name, symbol, { buffer = true })
+  end
+end
+
+local function keys()
+  local function map(key, work, what)
+    vim.keymap.set('n', key, work, { buffer = true, silent = true, desc = what })
+  end
+  map('<LocalLeader>g', M.toggle, 'goal window')
+  map('K', vim.lsp.buf.hover, 'goals after the command')
+  map('gd', vim.lsp.buf.definition, 'where the name is made')
+  map('<LocalLeader>d', vim.diagnostic.open_float, 'the error in full')
+  map(']d', vim.diagnostic.goto_next, 'next error')
+  map('[d', vim.diagnostic.goto_prev, 'error before')
+end
+
+-- Attaches the current buffer to the bridge, which is started for the first one.
+function M.attach()
+  local buffer = vim.api.nvim_get_current_buf()
+  if vim.lsp.start then
+    client_id = vim.lsp.start(config(), { bufnr = buffer })
+  else
+    client_id = client() and client_id or vim.lsp.start_client(config())
+  end
+  if not client_id then
+    return
+  end
+  vim.lsp.buf_attach_client(buffer, client_id)
+  vim.bo[buffer].omnifunc = 'v:lua.vim.lsp.omnifunc'
+  keys()
+  if settings.symbols then
+    abbreviations()
+  end
+  local group = vim.api.nvim_create_augroup('holls_' .. buffer, { clear = true })
+  vim.api.nvim_create_autocmd({ 'CursorMoved', 'CursorMovedI', 'BufEnter' }, { group = group, buffer = buffer, callback = M.update })
+  vim.api.nvim_create_autocmd({ 'CursorHold', 'BufEnter', 'WinScrolled' }, { group = group, buffer = buffer, callback = M.tell_view })
+  vim.api.nvim_buf_create_user_command(buffer, 'HolGoals', M.toggle, {})
+  vim.api.nvim_buf_create_user_command(buffer, 'HolRestart', function()
+    if client() then M.restart() else M.attach() end
+  end, {})
+end
+
+return M

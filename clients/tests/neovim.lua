@@ -1,0 +1,74 @@
+-- What a user does in Neovim, step by step; what is seen goes to the file $RESULTS as JSON. Run by test_neovim.py.
+local results = {}
+local folder = vim.env.FOLDER
+local seconds = 40
+
+vim.g.holls = { command = { vim.env.PYTHON, vim.env.HOLLS, 'lsp', '--server', vim.env.SERVER } }
+vim.cmd('filetype plugin on')
+
+local function said(buffer)
+  local found = {}
+  for _, one in ipairs(vim.diagnostic.get(buffer or 0)) do
+    table.insert(found, { one.lnum + 1, one.col + 1, one.severity, one.message })
+  end
+  return found
+end
+
+local function keep(name, holds)
+  local reached = vim.wait(seconds * 1000, holds, 20)
+  results[name] = { reached = reached, said = said() }
+end
+
+local function count(number)
+  return function() return #vim.diagnostic.get(0) == number end
+end
+
+local function goals()
+  for _, window in ipairs(vim.api.nvim_list_wins()) do
+    local buffer = vim.api.nvim_win_get_buf(window)
+    if vim.api.nvim_buf_get_name(buffer):match('goals$') then
+      return table.concat(vim.api.nvim_buf_get_lines(buffer, 0, -1, false), '\n')
+    end
+  end
+  return ''
+end
+
+local function run()
+  vim.cmd('edit ' .. folder .. '/A.hol')
+  keep('six things to say', count(6))
+  vim.cmd('HolGoals')
+  vim.api.nvim_win_set_cursor(0, { 2, 3 })
+  vim.cmd('doautocmd CursorMoved')
+  vim.wait(seconds * 1000, function() return goals():match('goal 2 of 2') ~= nil end, 20)
+  results.window = goals()
+
+  vim.api.nvim_buf_set_text(0, 2, 2, 2, 9, { 'ALL_TAC' })
+  keep('one is gone after an edit', count(5))
+  vim.cmd('silent undo')
+  keep('and is back after undo', count(6))
+
+  local paste = {}
+  for number = 1, 125 do
+    vim.list_extend(paste, { 'g P' .. number .. ' `x = x`;;', 'e ALL_TAC;;', 'e REFL_TAC;;', 'qed;;' })
+  end
+  vim.api.nvim_buf_set_lines(0, 0, 0, false, paste)
+  keep('six behind 500 pasted commands', function()
+    return #vim.diagnostic.get(0) == 6 and vim.diagnostic.get(0)[1].lnum > 500
+  end)
+
+  vim.cmd('edit ' .. folder .. '/B.hol')
+  keep('a missing end in a second file', count(1))
+  vim.cmd('edit ++ff=dos ' .. folder .. '/C.hol')
+  keep('an error in a file of CRLF lines', count(1))
+  vim.cmd('edit ' .. folder .. '/D.hol')
+  keep('the server has ended in the middle, and all is known', function()
+    return #vim.diagnostic.get(0) == 1 and vim.diagnostic.get(0)[1].lnum == 40
+  end)
+end
+
+local fine, failure = pcall(run)
+results.failure = not fine and tostring(failure) or nil
+local out = io.open(vim.env.RESULTS, 'w')
+out:write(vim.json and vim.json.encode(results) or vim.fn.json_encode(results))
+out:close()
+vim.cmd('qall!')

@@ -1,0 +1,49 @@
+"""The plug-in in a real Neovim without a screen, where one is installed."""
+
+import json
+import os
+import pathlib
+import shutil
+import subprocess
+import sys
+import tempfile
+import unittest
+
+from tests.helpers import CLIENTS, EDITS, HOLLS, fake, proofs
+
+NVIM = shutil.which("nvim")
+A = "g A `p /\\ q`;;\ne CONJ_TAC;;\ne FOO_TAC;;\nqed;;\n\ng B `x x`;;\nqed;;\nqedx;;\noops;;\n"
+
+
+@unittest.skipUnless(NVIM, "nvim isn't installed")
+class InNeovim(unittest.TestCase):
+    def test_what_a_user_does(self):
+        with tempfile.TemporaryDirectory() as name:
+            folder = pathlib.Path(name)
+            (folder / "A.hol").write_text(A)
+            (folder / "B.hol").write_text("g A `x = x`;; e REFL_TAC;;\nqed")
+            (folder / "C.hol").write_bytes(b"g A `x = x`;;\r\n\r\ne REFL_TAC;;\r\nqed;;\r\nqed;;\r\n")
+            (folder / "D.hol").write_text(proofs(8) + "qed;;\n")
+            found = self.run_in(folder)
+        self.assertEqual(found.pop("failure", None), None)
+        window = found.pop("window")
+        self.assertTrue(window.startswith("goal 1 of 2\n  p : bool\n"), window)
+        for step, seen in found.items():
+            self.assertTrue(seen["reached"], (step, seen["said"]))
+        places = [said[:2] for said in found["six things to say"]["said"]]
+        self.assertEqual(sorted(places), [[3, 3], [4, 1], [6, 5], [7, 1], [8, 1], [9, 1]])
+        self.assertEqual(found["an error in a file of CRLF lines"]["said"][0][:2], [5, 1])
+
+    def run_in(self, folder):
+        server = fake(folder, "--serve", EDITS + ",oops", "--fault", "die:2950", "--once", str(folder / "once"))
+        given = dict(os.environ, FOLDER=str(folder), RESULTS=str(folder / "results"), PYTHON=sys.executable, HOLLS=str(HOLLS), SERVER=server,
+                     XDG_STATE_HOME=str(folder), XDG_DATA_HOME=str(folder), XDG_CONFIG_HOME=str(folder))
+        words = [NVIM, "--headless", "-u", "NONE", "-i", "NONE", "--cmd", "set rtp^=%s noswapfile" % (CLIENTS / "neovim"),
+                 "-S", str(CLIENTS / "tests" / "neovim.lua")]
+        done = subprocess.run(words, env=given, cwd=folder, capture_output=True, timeout=200)
+        self.assertTrue((folder / "results").exists(), done.stderr.decode())
+        return json.loads((folder / "results").read_text())
+
+
+if __name__ == "__main__":
+    unittest.main()
