@@ -82,6 +82,11 @@ class File:
             found = number
         return found
 
+    def covers(self, number: int, place: int) -> bool:
+        """Whether a place is in a command or in its `;;`."""
+        command = self.commands[number]
+        return place <= command.end or not self.lines.text[command.end:place].strip(" ;")
+
     def _fits(self, command: Command) -> bool:
         if not protocol.is_too_long(self.theory.name, command.text):
             return True

@@ -98,7 +98,8 @@ class _Walk:
         cause = self.cause(number, refusal)
         if refusal.number == protocol.IN_A_PROOF and proof:
             proof.is_swallowing = True
-            text = text if cause is None else "from here on nothing is checked: the proof of %s isn't mended yet" % proof.name
+            text = "%s; until then nothing below is checked" % text if cause is None else (
+                "from here on nothing is checked: the proof of %s isn't mended yet" % proof.name)
         elif cause is not None:
             text = "%s (after the error on line %d)" % (text, self.line(cause))
         severity = Severity.ERROR if cause is None else Severity.NOTE

@@ -257,6 +257,7 @@ class Bridging(unittest.TestCase):
         self.assertLess({"N0", "CONJ_TAC", "qed", "TRUTH"}, set(labels))
         hover = editor.ask("textDocument/hover", dict(document, position={"line": 5, "character": 1}))
         self.assertEqual(hover["contents"]["value"], "```hol\nthm N0 |- f x = f x\nrests on no axioms or definitions of its own\n```")
+        self.assertEqual(editor.goals(self.uri, 10, 1)["messages"], ["thm N1 |- f x = f x"])
         lenses = editor.ask("textDocument/codeLens", document)
         self.assertEqual(editor.ask("codeLens/resolve", lenses[1])["command"]["title"], "rests on no axioms or definitions of its own")
 

@@ -114,7 +114,7 @@ class Answers:
         def attempt() -> Optional[Answered]:
             file = document.file
             at = file.number_at(place)
-            before = 1 if mode == "Prev" and at is not None and file.commands[at].end >= place else 0
+            before = 1 if mode == "Prev" and at is not None and file.covers(at, place) else 0
             state = self._state(document, at - before if at is not None and at >= before else None)
             if state is None:
                 return None
@@ -134,7 +134,7 @@ class Answers:
         def attempt() -> Optional[Answered]:
             file = document.file
             at = file.number_at(place)
-            if at is None or file.commands[at].end < place:
+            if at is None or not file.covers(at, place):
                 return Answered(None)
             state = self._state(document, at)
             name = features.theorem(file, at) if state else None

@@ -83,12 +83,25 @@ function M.toggle()
   local from = vim.api.nvim_get_current_win()
   vim.cmd('botright vsplit')
   vim.api.nvim_win_set_buf(0, goals.buffer)
-  for option, value in pairs({ number = false, relativenumber = false, signcolumn = 'no', wrap = true, winfixwidth = true }) do
+  for option, value in pairs({ number = false, relativenumber = false, signcolumn = 'no', wrap = true, linebreak = true, winfixwidth = true }) do
     vim.wo[option] = value
   end
   vim.api.nvim_win_set_width(0, math.floor(vim.o.columns * 2 / 5))
   vim.api.nvim_set_current_win(from)
   M.update()
+end
+
+-- Before the last other window is closed: the goal window goes with it.
+local function close_with_last()
+  local others = 0
+  for _, found in ipairs(vim.api.nvim_tabpage_list_wins(0)) do
+    if found ~= window() and vim.api.nvim_win_get_config(found).relative == '' then
+      others = others + 1
+    end
+  end
+  if others == 1 and window() then
+    vim.api.nvim_win_close(window(), true)
+  end
 end
 
 -- Starts the server anew, as after it was built.
@@ -153,6 +166,7 @@ function M.attach()
     return
   end
   vim.lsp.buf_attach_client(buffer, client_id)
+  vim.diagnostic.config({ update_in_insert = true, severity_sort = true }, vim.lsp.diagnostic.get_namespace(client_id))
   vim.bo[buffer].omnifunc = 'v:lua.vim.lsp.omnifunc'
   keys()
   if settings.symbols then
@@ -160,6 +174,7 @@ function M.attach()
   end
   local group = vim.api.nvim_create_augroup('holls_' .. buffer, { clear = true })
   vim.api.nvim_create_autocmd({ 'CursorMoved', 'CursorMovedI', 'BufEnter' }, { group = group, buffer = buffer, callback = M.update })
+  vim.api.nvim_create_autocmd('QuitPre', { group = group, buffer = buffer, callback = close_with_last })
   vim.api.nvim_create_autocmd({ 'CursorHold', 'BufEnter', 'WinScrolled' }, { group = group, buffer = buffer, callback = M.tell_view })
   vim.api.nvim_buf_create_user_command(buffer, 'HolGoals', M.toggle, {})
   vim.api.nvim_buf_create_user_command(buffer, 'HolRestart', function()

@@ -1,0 +1,98 @@
+'use strict';
+// The VS Code extension over a stand-in for the module `vscode`: what it shows, as JSON on standard output. Run by test_vscode.py.
+
+const Module = require('module');
+const path = require('path');
+
+const [command, text] = [JSON.parse(process.env.COMMAND), process.env.TEXT];
+const providers = {};
+const events = {};
+const shown = [];
+let settings = { command };
+
+class Position { constructor(line, character) { Object.assign(this, { line, character }); } }
+class Range {
+  constructor(a, b, c, d) { this.start = new Position(a, b); this.end = new Position(c, d); }
+  toJSON() { return [this.start, this.end]; } // As VS Code's does.
+}
+class EventEmitter {
+  constructor() { this.listeners = []; this.event = (listener) => this.listeners.push(listener); }
+  fire(value) { this.listeners.forEach((listener) => listener(value)); }
+  dispose() {}
+}
+const plain = (...names) => class { constructor(...values) { names.forEach((name, at) => { this[name] = values[at]; }); } };
+const Uri = { parse: (uri) => ({ toString: () => uri }) };
+const register = (name) => (...given) => { providers[name] = given[given.length - 1]; return { dispose() {} }; };
+const on = (name) => (listener) => { events[name] = listener; return { dispose() {} }; };
+const found = new Map();
+const file = {
+  languageId: 'hol', version: 1, uri: Uri.parse('file:///A.hol'), text,
+  getText() { return this.text; },
+};
+const goals = { document: { uri: Uri.parse('hol-goals:goals'), languageId: 'plaintext' } };
+const editor = { document: file, selection: { active: new Position(1, 2) }, visibleRanges: [new Range(0, 0, 9, 0)] };
+
+const vscode = {
+  Position, Range, EventEmitter, Uri,
+  Diagnostic: plain('range', 'message', 'severity'), Hover: plain('contents', 'range'), MarkdownString: plain('value'),
+  Location: plain('uri', 'range'), DocumentSymbol: plain('name', 'detail', 'kind', 'range', 'selectionRange'),
+  FoldingRange: plain('start', 'end', 'kind'), FoldingRangeKind: { Comment: 1, Region: 3 }, CompletionItem: plain('label', 'kind'),
+  CodeLens: plain('range'), ViewColumn: { Beside: -2 },
+  languages: {
+    createDiagnosticCollection: () => ({ set: (uri, all) => found.set(uri.toString(), all), clear: () => found.clear(), dispose() {} }),
+    registerHoverProvider: register('hover'), registerDefinitionProvider: register('definition'),
+    registerDocumentSymbolProvider: register('symbols'), registerFoldingRangeProvider: register('foldings'),
+    registerCompletionItemProvider: register('completions'), registerCodeLensProvider: register('lenses'),
+  },
+  workspace: {
+    getConfiguration: () => ({ get: (key) => settings[key] }), textDocuments: [file], openTextDocument: async () => goals.document,
+    registerTextDocumentContentProvider: register('goals'), onDidOpenTextDocument: on('open'), onDidChangeTextDocument: on('change'),
+    onDidCloseTextDocument: on('close'), onDidSaveTextDocument: on('save'),
+  },
+  window: {
+    activeTextEditor: editor, visibleTextEditors: [editor, goals], showTextDocument: async () => goals,
+    showErrorMessage: (message) => shown.push(message), onDidChangeTextEditorSelection: on('selection'),
+    onDidChangeTextEditorVisibleRanges: on('visible'), onDidChangeActiveTextEditor: on('active'),
+  },
+  commands: { registerCommand: (name, work) => { providers[name] = work; return { dispose() {} }; } },
+};
+
+const load = Module._load;
+Module._load = (name, ...rest) => (name === 'vscode' ? vscode : load(name, ...rest));
+const extension = require(path.join(__dirname, '..', 'vscode', 'extension.js'));
+
+async function until(holds) {
+  const end = Date.now() + 30000;
+  while (!holds()) {
+    if (Date.now() > end) throw new Error(`not within 30 seconds: ${holds}`);
+    await new Promise((go) => setTimeout(go, 20));
+  }
+}
+
+const said = () => (found.get('file:///A.hol') || []).map((one) => [one.range.start.line, one.severity, one.message]);
+
+async function run() {
+  const results = {};
+  await extension.activate({ subscriptions: [] });
+  await until(() => said().length === 1);
+  results.before = said();
+  await providers['holls.goals']();
+  await until(() => providers.goals.provideTextDocumentContent() !== '');
+  results.goals = providers.goals.provideTextDocumentContent();
+  file.version = 2;
+  events.change({ document: file, contentChanges: [{ range: new Range(2, 2, 2, 9), text: 'ALL_TAC' }] });
+  await until(() => said().length === 1 && said()[0][0] === 0);
+  results.after = said();
+  results.hover = (await providers.hover.provideHover(file, new Position(1, 2))).contents.value;
+  results.symbols = (await providers.symbols.provideDocumentSymbols(file)).map((one) => [one.name, one.kind]);
+  results.lenses = (await providers.lenses.provideCodeLenses(file)).length;
+  results.completions = (await providers.completions.provideCompletionItems(file, new Position(1, 2))).length > 40;
+  extension.deactivate();
+  settings = { command: ['/nowhere/holls'] };
+  await extension.activate({ subscriptions: [] });
+  await until(() => shown.length === 1);
+  results.shown = shown;
+  process.stdout.write(JSON.stringify(results));
+}
+
+run().then(() => process.exit(0), (error) => { process.stderr.write(`${error.stack}\n`); process.exit(1); });

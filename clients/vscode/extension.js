@@ -1,0 +1,203 @@
+'use strict';
+// hol-serve in VS Code: errors and goals as one types, over the bridge `holls lsp`. docs/EDITORS.md says how to use it.
+
+const path = require('path');
+const vscode = require('vscode');
+const { Bridge } = require('./bridge.js');
+
+const LANGUAGE = 'hol';
+const GOALS = vscode.Uri.parse('hol-goals:goals');
+const SEEN_MILLISECONDS = 50;
+
+let bridge = null;
+let diagnostics = null;
+let goalsText = '';
+let asked = 0;
+let timer = null;
+const goalsChanged = new vscode.EventEmitter();
+const lensesChanged = new vscode.EventEmitter();
+
+const isHol = (document) => document.languageId === LANGUAGE;
+const at = (document, position) => ({ textDocument: { uri: document.uri.toString() }, position });
+const range = (found) => new vscode.Range(found.start.line, found.start.character, found.end.line, found.end.character);
+
+function command() {
+  const given = vscode.workspace.getConfiguration('holls').get('command') || [];
+  return given.length ? given : [path.join(__dirname, '..', 'bin', 'holls'), 'lsp'];
+}
+
+// Starts the bridge and gives it all that is open.
+async function start() {
+  const mine = new Bridge(command(), heard, (reason) => {
+    if (bridge === mine) {
+      bridge = null;
+      diagnostics.clear();
+      vscode.window.showErrorMessage(`The bridge holls doesn't run: ${reason}. See "holls.command", then run "HOL: Restart".`);
+    }
+  });
+  bridge = mine;
+  try {
+    await mine.request('initialize', { processId: process.pid, rootUri: null, capabilities: { workspace: { codeLens: { refreshSupport: true } } } });
+  } catch (error) {
+    return;
+  }
+  mine.notify('initialized', {});
+  vscode.workspace.textDocuments.filter(isHol).forEach(opened);
+}
+
+function heard(method, params) {
+  if (method === 'textDocument/publishDiagnostics') {
+    const uri = vscode.Uri.parse(params.uri);
+    diagnostics.set(uri, params.diagnostics.map((found) => {
+      const shown = new vscode.Diagnostic(range(found.range), found.message, found.severity - 1);
+      shown.source = found.source;
+      return shown;
+    }));
+    showGoals();
+  } else if (method === 'workspace/codeLens/refresh') {
+    lensesChanged.fire();
+  } else if (method === 'window/showMessage') {
+    vscode.window.showErrorMessage(params.message);
+  }
+}
+
+function opened(document) {
+  if (bridge && isHol(document)) {
+    const given = { uri: document.uri.toString(), languageId: LANGUAGE, version: document.version, text: document.getText() };
+    bridge.notify('textDocument/didOpen', { textDocument: given });
+    seen();
+  }
+}
+
+function changed(event) {
+  if (bridge && isHol(event.document) && event.contentChanges.length) {
+    bridge.notify('textDocument/didChange', {
+      textDocument: { uri: event.document.uri.toString(), version: event.document.version },
+      contentChanges: event.contentChanges.map(({ range: { start, end }, text }) => ({ range: { start, end }, text })),
+    });
+  }
+}
+
+function closed(document) {
+  if (bridge && isHol(document)) {
+    bridge.notify('textDocument/didClose', { textDocument: { uri: document.uri.toString() } });
+  }
+}
+
+// Tells the bridge what is seen, and shows the goals at the cursor; not for each of many events at once.
+function seen() {
+  clearTimeout(timer);
+  timer = setTimeout(() => {
+    const editor = vscode.window.activeTextEditor;
+    if (bridge && editor && isHol(editor.document) && editor.visibleRanges.length) {
+      const [first, last] = [editor.visibleRanges[0].start, editor.visibleRanges[editor.visibleRanges.length - 1].end];
+      bridge.notify('proof/viewRange', { ...at(editor.document, editor.selection.active), range: { start: first, end: last } });
+      showGoals();
+    }
+  }, SEEN_MILLISECONDS);
+}
+
+// Of several answers under way only the one asked for last is shown.
+async function showGoals() {
+  const editor = vscode.window.activeTextEditor;
+  const isOpen = vscode.window.visibleTextEditors.some((other) => other.document.uri.toString() === GOALS.toString());
+  if (!bridge || !editor || !isHol(editor.document) || !isOpen) return;
+  const number = ++asked;
+  const result = await request('proof/goals', at(editor.document, editor.selection.active));
+  if (number === asked && result) {
+    goalsText = result.text;
+    goalsChanged.fire(GOALS);
+  }
+}
+
+async function openGoals() {
+  const document = await vscode.workspace.openTextDocument(GOALS);
+  await vscode.window.showTextDocument(document, { viewColumn: vscode.ViewColumn.Beside, preserveFocus: true, preview: false });
+  await showGoals();
+}
+
+function restart() {
+  return bridge ? request('workspace/executeCommand', { command: 'holls.restart' }) : start();
+}
+
+// A request whose failure is no more than a missing answer.
+async function request(method, params) {
+  try {
+    return bridge ? await bridge.request(method, params) : null;
+  } catch (error) {
+    return null;
+  }
+}
+
+const providers = {
+  async hover(document, position) {
+    const found = await request('textDocument/hover', at(document, position));
+    return found && new vscode.Hover(new vscode.MarkdownString(found.contents.value), range(found.range));
+  },
+  async definition(document, position) {
+    const found = await request('textDocument/definition', at(document, position));
+    return found && new vscode.Location(vscode.Uri.parse(found.uri), range(found.range));
+  },
+  async symbols(document) {
+    const found = await request('textDocument/documentSymbol', at(document)) || [];
+    return found.map((one) => new vscode.DocumentSymbol(one.name, one.detail, one.kind - 1, range(one.range), range(one.selectionRange)));
+  },
+  async foldings(document) {
+    const found = await request('textDocument/foldingRange', at(document)) || [];
+    return found.map((one) => new vscode.FoldingRange(one.startLine, one.endLine,
+      one.kind === 'comment' ? vscode.FoldingRangeKind.Comment : vscode.FoldingRangeKind.Region));
+  },
+  async completions(document, position) {
+    const found = await request('textDocument/completion', at(document, position)) || [];
+    return found.map((one) => Object.assign(new vscode.CompletionItem(one.label, one.kind - 1), { detail: one.detail }));
+  },
+  async lenses(document) {
+    const found = await request('textDocument/codeLens', at(document)) || [];
+    return found.map((one) => Object.assign(new vscode.CodeLens(range(one.range)), { found: one }));
+  },
+  async lens(lens) {
+    const found = await request('codeLens/resolve', lens.found);
+    lens.command = found ? found.command : { title: '', command: '' };
+    return lens;
+  },
+};
+
+function register() {
+  const { languages, workspace, window, commands } = vscode;
+  return [
+    languages.registerHoverProvider(LANGUAGE, { provideHover: providers.hover }),
+    languages.registerDefinitionProvider(LANGUAGE, { provideDefinition: providers.definition }),
+    languages.registerDocumentSymbolProvider(LANGUAGE, { provideDocumentSymbols: providers.symbols }),
+    languages.registerFoldingRangeProvider(LANGUAGE, { provideFoldingRanges: providers.foldings }),
+    languages.registerCompletionItemProvider(LANGUAGE, { provideCompletionItems: providers.completions }),
+    languages.registerCodeLensProvider(LANGUAGE, {
+      onDidChangeCodeLenses: lensesChanged.event, provideCodeLenses: providers.lenses, resolveCodeLens: providers.lens,
+    }),
+    workspace.registerTextDocumentContentProvider('hol-goals', {
+      onDidChange: goalsChanged.event, provideTextDocumentContent: () => goalsText,
+    }),
+    workspace.onDidOpenTextDocument(opened),
+    workspace.onDidChangeTextDocument(changed),
+    workspace.onDidCloseTextDocument(closed),
+    workspace.onDidSaveTextDocument((document) => bridge && isHol(document) && bridge.notify('textDocument/didSave', at(document))),
+    window.onDidChangeTextEditorSelection(seen),
+    window.onDidChangeTextEditorVisibleRanges(seen),
+    window.onDidChangeActiveTextEditor(seen),
+    commands.registerCommand('holls.goals', openGoals),
+    commands.registerCommand('holls.restart', restart),
+  ];
+}
+
+function activate(context) {
+  diagnostics = vscode.languages.createDiagnosticCollection(LANGUAGE);
+  context.subscriptions.push(diagnostics, goalsChanged, lensesChanged, ...register());
+  return start();
+}
+
+function deactivate() {
+  const last = bridge;
+  bridge = null;
+  if (last) last.stop();
+}
+
+module.exports = { activate, deactivate };
