@@ -87,6 +87,7 @@ def _unexpected(text: str, place: int, token: Optional[str]) -> Told:
     hints = {
         "!": "; a binder as an argument stands in parentheses: f (!x. P x)",
         "\\": "; a binder as an argument stands in parentheses: f (\\x. t)",
+        ";": "; a command ends with `;;`",
         "`": "; the quotation ends too soon, or a backquote is missing",
         ":": "; a binder's variable with a type before another one stands in parentheses: !(x:A) y. p",
     }

@@ -3,5 +3,5 @@ if exists('b:did_ftplugin')
   finish
 endif
 let b:did_ftplugin = 1
-setlocal commentstring=(*%s*) comments=s1:(*,mb:*,ex:*) iskeyword=@,48-57,_,' expandtab shiftwidth=2
+setlocal signcolumn=yes commentstring=(*%s*) comments=s1:(*,mb:*,ex:*) iskeyword=@,48-57,_,' expandtab shiftwidth=2
 lua require('holls').attach()

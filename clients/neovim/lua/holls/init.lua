@@ -168,6 +168,9 @@ function M.attach()
   vim.lsp.buf_attach_client(buffer, client_id)
   vim.diagnostic.config({ update_in_insert = true, severity_sort = true }, vim.lsp.diagnostic.get_namespace(client_id))
   vim.bo[buffer].omnifunc = 'v:lua.vim.lsp.omnifunc'
+  if vim.o.completeopt == 'menu,preview' then -- Neovim's default, which opens a window at each completion.
+    vim.o.completeopt = 'menu,menuone'
+  end
   keys()
   if settings.symbols then
     abbreviations()
