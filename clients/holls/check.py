@@ -7,7 +7,7 @@ import json
 import queue
 import sys
 from dataclasses import dataclass
-from typing import Dict, List, Optional, Tuple
+from typing import Callable, Dict, List, Optional, Tuple
 
 from holls import graph, protocol, server
 from holls.files import File
@@ -119,6 +119,7 @@ class _Checker:
         self.files = files
         self.bases: Dict[str, List[Basis]] = {file.path: [] for file in files}
         self.unanswered = 0
+        self.unknown: List[str] = []
         self.sweep = Sweep()
         self.sweep.begin(files)
         self.events: "queue.Queue[object]" = queue.Queue()
@@ -127,16 +128,16 @@ class _Checker:
     def run(self, with_axioms: bool) -> Optional[str]:
         """Until all is known. Answers why the server failed, or None."""
         self.session.want([file.theory for file in self.files])
-        self._wait(lambda: is_known(self.files))
+        self._wait(lambda: self.session.is_idle and is_known(self.files))
         if with_axioms and not self.session.failure:
             for file in self.files:
                 self._ask_bases(file)
             self._wait(lambda: self.unanswered == 0)
         self.session.stop()
-        lost = [_lost(file) for file in self.files if _lost(file)]
-        return self.session.failure or (lost[0] if lost else None)
+        lost = [_lost(file) for file in self.files] + self.unknown
+        return self.session.failure or next(filter(None, lost), None)
 
-    def _wait(self, is_done) -> None:
+    def _wait(self, is_done: Callable[[], bool]) -> None:
         while not self.session.failure and not is_done():
             try:
                 self.session.hear(self.events.get(timeout=self.session.deadline()))
@@ -152,10 +153,12 @@ class _Checker:
                     self._ask_basis(file, line, name)
 
     def _ask_basis(self, file: File, line: int, name: str) -> None:
-        def answer(reply) -> None:
+        def answer(reply: object) -> None:
             self.unanswered -= 1
             if isinstance(reply, protocol.Items) and reply.items is not None:
                 self.bases[file.path].append(Basis(line, name, reply.items))
+            else:
+                self.unknown.append("%s:%d: on what %s rests isn't known: hol_serve ended, or had no memory" % (file.path, line, name))
 
         self.unanswered += 1
         self.session.ask(protocol.line({"op": "basis", "theory": file.theory.name, "name": name}), answer)
@@ -184,9 +187,13 @@ def _show(file: File, bases: List[Basis]) -> int:
     for basis in bases:
         print("%s:%d: %s rests on %s" % (file.path, basis.line, basis.theorem, ", ".join(basis.items) or "no axioms or definitions of its own"))
     wrong = sum(_is_wrong(finding) for finding in said)
-    print("%s: %d commands, %d theorems, %s" % (
-        file.path, len(file.commands), _theorems(file), "all accepted" if not wrong else "%d errors" % wrong))
+    outcome = _count(wrong, "error") if wrong else "all accepted"
+    print("%s: %s, %s, %s" % (file.path, _count(len(file.commands), "command"), _count(_theorems(file), "theorem"), outcome))
     return wrong
+
+
+def _count(number: int, what: str) -> str:
+    return "%d %s%s" % (number, what, "" if number == 1 else "s")
 
 
 def _theorems(file: File) -> int:

@@ -87,13 +87,12 @@ class Server:
             pass
 
     def _read(self) -> None:
-        line = b""
+        """Hands on whole lines; what ends within a line, or is too long for one, ends the server."""
         for line in iter(lambda: self.process.stdout.readline(REPLY_BYTES), b""):
             if not line.endswith(b"\n"):
+                self.process.kill()
                 break
             self._events.put(Line(self, line))
-        if line and not line.endswith(b"\n") and len(line) >= REPLY_BYTES:
-            self.process.kill()
         status = self.process.wait()
         self._listener.join(1)
         self._events.put(Ended(self, _ending(status, self._complaint)))

@@ -44,12 +44,11 @@ class Session:
                  told: Callable[[], None], seconds: float) -> None:
         self.theories: List[Theory] = []
         self.failure: Optional[str] = None
-        self.requests = 0
-        self.starts = 0
         self._program, self._events, self._served, self._seconds = program, events, served, seconds
         self._pick, self._told = pick, told
         self._server: Optional[Server] = None
         self._standing = Standing()
+        self._is_in_step = False
         self._pending: Deque[_Pending] = deque()
         self._questions: Deque[Tuple[bytes, Answer]] = deque()
         self._since = 0.0
@@ -61,7 +60,7 @@ class Session:
     def want(self, theories: List[Theory]) -> None:
         """Takes the theories as they are to stand, in order. A report that runs too long is given up."""
         self.theories = theories
-        self.failure, self._ends, self._rounds = None, 0, 0
+        self.failure, self._ends, self._rounds, self._is_in_step = None, 0, 0, False
         if self._pending and self._pending[0].entry and self._age() > SLOW_SECONDS:
             self.stop()
         self.pump()
@@ -76,11 +75,12 @@ class Session:
         if self.failure or any(pending.is_edit for pending in self._pending):
             return
         try:
-            changes = self._changes()
+            changes = [] if self._is_in_step else self._changes()
         except NoServer as error:
             self.failure = str(error)
             self._told()
             return
+        self._is_in_step = not changes
         if changes:
             self._edit(changes)
             return
@@ -95,7 +95,6 @@ class Session:
         if changes is None:
             self.stop()
             self._server = Server(self._program, self._events)
-            self.starts += 1
             changes = self._standing.changes(self.theories, self._served.ops)
         return changes or []
 
@@ -108,8 +107,8 @@ class Session:
         """Takes the reply to a change. After the last one the difference, which is what was refused, is sent again once."""
         if isinstance(reply, protocol.Done):
             self._standing.apply(change)
-        elif isinstance(reply, protocol.Error):
-            self._refused.append(reply.text)
+        else:
+            self._refused.append(reply.text if isinstance(reply, protocol.Error) else "a reply of another kind")
         if any(pending.is_edit for pending in self._pending):
             return
         self._rounds = self._rounds + 1 if self._refused else 0
@@ -149,7 +148,6 @@ class Session:
         if not self._pending:
             self._since = time.monotonic()
         self._pending.append(pending)
-        self.requests += 1
         self._server.send(line)
 
     def hear(self, event: Union[Line, Ended]) -> None:
@@ -186,7 +184,7 @@ class Session:
         """Ends the server. What was asked of it is Lost."""
         lost, self._pending = self._pending, deque()
         server, self._server = self._server, None
-        self._standing = Standing()
+        self._standing, self._is_in_step = Standing(), False
         if server:
             server.stop()
         for pending in lost:

@@ -45,15 +45,14 @@ def explain(text: str, refusal: Refusal, opened: Optional[str] = None) -> Told:
     elif number == protocol.NAME_TAKEN:
         words = "%s stands already: choose another name" % refusal.argument.replace("thm:", "the theorem ").replace("const:", "the constant ")
     else:
-        words = _FIXED.get(number, "%s: %%s" % refusal.text if refusal.argument else refusal.text)
-        words = words % refusal.argument if "%s" in words else words
+        words = _FIXED[number].replace("%s", refusal.argument) if number in _FIXED else " ".join((refusal.text, refusal.argument)).strip()
     return start, end, words
 
 
 def _place(text: str, refusal: Refusal) -> int:
     """The place that a refusal names: decimal digits, in no more than the text has."""
     place = refusal.argument
-    return min(int(place), len(text)) if place.isdigit() and len(place) < 9 else 0
+    return min(int(place), len(text)) if place.isdecimal() and len(place) < 9 else 0
 
 
 def _first_word(text: str) -> Tuple[int, int]:

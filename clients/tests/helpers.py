@@ -24,5 +24,4 @@ def fake(folder, *words):
 
 def proofs(number):
     """A file of so many proofs, four commands each, that the fake server and the real one accept."""
-    return "".join("g N%d `x /\\ x = x`;;\n" % at if at < 0 else
-                   "g N%d `f x = f x`;;\ne ALL_TAC;;\ne REFL_TAC;;\nqed;;\n\n" % at for at in range(number))
+    return "".join("g N%d `f x = f x`;;\ne ALL_TAC;;\ne REFL_TAC;;\nqed;;\n\n" % at for at in range(number))

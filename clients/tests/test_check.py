@@ -37,7 +37,7 @@ class Checking(unittest.TestCase):
         self.assertTrue(lines[0].startswith("A.hol:2:5: error: REFL_TAC doesn't fit the first goal"))
         self.assertTrue(lines[1].startswith("A.hol:3:1: note: "))
         self.assertTrue(lines[2].startswith("A.hol:5:1: note: from here on nothing is checked: the proof of A"))
-        self.assertEqual(lines[3:], ["A.hol: 6 commands, 0 theorems, 1 errors"])
+        self.assertEqual(lines[3:], ["A.hol: 6 commands, 0 theorems, 1 error"])
 
     def test_an_open_proof_is_an_error(self):
         status, output, _ = self.check({"A.hol": "g A `x = x`;;\ne REFL_TAC;;\n"})
@@ -66,7 +66,7 @@ class Checking(unittest.TestCase):
         status, output, _ = self.check({"A.hol": long + proofs(1), "B.hol": proofs(251)})
         self.assertEqual(status, 1)
         self.assertIn("A.hol:1:1: error: this command is too long", output)
-        self.assertIn("A.hol: 5 commands, 1 theorems, 1 errors", output)
+        self.assertIn("A.hol: 5 commands, 1 theorem, 1 error", output)
         self.assertIn("B.hol:1251:1: error: a theory has at most 1000 commands", output)
 
     def test_no_file_no_server_bad_words_are_status_2(self):
@@ -97,7 +97,7 @@ class Checking(unittest.TestCase):
     def test_files_are_checked_after_those_that_they_import(self):
         files = {"B.hol": "import A;; " + proofs(1).replace("N0", "M"), "A.hol": proofs(1)}
         status, output, _ = self.check(files, server=("--serve", "import"))
-        self.assertEqual((status, output.splitlines()[0]), (0, "A.hol: 4 commands, 1 theorems, all accepted"))
+        self.assertEqual((status, output.splitlines()[0]), (0, "A.hol: 4 commands, 1 theorem, all accepted"))
         status, output, _ = self.check({"B.hol": "import C;;", "C.hol": "import B;;"}, server=("--serve", "import"))
         self.assertEqual((status, "imports this one in turn" in output), (1, True))
 
@@ -106,6 +106,8 @@ class Checking(unittest.TestCase):
         self.assertEqual([json.loads(line) for line in output.splitlines()], [
             {"file": "A.hol", "line": 4, "theorem": "N0", "items": []},
             {"file": "A.hol", "commands": 4, "theorems": 1, "errors": 0}])
+        status, _, errors = self.check({"A.hol": proofs(1)}, "--axioms", server=("--fault", "end:10"))
+        self.assertEqual((status, errors), (2, "holls: A.hol:4: on what N0 rests isn't known: hol_serve ended, or had no memory\n"))
 
 
 @unittest.skipUnless(BUILT.is_file(), "hol_serve isn't built")
