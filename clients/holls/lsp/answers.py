@@ -94,11 +94,11 @@ class Answers:
         if isinstance(known, goals.State):
             return known
         if self.bridge.workspace.documents.get(document.uri) is not document:
-            return goals.State(number, None, None, ["the file was closed"])
+            return goals.State(number, None, None, ["the file was closed"], False)
         session = self.bridge.session
         failure = session.failure if session else self.bridge.failure
         if failure:
-            return goals.State(number, None, None, ["hol_serve isn't running: " + failure])
+            return goals.State(number, None, None, ["hol_serve isn't running: " + failure], False)
         if session is None:
             return None
         self.bridge.sweep.prefer([known])

@@ -13,12 +13,16 @@ from holls.session import Job
 
 @dataclass(frozen=True)
 class State:
-    """What is known at a place: the open goals or None where no proof is open, what was made, and errors of commands looked back over."""
+    """What is known at a place: the open goals or None where no proof is open, what was made, why the command there was refused.
+
+    Without `is_known` nothing is known, and the errors say why.
+    """
 
     number: Optional[int]
     goals: Optional[Goals]
     made: Optional[Made]
     errors: List[str]
+    is_known: bool = True
 
 
 def state(file: File, number: Optional[int]) -> Union[State, Job]:
@@ -50,7 +54,9 @@ def _error(file: File, number: int, report: Union[Refusal, Lost, None]) -> List[
 def text(known: State) -> str:
     """The state as the goal window shows it."""
     lines = list(known.errors) + ([""] if known.errors else [])
-    if known.made is not None:
+    if not known.is_known:
+        pass
+    elif known.made is not None:
         lines += list(known.made.entries) or ["no proof is open"]
     elif known.goals is None:
         lines.append("no proof is open")
