@@ -1,0 +1,7 @@
+pub mod Lookups
+pub mod Places
+pub mod Lowering
+pub mod TypeMatches
+pub mod MatchLaws
+pub mod Holding
+pub mod Staying

@@ -1,0 +1,152 @@
+-- Looking up in pairs that come after those of what stays, and one step of matching types.
+use Rattle.std.proofs.Common.{◌≡◌, ℕ, zero, suc, ◌<◌, ◌≤◌, List, [], ◌∷◌, ◌++◌, map, length, get_or, refl, ap, sym, ◌∙◌, Bool, true, false, cond, ◌||◌, if◌then◌else◌, bytes_eq, Some, None, arith}
+use Rattle.std.specs.Option.{option_and_then}
+use Rattle.std.proofs.lemmas.Slice.Eq.{bytes_eq-Decides}
+use Rattle.hol_types.specs.Tree.{TypeTree, TyVar, TyApp, type_list, type_size, types_size}
+use Rattle.hol_types.specs.Names.{is_among}
+use Rattle.hol_types.specs.Subst.{type_lookup}
+use Rattle.hol_types.specs.Equal.{variable_eq}
+use Rattle.hol_types.proofs.Steps.{match_ends_some, match_ends_none, match_more_none}
+use Rattle.hol_types.proofs.Filters.{closed_match}
+use Rattle.hol_terms.specs.Named.{Named, var, constant, comb, abs}
+use Rattle.hol_terms.specs.Nameless.{Nameless, free, nameless, nameless_type}
+use Rattle.hol_terms.specs.Alpha.{alpha_eq}
+use Rattle.hol_terms.specs.Scoped.{binds}
+use Rattle.hol_terms.proofs.Same.{variable_eq_decides}
+use Rattle.hol_subst.specs.Substitution.{term_lookup}
+use Rattle.hol_subst.specs.Pairs.{nameless_pairs}
+use Rattle.hol_subst.proofs.Closing.{eq_flip}
+use Rattle.hol_match.specs.Instance.{InstanceValue, instance_of, both}
+use Rattle.hol_match.specs.Fixed.{stays}
+use Rattle.hol_match.specs.declared.fixed.Fixed.{Fixed}
+use Rattle.hol_match.specs.Matching.{taken, with_type, variable_takes, variable_meets}
+use Rattle.hol_match.specs.Places.{is_variable}
+
+pub type_first : (xs ys : List (TypeTree × List ℕ)) (a : List ℕ) (s : TypeTree) → type_lookup xs a ≡ Some s → type_lookup (xs ++ ys) a ≡ Some s
+type_first [] ys a s e = absurd (cc)
+type_first (x ∷ xs) ys a s e = by (bytes_eq x.1 a) (type_first xs ys a s) e
+  where
+    by : (b : Bool) → (type_lookup xs a ≡ Some s → type_lookup (xs ++ ys) a ≡ Some s) → cond b (Some x.0) (type_lookup xs a) ≡ Some s → cond b (Some x.0) (type_lookup (xs ++ ys) a) ≡ Some s
+    by true r f = f
+    by false r f = r f
+
+pub type_second : (xs ys : List (TypeTree × List ℕ)) (a : List ℕ) → type_lookup xs a ≡ None → type_lookup (xs ++ ys) a ≡ type_lookup ys a
+type_second [] ys a e = refl
+type_second (x ∷ xs) ys a e = by (bytes_eq x.1 a) (type_second xs ys a) e
+  where
+    by : (b : Bool) → (type_lookup xs a ≡ None → type_lookup (xs ++ ys) a ≡ type_lookup ys a) → cond b (Some x.0) (type_lookup xs a) ≡ None → cond b (Some x.0) (type_lookup (xs ++ ys) a) ≡ type_lookup ys a
+    by true r f = absurd (cc)
+    by false r f = r f
+
+pub term_first : (xs ys : List (Nameless × (List ℕ × TypeTree))) (v : List ℕ × TypeTree) (s : Nameless) → term_lookup xs v ≡ Some s → term_lookup (xs ++ ys) v ≡ Some s
+term_first [] ys v s e = absurd (cc)
+term_first (x ∷ xs) ys v s e = by (variable_eq x.1 v) (term_first xs ys v s) e
+  where
+    by : (b : Bool) → (term_lookup xs v ≡ Some s → term_lookup (xs ++ ys) v ≡ Some s) → cond b (Some x.0) (term_lookup xs v) ≡ Some s → cond b (Some x.0) (term_lookup (xs ++ ys) v) ≡ Some s
+    by true r f = f
+    by false r f = r f
+
+pub term_second : (xs ys : List (Nameless × (List ℕ × TypeTree))) (v : List ℕ × TypeTree) → term_lookup xs v ≡ None → term_lookup (xs ++ ys) v ≡ term_lookup ys v
+term_second [] ys v e = refl
+term_second (x ∷ xs) ys v e = by (variable_eq x.1 v) (term_second xs ys v) e
+  where
+    by : (b : Bool) → (term_lookup xs v ≡ None → term_lookup (xs ++ ys) v ≡ term_lookup ys v) → cond b (Some x.0) (term_lookup xs v) ≡ None → cond b (Some x.0) (term_lookup (xs ++ ys) v) ≡ term_lookup ys v
+    by true r f = absurd (cc)
+    by false r f = r f
+
+pub append_assoc : {A : Type 0} (xs ys zs : List A) → (xs ++ ys) ++ zs ≡ xs ++ (ys ++ zs)
+append_assoc [] ys zs = refl
+append_assoc (x ∷ xs) ys zs = λ i. x ∷ append_assoc xs ys zs i
+
+-- a pair of a term and a variable at the end
+pairs_more : (ps : List (Named × Named)) (t : Named) (v : List ℕ × TypeTree) → nameless_pairs (ps ++ (t, var v) ∷ []) ≡ nameless_pairs ps ++ (nameless [] t, v) ∷ []
+pairs_more [] t v = refl
+pairs_more (p ∷ ps) t v = by p.1 (pairs_more ps t v)
+  where
+    by : (u : Named) → nameless_pairs (ps ++ (t, var v) ∷ []) ≡ nameless_pairs ps ++ (nameless [] t, v) ∷ [] → nameless_pairs ((p.0, u) ∷ (ps ++ (t, var v) ∷ [])) ≡ nameless_pairs ((p.0, u) ∷ ps) ++ (nameless [] t, v) ∷ []
+    by (var w) r = λ i. (nameless [] p.0, w) ∷ r i
+    by (constant c s) r = r
+    by (comb f x) r = r
+    by (abs w b) r = r
+
+pub pairs_added : (ps qs : List (Named × Named)) (s t u : Named) (v : List ℕ × TypeTree) → qs ≡ ps ++ (s, u) ∷ [] → s ≡ t → u ≡ var v → nameless_pairs qs ≡ nameless_pairs ps ++ (nameless [] t, v) ∷ []
+pairs_added ps qs s t u v e f g = ap nameless_pairs (e ∙ (λ i. ps ++ (f i, g i) ∷ [])) ∙ pairs_more ps t v
+
+-- ---- what stays is given itself
+
+pub own_type : (names : List (List ℕ)) (a : List ℕ) → type_lookup (map (λ a. (TyVar a, a)) names) a ≡ cond (is_among names a) (Some (TyVar a)) None
+own_type [] a = refl
+own_type (b ∷ names) a = by (bytes_eq b a) refl (bytes_eq a b) refl (own_type names a)
+  where
+    by : (p : Bool) → bytes_eq b a ≡ p → (q : Bool) → bytes_eq a b ≡ q → type_lookup (map (λ a. (TyVar a, a)) names) a ≡ cond (is_among names a) (Some (TyVar a)) None → cond p (Some (TyVar b)) (type_lookup (map (λ a. (TyVar a, a)) names) a) ≡ cond (q || is_among names a) (Some (TyVar a)) None
+    by true e true f r = ap (λ x. Some (TyVar x)) ((bytes_eq-Decides b a).0 e)
+    by true e false f r = let z : true ≡ false = sym ((bytes_eq-Decides a b).1 (sym ((bytes_eq-Decides b a).0 e))) ∙ f in absurd (cc)
+    by false e true f r = let z : true ≡ false = sym ((bytes_eq-Decides b a).1 (sym ((bytes_eq-Decides a b).0 f))) ∙ e in absurd (cc)
+    by false e false f r = r
+
+pub own_term : (vs : List (List ℕ × TypeTree)) (v : List ℕ × TypeTree) → term_lookup (map (λ v. (free v, v)) vs) v ≡ cond (binds vs v) (Some (free v)) None
+own_term [] v = refl
+own_term (u ∷ vs) v = by (variable_eq u v) refl (own_term vs v)
+  where
+    by : (p : Bool) → variable_eq u v ≡ p → term_lookup (map (λ v. (free v, v)) vs) v ≡ cond (binds vs v) (Some (free v)) None → cond p (Some (free u)) (term_lookup (map (λ v. (free v, v)) vs) v) ≡ cond (p || binds vs v) (Some (free v)) None
+    by true e r = ap (λ x. Some (free x)) ((variable_eq_decides u v).0 e)
+    by false e r = r
+
+-- ---- a variable meets a term
+
+variable_alpha : (t : Named) (u : List ℕ × TypeTree) → alpha_eq (free u) (nameless [] t) ≡ is_variable t u
+variable_alpha (var w) u = eq_flip u w
+variable_alpha (constant c s) u = refl
+variable_alpha (comb f x) u = refl
+variable_alpha (abs w b) u = refl
+
+as_if : {A : Type 0} (b : Bool) (x y : A) → cond b x y ≡ (if b then x else y)
+as_if true x y = refl
+as_if false x y = refl
+
+pub taken_fixed : (f : Fixed) (found : InstanceValue) (u : List ℕ × TypeTree) (t : Named) (b : Bool) → term_lookup (stays f).terms u ≡ Some (free u) → b ≡ is_variable t u → taken (term_lookup (both (stays f) found).terms u) (both (stays f) found) u (nameless [] t) ≡ (if b then Some (both (stays f) found) else None)
+taken_fixed f found u t b e g =
+    ap (λ o. taken o (both (stays f) found) u (nameless [] t)) (term_first (stays f).terms found.terms u (free u) e)
+    ∙ ap (λ c. cond c (Some (both (stays f) found)) None) (variable_alpha t u ∙ sym g)
+    ∙ as_if b (Some (both (stays f) found)) None
+
+pub taken_earlier : (f : Fixed) (found : InstanceValue) (u : List ℕ × TypeTree) (s n : Nameless) (b : Bool) → term_lookup (stays f).terms u ≡ None → term_lookup found.terms u ≡ Some s → b ≡ alpha_eq s n → taken (term_lookup (both (stays f) found).terms u) (both (stays f) found) u n ≡ (if b then Some (both (stays f) found) else None)
+taken_earlier f found u s n b e g h =
+    ap (λ o. taken o (both (stays f) found) u n) (term_second (stays f).terms found.terms u e ∙ g)
+    ∙ ap (λ c. cond c (Some (both (stays f) found)) None) (sym h)
+    ∙ as_if b (Some (both (stays f) found)) None
+
+pub taken_new : (f : Fixed) (found new : InstanceValue) (u : List ℕ × TypeTree) (n : Nameless) → term_lookup (stays f).terms u ≡ None → term_lookup found.terms u ≡ None → new ≡ instance_of found.types (found.terms ++ (n, u) ∷ []) → taken (term_lookup (both (stays f) found).terms u) (both (stays f) found) u n ≡ Some (both (stays f) new)
+taken_new f found new u n e g h =
+    ap (λ o. taken o (both (stays f) found) u n) (term_second (stays f).terms found.terms u e ∙ g)
+    ∙ ap (λ ts. Some (instance_of ((stays f).types ++ found.types) ts)) (append_assoc (stays f).terms found.terms ((n, u) ∷ []))
+    ∙ ap (λ q. Some (both (stays f) q)) (sym h)
+
+pub meets_by : (v u : List ℕ × TypeTree) (n : Nameless) (s : TypeTree) (found q : InstanceValue) → nameless_type [] n ≡ Some s → with_type v.1 found s ≡ Some q → u ≡ (v.0, s) → variable_meets v found n ≡ taken (term_lookup q.terms u) q u n
+meets_by v u n s found q e f g =
+    ap (λ o. option_and_then (λ s. variable_takes v found n s) o) e
+    ∙ ap (λ o. option_and_then (λ more. taken (term_lookup more.terms (v.0, s)) more (v.0, s) n) o) f
+    ∙ ap (λ w. taken (term_lookup q.terms w) q w n) (sym g)
+
+pub meets_none : (v : List ℕ × TypeTree) (n : Nameless) (s : TypeTree) (found : InstanceValue) → nameless_type [] n ≡ Some s → with_type v.1 found s ≡ None → variable_meets v found n ≡ None
+meets_none v n s found e f =
+    ap (λ o. option_and_then (λ s. variable_takes v found n s) o) e
+    ∙ ap (λ o. option_and_then (λ more. taken (term_lookup more.terms (v.0, s)) more (v.0, s) n) o) f
+
+-- ---- types
+
+pub part_size : (ts : List TypeTree) (i : ℕ) (t : TypeTree) → i < length ts → t ≡ get_or ts i t → type_size t ≤ types_size (type_list ts)
+part_size [] i t h e = absurd (omega arith)
+part_size (a ∷ ts) zero t h e = let p : t ≡ a = e in omega (arith, ap type_size p)
+part_size (a ∷ ts) (suc i) t h e = omega (arith, part_size ts i t (omega arith) e)
+
+pub arguments_smaller : (s : TypeTree) (c : List ℕ) (ts : List TypeTree) → s ≡ TyApp c (type_list ts) → types_size (type_list ts) < type_size s
+arguments_smaller s c ts e = omega (arith, ap type_size e)
+
+pub ruleset type_steps = (closed_match, arguments_smaller)
+
+pub ruleset argument_steps = (match_ends_some, match_ends_none, match_more_none, part_size)
+
+pub ruleset lookups = (type_first, type_second, append_assoc)
+
+pub ruleset meeting = (meets_by, meets_none)

@@ -1,0 +1,7 @@
+use Rattle.hol_match.proofs.Lookups.{pairs_added}
+use Rattle.hol_match.proofs.instance.add_pair.Goals as goal
+
+pub returns : goal.returns
+returns c =
+    pairs_added c.args.pairs.now.items c.push.new.self.items c.in_ok-copy.field-0 c.args.t.now c.in_ok-variable.variable c.args.v.now
+    c.in_ok-push.ensures.items c.in_ok-copy.ensures c.in_ok-variable.ensures

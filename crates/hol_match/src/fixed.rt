@@ -1,0 +1,136 @@
+//! What a match leaves as it is: the variables and the type variables of some terms.
+ghost use Rattle.std.specs.Prelude.{◌≡◌, ◌∷◌, [], map, IfOk, OnOk, if◌then◌else◌, Some, None};
+ghost use Rattle.hol_types.specs.Tree.{TyVar};
+ghost use Rattle.hol_types.specs.Names.{is_among};
+ghost use Rattle.hol_types.specs.Subst.{type_lookup};
+ghost use Rattle.hol_terms.specs.Nameless.{nameless, free};
+ghost use Rattle.hol_terms.specs.Scoped.{add_all, add_new, binds};
+ghost use Rattle.hol_subst.specs.Substitution.{term_lookup};
+ghost use Rattle.hol_match.specs.Fixed.{add_name, add_names, fixed_names, fixed_variables, stays, stays_of};
+
+use hol_subst::term_tyvars;
+use hol_terms::{Term, Variable};
+use hol_types::Name;
+use std::alloc::{AllocError, Global};
+
+/// The type variables and the free variables of some terms, each once: what a match leaves as it is.
+#[derive(Drop)]
+pub struct Fixed {
+    names: Vec<Name>,
+    variables: Vec<Variable>,
+}
+
+impl Fixed {
+    /// The type variables and the free variables of the terms.
+    pub fn of(alloc: Global, terms: &[Term]) -> Result<Fixed, AllocError>
+        ensures { IfOk result (λ f. stays f ≡ stays_of (map (λ t. nameless [] t) terms.now)) }
+    {
+        let names = names_of(alloc, terms)?;
+        let variables = variables_of(alloc, terms)?;
+        Ok(Fixed { names, variables })
+    }
+
+    /// Whether the type variable is one of these.
+    #[tactic(auto, using(crate::proofs::Lookups::own_type))]
+    pub(crate) fn has_name(&self, name: &Name) -> bool
+        ensures { type_lookup (stays self.now).types name.now ≡ (if result then Some (TyVar name.now) else None) }
+    {
+        has_name(&self.names, name)
+    }
+
+    /// Whether the variable is one of these.
+    #[tactic(auto, using(crate::proofs::Lookups::own_term))]
+    pub(crate) fn has_variable(&self, v: &Variable) -> bool
+        ensures { term_lookup (stays self.now).terms v.now ≡ (if result then Some (free v.now) else None) }
+    {
+        has_variable(&self.variables, v)
+    }
+}
+
+// Whether the name is one of these.
+fn has_name(names: &[Name], name: &Name) -> bool
+    ensures { result ≡ is_among names.now name.now }
+{
+    for other in names {
+        if name.same(other) {
+            return true;
+        }
+    }
+    false
+}
+
+// Whether the variable is one of these.
+fn has_variable(variables: &[Variable], v: &Variable) -> bool
+    ensures { result ≡ binds variables.now v.now }
+{
+    for u in variables {
+        if u.same(v) {
+            return true;
+        }
+    }
+    false
+}
+
+// The type variables of the terms, each once.
+fn names_of(alloc: Global, terms: &[Term]) -> Result<Vec<Name>, AllocError>
+    ensures { IfOk result (λ names. names.items ≡ fixed_names [] (map (λ t. nameless [] t) terms.now)) }
+{
+    let mut names = Vec::new(alloc);
+    for t in terms {
+        let own = term_tyvars(alloc, t)?;
+        add_names(&mut names, &own)?;
+    }
+    Ok(names)
+}
+
+// Puts the names that are not there at the end.
+fn add_names(names: &mut Vec<Name>, own: &[Name]) -> Result<(), AllocError>
+    ensures { OnOk result (names.new.items ≡ add_names names.old.items own.now) }
+{
+    for name in own {
+        add_name(names, name)?;
+    }
+    Ok(())
+}
+
+// Puts the name at the end, unless it is there.
+fn add_name(names: &mut Vec<Name>, name: &Name) -> Result<(), AllocError>
+    ensures { OnOk result (names.new.items ≡ add_name names.old.items name.now) }
+{
+    if !has_name(names, name) {
+        names.push(name.copy()?)?;
+    }
+    Ok(())
+}
+
+// The free variables of the terms, each once.
+fn variables_of(alloc: Global, terms: &[Term]) -> Result<Vec<Variable>, AllocError>
+    ensures { IfOk result (λ vs. vs.items ≡ fixed_variables [] (map (λ t. nameless [] t) terms.now)) }
+{
+    let mut variables = Vec::new(alloc);
+    for t in terms {
+        let own = t.frees(alloc)?;
+        add_variables(&mut variables, &own)?;
+    }
+    Ok(variables)
+}
+
+// Puts the variables that are not there at the end.
+fn add_variables(variables: &mut Vec<Variable>, own: &[Variable]) -> Result<(), AllocError>
+    ensures { OnOk result (variables.new.items ≡ add_all variables.old.items own.now) }
+{
+    for v in own {
+        add_variable(variables, v)?;
+    }
+    Ok(())
+}
+
+// Puts the variable at the end, unless it is there.
+fn add_variable(variables: &mut Vec<Variable>, v: &Variable) -> Result<(), AllocError>
+    ensures { OnOk result (variables.new.items ≡ add_new variables.old.items v.now) }
+{
+    if !has_variable(variables, v) {
+        variables.push(v.copy()?)?;
+    }
+    Ok(())
+}

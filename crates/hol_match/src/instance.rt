@@ -1,0 +1,140 @@
+//! Instances: types for type variables and terms for variables.
+ghost use Rattle.std.specs.Prelude.{◌≡◌, ◌++◌, ◌∷◌, [], IfOk, OnOk, MatchOption, if◌then◌else◌, Some, None};
+ghost use Rattle.hol_types.specs.Subst.{type_lookup};
+ghost use Rattle.hol_terms.specs.Nameless.{nameless};
+ghost use Rattle.hol_subst.specs.Pairs.{nameless_pairs};
+ghost use Rattle.hol_subst.specs.Substitution.{term_lookup};
+ghost use Rattle.hol_match.specs.Instance.{instance_of, both};
+ghost use Rattle.hol_match.specs.Fixed.{stays};
+ghost use Rattle.hol_match.specs.Matching.{with_type};
+ghost use Rattle.hol_match.specs.Places.{is_variable};
+
+use crate::fixed::Fixed;
+use crate::type_matching::match_into;
+use hol_terms::{Term, TermNode, Variable};
+use hol_types::{Name, Ty};
+use std::alloc::{AllocError, Global};
+use std::marker::Model;
+
+/// Types for type variables, as `inst` takes them, and then terms for variables, at the types that they have then, as `vsubst` takes
+/// them.
+#[derive(Drop)]
+pub struct Instance {
+    types: Vec<(Ty, Name)>,
+    terms: Vec<(Term, Term)>,
+}
+
+impl Model for Instance {
+    ghost use Rattle.hol_match.specs.Instance.{InstanceValue, instance_code, instance_from};
+
+    ghost Value = { InstanceValue };
+
+    ghost coded = { instance_code };
+
+    ghost view = { λ a. instance_from a.types.items a.terms.items };
+}
+
+impl Instance {
+    /// The instance that gives nothing.
+    pub(crate) fn empty(alloc: Global) -> Instance
+        ensures { result ≡ instance_of [] [] }
+    {
+        Instance {
+            types: Vec::new(alloc),
+            terms: Vec::new(alloc),
+        }
+    }
+
+    /// The types, each with the name of its type variable.
+    pub fn types(&self) -> &[(Ty, Name)]
+        ensures { result.now ≡ self.now.types }
+    {
+        self.types.as_slice()
+    }
+
+    /// The terms, each with its variable as a term.
+    pub fn terms(&self) -> &[(Term, Term)]
+        ensures { nameless_pairs result.now ≡ self.now.terms }
+    {
+        self.terms.as_slice()
+    }
+
+    /// Whether a type of the pattern matches the target beside what was found so far. The types that it needs more are put at the end.
+    pub(crate) fn match_type(
+        &mut self,
+        fixed: &Fixed,
+        pattern: &Ty,
+        target: &Ty,
+    ) -> Result<bool, AllocError>
+        ensures { IfOk result (λ fits. with_type pattern.now (both (stays fixed.now) self.old) target.now ≡ (if fits then Some (both (stays fixed.now) self.new) else None)) }
+    {
+        match_into(pattern, fixed, target, &mut self.types)
+    }
+
+    /// The term of the first pair of the variable.
+    pub(crate) fn term_of(&self, v: &Variable) -> Option<&Term>
+        ensures { MatchOption result (term_lookup self.now.terms v.now ≡ None) (λ t. term_lookup self.now.terms v.now ≡ Some (nameless [] t.now)) }
+    {
+        term_in(&self.terms, v)
+    }
+
+    /// Puts a term for a variable at the end.
+    pub(crate) fn add_term(
+        &mut self,
+        alloc: Global,
+        t: &Term,
+        v: &Variable,
+    ) -> Result<(), AllocError>
+        ensures { OnOk result (self.new ≡ instance_of self.old.types (self.old.terms ++ (nameless [] t.now, v.now) ∷ [])) }
+    {
+        add_pair(alloc, &mut self.terms, t, v)
+    }
+}
+
+// Puts a term for a variable at the end.
+fn add_pair(
+    alloc: Global,
+    pairs: &mut Vec<(Term, Term)>,
+    t: &Term,
+    v: &Variable,
+) -> Result<(), AllocError>
+    ensures { OnOk result (nameless_pairs pairs.new.items ≡ nameless_pairs pairs.old.items ++ (nameless [] t.now, v.now) ∷ []) }
+{
+    let variable = Term::var(alloc, v)?;
+    pairs.push((t.copy()?, variable))?;
+    Ok(())
+}
+
+/// The type of the first pair of the name.
+pub(crate) fn type_in<'a>(pairs: &'a [(Ty, Name)], name: &Name) -> Option<&'a Ty>
+    ensures { MatchOption result (type_lookup pairs.now name.now ≡ None) (λ ty. type_lookup pairs.now name.now ≡ Some ty.now) }
+{
+    for pair in pairs {
+        if pair.1.same(name) {
+            return Some(&pair.0);
+        }
+    }
+    None
+}
+
+// The term of the first pair of the variable.
+fn term_in<'a>(pairs: &'a [(Term, Term)], v: &Variable) -> Option<&'a Term>
+    ensures { MatchOption result (term_lookup (nameless_pairs pairs.now) v.now ≡ None) (λ t. term_lookup (nameless_pairs pairs.now) v.now ≡ Some (nameless [] t.now)) }
+{
+    for pair in pairs {
+        if is_variable(&pair.1, v) {
+            return Some(&pair.0);
+        }
+    }
+    None
+}
+
+/// Whether the term is this variable.
+pub(crate) fn is_variable(t: &Term, v: &Variable) -> bool
+    ensures { result ≡ is_variable t.now v.now }
+{
+    match t.node() {
+        TermNode::Var(w) => w.same(v),
+        TermNode::Const(_, _) | TermNode::Comb(_, _) | TermNode::Abs(_, _) => false,
+    }
+}
