@@ -9,7 +9,7 @@ import sys
 from dataclasses import dataclass
 from typing import Callable, Dict, List, Optional, Tuple
 
-from holls import graph, protocol, server
+from holls import graph, protocol, server, words
 from holls.files import File
 from holls.findings import Finding, Severity, findings
 from holls.protocol import Made
@@ -33,13 +33,13 @@ class Basis:
     items: Tuple[str, ...]
 
 
-def add_words(words: argparse.ArgumentParser) -> None:
+def add_words(parser: argparse.ArgumentParser) -> None:
     """The words of the command line."""
-    words.add_argument("files", nargs="+", metavar="FILE", help="a file of commands, NAME.hol")
-    words.add_argument("--server", metavar="PROGRAM", help="the program hol_serve")
-    words.add_argument("--axioms", action="store_true", help="also list on which axioms and definitions each theorem rests")
-    words.add_argument("--json", action="store_true", help="one JSON object a line")
-    words.add_argument("--seconds", type=int, default=120, help="how long one command may take (120)")
+    parser.add_argument("files", nargs="+", metavar="FILE", help="a file of commands, NAME.hol")
+    parser.add_argument("--server", metavar="PROGRAM", help="the program hol_serve")
+    parser.add_argument("--axioms", action="store_true", help="also list on which axioms and definitions each theorem rests")
+    parser.add_argument("--json", action="store_true", help="one JSON object a line")
+    parser.add_argument("--seconds", type=int, default=120, help="how long one command may take (120)")
 
 
 def main(given: argparse.Namespace) -> int:
@@ -91,8 +91,8 @@ def read(path: str, data: bytes) -> File:
     except UnicodeDecodeError as error:
         file.take(data[:error.start].decode("utf-8"))
         end = len(file.lines.text)
-        words = "the file is no UTF-8 from here on (byte 0x%02x): save it as UTF-8" % data[error.start]
-        file.blemishes = [blemish for blemish in file.blemishes if blemish.is_error] + [Blemish(end, end + 1, words, True)]
+        told = "the file is no UTF-8 from here on (byte 0x%02x): save it as UTF-8" % data[error.start]
+        file.blemishes = [blemish for blemish in file.blemishes if blemish.is_error] + [Blemish(end, end + 1, told, True)]
     return file
 
 
@@ -158,7 +158,8 @@ class _Checker:
             if isinstance(reply, protocol.Items) and reply.items is not None:
                 self.bases[file.path].append(Basis(line, name, reply.items))
             else:
-                self.unknown.append("%s:%d: on what %s rests isn't known: hol_serve ended, or had no memory" % (file.path, line, name))
+                where = "%s:%d: on what %s rests isn't known" % (file.path, line, name)
+                self.unknown.append(where + ": hol_serve ended, or had no memory")
 
         self.unanswered += 1
         self.session.ask(protocol.line({"op": "basis", "theory": file.theory.name, "name": name}), answer)
@@ -169,7 +170,8 @@ def _lost(file: File) -> Optional[str]:
     for number, command in enumerate(file.commands):
         entry = file.entry(number)
         if entry and isinstance(entry.report, protocol.Lost):
-            return "%s:%d: nothing is known of this command: %s" % (file.path, file.lines.line(command.start) + 1, entry.report.reason)
+            line = file.lines.line(command.start) + 1
+            return "%s:%d: nothing is known of this command: %s" % (file.path, line, entry.report.reason)
     return None
 
 
@@ -185,7 +187,7 @@ def _show(file: File, bases: List[Basis]) -> int:
         kind = "error" if _is_wrong(finding) else finding.severity.name.lower()
         print("%s:%d:%d: %s: %s" % (file.path, line + 1, column + 1, kind, finding.text))
     for basis in bases:
-        print("%s:%d: %s rests on %s" % (file.path, basis.line, basis.theorem, ", ".join(basis.items) or "no axioms or definitions of its own"))
+        print("%s:%d: %s %s" % (file.path, basis.line, basis.theorem, words.rests(basis.items)))
     wrong = sum(_is_wrong(finding) for finding in said)
     outcome = _count(wrong, "error") if wrong else "all accepted"
     print("%s: %s, %s, %s" % (file.path, _count(len(file.commands), "command"), _count(_theorems(file), "theorem"), outcome))

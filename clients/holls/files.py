@@ -35,7 +35,7 @@ class File:
         self.take("")
 
     def take(self, text: str, with_oops: bool = False) -> None:
-        """Takes the file's text. With oops, a hidden `oops` stands before each `g` but the first, so that a failed proof ends there."""
+        """Takes the file's text. With oops, a hidden `oops` before each `g` but the first ends a failed proof."""
         self.lines = Lines(text)
         self.cut: Cut = cut(text)
         self.blemishes = list(self.cut.blemishes)
@@ -91,7 +91,7 @@ class File:
         if not protocol.is_too_long(self.theory.name, command.text):
             return True
         self.blemishes.append(Blemish(
-            command.start, command.end, "this command is too long: a request's line has at most %d bytes; split it, or name its parts"
+            command.start, command.end, "this command is too long: a request's line has at most %d bytes; split it"
             % protocol.LINE_BYTES, True))
         return False
 
@@ -120,8 +120,8 @@ class File:
         if protocol.is_name(self.theory.name):
             return
         self.blemishes.append(self.first_line((
-            "the file's name without %s is the theory's, and `%s` can't be one: it has to be a letter or _, then letters, digits, _ or ', "
-            "at most %d, and no reserved word; rename the file" % (SUFFIX, self.theory.name, protocol.NAME_BYTES))))
+            "the file's name without %s is the theory's, and `%s` can't be one: it has to be a letter or _, then letters, digits, "
+            "_ or ', at most %d, and no reserved word; rename the file" % (SUFFIX, self.theory.name, protocol.NAME_BYTES))))
 
     def first_line(self, text: str) -> Blemish:
         """An error that is told of the file as a whole."""

@@ -1,4 +1,4 @@
-"""What there is to say of a file: errors, warnings and hints, each with its range, from the file's form and the server's reports."""
+"""What there is to say of a file, with ranges: errors, warnings and hints from its form and from the server's reports."""
 
 from __future__ import annotations
 
@@ -75,7 +75,8 @@ class _Walk:
     def give_up(self, number: int) -> None:
         """A hidden `oops` before a command ends the open proof."""
         if self.proof and self.proof.broken is None:
-            self.add(number, Severity.ERROR, "a proof was open before this: %s; end it by qed;; or give it up by oops;;" % self.proof)
+            text = "a proof was open before this: %s; end it by qed;; or give it up by oops;;" % self.proof
+            self.add(number, Severity.ERROR, text)
         self.proof = None
 
     def accepted(self, number: int, report: Goals) -> None:
@@ -106,7 +107,10 @@ class _Walk:
         self.findings.append(Finding(command.place(start), max(command.place(end), command.place(start) + 1), severity, text))
 
     def cause(self, number: int, refusal: Refusal) -> Optional[int]:
-        """The refused command from which a refusal follows: the first one of the open proof, or a goal; None where it is an error of its own."""
+        """The refused command from which a refusal follows: the first one of the open proof, or a goal.
+
+        None where the refusal is an error of its own.
+        """
         command, proof = self.file.commands[number], self.proof
         if refusal.number == protocol.NO_PROOF and self.refused_goal is not None:
             cause = self.refused_goal

@@ -3,7 +3,7 @@
 from __future__ import annotations
 
 import difflib
-from typing import Optional, Tuple
+from typing import Optional, Sequence, Tuple
 
 from holls import notation, protocol
 from holls.protocol import Refusal
@@ -14,17 +14,17 @@ Told = Tuple[int, int, str]
 _FIXED = {
     protocol.NO_PROOF: "no proof is open here: begin one by g NAME `term`;;",
     protocol.TOO_LARGE: "too large: a term here has over 20,000 nodes, those of its types counted; split the statement",
-    14: "a rule of a theorem expression doesn't fit its theorem: %s",
-    15: "%s was given a theorem with a hypothesis that is none of the goal's assumptions",
+    protocol.BAD_RULE: "a rule of a theorem expression doesn't fit its theorem: %s",
+    protocol.HYPOTHESES: "%s was given a theorem with a hypothesis that is none of the goal's assumptions",
     protocol.NO_GOAL: "no goal is left here: end the proof by qed;;",
     protocol.TURN_LIMIT: "the turn limit was reached: the function doesn't end, or needs a larger --turns",
     protocol.GOALS_REMAIN: "the proof isn't done: goals remain",
-    20: "nothing to undo: the proof is at its beginning",
-    21: "the import gives %s another value than the one that stands here: rename one of the two",
+    protocol.NOTHING_TO_UNDO: "nothing to undo: the proof is at its beginning",
+    protocol.IMPORT_CLASH: "the import gives %s another value than the one that stands here: rename one of the two",
     protocol.UNKNOWN_THEORY: "there is no theory %s before this one: is its file in the same folder?",
     protocol.UNKNOWN_THEOREM: "no theorem %s stands before this command",
-    11: "%s is free in what is defined: make it an argument of the constant",
-    12: "the type variable %s occurs in the definition and not in the constant's type: annotate the constant",
+    protocol.NOT_CLOSED: "%s is free in what is defined: make it an argument of the constant",
+    protocol.NOT_REFLECTED: "the type variable %s occurs in the definition and not in the constant's type: annotate the constant",
 }
 
 
@@ -43,10 +43,21 @@ def explain(text: str, refusal: Refusal, opened: Optional[str] = None) -> Told:
     elif number == protocol.REFUSED:
         words = _refused(refusal.argument)
     elif number == protocol.NAME_TAKEN:
-        words = "%s stands already: choose another name" % refusal.argument.replace("thm:", "the theorem ").replace("const:", "the constant ")
+        words = "%s stands already: choose another name" % _key(refusal.argument)
     else:
-        words = _FIXED[number].replace("%s", refusal.argument) if number in _FIXED else " ".join((refusal.text, refusal.argument)).strip()
+        words = _FIXED.get(number, refusal.text + " %s").replace("%s", refusal.argument).strip()
     return start, end, words
+
+
+def rests(items: Sequence[str]) -> str:
+    """On what a theorem rests."""
+    return "rests on " + (", ".join(items) or "no axioms or definitions of its own")
+
+
+def _key(argument: str) -> str:
+    """A key as `thm:N` in words."""
+    kind, _, name = argument.partition(":")
+    return "%s %s" % ({"thm": "the theorem", "const": "the constant", "type": "the type"}.get(kind, kind), name)
 
 
 def _place(text: str, refusal: Refusal) -> int:
@@ -98,9 +109,11 @@ def _quotation(text: str, refusal: Refusal) -> Told:
     start, end = notation.quotation(text, _place(text, refusal))
     words = {
         protocol.UNTYPABLE: "this term has no typing: some name in it would need two types",
-        protocol.NOT_BOOL: "this term isn't of type bool: annotate what leaves its type open, as in (P:A->bool) x, or state an equation",
-        protocol.ARITY: "a type in this term has arguments that its constructor doesn't take: bool and ind take none, and a name that is "
-                        "no constructor none (a variable before another one stands in parentheses with its type: !(x:A) y. p)",
+        protocol.NOT_BOOL: "this term isn't of type bool: annotate what leaves its type open, as in (P:A->bool) x, or state an "
+                           "equation",
+        protocol.ARITY: "a type in this term has arguments that its constructor doesn't take: bool and ind take none, and a name "
+                        "that is no constructor none (a variable with its type before another one stands in parentheses: "
+                        "!(x:A) y. p)",
     }[refusal.number]
     return start, end, words
 
@@ -122,6 +135,7 @@ def _refused(name: str) -> str:
         "REFL_TAC": "an equation whose sides are equal up to bound names", "CONJ_TAC": "p /\\ q", "DISJ1_TAC": "p \\/ q",
         "DISJ2_TAC": "p \\/ q", "EQ_TAC": "p <=> q", "GEN_TAC": "!x. p", "DISCH_TAC": "p ==> q or ~p", "AP_TERM_TAC": "f x = f y",
         "AP_THM_TAC": "f x = g x", "MK_COMB_TAC": "f x = g y with f and g of one type", "NO_TAC": "no goal at all",
-        "EXISTS_TAC": "?x. p, with a term of x's type", "X_GEN_TAC": "!x. p, with a variable of x's type that is free nowhere in the goal",
+        "EXISTS_TAC": "?x. p, with a term of x's type",
+        "X_GEN_TAC": "!x. p, with a variable of x's type that is free nowhere in the goal",
     }
     return "%s doesn't fit the first goal%s" % (name, ": it wants " + fits[name] if name in fits else "")

@@ -5,7 +5,7 @@ from __future__ import annotations
 from dataclasses import dataclass, replace
 from typing import TYPE_CHECKING, Any, Callable, Dict, List, Optional
 
-from holls import protocol
+from holls import protocol, words
 from holls.lsp import features, goals
 from holls.lsp.workspace import Document
 
@@ -140,8 +140,8 @@ class Answers:
             name = features.theorem(file, at) if state else None
             if state is None or name and not self._has_basis(document, name, basis):
                 return None
-            words = goals.text(state) + (basis[-1] + "\n" if name and basis and basis[-1] else "")
-            shown = {"kind": "markdown", "value": "```hol\n%s```" % words}
+            rests = basis[-1] + "\n" if name and basis and basis[-1] else ""
+            shown = {"kind": "markdown", "value": "```hol\n%s%s```" % (goals.text(state), rests)}
             return Answered({"contents": shown, "range": features.span(file, file.commands[at].start, file.commands[at].end)})
 
         return self._wait(number, attempt)
@@ -153,14 +153,14 @@ class Answers:
             return True
         if not basis:
             basis.append(None)
-            self._ask_basis(document, name, lambda words: basis.append(words))
+            self._ask_basis(document, name, basis.append)
         return basis[-1] is not None
 
     def _ask_basis(self, document: Document, name: str, then: Callable[[str], None]) -> None:
         """Asks on what a theorem rests, and hands the words on."""
         def answer(reply: object) -> None:
             items = reply.items if isinstance(reply, protocol.Items) else None
-            then("rests on %s" % (", ".join(items) or "no axioms or definitions of its own") if items is not None else "(what it rests on isn't known)")
+            then("(what it rests on isn't known)" if items is None else words.rests(items))
 
         self.bridge.session.ask(protocol.line({"op": "basis", "theory": document.file.theory.name, "name": name}), answer)
 

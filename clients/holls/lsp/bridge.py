@@ -144,8 +144,10 @@ class Bridge:
             self._notification(method, params)
         elif method == "initialize":
             self._initialize(number, params)
-        elif not self.is_begun or self.is_shut:
-            self.error(number, BAD_REQUEST if self.is_shut else NOT_STARTED, "the session is over" if self.is_shut else "initialize comes first")
+        elif self.is_shut:
+            self.error(number, BAD_REQUEST, "the session is over")
+        elif not self.is_begun:
+            self.error(number, NOT_STARTED, "initialize comes first")
         else:
             self._request(method, number, params)
 

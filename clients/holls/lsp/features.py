@@ -26,11 +26,15 @@ def diagnostics(file: File) -> List[Dict[str, Any]]:
 
 def _diagnostic(file: File, finding: Finding) -> Dict[str, Any]:
     end = min(finding.end, len(file.lines.text))
-    return {"range": span(file, min(finding.start, end), end), "severity": int(finding.severity), "source": "hol", "message": finding.text}
+    where = span(file, min(finding.start, end), end)
+    return {"range": where, "severity": int(finding.severity), "source": "hol", "message": finding.text}
 
 
 def blocks(file: File) -> List[Tuple[int, int]]:
-    """The commands that make something, each with the last one that belongs to it: of `g` its `qed` or `oops`, or what stands before the next one."""
+    """The commands that make something, each with the last one that belongs to it: of `g` its `qed` or `oops`.
+
+    Of a proof that isn't ended it is what stands before the next such command.
+    """
     found: List[Tuple[int, int]] = []
     is_open = False
     for number, command in enumerate(file.commands):
@@ -62,8 +66,10 @@ def _quoted(command: Command) -> str:
 
 def _name_range(file: File, command: Command) -> Dict[str, Any]:
     start, end = notation.word_range(command.text[len(command.word):], command.name) or (0, 0)
-    start, end = start + len(command.word), end + len(command.word)
-    return span(file, command.place(start), max(command.place(start), command.place(end))) if end > len(command.word) else span(file, command.start, command.end)
+    if start == end:
+        return span(file, command.start, command.end)
+    first, last = command.place(start + len(command.word)), command.place(end + len(command.word))
+    return span(file, first, max(first, last))
 
 
 def foldings(file: File) -> List[Dict[str, Any]]:
@@ -90,7 +96,10 @@ def definition(files: Sequence[File], file: File, place: int) -> Optional[Tuple[
 
 
 def _makes(command: Command, name: str) -> bool:
-    """Whether a command makes something of a name: a definition also makes its constant, a type definition all its six names but the last."""
+    """Whether a command makes something of a name.
+
+    A definition also makes its constant, and a type definition all its six names but the last.
+    """
     names = command.text.split("`")[0].split()[1:]
     if command.word == "new_definition":
         names = names[:1] + [word for word in _quoted(command).split()[:1]]

@@ -120,7 +120,8 @@ class Publisher:
             self._tell({"kind": "end"})
             self._token = None
         else:
-            self._tell({"kind": "report", "percentage": 100 * known // max(1, len(entries)), "message": "%d of %d commands" % (known, len(entries))})
+            message = "%d of %d commands" % (known, len(entries))
+            self._tell({"kind": "report", "percentage": 100 * known // max(1, len(entries)), "message": message})
 
     def _tell(self, value: Dict[str, Any]) -> None:
         self.bridge.notify("$/progress", {"token": self._token, "value": value})

@@ -119,9 +119,11 @@ class Workspace:
             is_over = owner is file and len(owners) > protocol.THEORIES
             file.context, file.is_shadowed = [], owner is not file or is_over
             if is_over:
-                file.context.append(file.first_line("a server holds %d theories, and as many files are open before this one: close some" % protocol.THEORIES))
+                told = "a server holds %d theories, and as many files are open before this one: close some" % protocol.THEORIES
+                file.context.append(file.first_line(told))
             elif owner is not file:
-                file.context.append(file.first_line("the open file %s is the theory %s already: close it, or rename one" % (owner.path, file.theory.name)))
+                told = "the open file %s is the theory %s already: close it, or rename one" % (owner.path, file.theory.name)
+                file.context.append(file.first_line(told))
         return [document.file for document in self.documents.values() if document.file.is_sent]
 
     def _forget(self, file: File, imported: Versions) -> None:
