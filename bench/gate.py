@@ -10,6 +10,7 @@ import argparse
 import collections
 import json
 import os
+import re
 import subprocess
 import sys
 import tempfile
@@ -120,7 +121,8 @@ def main():
         took = (time.time() - begun) / 60
         processor, wall = watch.minutes()
         print(table(processor, wall))
-        print(read(log).decode(errors="replace").rstrip().rsplit("\n", 1)[-1])
+        outcome = re.compile(r"\b\d+ passed, \d+ failed")
+        print("\n".join(line for line in read(log).decode(errors="replace").splitlines() if outcome.search(line)))
         print(f"{sum(processor.values()):.0f} processor minutes, {took:.0f} minutes of wall time on {os.cpu_count()} cores")
         if words.keep:
             figures = {f"{crate} {kind}": {"processor": round(it, 2), "wall": round(wall[crate, kind], 2)} for (crate, kind), it in sorted(processor.items())}

@@ -1,1 +1,1 @@
-"""Tests of the clients: `python3 -m unittest discover -s clients/tests -t clients`, from the top of the repository."""
+"""Tests of the clients: `clients/tests/run`, or one file by `python3 -m unittest tests.test_text` in clients/."""
