@@ -128,11 +128,10 @@ class Workspace:
 
     def _forget(self, file: File, imported: Versions) -> None:
         """Forgets what is known below a file's first import, where an import's theory has changed."""
-        if self._imported.get(file.path) not in (None, imported) and imported:
-            first = next(number for number, command in enumerate(file.commands) if command.word == "import")
-            slot = file.slot(first)
-            if slot is not None:
-                file.theory.forget(slot)
+        first = next((number for number, command in enumerate(file.commands) if command.word == "import"), None)
+        slot = None if first is None else file.slot(first)
+        if slot is not None and self._imported.get(file.path) not in (None, imported):
+            file.theory.forget(slot)
         self._imported[file.path] = imported
 
     def _load(self, path: str) -> Optional[File]:
