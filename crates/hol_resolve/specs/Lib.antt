@@ -1,0 +1,11 @@
+pub mod Lookups
+pub mod LookupsView
+pub mod Reading
+pub mod ReadingView
+pub mod Quotations
+pub mod Readings
+pub mod Over
+pub mod Forward
+pub mod Written
+pub mod Steps
+pub mod Among

@@ -1,0 +1,139 @@
+//! What reading each quotation comes to, faults included.
+ghost use Rattle.std.specs.Prelude.{◌≡◌, IfOk};
+ghost use Rattle.hol_resolve.specs.declared.quotations.AnyQuotation.TheVariants as quoted;
+ghost use Rattle.hol_resolve.specs.LookupsView.{lookups_value};
+ghost use Rattle.hol_resolve.specs.Readings.{ATerm, reading_map, IsQuotedAs, AreAttempts, has_wrong_arity, has_no_typing, is_large, first_with, all_read};
+ghost use Rattle.hol_resolve.specs.ReadingView.{reading_value, attempt_value, attempts_value, readings_value};
+
+use crate::lookups::Lookups;
+use crate::quotations::AnyQuotation;
+use crate::reading::{Reading, read_term};
+use crate::readings::{Quoted, Readings};
+use hol_infer::{ReadingError, elaborate_type};
+use hol_notation_terms::{Quotation, TypeQuotation};
+use std::alloc::{AllocError, Global};
+
+/// What reading a quotation comes to.
+#[derive(Drop)]
+pub(crate) enum Attempt {
+    /// A type constructor has another number of arguments than its arity.
+    WrongArity,
+    /// No types make it well typed.
+    NoTyping,
+    /// Its reading has over 20,000 nodes.
+    LargeReading,
+    /// What it reads as.
+    ReadsAs(Quoted),
+}
+
+/// What reading the quotations comes to, each with its place.
+pub(crate) fn attempts_of(
+    alloc: Global,
+    quotations: &[AnyQuotation],
+    over: &Lookups,
+) -> Result<Vec<(usize, Attempt)>, AllocError>
+    ensures { IfOk result (λ attempts. AreAttempts (lookups_value over.now) quotations.now (attempts_value attempts.items)) }
+{
+    let mut attempts = Vec::with_capacity(alloc, quotations.len())?;
+    for quotation in quotations {
+        attempts.push((quotation.place(), attempt_of(alloc, quotation, over)?))?;
+    }
+    Ok(attempts)
+}
+
+fn attempt_of(
+    alloc: Global,
+    quotation: &AnyQuotation,
+    over: &Lookups,
+) -> Result<Attempt, AllocError>
+    ensures { IfOk result (λ attempt. IsQuotedAs (lookups_value over.now) quotation.now (attempt_value attempt)) }
+{
+    match quotation {
+        AnyQuotation::Term(term) => attempt_of_term(alloc, term, over),
+        AnyQuotation::Type(ty) => attempt_of_type(alloc, ty, over),
+    }
+}
+
+fn attempt_of_term(alloc: Global, term: &Quotation, over: &Lookups) -> Result<Attempt, AllocError>
+    ensures { IfOk result (λ attempt. IsQuotedAs (lookups_value over.now) (quoted.Term term.now) (attempt_value attempt)) }
+{
+    let reading = read_term(alloc, &term.term, over)?;
+    Ok(attempted(reading))
+}
+
+// The reading of a term, as that of a quotation.
+fn attempted(reading: Reading) -> Attempt
+    ensures { attempt_value result ≡ reading_map ATerm (reading_value reading) }
+{
+    match reading {
+        Reading::WrongArity => Attempt::WrongArity,
+        Reading::NoTyping => Attempt::NoTyping,
+        Reading::LargeReading => Attempt::LargeReading,
+        Reading::ReadsAs(term) => Attempt::ReadsAs(Quoted::Term(term)),
+    }
+}
+
+fn attempt_of_type(alloc: Global, ty: &TypeQuotation, over: &Lookups) -> Result<Attempt, AllocError>
+    ensures { IfOk result (λ attempt. IsQuotedAs (lookups_value over.now) (quoted.Type ty.now) (attempt_value attempt)) }
+{
+    match elaborate_type(alloc, &ty.ty, &over.types) {
+        Ok(ty) => Ok(Attempt::ReadsAs(Quoted::Type(ty))),
+        Err(ReadingError::Arity) => Ok(Attempt::WrongArity),
+        Err(ReadingError::Untypable) => unreachable!(),
+        Err(ReadingError::TooLarge) => Ok(Attempt::LargeReading),
+        Err(ReadingError::Memory) => Err(AllocError),
+    }
+}
+
+/// The place of the first quotation in which a type constructor has another number of arguments than its arity.
+pub(crate) fn first_wrong_arity(attempts: &[(usize, Attempt)]) -> Option<usize>
+    ensures { result ≡ first_with has_wrong_arity (attempts_value attempts.now) }
+{
+    for attempt in attempts {
+        match &attempt.1 {
+            Attempt::WrongArity => return Some(attempt.0),
+            Attempt::NoTyping | Attempt::LargeReading | Attempt::ReadsAs(_) => {}
+        }
+    }
+    None
+}
+
+/// The place of the first quotation that no types make well typed.
+pub(crate) fn first_untyped(attempts: &[(usize, Attempt)]) -> Option<usize>
+    ensures { result ≡ first_with has_no_typing (attempts_value attempts.now) }
+{
+    for attempt in attempts {
+        match &attempt.1 {
+            Attempt::NoTyping => return Some(attempt.0),
+            Attempt::WrongArity | Attempt::LargeReading | Attempt::ReadsAs(_) => {}
+        }
+    }
+    None
+}
+
+/// The place of the first quotation whose reading has over 20,000 nodes.
+pub(crate) fn first_large(attempts: &[(usize, Attempt)]) -> Option<usize>
+    ensures { result ≡ first_with is_large (attempts_value attempts.now) }
+{
+    for attempt in attempts {
+        match &attempt.1 {
+            Attempt::LargeReading => return Some(attempt.0),
+            Attempt::WrongArity | Attempt::NoTyping | Attempt::ReadsAs(_) => {}
+        }
+    }
+    None
+}
+
+/// What is read, each with its place.
+pub(crate) fn all_read(alloc: Global, attempts: &[(usize, Attempt)]) -> Result<Readings, AllocError>
+    ensures { IfOk result (λ readings. readings_value readings ≡ all_read (attempts_value attempts.now)) }
+{
+    let mut readings = Vec::with_capacity(alloc, attempts.len())?;
+    for attempt in attempts {
+        match &attempt.1 {
+            Attempt::ReadsAs(quoted) => readings.push((attempt.0, quoted.copy()?))?,
+            Attempt::WrongArity | Attempt::NoTyping | Attempt::LargeReading => {}
+        }
+    }
+    Ok(Readings::new(readings))
+}

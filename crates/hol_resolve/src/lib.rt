@@ -1,0 +1,33 @@
+//! What is written in a command that runs functions on goals comes to: the readings of its quotations, the theorems that rules make of those that are cited, and the
+//! arguments of a function on goals.
+//!
+//! Calls that answer a `Result` answer its memory error where memory is short, and nowhere else.
+#![tactic(auto)]
+
+mod arguments;
+mod attempts;
+mod forward_rule;
+mod hypotheses;
+mod laws;
+mod lookups;
+mod pairs;
+mod quotations;
+mod reading;
+mod reading_all;
+mod readings;
+mod refusal;
+mod rules;
+mod sizes;
+mod theorems;
+
+pub use arguments::arguments_written;
+pub use forward_rule::ForwardRule;
+pub use hypotheses::are_assumed;
+pub use laws::readings_are_over;
+pub use lookups::Lookups;
+pub use quotations::{AnyQuotation, quotations_of};
+pub use reading::{Reading, read_term};
+pub use reading_all::read_quotations;
+pub use readings::{Quoted, Readings};
+pub use refusal::Refusal;
+pub use theorems::theorem_written;
