@@ -160,6 +160,12 @@ class Bridging(unittest.TestCase):
         editor.until(lambda: editor.said(self.uri) == [])
         self.assertEqual(editor.versions[self.uri], 3)
 
+    def test_a_failed_goal_behind_an_open_proof_shows_none_of_its_goals(self):
+        editor = self.editor("--serve", EDITS + ",oops")
+        editor.open(self.uri, "g A `p /\\ q`;;\ng B `x x`;;\nqed;;")
+        editor.until(lambda: [found[:2] for found in editor.said(self.uri)] == [(1, 1), (1, 1), (2, 3)])
+        self.assertEqual([editor.goals(self.uri, line, 0).get("goals") for line in (1, 2)], [None, None])
+
     def test_without_replace_a_fresh_server_takes_the_file(self):
         editor = self.editor()
         editor.open(self.uri, proofs(2))
@@ -173,7 +179,8 @@ class Bridging(unittest.TestCase):
     def test_random_edits_give_the_reports_of_a_fresh_server(self):
         editor = self.editor("--serve", EDITS + ",oops")
         source, text = random.Random(5), proofs(3)
-        pieces = ["g X `p /\\ q`;;\n", "e CONJ_TAC;;\n", "qed;;\n", "oops;;\n", "(* c *)", "(*", "*)", ";;", "e REFL_TAC;;\n", "😀", "g Y `a = a`;;"]
+        pieces = 4 * ["g X `p /\\ q`;;\n", "g Y `a = a`;;", "g Z `x x`;;\n", "e CONJ_TAC;;\n", "e REFL_TAC;;\n", "qed;;\n"]
+        pieces += ["oops;;\n", "(* c *)", "(*", "*)", "*)", ";;", "😀"]
         editor.open(self.uri, text)
         for version in range(2, 102):
             start = source.randrange(len(text) + 1)
@@ -195,17 +202,20 @@ class Bridging(unittest.TestCase):
         documents.new_theory({"name": "A", "at": 0})
         for at, entry in enumerate(file.theory.entries):
             documents.insert({"theory": "A", "at": at, "text": entry.text})
-        shown = None
+        states, open_goals = [], None
+        for at in range(len(file.theory.entries)):
+            report = documents.report({"theory": "A", "at": at})
+            if "refusal" not in report:
+                open_goals = [goal["goal"] for goal in report["goals"]] if "goals" in report else None
+            states.append((report, open_goals))
         for number, command in enumerate(file.commands):
-            report = documents.report({"theory": "A", "at": file.slot(number)})
+            report, open_goals = states[file.slot(number)]
             line, column = _position(text, command.start)
             said = editor.goals(self.uri, line, column)
             self.assertEqual("refusal" in report, "error" in said, (text, command, report, said))
-            shown = report if "refusal" not in report else shown
-            if "goals" in report:
-                self.assertEqual([goal["ty"] for goal in said["goals"]["goals"]], [goal["goal"] for goal in report["goals"]])
-            elif "made" in report:
-                self.assertEqual(said["messages"], report["made"])
+            shown = [goal["ty"] for goal in said["goals"]["goals"]] if "goals" in said else None
+            self.assertEqual(shown, open_goals, (text, command))
+            self.assertEqual(said["messages"], report.get("made", []))
 
     def test_faults_are_survived(self):
         for fault in ("die:9", "end:12", "bad:10", "memory:9"):
@@ -260,6 +270,13 @@ class Bridging(unittest.TestCase):
         self.assertEqual(editor.goals(self.uri, 10, 1)["messages"], ["thm N1 |- f x = f x"])
         lenses = editor.ask("textDocument/codeLens", document)
         self.assertEqual(editor.ask("codeLens/resolve", lenses[1])["command"]["title"], "rests on no axioms or definitions of its own")
+
+    def test_a_long_term_is_shown_in_part(self):
+        editor = self.editor("--serve", EDITS)
+        editor.open(self.uri, "g A `%s`;;" % ("x" * 60_000))
+        said = editor.goals(self.uri, 0, 0)
+        self.assertTrue(said["text"].endswith("x .. (40000 characters more)\n"))
+        self.assertLess(len(said["goals"]["goals"][0]["ty"]), 21_000)
 
     def test_two_files_and_a_closed_one(self):
         editor = self.editor("--serve", EDITS + ",import")

@@ -11,6 +11,10 @@ from holls.protocol import Goal, Goals, Lost, Made, Refusal
 from holls.session import Job
 
 
+SHOWN = 20_000
+"""So many characters of a term are shown. A report has no limit, and editors have."""
+
+
 @dataclass(frozen=True)
 class State:
     """What is known at a place: the open goals or None where no proof is open, what was made, why the command there was refused.
@@ -26,7 +30,10 @@ class State:
 
 
 def state(file: File, number: Optional[int]) -> Union[State, Job]:
-    """The state after a command, looking back over refused ones; or the job that has to be done before it is known."""
+    """The state after a command, looking back over refused ones; or the job that has to be done before it is known.
+
+    A hidden `oops` leaves no proof open, so that nothing above it matters.
+    """
     errors: List[str] = []
     for at in range(-1 if number is None else number, -1, -1):
         entry = file.entry(at)
@@ -39,6 +46,8 @@ def state(file: File, number: Optional[int]) -> Union[State, Job]:
             return State(number, None, report if at == number else None, errors)
         if at == number:
             errors += _error(file, at, report)
+        if file.is_behind_oops(at):
+            break
     return State(number, None, None, errors)
 
 
@@ -57,7 +66,7 @@ def text(known: State) -> str:
     if not known.is_known:
         pass
     elif known.made is not None:
-        lines += list(known.made.entries) or ["no proof is open"]
+        lines += [_shown(entry) for entry in known.made.entries] or ["no proof is open"]
     elif known.goals is None:
         lines.append("no proof is open")
     elif not known.goals.goals:
@@ -71,14 +80,19 @@ def text(known: State) -> str:
 def _goal(goal: Goal, number: int, count: int) -> List[str]:
     """A goal: its variables, its assumptions from the oldest, a line, the conclusion."""
     lines = ["goal %d of %d" % (number, count)] if count > 1 else ["1 goal"]
-    lines += ["  " + name.replace(":", " : ", 1) for name in goal.free]
-    lines += ["  %d  %s" % (at, shown) for at, shown in enumerate(reversed(goal.assumptions))]
-    return lines + ["  " + "-" * 40, "  " + goal.conclusion, ""]
+    lines += ["  " + _shown(name).replace(":", " : ", 1) for name in goal.free]
+    lines += ["  %d  %s" % (at, _shown(text)) for at, text in enumerate(reversed(goal.assumptions))]
+    return lines + ["  " + "-" * 40, "  " + _shown(goal.conclusion), ""]
+
+
+def _shown(term: str) -> str:
+    """A term's text, or its beginning with a word on the rest."""
+    return term if len(term) <= SHOWN else "%s .. (%d characters more)" % (term[:SHOWN], len(term) - SHOWN)
 
 
 def answer(known: State) -> Dict[str, Any]:
     """The state as coq-lsp's `proof/goals` answers it, with the window's text beside it."""
-    reply: Dict[str, Any] = {"messages": list(known.made.entries) if known.made else [], "text": text(known)}
+    reply: Dict[str, Any] = {"messages": _made(known), "text": text(known)}
     if known.goals is not None:
         reply["goals"] = {"goals": [_json(goal) for goal in known.goals.goals], "stack": [], "shelf": [], "given_up": []}
     if known.errors:
@@ -86,7 +100,11 @@ def answer(known: State) -> Dict[str, Any]:
     return reply
 
 
+def _made(known: State) -> List[str]:
+    return [_shown(entry) for entry in known.made.entries] if known.made else []
+
+
 def _json(goal: Goal) -> Dict[str, Any]:
-    free = [{"names": [name.split(":")[0]], "ty": name.split(":", 1)[-1]} for name in goal.free]
-    assumed = [{"names": [str(at)], "ty": shown} for at, shown in enumerate(reversed(goal.assumptions))]
-    return {"hyps": free + assumed, "ty": goal.conclusion}
+    free = [{"names": [name.split(":")[0]], "ty": _shown(name.split(":", 1)[-1])} for name in goal.free]
+    assumed = [{"names": [str(at)], "ty": _shown(text)} for at, text in enumerate(reversed(goal.assumptions))]
+    return {"hyps": free + assumed, "ty": _shown(goal.conclusion)}
