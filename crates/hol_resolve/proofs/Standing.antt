@@ -5,9 +5,11 @@ use Rattle.std.proofs.lemmas.Bool.{eqb-true, and_parts, and_from}
 use Rattle.std.proofs.lemmas.Slice.Eq.{bytes_eq-Decides}
 use Rattle.hol_types.specs.Tree.{TypeTree, TypeList, TyVar, TyApp, no_types, more_types, type_size}
 use Rattle.hol_terms.specs.Nameless.{Nameless, free, bound, fixed, app, lam, base_of, nameless_type}
-use Rattle.hol_kernel.specs.Items.{Items}
+use Rattle.hol_kernel.specs.Items.{Items, IsSubset, IsWithin}
 use Rattle.hol_kernel.specs.Signature.{has_arity, has_constant}
-use Rattle.hol_kernel.specs.Typing.{types_count, is_type, are_types, is_known, is_typed}
+use Rattle.hol_kernel.specs.Typing.{types_count, is_type, are_types, is_known, is_typed, type_over}
+use Rattle.hol_kernel.proofs.Subsets.{within_of_subset}
+use Rattle.hol_kernel.proofs.Weaken.{is_type_more, HasType-more}
 use Rattle.hol_notation_terms.specs.Text.{TypeText, TypeTexts, TermText, Ident, Arrow, Apply, no_types as no_texts, more_types as more_texts}
 use Rattle.hol_infer.specs.Resolving.{arity_of, ident_type, type_of_text, types_of_texts, text_count, stands_alone, takes as takes_count, has_arities, have_arities, raw_of}
 use Rattle.hol_infer.specs.Standing.{stands, all_stand, TermStands, AreStanding, types_count as count}
@@ -140,3 +142,20 @@ module _ (basis : Items) (over : LookupsValue) (s : AreStanding (has_arity basis
 
 pub readings_are_over : (basis : Items) (over : LookupsValue) (quotations : List AnyQuotation) (readings : ReadingsValue) → AreStanding (has_arity basis) (has_constant basis) over.types over.constants → AreRead over quotations (Ok readings) → AreOver basis readings
 readings_are_over basis over quotations readings s h = read_over basis over s quotations readings h
+
+-- ---- larger bases
+
+typed_more : (few more : Items) (within : IsWithin few more) (t : Nameless) → is_typed few t ≡ true → is_typed more t ≡ true
+typed_more few more within t e = by (type_over few t) refl e
+  where
+    by : (o : Option TypeTree) → type_over few t ≡ o → is_some o ≡ true → is_typed more t ≡ true
+    by None h g = absurd (cc)
+    by (Some a) h g = ap is_some (HasType-more few more within t a h)
+
+quoted_more : (few more : Items) (within : IsWithin few more) (v : QuotedValue) → IsQuotedOver few v → IsQuotedOver more v
+quoted_more few more within (ATerm t) h = typed_more few more within t h
+quoted_more few more within (AType a) h = is_type_more few more within a h
+
+pub readings_widen : (few more : Items) (readings : ReadingsValue) → IsSubset few more → AreOver few readings → AreOver more readings
+readings_widen few more [] within h = tt
+readings_widen few more (r ∷ readings) within h = (quoted_more few more (within_of_subset few more within) r.1 h.0, readings_widen few more readings within h.1)

@@ -1,5 +1,5 @@
-//! What is written in a command that runs functions on goals comes to: the readings of its quotations, the theorems that rules make of those that are cited, and the
-//! arguments of a function on goals.
+//! What a command that runs functions on goals has written: the readings of its quotations, the theorems that rules make of those that it cites, and the arguments of a
+//! function on goals.
 //!
 //! Calls that answer a `Result` answer its memory error where memory is short, and nowhere else.
 #![tactic(auto)]
