@@ -5,3 +5,5 @@ pub mod TypeMatches
 pub mod MatchLaws
 pub mod Holding
 pub mod Staying
+pub mod Opened
+pub mod RuleSets

@@ -1,5 +1,5 @@
 -- What a match leaves as it is: the type variables and the free variables of some terms, such as a theorem's hypotheses.
-use Rattle.std.specs.Prelude.{ℕ, List, [], ◌∷◌, ◌++◌, cond}
+use Rattle.std.specs.Prelude.{◌≡◌, ℕ, List, [], ◌∷◌, ◌++◌, cond}
 use Rattle.hol_types.specs.Tree.{TypeTree}
 use Rattle.hol_types.specs.Names.{is_among}
 use Rattle.hol_terms.specs.Nameless.{Nameless, free_occurrences}
@@ -33,3 +33,7 @@ stays_of terms = staying (fixed_names [] terms) (fixed_variables [] terms)
 -- the same of what the program keeps of the terms
 abbrev pub stays : Fixed → InstanceValue
 stays f = staying f.names.items f.variables.items
+
+-- the program keeps these of the terms
+abbrev pub AreFixed : List Nameless → Fixed → Type 0
+AreFixed terms f = (f.names.items ≡ fixed_names [] terms) × (f.variables.items ≡ fixed_variables [] terms)

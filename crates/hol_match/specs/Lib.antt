@@ -4,3 +4,7 @@ pub mod Matching
 pub mod Matches
 pub mod Fixed
 pub mod Places
+pub mod Rules
+pub mod RuleView
+pub mod RuleSets
+pub mod SetView

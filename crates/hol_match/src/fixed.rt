@@ -6,7 +6,7 @@ ghost use Rattle.hol_types.specs.Subst.{type_lookup};
 ghost use Rattle.hol_terms.specs.Nameless.{nameless, free};
 ghost use Rattle.hol_terms.specs.Scoped.{add_all, add_new, binds};
 ghost use Rattle.hol_subst.specs.Substitution.{term_lookup};
-ghost use Rattle.hol_match.specs.Fixed.{add_name, add_names, fixed_names, fixed_variables, stays, stays_of};
+ghost use Rattle.hol_match.specs.Fixed.{AreFixed, add_name, add_names, fixed_names, fixed_variables, stays, stays_of};
 
 use hol_subst::term_tyvars;
 use hol_terms::{Term, Variable};
@@ -23,7 +23,8 @@ pub struct Fixed {
 impl Fixed {
     /// The type variables and the free variables of the terms.
     pub fn of(alloc: Global, terms: &[Term]) -> Result<Fixed, AllocError>
-        ensures { IfOk result (λ f. stays f ≡ stays_of (map (λ t. nameless [] t) terms.now)) }
+        ensures kept { IfOk result (λ f. AreFixed (map (λ t. nameless [] t) terms.now) f) }
+        ensures stays { IfOk result (λ f. stays f ≡ stays_of (map (λ t. nameless [] t) terms.now)) }
     {
         let names = names_of(alloc, terms)?;
         let variables = variables_of(alloc, terms)?;
@@ -33,7 +34,8 @@ impl Fixed {
     /// Whether the type variable is one of these.
     #[tactic(auto, using(crate::proofs::Lookups::own_type))]
     pub(crate) fn has_name(&self, name: &Name) -> bool
-        ensures { type_lookup (stays self.now).types name.now ≡ (if result then Some (TyVar name.now) else None) }
+        ensures among { result ≡ is_among self.now.names.items name.now }
+        ensures lookup { type_lookup (stays self.now).types name.now ≡ (if result then Some (TyVar name.now) else None) }
     {
         has_name(&self.names, name)
     }
@@ -41,14 +43,15 @@ impl Fixed {
     /// Whether the variable is one of these.
     #[tactic(auto, using(crate::proofs::Lookups::own_term))]
     pub(crate) fn has_variable(&self, v: &Variable) -> bool
-        ensures { term_lookup (stays self.now).terms v.now ≡ (if result then Some (free v.now) else None) }
+        ensures among { result ≡ binds self.now.variables.items v.now }
+        ensures lookup { term_lookup (stays self.now).terms v.now ≡ (if result then Some (free v.now) else None) }
     {
         has_variable(&self.variables, v)
     }
 }
 
-// Whether the name is one of these.
-fn has_name(names: &[Name], name: &Name) -> bool
+/// Whether the name is one of these.
+pub(crate) fn has_name(names: &[Name], name: &Name) -> bool
     ensures { result ≡ is_among names.now name.now }
 {
     for other in names {

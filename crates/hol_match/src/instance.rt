@@ -45,6 +45,15 @@ impl Instance {
         }
     }
 
+    /// An equal instance.
+    pub fn copy(&self, alloc: Global) -> Result<Instance, AllocError>
+        ensures { IfOk result (λ a. a ≡ self.now) }
+    {
+        let types = copied_types(alloc, &self.types)?;
+        let terms = copied_terms(alloc, &self.terms)?;
+        Ok(Instance { types, terms })
+    }
+
     /// The types, each with the name of its type variable.
     pub fn types(&self) -> &[(Ty, Name)]
         ensures { result.now ≡ self.now.types }
@@ -137,4 +146,26 @@ pub(crate) fn is_variable(t: &Term, v: &Variable) -> bool
         TermNode::Var(w) => w.same(v),
         TermNode::Const(_, _) | TermNode::Comb(_, _) | TermNode::Abs(_, _) => false,
     }
+}
+
+// Copies of the types.
+fn copied_types(alloc: Global, pairs: &[(Ty, Name)]) -> Result<Vec<(Ty, Name)>, AllocError>
+    ensures { IfOk result (λ copies. copies.items ≡ pairs.now) }
+{
+    let mut copies = Vec::with_capacity(alloc, pairs.len())?;
+    for pair in pairs {
+        copies.push((pair.0.copy()?, pair.1.copy()?))?;
+    }
+    Ok(copies)
+}
+
+// Copies of the terms.
+fn copied_terms(alloc: Global, pairs: &[(Term, Term)]) -> Result<Vec<(Term, Term)>, AllocError>
+    ensures { IfOk result (λ copies. copies.items ≡ pairs.now) }
+{
+    let mut copies = Vec::with_capacity(alloc, pairs.len())?;
+    for pair in pairs {
+        copies.push((pair.0.copy()?, pair.1.copy()?))?;
+    }
+    Ok(copies)
 }

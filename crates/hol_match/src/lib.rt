@@ -7,7 +7,10 @@ mod fixed;
 mod instance;
 pub mod laws;
 mod matching;
+mod rule_set;
+mod rules;
 mod type_matching;
 
 pub use instance::Instance;
 pub use matching::term_match;
+pub use rule_set::{RuleSet, SetRule};

@@ -1,0 +1,7 @@
+use Rattle.hol_terms.specs.Nameless.{nameless}
+use Rattle.std.specs.Prelude.{[]}
+use Rattle.hol_match.proofs.Opened.{nodes}
+use Rattle.hol_match.proofs.rules.+rules_in.Given as goal
+
+abbrev pub decreases-rules_in : goal.decreases-rules_in
+decreases-rules_in l = nodes (nameless [] l.p.now)

@@ -1,0 +1,57 @@
+-- The rules of some theorems, each with the number of its theorem and its place among that theorem's rules, and the first one that fits a term.
+-- Source: this project.
+use Rattle.std.specs.Prelude.{◌≡◌, ℕ, ◌+◌, List, [], ◌∷◌, ◌++◌, map, length, drop, Option, Some, None}
+use Rattle.std.specs.Option.{option_map}
+use Rattle.hol_terms.specs.Named.{Named}
+use Rattle.hol_terms.specs.Nameless.{Nameless, nameless}
+use Rattle.hol_subst.specs.Hypotheses.{hyps_of}
+use Rattle.hol_kernel.specs.Sequent.{Sequent}
+use Rattle.hol_match.specs.Instance.{InstanceValue, instance_of}
+use Rattle.hol_match.specs.Fixed.{stays_of}
+use Rattle.hol_match.specs.Matching.{matched}
+use Rattle.hol_match.specs.Rules.{RuleValue, AreRulesOf}
+
+-- a rule, its theorem's number, its place among that theorem's rules, and what of its left side stays
+pub record RuleEntry : Type 0 where
+  pub rule : RuleValue
+  pub theorem : ℕ
+  pub place : ℕ
+  pub stays : InstanceValue
+
+-- the rules of the theorem of number i, the first one at place k
+abbrev pub entries : ℕ → ℕ → InstanceValue → List RuleValue → List RuleEntry
+entries i k s [] = []
+entries i k s (r ∷ rules) = record { rule = r; theorem = i; place = k; stays = s } ∷ entries i (k + 1) s rules
+
+-- these are the rules of the sequent of number i, its hypotheses being taken in some order
+pub record AreEntriesOf (i : ℕ) (s : Sequent) (es : List RuleEntry) : Type 0 where
+  pub hyps : List Named
+  pub are_hyps : hyps_of hyps ≡ s.hyps
+  pub rules : List RuleValue
+  pub are_rules : AreRulesOf (map (λ t. nameless [] t) hyps) s.concl rules
+  pub are_entries : es ≡ entries i 0 (stays_of (map (λ t. nameless [] t) hyps)) rules
+
+-- these are the rules of the sequents, in order, the first sequent having number i
+abbrev pub AreEntries : ℕ → List Sequent → List RuleEntry → Type 0
+AreEntries i [] es = es ≡ []
+AreEntries i (s ∷ sequents) es = (own : List RuleEntry) × (rest : List RuleEntry) × AreEntriesOf i s own × AreEntries (i + 1) sequents rest × (es ≡ own ++ rest)
+
+-- ---- the first rule that fits
+
+-- what is found beside what stays
+abbrev pub beside : InstanceValue → InstanceValue → InstanceValue
+beside s q = instance_of (drop (length s.types) q.types) (drop (length s.terms) q.terms)
+
+-- the match of the rule's left side with the term
+abbrev pub fit : RuleEntry → Nameless → Option InstanceValue
+fit e t = option_map (beside e.stays) (matched 0 e.rule.left e.stays t)
+
+-- the match of the rule of number i, or else what a later rule gives
+abbrev pub or_later : ℕ → Option InstanceValue → Option (ℕ × InstanceValue) → Option (ℕ × InstanceValue)
+or_later i None later = later
+or_later i (Some a) later = Some (i, a)
+
+-- the number of the first rule that matches the term, and its match; the first rule has number i
+abbrev pub first_fit : ℕ → List RuleEntry → Nameless → Option (ℕ × InstanceValue)
+first_fit i [] t = None
+first_fit i (e ∷ es) t = or_later i (fit e t) (first_fit (i + 1) es t)

@@ -1,0 +1,280 @@
+//! The rules of a theorem.
+ghost use Rattle.std.specs.Prelude.{◌≡◌, ◌∷◌, ◌++◌, ◌||◌, [], Some, false, map, not, IfOk, OnOk};
+ghost use Rattle.std.specs.List.{list_all, filter};
+ghost use Rattle.hol_types.specs.Names.{is_among};
+ghost use Rattle.hol_terms.specs.Named.{named_type};
+ghost use Rattle.hol_terms.specs.Nameless.{nameless, free, base_of};
+ghost use Rattle.hol_terms.specs.Scoped.{binds};
+ghost use Rattle.hol_subst.specs.Closing.{open_with};
+ghost use Rattle.hol_subst.specs.FreeName.{is_taken};
+ghost use Rattle.hol_formulas.specs.Equation.{bool_type};
+ghost use Rattle.hol_formulas.specs.Formula.{Abstraction};
+ghost use Rattle.hol_match.specs.Rules.{rule, is_given, is_determined, single_rule, IsOpened, HasRules, generalized, pattern_variables, AreRulesOf};
+ghost use Rattle.hol_match.specs.RuleView.{rule_value, rule_values};
+ghost use Rattle.hol_match.specs.Fixed.{AreFixed};
+
+use crate::fixed::{Fixed, has_name};
+use hol_formulas::{dest_conj, dest_eq, dest_forall, dest_neg, mk_falsity, mk_forall, mk_truth};
+use hol_subst::{free_name, term_tyvars, vsubst_good};
+use hol_terms::{Term, Variable};
+use hol_types::Name;
+use std::alloc::{AllocError, Global};
+
+/// A rule: the left side is rewritten to the right side.
+#[derive(Drop)]
+pub struct Rule {
+    left: Term,
+    right: Term,
+}
+
+impl Rule {
+    /// The left side.
+    pub(crate) fn left(&self) -> &Term
+        ensures { result.now ≡ self.now.left }
+    {
+        &self.left
+    }
+
+    /// The right side.
+    pub(crate) fn right(&self) -> &Term
+        ensures { result.now ≡ self.now.right }
+    {
+        &self.right
+    }
+
+    /// An equal rule.
+    pub(crate) fn copy(&self) -> Result<Rule, AllocError>
+        ensures { IfOk result (λ r. rule_value r ≡ rule_value self.now) }
+    {
+        copies(&self.left, &self.right)
+    }
+}
+
+/// The rules of a theorem with these hypotheses and this conclusion, in order.
+///
+/// Outer quantifiers are taken off, and conjunctions give the rules of their parts, both repeatedly. A part `l = r` rewrites `l` to `r`,
+/// if `l` has each variable and type variable of `r` that is not of the hypotheses. `~p` rewrites `p` to `F`, and all else rewrites to
+/// `T`. The variables that may be instantiated have names that no other variable of the theorem has.
+pub(crate) fn rules_of(
+    alloc: Global,
+    hyps: &[Term],
+    fixed: &Fixed,
+    p: &Term,
+) -> Result<Vec<Rule>, AllocError>
+    requires typed { named_type p.now ≡ Some bool_type }
+    requires fixed { AreFixed (map (λ t. nameless [] t) hyps.now) fixed.now }
+    ensures { IfOk result (λ rules. AreRulesOf (map (λ t. nameless [] t) hyps.now) (nameless [] p.now) (rule_values rules.items)) }
+{
+    let variables = pattern_variables(alloc, fixed, p)?;
+    let whole = generalized(alloc, &variables, p)?;
+    rules_in(alloc, hyps, fixed, &whole)
+}
+
+// The free variables of the conclusion that are not fixed.
+fn pattern_variables(alloc: Global, fixed: &Fixed, p: &Term) -> Result<Vec<Variable>, AllocError>
+    ensures { IfOk result (λ vs. vs.items ≡ pattern_variables fixed.now.variables.items (nameless [] p.now)) }
+{
+    let all = p.frees(alloc)?;
+    unfixed(alloc, fixed, &all)
+}
+
+// Those of the variables that are not fixed.
+fn unfixed(alloc: Global, fixed: &Fixed, all: &[Variable]) -> Result<Vec<Variable>, AllocError>
+    ensures { IfOk result (λ vs. vs.items ≡ filter (λ v. not (binds fixed.now.variables.items v)) all.now) }
+{
+    let mut rest = Vec::new(alloc);
+    for v in all {
+        if fixed.has_variable(v) {
+            continue;
+        }
+        rest.push(v.copy()?)?;
+    }
+    Ok(rest)
+}
+
+// The formula, generalized over each of the variables in turn.
+#[tactic(auto, using(crate::proofs::Opened::generalized_more))]
+fn generalized(alloc: Global, variables: &[Variable], p: &Term) -> Result<Term, AllocError>
+    requires typed { named_type p.now ≡ Some bool_type }
+    ensures { IfOk result (λ t. nameless [] t ≡ generalized variables.now (nameless [] p.now)) }
+{
+    let mut whole = p.copy()?;
+    for v in variables {
+        whole = mk_forall(alloc, v, &whole)?;
+    }
+    Ok(whole)
+}
+
+// The rules of a formula whose outer quantifiers bind its pattern variables.
+#[tactic(auto, using(crate::proofs::Opened::smaller))]
+fn rules_in(alloc: Global, hyps: &[Term], fixed: &Fixed, p: &Term) -> Result<Vec<Rule>, AllocError>
+    requires fixed { AreFixed (map (λ t. nameless [] t) hyps.now) fixed.now }
+    ensures { IfOk result (λ rules. HasRules (map (λ t. nameless [] t) hyps.now) (nameless [] p.now) (rule_values rules.items)) }
+{
+    if let Some((v, body)) = dest_forall(p) {
+        let opened = opened(alloc, hyps, p, v, body)?;
+        return rules_in(alloc, hyps, fixed, &opened);
+    }
+    if let Some((q, r)) = dest_conj(p) {
+        let first = rules_in(alloc, hyps, fixed, q)?;
+        let second = rules_in(alloc, hyps, fixed, r)?;
+        return joined(first, &second);
+    }
+    let rule = single_rule(alloc, fixed, p)?;
+    alone(alloc, rule)
+}
+
+// The rules of both.
+fn joined(first: Vec<Rule>, second: &[Rule]) -> Result<Vec<Rule>, AllocError>
+    ensures { IfOk result (λ rules. rule_values rules.items ≡ rule_values first.items ++ rule_values second.now) }
+{
+    let mut rules = first;
+    add_rules(&mut rules, second)?;
+    Ok(rules)
+}
+
+// Puts copies of the rules at the end.
+fn add_rules(rules: &mut Vec<Rule>, more: &[Rule]) -> Result<(), AllocError>
+    ensures { OnOk result (rule_values rules.new.items ≡ rule_values rules.old.items ++ rule_values more.now) }
+{
+    for rule in more {
+        add_rule(rules, rule)?;
+    }
+    Ok(())
+}
+
+// Puts a copy of the rule at the end.
+fn add_rule(rules: &mut Vec<Rule>, rule: &Rule) -> Result<(), AllocError>
+    ensures { OnOk result (rule_values rules.new.items ≡ rule_values rules.old.items ++ rule_value rule.now ∷ []) }
+{
+    let more = rule.copy()?;
+    rules.push(more)?;
+    Ok(())
+}
+
+// One rule.
+fn alone(alloc: Global, rule: Rule) -> Result<Vec<Rule>, AllocError>
+    ensures { IfOk result (λ rules. rule_values rules.items ≡ rule_value rule ∷ []) }
+{
+    let mut rules = Vec::with_capacity(alloc, 1)?;
+    rules.push(rule)?;
+    Ok(rules)
+}
+
+// The body of `!v. p`, where `v` is called by a name that none of the terms has.
+#[tactic(auto, using(crate::proofs::Opened::opening))]
+fn opened(
+    alloc: Global,
+    hyps: &[Term],
+    p: &Term,
+    v: &Variable,
+    body: &Term,
+) -> Result<Term, AllocError>
+    ensures { IfOk result (λ t. IsOpened (map (λ t. nameless [] t) hyps.now) (nameless [] p.now) (record { base = base_of v.now.0; domain = v.now.1; body = nameless (v.now ∷ []) body.now }) (nameless [] t)) }
+{
+    let name = unused_name(alloc, hyps, p, v.name())?;
+    if name.same(v.name()) {
+        return body.copy();
+    }
+    let u = Variable::new(&name, v.ty())?;
+    renamed(alloc, &u, v, body)
+}
+
+// The name, with the fewest primes that make it differ from those of all variables and constants of the terms.
+#[tactic(auto, using(crate::proofs::Opened::not_taken))]
+fn unused_name(alloc: Global, hyps: &[Term], p: &Term, name: &Name) -> Result<Name, AllocError>
+    ensures { IfOk result (λ a. is_taken (nameless [] p.now ∷ map (λ t. nameless [] t) hyps.now) a ≡ false) }
+{
+    let mut avoid = Vec::with_capacity(alloc, hyps.len() + 1)?;
+    avoid.push(p.copy()?)?;
+    copy_to(&mut avoid, hyps)?;
+    free_name(alloc, &avoid, name)
+}
+
+// The body with the variable `u` for `v`, which has the same type.
+#[tactic(auto, using(crate::proofs::Opened::other_variable))]
+fn renamed(alloc: Global, u: &Variable, v: &Variable, body: &Term) -> Result<Term, AllocError>
+    requires typed { u.now.1 ≡ v.now.1 }
+    ensures { IfOk result (λ t. nameless [] t ≡ open_with (free u.now) 0 (nameless (v.now ∷ []) body.now)) }
+{
+    let pairs = [(Term::var(alloc, u)?, Term::var(alloc, v)?)];
+    vsubst_good(alloc, &pairs, body)
+}
+
+// The one rule of a formula that is neither quantified nor a conjunction.
+fn single_rule(alloc: Global, fixed: &Fixed, p: &Term) -> Result<Rule, AllocError>
+    ensures { IfOk result (λ r. rule_value r ≡ single_rule fixed.now.names.items fixed.now.variables.items (nameless [] p.now)) }
+{
+    if let Some(sides) = dest_eq(p) {
+        if is_determined(alloc, fixed, sides.left, sides.right)? {
+            return copies(sides.left, sides.right);
+        }
+    }
+    match dest_neg(p) {
+        Some(q) => {
+            let falsity = mk_falsity(alloc)?;
+            copies(q, &falsity)
+        }
+        None => {
+            let truth = mk_truth(alloc)?;
+            copies(p, &truth)
+        }
+    }
+}
+
+// The rule of these sides.
+fn copies(left: &Term, right: &Term) -> Result<Rule, AllocError>
+    ensures { IfOk result (λ r. rule_value r ≡ rule (nameless [] left.now) (nameless [] right.now)) }
+{
+    Ok(Rule {
+        left: left.copy()?,
+        right: right.copy()?,
+    })
+}
+
+// Whether each variable and type variable of `r` stays, or is in `l`.
+fn is_determined(alloc: Global, fixed: &Fixed, l: &Term, r: &Term) -> Result<bool, AllocError>
+    ensures { IfOk result (λ b. b ≡ is_determined fixed.now.names.items fixed.now.variables.items (nameless [] l.now) (nameless [] r.now)) }
+{
+    let variables = r.frees(alloc)?;
+    if !are_given(fixed, l, &variables) {
+        return Ok(false);
+    }
+    let names = term_tyvars(alloc, r)?;
+    let own = term_tyvars(alloc, l)?;
+    Ok(are_types_given(fixed, &own, &names))
+}
+
+// Whether each of the variables stays, or is free in `l`.
+fn are_given(fixed: &Fixed, l: &Term, variables: &[Variable]) -> bool
+    ensures { result ≡ list_all (is_given fixed.now.variables.items (nameless [] l.now)) variables.now }
+{
+    for v in variables {
+        if !fixed.has_variable(v) && !l.vfree_in(v) {
+            return false;
+        }
+    }
+    true
+}
+
+// Whether each of the type variables stays, or is one of these.
+fn are_types_given(fixed: &Fixed, own: &[Name], names: &[Name]) -> bool
+    ensures { result ≡ list_all (λ a. is_among fixed.now.names.items a || is_among own.now a) names.now }
+{
+    for name in names {
+        if !fixed.has_name(name) && !has_name(own, name) {
+            return false;
+        }
+    }
+    true
+}
+
+// Puts copies of the terms at the end.
+fn copy_to(all: &mut Vec<Term>, terms: &[Term]) -> Result<(), AllocError>
+    ensures { OnOk result (all.new.items ≡ all.old.items ++ terms.now) }
+{
+    for t in terms {
+        all.push(t.copy()?)?;
+    }
+    Ok(())
+}
