@@ -9,7 +9,7 @@ use Rattle.hol_just.specs.Made.{IsMade}
 use Rattle.hol_kernel.specs.Items.{Items}
 use Rattle.hol_kernel.specs.Sequent.{Sequent}
 use Rattle.hol_kernel.specs.Theorem.{Theorem, theorem_on, over}
-use Rattle.hol_just.specs.Inference.{from_one, from_two, inferred}
+use Rattle.hol_just.specs.Inference.{from_one, from_two, from_three, inferred}
 use Rattle.hol_just.specs.Over.{CutValue, IsFirst, IsTaken, Infers}
 
 -- the sequent of a theorem that a rule gave
@@ -122,4 +122,26 @@ module _ (rule : Sequent → Sequent → Option Sequent) (old mid : CutValue) (a
         basis = rest.basis ∙ p.basis;
         before = rest.before ∙ p.before;
         after = ap (inferred (from_two rule)) p.after ∙ first_given rule a.sequent mid.after ∙ rest.after;
+      }
+
+-- ---- rules of three theorems, the first of which was taken
+
+two_left : (rule : Sequent → Sequent → Sequent → Option Sequent) (s : Sequent) (rest : List Sequent) → inferred (from_three rule) (s ∷ rest) ≡ inferred (from_two (rule s)) rest
+two_left rule s [] = refl
+two_left rule s (b ∷ []) = refl
+two_left rule s (b ∷ c ∷ rest) = refl
+
+module _ (rule : Sequent → Sequent → Sequent → Option Sequent) (old mid : CutValue) (a : Theorem) (p : IsFirst old mid a) where
+  pub third_over : a.basis ≡ mid.basis
+  third_over = p.over ∙ sym p.basis
+
+  pub third_applies : IsSome (inferred (from_three rule) old.after) → IsSome (inferred (from_two (rule a.sequent)) mid.after)
+  third_applies some = subst (λ (o : Option (List Sequent)). IsSome o) (ap (inferred (from_three rule)) p.after ∙ two_left rule a.sequent mid.after) some
+
+  pub third_infers : (new : CutValue) → Infers (from_two (rule a.sequent)) mid new → Infers (from_three rule) old new
+  third_infers new rest =
+      record {
+        basis = rest.basis ∙ p.basis;
+        before = rest.before ∙ p.before;
+        after = ap (inferred (from_three rule)) p.after ∙ two_left rule a.sequent mid.after ∙ rest.after;
       }

@@ -5,7 +5,7 @@ use Rattle.std.proofs.Common.{ap, sym, ◌∙◌, subst, arith}
 use Rattle.hol_kernel.specs.Items.{Items}
 use Rattle.hol_kernel.specs.Sequent.{Hyps, Sequent}
 use Rattle.hol_goal.specs.Goal.{GoalValue}
-use Rattle.hol_just.specs.Inference.{Inference, from_none, from_one, from_two, inferred}
+use Rattle.hol_just.specs.Inference.{Inference, from_none, from_one, from_two, from_three, inferred}
 use Rattle.hol_just.specs.Reasons.{inference}
 use Rattle.hol_just.specs.Gives.{inferred_at, then_by, gives, moved, move_by}
 use Rattle.hol_just.specs.Valid.{AchieveAll, Answers}
@@ -23,6 +23,10 @@ inferred_post (from_one rule) (a ∷ ss) post out e = put_post (rule a) ss post 
 inferred_post (from_two rule) [] post out e = cc
 inferred_post (from_two rule) (a ∷ []) post out e = cc
 inferred_post (from_two rule) (a ∷ b ∷ ss) post out e = put_post (rule a b) ss post out e
+inferred_post (from_three rule) [] post out e = cc
+inferred_post (from_three rule) (a ∷ []) post out e = cc
+inferred_post (from_three rule) (a ∷ b ∷ []) post out e = cc
+inferred_post (from_three rule) (a ∷ b ∷ c ∷ ss) post out e = put_post (rule a b c) ss post out e
 
 pub at_post : (n : ℕ) (rule : Inference) (ss post out : List Sequent) → inferred_at n rule ss ≡ Some out → inferred_at n rule (ss ++ post) ≡ Some (out ++ post)
 at_post zero rule ss post out e = inferred_post rule ss post out e

@@ -10,6 +10,10 @@ pub mod Typings
 pub mod EquationRules
 pub mod ConnectiveRules
 pub mod QuantifierRules
+pub mod Replacing
+pub mod EliminationRules
+pub mod EliminationMoves
+pub mod ByTheorems
 pub mod Proposition
 pub mod Givens
 pub mod Joined

@@ -7,7 +7,7 @@ use Rattle.hol_kernel.specs.Items.{Items}
 use Rattle.hol_kernel.specs.Sequent.{Hyps, Sequent}
 use Rattle.hol_goal.specs.Goal.{GoalValue}
 use Rattle.hol_goal.specs.Achieves.{Achieves, IsTyped}
-use Rattle.hol_just.specs.Inference.{Inference, from_none, from_one, from_two, inferred}
+use Rattle.hol_just.specs.Inference.{Inference, from_none, from_one, from_two, from_three, inferred}
 use Rattle.hol_just.specs.Reasons.{inference, Fits}
 use Rattle.hol_just.specs.Valid.{AchieveAll, Answers, IsValid}
 use Rattle.hol_just.specs.declared.reason.Reason.{Reason}
@@ -59,6 +59,15 @@ module _ (extra : Hyps) (before : GoalValue) where
   by_two rule g h f (a ∷ []) k = absurd k.1
   by_two rule g h f (a ∷ b ∷ []) k = put (rule a b) (f a b k.0 k.1.0)
   by_two rule g h f (a ∷ b ∷ c ∷ ss) k = absurd k.1.1
+
+  pub by_three :
+      (rule : Sequent → Sequent → Sequent → Option Sequent) (g h l : GoalValue) →
+      ((a b c : Sequent) → Achieves extra a g → Achieves extra b h → Achieves extra c l → IsAnswer extra (rule a b c) before) → Justifies extra (from_three rule) before (g ∷ h ∷ l ∷ [])
+  by_three rule g h l f [] k = absurd k
+  by_three rule g h l f (a ∷ []) k = absurd k.1
+  by_three rule g h l f (a ∷ b ∷ []) k = absurd k.1.1
+  by_three rule g h l f (a ∷ b ∷ c ∷ []) k = put (rule a b c) (f a b c k.0 k.1.0 k.1.1.0)
+  by_three rule g h l f (a ∷ b ∷ c ∷ d ∷ ss) k = absurd k.1.1.1
 
 pub answer_by : (extra : Hyps) (o : Option Sequent) (s : Sequent) (g : GoalValue) → o ≡ Some s → Achieves extra s g → IsAnswer extra o g
 answer_by extra o s g is a = subst (λ (r : Option Sequent). IsAnswer extra r g) (sym is) a

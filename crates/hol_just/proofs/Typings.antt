@@ -5,15 +5,23 @@ use Rattle.hol_types.specs.Tree.{TypeTree}
 use Rattle.hol_types.specs.Fun.{fun_type}
 use Rattle.hol_terms.specs.Nameless.{Nameless, fixed, app, lam, nameless_type}
 use Rattle.std.specs.Option.{option_map}
-use Rattle.hol_subst.specs.Closing.{open_with}
+use Rattle.hol_subst.specs.Closing.{open_with, bind}
 use Rattle.hol_subst.proofs.Typing.{typed_closed, mapped_part}
 use Rattle.hol_subst.proofs.TypeLaws.{open_type}
 use Rattle.hol_formulas.specs.Equation.{bool_type}
-use Rattle.hol_formulas.specs.Formula.{connective_type, negation_type, quantifier_type, implication, Abstraction, quantified}
+use Rattle.hol_formulas.specs.Formula.{connective_type, negation_type, quantifier_type, conjunction, implication, Abstraction, quantified, universal}
 use Rattle.hol_kernel.specs.Items.{Items}
 use Rattle.hol_kernel.specs.Typing.{is_type, is_base, is_known, is_typed, HasType}
 use Rattle.hol_kernel.proofs.Stands.{some_is, both, app_parts, known_open}
 use Rattle.hol_kernel.proofs.Variables.{typed_known, known_typed}
+use Rattle.std.specs.Prelude.{◌||◌}
+use Rattle.std.specs.List.{list_any}
+use Rattle.hol_types.specs.Tree.{TyVar}
+use Rattle.hol_formulas.proofs.Instance.{instance_of_subst}
+use Rattle.hol_kernel.specs.Items.{in_order}
+use Rattle.hol_kernel.specs.Signature.{has_constant, makes_constant}
+use Rattle.hol_bool.specs.Rules.{over_variable}
+use Rattle.hol_equal.proofs.Abstractions.{bound_typed}
 use Rattle.hol_equal.proofs.Typings.{applied_typed}
 
 -- the function and the argument of a well typed application, where the function's type is known
@@ -55,6 +63,12 @@ implication_typed basis p q h k =
     applied_typed basis bool_type bool_type (app (fixed (codes "==>") connective_type) p) q
     (applied_typed basis bool_type negation_type (fixed (codes "==>") connective_type) p (typed_known basis (fixed (codes "==>") connective_type) connective_type refl refl) h) k
 
+-- a conjunction of formulas
+pub conjunction_typed : (basis : Items) (p q : Nameless) → HasType basis p bool_type → HasType basis q bool_type → HasType basis (conjunction p q) bool_type
+conjunction_typed basis p q h k =
+    applied_typed basis bool_type bool_type (app (fixed (codes "/\\") connective_type) p) q
+    (applied_typed basis bool_type negation_type (fixed (codes "/\\") connective_type) p (typed_known basis (fixed (codes "/\\") connective_type) connective_type refl refl) h) k
+
 -- ---- quantifiers
 
 -- the property under a quantifier
@@ -80,3 +94,18 @@ opened_typed basis x r property h =
     let k = known_typed basis r x.domain h in
     typed_known basis (open_with r 0 x.body) bool_type (known_open basis r 0 x.body k.0 property.known)
     (open_type r x.domain [] x.body k.1 (typed_closed (x.domain ∷ []) x.body bool_type property.typed) ∙ property.typed)
+
+forall_stands : (basis : Items) (a : TypeTree) → has_constant basis (codes "!") (quantifier_type a) ≡ true
+forall_stands basis a =
+    ap (λ b. b || list_any (makes_constant (codes "!") (quantifier_type a)) (in_order basis))
+    (instance_of_subst (quantifier_type (TyVar (codes "A"))) (quantifier_type a) ((a, codes "A") ∷ []) refl)
+
+quantifier_stands : (basis : Items) (a : TypeTree) → is_type basis a ≡ true → is_type basis (quantifier_type a) ≡ true
+quantifier_stands basis a stands = rw stands refl
+
+-- a formula for each value of a variable
+pub universal_typed : (basis : Items) (v : List ℕ × TypeTree) (n : Nameless) → is_type basis v.1 ≡ true → HasType basis n bool_type → HasType basis (universal (over_variable v n)) bool_type
+universal_typed basis v n stands h =
+    applied_typed basis (fun_type v.1 bool_type) bool_type (fixed (codes "!") (quantifier_type v.1)) (bind v n)
+    (typed_known basis (fixed (codes "!") (quantifier_type v.1)) (quantifier_type v.1) (λ i. quantifier_stands basis v.1 stands i && forall_stands basis v.1 i) refl)
+    (bound_typed basis v bool_type n stands h)

@@ -46,3 +46,7 @@ assume_tac th goal = Some (assuming goal (given_sequent th).concl goal.conclusio
 -- CONTR_TAC closes every goal by a theorem F.
 abbrev pub contr_tac : Given → GoalValue → Option (List GoalValue)
 contr_tac th goal = cond (is_falsity (given_sequent th).concl) (Some []) None
+
+-- DISJ_CASES_TAC leaves the goal twice, with p and with q assumed, by a theorem `p \/ q`.
+abbrev pub disj_cases_tac : Given → GoalValue → Option (List GoalValue)
+disj_cases_tac th goal = option_map (λ p. assuming goal p.0 goal.conclusion ∷ assuming goal p.1 goal.conclusion ∷ []) (dest_disj (given_sequent th).concl)

@@ -7,8 +7,10 @@ use Rattle.hol_terms.specs.Nameless.{Nameless, nameless_type}
 use Rattle.hol_terms.specs.Alpha.{alpha_eq}
 use Rattle.hol_formulas.specs.Equation.{bool_type, equation, Sides, dest_eq, dest_comb}
 use Rattle.hol_formulas.specs.Formula.{implication}
+use Rattle.hol_kernel.specs.Given.{Given, given_sequent}
 use Rattle.hol_goal.specs.Goal.{GoalValue}
 use Rattle.hol_just.specs.Leaving.{concluding}
+use Rattle.hol_just.specs.Replacing.{replace_each}
 
 -- REFL_TAC closes `s = s`.
 abbrev pub refl_tac : GoalValue → Option (List GoalValue)
@@ -20,6 +22,10 @@ implications goal s = cond (type_eq s.sides_type bool_type) (Some (concluding go
 
 abbrev pub eq_tac : GoalValue → Option (List GoalValue)
 eq_tac goal = option_and_then (implications goal) (dest_eq goal.conclusion)
+
+-- SUBST1_TAC leaves the conclusion with t for each s, by a theorem `s = t`.
+abbrev pub subst1_tac : Given → GoalValue → Option (List GoalValue)
+subst1_tac th goal = option_map (λ e. concluding goal (replace_each e.left e.right goal.conclusion) ∷ []) (dest_eq (given_sequent th).concl)
 
 -- ---- `f x = g y`
 

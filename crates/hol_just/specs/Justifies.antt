@@ -1,6 +1,6 @@
 -- From which goals to which the justifications of the functions on goals are valid (HOL Light Reference Manual; LNCS 78). Terms are taken up to bound names where the
 -- functions compare them so; the extra hypotheses are those of theorems that were handed in and are no assumptions.
-use Rattle.std.specs.Prelude.{◌≡◌, ℕ, Bool, true, false, List, [], ◌∷◌, ◌++◌, Some}
+use Rattle.std.specs.Prelude.{◌≡◌, ◌⊎◌, ℕ, Bool, true, false, List, [], ◌∷◌, ◌++◌, Some}
 use Rattle.std.specs.FinSet as set
 use Rattle.hol_types.specs.Tree.{TypeTree}
 use Rattle.hol_types.specs.Fun.{fun_type}
@@ -9,7 +9,7 @@ use Rattle.hol_terms.specs.Scoped.{binds}
 use Rattle.hol_subst.specs.Closing.{open_with}
 use Rattle.hol_subst.specs.Variant.{is_free_in}
 use Rattle.hol_terms.specs.Alpha.{strip}
-use Rattle.hol_formulas.specs.Equation.{bool_type, equation}
+use Rattle.hol_formulas.specs.Equation.{bool_type, equation, Sides, dest_eq}
 use Rattle.hol_formulas.specs.Formula.{Abstraction, falsity, conjunction, disjunction, implication, negation, universal, existential}
 use Rattle.hol_kernel.specs.Items.{Items}
 use Rattle.hol_kernel.specs.Sequent.{Hyps}
@@ -17,7 +17,9 @@ use Rattle.hol_kernel.specs.Typing.{is_typed, has_type}
 use Rattle.hol_kernel.specs.Given.{Given, proved, assumed, given_sequent}
 use Rattle.hol_goal.specs.Goal.{GoalValue}
 use Rattle.hol_goal.specs.Achieves.{AreAllowed}
+use Rattle.hol_bool.specs.Rules.{over_variable}
 use Rattle.hol_just.specs.Valid.{IsValid}
+use Rattle.hol_just.specs.Replacing.{replace_each}
 use Rattle.hol_just.specs.declared.reason.Move.{Move}
 
 abbrev pub goal_at : List Nameless → Nameless → GoalValue
@@ -91,6 +93,24 @@ SplitsIntoImplications moves =
     (extra : Hyps) (assumptions : List Nameless) (p q : Nameless) →
     IsValid always extra moves (goal_at assumptions (equation bool_type p q) ∷ []) (goal_at assumptions (implication p q) ∷ goal_at assumptions (implication q p) ∷ [])
 
+-- SUBST1_TAC leaves the conclusion with t for each s, by a theorem `s = t`; m has a variable for each s that is not free in the conclusion.
+abbrev pub LeavesReplaced : List ℕ × TypeTree → Nameless → Given → List Move → Type 0
+LeavesReplaced v m th moves =
+    (extra : Hyps) (assumptions : List Nameless) (e : Sides) (p : Nameless) → dest_eq (given_sequent th).concl ≡ Some e → v.1 ≡ e.sides_type → m ≡ replace_each e.left (free v) p →
+    binds (free_occurrences p) v ≡ false → AreAllowed extra assumptions (given_sequent th).hyps →
+    IsValid (holds_given th) extra moves (goal_at assumptions p ∷ []) (goal_at assumptions (replace_each e.left e.right p) ∷ [])
+
+-- `s = t` from `t = s`
+abbrev pub TurnsEquation : List Move → Type 0
+TurnsEquation moves =
+    (extra : Hyps) (assumptions : List Nameless) (a : TypeTree) (s t : Nameless) → IsValid always extra moves (goal_at assumptions (equation a s t) ∷ []) (goal_at assumptions (equation a t s) ∷ [])
+
+-- p from `t = s` and p with t for each s
+abbrev pub SplitsByEquation : List ℕ × TypeTree → Nameless → List Move → Type 0
+SplitsByEquation v m moves =
+    (extra : Hyps) (assumptions : List Nameless) (s t p : Nameless) → m ≡ replace_each s (free v) p → binds (free_occurrences p) v ≡ false →
+    IsValid (holds_formula (equation v.1 t s)) extra moves (goal_at assumptions p ∷ []) (goal_at assumptions (equation v.1 t s) ∷ goal_at assumptions (replace_each s t p) ∷ [])
+
 -- ---- connectives
 
 -- CONJ_TAC leaves p and q of `p /\ q`.
@@ -140,6 +160,49 @@ LeavesAssuming th moves =
     (extra : Hyps) (assumptions : List Nameless) (q : Nameless) → AreAllowed extra assumptions (given_sequent th).hyps →
     IsValid (holds_given th) extra moves (goal_at assumptions q ∷ []) (goal_at ((given_sequent th).concl ∷ assumptions) q ∷ [])
 
+-- q from p, and q with p assumed, for a formula p
+abbrev pub CutsBy : List Move → Type 0
+CutsBy moves =
+    (extra : Hyps) (assumptions : List Nameless) (p q : Nameless) → IsValid (holds_formula p) extra moves (goal_at assumptions q ∷ []) (goal_at assumptions p ∷ goal_at (p ∷ assumptions) q ∷ [])
+
+-- r from `p \/ q`, r with p assumed, and r with q assumed, for formulas p and q
+abbrev pub SplitsByCases : List Move → Type 0
+SplitsByCases moves =
+    (extra : Hyps) (assumptions : List Nameless) (p q r : Nameless) →
+    IsValid (holds_formula (disjunction p q)) extra moves (goal_at assumptions r ∷ []) (goal_at assumptions (disjunction p q) ∷ goal_at (p ∷ assumptions) r ∷ goal_at (q ∷ assumptions) r ∷ [])
+
+-- DISJ_CASES_TAC leaves r with p assumed, and with q assumed, by a theorem `p \/ q`.
+abbrev pub LeavesCases : Given → List Move → Type 0
+LeavesCases th moves =
+    (extra : Hyps) (assumptions : List Nameless) (p q r : Nameless) → (given_sequent th).concl ≡ disjunction p q → AreAllowed extra assumptions (given_sequent th).hyps →
+    IsValid (holds_given th) extra moves (goal_at assumptions r ∷ []) (goal_at (p ∷ assumptions) r ∷ goal_at (q ∷ assumptions) r ∷ [])
+
+-- p, and q, from `p /\ q`, for a formula q, and p
+abbrev pub LeavesConjunctionRight : List Move → Type 0
+LeavesConjunctionRight moves =
+    (extra : Hyps) (assumptions : List Nameless) (p q : Nameless) → IsValid (holds_formula q) extra moves (goal_at assumptions p ∷ []) (goal_at assumptions (conjunction p q) ∷ [])
+
+abbrev pub LeavesConjunctionLeft : List Move → Type 0
+LeavesConjunctionLeft moves =
+    (extra : Hyps) (assumptions : List Nameless) (p q : Nameless) → IsValid (holds_formula p) extra moves (goal_at assumptions q ∷ []) (goal_at assumptions (conjunction p q) ∷ [])
+
+-- p, and q, by a theorem `p /\ q`
+abbrev pub ClosesByLeft : Given → List Move → Type 0
+ClosesByLeft th moves =
+    (extra : Hyps) (assumptions : List Nameless) (p q : Nameless) → (given_sequent th).concl ≡ conjunction p q → AreAllowed extra assumptions (given_sequent th).hyps →
+    IsValid (holds_given th) extra moves (goal_at assumptions p ∷ []) []
+
+abbrev pub ClosesByRight : Given → List Move → Type 0
+ClosesByRight th moves =
+    (extra : Hyps) (assumptions : List Nameless) (p q : Nameless) → (given_sequent th).concl ≡ conjunction p q → AreAllowed extra assumptions (given_sequent th).hyps →
+    IsValid (holds_given th) extra moves (goal_at assumptions q ∷ []) []
+
+-- r with q and p assumed, by a theorem `p /\ q`
+abbrev pub LeavesConjuncts : Given → List Move → Type 0
+LeavesConjuncts th moves =
+    (extra : Hyps) (assumptions : List Nameless) (p q r : Nameless) → (given_sequent th).concl ≡ conjunction p q → AreAllowed extra assumptions (given_sequent th).hyps →
+    IsValid (holds_given th) extra moves (goal_at assumptions r ∷ []) (goal_at (q ∷ p ∷ assumptions) r ∷ [])
+
 -- p from F
 abbrev pub LeavesFalsity : Nameless → List Move → Type 0
 LeavesFalsity p moves = (extra : Hyps) (assumptions : List Nameless) → IsValid always extra moves (goal_at assumptions p ∷ []) (goal_at assumptions falsity ∷ [])
@@ -157,3 +220,28 @@ abbrev pub LeavesAtWitness : Nameless → Nameless → List Move → Type 0
 LeavesAtWitness e t moves =
     (extra : Hyps) (assumptions : List Nameless) (x : Abstraction) → e ≡ existential x → nameless_type [] t ≡ Some x.domain →
     IsValid (holds_term t) extra moves (goal_at assumptions (existential x) ∷ []) (goal_at assumptions (open_with t 0 x.body) ∷ [])
+
+-- SPEC_TAC leaves `!x. w`, with x for each t of w, for a variable x of t's type that is t or not free in w.
+abbrev pub LeavesGeneralized : Nameless → List ℕ × TypeTree → List Move → Type 0
+LeavesGeneralized t v moves =
+    (extra : Hyps) (assumptions : List Nameless) (w : Nameless) → nameless_type [] t ≡ Some v.1 → (strip t ≡ free v) ⊎ (binds (free_occurrences w) v ≡ false) →
+    IsValid (holds_term t) extra moves (goal_at assumptions w ∷ []) (goal_at assumptions (universal (over_variable v (replace_each t (free v) w))) ∷ [])
+
+-- the variable is free neither in the assumptions, nor in an extra hypothesis, nor in the term
+pub record IsNew (extra : Hyps) (assumptions : List Nameless) (q : Nameless) (v : List ℕ × TypeTree) : Type 0 where
+  pub of_extra : is_free_in (set.items extra) v ≡ false
+  pub of_assumptions : is_free_in assumptions v ≡ false
+  pub of_conclusion : binds (free_occurrences q) v ≡ false
+
+-- q from `?x. p`, and q with p at a new variable of x's type assumed
+abbrev pub SplitsByExistence : List ℕ × TypeTree → List Move → Type 0
+SplitsByExistence v moves =
+    (extra : Hyps) (assumptions : List Nameless) (x : Abstraction) (q : Nameless) → v.1 ≡ x.domain → IsNew extra assumptions q v → binds (free_occurrences x.body) v ≡ false →
+    IsValid (holds_formula (existential x)) extra moves (goal_at assumptions q ∷ []) (goal_at assumptions (existential x) ∷ goal_at (open_with (free v) 0 x.body ∷ assumptions) q ∷ [])
+
+-- CHOOSE_TAC and X_CHOOSE_TAC leave q with p at a new variable of x's type assumed, by a theorem `?x. p`.
+abbrev pub LeavesChosen : List ℕ × TypeTree → Given → List Move → Type 0
+LeavesChosen v th moves =
+    (extra : Hyps) (assumptions : List Nameless) (x : Abstraction) (q : Nameless) → (given_sequent th).concl ≡ existential x → v.1 ≡ x.domain → IsNew extra assumptions q v →
+    binds (free_occurrences x.body) v ≡ false → AreAllowed extra assumptions (given_sequent th).hyps →
+    IsValid (holds_given th) extra moves (goal_at assumptions q ∷ []) (goal_at (open_with (free v) 0 x.body ∷ assumptions) q ∷ [])

@@ -1,7 +1,8 @@
 -- Goals made of a goal, and arguments of a kind.
 use Rattle.std.specs.Prelude.{List, ◌∷◌, Option, None}
+use Rattle.std.specs.FinSet as set
 use Rattle.hol_terms.specs.Nameless.{Nameless}
-use Rattle.hol_kernel.specs.Given.{Given}
+use Rattle.hol_kernel.specs.Given.{Given, given_sequent}
 use Rattle.hol_goal.specs.Goal.{GoalValue}
 use Rattle.hol_goal.specs.Arguments.{TacArgsValue, Nothing, Term, Pair, Theorem, TermAndTheorem, Theorems}
 
@@ -16,6 +17,10 @@ assuming goal p q = record { assumptions = p ∷ goal.assumptions; conclusion = 
 -- all its terms
 abbrev pub goal_terms : GoalValue → List Nameless
 goal_terms goal = goal.conclusion ∷ goal.assumptions
+
+-- all terms of a theorem
+abbrev pub theorem_terms : Given → List Nameless
+theorem_terms th = (given_sequent th).concl ∷ set.items (given_sequent th).hyps
 
 -- ---- arguments of another kind fit no goal
 
@@ -42,3 +47,19 @@ with_theorem (Pair s t) f = None
 with_theorem (Theorem th) f = f th
 with_theorem (TermAndTheorem t th) f = None
 with_theorem (Theorems ths) f = None
+
+abbrev pub with_pair : {X : Type 0} → TacArgsValue → (Nameless → Nameless → Option X) → Option X
+with_pair Nothing f = None
+with_pair (Term t) f = None
+with_pair (Pair s t) f = f s t
+with_pair (Theorem th) f = None
+with_pair (TermAndTheorem t th) f = None
+with_pair (Theorems ths) f = None
+
+abbrev pub with_term_and_theorem : {X : Type 0} → TacArgsValue → (Nameless → Given → Option X) → Option X
+with_term_and_theorem Nothing f = None
+with_term_and_theorem (Term t) f = None
+with_term_and_theorem (Pair s t) f = None
+with_term_and_theorem (Theorem th) f = None
+with_term_and_theorem (TermAndTheorem t th) f = f t th
+with_term_and_theorem (Theorems ths) f = None

@@ -7,6 +7,7 @@ pub mod Made
 pub mod Justifies
 pub mod FreeNames
 pub mod Leaving
+pub mod Replacing
 pub mod EquationTacs
 pub mod ConnectiveTacs
 pub mod QuantifierTacs

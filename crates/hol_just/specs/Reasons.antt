@@ -6,10 +6,12 @@ use Rattle.hol_kernel.specs.Items.{Items}
 use Rattle.hol_kernel.specs.Sequent.{Sequent}
 use Rattle.hol_kernel.specs.Given as premise
 use Rattle.hol_kernel.specs.Rules.{refl_of, mk_comb_of, deduct_antisym_of}
-use Rattle.hol_bool.specs.Rules.{conj_of, disj1_of, disj2_of, disch_of, undisch_of, not_intro_of, mp_of, contr_of, gen_of, exists_of}
-use Rattle.hol_just.specs.Inference.{Inference, from_none, from_one, from_two}
+use Rattle.hol_terms.specs.Named.{Named}
+use Rattle.hol_equal.specs.Rules.{sym_of, subst_of, prove_hyp_of}
+use Rattle.hol_bool.specs.Rules.{conj_of, conjunct1_of, conjunct2_of, disj1_of, disj2_of, disj_cases_of, disch_of, undisch_of, not_intro_of, mp_of, contr_of, gen_of, spec_of, exists_of, choose_of}
+use Rattle.hol_just.specs.Inference.{Inference, from_none, from_one, from_two, from_three}
 use Rattle.hol_just.specs.declared.reason.Reason.{Reason}
-use Rattle.hol_just.specs.declared.reason.Reason.TheVariants.{Reflexivity, Premise, Combination, Antisymmetry, Conjunction, LeftDisjunct, RightDisjunct, Discharge, Undischarge, Negation, ModusPonens, Contradiction, Generalization, Existence}
+use Rattle.hol_just.specs.declared.reason.Reason.TheVariants.{Reflexivity, Premise, Combination, Antisymmetry, Conjunction, LeftDisjunct, RightDisjunct, Discharge, Undischarge, Negation, ModusPonens, Contradiction, Generalization, Existence, LeftConjunct, RightConjunct, Cases, Cut, Symmetry, Replacement, Specialization, Choice}
 
 -- the sequent of a premise over a basis
 abbrev pub premise_of : Items → premise.Given → Option Sequent
@@ -27,6 +29,14 @@ conjoined a b = Some (conj_of a b)
 abbrev pub left_disjunct : Items → Nameless → Sequent → Option Sequent
 left_disjunct basis q a = disj1_of basis a q
 
+-- q, from p and q with p among the hypotheses
+abbrev pub cut : Sequent → Sequent → Option Sequent
+cut a b = Some (prove_hyp_of a b)
+
+-- m with t for v, from s = t and m with s for v
+abbrev pub replaced : Items → Named → Nameless → Sequent → Sequent → Option Sequent
+replaced basis v m a b = subst_of basis a v m b
+
 -- the rule of a reason
 abbrev pub inference : Items → Reason → Inference
 inference basis (Reflexivity t) = from_none (refl_of basis (nameless [] t))
@@ -43,6 +53,14 @@ inference basis ModusPonens = from_two mp_of
 inference basis (Contradiction p) = from_one (contr_of basis (nameless [] p))
 inference basis (Generalization v) = from_one (gen_of basis v)
 inference basis (Existence e t) = from_one (exists_of basis (nameless [] e) (nameless [] t))
+inference basis LeftConjunct = from_one conjunct1_of
+inference basis RightConjunct = from_one conjunct2_of
+inference basis Cases = from_three disj_cases_of
+inference basis Cut = from_two cut
+inference basis Symmetry = from_one sym_of
+inference basis (Replacement v m) = from_two (replaced basis v (nameless [] m))
+inference basis (Specialization t) = from_one (spec_of basis (nameless [] t))
+inference basis (Choice v) = from_two (choose_of v)
 
 -- what a reason asks of the basis: that it contains the bases of the theorems that the reason holds
 abbrev pub Fits : Items → Reason → Type 0
@@ -60,3 +78,11 @@ Fits basis ModusPonens = Unit {0}
 Fits basis (Contradiction p) = Unit {0}
 Fits basis (Generalization v) = Unit {0}
 Fits basis (Existence e t) = Unit {0}
+Fits basis LeftConjunct = Unit {0}
+Fits basis RightConjunct = Unit {0}
+Fits basis Cases = Unit {0}
+Fits basis Cut = Unit {0}
+Fits basis Symmetry = Unit {0}
+Fits basis (Replacement v m) = Unit {0}
+Fits basis (Specialization t) = Unit {0}
+Fits basis (Choice v) = Unit {0}

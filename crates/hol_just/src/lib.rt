@@ -4,7 +4,10 @@
 #![tactic(auto)]
 
 mod bool_steps;
+mod by_theorems;
 mod cursor;
+mod elimination_steps;
+mod equal_steps;
 mod just;
 mod justifying;
 mod laws;

@@ -1,5 +1,6 @@
 //! Reasons and moves.
 ghost use Rattle.std.specs.Prelude.{◌≡◌, IfOk};
+ghost use Rattle.hol_just.specs.declared.reason.Reason.TheVariants.{Existence, Replacement};
 
 use hol_kernel::Given;
 use hol_terms::Term;
@@ -36,6 +37,22 @@ pub enum Reason {
     Generalization(Term),
     /// Leaves `p` at the second term: the first, `?x. p` (EXISTS).
     Existence(Term, Term),
+    /// Leaves `p /\ q`: `p` (CONJUNCT1).
+    LeftConjunct,
+    /// Leaves `p /\ q`: `q` (CONJUNCT2).
+    RightConjunct,
+    /// Leaves `p \/ q`, `r` from `p`, and `r` from `q`: `r` (DISJ_CASES).
+    Cases,
+    /// Leaves `p`, and `q` from `p`: `q` (PROVE_HYP).
+    Cut,
+    /// Leaves `s = t`: `t = s` (SYM).
+    Symmetry,
+    /// Leaves `s = t` and the second term with `s` for the first, a variable: the second term with `t` for it (SUBST).
+    Replacement(Term, Term),
+    /// Leaves `!x. p`: `p` at the term (SPEC).
+    Specialization(Term),
+    /// Leaves `?x. p`, and `q` from `p` at the term, a variable: `q` (CHOOSE).
+    Choice(Term),
 }
 
 /// The goal at this place, counted from 0, was taken out of the list of open goals, and those that the reason leaves stand there.
@@ -52,23 +69,47 @@ impl Reason {
     pub fn copy(&self) -> Result<Reason, AllocError>
         ensures { IfOk result (λ reason. reason ≡ self.now) }
     {
-        Ok(match self {
-            Reason::Reflexivity(t) => Reason::Reflexivity(t.copy()?),
-            Reason::Premise(given) => Reason::Premise(given.copy()?),
-            Reason::Combination => Reason::Combination,
-            Reason::Antisymmetry => Reason::Antisymmetry,
-            Reason::Conjunction => Reason::Conjunction,
-            Reason::LeftDisjunct(q) => Reason::LeftDisjunct(q.copy()?),
-            Reason::RightDisjunct(p) => Reason::RightDisjunct(p.copy()?),
-            Reason::Discharge(p) => Reason::Discharge(p.copy()?),
-            Reason::Undischarge => Reason::Undischarge,
-            Reason::Negation => Reason::Negation,
-            Reason::ModusPonens => Reason::ModusPonens,
-            Reason::Contradiction(p) => Reason::Contradiction(p.copy()?),
-            Reason::Generalization(v) => Reason::Generalization(v.copy()?),
-            Reason::Existence(e, t) => Reason::Existence(e.copy()?, t.copy()?),
-        })
+        match self {
+            Reason::Reflexivity(t) => Ok(Reason::Reflexivity(t.copy()?)),
+            Reason::Premise(given) => Ok(Reason::Premise(given.copy()?)),
+            Reason::Combination => Ok(Reason::Combination),
+            Reason::Antisymmetry => Ok(Reason::Antisymmetry),
+            Reason::Conjunction => Ok(Reason::Conjunction),
+            Reason::LeftDisjunct(q) => Ok(Reason::LeftDisjunct(q.copy()?)),
+            Reason::RightDisjunct(p) => Ok(Reason::RightDisjunct(p.copy()?)),
+            Reason::Discharge(p) => Ok(Reason::Discharge(p.copy()?)),
+            Reason::Undischarge => Ok(Reason::Undischarge),
+            Reason::Negation => Ok(Reason::Negation),
+            Reason::ModusPonens => Ok(Reason::ModusPonens),
+            Reason::Contradiction(p) => Ok(Reason::Contradiction(p.copy()?)),
+            Reason::Generalization(v) => Ok(Reason::Generalization(v.copy()?)),
+            Reason::Existence(e, t) => existence(e, t),
+            Reason::LeftConjunct => Ok(Reason::LeftConjunct),
+            Reason::RightConjunct => Ok(Reason::RightConjunct),
+            Reason::Cases => Ok(Reason::Cases),
+            Reason::Cut => Ok(Reason::Cut),
+            Reason::Symmetry => Ok(Reason::Symmetry),
+            Reason::Replacement(v, m) => replacement(v, m),
+            Reason::Specialization(t) => Ok(Reason::Specialization(t.copy()?)),
+            Reason::Choice(v) => Ok(Reason::Choice(v.copy()?)),
+        }
     }
+}
+
+// The reason EXISTS of equal terms.
+fn existence(e: &Term, t: &Term) -> Result<Reason, AllocError>
+    ensures { IfOk result (λ reason. reason ≡ Existence e.now t.now) }
+{
+    let formula = e.copy()?;
+    Ok(Reason::Existence(formula, t.copy()?))
+}
+
+// The reason SUBST of equal terms.
+fn replacement(v: &Term, m: &Term) -> Result<Reason, AllocError>
+    ensures { IfOk result (λ reason. reason ≡ Replacement v.now m.now) }
+{
+    let variable = v.copy()?;
+    Ok(Reason::Replacement(variable, m.copy()?))
 }
 
 impl Move {

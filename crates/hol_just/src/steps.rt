@@ -12,6 +12,8 @@ use crate::bool_steps::{
     negation, right_disjunct, undischarge,
 };
 use crate::cursor::Cursor;
+use crate::elimination_steps::{cases, choice, left_conjunct, right_conjunct, specialization};
+use crate::equal_steps::{cut, replacement, symmetry};
 use crate::reason::Reason;
 use crate::refusals::made_in_kernel;
 use hol_kernel::{Given, Thm};
@@ -39,6 +41,14 @@ pub(crate) fn infer(alloc: Global, reason: &Reason, thms: &mut Cursor) -> Result
         Reason::Contradiction(p) => contradiction(alloc, p, thms),
         Reason::Generalization(v) => generalization(alloc, v, thms),
         Reason::Existence(e, t) => existence(alloc, e, t, thms),
+        Reason::LeftConjunct => left_conjunct(alloc, thms),
+        Reason::RightConjunct => right_conjunct(alloc, thms),
+        Reason::Cases => cases(alloc, thms),
+        Reason::Cut => cut(alloc, thms),
+        Reason::Symmetry => symmetry(alloc, thms),
+        Reason::Replacement(v, m) => replacement(alloc, v, m, thms),
+        Reason::Specialization(t) => specialization(alloc, t, thms),
+        Reason::Choice(v) => choice(alloc, v, thms),
     }
 }
 

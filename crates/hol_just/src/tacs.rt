@@ -189,8 +189,8 @@ impl Just {
     }
 }
 
-// The conclusion is a formula over each basis that contains the theorem's, and the term over each over which it can be assumed.
-fn conclusion_typed(th: &Given)
+/// The conclusion is a formula over each basis that contains the theorem's, and the term over each over which it can be assumed.
+pub(crate) fn conclusion_typed(th: &Given)
     ensures { (basis : Items) → IsTrue (holds_given th.now basis) → HasType basis (given_sequent th.now).concl bool_type }
 {
     match th.node() {

@@ -6,7 +6,7 @@ use Rattle.hol_types.specs.Tree.{TypeTree}
 use Rattle.hol_types.specs.Equal.{type_eq}
 use Rattle.hol_terms.specs.Named.{Named}
 use Rattle.hol_terms.specs.Nameless.{Nameless, nameless, free, bound, fixed, app, lam, free_occurrences}
-use Rattle.hol_terms.specs.Primes.{with_primes}
+use Rattle.hol_terms.specs.Primes.{with_primes, HasFewestPrimes}
 use Rattle.hol_terms.specs.Scoped.{binds}
 use Rattle.hol_terms.proofs.Occurs.{binds_append}
 use Rattle.hol_subst.specs.FreeName.{has_name, is_taken, IsFreeName}
@@ -157,9 +157,9 @@ pub always_so : {X E : Type 0} (r : Result X E) (P : Type 0) (Q : X → Type 0) 
 always_so (Ok x) P Q p h = p
 always_so (Err e) P Q p h = h
 
-module _ (terms : List Named) (avoid : List Nameless) (base kept name : List ℕ) (own : TypeTree) (terms_are : map (nameless []) terms ≡ avoid) (base_is : base ≡ kept) (h : IsFreeName (map (nameless []) terms) base name) where
+module _ (terms : List Named) (avoid : List Nameless) (base kept name : List ℕ) (own : TypeTree) (terms_are : (a : List ℕ) → is_taken (map (nameless []) terms) a ≡ is_taken avoid a) (base_is : base ≡ kept) (h : IsFreeName (map (nameless []) terms) base name) where
   found : IsFreeName avoid kept name
-  found = subst (λ (ns : List Nameless). IsFreeName ns kept name) terms_are (subst (λ (b : List ℕ). IsFreeName (map (nameless []) terms) b name) base_is h)
+  found = subst (λ (taken : List ℕ → Bool). HasFewestPrimes (λ a. taken a ≡ true) kept name) (λ i a. terms_are a i) (subst (λ (b : List ℕ). IsFreeName (map (nameless []) terms) b name) base_is h)
 
   pub named_new : {E : Type 0} (r : Result (List ℕ × TypeTree) E) (ty : TypeTree) → ty ≡ own → IfOk r (λ v. v ≡ (name, ty)) → IfOk r (λ v. v ≡ (free_name avoid kept, own))
   named_new (Ok v) ty typed is = is ∙ (λ i. (is_free_name avoid kept name found i, typed i))

@@ -15,8 +15,10 @@ use Rattle.hol_goal.specs.declared.tac_args.TacArgs.{TacArgs}
 use Rattle.hol_goal.specs.declared.tac_args.TacArgs.TheVariants as args
 use Rattle.hol_just.specs.Valid.{IsValid}
 use Rattle.hol_just.specs.Justifies.{always, holds_term, holds_given}
-use Rattle.hol_just.specs.Answering.{IsJustified}
+use Rattle.hol_just.specs.Answering.{suits, IsJustified}
 use Rattle.hol_just.specs.declared.reason.Move.{Move}
+use Rattle.hol_just.proofs.Validity.{valid_under}
+use Rattle.hol_kernel.proofs.Stands.{both}
 use Rattle.hol_just.specs.declared.tried.Step.{Step}
 
 -- no hypotheses are left over where there are none
@@ -51,6 +53,38 @@ module _ (goal : GoalValue) (step : Step) (moves : List Move) (left : List GoalV
       (λ extra over.
       subst (λ (ms : List Move). IsValid (holds_given th) extra ms (goal ∷ []) step.goals.items) (sym kept)
       (subst (λ (gs : List GoalValue). IsValid (holds_given th) extra moves (goal ∷ []) gs) (sym leaves) (valid extra over.all)))
+
+  pub by_theorem_among :
+      (a : TacArgs) (th : Given) → a ≡ args.Theorem th →
+      ((extra : Hyps) → set.is_subset extra (given_sequent th).hyps ≡ true → AreAllowed extra goal.assumptions (given_sequent th).hyps → IsValid (holds_given th) extra moves (goal ∷ []) left) →
+      IsJustified (args_value a) goal step
+  by_theorem_among a th is valid =
+      subst (λ (b : TacArgs). IsJustified (args_value b) goal step) (sym is)
+      (λ extra over.
+      subst (λ (ms : List Move). IsValid (holds_given th) extra ms (goal ∷ []) step.goals.items) (sym kept)
+      (subst (λ (gs : List GoalValue). IsValid (holds_given th) extra moves (goal ∷ []) gs) (sym leaves) (valid extra over.among over.all)))
+
+  pub by_term_and_theorem :
+      (a : TacArgs) (t : Named) (th : Given) → a ≡ args.TermAndTheorem t th →
+      ((extra : Hyps) → set.is_subset extra (given_sequent th).hyps ≡ true → AreAllowed extra goal.assumptions (given_sequent th).hyps → IsValid (holds_given th) extra moves (goal ∷ []) left) →
+      IsJustified (args_value a) goal step
+  by_term_and_theorem a t th is valid =
+      subst (λ (b : TacArgs). IsJustified (args_value b) goal step) (sym is)
+      (λ extra over.
+      valid_under (holds_given th) (suits (args_value (args.TermAndTheorem t th))) extra step.just (goal ∷ []) step.goals.items
+      (λ basis suit. (both (holds_term (nameless [] t) basis) (holds_given th basis) suit).1)
+      (subst (λ (ms : List Move). IsValid (holds_given th) extra ms (goal ∷ []) step.goals.items) (sym kept)
+      (subst (λ (gs : List GoalValue). IsValid (holds_given th) extra moves (goal ∷ []) gs) (sym leaves) (valid extra over.among over.all))))
+
+  pub by_pair : (a : TacArgs) (t u : Named) → a ≡ args.Pair t u → IsValid (holds_term (nameless [] t)) no_hyps moves (goal ∷ []) left → IsJustified (args_value a) goal step
+  by_pair a t u is valid =
+      subst (λ (b : TacArgs). IsJustified (args_value b) goal step) (sym is)
+      (λ extra over.
+      valid_under (holds_term (nameless [] t)) (suits (args_value (args.Pair t u))) extra step.just (goal ∷ []) step.goals.items
+      (λ basis suit. (both (holds_term (nameless [] t) basis) (holds_term (nameless [] u) basis) suit).0)
+      (subst (λ (hs : Hyps). IsValid (holds_term (nameless [] t)) hs step.just (goal ∷ []) step.goals.items) (none_left extra over.among)
+      (subst (λ (ms : List Move). IsValid (holds_term (nameless [] t)) no_hyps ms (goal ∷ []) step.goals.items) (sym kept)
+      (subst (λ (gs : List GoalValue). IsValid (holds_term (nameless [] t)) no_hyps moves (goal ∷ []) gs) (sym leaves) valid))))
 
 -- what is true of the moves that a step was made of is true of its own
 pub step_keeps : {E : Type 0} (r : Result Step E) (P : List Move → Type 0) (moves : List Move) → P moves → IfOk r (λ step. step.just ≡ moves) → IfOk r (λ step. P step.just)

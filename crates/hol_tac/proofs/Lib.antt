@@ -4,3 +4,5 @@ pub mod ApplicationLaws
 pub mod Instances
 pub mod AssumptionLaws
 pub mod FreshNames
+pub mod TermsBy
+pub mod Templates

@@ -6,11 +6,14 @@ ghost use Rattle.hol_just.specs.Answering.{AnswersCode, IsJustified};
 
 use crate::applications::{ap_term_tac, ap_thm_tac, mk_comb_tac};
 use crate::assumptions::undisch_tac;
+use crate::choosing::{choose_tac, x_choose_tac};
 use crate::connectives::{
-    accept_tac, assume_tac, conj_tac, contr_tac, disch_tac, disj1_tac, disj2_tac, mp_tac,
+    accept_tac, assume_tac, conj_tac, contr_tac, disch_tac, disj_cases_tac, disj1_tac, disj2_tac,
+    mp_tac,
 };
 use crate::equations::{eq_tac, refl_tac};
 use crate::quantifiers::{exists_tac, gen_tac, x_gen_tac};
+use crate::substituting::{spec_tac, subst1_tac};
 use crate::trivial::{all_tac, no_tac};
 use hol_goal::{Goal, TacArgs, TacCode};
 use hol_just::{TacFault, Tried};
@@ -47,12 +50,12 @@ pub fn tac(
         TacCode::ApThmTac => Some(ap_thm_tac(alloc, args, goal, turns)),
         TacCode::MkCombTac => Some(mk_comb_tac(alloc, args, goal, turns)),
         TacCode::UndischTac => Some(undisch_tac(alloc, args, goal, turns)),
-        TacCode::SpecTac
-        | TacCode::ChooseTac
-        | TacCode::XChooseTac
-        | TacCode::DisjCasesTac
-        | TacCode::Subst1Tac
-        | TacCode::StripAssumeTac
+        TacCode::ChooseTac => Some(choose_tac(alloc, args, goal, turns)),
+        TacCode::XChooseTac => Some(x_choose_tac(alloc, args, goal, turns)),
+        TacCode::DisjCasesTac => Some(disj_cases_tac(alloc, args, goal, turns)),
+        TacCode::Subst1Tac => Some(subst1_tac(alloc, args, goal, turns)),
+        TacCode::SpecTac => Some(spec_tac(alloc, args, goal, turns)),
+        TacCode::StripAssumeTac
         | TacCode::StripTac
         | TacCode::MatchMpTac
         | TacCode::BetaTac

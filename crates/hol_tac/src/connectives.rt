@@ -8,7 +8,7 @@ ghost use Rattle.hol_kernel.specs.Given.{given_sequent};
 ghost use Rattle.hol_goal.specs.ArgumentsView.{args_value};
 ghost use Rattle.hol_goal.specs.declared.tac_code.TacCode.TheVariants as code;
 ghost use Rattle.hol_just.specs.Leaving.{concluding, assuming};
-ghost use Rattle.hol_just.specs.Justifies.{SplitsConjunction, LeavesLeft, LeavesRight, LeavesConsequent, LeavesRefutation, LeavesImplication, LeavesAssuming};
+ghost use Rattle.hol_just.specs.Justifies.{SplitsConjunction, LeavesLeft, LeavesRight, LeavesConsequent, LeavesRefutation, LeavesImplication, LeavesAssuming, LeavesCases};
 ghost use Rattle.hol_just.specs.Answering.{AnswersCode, IsJustified};
 
 use crate::steps::{assume, closing, implying, leaving_one, leaving_two};
@@ -219,4 +219,43 @@ fn disj2_step(alloc: Global, goal: &Goal, p: &Term, q: &Term) -> Result<Step, Al
     let left = goal.with_conclusion(alloc, q)?;
     let just = Just::disj2_tac(alloc, p)?;
     leaving_one(alloc, left, just)
+}
+
+/// DISJ_CASES_TAC assumes `p`, and assumes `q`, of a theorem `p \/ q`.
+pub fn disj_cases_tac(
+    alloc: Global,
+    args: &TacArgs,
+    goal: &Goal,
+    turns: u32,
+) -> Result<Tried, TacFault>
+    ensures answer { AnswersCode code.DisjCasesTac (args_value args.now) goal.now turns result }
+    ensures valid { IfOk result (λ tried. IsJustified (args_value args.now) goal.now tried.step) }
+{
+    let TacArgs::Theorem(th) = args else {
+        return Err(TacFault::Refused(turns));
+    };
+    let Some((p, q)) = dest_disj(th.concl()) else {
+        return Err(TacFault::Refused(turns));
+    };
+    let step = disj_cases_step(alloc, th, goal, p, q)?;
+    Ok(Tried { step, left: turns })
+}
+
+// The step to the goal with each disjunct assumed.
+fn disj_cases_step(
+    alloc: Global,
+    th: &Given,
+    goal: &Goal,
+    p: &Term,
+    q: &Term,
+) -> Result<Step, AllocError>
+    requires first { named_type p.now ≡ Some bool_type }
+    requires second { named_type q.now ≡ Some bool_type }
+    ensures goals { IfOk result (λ step. step.goals.items ≡ assuming goal.now (nameless [] p.now) goal.now.conclusion ∷ assuming goal.now (nameless [] q.now) goal.now.conclusion ∷ []) }
+    ensures just { IfOk result (λ step. LeavesCases th.now step.just) }
+{
+    let left = assume(alloc, goal, p, goal.conclusion())?;
+    let right = assume(alloc, goal, q, goal.conclusion())?;
+    let just = Just::disj_cases_tac(alloc, th)?;
+    leaving_two(alloc, left, right, just)
 }

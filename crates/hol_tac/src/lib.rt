@@ -6,18 +6,24 @@
 mod applications;
 mod assumptions;
 mod by_code;
+mod choosing;
 mod connectives;
 mod equations;
 mod quantifiers;
+mod replacing;
 mod steps;
+mod substituting;
 mod trivial;
 
 pub use applications::{ap_term_tac, ap_thm_tac, mk_comb_tac};
 pub use assumptions::undisch_tac;
 pub use by_code::tac;
+pub use choosing::{choose_tac, x_choose_tac};
 pub use connectives::{
-    accept_tac, assume_tac, conj_tac, contr_tac, disch_tac, disj1_tac, disj2_tac, mp_tac,
+    accept_tac, assume_tac, conj_tac, contr_tac, disch_tac, disj_cases_tac, disj1_tac, disj2_tac,
+    mp_tac,
 };
 pub use equations::{eq_tac, refl_tac};
 pub use quantifiers::{exists_tac, gen_tac, x_gen_tac};
+pub use substituting::{spec_tac, subst1_tac};
 pub use trivial::{all_tac, no_tac};

@@ -62,8 +62,8 @@ fn new_variable(alloc: Global, goal: &Goal, x: &Variable) -> Result<Variable, Al
     Variable::new(&name, x.ty())
 }
 
-// Copies of all its terms.
-fn all_terms(alloc: Global, goal: &Goal) -> Result<Vec<Term>, AllocError>
+/// Copies of all its terms.
+pub(crate) fn all_terms(alloc: Global, goal: &Goal) -> Result<Vec<Term>, AllocError>
     ensures { IfOk result (λ terms. map (nameless []) terms.items ≡ goal_terms goal.now) }
 {
     let mut terms = Vec::new(alloc);
@@ -167,8 +167,8 @@ fn instance(
     goal.with_conclusion(alloc, &conclusion)
 }
 
-// `p` with `t` for `x`.
-fn at(alloc: Global, x: &Variable, p: &Term, t: &Term) -> Result<Term, AllocError>
+/// `p` with `t` for `x`.
+pub(crate) fn at(alloc: Global, x: &Variable, p: &Term, t: &Term) -> Result<Term, AllocError>
     requires argument { named_type t.now ≡ Some x.now.1 }
     requires body { named_type p.now ≡ Some bool_type }
     ensures is { IfOk result (λ r. nameless [] r ≡ open_with (nameless [] t.now) 0 (nameless (x.now ∷ []) p.now)) }
@@ -192,8 +192,8 @@ fn substituted(answer: Result<Term, SubstError>) -> Result<Term, AllocError>
     }
 }
 
-// Whether the variable is free in the goal.
-fn is_free_in_goal(goal: &Goal, v: &Variable) -> bool
+/// Whether the variable is free in the goal.
+pub(crate) fn is_free_in_goal(goal: &Goal, v: &Variable) -> bool
     ensures { result ≡ is_free_in (goal_terms goal.now) v.now }
 {
     if goal.conclusion().vfree_in(v) {
@@ -202,8 +202,8 @@ fn is_free_in_goal(goal: &Goal, v: &Variable) -> bool
     is_free_in_one(goal.assumptions(), v)
 }
 
-// Whether the variable is free in a term of the list.
-fn is_free_in_one(terms: &[Term], v: &Variable) -> bool
+/// Whether the variable is free in a term of the list.
+pub(crate) fn is_free_in_one(terms: &[Term], v: &Variable) -> bool
     ensures { result ≡ list_any (λ p. binds (free_occurrences (nameless [] p)) v.now) terms.now }
 {
     for p in terms {

@@ -1,0 +1,126 @@
+-- Choosing a variable that a goal and a theorem do not have.
+use Rattle.std.specs.Prelude.{◌≡◌, ℕ, Bool, true, false, ◌||◌, List, [], ◌∷◌, ◌++◌, map, codes, Some, refl}
+use Rattle.std.specs.List.{list_any}
+use Rattle.std.specs.FinSet as set
+use Rattle.std.proofs.Common.{ap, sym, ◌∙◌, subst}
+use Rattle.hol_types.specs.Tree.{TypeTree}
+use Rattle.hol_terms.specs.Named.{Named}
+use Rattle.hol_terms.specs.Nameless.{Nameless, free, bound, fixed, app, lam, nameless, free_occurrences}
+use Rattle.hol_terms.specs.Scoped.{binds}
+use Rattle.hol_terms.specs.Alpha.{strip}
+use Rattle.hol_subst.specs.FreeName.{has_name, is_taken}
+use Rattle.hol_subst.specs.Variant.{is_free_in}
+use Rattle.hol_subst.specs.Hypotheses.{Hyps, hyp_of, hyps_of}
+use Rattle.hol_subst.proofs.HypothesisLists.{hyps_total, hyps_same, free_in_hyps}
+use Rattle.hol_subst.proofs.SortedSets.{any_of_set}
+use Rattle.hol_formulas.specs.Formula.{Abstraction, existential, dest_exists}
+use Rattle.hol_formulas.proofs.FormulaLaws.{dest_quantifier_is}
+use Rattle.hol_kernel.specs.Given.{Given, given_sequent}
+use Rattle.hol_kernel.proofs.Members.{in_union_left}
+use Rattle.hol_goal.specs.Goal.{GoalValue}
+use Rattle.hol_goal.specs.Achieves.{assumed, AreAllowed}
+use Rattle.hol_just.specs.Leaving.{goal_terms, theorem_terms}
+use Rattle.hol_just.specs.QuantifierTacs.{terms_by, assuming_of}
+use Rattle.hol_just.specs.Valid.{IsValid}
+use Rattle.hol_just.specs.Justifies.{holds_given, LeavesChosen}
+use Rattle.hol_just.specs.declared.reason.Move.{Move}
+use Rattle.hol_just.proofs.QuantifierRules.{allowed_fresh}
+
+or_false : (a b : Bool) → (a || b) ≡ false → (a ≡ false) × (b ≡ false)
+or_false true b e = absurd cc
+or_false false b e = (refl, e)
+
+or_again : (a b c : Bool) → (a || (b || c)) ≡ ((a || b) || c)
+or_again true b c = refl
+or_again false b c = refl
+
+-- ---- two lists of terms
+
+free_in_both : (ns ms : List Nameless) (v : List ℕ × TypeTree) → is_free_in (ns ++ ms) v ≡ (is_free_in ns v || is_free_in ms v)
+free_in_both [] ms v = refl
+free_in_both (n ∷ ns) ms v = ap (λ b. binds (free_occurrences n) v || b) (free_in_both ns ms v) ∙ or_again (binds (free_occurrences n) v) (is_free_in ns v) (is_free_in ms v)
+
+taken_in_both : (ns ms : List Nameless) (a : List ℕ) → is_taken (ns ++ ms) a ≡ (is_taken ns a || is_taken ms a)
+taken_in_both [] ms a = refl
+taken_in_both (n ∷ ns) ms a = ap (λ b. has_name a n || b) (taken_in_both ns ms a) ∙ or_again (has_name a n) (is_taken ns a) (is_taken ms a)
+
+-- ---- the terms of a goal and a theorem
+
+pub in_goal : (th : Given) (goal : GoalValue) (v : List ℕ × TypeTree) → true ≡ is_free_in (goal_terms goal) v → true ≡ is_free_in (terms_by th goal) v
+in_goal th goal v h = ap (λ b. b || is_free_in (theorem_terms th) v) h ∙ sym (free_in_both (goal_terms goal) (theorem_terms th) v)
+
+pub in_conclusion :
+    (th : Given) (goal : GoalValue) (c : Nameless) (v : List ℕ × TypeTree) → c ≡ (given_sequent th).concl → false ≡ is_free_in (goal_terms goal) v → true ≡ binds (free_occurrences c) v →
+    true ≡ is_free_in (terms_by th goal) v
+in_conclusion th goal c v concl none h =
+    (λ i. none i || ((h ∙ ap (λ t. binds (free_occurrences t) v) concl) i || is_free_in (set.items (given_sequent th).hyps) v)) ∙ sym (free_in_both (goal_terms goal) (theorem_terms th) v)
+
+free_by :
+    (th : Given) (goal : GoalValue) (c : Nameless) (hyps : List Named) (v : List ℕ × TypeTree) → c ≡ (given_sequent th).concl → hyps_of hyps ≡ (given_sequent th).hyps →
+    (is_free_in (goal_terms goal) v || (binds (free_occurrences c) v || list_any (λ p. binds (free_occurrences (nameless [] p)) v) hyps)) ≡ is_free_in (terms_by th goal) v
+free_by th goal c hyps v concl are =
+    (λ i. is_free_in (goal_terms goal) v || (binds (free_occurrences (concl i)) v || sym (free_in_hyps (given_sequent th).hyps hyps v are) i))
+    ∙ sym (free_in_both (goal_terms goal) (theorem_terms th) v)
+
+pub in_hypotheses :
+    (th : Given) (goal : GoalValue) (c : Nameless) (hyps : List Named) (v : List ℕ × TypeTree) → c ≡ (given_sequent th).concl → hyps_of hyps ≡ (given_sequent th).hyps →
+    false ≡ is_free_in (goal_terms goal) v → false ≡ binds (free_occurrences c) v → list_any (λ p. binds (free_occurrences (nameless [] p)) v) hyps ≡ is_free_in (terms_by th goal) v
+in_hypotheses th goal c hyps v concl are none apart =
+    (λ i. none i || (apart i || list_any (λ p. binds (free_occurrences (nameless [] p)) v) hyps)) ∙ free_by th goal c hyps v concl are
+
+-- what is collected one after the other
+pub collected :
+    (first pushed all hyps : List Named) (c : Named) (ns : List Nameless) (n : Nameless) → map (nameless []) first ≡ ns → pushed ≡ first ++ (c ∷ []) → all ≡ pushed ++ hyps → nameless [] c ≡ n →
+    map (nameless []) all ≡ ns ++ (n ∷ map (nameless []) hyps)
+collected first pushed all hyps c ns n are push copies is =
+    ap (map (nameless [])) (copies ∙ ap (λ (ps : List Named). ps ++ hyps) push) ∙ go first ∙ (λ i. are i ++ (is i ∷ map (nameless []) hyps))
+  where
+    go : (ps : List Named) → map (nameless []) ((ps ++ (c ∷ [])) ++ hyps) ≡ map (nameless []) ps ++ (nameless [] c ∷ map (nameless []) hyps)
+    go [] = refl
+    go (p ∷ ps) = ap (λ (ms : List Nameless). nameless [] p ∷ ms) (go ps)
+
+name_stripped : (a : List ℕ) (n : Nameless) → has_name a (strip n) ≡ has_name a n
+name_stripped a (free v) = refl
+name_stripped a (bound i) = refl
+name_stripped a (fixed c s) = refl
+name_stripped a (app f x) = λ i. name_stripped a f i || name_stripped a x i
+name_stripped a (lam c s b) = name_stripped a b
+
+taken_any : (ns : List Nameless) (a : List ℕ) → is_taken ns a ≡ list_any (has_name a) ns
+taken_any [] a = refl
+taken_any (n ∷ ns) a = ap (λ b. has_name a n || b) (taken_any ns a)
+
+taken_keys : (ps : List Named) (a : List ℕ) → list_any (has_name a) (map hyp_of ps) ≡ is_taken (map (nameless []) ps) a
+taken_keys [] a = refl
+taken_keys (p ∷ ps) a = λ i. name_stripped a (nameless [] p) i || taken_keys ps a i
+
+taken_in_hyps : (hs : Hyps) (ps : List Named) (a : List ℕ) → hyps_of ps ≡ hs → is_taken (set.items hs) a ≡ is_taken (map (nameless []) ps) a
+taken_in_hyps hs ps a is =
+    ap (λ (s : Hyps). is_taken (set.items s) a) (sym is) ∙ taken_any (set.items (hyps_of ps)) a
+    ∙ any_of_set hyps_total hyps_same (has_name a) (map hyp_of ps) ∙ taken_keys ps a
+
+pub taken_by :
+    (th : Given) (goal : GoalValue) (terms : List Nameless) (hyps : List Named) (a : List ℕ) → hyps_of hyps ≡ (given_sequent th).hyps →
+    terms ≡ goal_terms goal ++ ((given_sequent th).concl ∷ map (nameless []) hyps) → is_taken terms a ≡ is_taken (terms_by th goal) a
+taken_by th goal terms hyps a are is =
+    ap (λ (ns : List Nameless). is_taken ns a) is
+    ∙ taken_in_both (goal_terms goal) ((given_sequent th).concl ∷ map (nameless []) hyps) a
+    ∙ ap (λ b. is_taken (goal_terms goal) a || (has_name a (given_sequent th).concl || b)) (sym (taken_in_hyps (given_sequent th).hyps hyps a are))
+    ∙ sym (taken_in_both (goal_terms goal) (theorem_terms th) a)
+
+-- ---- the justification
+
+pub chosen_valid :
+    (th : Given) (goal : GoalValue) (c : Nameless) (x : Abstraction) (v : List ℕ × TypeTree) (moves : List Move) → c ≡ (given_sequent th).concl → dest_exists c ≡ Some x → v.1 ≡ x.domain →
+    is_free_in (terms_by th goal) v ≡ false → LeavesChosen v th moves → (extra : Hyps) → set.is_subset extra (given_sequent th).hyps ≡ true → AreAllowed extra goal.assumptions (given_sequent th).hyps →
+    IsValid (holds_given th) extra moves (goal ∷ []) (assuming_of goal (free v) x ∷ [])
+chosen_valid th goal c x v moves concl taken same absent leaves extra among allowed =
+    let hs = (given_sequent th).hyps in
+    let is : (given_sequent th).concl ≡ existential x = sym concl ∙ dest_quantifier_is (codes "?") c x taken in
+    let parts = or_false (is_free_in (goal_terms goal) v) (is_free_in (theorem_terms th) v) (sym (free_in_both (goal_terms goal) (theorem_terms th) v) ∙ absent) in
+    let own = or_false (binds (free_occurrences goal.conclusion) v) (is_free_in goal.assumptions v) parts.0 in
+    let others = or_false (binds (free_occurrences (given_sequent th).concl) v) (is_free_in (set.items hs) v) parts.1 in
+    let within : AreAllowed hs [] extra = λ p h. in_union_left hyps_total hyps_same hs (assumed []) p (set.is_subset-contains hyps_total extra hs among p h) in
+    leaves extra goal.assumptions x goal.conclusion is same
+    (record { of_extra = allowed_fresh hs [] extra v others.1 refl within; of_assumptions = own.1; of_conclusion = own.0 })
+    (ap (λ t. binds (free_occurrences t) v) (sym is) ∙ others.0) allowed
