@@ -11,7 +11,7 @@ use Rattle.hol_types.proofs.Filters.{closed_match}
 use Rattle.hol_terms.specs.Named.{Named, var, constant, comb, abs}
 use Rattle.hol_terms.specs.Nameless.{Nameless, free, nameless, nameless_type}
 use Rattle.hol_terms.specs.Alpha.{alpha_eq}
-use Rattle.hol_terms.specs.Scoped.{binds}
+use Rattle.hol_terms.specs.Scoped.{binds, occurs_in}
 use Rattle.hol_terms.proofs.Same.{variable_eq_decides}
 use Rattle.hol_subst.specs.Substitution.{term_lookup}
 use Rattle.hol_subst.specs.Pairs.{nameless_pairs}
@@ -132,6 +132,16 @@ pub meets_none : (v : List ℕ × TypeTree) (n : Nameless) (s : TypeTree) (found
 meets_none v n s found e f =
     ap (λ o. option_and_then (λ s. variable_takes v found n s) o) e
     ∙ ap (λ o. option_and_then (λ more. taken (term_lookup more.terms (v.0, s)) more (v.0, s) n) o) f
+
+pub other_variable : (t : Named) (v : List ℕ × TypeTree) (b : Bool) → (occurs_in v t ≡ true → b ≡ true) → b ≡ false → is_variable t v ≡ false
+other_variable (var w) v b f e = by (variable_eq w v) f
+  where
+    by : (c : Bool) → (c ≡ true → b ≡ true) → c ≡ false
+    by true g = let z : true ≡ false = sym (g refl) ∙ e in absurd (cc)
+    by false g = refl
+other_variable (constant c s) v b f e = refl
+other_variable (comb g x) v b f e = refl
+other_variable (abs w t) v b f e = refl
 
 -- ---- types
 

@@ -138,10 +138,14 @@ fn term_in<'a>(pairs: &'a [(Term, Term)], v: &Variable) -> Option<&'a Term>
     None
 }
 
-/// Whether the term is this variable.
+/// Whether the term is this variable. Most others are told apart by what terms keep of their names.
+#[tactic(auto, using(crate::proofs::Lookups::other_variable))]
 pub(crate) fn is_variable(t: &Term, v: &Variable) -> bool
     ensures { result ≡ is_variable t.now v.now }
 {
+    if !t.may_have_free(v) {
+        return false;
+    }
     match t.node() {
         TermNode::Var(w) => w.same(v),
         TermNode::Const(_, _) | TermNode::Comb(_, _) | TermNode::Abs(_, _) => false,
