@@ -1,4 +1,4 @@
-//! Unit tests of hol_types, hol_terms, hol_subst, hol_formulas, the kernel, hol_match, the derived rules and the prelude, as tables whose rows are written in the
+//! Unit tests of hol_types, hol_terms, hol_subst, hol_formulas, the kernel, the derived rules and the prelude, as tables whose rows are written in the
 //! notation. They stand in a crate of their own, since a crate with tests is proved twice.
 #![tactic(auto)]
 
@@ -9,8 +9,6 @@ mod bases_tests;
 pub mod chains;
 #[cfg(test)]
 mod formulas_tests;
-#[cfg(test)]
-mod matching_tests;
 #[cfg(test)]
 mod prelude_tests;
 #[cfg(test)]
