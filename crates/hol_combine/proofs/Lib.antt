@@ -1,0 +1,11 @@
+pub mod After
+pub mod Falling
+pub mod Turns
+pub mod Counted
+pub mod Progress
+pub mod Lists
+pub mod Assumed
+pub mod Same
+pub mod Calling
+pub mod Arms
+pub mod Loops

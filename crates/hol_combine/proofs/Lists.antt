@@ -1,0 +1,144 @@
+-- Expressions in lists and chains.
+use Rattle.std.specs.Prelude.{◌≡◌, ◌≤◌, ◌<◌, ◌+◌, ℕ, zero, suc, Bool, true, ◌&&◌, List, [], ◌∷◌, ◌++◌, length, refl}
+use Rattle.std.specs.Cmp.Derive.{both_true}
+use Rattle.std.proofs.Common.{ap, sym, ◌∙◌, arith, get_or, drop, take, ◌-◌}
+use Rattle.std.proofs.lemmas.Bool.{and_parts}
+use Rattle.std.proofs.lemmas.List.{take_rest}
+use Rattle.hol_goal.specs.Goal.{GoalValue}
+use Rattle.hol_goal.specs.declared.tac_code.TacCode.{TacCode}
+use Rattle.hol_combine.specs.ExprValue.{CallValue, ExprValue, ExprValues, Call, Then, ThenL, OrElse, Try, Repeat, Every, First, Replicate, Changed, no_exprs, more_exprs, exprs, then_all, or_else_all, expr_nodes, exprs_nodes}
+use Rattle.hol_combine.specs.Runs.{RunValue, Leaves, Refuses, Stops, before_goals, then_on, otherwise, each, unchanged, run, run_every, run_first, run_each}
+use Rattle.hol_combine.specs.Suits.{all_calls, all_calls_of}
+use Rattle.hol_combine.specs.More.{run_more}
+use Rattle.hol_combine.proofs.After.{then_leaves, then_then, otherwise_same, each_unchanged}
+
+-- ---- tests of calls
+
+module _ (test : CallValue → Bool) where
+  pub of_one : (t : ExprValue) → all_calls test t ≡ true → all_calls_of test (more_exprs t no_exprs) ≡ true
+  of_one t h = both_true h refl
+
+  pub one_of : (t : ExprValue) → all_calls_of test (more_exprs t no_exprs) ≡ true → all_calls test t ≡ true
+  one_of t h = (and_parts (all_calls test t) true h).0
+
+  pub in_then : (t : ExprValue) (us : List ExprValue) → all_calls test (then_all t us) ≡ true → (all_calls test t ≡ true) × (all_calls_of test (exprs us) ≡ true)
+  in_then t [] h = (h, refl)
+  in_then t (u ∷ us) h =
+      let r = in_then (Then t u) us h in
+      let p = and_parts (all_calls test t) (all_calls test u) r.0 in
+      (p.0, both_true p.1 r.1)
+
+  pub in_or_else : (t : ExprValue) (us : List ExprValue) → all_calls test (or_else_all t us) ≡ true → (all_calls test t ≡ true) × (all_calls_of test (exprs us) ≡ true)
+  in_or_else t [] h = (h, refl)
+  in_or_else t (u ∷ us) h =
+      let p = and_parts (all_calls test t) (all_calls test (or_else_all u us)) h in
+      let r = in_or_else u us p.1 in
+      (p.0, both_true r.0 r.1)
+
+  pub to_or_else : (t : ExprValue) (us : List ExprValue) → all_calls_of test (exprs (t ∷ us)) ≡ true → all_calls test (or_else_all t us) ≡ true
+  to_or_else t [] h = one_of t h
+  to_or_else t (u ∷ us) h =
+      let p = and_parts (all_calls test t) (all_calls_of test (exprs (u ∷ us))) h in
+      both_true p.0 (to_or_else u us p.1)
+
+  pub in_list : (ts : List ExprValue) (i : ℕ) (d : ExprValue) → i < length ts → all_calls_of test (exprs ts) ≡ true → all_calls test (get_or ts i d) ≡ true
+  in_list [] i d h a = absurd (omega (arith, h))
+  in_list (t ∷ ts) zero d h a = (and_parts (all_calls test t) (all_calls_of test (exprs ts)) a).0
+  in_list (t ∷ ts) (suc i) d h a = in_list ts i d (omega (arith, h)) (and_parts (all_calls test t) (all_calls_of test (exprs ts)) a).1
+
+-- ---- numbers of nodes
+
+pub has_nodes : (t : ExprValue) → 1 ≤ expr_nodes t
+has_nodes (Call c) = omega arith
+has_nodes (Then t u) = omega arith
+has_nodes (ThenL t us) = omega arith
+has_nodes (OrElse t u) = omega arith
+has_nodes (Try t) = omega arith
+has_nodes (Repeat t) = omega arith
+has_nodes (Every ts) = omega arith
+has_nodes (First ts) = omega arith
+has_nodes (Replicate n t) = omega arith
+has_nodes (Changed t) = omega arith
+
+pub nodes_at : (ts : List ExprValue) (i : ℕ) (d : ExprValue) → i < length ts → expr_nodes (get_or ts i d) ≤ exprs_nodes (exprs ts)
+nodes_at [] i d h = absurd (omega (arith, h))
+nodes_at (t ∷ ts) zero d h = omega arith
+nodes_at (t ∷ ts) (suc i) d h = let l : i < length ts = omega (arith, h) in omega (arith, nodes_at ts i d l)
+
+pub nodes_in_then : (t : ExprValue) (us : List ExprValue) → expr_nodes t + exprs_nodes (exprs us) ≤ expr_nodes (then_all t us)
+nodes_in_then t [] = omega arith
+nodes_in_then t (u ∷ us) = omega (arith, nodes_in_then (Then t u) us)
+
+pub nodes_in_or_else : (t : ExprValue) (us : List ExprValue) → expr_nodes t + exprs_nodes (exprs us) ≤ expr_nodes (or_else_all t us)
+nodes_in_or_else t [] = omega arith
+nodes_in_or_else t (u ∷ us) = omega (arith, nodes_in_or_else u us)
+
+-- ---- runs
+
+module _ (table : List (List ℕ × TacCode)) where
+  pub every_one : (t : ExprValue) (goal : GoalValue) (turns : ℕ) → run_every table (more_exprs t no_exprs) goal turns ≡ run table t goal turns
+  every_one t goal turns = go (run table t goal turns)
+    where
+      go : (x : RunValue) → then_on x (each (run_every table no_exprs)) ≡ x
+      go (Leaves goals left) = each_unchanged goals left
+      go (Refuses why left) = refl
+      go (Stops why) = refl
+
+  pub each_every_one : (t : ExprValue) (goals : List GoalValue) (turns : ℕ) → each (run_every table (more_exprs t no_exprs)) goals turns ≡ each (run table t) goals turns
+  each_every_one t [] turns = refl
+  each_every_one t (g ∷ goals) turns = ap (λ x. then_on x (λ new l. before_goals new (each (run_every table (more_exprs t no_exprs)) goals l))) (every_one t g turns) ∙ go (run table t g turns) (λ l. each_every_one t goals l)
+    where
+      go : (x : RunValue) → ((l : ℕ) → each (run_every table (more_exprs t no_exprs)) goals l ≡ each (run table t) goals l) →
+          then_on x (λ new l. before_goals new (each (run_every table (more_exprs t no_exprs)) goals l)) ≡ then_on x (λ new l. before_goals new (each (run table t) goals l))
+      go (Leaves new left) h = ap (before_goals new) (h left)
+      go (Refuses why left) h = refl
+      go (Stops why) h = refl
+
+  -- a chain of THEN
+  pub then_more : (t : ExprValue) (us : List ExprValue) (goal : GoalValue) (turns : ℕ) → run table (then_all t us) goal turns ≡ then_on (run table t goal turns) (run_more table (exprs us))
+  then_more t [] goal turns = sym (then_leaves (run table t goal turns))
+  then_more t (u ∷ us) goal turns = then_more (Then t u) us goal turns ∙ then_then (run table t goal turns) (each (run table u)) (run_more table (exprs us))
+
+  -- FIRST of a list is a chain of ORELSE
+  pub first_is : (t : ExprValue) (us : List ExprValue) (goal : GoalValue) (turns : ℕ) → run_first table (more_exprs t (exprs us)) goal turns ≡ run table (or_else_all t us) goal turns
+  first_is t [] goal turns = refl
+  first_is t (u ∷ us) goal turns = otherwise_same (run table t goal turns) (run_first table (more_exprs u (exprs us)) goal) (run table (or_else_all u us) goal) (λ l. first_is u us goal l)
+
+-- ---- the expression at a place of a list
+
+pub drop_item : (ts : List ExprValue) (i : ℕ) (t : ExprValue) → i < length ts → t ≡ get_or ts i t → exprs (drop i ts) ≡ more_exprs t (exprs (drop (i + 1) ts))
+drop_item [] i t h e = absurd (omega (arith, h))
+drop_item (x ∷ ts) zero t h e = λ j. more_exprs (sym e j) (exprs ts)
+drop_item (x ∷ ts) (suc i) t h e = drop_item ts i t (omega (arith, h)) e ∙ ap (λ j. more_exprs t (exprs (drop j (x ∷ ts)))) (more i)
+  where
+    more : (i : ℕ) → suc (i + 1) ≡ suc i + 1
+    more i = omega arith
+
+pub item_passes : (test : CallValue → Bool) (ts : List ExprValue) (i : ℕ) (t : ExprValue) → i < length ts → t ≡ get_or ts i t → all_calls_of test (exprs ts) ≡ true → all_calls test t ≡ true
+item_passes test ts i t h e a = ap (all_calls test) e ∙ in_list test ts i t h a
+
+pub item_nodes : (ts : List ExprValue) (i : ℕ) (t : ExprValue) → i < length ts → t ≡ get_or ts i t → expr_nodes t ≤ exprs_nodes (exprs ts)
+item_nodes ts i t h e = omega (arith, ap expr_nodes e, nodes_at ts i t h)
+
+pub dropped_all : (ts : List ExprValue) (i : ℕ) → length ts ≤ i → exprs (drop i ts) ≡ no_exprs
+dropped_all [] zero h = refl
+dropped_all [] (suc i) h = refl
+dropped_all (x ∷ ts) zero h = absurd (omega (arith, h))
+dropped_all (x ∷ ts) (suc i) h = dropped_all ts i (omega (arith, h))
+
+pub nothing_left : (table : List (List ℕ × TacCode)) (ts : ExprValues) (l : ℕ) → run_each table ts [] l ≡ Leaves [] l
+nothing_left table no_exprs l = refl
+nothing_left table (more_exprs t ts) l = refl
+
+pub no_goals : (goals : List GoalValue) → length goals ≡ 0 → goals ≡ []
+no_goals [] h = refl
+no_goals (g ∷ goals) h = absurd (omega (arith, h))
+
+pub split : (ts : List ExprValue) (t : ExprValue) → 1 ≤ length ts → t ≡ get_or ts 0 t → ts ≡ t ∷ take (length ts - 1) (drop 1 ts)
+split [] t h e = absurd (omega (arith, h))
+split (x ∷ ts) t h e = λ i. sym e i ∷ sym (take_rest (x ∷ ts) 1) i
+
+pub only_one : (ts : List ExprValue) (t : ExprValue) → 1 ≤ length ts → length ts < 2 → t ≡ get_or ts 0 t → ts ≡ t ∷ []
+only_one [] t h k e = absurd (omega (arith, h))
+only_one (x ∷ []) t h k e = λ i. sym e i ∷ []
+only_one (x ∷ y ∷ ts) t h k e = absurd (omega (arith, k))

@@ -1,0 +1,12 @@
+-- What a registered function answers. Only private clauses speak of it.
+use Rattle.std.specs.Prelude.{ℕ, List, Result, slice_get, IfSome}
+use Rattle.hol_goal.specs.Goal.{GoalValue}
+use Rattle.hol_goal.specs.Arguments.{TacArgsValue}
+use Rattle.hol_goal.specs.declared.tac_code.TacCode.{TacCode}
+use Rattle.hol_just.specs.Answering.{AnswersCode}
+use Rattle.hol_just.specs.declared.tried.Tried.{Tried}
+use Rattle.hol_just.specs.declared.tried.TacFault.{TacFault}
+
+-- that of the code at the index
+abbrev pub IsCalled : List (List ℕ × TacCode) → ℕ → TacArgsValue → GoalValue → ℕ → Result Tried TacFault → Type 0
+IsCalled table index args goal turns result = IfSome (slice_get table index) (λ row. AnswersCode row.1 args goal turns result)

@@ -1,0 +1,22 @@
+-- The expression that a node stands for: what contracts see of it.
+use Rattle.std.specs.Prelude.{string_bytes}
+use Rattle.hol_goal.specs.ArgumentsView.{args_value}
+use Rattle.hol_combine.specs.declared.expr.TacCall.{TacCall}
+use Rattle.hol_combine.specs.declared.expr.ExprNode.{ExprNode}
+use Rattle.hol_combine.specs.declared.expr.ExprNode.TheVariants as node
+use Rattle.hol_combine.specs.ExprValue.{CallValue, ExprValue, Call, Then, ThenL, OrElse, Try, Repeat, Every, First, Replicate, Changed, exprs, then_all, or_else_all}
+
+abbrev pub call_value : TacCall → CallValue
+call_value call = record { index = call.index; name = string_bytes call.name; args = args_value call.args }
+
+abbrev pub expr_of_node : ExprNode → ExprValue
+expr_of_node (node.Call call) = Call (call_value call)
+expr_of_node (node.Then t u us) = then_all (Then t u) us.items
+expr_of_node (node.ThenL t us) = ThenL t (exprs us.items)
+expr_of_node (node.OrElse t u us) = OrElse t (or_else_all u us.items)
+expr_of_node (node.Try t) = Try t
+expr_of_node (node.Repeat t) = Repeat t
+expr_of_node (node.Every ts) = Every (exprs ts.items)
+expr_of_node (node.First ts) = First (exprs ts.items)
+expr_of_node (node.Replicate n t) = Replicate n t
+expr_of_node (node.Changed t) = Changed t

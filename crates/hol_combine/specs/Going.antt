@@ -1,0 +1,51 @@
+-- How a run goes on from what was done before. Only private clauses speak of it.
+use Rattle.std.specs.Prelude.{◌≡◌, ◌≤◌, ℕ, zero, suc, Bool, IsTrue, List, [], ◌∷◌, ◌++◌, Result, Ok, Err}
+use Rattle.hol_kernel.specs.Items.{Items}
+use Rattle.hol_kernel.specs.Sequent.{no_hyps}
+use Rattle.hol_goal.specs.Goal.{GoalValue}
+use Rattle.hol_just.specs.Valid.{IsValid}
+use Rattle.hol_just.specs.declared.reason.Move.{Move}
+use Rattle.hol_combine.specs.Runs.{DoesNotFit}
+use Rattle.hol_combine.specs.RunView.{refusal_value}
+use Rattle.hol_combine.specs.declared.ran.Ran.{Ran}
+use Rattle.hol_combine.specs.declared.ran.RunError.{RunError}
+use Rattle.hol_combine.specs.declared.ran.RunError.TheVariants as error
+
+-- no more turns are left than there were
+abbrev pub HasAtMost : ℕ → RunError → Type 0
+HasAtMost turns (error.Refused why left) = left ≤ turns
+HasAtMost turns error.TurnLimit = Unit {0}
+HasAtMost turns error.LargeGoal = Unit {0}
+HasAtMost turns error.Memory = Unit {0}
+
+abbrev pub LeavesAtMost : ℕ → Result Ran RunError → Type 0
+LeavesAtMost turns (Ok ran) = ran.left ≤ turns
+LeavesAtMost turns (Err e) = HasAtMost turns e
+
+-- Moves that are valid to these goals become moves that are valid to those, over bases that suit more.
+abbrev pub GoesOn : (Items → Bool) → List Move → List GoalValue → List Move → List GoalValue → Type 0
+GoesOn more moves goals moves' goals' =
+    (suits : Items → Bool) (before : List GoalValue) → ((basis : Items) → IsTrue (suits basis) → IsTrue (more basis)) →
+    IsValid suits no_hyps moves before goals → IsValid suits no_hyps moves' before goals'
+
+-- a run that went on from another
+abbrev pub GoesOnFrom : (Items → Bool) → Ran → Ran → Type 0
+GoesOnFrom more old new = GoesOn more old.step.just old.step.goals.items new.step.just new.step.goals.items
+
+-- a goal that was left as it is
+pub record IsKept (goal : GoalValue) (turns : ℕ) (ran : Ran) : Type 0 where
+  pub goals : ran.step.goals.items ≡ goal ∷ []
+  pub just : ran.step.just ≡ []
+  pub left : ran.left ≡ turns
+
+-- the refusal of a tactical
+abbrev pub IsRefusal : List ℕ → ℕ → RunError → Type 0
+IsRefusal name turns (error.Refused why left) = (refusal_value why ≡ DoesNotFit name) × (left ≡ turns)
+IsRefusal name turns error.TurnLimit = ⊥
+IsRefusal name turns error.LargeGoal = ⊥
+IsRefusal name turns error.Memory = Unit {0}
+
+-- a number so many times
+abbrev pub copies : ℕ → ℕ → List ℕ
+copies zero n = []
+copies (suc times) n = n ∷ copies times n

@@ -1,0 +1,11 @@
+pub mod ExprValue
+pub mod Code
+pub mod ExprView
+pub mod Falls
+pub mod Runs
+pub mod Suits
+pub mod RunView
+pub mod More
+pub mod Going
+pub mod Work
+pub mod Called

@@ -1,0 +1,139 @@
+//! Calls of registered functions on goals.
+ghost use Rattle.std.specs.Prelude.{◌≡◌, ◌≤◌, ◌<◌, IfOk, length, true, [], ◌∷◌};
+ghost use Rattle.std.specs.FinSet as set;
+ghost use Rattle.std.specs.List.{list_all, list_any};
+ghost use Rattle.hol_terms.specs.Nameless.{nameless};
+ghost use Rattle.hol_terms.specs.Alpha.{alpha_eq};
+ghost use Rattle.hol_kernel.specs.Given.{given_sequent};
+ghost use Rattle.hol_goal.specs.Achieves.{assumed};
+ghost use Rattle.hol_goal.specs.ArgumentsView.{args_value};
+ghost use Rattle.hol_just.specs.Answering.{suits};
+ghost use Rattle.hol_combine.specs.ExprView.{call_value};
+ghost use Rattle.hol_combine.specs.Runs.{are_assumed, has_large, small, meaning_at, run_meaning, run_call};
+ghost use Rattle.hol_combine.specs.RunView.{IsRun, IsValidRun};
+ghost use Rattle.hol_combine.specs.Going.{LeavesAtMost};
+
+use crate::expr::TacCall;
+use crate::ran::{Ran, Refusal, RunError};
+use crate::tacs::Tacs;
+use hol_goal::{Goal, TacArgs};
+use hol_just::{TacFault, Tried};
+use hol_kernel::Given;
+use hol_subst::aconv;
+use hol_terms::Term;
+use std::alloc::Global;
+
+// The most nodes that a goal may have.
+const LARGEST_GOAL: u32 = 20_000;
+
+/// A call pays a turn, tests the hypotheses of the theorems that are written, and calls.
+pub(crate) fn run_call<T: Tacs>(
+    alloc: Global,
+    call: &TacCall,
+    goal: &Goal,
+    tacs: &T,
+    turns: u32,
+) -> Result<Ran, RunError>
+    requires index { call.now.index < length (T.Tacs.table_of tacs.now) }
+    requires turns { turns ≤ 100000 }
+    ensures answer { IsRun (run_call (T.Tacs.table_of tacs.now) (call_value call.now) goal.now turns) result }
+    ensures valid { IfOk result (IsValidRun (suits (args_value call.now.args)) (goal.now ∷ [])) }
+    ensures left { LeavesAtMost turns result }
+{
+    if turns == 0 {
+        return Err(RunError::TurnLimit);
+    }
+    let left = turns - 1;
+    if !are_assumed(&call.args, goal) {
+        let name = String::from_str(alloc, call.name.as_str())?;
+        return Err(RunError::Refused(Refusal::LacksHyps(name), left));
+    }
+    call_paid(alloc, call, goal, tacs, left)
+}
+
+// A call that has paid, whose theorems' hypotheses are assumptions.
+fn call_paid<T: Tacs>(
+    alloc: Global,
+    call: &TacCall,
+    goal: &Goal,
+    tacs: &T,
+    turns: u32,
+) -> Result<Ran, RunError>
+    requires index { call.now.index < length (T.Tacs.table_of tacs.now) }
+    requires turns { turns ≤ 100000 }
+    requires assumed { are_assumed (args_value call.now.args) goal.now ≡ true }
+    ensures answer { IsRun (run_meaning (meaning_at (T.Tacs.table_of tacs.now) call.now.index) (call_value call.now).name (args_value call.now.args) goal.now turns) result }
+    ensures valid { IfOk result (IsValidRun (suits (args_value call.now.args)) (goal.now ∷ [])) }
+    ensures left { LeavesAtMost turns result }
+{
+    match tacs.call_at(call.index, &call.args, goal, turns) {
+        Ok(tried) => small(tried),
+        Err(TacFault::Refused(left)) => {
+            let name = String::from_str(alloc, call.name.as_str())?;
+            Err(RunError::Refused(Refusal::DoesNotFit(name), left))
+        }
+        Err(TacFault::Memory) => Err(RunError::Memory),
+    }
+}
+
+// What was done, where no goal that is left is too large.
+fn small(tried: Tried) -> Result<Ran, RunError>
+    ensures answer { IsRun (small tried.step.goals.items tried.left) result }
+    ensures step { IfOk result (λ ran. ran.step ≡ tried.step) }
+    ensures left { LeavesAtMost tried.left result }
+{
+    let Tried { step, left } = tried;
+    if has_large(&step.goals) {
+        return Err(RunError::LargeGoal);
+    }
+    Ok(Ran { step, left })
+}
+
+// Whether one of the goals has over 20,000 nodes.
+fn has_large(goals: &[Goal]) -> bool
+    ensures { result ≡ has_large goals.now }
+{
+    goals.iter().any(|goal| goal.size() > LARGEST_GOAL)
+}
+
+// Whether each hypothesis of the theorems among the arguments is an assumption.
+fn are_assumed(args: &TacArgs, goal: &Goal) -> bool
+    ensures { result ≡ are_assumed (args_value args.now) goal.now }
+{
+    match args {
+        TacArgs::Nothing => true,
+        TacArgs::Term(_) => true,
+        TacArgs::Pair(_, _) => true,
+        TacArgs::Theorem(th) => is_assumed(th, goal),
+        TacArgs::TermAndTheorem(_, th) => is_assumed(th, goal),
+        TacArgs::Theorems(ths) => all_assumed(ths, goal),
+    }
+}
+
+// Whether each hypothesis of the theorems is an assumption.
+fn all_assumed(ths: &[Given], goal: &Goal) -> bool
+    ensures { result ≡ list_all (λ th. set.is_subset (given_sequent th).hyps (assumed goal.now.assumptions)) ths.now }
+{
+    ths.iter().all(|th| is_assumed(th, goal))
+}
+
+// Whether each hypothesis of the theorem is an assumption.
+fn is_assumed(th: &Given, goal: &Goal) -> bool
+    ensures { result ≡ set.is_subset (given_sequent th.now).hyps (assumed goal.now.assumptions) }
+{
+    are_among(th.hyps(), goal.assumptions())
+}
+
+// Whether each of the terms is one of the assumptions, up to bound names.
+fn are_among(hyps: &[Term], assumptions: &[Term]) -> bool
+    ensures { result ≡ list_all (λ h. list_any (λ p. alpha_eq (nameless [] p) (nameless [] h)) assumptions.now) hyps.now }
+{
+    hyps.iter().all(|hyp| stands(hyp, assumptions))
+}
+
+// Whether the term is one of the assumptions, up to bound names.
+fn stands(hyp: &Term, assumptions: &[Term]) -> bool
+    ensures { result ≡ list_any (λ p. alpha_eq (nameless [] p) (nameless [] hyp.now)) assumptions.now }
+{
+    assumptions.iter().any(|assumption| aconv(assumption, hyp))
+}

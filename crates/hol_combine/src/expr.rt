@@ -1,0 +1,98 @@
+//! Expressions of functions on goals, whose names are resolved.
+ghost use Rattle.std.specs.Prelude.{◌≡◌, IfOk};
+ghost use Rattle.hol_combine.specs.ExprView.{expr_of_node};
+
+use hol_goal::TacArgs;
+use std::alloc::{AllocError, Global};
+use std::marker::Model;
+use std::rc::Rc;
+
+/// A call of a registered function on goals.
+#[derive(Drop)]
+pub struct TacCall {
+    /// The function's index in the registry.
+    pub index: usize,
+    /// The name that it is called by. A refusal says this name.
+    pub name: String,
+    /// The arguments.
+    pub args: TacArgs,
+}
+
+/// An expression of functions on goals: a call, or a tactical of HOL Light applied to what it takes. Copies share their nodes.
+#[cycle(expr)]
+#[derive(Drop)]
+pub struct Expr {
+    node: Rc<ExprNode>,
+}
+
+/// The top node of an expression. Chains are lists, so that no expression is nested deeper than its brackets and lists are.
+#[cycle(expr)]
+#[derive(Drop)]
+pub enum ExprNode {
+    /// A function on goals with its arguments.
+    Call(TacCall),
+    /// `t THEN u THEN ..`, from the left.
+    Then(Expr, Expr, Vec<Expr>),
+    /// `t THENL [u; ..]`
+    ThenL(Expr, Vec<Expr>),
+    /// `t ORELSE u ORELSE ..`
+    OrElse(Expr, Expr, Vec<Expr>),
+    /// `TRY t`
+    Try(Expr),
+    /// `REPEAT t`
+    Repeat(Expr),
+    /// `EVERY [t; ..]`
+    Every(Vec<Expr>),
+    /// `FIRST [t; ..]`
+    First(Vec<Expr>),
+    /// `REPLICATE_TAC n t`
+    Replicate(usize, Expr),
+    /// `CHANGED_TAC t`
+    Changed(Expr),
+}
+
+impl Model for Expr {
+    ghost use Rattle.hol_combine.specs.ExprValue.{ExprValue, expr_nodes};
+    ghost use Rattle.hol_combine.specs.Code.{coded_expr};
+
+    ghost Value = { ExprValue };
+
+    ghost coded = { coded_expr };
+
+    ghost use Rattle.hol_combine.specs.ExprView.{expr_of_node};
+
+    ghost view = { λ e. expr_of_node e.node.value };
+
+    ghost size = { expr_nodes };
+
+    ghost use Rattle.hol_combine.specs.Falls.{deep_le_nodes};
+
+    ghost size_decreases = { λ e h. deep_le_nodes e.node.value };
+}
+
+impl Expr {
+    /// The expression with this top node.
+    pub fn new(alloc: Global, node: ExprNode) -> Result<Expr, AllocError>
+        ensures { IfOk result (λ expr. expr ≡ expr_of_node node) }
+    {
+        Ok(Expr {
+            node: Rc::new(alloc, node)?,
+        })
+    }
+
+    /// The top node, with its parts by reference.
+    pub fn node(&self) -> &ExprNode
+        ensures { expr_of_node result.now ≡ self.now }
+    {
+        self.node.as_ref()
+    }
+
+    /// The same expression, sharing its nodes.
+    pub fn copy(&self) -> Result<Expr, AllocError>
+        ensures { IfOk result (λ expr. expr ≡ self.now) }
+    {
+        Ok(Expr {
+            node: self.node.clone()?,
+        })
+    }
+}

@@ -1,0 +1,18 @@
+//! Expressions of functions on goals, and their runs: the tacticals of HOL Light over a registry.
+//!
+//! Calls that answer a `Result` answer its memory error where memory is short, and nowhere else.
+#![tactic(auto)]
+
+mod calls;
+mod expr;
+mod laws;
+mod parts;
+mod ran;
+mod running;
+mod tacs;
+mod work;
+
+pub use expr::{Expr, ExprNode, TacCall};
+pub use laws::repeat_law;
+pub use ran::{Ran, Refusal, RunError};
+pub use running::run;

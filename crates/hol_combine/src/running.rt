@@ -1,0 +1,282 @@
+//! Runs of expressions.
+ghost use Rattle.std.specs.Prelude.{◌≡◌, ◌≤◌, IfOk, length, true, [], ◌∷◌};
+ghost use Rattle.hol_registry.specs.RegistryView.{table};
+ghost use Rattle.hol_combine.specs.ExprValue.{exprs, or_else_all};
+ghost use Rattle.hol_combine.specs.Runs.{each, repeated, replicate, run, run_every};
+ghost use Rattle.hol_combine.specs.More.{run_more, run_list};
+ghost use Rattle.hol_combine.specs.Suits.{are_indices, are_indices_of, suits_expr, suits_exprs};
+ghost use Rattle.hol_combine.specs.RunView.{IsRun, IsValidRun};
+ghost use Rattle.hol_combine.specs.Going.{LeavesAtMost, GoesOnFrom};
+
+use crate::calls::run_call;
+use crate::expr::{Expr, ExprNode};
+use crate::parts::{is_just, push_each, refused, unchanged};
+use crate::ran::{Ran, RunError};
+use crate::tacs::Tacs;
+use crate::work::Work;
+use hol_goal::Goal;
+use hol_registry::Registry;
+use std::alloc::Global;
+use std::slice;
+
+/// Runs the expression on the goal, with so many turns. Its calls are of functions of the registry.
+pub fn run(
+    alloc: Global,
+    expr: &Expr,
+    goal: &Goal,
+    registry: &Registry,
+    turns: u32,
+) -> Result<Ran, RunError>
+    requires indices { are_indices (length (table registry.now)) expr.now ≡ true }
+    requires turns { turns ≤ 100000 }
+    ensures answer { IsRun (run (table registry.now) expr.now goal.now turns) result }
+    ensures valid { IfOk result (IsValidRun (suits_expr expr.now) (goal.now ∷ [])) }
+{
+    run_expr(alloc, expr, goal, registry, turns)
+}
+
+#[cycle(run)]
+fn run_expr<T: Tacs>(
+    alloc: Global,
+    expr: &Expr,
+    goal: &Goal,
+    tacs: &T,
+    turns: u32,
+) -> Result<Ran, RunError>
+    requires indices { are_indices (length (T.Tacs.table_of tacs.now)) expr.now ≡ true }
+    requires turns { turns ≤ 100000 }
+    ensures answer { IsRun (run (T.Tacs.table_of tacs.now) expr.now goal.now turns) result }
+    ensures valid { IfOk result (IsValidRun (suits_expr expr.now) (goal.now ∷ [])) }
+    ensures left { LeavesAtMost turns result }
+{
+    match expr.node() {
+        ExprNode::Call(call) => run_call(alloc, call, goal, tacs, turns),
+        ExprNode::Then(first, second, more) => {
+            let ran = run_expr(alloc, first, goal, tacs, turns)?;
+            let next = run_each(alloc, slice::from_ref(second), ran, tacs)?;
+            run_more(alloc, more, next, tacs)
+        }
+        ExprNode::ThenL(first, parts) => {
+            let ran = run_expr(alloc, first, goal, tacs, turns)?;
+            run_list(alloc, parts, ran, tacs)
+        }
+        ExprNode::OrElse(first, second, more) => {
+            match run_expr(alloc, first, goal, tacs, turns) {
+                Ok(ran) => Ok(ran),
+                Err(RunError::Refused(_, left)) => {
+                    run_alternatives(alloc, second, more, goal, tacs, left)
+                }
+                Err(RunError::TurnLimit) => Err(RunError::TurnLimit),
+                Err(RunError::LargeGoal) => Err(RunError::LargeGoal),
+                Err(RunError::Memory) => Err(RunError::Memory),
+            }
+        }
+        ExprNode::Try(part) => match run_expr(alloc, part, goal, tacs, turns) {
+            Ok(ran) => Ok(ran),
+            Err(RunError::Refused(_, left)) => Ok(unchanged(alloc, goal, left)?),
+            Err(RunError::TurnLimit) => Err(RunError::TurnLimit),
+            Err(RunError::LargeGoal) => Err(RunError::LargeGoal),
+            Err(RunError::Memory) => Err(RunError::Memory),
+        },
+        ExprNode::Repeat(part) => repeat(alloc, part, unchanged(alloc, goal, turns)?, tacs),
+        ExprNode::Every(parts) => run_every(alloc, parts, goal, tacs, turns),
+        ExprNode::First(parts) => match parts.as_slice() {
+            [] => Err(refused(alloc, "FIRST", turns)),
+            [first, more @ ..] => run_alternatives(alloc, first, more, goal, tacs, turns),
+        },
+        ExprNode::Replicate(times, part) => {
+            replicate(alloc, *times, part, unchanged(alloc, goal, turns)?, tacs)
+        }
+        ExprNode::Changed(part) => {
+            let ran = run_expr(alloc, part, goal, tacs, turns)?;
+            if is_just(goal, &ran.step.goals) {
+                return Err(refused(alloc, "CHANGED_TAC", ran.left));
+            }
+            Ok(ran)
+        }
+    }
+}
+
+// The expressions one after the other, each on all the goals that the one before it left.
+#[cycle(run)]
+fn run_more<T: Tacs>(alloc: Global, more: &[Expr], ran: Ran, tacs: &T) -> Result<Ran, RunError>
+    requires indices { are_indices_of (length (T.Tacs.table_of tacs.now)) (exprs more.now) ≡ true }
+    requires turns { ran.left ≤ 100000 }
+    ensures answer { IsRun (run_more (T.Tacs.table_of tacs.now) (exprs more.now) ran.step.goals.items ran.left) result }
+    ensures valid { IfOk result (GoesOnFrom (suits_exprs (exprs more.now)) ran) }
+    ensures left { LeavesAtMost ran.left result }
+{
+    let mut ran = ran;
+    for part in more {
+        ran = run_each(alloc, slice::from_ref(part), ran, tacs)?;
+    }
+    Ok(ran)
+}
+
+// EVERY of the expressions, on each of the goals that are left.
+#[cycle(run)]
+fn run_each<T: Tacs>(alloc: Global, parts: &[Expr], ran: Ran, tacs: &T) -> Result<Ran, RunError>
+    requires indices { are_indices_of (length (T.Tacs.table_of tacs.now)) (exprs parts.now) ≡ true }
+    requires turns { ran.left ≤ 100000 }
+    ensures answer { IsRun (each (run_every (T.Tacs.table_of tacs.now) (exprs parts.now)) ran.step.goals.items ran.left) result }
+    ensures valid { IfOk result (GoesOnFrom (suits_exprs (exprs parts.now)) ran) }
+    ensures left { LeavesAtMost ran.left result }
+{
+    let mut work = Work::new(alloc, ran);
+    'goals: while let Some(goal) = work.next() {
+        let part = run_every(alloc, parts, &goal, tacs, work.left())?;
+        work.finish(part)?;
+    }
+    Ok(work.end())
+}
+
+// EVERY of the expressions, on the goal.
+#[cycle(run)]
+fn run_every<T: Tacs>(
+    alloc: Global,
+    parts: &[Expr],
+    goal: &Goal,
+    tacs: &T,
+    turns: u32,
+) -> Result<Ran, RunError>
+    requires indices { are_indices_of (length (T.Tacs.table_of tacs.now)) (exprs parts.now) ≡ true }
+    requires turns { turns ≤ 100000 }
+    ensures answer { IsRun (run_every (T.Tacs.table_of tacs.now) (exprs parts.now) goal.now turns) result }
+    ensures valid { IfOk result (IsValidRun (suits_exprs (exprs parts.now)) (goal.now ∷ [])) }
+    ensures left { LeavesAtMost turns result }
+{
+    match parts {
+        [] => Ok(unchanged(alloc, goal, turns)?),
+        [only] => run_expr(alloc, only, goal, tacs, turns),
+        [first, rest @ ..] => {
+            let ran = run_expr(alloc, first, goal, tacs, turns)?;
+            run_each(alloc, rest, ran, tacs)
+        }
+    }
+}
+
+// The first expression, or where it is refused the others.
+#[cycle(run)]
+fn run_alternatives<T: Tacs>(
+    alloc: Global,
+    first: &Expr,
+    more: &[Expr],
+    goal: &Goal,
+    tacs: &T,
+    turns: u32,
+) -> Result<Ran, RunError>
+    requires first { are_indices (length (T.Tacs.table_of tacs.now)) first.now ≡ true }
+    requires more { are_indices_of (length (T.Tacs.table_of tacs.now)) (exprs more.now) ≡ true }
+    requires turns { turns ≤ 100000 }
+    ensures answer { IsRun (run (T.Tacs.table_of tacs.now) (or_else_all first.now more.now) goal.now turns) result }
+    ensures valid { IfOk result (IsValidRun (suits_expr (or_else_all first.now more.now)) (goal.now ∷ [])) }
+    ensures left { LeavesAtMost turns result }
+{
+    let [next, rest @ ..] = more else {
+        return run_expr(alloc, first, goal, tacs, turns);
+    };
+    match run_expr(alloc, first, goal, tacs, turns) {
+        Ok(ran) => Ok(ran),
+        Err(RunError::Refused(_, left)) => run_alternatives(alloc, next, rest, goal, tacs, left),
+        Err(RunError::TurnLimit) => Err(RunError::TurnLimit),
+        Err(RunError::LargeGoal) => Err(RunError::LargeGoal),
+        Err(RunError::Memory) => Err(RunError::Memory),
+    }
+}
+
+// Each of the expressions on the goal of its place.
+#[cycle(run)]
+fn run_list<T: Tacs>(alloc: Global, parts: &[Expr], ran: Ran, tacs: &T) -> Result<Ran, RunError>
+    requires indices { are_indices_of (length (T.Tacs.table_of tacs.now)) (exprs parts.now) ≡ true }
+    requires turns { ran.left ≤ 100000 }
+    ensures answer { IsRun (run_list (T.Tacs.table_of tacs.now) (exprs parts.now) ran.step.goals.items ran.left) result }
+    ensures valid { IfOk result (GoesOnFrom (suits_exprs (exprs parts.now)) ran) }
+    ensures left { LeavesAtMost ran.left result }
+{
+    if parts.len() != ran.step.goals.len() {
+        return Err(refused(alloc, "THENL", ran.left));
+    }
+    let mut work = Work::new(alloc, ran);
+    for part in parts {
+        let Some(goal) = work.next() else {
+            unreachable!()
+        };
+        let one = run_expr(alloc, part, &goal, tacs, work.left())?;
+        work.finish(one)?;
+    }
+    Ok(work.end())
+}
+
+// REPEAT of the expression, on each of the goals that are left.
+#[cycle(run)]
+fn repeat<T: Tacs>(alloc: Global, part: &Expr, ran: Ran, tacs: &T) -> Result<Ran, RunError>
+    requires indices { are_indices (length (T.Tacs.table_of tacs.now)) part.now ≡ true }
+    requires turns { ran.left ≤ 100000 }
+    ensures answer { IsRun (each (repeated (run (T.Tacs.table_of tacs.now) part.now)) ran.step.goals.items ran.left) result }
+    ensures valid { IfOk result (GoesOnFrom (suits_expr part.now) ran) }
+    ensures left { LeavesAtMost ran.left result }
+{
+    let mut work = Work::new(alloc, ran);
+    'rounds: while let Some(goal) = work.next() {
+        let left = work.left();
+        if left == 0 {
+            return Err(RunError::TurnLimit);
+        }
+        match run_expr(alloc, part, &goal, tacs, left - 1) {
+            Ok(one) => {
+                work.again(one)?;
+                continue;
+            }
+            Err(RunError::Refused(_, after)) => {
+                work.keep(goal, after)?;
+                continue;
+            }
+            Err(RunError::TurnLimit) => return Err(RunError::TurnLimit),
+            Err(RunError::LargeGoal) => return Err(RunError::LargeGoal),
+            Err(RunError::Memory) => return Err(RunError::Memory),
+        }
+    }
+    Ok(work.end())
+}
+
+// REPLICATE_TAC of the expression, so many times, on the goal that is left.
+#[cycle(run)]
+fn replicate<T: Tacs>(
+    alloc: Global,
+    times: usize,
+    part: &Expr,
+    ran: Ran,
+    tacs: &T,
+) -> Result<Ran, RunError>
+    requires indices { are_indices (length (T.Tacs.table_of tacs.now)) part.now ≡ true }
+    requires turns { ran.left ≤ 100000 }
+    ensures answer { IsRun (each (replicate (run (T.Tacs.table_of tacs.now) part.now) times) ran.step.goals.items ran.left) result }
+    ensures valid { IfOk result (GoesOnFrom (suits_expr part.now) ran) }
+    ensures left { LeavesAtMost ran.left result }
+{
+    if times == 0 {
+        return Ok(ran);
+    }
+    // The rounds after the next one of each goal that waits, that of the first goal last.
+    let mut rounds = Vec::new(alloc);
+    push_each(&mut rounds, times - 1, ran.step.goals.len())?;
+    let mut work = Work::new(alloc, ran);
+    'rounds: while let Some(goal) = work.next() {
+        let Some(more) = rounds.pop() else {
+            unreachable!()
+        };
+        let left = work.left();
+        if left == 0 {
+            return Err(RunError::TurnLimit);
+        }
+        let one = run_expr(alloc, part, &goal, tacs, left - 1)?;
+        if more == 0 {
+            work.finish(one)?;
+            continue;
+        }
+        push_each(&mut rounds, more - 1, one.step.goals.len())?;
+        work.again(one)?;
+        continue;
+    }
+    Ok(work.end())
+}
