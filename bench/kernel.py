@@ -1,5 +1,5 @@
 #!/usr/bin/env python3
-"""How many rules of the kernel, derived rules, functions on goals and substitutions are done in a second, and what is asked of shared types.
+"""How many rules of the kernel, derived rules, functions on goals, justifications and substitutions are done in a second, and what is asked of shared types.
 
     python3 bench/kernel.py --program PATH [--rounds N] [--only PREFIX]
 
@@ -12,6 +12,14 @@ PATH is the built program, crates/hol_bench/out/hol_bench. Its jobs:
             a derived rule over the basis without items, of the equation t = t, where t has so many applications, and of what the rule takes of it
   many_RULE the same of t = t from so many hypotheses, where t has 4 applications
   NAME_tac  a function on a goal that is made of t = t, where t has so many applications; the answer is the size of the goal, 0 where the function is refused (no_tac)
+  justify_rules
+            the theorem of t = t from its justification, for a tree t of pairs with 2 to so many leaves: each move is a rule of the kernel, made at the last open goal;
+            the answer is the number of moves
+  justify   the same of a conjunction of 2 to so many leaves !x. F \\/ !x. F \\/ .. x = x: all moves but those of the leaves are derived rules
+  justify_rules_in_turn, justify_in_turn
+            each move is made at the next open goal, so that nearly all leaves are open at once
+  justify_rules_apart, justify_apart
+            each move is made far from the one before
   prelude   the prelude's 21 theorems are derived; the answer is the size of AND_CLAUSES
   tower     a variable under so many applications is replaced: the whole term is made anew
   beside    a variable beside so many applications, in which it does not occur: these keep their nodes
@@ -58,6 +66,12 @@ JOBS = tuple((rule, height, times) for rule in RULES for height, times in HEIGHT
     (f"{tac}_tac", height, times) for tac in TACS for height, times in (DOUBLE_HEIGHTS if tac in DOUBLED else TAC_HEIGHTS)
 ) + (
     ("prelude", 0, 100),
+    ("justify_rules", 10, 20),
+    ("justify_rules_in_turn", 10, 20),
+    ("justify_rules_apart", 10, 20),
+    ("justify", 10, 1),
+    ("justify_in_turn", 10, 1),
+    ("justify_apart", 10, 1),
     ("tower", 200, 5000),
     ("tower", 3990, 200),
     ("beside", 200, 200000),
@@ -89,14 +103,14 @@ def main():
     parser.add_argument("--only", default="", help="the jobs whose names begin so")
     given = parser.parse_args()
     program = os.path.abspath(given.program)
-    print(f"{'job':16}{'size':>6}{'answer':>11}{'a second':>12}{'ms':>12}")
+    print(f"{'job':22}{'size':>6}{'answer':>11}{'a second':>12}{'ms':>12}")
     for job, size, times in JOBS:
         if not job.startswith(given.only):
             continue
         runs = [processor_seconds(program, job, size, times) for _ in range(given.rounds)]
         idle = [processor_seconds(program, job, size, 0) for _ in range(given.rounds)]
         seconds = max(statistics.median(run[0] for run in runs) - statistics.median(run[0] for run in idle), 1e-6)
-        print(f"{job:16}{size:6}{runs[0][1]:>11}{times / seconds:12,.0f}{1000 * seconds / times:12.4f}")
+        print(f"{job:22}{size:6}{runs[0][1]:>11}{times / seconds:12,.0f}{1000 * seconds / times:12.4f}")
 
 
 if __name__ == "__main__":

@@ -2,6 +2,7 @@
 
 use hol_bool::BoolError;
 use hol_equal::EqualError;
+use hol_just::TacFault;
 use hol_kernel::KernelError;
 use hol_subst::SubstError;
 use hol_terms::TermError;
@@ -52,6 +53,12 @@ impl From<EqualError> for Failure {
 
 impl From<BoolError> for Failure {
     fn from(_e: BoolError) -> Failure {
+        Failure::Refused
+    }
+}
+
+impl From<TacFault> for Failure {
+    fn from(_e: TacFault) -> Failure {
         Failure::Refused
     }
 }

@@ -5,6 +5,8 @@ mod derived;
 mod failure;
 mod formulas;
 mod goals;
+mod justifying;
+mod proving;
 mod rules;
 mod sharing;
 mod substitution;
@@ -13,6 +15,7 @@ mod terms;
 use crate::derived::derived;
 use crate::failure::Failure;
 use crate::goals::goals;
+use crate::justifying::justifying;
 use crate::rules::rules;
 use crate::sharing::sharing;
 use crate::substitution::substitution;
@@ -59,6 +62,9 @@ fn done(alloc: Global, work: &Work) -> Result<u32, Failure> {
 fn above(alloc: Global, job: &str, size: u32, times: u32) -> Result<u32, Failure> {
     if job.ends_with("_tac") {
         return goals(alloc, job, size, times);
+    }
+    if job.starts_with("justify") {
+        return justifying(alloc, job, size, times);
     }
     derived(alloc, job, size, times)
 }

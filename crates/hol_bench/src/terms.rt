@@ -73,3 +73,12 @@ pub fn pair(alloc: Global, s: &Term, t: &Term) -> Result<Term, Failure> {
     let g = binary(alloc, &a)?;
     applied_to_two(alloc, &g, s, t)
 }
+
+/// `f (f (f x))` at each leaf of a tree of pairs so many levels deep, which shares its nodes.
+pub fn shared_pairs(alloc: Global, levels: u32) -> Result<Term, Failure> {
+    let mut t = tower(alloc, "x", 3)?;
+    for _ in 0..levels {
+        t = pair(alloc, &t, &t)?;
+    }
+    Ok(t)
+}
