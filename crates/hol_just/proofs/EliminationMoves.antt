@@ -1,17 +1,15 @@
 -- The justifications of one move by the rules that take connectives and quantifiers off, and by those of equations.
-use Rattle.std.specs.Prelude.{◌≡◌, ◌⊎◌, ℕ, false, List, [], ◌∷◌, codes, Some}
+use Rattle.std.specs.Prelude.{◌≡◌, ℕ, List, [], ◌∷◌, codes, Some}
 use Rattle.std.proofs.Common.{ap, sym, ◌∙◌, subst}
 use Rattle.hol_types.specs.Tree.{TypeTree}
 use Rattle.hol_terms.specs.Named.{Named, var}
-use Rattle.hol_terms.specs.Nameless.{Nameless, free, nameless, nameless_type, free_occurrences}
-use Rattle.hol_terms.specs.Scoped.{binds}
+use Rattle.hol_terms.specs.Nameless.{Nameless, free, nameless}
 use Rattle.hol_terms.specs.Alpha.{strip}
 use Rattle.hol_subst.specs.Closing.{open_with}
 use Rattle.hol_subst.proofs.Closing.{IsClosed}
 use Rattle.hol_subst.proofs.Typing.{typed_closed}
 use Rattle.hol_formulas.specs.Equation.{bool_type, equation}
-use Rattle.hol_formulas.specs.Formula.{Abstraction, conjunction, disjunction, universal, existential}
-use Rattle.hol_kernel.specs.Items.{Items}
+use Rattle.hol_formulas.specs.Formula.{conjunction, disjunction, universal, existential}
 use Rattle.hol_kernel.specs.Typing.{is_type, HasType}
 use Rattle.hol_kernel.proofs.Declared.{has_type_is}
 use Rattle.hol_kernel.proofs.Variables.{known_typed, variable_typed}

@@ -1,12 +1,12 @@
 -- What the rules that take connectives and quantifiers off, and those of equations, make of sequents that achieve goals.
-use Rattle.std.specs.Prelude.{◌≡◌, ℕ, Bool, true, false, cond, not, ◌&&◌, ◌||◌, List, [], ◌∷◌, codes, Option, Some, None, refl}
+use Rattle.std.specs.Prelude.{◌≡◌, ℕ, false, cond, not, ◌&&◌, ◌||◌, List, [], ◌∷◌, codes, Some, None, refl}
 use Rattle.std.specs.Option.{option_map, option_and_then}
 use Rattle.std.specs.FinSet as set
 use Rattle.std.proofs.Common.{ap, sym, ◌∙◌}
 use Rattle.hol_types.specs.Tree.{TypeTree}
 use Rattle.hol_types.specs.Equal.{type_eq}
-use Rattle.hol_terms.specs.Named.{Named, var}
-use Rattle.hol_terms.specs.Nameless.{Nameless, free, bound, fixed, app, lam, nameless, nameless_type, free_occurrences}
+use Rattle.hol_terms.specs.Named.{var}
+use Rattle.hol_terms.specs.Nameless.{Nameless, free, bound, fixed, app, lam, free_occurrences}
 use Rattle.hol_terms.specs.Scoped.{binds}
 use Rattle.hol_terms.specs.Alpha.{strip}
 use Rattle.hol_terms.proofs.Alpha.{alpha_eq_decides}
@@ -14,20 +14,19 @@ use Rattle.hol_subst.specs.Closing.{open_with}
 use Rattle.hol_subst.specs.Substitution.{term_subst}
 use Rattle.hol_subst.specs.Variant.{is_free_in}
 use Rattle.hol_subst.proofs.Strip.{strip_free, strip_open, strip_subst}
-use Rattle.hol_formulas.specs.Equation.{bool_type, equation, dest_eq}
+use Rattle.hol_formulas.specs.Equation.{bool_type, equation}
 use Rattle.hol_formulas.specs.Formula.{connective_type, quantifier_type, Abstraction, conjunction, disjunction, quantified, universal, existential, dest_conj, dest_disj, dest_forall, dest_exists}
 use Rattle.hol_formulas.proofs.EquationTypes.{type_eq_itself}
 use Rattle.hol_formulas.proofs.FormulaLaws.{dest_exists_existential, dest_forall_universal}
 use Rattle.hol_kernel.specs.Items.{Items}
 use Rattle.hol_kernel.specs.Sequent.{Hyps, Sequent, sequent_of}
 use Rattle.hol_kernel.specs.Typing.{has_type, HasType}
-use Rattle.hol_kernel.proofs.Declared.{has_type_is, has_type_of}
+use Rattle.hol_kernel.proofs.Declared.{has_type_of}
 use Rattle.hol_kernel.proofs.Sound.{sides_is}
-use Rattle.hol_kernel.proofs.Stands.{both}
-use Rattle.hol_equal.specs.Rules.{reversed, sym_of, m_with, subst_of}
+use Rattle.hol_equal.specs.Rules.{reversed, sym_of, m_with}
 use Rattle.hol_equal.proofs.Replaced.{subst_gives}
 use Rattle.hol_bool.specs.Rules.{conjunct1_of, conjunct2_of, disj_cases_of, disj_cases_at, spec_of, choose_of, choose_at, choose_left}
-use Rattle.hol_goal.specs.Achieves.{Achieves, AreAllowed}
+use Rattle.hol_goal.specs.Achieves.{Achieves}
 use Rattle.hol_just.specs.Reasons.{cut, replaced}
 use Rattle.hol_just.specs.Justifies.{goal_at, IsNew}
 use Rattle.hol_just.proofs.Allowed.{allowed_union, allowed_less}

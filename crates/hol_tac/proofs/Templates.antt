@@ -1,6 +1,6 @@
 -- Templates: terms with a variable that they do not have for each occurrence of a term.
-use Rattle.std.specs.Prelude.{◌≡◌, ◌⊎◌, ℕ, ◌+◌, ◌≤◌, ◌<◌, Bool, true, false, cond, not, ◌&&◌, ◌||◌, List, [], ◌∷◌, ◌++◌, length, codes, Some, refl}
-use Rattle.std.proofs.Common.{ap, sym, ◌∙◌, subst, inl, inr, arith, length-append}
+use Rattle.std.specs.Prelude.{◌≡◌, ◌⊎◌, ℕ, ◌+◌, ◌≤◌, Bool, true, false, cond, not, ◌||◌, List, [], ◌∷◌, ◌++◌, length, codes, Some, refl}
+use Rattle.std.proofs.Common.{ap, sym, ◌∙◌, inl, inr, arith, length-append}
 use Rattle.hol_types.specs.Tree.{TypeTree}
 use Rattle.hol_types.specs.Equal.{variable_eq}
 use Rattle.hol_terms.specs.Named.{Named, var, constant, comb, abs, named_type}
@@ -13,7 +13,7 @@ use Rattle.hol_terms.proofs.Same.{variable_eq_decides}
 use Rattle.hol_terms.proofs.Typing.{type_outside}
 use Rattle.hol_subst.specs.Closing.{close, open_with}
 use Rattle.hol_subst.specs.Substitution.{term_subst}
-use Rattle.hol_subst.proofs.Closing.{IsClosed, closed_named, closed_more, close_under, close_unchanged, close_binds, nameless_abs, open_close}
+use Rattle.hol_subst.proofs.Closing.{IsClosed, closed_named, closed_more, close_under, close_unchanged, close_binds, open_close}
 use Rattle.hol_subst.proofs.Opening.{open_close_subst}
 use Rattle.hol_subst.proofs.Strip.{strip_close, strip_open, strip_free}
 use Rattle.hol_formulas.specs.Formula.{quantifier_type, universal}

@@ -1,4 +1,3 @@
-use Rattle.std.specs.Prelude.{List}
 use Rattle.std.proofs.Common.{[], ◌∷◌, ◌≡◌, ap, sym, ◌∙◌}
 use Rattle.std.proofs.lemmas.Result.{IfOk-weaker}
 use Rattle.hol_terms.specs.Nameless.{free, nameless, free_occurrences}
@@ -12,7 +11,6 @@ use Rattle.hol_just.specs.Leaving.{concluding}
 use Rattle.hol_just.specs.Replacing.{replace_each}
 use Rattle.hol_just.specs.Valid.{IsValid}
 use Rattle.hol_just.specs.Justifies.{holds_given}
-use Rattle.hol_just.specs.declared.reason.Move.{Move}
 use Rattle.hol_tac.proofs.Justified.{step_keeps}
 use Rattle.hol_tac.proofs.Templates.{other_absent}
 use Rattle.hol_tac.proofs.substituting.subst1_step.Goals as goal

@@ -1,4 +1,4 @@
-use Rattle.std.proofs.Common.{[], ◌∷◌, sym, ◌∙◌, refl}
+use Rattle.std.proofs.Common.{[], ◌∷◌, refl}
 use Rattle.hol_terms.specs.Nameless.{nameless}
 use Rattle.hol_just.specs.Leaving.{concluding}
 use Rattle.hol_just.specs.Replacing.{replace_each}
