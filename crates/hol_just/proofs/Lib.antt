@@ -14,6 +14,7 @@ pub mod Replacing
 pub mod EliminationRules
 pub mod EliminationMoves
 pub mod ByTheorems
+pub mod Handed
 pub mod Proposition
 pub mod Givens
 pub mod Joined

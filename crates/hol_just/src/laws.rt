@@ -1,9 +1,12 @@
 //! Laws of valid justifications.
-ghost use Rattle.std.specs.Prelude.{◌≡◌, ℕ, Bool, IsTrue, List, [], ◌++◌, length};
+ghost use Rattle.std.specs.Prelude.{◌≡◌, ℕ, Bool, IsTrue, List, [], ◌∷◌, ◌++◌, length};
+ghost use Rattle.std.specs.FinSet as set;
+ghost use Rattle.hol_terms.specs.Nameless.{Nameless};
 ghost use Rattle.hol_kernel.specs.Items.{Items};
-ghost use Rattle.hol_kernel.specs.Sequent.{Hyps};
+ghost use Rattle.hol_kernel.specs.Sequent.{Hyps, only_hyp};
 ghost use Rattle.hol_goal.specs.Goal.{GoalValue};
 ghost use Rattle.hol_just.specs.Gives.{moved};
+ghost use Rattle.hol_just.specs.Justifies.{goal_at};
 ghost use Rattle.hol_just.specs.Valid.{IsValid};
 ghost use Rattle.hol_just.specs.declared.reason.Move.{Move};
 
@@ -27,6 +30,12 @@ pub fn valid_at_a_place()
 #[tactic(auto, using(crate::proofs::Validity::valid_under))]
 pub fn valid_under()
     ensures { (suits narrower : Items → Bool) (extra : Hyps) (moves : List Move) (before after : List GoalValue) → ((basis : Items) → IsTrue (narrower basis) → IsTrue (suits basis)) → IsValid suits extra moves before after → IsValid narrower extra moves before after }
+{}
+
+/// An assumption that is handed over: what is valid with it as an extra hypothesis, from the goal without it, is valid from the goal
+/// with it. So POP_ASSUM needs no move, and DISCH_THEN that of DISCH_TAC alone.
+pub fn valid_from_assumption()
+    ensures { (suits : Items → Bool) (extra : Hyps) (moves : List Move) (assumptions : List Nameless) (p q : Nameless) (after : List GoalValue) → IsValid suits (set.union extra (only_hyp p)) moves (goal_at assumptions q ∷ []) after → IsValid suits extra moves (goal_at (p ∷ assumptions) q ∷ []) after }
 {}
 
 /// Validity has one proof at most, so that what is kept beside a function may say it.

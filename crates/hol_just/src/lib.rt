@@ -20,7 +20,7 @@ mod tried;
 pub use just::Just;
 pub use justifying::justify;
 pub use laws::{
-    none_is_valid, valid_at_a_place, valid_one_after_the_other, valid_under,
+    none_is_valid, valid_at_a_place, valid_from_assumption, valid_one_after_the_other, valid_under,
     validity_is_a_proposition,
 };
 pub use reason::{Move, Reason};
