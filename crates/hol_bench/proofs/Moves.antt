@@ -9,7 +9,7 @@ use Rattle.hol_terms.specs.Nameless.{Nameless, nameless}
 use Rattle.hol_formulas.specs.Equation.{bool_type}
 use Rattle.hol_kernel.specs.Items.{Items}
 use Rattle.hol_kernel.specs.Typing.{HasType}
-use Rattle.hol_kernel.specs.Sequent.{Hyps, Sequent, no_hyps}
+use Rattle.hol_kernel.specs.Sequent.{Sequent, no_hyps}
 use Rattle.hol_kernel.proofs.HypothesisLists.{hyps_total}
 use Rattle.hol_goal.specs.Goal.{GoalValue, goal_of}
 use Rattle.hol_goal.specs.Achieves.{IsTyped}
