@@ -32,14 +32,19 @@ def row(name):
 
 
 def misfits():
-    """Edits whose old text does not stand exactly once in the file that they name."""
+    """Edits whose old text, after the changes before it, does not stand exactly once in the file that they name."""
     for edit in sorted(ROOT.glob("crates/*/must-fail/*.edit")):
-        rows = edit.read_text().splitlines()
-        target = next(r[len("file:"):].strip() for r in rows if r.startswith("file:"))
-        text = (edit.parent.parent / target).read_text()
-        for r in rows:
-            if r.startswith("old: ") and text.count(r[len("old: "):]) != 1:
-                yield f"{edit.relative_to(ROOT)}: {text.count(r[len('old: '):])} times in {target}: {r[5:]}"
+        texts, target, old = {}, "", ""
+        for r in edit.read_text().splitlines():
+            if r.startswith("file: "):
+                target = r[len("file: "):].strip()
+                texts.setdefault(target, (edit.parent.parent / target).read_text())
+            elif r.startswith("old: "):
+                old = r[len("old: "):]
+                if texts[target].count(old) != 1:
+                    yield f"{edit.relative_to(ROOT)}: {texts[target].count(old)} times in {target}: {old}"
+            elif r.startswith("new:"):
+                texts[target] = texts[target].replace(old, r[len("new:"):].removeprefix(" "))
 
 
 def main():
