@@ -6,8 +6,9 @@ use Rattle.hol_kernel.specs.Items.{Items}
 use Rattle.hol_exec.specs.declared.refusal.RefusalKind.TheVariants as refusal
 use Rattle.hol_exec.specs.At.{IsOutcome}
 use Rattle.hol_goal.specs.Goal.{GoalValue}
+use Rattle.hol_stack.specs.StackValue.{StepValue}
 use Rattle.hol_exec.specs.Local.{finished, finishes}
-use Rattle.hol_exec.specs.OutcomeValue.{OutcomeValue, Opens, Leaves, Makes, Refuses, stepped_in, after}
+use Rattle.hol_exec.specs.OutcomeValue.{OutcomeValue, Opens, Leaves, Undoes, Rotates, Makes, Refuses, stepped_in, without_newest, undone_in, rotated_in, after}
 use Rattle.hol_exec.specs.Parsed.{ParsedValue, Local, Direct, Goal, Apply, Qed}
 use Rattle.hol_exec.specs.ReadsValue.{ReadsValue, ClosingValue, closing_of, reads_of, AreReads}
 use Rattle.hol_exec.specs.Setup.{SetupValue}
@@ -24,9 +25,23 @@ step_keeps_goal : (goals : List GoalValue) (basis : Items) (p : Option ProofValu
 step_keeps_goal goals basis None = refl
 step_keeps_goal goals basis (Some p) = refl
 
+undoing_keeps_goal : (p : Option ProofValue) → goal_of (undone_in p) ≡ goal_of p
+undoing_keeps_goal None = refl
+undoing_keeps_goal (Some p) = by p.earlier
+  where
+    by : (steps : List StepValue) → goal_of (Some (without_newest p steps)) ≡ goal_of (Some p)
+    by [] = refl
+    by (step ∷ steps) = refl
+
+rotating_keeps_goal : (times : ℕ) (p : Option ProofValue) → goal_of (rotated_in times p) ≡ goal_of p
+rotating_keeps_goal times None = refl
+rotating_keeps_goal times (Some p) = refl
+
 pub goal_next : (s : StateValue) (o : OutcomeValue) → goal_of (after s o).proof ≡ goal_after (goal_of s.proof) o
 goal_next s (Opens name statement basis) = refl
 goal_next s (Leaves goal goals basis) = step_keeps_goal goals basis s.proof
+goal_next s Undoes = undoing_keeps_goal s.proof
+goal_next s (Rotates times) = rotating_keeps_goal times s.proof
 goal_next s (Makes entries) = refl
 goal_next s (Refuses kind arg) = refl
 

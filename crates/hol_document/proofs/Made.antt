@@ -11,7 +11,7 @@ use Rattle.hol_exec.specs.declared.key.Kind.{Kind}
 use Rattle.hol_exec.specs.declared.key.Kind.TheVariants as kind
 use Rattle.hol_exec.specs.Key.{KeyValue, kind_rank, key_eq}
 use Rattle.hol_exec.specs.Entry.{EntryValue, Entries}
-use Rattle.hol_exec.specs.OutcomeValue.{OutcomeValue, Opens, Leaves, Makes, Refuses, after}
+use Rattle.hol_exec.specs.OutcomeValue.{OutcomeValue, Opens, Leaves, Undoes, Rotates, Makes, Refuses, after}
 use Rattle.hol_exec.specs.Setup.{SetupValue}
 use Rattle.hol_exec.specs.StateValue.{StateValue, EndedTheory, start}
 use Rattle.hol_document.specs.Afresh.{Row, AreRows}
@@ -74,6 +74,8 @@ next_made : (before : List Row) (row : Row) (s : StateValue) (outcome : OutcomeV
     → FinishesBy before row.value row.outcome → All (IsMadeIn (before ++ row ∷ [])) (after s outcome).entries
 next_made before row s (Opens name statement basis) e h f = All-weaker (IsMadeIn before) (IsMadeIn (before ++ row ∷ [])) (made_more before row) s.entries h
 next_made before row s (Leaves goal goals basis) e h f = All-weaker (IsMadeIn before) (IsMadeIn (before ++ row ∷ [])) (made_more before row) s.entries h
+next_made before row s Undoes e h f = All-weaker (IsMadeIn before) (IsMadeIn (before ++ row ∷ [])) (made_more before row) s.entries h
+next_made before row s (Rotates times) e h f = All-weaker (IsMadeIn before) (IsMadeIn (before ++ row ∷ [])) (made_more before row) s.entries h
 next_made before row s (Makes entries) e h f =
     all_inserted (IsMadeIn (before ++ row ∷ [])) s.entries entries (All-weaker (IsMadeIn before) (IsMadeIn (before ++ row ∷ [])) (made_more before row) s.entries h)
     (All-weaker (Contains entries) (IsMadeIn (before ++ row ∷ [])) (λ entry among. record {

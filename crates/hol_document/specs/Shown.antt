@@ -9,7 +9,7 @@ use Rattle.hol_kernel.specs.Theorem.{Theorem}
 use Rattle.hol_exec.specs.Parsed.{ParsedValue, Local, Direct, Goal, Apply, Qed}
 use Rattle.hol_exec.specs.Key.{KeyValue, theorem_key}
 use Rattle.hol_exec.specs.Entry.{EntryValue, ATheorem, Entries, EachIsEntry}
-use Rattle.hol_exec.specs.OutcomeValue.{OutcomeValue, Opens, Leaves, Makes, Refuses, MakesTheorems}
+use Rattle.hol_exec.specs.OutcomeValue.{OutcomeValue, Opens, Leaves, Undoes, Rotates, Makes, Refuses, MakesTheorems}
 use Rattle.hol_exec.specs.ReportValue.{ReportValue}
 use Rattle.hol_document.specs.Documents.{Documents, find_theory}
 use Rattle.hol_document.specs.Afresh.{Row}
@@ -21,10 +21,12 @@ use Rattle.hol_document.specs.Asked.{commands_at, IsReport, IsBasis}
 abbrev pub goal_after : Option (List ℕ × Nameless) → OutcomeValue → Option (List ℕ × Nameless)
 goal_after goal (Opens name statement basis) = Some (name, statement)
 goal_after goal (Leaves first goals basis) = goal
+goal_after goal Undoes = goal
+goal_after goal (Rotates times) = goal
 goal_after goal (Makes entries) = None
 goal_after goal (Refuses kind arg) = goal
 
--- the same after rows: the last `g` that was accepted, if no `qed` came after it
+-- the same after rows: the last `g` that was accepted, if no `qed` or `oops` came after it
 abbrev pub open_goal : Option (List ℕ × Nameless) → List Row → Option (List ℕ × Nameless)
 open_goal goal [] = goal
 open_goal goal (row ∷ rows) = open_goal (goal_after goal row.outcome) rows
@@ -47,6 +49,8 @@ EachFinished rows (e ∷ entries) = IsFinishedEntry rows e × EachFinished rows 
 abbrev pub MakesFinished : List Row → OutcomeValue → Type 0
 MakesFinished rows (Opens name statement basis) = Unit {0}
 MakesFinished rows (Leaves goal goals basis) = Unit {0}
+MakesFinished rows Undoes = Unit {0}
+MakesFinished rows (Rotates times) = Unit {0}
 MakesFinished rows (Makes entries) = EachFinished rows entries
 MakesFinished rows (Refuses kind arg) = Unit {0}
 

@@ -3,6 +3,7 @@ pub mod PreludeStands
 pub mod Statements
 pub mod Steps
 pub mod Outcomes
+pub mod Histories
 pub mod Entries
 pub mod Resolving
 pub mod Answered

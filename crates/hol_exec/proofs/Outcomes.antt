@@ -1,5 +1,5 @@
 -- What the outcomes that a state may get say of it: a step runs on the first goal.
-use Rattle.std.proofs.Common.{◌≡◌, ℕ, List, [], refl, ap, subst, Bool, true, false, cond, decimal, nat_eq}
+use Rattle.std.proofs.Common.{◌≡◌, ℕ, List, [], ◌∷◌, refl, ap, subst, Bool, true, false, cond, decimal, nat_eq}
 use Rattle.std.specs.Prelude.{Option, Some, None, IfSome}
 use Rattle.hol_terms.specs.Nameless.{Nameless, nameless_type}
 use Rattle.hol_notation_terms.specs.Text.{QuotationText}
@@ -9,13 +9,14 @@ use Rattle.hol_formulas.specs.Equation.{bool_type}
 use Rattle.hol_kernel.specs.Typing.{is_type_at}
 use Rattle.hol_goal.specs.Goal.{GoalValue}
 use Rattle.hol_just.specs.declared.reason.Move.{Move}
+use Rattle.hol_stack.specs.StackValue.{StepValue}
 use Rattle.hol_exec.specs.Key.{KeyValue}
 use Rattle.hol_exec.specs.Setup.{SetupValue}
-use Rattle.hol_exec.specs.Parsed.{LocalText, Goal, Apply, Qed, Unread, ParsedValue, Local, Direct}
+use Rattle.hol_exec.specs.Parsed.{LocalText, Goal, Apply, Qed, DirectText, Unread, Back, Rotate, Oops, ParsedValue, Local, Direct}
 use Rattle.hol_exec.specs.Reading.{ReadingValue, WrongArity, NoTyping, LargeReading, ReadsAs}
 use Rattle.hol_exec.specs.StateValue.{ProofValue, StateValue, EndedTheory}
 use Rattle.hol_exec.specs.ReadsValue.{ReadsValue, ClosingValue, reads_of, AreReads, first_goal}
-use Rattle.hol_exec.specs.OutcomeValue.{OutcomeValue, Opens, Leaves, Makes, Refuses, MakesTheorems}
+use Rattle.hol_exec.specs.OutcomeValue.{OutcomeValue, Opens, Leaves, Undoes, Rotates, Makes, Refuses, MakesTheorems}
 use Rattle.hol_exec.specs.OutcomeView.{outcome_of}
 use Rattle.hol_exec.specs.declared.outcome.Change.{Change}
 use Rattle.hol_exec.specs.declared.outcome.Change.TheVariants as changes
@@ -25,7 +26,7 @@ use Rattle.hol_exec.specs.Standing.{first_taken}
 use Rattle.hol_exec.specs.ExprValue.{ExprValue}
 use Rattle.hol_exec.specs.Expr.{ResolutionValue, Resolved, Unresolved, RunResult, Leaving, LargeGoal, RefusedBy, OutOfTurns, run_expr}
 use Rattle.hol_exec.specs.declared.refusal.RefusalKind.TheVariants as refusal
-use Rattle.hol_exec.specs.At.{IsOutcome, IsOutcomeAt}
+use Rattle.hol_exec.specs.At.{undoes_to, undoes, rotates_goals, rotates, drops, direct, IsOutcome, IsOutcomeAt}
 use Rattle.hol_exec.specs.Valid.{IsLeft, IsValidChange, CanStep}
 use Rattle.hol_exec.proofs.Steps.{steps}
 
@@ -79,12 +80,39 @@ module _ (goal : GoalValue) (goals : List GoalValue) (basis : Items) where
   local_first setup (Apply tactic) s h = applying_first _ setup tactic (reads_of (Apply tactic) s) h
   local_first setup Qed s h = absurd (finish_none (reads_of Qed s).closing h)
 
+  -- nothing that is answered directly takes a step
+  undoing_none : (o : Option ProofValue) → Leaves goal goals basis ≡ undoes o → ⊥
+  undoing_none None e = absurd (cc)
+  undoing_none (Some p) e = by p.earlier e
+    where
+      by : (steps : List StepValue) → Leaves goal goals basis ≡ undoes_to steps → ⊥
+      by [] e = absurd (cc)
+      by (step ∷ steps) e = absurd (cc)
+
+  rotating_none : (times : ℕ) (o : Option ProofValue) → Leaves goal goals basis ≡ rotates times o → ⊥
+  rotating_none times None e = absurd (cc)
+  rotating_none times (Some p) e = by p.newest.goals e
+    where
+      by : (gs : List GoalValue) → Leaves goal goals basis ≡ rotates_goals times gs → ⊥
+      by [] e = absurd (cc)
+      by (g ∷ gs) e = absurd (cc)
+
+  dropping_none : (o : Option ProofValue) → Leaves goal goals basis ≡ drops o → ⊥
+  dropping_none None e = absurd (cc)
+  dropping_none (Some p) e = absurd (cc)
+
+  direct_none : (command : DirectText) (s : StateValue) (earlier : List EndedTheory) → Leaves goal goals basis ≡ direct command s earlier → ⊥
+  direct_none (Unread place) s earlier e = absurd (cc)
+  direct_none Back s earlier e = undoing_none s.proof e
+  direct_none (Rotate times) s earlier e = rotating_none times s.proof e
+  direct_none Oops s earlier e = dropping_none s.proof e
+
   outcome_first : (setup : SetupValue) (earlier : List EndedTheory) (s : StateValue) (value : ParsedValue) (reads : Option ReadsValue) →
       AreReads value s reads → IsOutcome setup earlier s value reads (Leaves goal goals basis) → first_goal s.proof ≡ Some goal
   outcome_first setup earlier s (Local command) None are h = absurd h
   outcome_first setup earlier s (Local command) (Some reads) are h = let same : reads ≡ reads_of command s = cc in local_first setup command s (rw same at h)
-  outcome_first setup earlier s (Direct (Unread place)) None are h = absurd (cc)
-  outcome_first setup earlier s (Direct (Unread place)) (Some reads) are h = absurd h
+  outcome_first setup earlier s (Direct command) None are h = absurd (direct_none command s earlier h)
+  outcome_first setup earlier s (Direct command) (Some reads) are h = absurd h
 
 pub can_step : (s : StateValue) (outcome : OutcomeValue) → IsOutcomeAt s outcome → (goal : GoalValue) (goals : List GoalValue) (basis : Items) (moves : List Move) → outcome ≡ Leaves goal goals basis → IsLeft basis moves goal goals → IfSome s.proof (CanStep basis moves goals)
 can_step s outcome h goal goals basis moves e left = by s.proof refl
@@ -104,5 +132,7 @@ makes_theorems change o e h = subst MakesTheorems e (by change h)
     by : (c : Change) → IsValidChange c → MakesTheorems (outcome_of c)
     by (changes.Opens name statement basis) h = tt
     by (changes.Leaves goal step basis) h = tt
+    by changes.Undoes h = tt
+    by (changes.Rotates times) h = tt
     by (changes.Makes entries) h = h
     by (changes.Refuses kind arg) h = tt

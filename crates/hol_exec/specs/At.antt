@@ -1,16 +1,47 @@
 -- The outcome of what a text is, at a state, from what it reads of that.
-use Rattle.std.specs.Prelude.{◌≡◌, List, Option, Some, None, decimal}
+use Rattle.std.specs.Prelude.{◌≡◌, ℕ, List, [], ◌∷◌, Option, Some, None, decimal}
+use Rattle.hol_goal.specs.Goal.{GoalValue}
+use Rattle.hol_stack.specs.StackValue.{StepValue}
 use Rattle.hol_exec.specs.declared.refusal.RefusalKind.TheVariants as refusal
 use Rattle.hol_exec.specs.Setup.{SetupValue}
-use Rattle.hol_exec.specs.Parsed.{DirectText, Unread, ParsedValue, Local, Direct}
-use Rattle.hol_exec.specs.StateValue.{StateValue, EndedTheory}
+use Rattle.hol_exec.specs.Parsed.{DirectText, Unread, Back, Rotate, Oops, ParsedValue, Local, Direct}
+use Rattle.hol_exec.specs.StateValue.{ProofValue, StateValue, EndedTheory}
 use Rattle.hol_exec.specs.ReadsValue.{ReadsValue, AreReads}
-use Rattle.hol_exec.specs.OutcomeValue.{OutcomeValue, Refuses}
+use Rattle.hol_exec.specs.OutcomeValue.{OutcomeValue, Undoes, Rotates, Makes, Refuses}
 use Rattle.hol_exec.specs.Local.{IsLocalOutcome}
 
--- the outcome of what is answered directly, from the state and from the theories that stand earlier
+-- ---- `b`: no proof open; nothing to undo
+
+abbrev pub undoes_to : List StepValue → OutcomeValue
+undoes_to [] = Refuses refusal.NothingToUndo []
+undoes_to (step ∷ earlier) = Undoes
+
+abbrev pub undoes : Option ProofValue → OutcomeValue
+undoes None = Refuses refusal.NoProofOpen []
+undoes (Some p) = undoes_to p.earlier
+
+-- ---- `r`: no proof open; no goal open
+
+abbrev pub rotates_goals : ℕ → List GoalValue → OutcomeValue
+rotates_goals times [] = Refuses refusal.NoGoalOpen []
+rotates_goals times (goal ∷ goals) = Rotates times
+
+abbrev pub rotates : ℕ → Option ProofValue → OutcomeValue
+rotates times None = Refuses refusal.NoProofOpen []
+rotates times (Some p) = rotates_goals times p.newest.goals
+
+-- ---- `oops`: no proof open
+
+abbrev pub drops : Option ProofValue → OutcomeValue
+drops None = Refuses refusal.NoProofOpen []
+drops (Some p) = Makes []
+
+-- ---- the outcome of what is answered directly, from the state and from the theories that stand earlier
 abbrev pub direct : DirectText → StateValue → List EndedTheory → OutcomeValue
 direct (Unread place) s earlier = Refuses refusal.Syntax (decimal place)
+direct Back s earlier = undoes s.proof
+direct (Rotate times) s earlier = rotates times s.proof
+direct Oops s earlier = drops s.proof
 
 -- the outcome of what a text is, from its reads: what is answered directly has none
 abbrev pub IsOutcome : SetupValue → List EndedTheory → StateValue → ParsedValue → Option ReadsValue → OutcomeValue → Type 0

@@ -2,6 +2,7 @@
 use Rattle.std.specs.Prelude.{◌≡◌, ◌⊎◌, ◌==◌, ℕ, List, Option, Bool, if◌then◌else◌, refl}
 use Rattle.std.proofs.Common.{inl, inr}
 use Rattle.std.specs.Coded.{Coded, code_by, coded×, coded⊎, coded_ℕ, coded_bool, coded_list, coded_option}
+use base.Stored.{coded_unit}
 use Rattle.hol_types.specs.Code.{coded_name}
 use Rattle.hol_terms.specs.Nameless.{Nameless}
 use Rattle.hol_terms.specs.Code.{coded_nameless}
@@ -13,12 +14,12 @@ use Rattle.hol_stack.specs.Codes.{step_code}
 use Rattle.hol_exec.specs.declared.key.Kind.{Kind}
 use Rattle.hol_exec.specs.declared.key.Kind.TheVariants as key_kind
 use Rattle.hol_exec.specs.declared.refusal.RefusalKind.{RefusalKind}
-use Rattle.hol_exec.specs.declared.refusal.RefusalKind.TheVariants.{Syntax, InProof, NoProofOpen, UnknownTheorem, UnknownTac, Untypable, NotBool, Arity, NameTaken, TooLarge, NoGoalOpen, Refused, TurnLimit, GoalsRemain}
+use Rattle.hol_exec.specs.declared.refusal.RefusalKind.TheVariants.{Syntax, InProof, NoProofOpen, UnknownTheorem, UnknownTac, Untypable, NotBool, Arity, NameTaken, TooLarge, NoGoalOpen, Refused, TurnLimit, GoalsRemain, NothingToUndo}
 use Rattle.hol_exec.specs.Key.{KeyValue, kind_rank}
 use Rattle.hol_exec.specs.Entry.{EntryValue, ATheorem, Entries}
 use Rattle.hol_exec.specs.StateValue.{ProofValue, StateValue}
 use Rattle.hol_exec.specs.ReadsValue.{ClosingValue, Values, ReadsValue}
-use Rattle.hol_exec.specs.OutcomeValue.{OutcomeValue, Opens, Leaves, Makes, Refuses}
+use Rattle.hol_exec.specs.OutcomeValue.{OutcomeValue, Opens, Leaves, Undoes, Rotates, Makes, Refuses}
 use Rattle.hol_exec.specs.Refusal.{kind_number}
 
 -- ---- keys
@@ -96,7 +97,7 @@ refusal_at n =
     if n == 1 then Syntax else if n == 2 then InProof else if n == 3 then NoProofOpen else if n == 5 then UnknownTheorem else if n == 6 then UnknownTac
     else if n == 7 then Untypable else if n == 8 then NotBool else if n == 9 then Arity else if n == 10 then NameTaken else if n == 13 then TooLarge
     else if n == 16 then NoGoalOpen else if n == 17 then Refused else if n == 18 then TurnLimit
-    else GoalsRemain
+    else if n == 19 then GoalsRemain else NothingToUndo
 
 pub refusal_back : (k : RefusalKind) → refusal_at (kind_number k) ≡ k
 refusal_back Syntax = refl
@@ -113,25 +114,32 @@ refusal_back NoGoalOpen = refl
 refusal_back Refused = refl
 refusal_back TurnLimit = refl
 refusal_back GoalsRemain = refl
+refusal_back NothingToUndo = refl
 
 abbrev Cases : Type 0
-Cases = (List ℕ × (Nameless × Items)) ⊎ ((GoalValue × (List GoalValue × Items)) ⊎ (Entries ⊎ (RefusalKind × List ℕ)))
+Cases = (List ℕ × (Nameless × Items)) ⊎ ((GoalValue × (List GoalValue × Items)) ⊎ ((Unit {0} ⊎ ℕ) ⊎ (Entries ⊎ (RefusalKind × List ℕ))))
 
 abbrev cases : OutcomeValue → Cases
 cases (Opens name statement basis) = inl (name, (statement, basis))
 cases (Leaves goal goals basis) = inr (inl (goal, (goals, basis)))
-cases (Makes entries) = inr (inr (inl entries))
-cases (Refuses kind arg) = inr (inr (inr (kind, arg)))
+cases Undoes = inr (inr (inl (inl tt)))
+cases (Rotates times) = inr (inr (inl (inr times)))
+cases (Makes entries) = inr (inr (inr (inl entries)))
+cases (Refuses kind arg) = inr (inr (inr (inr (kind, arg))))
 
 abbrev outcome : Cases → OutcomeValue
 outcome (inl o) = Opens o.0 o.1.0 o.1.1
 outcome (inr (inl o)) = Leaves o.0 o.1.0 o.1.1
-outcome (inr (inr (inl entries))) = Makes entries
-outcome (inr (inr (inr o))) = Refuses o.0 o.1
+outcome (inr (inr (inl (inl u)))) = Undoes
+outcome (inr (inr (inl (inr times)))) = Rotates times
+outcome (inr (inr (inr (inl entries)))) = Makes entries
+outcome (inr (inr (inr (inr o)))) = Refuses o.0 o.1
 
 pub outcome_back : (o : OutcomeValue) → outcome (cases o) ≡ o
 outcome_back (Opens name statement basis) = refl
 outcome_back (Leaves goal goals basis) = refl
+outcome_back Undoes = refl
+outcome_back (Rotates times) = refl
 outcome_back (Makes entries) = refl
 outcome_back (Refuses kind arg) = refl
 
@@ -140,5 +148,6 @@ coded_outcome =
     code_by Cases
     (coded⊎ (coded× coded_name (coded× coded_nameless items_code))
     (coded⊎ (coded× goal_code (coded× (coded_list goal_code) items_code))
-    (coded⊎ coded_entries (coded× (code_by ℕ coded_ℕ kind_number refusal_at refusal_back) coded_name))))
+    (coded⊎ (coded⊎ coded_unit coded_ℕ)
+    (coded⊎ coded_entries (coded× (code_by ℕ coded_ℕ kind_number refusal_at refusal_back) coded_name)))))
     cases outcome outcome_back

@@ -6,6 +6,7 @@ use Rattle.indexmap.specs.IndexMap.{insert_all}
 use Rattle.hol_terms.specs.Nameless.{Nameless}
 use Rattle.hol_kernel.specs.Items.{Items}
 use Rattle.hol_goal.specs.Goal.{GoalValue}
+use Rattle.hol_stack.specs.StackValue.{StepValue, turned}
 use Rattle.hol_exec.specs.declared.refusal.RefusalKind.{RefusalKind}
 use Rattle.hol_exec.specs.Key.{key_eq}
 use Rattle.hol_exec.specs.Entry.{Entries, EachIsEntry}
@@ -16,7 +17,11 @@ pub data OutcomeValue : Type 0 where
   Opens : List ℕ → Nameless → Items → OutcomeValue
   -- the first goal, which is this one, gives way to these; the basis is that of all that was resolved
   Leaves : GoalValue → List GoalValue → Items → OutcomeValue
-  -- these entries are made, and no proof is open any more
+  -- the newest element of the proof's history is dropped
+  Undoes : OutcomeValue
+  -- the first goal is put last, so many times
+  Rotates : ℕ → OutcomeValue
+  -- these entries are made, if any, and no proof is open any more
   Makes : Entries → OutcomeValue
   -- the command is refused, with what the refusal speaks of
   Refuses : RefusalKind → List ℕ → OutcomeValue
@@ -42,10 +47,34 @@ abbrev pub stepped_in : List GoalValue → Items → Option ProofValue → Optio
 stepped_in goals basis None = None
 stepped_in goals basis (Some p) = Some (stepped goals basis p)
 
+-- b: the element before the newest one, if there is one
+abbrev pub without_newest : ProofValue → List StepValue → ProofValue
+without_newest p [] = p
+without_newest p (step ∷ earlier) = record { name = p.name; statement = p.statement; newest = step; earlier = earlier }
+
+abbrev pub undone_in : Option ProofValue → Option ProofValue
+undone_in None = None
+undone_in (Some p) = Some (without_newest p p.earlier)
+
+-- r: a new element of the history, over the same basis
+abbrev pub rotated : ℕ → ProofValue → ProofValue
+rotated times p = record {
+  name = p.name;
+  statement = p.statement;
+  newest = record { goals = turned times p.newest.goals; basis = p.newest.basis };
+  earlier = p.newest ∷ p.earlier;
+}
+
+abbrev pub rotated_in : ℕ → Option ProofValue → Option ProofValue
+rotated_in times None = None
+rotated_in times (Some p) = Some (rotated times p)
+
 -- the next state: the same one for a refusal
 abbrev pub after : StateValue → OutcomeValue → StateValue
 after s (Opens name statement basis) = record { entries = s.entries; proof = Some (opened name statement basis) }
 after s (Leaves goal goals basis) = record { entries = s.entries; proof = stepped_in goals basis s.proof }
+after s Undoes = record { entries = s.entries; proof = undone_in s.proof }
+after s (Rotates times) = record { entries = s.entries; proof = rotated_in times s.proof }
 after s (Makes entries) = record { entries = insert_all key_eq s.entries entries; proof = None }
 after s (Refuses kind arg) = s
 
@@ -53,5 +82,7 @@ after s (Refuses kind arg) = s
 abbrev pub MakesTheorems : OutcomeValue → Type 0
 MakesTheorems (Opens name statement basis) = Unit {0}
 MakesTheorems (Leaves goal goals basis) = Unit {0}
+MakesTheorems Undoes = Unit {0}
+MakesTheorems (Rotates times) = Unit {0}
 MakesTheorems (Makes entries) = EachIsEntry entries
 MakesTheorems (Refuses kind arg) = Unit {0}

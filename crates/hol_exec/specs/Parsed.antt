@@ -6,7 +6,7 @@ use Rattle.hol_notation_tokens.specs.Token.{skip}
 use Rattle.hol_notation_terms.specs.Text.{QuotationText}
 use Rattle.hol_notation_tactics.specs.Leading as tactics
 use Rattle.hol_notation_tactics.specs.Text.{CallText, TacText, Call, Then, ThenL, OrElse, Repeat, Try, Changed, Every, First, Replicate, DischThen, PopAssum, FirstAssum, SubgoalThen}
-use Rattle.hol_notation_commands.specs.Text.{CommandText, Goal as AGoal, Apply as AnApply, Back, Rotate, Qed as AQed, Oops, Import, NewType, NewConstant, NewAxiom, NewDefinition, NewBasicTypeDefinition}
+use Rattle.hol_notation_commands.specs.Text.{CommandText, Goal as AGoal, Apply as AnApply, Back as ABack, Rotate as ARotate, Qed as AQed, Oops as AnOops, Import, NewType, NewConstant, NewAxiom, NewDefinition, NewBasicTypeDefinition}
 use Rattle.hol_notation_commands.specs.Reading.{IsCommandText, IsBreak}
 
 -- the commands whose outcomes are functions of what they read
@@ -21,9 +21,12 @@ leading_name (Goal name quotation) = name
 leading_name (Apply tactic) = tactics.leading_name tactic
 leading_name Qed = []
 
--- what is answered directly: a text that is refused at a place
+-- what is answered directly: a text that is refused at a place, and the commands on the open proof's history
 pub data DirectText : Type 0 where
   Unread : ℕ → DirectText
+  Back : DirectText
+  Rotate : ℕ → DirectText
+  Oops : DirectText
 
 pub data ParsedValue : Type 0 where
   Local : LocalText → ParsedValue
@@ -71,10 +74,10 @@ parsed_tactic text (SubgoalThen p call) = idle text
 abbrev pub parsed : List ℕ → CommandText → ParsedValue
 parsed text (AGoal name quotation) = Local (Goal name quotation)
 parsed text (AnApply tactic) = parsed_tactic text tactic
-parsed text Back = idle text
-parsed text (Rotate n) = idle text
+parsed text ABack = Direct Back
+parsed text (ARotate n) = Direct (Rotate n)
 parsed text AQed = Local Qed
-parsed text Oops = idle text
+parsed text AnOops = Direct Oops
 parsed text (Import name) = idle text
 parsed text (NewType name arity) = idle text
 parsed text (NewConstant name quotation) = idle text

@@ -6,7 +6,7 @@ use Rattle.hol_exec.specs.declared.parsed.DirectCommand.{DirectCommand}
 use Rattle.hol_exec.specs.declared.parsed.DirectCommand.TheVariants as direct
 use Rattle.hol_exec.specs.declared.parsed.Parsed.{Parsed}
 use Rattle.hol_exec.specs.declared.parsed.Parsed.TheVariants as code
-use Rattle.hol_exec.specs.Parsed.{LocalText, Goal, Apply, Qed, DirectText, Unread, ParsedValue, Local, Direct}
+use Rattle.hol_exec.specs.Parsed.{LocalText, Goal, Apply, Qed, DirectText, Unread, Back, Rotate, Oops, ParsedValue, Local, Direct}
 
 abbrev pub local_text : LocalCommand → LocalText
 local_text (local.Goal name quotation) = Goal (string_bytes name) quotation
@@ -15,6 +15,9 @@ local_text local.Qed = Qed
 
 abbrev pub direct_text : DirectCommand → DirectText
 direct_text (direct.Unread place) = Unread place
+direct_text direct.Back = Back
+direct_text (direct.Rotate times) = Rotate times
+direct_text direct.Oops = Oops
 
 abbrev pub parsed_value : Parsed → ParsedValue
 parsed_value (code.Local command) = Local (local_text command)

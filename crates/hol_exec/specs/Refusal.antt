@@ -2,7 +2,7 @@
 -- Source: this project.
 use Rattle.std.specs.Prelude.{ℕ, List, codes}
 use Rattle.hol_exec.specs.declared.refusal.RefusalKind.{RefusalKind}
-use Rattle.hol_exec.specs.declared.refusal.RefusalKind.TheVariants.{Syntax, InProof, NoProofOpen, UnknownTheorem, UnknownTac, Untypable, NotBool, Arity, NameTaken, TooLarge, NoGoalOpen, Refused, TurnLimit, GoalsRemain}
+use Rattle.hol_exec.specs.declared.refusal.RefusalKind.TheVariants.{Syntax, InProof, NoProofOpen, UnknownTheorem, UnknownTac, Untypable, NotBool, Arity, NameTaken, TooLarge, NoGoalOpen, Refused, TurnLimit, GoalsRemain, NothingToUndo}
 
 abbrev pub kind_number : RefusalKind → ℕ
 kind_number Syntax = 1
@@ -19,6 +19,7 @@ kind_number NoGoalOpen = 16
 kind_number Refused = 17
 kind_number TurnLimit = 18
 kind_number GoalsRemain = 19
+kind_number NothingToUndo = 20
 
 abbrev pub kind_text : RefusalKind → List ℕ
 kind_text Syntax = codes "syntax"
@@ -35,3 +36,4 @@ kind_text NoGoalOpen = codes "no goal open"
 kind_text Refused = codes "refused"
 kind_text TurnLimit = codes "turn limit"
 kind_text GoalsRemain = codes "goals remain"
+kind_text NothingToUndo = codes "nothing to undo"

@@ -5,7 +5,7 @@ use Rattle.hol_goal.specs.Goal.{GoalValue}
 use Rattle.hol_exec.specs.Key.{KeyValue}
 use Rattle.hol_exec.specs.Entry.{EntryValue, ATheorem}
 use Rattle.hol_exec.specs.StateValue.{StateValue, open_goals}
-use Rattle.hol_exec.specs.OutcomeValue.{OutcomeValue, Opens, Leaves, Makes, Refuses}
+use Rattle.hol_exec.specs.OutcomeValue.{OutcomeValue, Opens, Leaves, Undoes, Rotates, Makes, Refuses}
 use Rattle.hol_exec.specs.ReportValue.{ShownGoalText, ReportValue, ShowsGoals, HasMade, WasRefused}
 use Rattle.hol_print.specs.ShowTerm.{show}
 use Rattle.hol_print.specs.ShowGoal.{show_goal}
@@ -33,5 +33,7 @@ entry_text e = entry_text_at e.0 e.1
 abbrev pub report_of : OutcomeValue → StateValue → ReportValue
 report_of (Opens name statement basis) s = ShowsGoals (map shown_goal (open_goals s.proof))
 report_of (Leaves goal goals basis) s = ShowsGoals (map shown_goal (open_goals s.proof))
+report_of Undoes s = ShowsGoals (map shown_goal (open_goals s.proof))
+report_of (Rotates times) s = ShowsGoals (map shown_goal (open_goals s.proof))
 report_of (Makes entries) s = HasMade (map entry_text entries)
 report_of (Refuses kind arg) s = WasRefused kind arg

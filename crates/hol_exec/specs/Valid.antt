@@ -17,7 +17,7 @@ use Rattle.hol_stack.specs.Calls.{IsStep}
 use Rattle.hol_exec.specs.declared.expr.RunEnd.{RunEnd}
 use Rattle.hol_exec.specs.declared.expr.RunEnd.TheVariants.{Leaving, LargeGoal, RefusedBy, OutOfTurns}
 use Rattle.hol_exec.specs.declared.outcome.Change.{Change}
-use Rattle.hol_exec.specs.declared.outcome.Change.TheVariants.{Opens, Leaves, Makes, Refuses}
+use Rattle.hol_exec.specs.declared.outcome.Change.TheVariants.{Opens, Leaves, Undoes, Rotates, Makes, Refuses}
 use Rattle.hol_exec.specs.Entry.{EachIsEntry}
 use Rattle.hol_exec.specs.StateValue.{ProofValue}
 
@@ -41,6 +41,8 @@ pub record IsLeft (basis : Items) (moves : List Move) (goal : GoalValue) (left :
 abbrev pub IsValidChange : Change → Type 0
 IsValidChange (Opens name statement basis) = IsStatement basis (nameless [] statement)
 IsValidChange (Leaves goal step basis) = IsLeft basis step.just goal step.goals.items
+IsValidChange Undoes = Unit {0}
+IsValidChange (Rotates times) = Unit {0}
 IsValidChange (Makes entries) = EachIsEntry entries.items
 IsValidChange (Refuses kind arg) = Unit {0}
 

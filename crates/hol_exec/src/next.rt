@@ -21,6 +21,11 @@ pub fn apply(alloc: Global, state: &mut State, outcome: &Outcome) -> Result<(), 
             Ok(())
         }
         Change::Leaves(_, step, basis) => state.step(alloc, step, basis),
+        Change::Undoes => {
+            state.back();
+            Ok(())
+        }
+        Change::Rotates(times) => state.rotate(alloc, *times),
         Change::Makes(entries) => state.make(alloc, entries),
         Change::Refuses(_, _) => Ok(()),
     }

@@ -2,7 +2,7 @@
 ghost use Rattle.std.specs.Prelude.{◌≡◌, ◌↔◌, IsTrue, IfOk, string_bytes, []};
 ghost use Rattle.hol_terms.specs.Nameless.{nameless};
 ghost use Rattle.hol_exec.specs.Entry.{EachIsEntry};
-ghost use Rattle.hol_exec.specs.OutcomeValue.{OutcomeValue, Opens, Leaves, Makes, Refuses, MakesTheorems};
+ghost use Rattle.hol_exec.specs.OutcomeValue.{OutcomeValue, Opens, Leaves, Undoes, Rotates, Makes, Refuses, MakesTheorems};
 ghost use Rattle.hol_exec.specs.OutcomeView.{outcome_of};
 ghost use Rattle.hol_exec.specs.Valid.{IsStatement, IsLeft, IsValidChange};
 
@@ -31,7 +31,11 @@ pub(crate) enum Change {
     Opens(String, Term, Basis),
     /// The first goal, which is this one, gives way to those that the step left; the basis is that of all that was resolved.
     Leaves(Goal, Step, Basis),
-    /// Makes these entries, after which no proof is open.
+    /// Drops the newest element of the proof's history.
+    Undoes,
+    /// Puts the first goal last, so many times.
+    Rotates(usize),
+    /// Makes these entries, if any, after which no proof is open.
     Makes(Vec<(Key, Entry)>),
     /// The command is refused; the text is what the refusal speaks of, or empty.
     Refuses(RefusalKind, String),
@@ -80,6 +84,22 @@ impl Outcome {
         }
     }
 
+    pub(crate) fn undoes() -> Outcome
+        ensures { result ≡ Undoes }
+    {
+        Outcome {
+            change: Change::Undoes,
+        }
+    }
+
+    pub(crate) fn rotates(times: usize) -> Outcome
+        ensures { result ≡ Rotates times }
+    {
+        Outcome {
+            change: Change::Rotates(times),
+        }
+    }
+
     pub(crate) fn refuses(kind: RefusalKind, arg: String) -> Outcome
         ensures { result ≡ Refuses kind (string_bytes arg) }
     {
@@ -107,33 +127,38 @@ impl Outcome {
     pub fn same(&self, other: &Outcome) -> bool
         ensures { IsTrue result ↔ (self.now ≡ other.now) }
     {
-        match (&self.change, &other.change) {
-            (Change::Opens(name, statement, basis), Change::Opens(name2, statement2, basis2)) => {
+        match self.change() {
+            Change::Opens(name, statement, basis) => {
+                let Change::Opens(name2, statement2, basis2) = other.change() else {
+                    return false;
+                };
                 name.as_str() == name2.as_str()
                     && statement.same(statement2)
                     && same_basis(basis, basis2)
             }
-            (Change::Leaves(goal, step, basis), Change::Leaves(goal2, step2, basis2)) => {
+            Change::Leaves(goal, step, basis) => {
+                let Change::Leaves(goal2, step2, basis2) = other.change() else {
+                    return false;
+                };
                 goal.same_as(goal2)
                     && same_each(&step.goals, &step2.goals)
                     && same_basis(basis, basis2)
             }
-            (Change::Makes(entries), Change::Makes(entries2)) => same_each(entries, entries2),
-            (Change::Refuses(kind, arg), Change::Refuses(kind2, arg2)) => {
+            Change::Undoes => matches!(other.change(), Change::Undoes),
+            Change::Rotates(times) =>
+                matches!(other.change(), Change::Rotates(times2) if times == times2),
+            Change::Makes(entries) => {
+                let Change::Makes(entries2) = other.change() else {
+                    return false;
+                };
+                same_each(entries, entries2)
+            }
+            Change::Refuses(kind, arg) => {
+                let Change::Refuses(kind2, arg2) = other.change() else {
+                    return false;
+                };
                 kind == kind2 && arg.as_str() == arg2.as_str()
             }
-            (Change::Opens(_, _, _), Change::Leaves(_, _, _))
-            | (Change::Opens(_, _, _), Change::Makes(_))
-            | (Change::Opens(_, _, _), Change::Refuses(_, _))
-            | (Change::Leaves(_, _, _), Change::Opens(_, _, _))
-            | (Change::Leaves(_, _, _), Change::Makes(_))
-            | (Change::Leaves(_, _, _), Change::Refuses(_, _))
-            | (Change::Makes(_), Change::Opens(_, _, _))
-            | (Change::Makes(_), Change::Leaves(_, _, _))
-            | (Change::Makes(_), Change::Refuses(_, _))
-            | (Change::Refuses(_, _), Change::Opens(_, _, _))
-            | (Change::Refuses(_, _), Change::Leaves(_, _, _))
-            | (Change::Refuses(_, _), Change::Makes(_)) => false,
         }
     }
 
@@ -146,6 +171,8 @@ impl Outcome {
                 opening_copy(alloc, name.as_str(), statement, basis)
             }
             Change::Leaves(goal, step, basis) => leaving_copy(alloc, goal, step, basis),
+            Change::Undoes => Ok(Outcome::undoes()),
+            Change::Rotates(times) => Ok(Outcome::rotates(*times)),
             Change::Makes(entries) => Ok(Outcome::makes(copies(alloc, entries)?)),
             Change::Refuses(kind, arg) => Ok(Outcome::refuses(
                 *kind,

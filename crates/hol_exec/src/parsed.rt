@@ -117,6 +117,12 @@ pub enum DirectCommand {
     /// A text that is refused as `syntax` at the byte where it is no command any more, or at its first word where it is a command that
     /// isn't run.
     Unread(usize),
+    /// `b`: undoes the newest `e` or `r` that stands.
+    Back,
+    /// `r` with a number: puts the first goal last, so many times.
+    Rotate(usize),
+    /// `oops`: drops the proof.
+    Oops,
 }
 
 /// What a text is to the engine.
@@ -150,10 +156,10 @@ fn classified(alloc: Global, text: &str, command: &Command) -> Result<Parsed, Al
         })),
         CommandNode::Apply(tactic) => parsed_tactic(text, tactic),
         CommandNode::Qed => Ok(Parsed::Local(LocalCommand::Qed)),
-        CommandNode::Back
-        | CommandNode::Rotate(_)
-        | CommandNode::Oops
-        | CommandNode::Import(_)
+        CommandNode::Back => Ok(Parsed::Direct(DirectCommand::Back)),
+        CommandNode::Rotate(times) => Ok(Parsed::Direct(DirectCommand::Rotate(*times))),
+        CommandNode::Oops => Ok(Parsed::Direct(DirectCommand::Oops)),
+        CommandNode::Import(_)
         | CommandNode::NewType { name: _, arity: _ }
         | CommandNode::NewConstant {
             name: _,

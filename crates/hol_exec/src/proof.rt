@@ -1,16 +1,16 @@
 //! Open proofs.
-ghost use Rattle.std.specs.Prelude.{◌≡◌, [], OnOk, OnErr, IfOk, Some, string_bytes};
+ghost use Rattle.std.specs.Prelude.{◌≡◌, ◌≢◌, [], OnOk, OnErr, IfOk, Some, length, string_bytes};
 ghost use Rattle.hol_terms.specs.Named.{named_type};
 ghost use Rattle.hol_terms.specs.Nameless.{nameless};
 ghost use Rattle.hol_formulas.specs.Equation.{bool_type};
-ghost use Rattle.hol_exec.specs.OutcomeValue.{opened, stepped};
+ghost use Rattle.hol_exec.specs.OutcomeValue.{opened, stepped, without_newest, rotated};
 ghost use Rattle.hol_exec.specs.Valid.{IsStatement, CanStep};
 
 use crate::goals::step_copy;
 use hol_goal::Goal;
 use hol_just::Step;
 use hol_kernel::Basis;
-use hol_stack::Stack;
+use hol_stack::{Stack, StackError};
 use hol_terms::Term;
 use std::alloc::{AllocError, Global};
 use std::marker::Model;
@@ -88,6 +88,35 @@ impl Proof {
     {
         let Step { goals, just } = step_copy(alloc, step)?;
         self.stack.apply(alloc, goals, just, basis)
+    }
+
+    /// How many elements of the history stand before the newest one.
+    pub(crate) fn steps(&self) -> usize
+        ensures { result ≡ length self.now.earlier }
+    {
+        self.stack.steps()
+    }
+
+    /// The newest element of the history is dropped, if there is one before it.
+    pub(crate) fn back(&mut self)
+        ensures { self.new ≡ without_newest self.old self.old.earlier }
+    {
+        let _ = self.stack.back();
+    }
+
+    /// The first goal is put last, so many times, in a new element of the history.
+    pub(crate) fn rotate(&mut self, alloc: Global, times: usize) -> Result<(), AllocError>
+        requires { self.old.newest.goals ≢ [] }
+        ensures ok { OnOk result (self.new ≡ rotated times self.old) }
+        ensures err { OnErr result (self.new ≡ self.old) }
+    {
+        match self.stack.rotate(alloc, times) {
+            Ok(()) => Ok(()),
+            Err(StackError::Memory) => Err(AllocError),
+            Err(StackError::NoGoal) => unreachable!(),
+            Err(StackError::NothingToUndo) => unreachable!(),
+            Err(StackError::GoalsRemain) => unreachable!(),
+        }
     }
 }
 

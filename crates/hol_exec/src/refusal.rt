@@ -31,6 +31,8 @@ pub enum RefusalKind {
     TurnLimit,
     /// A proof is finished only where no goal is open.
     GoalsRemain,
+    /// The proof's history has its first element alone.
+    NothingToUndo,
 }
 
 impl RefusalKind {
@@ -56,6 +58,7 @@ impl RefusalKind {
             RefusalKind::Refused => 17,
             RefusalKind::TurnLimit => 18,
             RefusalKind::GoalsRemain => 19,
+            RefusalKind::NothingToUndo => 20,
         }
     }
 
@@ -78,6 +81,7 @@ impl RefusalKind {
             RefusalKind::Refused => "refused",
             RefusalKind::TurnLimit => "turn limit",
             RefusalKind::GoalsRemain => "goals remain",
+            RefusalKind::NothingToUndo => "nothing to undo",
         }
     }
 }

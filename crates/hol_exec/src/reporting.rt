@@ -17,7 +17,7 @@ pub fn report_of(alloc: Global, outcome: &Outcome, state: &State) -> Result<Repo
     ensures { IfOk result (λ report. report_value report ≡ report_of outcome.now state.now) }
 {
     match outcome.change() {
-        Change::Opens(_, _, _) | Change::Leaves(_, _, _) => {
+        Change::Opens(_, _, _) | Change::Leaves(_, _, _) | Change::Undoes | Change::Rotates(_) => {
             Ok(Report::Goals(shown_goals(alloc, state.goals())?))
         }
         Change::Makes(entries) => Ok(Report::Made(entry_texts(alloc, entries)?)),

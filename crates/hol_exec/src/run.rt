@@ -46,8 +46,8 @@ pub fn run_local(
     }
 }
 
-// A refusal that speaks of nothing.
-fn refused(alloc: Global, kind: RefusalKind) -> Outcome
+/// A refusal that speaks of nothing.
+pub(crate) fn refused(alloc: Global, kind: RefusalKind) -> Outcome
     ensures { result ≡ Refuses kind [] }
 {
     Outcome::refuses(kind, String::new(alloc))

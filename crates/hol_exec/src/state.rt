@@ -1,10 +1,10 @@
 //! The state of a theory while it is run.
-ghost use Rattle.std.specs.Prelude.{◌≡◌, ◌<◌, ◌≤◌, ◌+◌, OnOk, OnErr, IfSome, Some, None, [], option_copied};
+ghost use Rattle.std.specs.Prelude.{◌≡◌, ◌≢◌, ◌<◌, ◌≤◌, ◌+◌, OnOk, OnErr, IfSome, Some, None, [], option_copied};
 ghost use Rattle.indexmap.specs.IndexMap.{insert_entry, insert_all, spare, IsUnique};
 ghost use Rattle.hol_exec.specs.Key.{key_eq};
 ghost use Rattle.hol_exec.specs.Entry.{entry_at, EachIsEntry};
 ghost use Rattle.hol_exec.specs.StateValue.{StateValue, start, open_goals};
-ghost use Rattle.hol_exec.specs.OutcomeValue.{stepped_in};
+ghost use Rattle.hol_exec.specs.OutcomeValue.{stepped_in, undone_in, rotated_in};
 ghost use Rattle.hol_exec.specs.Valid.{CanStep};
 
 use crate::entry::{Entry, Made, copies};
@@ -102,6 +102,27 @@ impl State {
     {
         match &mut self.proof {
             Some(proof) => proof.step(alloc, step, basis),
+            None => Ok(()),
+        }
+    }
+
+    /// Drops the newest element of the open proof's history, if there is one before it.
+    pub(crate) fn back(&mut self)
+        ensures { self.new ≡ record { entries = self.old.entries; proof = undone_in self.old.proof } }
+    {
+        if let Some(proof) = &mut self.proof {
+            proof.back();
+        }
+    }
+
+    /// Puts the open proof's first goal last, so many times.
+    pub(crate) fn rotate(&mut self, alloc: Global, times: usize) -> Result<(), AllocError>
+        requires { IfSome self.old.proof (λ p. p.newest.goals ≢ []) }
+        ensures ok { OnOk result (self.new ≡ record { entries = self.old.entries; proof = rotated_in times self.old.proof }) }
+        ensures err { OnErr result (self.new ≡ self.old) }
+    {
+        match &mut self.proof {
+            Some(proof) => proof.rotate(alloc, times),
             None => Ok(()),
         }
     }

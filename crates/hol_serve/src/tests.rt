@@ -4,6 +4,7 @@ mod commands;
 mod copies;
 mod endings;
 mod faults;
+mod histories;
 mod readers;
 mod sessions;
 mod support;

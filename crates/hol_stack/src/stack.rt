@@ -1,5 +1,5 @@
 //! Goal stacks.
-ghost use Rattle.std.specs.Prelude.{◌≡◌, [], IfOk, OnOk, OnErr};
+ghost use Rattle.std.specs.Prelude.{◌≡◌, [], IfOk, OnOk, OnErr, length};
 ghost use Rattle.std.specs.FinSet as set;
 ghost use Rattle.hol_kernel.specs.Extends.{Agree};
 ghost use Rattle.hol_goal.specs.Achieves.{IsTyped};
@@ -75,6 +75,13 @@ impl Stack {
         ensures { result.now ≡ self.now.newest.basis }
     {
         self.newest.basis()
+    }
+
+    /// How many elements of the history stand before the newest one.
+    pub fn steps(&self) -> usize
+        ensures { result ≡ length self.now.earlier }
+    {
+        self.earlier.len()
     }
 
     /// The goals that were left of the first one stand in its place, in a new element of the history (tactics.ml, e). The basis is joined with what was

@@ -76,8 +76,6 @@ fn refuses_in_the_order_of_numbers(rt: HostRuntime) -> Result<(), Fail> {
         "",
         r#"
 > qedx
-> b
-> r 2
 > import M
 > new_type t 0
 > new_constant c `:bool`
@@ -90,15 +88,27 @@ fn refuses_in_the_order_of_numbers(rt: HostRuntime) -> Result<(), Fail> {
 < {"arg":"0","ok":true,"refusal":1,"text":"syntax"}
 >  new_definition D `c = T`
 < {"arg":"1","ok":true,"refusal":1,"text":"syntax"}
->   oops
+>   import M
 > e THEN
 < {"arg":"2","ok":true,"refusal":1,"text":"syntax"}
 > g N `p /\\ `
 < {"arg":"10","ok":true,"refusal":1,"text":"syntax"}
 > new_type t 17
 < {"arg":"11","ok":true,"refusal":1,"text":"syntax"}
+> r
+< {"arg":"1","ok":true,"refusal":1,"text":"syntax"}
+> b b
+> r 10000
+> r p
+< {"arg":"2","ok":true,"refusal":1,"text":"syntax"}
+> oops p
+< {"arg":"5","ok":true,"refusal":1,"text":"syntax"}
 > e REFL_TAC
 > e REFL_TAC NOPE
+> b
+> r 0
+> r 9999
+> oops
 > qed
 < {"arg":"","ok":true,"refusal":3,"text":"no proof open"}
 > g N `x:bool bool = y y`

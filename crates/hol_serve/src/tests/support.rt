@@ -85,6 +85,21 @@ pub(crate) fn reply_to_last(alloc: Global, commands: &str) -> Result<String, Fai
     Ok(String::from_str(alloc, replies.lines().last().unwrap_or(""))?)
 }
 
+/// That commands, which stand in one theory one after the other, have these reports: each line after `> ` is a command, and the next line after
+/// `< ` the report on it.
+pub(crate) fn expect_in_turn<R: Abort + AllocGlobal>(rt: &R, reports: &str) -> Result<(), Fail> {
+    let mut commands = String::new(rt.alloc());
+    for line in reports.lines() {
+        if let Some(command) = line.strip_prefix("> ") {
+            writeln!(commands, "{command}")?;
+        } else if let Some(want) = line.strip_prefix("< ") {
+            let reply = reply_to_last(rt.alloc(), commands.as_str())?;
+            assert_eq!(rt; reply.as_str(), want, "after {commands}");
+        }
+    }
+    Ok(())
+}
+
 // That each of these commands, one a line, put after those in `before`, has this report.
 fn expect_report<R: Abort + AllocGlobal>(
     rt: &R,
