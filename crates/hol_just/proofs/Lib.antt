@@ -18,3 +18,5 @@ pub mod Handed
 pub mod Proposition
 pub mod Givens
 pub mod Joined
+pub mod Pieces
+pub mod Weaker

@@ -11,5 +11,6 @@ pub mod Replacing
 pub mod EquationTacs
 pub mod ConnectiveTacs
 pub mod QuantifierTacs
+pub mod Strip
 pub mod Tac
 pub mod Answering

@@ -7,6 +7,7 @@ ghost use Rattle.hol_kernel.specs.Sequent.{Hyps, only_hyp};
 ghost use Rattle.hol_goal.specs.Goal.{GoalValue};
 ghost use Rattle.hol_just.specs.Gives.{moved};
 ghost use Rattle.hol_just.specs.Justifies.{goal_at};
+ghost use Rattle.hol_just.specs.Strip.{piece, waiting, becomes, Leaves, strip_parts, strip};
 ghost use Rattle.hol_just.specs.Valid.{IsValid};
 ghost use Rattle.hol_just.specs.declared.reason.Move.{Move};
 
@@ -41,4 +42,11 @@ pub fn valid_from_assumption()
 /// Validity has one proof at most, so that what is kept beside a function may say it.
 pub fn validity_is_a_proposition()
     ensures { (suits : Items → Bool) (extra : Hyps) (moves : List Move) (before after : List GoalValue) → IsProp (IsValid suits extra moves before after) }
+{}
+
+/// Stripping goes by pieces: what is left of pieces is what is left of what the first one becomes, and turns run out where none is left to pay for that. So the number of steps that the
+/// definition counts is always enough.
+pub fn strip_goes_by_pieces()
+    ensures none { (others : List Nameless) (goal : GoalValue) (turns : ℕ) → strip others (waiting [] goal) turns ≡ Leaves (goal ∷ []) turns }
+    ensures first { (others : List Nameless) (p : Nameless) (ps : List Nameless) (goal : GoalValue) (turns : ℕ) → strip others (waiting (p ∷ ps) goal) turns ≡ strip_parts (strip others) (becomes others p ps goal (piece goal p) turns) }
 {}

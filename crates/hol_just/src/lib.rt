@@ -20,8 +20,8 @@ mod tried;
 pub use just::Just;
 pub use justifying::justify;
 pub use laws::{
-    none_is_valid, valid_at_a_place, valid_from_assumption, valid_one_after_the_other, valid_under,
-    validity_is_a_proposition,
+    none_is_valid, strip_goes_by_pieces, valid_at_a_place, valid_from_assumption,
+    valid_one_after_the_other, valid_under, validity_is_a_proposition,
 };
 pub use reason::{Move, Reason};
 pub use tried::{Step, TacFault, Tried};
