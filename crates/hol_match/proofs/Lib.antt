@@ -7,3 +7,4 @@ pub mod Holding
 pub mod Staying
 pub mod Opened
 pub mod RuleSets
+pub mod ApartHeads

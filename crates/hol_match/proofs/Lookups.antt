@@ -1,5 +1,5 @@
 -- Looking up in pairs that come after those of what stays, and one step of matching types.
-use Rattle.std.proofs.Common.{◌≡◌, ℕ, zero, suc, ◌<◌, ◌≤◌, List, [], ◌∷◌, ◌++◌, map, length, get_or, refl, ap, sym, ◌∙◌, Bool, true, false, cond, ◌||◌, if◌then◌else◌, bytes_eq, Some, None, arith}
+use Rattle.std.proofs.Common.{◌≡◌, ℕ, zero, suc, ◌<◌, ◌≤◌, List, [], ◌∷◌, ◌++◌, map, length, get_or, refl, ap, sym, ◌∙◌, Bool, true, false, cond, ◌||◌, if◌then◌else◌, bytes_eq, Some, None, subst, inl, inr, arith}
 use Rattle.std.specs.Option.{option_and_then}
 use Rattle.std.proofs.lemmas.Slice.Eq.{bytes_eq-Decides}
 use Rattle.hol_types.specs.Tree.{TypeTree, TyVar, TyApp, type_list, type_size, types_size}
@@ -8,13 +8,13 @@ use Rattle.hol_types.specs.Subst.{type_lookup}
 use Rattle.hol_types.specs.Equal.{variable_eq}
 use Rattle.hol_types.proofs.Steps.{match_ends_some, match_ends_none, match_more_none}
 use Rattle.hol_types.proofs.Filters.{closed_match}
-use Rattle.hol_terms.specs.Named.{Named, var, constant, comb, abs}
+use Rattle.hol_terms.specs.Named.{Named, var, constant, comb, abs, named_type}
 use Rattle.hol_terms.specs.Nameless.{Nameless, free, nameless, nameless_type}
 use Rattle.hol_terms.specs.Alpha.{alpha_eq}
 use Rattle.hol_terms.specs.Scoped.{binds, occurs_in}
 use Rattle.hol_terms.proofs.Same.{variable_eq_decides}
 use Rattle.hol_subst.specs.Substitution.{term_lookup}
-use Rattle.hol_subst.specs.Pairs.{nameless_pairs}
+use Rattle.hol_subst.specs.Pairs.{nameless_pairs, HasBadPair}
 use Rattle.hol_subst.proofs.Closing.{eq_flip}
 use Rattle.hol_match.specs.Instance.{InstanceValue, instance_of, both}
 use Rattle.hol_match.specs.Fixed.{stays}
@@ -72,6 +72,15 @@ pairs_more (p ∷ ps) t v = by p.1 (pairs_more ps t v)
 pub pairs_added : (ps qs : List (Named × Named)) (s t u : Named) (v : List ℕ × TypeTree) → qs ≡ ps ++ (s, u) ∷ [] → s ≡ t → u ≡ var v → nameless_pairs qs ≡ nameless_pairs ps ++ (nameless [] t, v) ∷ []
 pairs_added ps qs s t u v e f g = ap nameless_pairs (e ∙ (λ i. ps ++ (f i, g i) ∷ [])) ∙ pairs_more ps t v
 
+good_more : (ps : List (Named × Named)) (s u : Named) (v : List ℕ × TypeTree) → u ≡ var v → named_type s ≡ Some v.1 → (HasBadPair ps → ⊥) → HasBadPair (ps ++ (s, u) ∷ []) → ⊥
+good_more [] s u v e h g (inl bad) = bad (v, e, h)
+good_more [] s u v e h g (inr z) = z
+good_more (p ∷ ps) s u v e h g (inl bad) = g (inl bad)
+good_more (p ∷ ps) s u v e h g (inr more) = good_more ps s u v e h (λ b. g (inr b)) more
+
+pub good_added : (ps qs : List (Named × Named)) (s t u : Named) (v : List ℕ × TypeTree) → qs ≡ ps ++ (s, u) ∷ [] → s ≡ t → u ≡ var v → named_type t ≡ Some v.1 → (HasBadPair ps → ⊥) → HasBadPair qs → ⊥
+good_added ps qs s t u v e f g h k b = good_more ps s u v g (ap named_type f ∙ h) k (subst HasBadPair e b)
+
 -- ---- what stays is given itself
 
 pub own_type : (names : List (List ℕ)) (a : List ℕ) → type_lookup (map (λ a. (TyVar a, a)) names) a ≡ cond (is_among names a) (Some (TyVar a)) None
@@ -91,6 +100,11 @@ own_term (u ∷ vs) v = by (variable_eq u v) refl (own_term vs v)
     by : (p : Bool) → variable_eq u v ≡ p → term_lookup (map (λ v. (free v, v)) vs) v ≡ cond (binds vs v) (Some (free v)) None → cond p (Some (free u)) (term_lookup (map (λ v. (free v, v)) vs) v) ≡ cond (p || binds vs v) (Some (free v)) None
     by true e r = ap (λ x. Some (free x)) ((variable_eq_decides u v).0 e)
     by false e r = r
+
+-- the variables that are given themselves
+pub own_variables : (vs : List (List ℕ × TypeTree)) → map (λ (p : Nameless × (List ℕ × TypeTree)). p.1) (map (λ v. (free v, v)) vs) ≡ vs
+own_variables [] = refl
+own_variables (v ∷ vs) = λ i. v ∷ own_variables vs i
 
 -- ---- a variable meets a term
 

@@ -1,8 +1,12 @@
 -- Taking quantifiers and conjunctions apart: what an opened body is, and that parts have fewer nodes.
-use Rattle.std.proofs.Common.{◌≡◌, ℕ, ◌+◌, ◌-◌, ◌<◌, List, [], ◌∷◌, ◌++◌, refl, sym, ap, ◌∙◌, Bool, true, false, cond, nat_lt, ◌==◌, codes, Some, None, arith}
+use Rattle.std.proofs.Common.{◌≡◌, ℕ, ◌+◌, ◌-◌, ◌<◌, List, [], ◌∷◌, ◌++◌, refl, sym, ap, ◌∙◌, Bool, true, false, cond, nat_lt, ◌==◌, codes, Some, None, unwrap_or, arith}
 use Rattle.hol_types.specs.Tree.{TypeTree}
-use Rattle.hol_terms.specs.Named.{Named}
-use Rattle.hol_terms.specs.Nameless.{Nameless, free, bound, fixed, app, lam, nameless, base_of}
+use Rattle.hol_types.specs.Equal.{variable_eq}
+use Rattle.hol_terms.specs.Named.{Named, named_type}
+use Rattle.hol_terms.specs.Nameless.{Nameless, free, bound, fixed, app, lam, nameless, base_of, nameless_type}
+use Rattle.hol_terms.proofs.Same.{variable_eq_decides}
+use Rattle.hol_terms.proofs.Typing.{type_outside}
+use Rattle.hol_subst.proofs.Typing.{AllTyped, subst_type}
 use Rattle.hol_subst.specs.Closing.{open_with}
 use Rattle.hol_subst.specs.FreeName.{is_taken, IsFreeName}
 use Rattle.hol_subst.specs.Shift.{shift}
@@ -12,7 +16,7 @@ use Rattle.hol_subst.proofs.Opening.{open_close_subst}
 use Rattle.hol_formulas.specs.Formula.{Abstraction, is_constant, quantifier_type, connective_type, dest_forall, dest_conj}
 use Rattle.hol_formulas.specs.Making.{mk_forall}
 use Rattle.std.specs.Option.{option_map}
-use Rattle.hol_match.specs.declared.rules.Rule.{Rule}
+use Rattle.hol_match.specs.declared.rule.Rule.{Rule}
 use Rattle.hol_match.specs.RuleView.{rule_value, rule_values}
 use Rattle.hol_match.specs.Rules.{IsOpened, generalized}
 
@@ -23,7 +27,7 @@ nodes (fixed c s) = 1
 nodes (app f x) = 1 + nodes f + nodes x
 nodes (lam a s b) = 1 + nodes b
 
-nodes_opened : (u : List ℕ × TypeTree) (k : ℕ) (n : Nameless) → nodes (open_with (free u) k n) ≡ nodes n
+pub nodes_opened : (u : List ℕ × TypeTree) (k : ℕ) (n : Nameless) → nodes (open_with (free u) k n) ≡ nodes n
 nodes_opened u k (free w) = refl
 nodes_opened u k (bound i) = by (nat_lt i k) (i == k)
   where
@@ -86,6 +90,16 @@ own_variable v b = sym (ap (open_with (free v) 0) (close_under [] v b) ∙ open_
 
 pub other_variable : (u v : List ℕ × TypeTree) (b : Named) (n : Nameless) → n ≡ term_subst ((free u, v) ∷ []) 0 (nameless [] b) → n ≡ open_with (free u) 0 (nameless (v ∷ []) b)
 other_variable u v b n e = e ∙ sym (ap (open_with (free u) 0) (close_under [] v b) ∙ open_close_subst v (free u) 0 (nameless [] b))
+
+pub renamed_type : (u v : List ℕ × TypeTree) (t b : Named) → u.1 ≡ v.1 → nameless [] t ≡ term_subst ((free u, v) ∷ []) 0 (nameless [] b) → named_type t ≡ named_type b
+renamed_type u v t b e h = sym (type_outside t) ∙ ap (nameless_type []) h ∙ subst_type ((free u, v) ∷ []) [] 0 (nameless [] b) typed ∙ type_outside b
+  where
+    typed : AllTyped ((free u, v) ∷ [])
+    typed w = by (variable_eq v w) refl
+      where
+        by : (c : Bool) → variable_eq v w ≡ c → nameless_type [] (unwrap_or (cond c (Some (free u)) None) (free w)) ≡ Some w.1
+        by true q = ap Some (e ∙ ap (λ x. x.1) ((variable_eq_decides v w).0 q))
+        by false q = refl
 
 pub opened_same : (hyps : List Nameless) (p : Nameless) (v : List ℕ × TypeTree) (b t : Named) (a : List ℕ) → is_taken (p ∷ hyps) a ≡ false → a ≡ v.0 → t ≡ b → IsOpened hyps p (record { base = base_of v.0; domain = v.1; body = nameless (v ∷ []) b }) (nameless [] t)
 opened_same hyps p v b t a e f g = record {

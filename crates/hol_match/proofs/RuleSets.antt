@@ -1,7 +1,9 @@
 -- Sets of rules: what one theorem adds, and the match of a rule.
-use Rattle.std.proofs.Common.{◌≡◌, ℕ, ◌+◌, ◌<◌, ◌≤◌, List, [], ◌∷◌, ◌++◌, map, length, drop, get_or, refl, sym, ap, ◌∙◌, subst, Some, None}
+use Rattle.std.proofs.Common.{◌≡◌, ℕ, zero, suc, ◌+◌, ◌<◌, ◌≤◌, List, [], ◌∷◌, ◌++◌, map, length, drop, get_or, slice_get, refl, sym, ap, ◌∙◌, subst, Some, None, arith}
 use Rattle.std.specs.Option.{option_map}
-use Rattle.hol_terms.specs.Named.{Named}
+use Rattle.hol_types.specs.Tree.{TypeTree}
+use Rattle.hol_terms.specs.Named.{Named, named_type}
+use Rattle.hol_terms.proofs.Typing.{type_outside}
 use Rattle.hol_terms.specs.Nameless.{Nameless, nameless}
 use Rattle.std.proofs.lemmas.List.{drop_all}
 use Rattle.hol_types.proofs.Steps.{next_of}
@@ -12,9 +14,13 @@ use Rattle.hol_match.specs.Matching.{matched}
 use Rattle.hol_match.specs.Fixed.{stays_of}
 use Rattle.hol_subst.specs.Hypotheses.{hyps_of}
 use Rattle.hol_match.specs.Rules.{RuleValue, AreRulesOf}
-use Rattle.hol_match.specs.RuleSets.{RuleEntry, AreEntries, entries, beside, fit}
-use Rattle.hol_match.specs.SetView.{Adds}
+use Rattle.hol_match.specs.Fixed.{stays}
+use Rattle.hol_match.specs.Matches.{IsMatch}
+use Rattle.hol_match.specs.RuleSets.{RuleEntry, AreEntries, IsTypedRule, IsFit, entries, beside, fit}
+use Rattle.hol_match.specs.declared.set_rule.SetRule.{SetRule}
+use Rattle.hol_match.specs.SetView.{set_rule, set_rules, Adds}
 use Rattle.hol_match.proofs.Lookups.{append_assoc}
+use Rattle.hol_match.proofs.Staying.{most_general}
 
 after_all : {A : Type 0} (xs ys : List A) → drop (length xs) (xs ++ ys) ≡ ys
 after_all [] ys = refl
@@ -29,7 +35,23 @@ fit_found e t a h = ap (option_map (beside e.stays)) h ∙ ap (λ q. Some q) (be
 pub fit_none : (e : RuleEntry) (t : Nameless) → matched 0 e.rule.left e.stays t ≡ None → fit e t ≡ None
 fit_none e t h = ap (option_map (beside e.stays)) h
 
-pub ruleset fitting = (fit_found, fit_none)
+-- what is found of a rule is a match
+pub fit_match : (r : SetRule) (t : Nameless) (a : InstanceValue) → matched 0 (set_rule r).rule.left (stays r.fixed.value) t ≡ Some (both (stays r.fixed.value) a) → IsMatch (set_rule r).stays (set_rule r).rule.left t a
+fit_match r t a h = (most_general r.fixed.value.names.items r.fixed.value.variables.items (set_rule r).rule.left t a h).fits
+
+pub ruleset fitting = (fit_found, fit_none, fit_match)
+
+pub typed_rule : (r : SetRule) (s : TypeTree) → named_type r.rule.left ≡ Some s → named_type r.rule.left ≡ named_type r.rule.right → IsTypedRule (set_rule r).rule
+typed_rule r s e h = (s, type_outside r.rule.left ∙ e, type_outside r.rule.right ∙ sym h ∙ e)
+
+-- the rule of a set at its number
+entry_at : (rules : List SetRule) (i : ℕ) (r : SetRule) → i < length rules → r ≡ get_or rules i r → slice_get (set_rules rules) i ≡ Some (set_rule r)
+entry_at [] i r l e = absurd (omega (arith, l))
+entry_at (s ∷ rules) zero r l e = ap (λ x. Some (set_rule x)) (sym e)
+entry_at (s ∷ rules) (suc i) r l e = entry_at rules i r (omega (arith, l)) e
+
+pub is_fit : (rules : List SetRule) (t : Nameless) (i : ℕ) (r : SetRule) (a : InstanceValue) → i < length rules → r ≡ get_or rules i r → IsTypedRule (set_rule r).rule → IsMatch (set_rule r).stays (set_rule r).rule.left t a → IsFit (set_rules rules) t (i, a)
+is_fit rules t i r a l e h m = record { entry = set_rule r; is = entry_at rules i r l e; typed = h; matches = m }
 
 -- the rules es are there, and those of the rest are all that is missing
 abbrev pub Goes : List Sequent → ℕ → List Sequent → List RuleEntry → Type 0

@@ -183,7 +183,7 @@ fits names vs p t a h k = record {
   gives = ap strip (sym (same_instance names vs a p h)) ∙ k.1;
 }
 
-most_general : (names : List (List ℕ)) (vs : List (List ℕ × TypeTree)) (p t : Nameless) (a : InstanceValue) → matched 0 p (staying names vs) t ≡ Some (joint names vs a) → IsMostGeneral (staying names vs) p t a
+pub most_general : (names : List (List ℕ)) (vs : List (List ℕ × TypeTree)) (p t : Nameless) (a : InstanceValue) → matched 0 p (staying names vs) t ≡ Some (joint names vs a) → IsMostGeneral (staying names vs) p t a
 most_general names vs p t a e =
     let h : Holds (joint names vs a) = joint_holds names vs p t a e in
     let k : Tells (λ σ. Makes σ 0 p t) (staying names vs) (Some (joint names vs a)) = joint_tells names vs p t a e in

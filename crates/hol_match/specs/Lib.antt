@@ -7,4 +7,5 @@ pub mod Places
 pub mod Rules
 pub mod RuleView
 pub mod RuleSets
+pub mod Heads
 pub mod SetView

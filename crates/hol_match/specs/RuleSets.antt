@@ -1,14 +1,17 @@
 -- The rules of some theorems, each with the number of its theorem and its place among that theorem's rules, and the first one that fits a term.
 -- Source: this project.
-use Rattle.std.specs.Prelude.{◌≡◌, ℕ, ◌+◌, List, [], ◌∷◌, ◌++◌, map, length, drop, Option, Some, None}
+use Rattle.std.specs.Prelude.{◌≡◌, ℕ, ◌+◌, List, [], ◌∷◌, ◌++◌, map, length, drop, Option, Some, None, slice_get}
 use Rattle.std.specs.Option.{option_map}
+use Rattle.hol_types.specs.Tree.{TypeTree}
 use Rattle.hol_terms.specs.Named.{Named}
-use Rattle.hol_terms.specs.Nameless.{Nameless, nameless}
+use Rattle.hol_terms.specs.Nameless.{Nameless, nameless, nameless_type}
+use Rattle.hol_terms.specs.Scoped.{add_all}
 use Rattle.hol_subst.specs.Hypotheses.{hyps_of}
 use Rattle.hol_kernel.specs.Sequent.{Sequent}
 use Rattle.hol_match.specs.Instance.{InstanceValue, instance_of}
 use Rattle.hol_match.specs.Fixed.{stays_of}
 use Rattle.hol_match.specs.Matching.{matched}
+use Rattle.hol_match.specs.Matches.{IsMatch}
 use Rattle.hol_match.specs.Rules.{RuleValue, AreRulesOf}
 
 -- a rule, its theorem's number, its place among that theorem's rules, and what of its left side stays
@@ -17,6 +20,15 @@ pub record RuleEntry : Type 0 where
   pub theorem : ℕ
   pub place : ℕ
   pub stays : InstanceValue
+
+-- both sides of the rule have one type
+abbrev pub IsTypedRule : RuleValue → Type 0
+IsTypedRule r = (s : TypeTree) × (nameless_type [] r.left ≡ Some s) × (nameless_type [] r.right ≡ Some s)
+
+-- the variables that stay in some rule, each once, after others
+abbrev pub staying_variables : List (List ℕ × TypeTree) → List RuleEntry → List (List ℕ × TypeTree)
+staying_variables vs [] = vs
+staying_variables vs (e ∷ es) = staying_variables (add_all vs (map (λ p. p.1) e.stays.terms)) es
 
 -- the rules of the theorem of number i, the first one at place k
 abbrev pub entries : ℕ → ℕ → InstanceValue → List RuleValue → List RuleEntry
@@ -55,3 +67,10 @@ or_later i (Some a) later = Some (i, a)
 abbrev pub first_fit : ℕ → List RuleEntry → Nameless → Option (ℕ × InstanceValue)
 first_fit i [] t = None
 first_fit i (e ∷ es) t = or_later i (fit e t) (first_fit (i + 1) es t)
+
+-- the rule of number f.0 is there, its sides have one type, and f.1 is a match of its left side with the term
+pub record IsFit (es : List RuleEntry) (t : Nameless) (f : ℕ × InstanceValue) : Type 0 where
+  pub entry : RuleEntry
+  pub is : slice_get es f.0 ≡ Some entry
+  pub typed : IsTypedRule entry.rule
+  pub matches : IsMatch entry.stays entry.rule.left t f.1

@@ -2,7 +2,7 @@
 use Rattle.std.specs.Prelude.{List, [], map}
 use Rattle.hol_terms.specs.Nameless.{nameless}
 use Rattle.hol_match.specs.Rules.{RuleValue, rule}
-use Rattle.hol_match.specs.declared.rules.Rule.{Rule}
+use Rattle.hol_match.specs.declared.rule.Rule.{Rule}
 
 abbrev pub rule_value : Rule → RuleValue
 rule_value r = rule (nameless [] r.left) (nameless [] r.right)

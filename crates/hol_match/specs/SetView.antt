@@ -4,7 +4,7 @@ use Rattle.hol_kernel.specs.Sequent.{Sequent}
 use Rattle.hol_match.specs.Fixed.{stays}
 use Rattle.hol_match.specs.RuleView.{rule_value}
 use Rattle.hol_match.specs.RuleSets.{RuleEntry, AreEntriesOf}
-use Rattle.hol_match.specs.declared.rule_set.SetRule.{SetRule}
+use Rattle.hol_match.specs.declared.set_rule.SetRule.{SetRule}
 
 abbrev pub set_rule : SetRule → RuleEntry
 set_rule r = record { rule = rule_value r.rule; theorem = r.theorem; place = r.place; stays = stays r.fixed.value }

@@ -31,6 +31,14 @@ impl Fixed {
         Ok(Fixed { names, variables })
     }
 
+    /// Puts the variables that are not there at the end.
+    #[tactic(auto, using(crate::proofs::Lookups::own_variables))]
+    pub(crate) fn add_to(&self, variables: &mut Vec<Variable>) -> Result<(), AllocError>
+        ensures { OnOk result (variables.new.items ≡ add_all variables.old.items (map (λ p. p.1) (stays self.now).terms)) }
+    {
+        add_variables(variables, &self.variables)
+    }
+
     /// Whether the type variable is one of these.
     #[tactic(auto, using(crate::proofs::Lookups::own_type))]
     pub(crate) fn has_name(&self, name: &Name) -> bool

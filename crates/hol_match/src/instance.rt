@@ -1,23 +1,25 @@
 //! Instances: types for type variables and terms for variables.
 ghost use Rattle.std.specs.Prelude.{◌≡◌, ◌++◌, ◌∷◌, [], IfOk, OnOk, MatchOption, if◌then◌else◌, Some, None};
+ghost use Rattle.hol_terms.specs.Named.{named_type};
 ghost use Rattle.hol_types.specs.Subst.{type_lookup};
 ghost use Rattle.hol_terms.specs.Nameless.{nameless};
-ghost use Rattle.hol_subst.specs.Pairs.{nameless_pairs};
+ghost use Rattle.hol_subst.specs.Pairs.{nameless_pairs, HasBadPair};
 ghost use Rattle.hol_subst.specs.Substitution.{term_lookup};
-ghost use Rattle.hol_match.specs.Instance.{instance_of, both};
+ghost use Rattle.hol_match.specs.Instance.{instance_of, instantiated, both};
 ghost use Rattle.hol_match.specs.Fixed.{stays};
 ghost use Rattle.hol_match.specs.Matching.{with_type};
 ghost use Rattle.hol_match.specs.Places.{is_variable};
 
 use crate::fixed::Fixed;
 use crate::type_matching::match_into;
+use hol_subst::{inst, vsubst_good};
 use hol_terms::{Term, TermNode, Variable};
 use hol_types::{Name, Ty};
 use std::alloc::{AllocError, Global};
 use std::marker::Model;
 
 /// Types for type variables, as `inst` takes them, and then terms for variables, at the types that they have then, as `vsubst` takes
-/// them.
+/// them. Each term has its variable's type.
 #[derive(Drop)]
 pub struct Instance {
     types: Vec<(Ty, Name)>,
@@ -25,6 +27,7 @@ pub struct Instance {
 }
 
 impl Model for Instance {
+    ghost use Rattle.hol_subst.specs.Pairs.{HasBadPair};
     ghost use Rattle.hol_match.specs.Instance.{InstanceValue, instance_code, instance_from};
 
     ghost Value = { InstanceValue };
@@ -32,6 +35,8 @@ impl Model for Instance {
     ghost coded = { instance_code };
 
     ghost view = { λ a. instance_from a.types.items a.terms.items };
+
+    ghost invariant = { λ a. HasBadPair a.terms.items → ⊥ };
 }
 
 impl Instance {
@@ -63,9 +68,18 @@ impl Instance {
 
     /// The terms, each with its variable as a term.
     pub fn terms(&self) -> &[(Term, Term)]
-        ensures { nameless_pairs result.now ≡ self.now.terms }
+        ensures terms { nameless_pairs result.now ≡ self.now.terms }
+        ensures good { HasBadPair result.now → ⊥ }
     {
         self.terms.as_slice()
+    }
+
+    /// The term at the instance.
+    pub fn apply(&self, alloc: Global, t: &Term) -> Result<Term, AllocError>
+        ensures { IfOk result (λ r. nameless [] r ≡ instantiated self.now 0 (nameless [] t.now)) }
+    {
+        let typed = inst(alloc, &self.types, t)?;
+        vsubst_good(alloc, &self.terms, &typed)
     }
 
     /// Whether a type of the pattern matches the target beside what was found so far. The types that it needs more are put at the end.
@@ -94,6 +108,7 @@ impl Instance {
         t: &Term,
         v: &Variable,
     ) -> Result<(), AllocError>
+        requires { named_type t.now ≡ Some v.now.1 }
         ensures { OnOk result (self.new ≡ instance_of self.old.types (self.old.terms ++ (nameless [] t.now, v.now) ∷ [])) }
     {
         add_pair(alloc, &mut self.terms, t, v)
@@ -107,7 +122,9 @@ fn add_pair(
     t: &Term,
     v: &Variable,
 ) -> Result<(), AllocError>
-    ensures { OnOk result (nameless_pairs pairs.new.items ≡ nameless_pairs pairs.old.items ++ (nameless [] t.now, v.now) ∷ []) }
+    requires { named_type t.now ≡ Some v.now.1 }
+    ensures added { OnOk result (nameless_pairs pairs.new.items ≡ nameless_pairs pairs.old.items ++ (nameless [] t.now, v.now) ∷ []) }
+    ensures good { (HasBadPair pairs.old.items → ⊥) → HasBadPair pairs.new.items → ⊥ }
 {
     let variable = Term::var(alloc, v)?;
     pairs.push((t.copy()?, variable))?;

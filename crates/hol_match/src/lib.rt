@@ -4,13 +4,17 @@
 #![tactic(auto)]
 
 mod fixed;
+mod heads;
 mod instance;
 pub mod laws;
 mod matching;
+mod rule;
 mod rule_set;
 mod rules;
+mod set_rule;
 mod type_matching;
 
 pub use instance::Instance;
 pub use matching::term_match;
-pub use rule_set::{RuleSet, SetRule};
+pub use rule_set::RuleSet;
+pub use set_rule::SetRule;

@@ -2,7 +2,7 @@
 ghost use Rattle.std.specs.Prelude.{◌≡◌, ◌++◌, ◌∷◌, [], ℕ, false, length, map, IfOk, IfSome, IsNone, MatchOption, if◌then◌else◌, List, Some, None};
 ghost use Rattle.std.specs.Option.{option_and_then};
 ghost use Rattle.hol_types.specs.Tree.{TypeTree};
-ghost use Rattle.hol_terms.specs.Named.{comb, abs, var};
+ghost use Rattle.hol_terms.specs.Named.{comb, abs, var, named_type};
 ghost use Rattle.hol_terms.specs.Nameless.{nameless};
 ghost use Rattle.hol_terms.specs.Scope.{binders};
 ghost use Rattle.hol_terms.specs.Scoped.{same_named, same_place};
@@ -224,6 +224,7 @@ fn take(
     t: &Term,
     found: &mut Instance,
 ) -> Result<bool, AllocError>
+    requires typed { named_type t.now ≡ Some u.now.1 }
     ensures { IfOk result (λ fits. taken (term_lookup (both (stays fixed.now) found.old).terms u.now) (both (stays fixed.now) found.old) u.now (nameless [] t.now) ≡ (if fits then Some (both (stays fixed.now) found.new) else None)) }
 {
     if fixed.has_variable(u) {

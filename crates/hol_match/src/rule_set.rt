@@ -1,59 +1,25 @@
 //! Sets of rules, and the first one that fits a term.
-ghost use Rattle.std.specs.Prelude.{◌≡◌, ◌<◌, ◌++◌, [], map, length, IfOk, OnOk, MatchOption, slice_get, Some, None};
+ghost use Rattle.std.specs.Prelude.{◌≡◌, ◌<◌, ◌++◌, [], map, length, IfOk, IfSome, OnOk, MatchOption, slice_get, Some, None};
 ghost use Rattle.hol_terms.specs.Nameless.{nameless};
 ghost use Rattle.hol_kernel.specs.Given.{given_sequent};
-ghost use Rattle.hol_match.specs.RuleSets.{AreEntries, entries, fit, first_fit};
+ghost use Rattle.hol_match.specs.RuleSets.{AreEntries, IsTypedRule, IsFit, entries, fit, first_fit, staying_variables};
+ghost use Rattle.hol_match.specs.Heads.{head_place};
 ghost use Rattle.hol_match.specs.SetView.{set_rule, set_rules, Adds};
 ghost use Rattle.hol_match.specs.RuleView.{rule_values};
 ghost use Rattle.hol_match.specs.Fixed.{stays};
+ghost use Rattle.hol_match.specs.Matches.{IsMatch};
 
 use crate::fixed::Fixed;
+use crate::heads::{head_place, may_match};
 use crate::instance::Instance;
 use crate::matching::match_with;
-use crate::rules::{Rule, rules_of};
+use crate::rule::Rule;
+use crate::rules::rules_of;
+use crate::set_rule::SetRule;
 use hol_kernel::Given;
-use hol_terms::Term;
+use hol_terms::{Term, Variable};
 use std::alloc::{AllocError, Global};
 use std::rc::Rc;
-
-/// A rule of a set.
-#[derive(Drop)]
-pub struct SetRule {
-    rule: Rule,
-    theorem: usize,
-    place: usize,
-    fixed: Rc<Fixed>,
-}
-
-impl SetRule {
-    /// The left side, which is rewritten. The variables that may be instantiated have names that no other variable of the theorem has.
-    pub fn left(&self) -> &Term
-        ensures { nameless [] result.now ≡ (set_rule self.now).rule.left }
-    {
-        self.rule.left()
-    }
-
-    /// The right side.
-    pub fn right(&self) -> &Term
-        ensures { nameless [] result.now ≡ (set_rule self.now).rule.right }
-    {
-        self.rule.right()
-    }
-
-    /// The number of its theorem in the list from which the set was made.
-    pub fn theorem(&self) -> usize
-        ensures { result ≡ (set_rule self.now).theorem }
-    {
-        self.theorem
-    }
-
-    /// Its place among the rules of its theorem.
-    pub fn place(&self) -> usize
-        ensures { result ≡ (set_rule self.now).place }
-    {
-        self.place
-    }
-}
 
 /// The rules of a list of theorems and assumed terms, in order.
 ///
@@ -77,9 +43,17 @@ impl RuleSet {
     /// The number of the first rule that matches the term, and the match: the instance of its left side that is the term up to bound
     /// names, and leaves the variables and type variables of the theorem's hypotheses as they are.
     pub fn find(&self, alloc: Global, t: &Term) -> Result<Option<(usize, Instance)>, AllocError>
-        ensures { IfOk result (λ found. MatchOption found (first_fit 0 (set_rules self.now.rules.items) (nameless [] t.now) ≡ None) (λ f. first_fit 0 (set_rules self.now.rules.items) (nameless [] t.now) ≡ Some (f.0, f.1))) }
+        ensures first { IfOk result (λ found. MatchOption found (first_fit 0 (set_rules self.now.rules.items) (nameless [] t.now) ≡ None) (λ f. first_fit 0 (set_rules self.now.rules.items) (nameless [] t.now) ≡ Some (f.0, f.1))) }
+        ensures fits { IfOk result (λ found. IfSome found (λ f. IsFit (set_rules self.now.rules.items) (nameless [] t.now) (f.0, f.1))) }
     {
         first_of(alloc, &self.rules, t)
+    }
+
+    /// The variables that stay in some rule, each once.
+    pub fn staying_variables(&self, alloc: Global) -> Result<Vec<Variable>, AllocError>
+        ensures { IfOk result (λ vs. vs.items ≡ staying_variables [] (set_rules self.now.rules.items)) }
+    {
+        variables_of(alloc, &self.rules)
     }
 
     /// The number of rules.
@@ -99,27 +73,53 @@ impl RuleSet {
 }
 
 // The number of the first rule that matches the term, and the match.
+#[tactic(auto, using(crate::proofs::RuleSets::is_fit))]
 fn first_of(
     alloc: Global,
     rules: &[SetRule],
     t: &Term,
 ) -> Result<Option<(usize, Instance)>, AllocError>
-    ensures { IfOk result (λ found. MatchOption found (first_fit 0 (set_rules rules.now) (nameless [] t.now) ≡ None) (λ f. first_fit 0 (set_rules rules.now) (nameless [] t.now) ≡ Some (f.0, f.1))) }
+    ensures first { IfOk result (λ found. MatchOption found (first_fit 0 (set_rules rules.now) (nameless [] t.now) ≡ None) (λ f. first_fit 0 (set_rules rules.now) (nameless [] t.now) ≡ Some (f.0, f.1))) }
+    ensures fits { IfOk result (λ found. IfSome found (λ f. IsFit (set_rules rules.now) (nameless [] t.now) (f.0, f.1))) }
 {
+    let head = head_place(t);
     for (i, rule) in rules.iter().enumerate() {
-        if let Some(found) = match_of(alloc, rule, t)? {
+        if let Some(found) = match_of(alloc, rule, head, t)? {
             return Ok(Some((i, found)));
         }
     }
     Ok(None)
 }
 
-// The match of the rule's left side.
-#[tactic(auto, using(crate::proofs::RuleSets::fitting))]
-fn match_of(alloc: Global, rule: &SetRule, t: &Term) -> Result<Option<Instance>, AllocError>
-    ensures { IfOk result (λ found. MatchOption found (fit (set_rule rule.now) (nameless [] t.now) ≡ None) (λ a. fit (set_rule rule.now) (nameless [] t.now) ≡ Some a)) }
+// The variables that stay in some rule, each once.
+fn variables_of(alloc: Global, rules: &[SetRule]) -> Result<Vec<Variable>, AllocError>
+    ensures { IfOk result (λ vs. vs.items ≡ staying_variables [] (set_rules rules.now)) }
 {
-    match_with(alloc, &rule.fixed, rule.left(), t)
+    let mut variables = Vec::new(alloc);
+    for rule in rules {
+        rule.fixed().add_to(&mut variables)?;
+    }
+    Ok(variables)
+}
+
+// The match of the rule's left side with a term that begins with a constant of this place, or with none.
+#[tactic(auto, using(crate::proofs::RuleSets::fitting))]
+fn match_of(
+    alloc: Global,
+    rule: &SetRule,
+    head: Option<usize>,
+    t: &Term,
+) -> Result<Option<Instance>, AllocError>
+    requires { head ≡ head_place (nameless [] t.now) }
+    ensures fit { IfOk result (λ found. MatchOption found (fit (set_rule rule.now) (nameless [] t.now) ≡ None) (λ a. fit (set_rule rule.now) (nameless [] t.now) ≡ Some a)) }
+    ensures matches { IfOk result (λ found. IfSome found (λ a. IsMatch (set_rule rule.now).stays (set_rule rule.now).rule.left (nameless [] t.now) a)) }
+    ensures typed { IsTypedRule (set_rule rule.now).rule }
+{
+    let left = rule.left();
+    if !may_match(head_place(left), head) {
+        return Ok(None);
+    }
+    match_with(alloc, rule.fixed(), left, t)
 }
 
 // The rules of the theorems.
@@ -162,12 +162,8 @@ fn add_rules(
     ensures { OnOk result (set_rules all.new.items ≡ set_rules all.old.items ++ entries theorem 0 (stays fixed.now.value) (rule_values rules.now)) }
 {
     for (place, rule) in rules.iter().enumerate() {
-        all.push(SetRule {
-            rule: rule.copy()?,
-            theorem,
-            place,
-            fixed: fixed.clone()?,
-        })?;
+        let entry = SetRule::of(rule, theorem, place, fixed)?;
+        all.push(entry)?;
     }
     Ok(())
 }

@@ -9,46 +9,17 @@ ghost use Rattle.hol_subst.specs.Closing.{open_with};
 ghost use Rattle.hol_subst.specs.FreeName.{is_taken};
 ghost use Rattle.hol_formulas.specs.Equation.{bool_type};
 ghost use Rattle.hol_formulas.specs.Formula.{Abstraction};
-ghost use Rattle.hol_match.specs.Rules.{rule, is_given, is_determined, single_rule, IsOpened, HasRules, generalized, pattern_variables, AreRulesOf};
+ghost use Rattle.hol_match.specs.Rules.{is_given, is_determined, single_rule, IsOpened, HasRules, generalized, pattern_variables, AreRulesOf};
 ghost use Rattle.hol_match.specs.RuleView.{rule_value, rule_values};
 ghost use Rattle.hol_match.specs.Fixed.{AreFixed};
 
 use crate::fixed::{Fixed, has_name};
+use crate::rule::Rule;
 use hol_formulas::{dest_conj, dest_eq, dest_forall, dest_neg, mk_falsity, mk_forall, mk_truth};
 use hol_subst::{free_name, term_tyvars, vsubst_good};
 use hol_terms::{Term, Variable};
 use hol_types::Name;
 use std::alloc::{AllocError, Global};
-
-/// A rule: the left side is rewritten to the right side.
-#[derive(Drop)]
-pub struct Rule {
-    left: Term,
-    right: Term,
-}
-
-impl Rule {
-    /// The left side.
-    pub(crate) fn left(&self) -> &Term
-        ensures { result.now ≡ self.now.left }
-    {
-        &self.left
-    }
-
-    /// The right side.
-    pub(crate) fn right(&self) -> &Term
-        ensures { result.now ≡ self.now.right }
-    {
-        &self.right
-    }
-
-    /// An equal rule.
-    pub(crate) fn copy(&self) -> Result<Rule, AllocError>
-        ensures { IfOk result (λ r. rule_value r ≡ rule_value self.now) }
-    {
-        copies(&self.left, &self.right)
-    }
-}
 
 /// The rules of a theorem with these hypotheses and this conclusion, in order.
 ///
@@ -96,7 +67,8 @@ fn unfixed(alloc: Global, fixed: &Fixed, all: &[Variable]) -> Result<Vec<Variabl
 #[tactic(auto, using(crate::proofs::Opened::generalized_more))]
 fn generalized(alloc: Global, variables: &[Variable], p: &Term) -> Result<Term, AllocError>
     requires typed { named_type p.now ≡ Some bool_type }
-    ensures { IfOk result (λ t. nameless [] t ≡ generalized variables.now (nameless [] p.now)) }
+    ensures whole { IfOk result (λ t. nameless [] t ≡ generalized variables.now (nameless [] p.now)) }
+    ensures formula { IfOk result (λ t. named_type t ≡ Some bool_type) }
 {
     let mut whole = p.copy()?;
     for v in variables {
@@ -108,6 +80,7 @@ fn generalized(alloc: Global, variables: &[Variable], p: &Term) -> Result<Term, 
 // The rules of a formula whose outer quantifiers bind its pattern variables.
 #[tactic(auto, using(crate::proofs::Opened::smaller))]
 fn rules_in(alloc: Global, hyps: &[Term], fixed: &Fixed, p: &Term) -> Result<Vec<Rule>, AllocError>
+    requires typed { named_type p.now ≡ Some bool_type }
     requires fixed { AreFixed (map (λ t. nameless [] t) hyps.now) fixed.now }
     ensures { IfOk result (λ rules. HasRules (map (λ t. nameless [] t) hyps.now) (nameless [] p.now) (rule_values rules.items)) }
 {
@@ -170,7 +143,8 @@ fn opened(
     v: &Variable,
     body: &Term,
 ) -> Result<Term, AllocError>
-    ensures { IfOk result (λ t. IsOpened (map (λ t. nameless [] t) hyps.now) (nameless [] p.now) (record { base = base_of v.now.0; domain = v.now.1; body = nameless (v.now ∷ []) body.now }) (nameless [] t)) }
+    ensures typed { IfOk result (λ t. named_type t ≡ named_type body.now) }
+    ensures opened { IfOk result (λ t. IsOpened (map (λ t. nameless [] t) hyps.now) (nameless [] p.now) (record { base = base_of v.now.0; domain = v.now.1; body = nameless (v.now ∷ []) body.now }) (nameless [] t)) }
 {
     let name = unused_name(alloc, hyps, p, v.name())?;
     if name.same(v.name()) {
@@ -192,10 +166,11 @@ fn unused_name(alloc: Global, hyps: &[Term], p: &Term, name: &Name) -> Result<Na
 }
 
 // The body with the variable `u` for `v`, which has the same type.
-#[tactic(auto, using(crate::proofs::Opened::other_variable))]
+#[tactic(auto, using(crate::proofs::Opened::other_variable, crate::proofs::Opened::renamed_type))]
 fn renamed(alloc: Global, u: &Variable, v: &Variable, body: &Term) -> Result<Term, AllocError>
     requires typed { u.now.1 ≡ v.now.1 }
-    ensures { IfOk result (λ t. nameless [] t ≡ open_with (free u.now) 0 (nameless (v.now ∷ []) body.now)) }
+    ensures renamed { IfOk result (λ t. nameless [] t ≡ open_with (free u.now) 0 (nameless (v.now ∷ []) body.now)) }
+    ensures kept { IfOk result (λ t. named_type t ≡ named_type body.now) }
 {
     let pairs = [(Term::var(alloc, u)?, Term::var(alloc, v)?)];
     vsubst_good(alloc, &pairs, body)
@@ -203,33 +178,24 @@ fn renamed(alloc: Global, u: &Variable, v: &Variable, body: &Term) -> Result<Ter
 
 // The one rule of a formula that is neither quantified nor a conjunction.
 fn single_rule(alloc: Global, fixed: &Fixed, p: &Term) -> Result<Rule, AllocError>
+    requires { named_type p.now ≡ Some bool_type }
     ensures { IfOk result (λ r. rule_value r ≡ single_rule fixed.now.names.items fixed.now.variables.items (nameless [] p.now)) }
 {
     if let Some(sides) = dest_eq(p) {
         if is_determined(alloc, fixed, sides.left, sides.right)? {
-            return copies(sides.left, sides.right);
+            return Rule::of(sides.left, sides.right);
         }
     }
     match dest_neg(p) {
         Some(q) => {
             let falsity = mk_falsity(alloc)?;
-            copies(q, &falsity)
+            Rule::of(q, &falsity)
         }
         None => {
             let truth = mk_truth(alloc)?;
-            copies(p, &truth)
+            Rule::of(p, &truth)
         }
     }
-}
-
-// The rule of these sides.
-fn copies(left: &Term, right: &Term) -> Result<Rule, AllocError>
-    ensures { IfOk result (λ r. rule_value r ≡ rule (nameless [] left.now) (nameless [] right.now)) }
-{
-    Ok(Rule {
-        left: left.copy()?,
-        right: right.copy()?,
-    })
 }
 
 // Whether each variable and type variable of `r` stays, or is in `l`.

@@ -10,7 +10,7 @@ returns-in-Some t c =
     IfOk-weaker c.rules_in.result _ _
     (λ rules h.
     of_body (nameless [] c.args.p.now) (record { base = base_of c.in-Some.v.now.0; domain = c.in-Some.v.now.1; body = nameless (c.in-Some.v.now ∷ []) c.in-Some.body.now })
-    (nameless [] c.in_ok-opened.opened) (rule_values rules.items) c.in-Some.ensures.parts c.in_ok-opened.ensures h)
+    (nameless [] c.in_ok-opened.opened) (rule_values rules.items) c.in-Some.ensures.parts c.in_ok-opened.ensures.opened h)
     c.rules_in.ensures
 
 pub returns-in-Some-dest_conj : goal.returns-in-Some-dest_conj

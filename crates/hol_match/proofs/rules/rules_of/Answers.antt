@@ -10,7 +10,7 @@ returns c =
     IfOk-weaker c.rules_in.result _ _
     (λ rules h.
     subst (λ n. HasRules (map (λ t. nameless [] t) c.args.hyps.now) n (rule_values rules.items))
-    (c.in_ok-whole.ensures
+    (c.in_ok-whole.ensures.whole
     ∙ ap (λ vs. generalized vs (nameless [] c.args.p.now)) (c.deref.ensures.value ∙ c.in_ok-variables.ensures ∙ ap (λ ws. pattern_variables ws (nameless [] c.args.p.now)) c.requires.fixed.1))
     h)
     c.rules_in.ensures
