@@ -11,3 +11,5 @@ pub mod KeptHypotheses
 pub mod KeptByOthers
 pub mod DisjunctionRules
 pub mod RuleLaws
+pub mod Instances
+pub mod LemmaHypotheses

@@ -2,3 +2,4 @@ pub mod Rules
 pub mod Refusals
 pub mod Applied
 pub mod Unfolded
+pub mod Lemmas

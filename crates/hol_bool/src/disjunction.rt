@@ -7,16 +7,18 @@ ghost use Rattle.hol_formulas.specs.Equation.{bool_type};
 ghost use Rattle.hol_formulas.specs.Formula.{disjunction, implication, universal};
 ghost use Rattle.hol_formulas.specs.Making.{mk_imp};
 ghost use Rattle.hol_formulas.specs.Prelude.{boolean};
-ghost use Rattle.hol_kernel.specs.Sequent.{no_hyps, only_hyp, sequent_of};
+ghost use Rattle.hol_kernel.specs.Sequent.{only_hyp, sequent_of};
 ghost use Rattle.hol_kernel.specs.Theorem.{theorem_on};
 ghost use Rattle.hol_kernel.specs.Typing.{HasType};
 ghost use Rattle.hol_equal.specs.Applied.{lhs, rhs};
 ghost use Rattle.hol_bool.specs.Applied.{with_right, with_left, by_cases, implied, discharged};
-ghost use Rattle.hol_bool.specs.Unfolded.{or_unfolded, either, either_for_all, letter, side_name, injection, reached_from};
+ghost use Rattle.hol_bool.specs.Unfolded.{or_unfolded, either, either_for_all, letter, side_name, reached_from};
 
 use crate::definitions::{definition, unfold_first, unfold_last};
 use crate::equations::eq_mp_sym;
 use crate::implication::{disch, mp};
+use crate::lemma::Lemma;
+use crate::lemmas::Lemmas;
 use crate::letters::{for_every, letter};
 use crate::universal::spec;
 use hol_equal::applied::{assume, eq_mp};
@@ -79,12 +81,12 @@ pub fn disj_cases(alloc: Global, a: &Thm, b: &Thm, c: &Thm) -> Result<Thm, Alloc
     one_case(alloc, &rest, q, c)
 }
 
-// A side of a disjunction.
+/// A side of a disjunction.
 #[derive(Clone, Copy)]
-enum Side {
-    // `p` of `p \/ q`.
+pub(crate) enum Side {
+    /// `p` of `p \/ q`.
     Left,
-    // `q` of `p \/ q`.
+    /// `q` of `p \/ q`.
     Right,
 }
 
@@ -117,8 +119,8 @@ fn assumed_rule(alloc: Global, basis: &Basis, name: &str) -> Result<Thm, AllocEr
     assume(alloc, basis, &implies)
 }
 
-// `x` under the hypothesis `x`.
-fn assumed_letter(alloc: Global, basis: &Basis, name: &str) -> Result<Thm, AllocError>
+/// `x` under the hypothesis `x`.
+pub(crate) fn assumed_letter(alloc: Global, basis: &Basis, name: &str) -> Result<Thm, AllocError>
     ensures { IfOk result (λ th. th ≡ theorem_on basis.now (sequent_of (only_hyp (letter name.now)) (letter name.now))) }
 {
     let x = letter(alloc, name)?;
@@ -169,31 +171,13 @@ fn folded(alloc: Global, a: &Thm) -> Result<Thm, AllocError>
     eq_mp_sym(alloc, &own, a)
 }
 
-// `p \/ q` under the hypothesis of the side.
-fn from_side(alloc: Global, basis: &Basis, side: Side) -> Result<Thm, AllocError>
+/// `p \/ q` under the hypothesis of the side.
+pub(crate) fn from_side(alloc: Global, basis: &Basis, side: Side) -> Result<Thm, AllocError>
     ensures { IfOk result (λ th. th ≡ theorem_on basis.now (sequent_of (only_hyp (letter (side_name side))) (disjunction (letter (codes "p")) (letter (codes "q"))))) }
 {
     let ways = both_ways(alloc, basis, side)?;
     let every = for_every(alloc, "r", &ways)?;
     folded(alloc, &every)
-}
-
-// `x ==> p \/ q`, where `x` is the variable of the side.
-fn side_implies(alloc: Global, basis: &Basis, side: Side) -> Result<Thm, AllocError>
-    ensures { IfOk result (λ th. th ≡ theorem_on basis.now (sequent_of no_hyps (implication (letter (side_name side)) (disjunction (letter (codes "p")) (letter (codes "q")))))) }
-{
-    let holds = from_side(alloc, basis, side)?;
-    let x = letter(alloc, side.letter())?;
-    disch(alloc, &x, &holds)
-}
-
-// `!p q. x ==> p \/ q`, where `x` is the variable of the side.
-fn injection(alloc: Global, basis: &Basis, side: Side) -> Result<Thm, AllocError>
-    ensures { IfOk result (λ th. th ≡ theorem_on basis.now (sequent_of no_hyps (injection (side_name side)))) }
-{
-    let implies = side_implies(alloc, basis, side)?;
-    let inner = for_every(alloc, "q", &implies)?;
-    for_every(alloc, "p", &inner)
 }
 
 /// DISJ1: from `p`, `p \/ q`, for a formula over the basis.
@@ -202,10 +186,8 @@ pub fn disj1(alloc: Global, a: &Thm, q: &Term) -> Result<Thm, AllocError>
     ensures { IfOk result (λ th. th ≡ theorem_on a.now.basis (with_right a.now.sequent (nameless [] q.now))) }
 {
     a.well_typed();
-    let general = injection(alloc, a.basis(), Side::Left)?;
-    let one = spec(alloc, a.concl(), &general)?;
-    let both = spec(alloc, q, &one)?;
-    mp(alloc, &both, a)
+    let mut lemmas = Lemmas::new(alloc, a.basis())?;
+    lemmas.follow(alloc, Lemma::Disj1, a.concl(), q, a)
 }
 
 /// DISJ2: from `q`, `p \/ q`, for a formula over the basis.
@@ -214,8 +196,6 @@ pub fn disj2(alloc: Global, p: &Term, a: &Thm) -> Result<Thm, AllocError>
     ensures { IfOk result (λ th. th ≡ theorem_on a.now.basis (with_left (nameless [] p.now) a.now.sequent)) }
 {
     a.well_typed();
-    let general = injection(alloc, a.basis(), Side::Right)?;
-    let one = spec(alloc, p, &general)?;
-    let both = spec(alloc, a.concl(), &one)?;
-    mp(alloc, &both, a)
+    let mut lemmas = Lemmas::new(alloc, a.basis())?;
+    lemmas.follow(alloc, Lemma::Disj2, p, a.concl(), a)
 }

@@ -32,8 +32,8 @@ pub fn contr(alloc: Global, p: &Term, a: &Thm) -> Result<Thm, AllocError>
     spec(alloc, p, &every)
 }
 
-// What the definition of `~` says of a formula: `~p = (p ==> F)`.
-fn not_at(alloc: Global, basis: &Basis, p: &Term) -> Result<Thm, AllocError>
+/// What the definition of `~` says of a formula: `~p = (p ==> F)`.
+pub(crate) fn not_at(alloc: Global, basis: &Basis, p: &Term) -> Result<Thm, AllocError>
     requires typed { HasType basis.now (nameless [] p.now) bool_type }
     ensures { IfOk result (λ th. th ≡ theorem_on basis.now (not_unfolded (nameless [] p.now))) }
 {
@@ -65,8 +65,8 @@ fn refuted(alloc: Global, a: &Thm, p: &Term) -> Result<Thm, AllocError>
     undisch(alloc, &implies)
 }
 
-// `p` under the hypothesis `F`.
-fn from_falsity(alloc: Global, basis: &Basis, p: &Term) -> Result<Thm, AllocError>
+/// `p` under the hypothesis `F`.
+pub(crate) fn from_falsity(alloc: Global, basis: &Basis, p: &Term) -> Result<Thm, AllocError>
     requires typed { HasType basis.now (nameless [] p.now) bool_type }
     ensures { IfOk result (λ th. th ≡ theorem_on basis.now (sequent_of (only_hyp falsity) (nameless [] p.now))) }
 {

@@ -20,8 +20,8 @@ use hol_kernel::{Basis, Thm};
 use hol_terms::Term;
 use std::alloc::{AllocError, Global};
 
-// What the definition of `==>` says of two formulas: `p ==> q = (p /\ q <=> p)`.
-fn imp_at(alloc: Global, basis: &Basis, p: &Term, q: &Term) -> Result<Thm, AllocError>
+/// What the definition of `==>` says of two formulas: `p ==> q = (p /\ q <=> p)`.
+pub(crate) fn imp_at(alloc: Global, basis: &Basis, p: &Term, q: &Term) -> Result<Thm, AllocError>
     requires first { HasType basis.now (nameless [] p.now) bool_type }
     requires second { HasType basis.now (nameless [] q.now) bool_type }
     ensures { IfOk result (λ th. th ≡ theorem_on basis.now (imp_unfolded (nameless [] p.now) (nameless [] q.now))) }
@@ -30,8 +30,8 @@ fn imp_at(alloc: Global, basis: &Basis, p: &Term, q: &Term) -> Result<Thm, Alloc
     unfold_at(alloc, &own, p, q)
 }
 
-// From `p ==> q`, `p /\ q <=> p`.
-fn as_equivalence(alloc: Global, a: &Thm) -> Result<Thm, AllocError>
+/// From `p ==> q`, `p /\ q <=> p`.
+pub(crate) fn as_equivalence(alloc: Global, a: &Thm) -> Result<Thm, AllocError>
     requires is { a.now.sequent.concl ≡ implication (lhs a.now.sequent.concl) (rhs a.now.sequent.concl) }
     ensures { IfOk result (λ th. th ≡ theorem_on a.now.basis (sequent_of a.now.sequent.hyps (equivalence (conjunction (lhs a.now.sequent.concl) (rhs a.now.sequent.concl)) (lhs a.now.sequent.concl)))) }
 {
@@ -55,8 +55,8 @@ pub fn mp(alloc: Global, a: &Thm, b: &Thm) -> Result<Thm, AllocError>
     conjunct2(alloc, &both)
 }
 
-// `p` under the hypothesis `p /\ q`; `both` is the conjunction.
-fn first_of(alloc: Global, basis: &Basis, both: &Term) -> Result<Thm, AllocError>
+/// `p` under the hypothesis `p /\ q`; `both` is the conjunction.
+pub(crate) fn first_of(alloc: Global, basis: &Basis, both: &Term) -> Result<Thm, AllocError>
     requires is { nameless [] both.now ≡ conjunction (lhs (nameless [] both.now)) (rhs (nameless [] both.now)) }
     requires typed { HasType basis.now (nameless [] both.now) bool_type }
     ensures { IfOk result (λ th. th ≡ theorem_on basis.now (sequent_of (only_hyp (nameless [] both.now)) (lhs (nameless [] both.now)))) }
@@ -74,8 +74,8 @@ fn with_assumed(alloc: Global, p: &Term, a: &Thm) -> Result<Thm, AllocError>
     conj(alloc, &assumed, a)
 }
 
-// From `q`, `p /\ q <=> p` without the hypothesis `p`.
-fn with_first(alloc: Global, p: &Term, a: &Thm) -> Result<Thm, AllocError>
+/// From `q`, `p /\ q <=> p` without the hypothesis `p`.
+pub(crate) fn with_first(alloc: Global, p: &Term, a: &Thm) -> Result<Thm, AllocError>
     requires typed { HasType a.now.basis (nameless [] p.now) bool_type }
     ensures { IfOk result (λ th. th ≡ theorem_on a.now.basis (sequent_of (set.remove a.now.sequent.hyps (strip (nameless [] p.now))) (equivalence (conjunction (nameless [] p.now) a.now.sequent.concl) (nameless [] p.now)))) }
 {

@@ -4,6 +4,7 @@
 #![tactic(auto)]
 
 pub mod applied;
+mod by_lemmas;
 mod conjunction;
 mod connectives;
 mod definitions;
@@ -14,6 +15,8 @@ mod existential;
 mod falsity;
 mod implication;
 mod laws;
+mod lemma;
+mod lemmas;
 mod letters;
 mod rules;
 mod truth;
@@ -27,5 +30,6 @@ pub use connectives::{
 pub use definitions::unfold;
 pub use error::{BoolError, Rule};
 pub use laws::{rules_keep_hypotheses, rules_widen};
+pub use lemmas::Lemmas;
 pub use rules::{choose, exists, generalize, spec};
 pub use truth::eqt_intro;

@@ -58,8 +58,8 @@ pub(crate) fn eqt_elim(alloc: Global, a: &Thm) -> Result<Thm, AllocError>
     eq_mp_sym(alloc, a, &holds)
 }
 
-// `p = T` under the hypothesis `p`.
-fn true_if_assumed(alloc: Global, basis: &Basis, p: &Term) -> Result<Thm, AllocError>
+/// `p = T` under the hypothesis `p`.
+pub(crate) fn true_if_assumed(alloc: Global, basis: &Basis, p: &Term) -> Result<Thm, AllocError>
     requires typed { HasType basis.now (nameless [] p.now) bool_type }
     ensures { IfOk result (λ th. th ≡ theorem_on basis.now (true_under (nameless [] p.now))) }
 {

@@ -27,8 +27,8 @@ use hol_terms::{Term, Variable};
 use hol_types::{Name, Ty};
 use std::alloc::{AllocError, Global};
 
-// The type variable `A`.
-fn element_type(alloc: Global) -> Result<Ty, AllocError>
+/// The type variable `A`.
+pub(crate) fn element_type(alloc: Global) -> Result<Ty, AllocError>
     ensures { IfOk result (λ ty. ty ≡ var_a) }
 {
     let name = Name::new(alloc, "A")?;
@@ -62,8 +62,8 @@ fn element_term(alloc: Global) -> Result<Term, AllocError>
     occurrence(alloc, &x)
 }
 
-// `P:A->bool`, as a term.
-fn property_term(alloc: Global) -> Result<Term, AllocError>
+/// `P:A->bool`, as a term.
+pub(crate) fn property_term(alloc: Global) -> Result<Term, AllocError>
     ensures is { IfOk result (λ t. t ≡ var property) }
     ensures typed { IfOk result (λ t. named_type t ≡ Some (property_type var_a)) }
 {

@@ -1,61 +1,34 @@
-use Rattle.hol_bool.proofs.Disjunctions.{left_at, left_opened}
-use Rattle.hol_bool.specs.Applied.{implied, specialized, with_right}
-use Rattle.hol_bool.specs.Unfolded.{injection}
-use Rattle.hol_equal.proofs.HypSets.{none_left}
-use Rattle.hol_equal.proofs.Outcomes.{became}
-use Rattle.hol_formulas.specs.Formula.{disjunction, implication}
-use Rattle.hol_kernel.specs.Sequent.{Hyps, no_hyps, sequent_of}
+use Rattle.std.proofs.Common.{[], ap, refl, ◌∙◌, ◌≡◌}
+use Rattle.hol_formulas.specs.Equation.{bool_type}
+use Rattle.hol_formulas.specs.Formula.{disjunction}
+use Rattle.hol_kernel.specs.Items.{Items}
+use Rattle.hol_kernel.specs.Sequent.{only_hyp, sequent_of}
 use Rattle.hol_kernel.specs.Theorem.{theorem_on}
-use Rattle.hol_subst.proofs.Closing.{IsClosed, closed_named, shift_whole}
+use Rattle.hol_kernel.specs.Typing.{HasType}
 use Rattle.hol_terms.specs.Nameless.{Nameless, nameless}
-use Rattle.std.proofs.Common.{[], ap, codes, refl, subst, ◌∙◌, ◌≡◌}
+use Rattle.hol_equal.proofs.Outcomes.{became}
+use Rattle.hol_bool.specs.Applied.{with_right}
+use Rattle.hol_bool.proofs.Instances.{typed_at}
 use Rattle.hol_bool.proofs.disjunction.disj1.Goals as goal
 
-pub spec-requires : goal.spec-requires
-spec-requires c =
-    let B = c.args.a.now.basis in
-    let s = c.args.a.now.sequent in
-    let own : nameless [] c.concl.result.now ≡ s.concl = c.concl.ensures.concl in
-    let general : c.in_ok-general.general ≡ theorem_on B (sequent_of no_hyps (injection (codes "p"))) = rw (c.in_ok-general.ensures, c.basis.ensures) refl in
-    rw (general, own) record { is = refl; typed = c.well_typed.ensures.conclusion }
-
-pub spec-requires-2 : goal.spec-requires-2
-spec-requires-2 c =
-    let B = c.args.a.now.basis in
-    let s = c.args.a.now.sequent in
-    let p = s.concl in
-    let own : nameless [] c.concl.result.now ≡ s.concl = c.concl.ensures.concl in
-    let cp : IsClosed 0 p = subst (λ (u : Nameless). IsClosed 0 u) own (closed_named c.concl.result.now) in
-    let general : c.in_ok-general.general ≡ theorem_on B (sequent_of no_hyps (injection (codes "p"))) = rw (c.in_ok-general.ensures, c.basis.ensures) refl in
-    let one : c.in_ok-one.one ≡ theorem_on B (sequent_of no_hyps (left_at p)) = c.in_ok-one.ensures ∙ (λ i. theorem_on (general i).basis (specialized (own i) (general i).sequent)) ∙ ap (λ (u : Nameless). theorem_on B (sequent_of no_hyps (left_at u))) (shift_whole 1 0 p cp) in
-    rw (one) record { is = refl; typed = c.requires.typed }
-
-pub mp-requires : goal.mp-requires
-mp-requires c =
-    let B = c.args.a.now.basis in
-    let s = c.args.a.now.sequent in
-    let p = s.concl in
+pub follow-requires : goal.follow-requires
+follow-requires c =
+    let A = c.args.a.now.basis in
+    let a = c.args.a.now.sequent in
     let q = nameless [] c.args.q.now in
-    let own : nameless [] c.concl.result.now ≡ s.concl = c.concl.ensures.concl in
-    let cp : IsClosed 0 p = subst (λ (u : Nameless). IsClosed 0 u) own (closed_named c.concl.result.now) in
-    let cq : IsClosed 0 q = closed_named c.args.q.now in
-    let general : c.in_ok-general.general ≡ theorem_on B (sequent_of no_hyps (injection (codes "p"))) = rw (c.in_ok-general.ensures, c.basis.ensures) refl in
-    let one : c.in_ok-one.one ≡ theorem_on B (sequent_of no_hyps (left_at p)) = c.in_ok-one.ensures ∙ (λ i. theorem_on (general i).basis (specialized (own i) (general i).sequent)) ∙ ap (λ (u : Nameless). theorem_on B (sequent_of no_hyps (left_at u))) (shift_whole 1 0 p cp) in
-    let both : c.in_ok-both.both ≡ theorem_on B (sequent_of no_hyps (implication p (disjunction p q))) = c.in_ok-both.ensures ∙ (λ i. theorem_on (one i).basis (specialized q (one i).sequent)) ∙ ap (λ (u : Nameless). theorem_on B (sequent_of no_hyps u)) (left_opened p q cp cq) in
-    rw both record { one_basis = refl; is = refl; fits = refl }
+    let own : c.in_ok-lemmas.lemmas ≡ A = c.in_ok-lemmas.ensures ∙ c.basis.ensures in
+    record {
+      over = own;
+      first = typed_at c.in_ok-lemmas.lemmas A (nameless [] c.concl.result.now) a.concl own c.concl.ensures.concl c.well_typed.ensures.conclusion;
+      second = typed_at c.in_ok-lemmas.lemmas A q q own refl c.requires.typed;
+      proved = ap only_hyp c.concl.ensures.concl;
+    }
 
 pub returns : goal.returns
 returns c =
-    let B = c.args.a.now.basis in
-    let s = c.args.a.now.sequent in
-    let hs = s.hyps in
-    let p = s.concl in
+    let A = c.args.a.now.basis in
+    let a = c.args.a.now.sequent in
     let q = nameless [] c.args.q.now in
-    let own : nameless [] c.concl.result.now ≡ s.concl = c.concl.ensures.concl in
-    let cp : IsClosed 0 p = subst (λ (u : Nameless). IsClosed 0 u) own (closed_named c.concl.result.now) in
-    let cq : IsClosed 0 q = closed_named c.args.q.now in
-    let general : c.in_ok-general.general ≡ theorem_on B (sequent_of no_hyps (injection (codes "p"))) = rw (c.in_ok-general.ensures, c.basis.ensures) refl in
-    let one : c.in_ok-one.one ≡ theorem_on B (sequent_of no_hyps (left_at p)) = c.in_ok-one.ensures ∙ (λ i. theorem_on (general i).basis (specialized (own i) (general i).sequent)) ∙ ap (λ (u : Nameless). theorem_on B (sequent_of no_hyps (left_at u))) (shift_whole 1 0 p cp) in
-    let both : c.in_ok-both.both ≡ theorem_on B (sequent_of no_hyps (implication p (disjunction p q))) = c.in_ok-both.ensures ∙ (λ i. theorem_on (one i).basis (specialized q (one i).sequent)) ∙ ap (λ (u : Nameless). theorem_on B (sequent_of no_hyps u)) (left_opened p q cp cq) in
-    became c.mp.result (theorem_on c.in_ok-both.both.basis (implied c.in_ok-both.both.sequent s)) (theorem_on B (with_right s q)) c.mp.ensures
-    (rw both (ap (λ (ks : Hyps). theorem_on B (sequent_of ks (disjunction p q))) (none_left hs)))
+    let own : c.in_ok-lemmas.lemmas ≡ A = c.in_ok-lemmas.ensures ∙ c.basis.ensures in
+    became c.follow.result (theorem_on c.in_ok-lemmas.lemmas (sequent_of a.hyps (disjunction (nameless [] c.concl.result.now) q))) (theorem_on A (with_right a q)) c.follow.ensures.is
+    (λ i. theorem_on (own i) (sequent_of a.hyps (disjunction (c.concl.ensures.concl i) q)))

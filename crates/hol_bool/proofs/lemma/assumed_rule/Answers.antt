@@ -1,0 +1,27 @@
+use Rattle.std.proofs.Common.{◌≡◌, ap, sym, ◌∙◌, subst, [], ◌∷◌, Some, refl, codes, true}
+use Rattle.std.specs.Prelude.{None, List}
+use Rattle.std.specs.FinSet as set
+use Rattle.hol_types.specs.Fun.{fun_type}
+use Rattle.hol_terms.specs.Nameless.{Nameless, nameless, fixed, app}
+use Rattle.hol_terms.specs.Alpha.{strip, alpha_eq}
+use Rattle.hol_formulas.specs.Equation.{equation, bool_type, dest_eq}
+use Rattle.hol_formulas.specs.Formula.{truth, falsity, negation, conjunction, disjunction, implication, equivalence, connective_type, quantifier_type, dest_conj, dest_imp}
+use Rattle.hol_kernel.specs.Items.{Items}
+use Rattle.hol_kernel.specs.Sequent.{no_hyps, only_hyp, sequent_of, Hyps, Sequent}
+use Rattle.hol_kernel.specs.Theorem.{Theorem, theorem_on, over}
+use Rattle.hol_kernel.specs.Typing.{HasType, is_type}
+use Rattle.hol_equal.proofs.Outcomes.{became}
+use Rattle.hol_bool.specs.Unfolded.{letter}
+use Rattle.hol_bool.proofs.lemma.assumed_rule.Goals as goal
+
+pub assume-requires : goal.assume-requires
+assume-requires c =
+    let own : nameless [] c.in_ok-rule.rule ≡ implication (letter (codes "p")) (letter (codes "q")) = ap (nameless []) c.in_ok-rule.ensures in
+    rw own record { typed = refl }
+
+pub returns : goal.returns
+returns c =
+    let B = c.args.basis.now in
+    let own : nameless [] c.in_ok-rule.rule ≡ implication (letter (codes "p")) (letter (codes "q")) = ap (nameless []) c.in_ok-rule.ensures in
+    let itself : Nameless → Theorem = λ u. theorem_on B (sequent_of (only_hyp u) u) in
+    became c.assume.result (itself (nameless [] c.in_ok-rule.rule)) (itself (implication (letter (codes "p")) (letter (codes "q")))) c.assume.ensures (λ i. itself (own i))

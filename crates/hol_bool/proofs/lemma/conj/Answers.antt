@@ -1,0 +1,33 @@
+use Rattle.std.proofs.Common.{◌≡◌, ap, sym, ◌∙◌, subst, [], ◌∷◌, Some, refl, codes, true}
+use Rattle.std.specs.Prelude.{None, List}
+use Rattle.std.specs.FinSet as set
+use Rattle.hol_types.specs.Fun.{fun_type}
+use Rattle.hol_terms.specs.Nameless.{Nameless, nameless, fixed, app}
+use Rattle.hol_terms.specs.Alpha.{strip, alpha_eq}
+use Rattle.hol_formulas.specs.Equation.{equation, bool_type, dest_eq}
+use Rattle.hol_formulas.specs.Formula.{truth, falsity, negation, conjunction, disjunction, implication, equivalence, connective_type, quantifier_type, dest_conj, dest_imp}
+use Rattle.hol_kernel.specs.Items.{Items}
+use Rattle.hol_kernel.specs.Sequent.{no_hyps, only_hyp, sequent_of, Hyps, Sequent}
+use Rattle.hol_kernel.specs.Theorem.{Theorem, theorem_on, over}
+use Rattle.hol_kernel.specs.Typing.{HasType, is_type}
+use Rattle.hol_equal.proofs.Outcomes.{became}
+use Rattle.hol_equal.specs.Applied.{symmetric}
+use Rattle.hol_bool.specs.Lemmas.{general}
+use Rattle.hol_bool.specs.Unfolded.{letter}
+use Rattle.hol_bool.specs.declared.lemma.Lemma.TheVariants.{Conj}
+use Rattle.hol_bool.proofs.Chains.{sym_fits, turned}
+use Rattle.hol_bool.proofs.lemma.conj.Goals as goal
+
+pub sym-requires : goal.sym-requires
+sym-requires c =
+    let p = letter (codes "p") in
+    let q = letter (codes "q") in
+    record { applies = sym_fits c.args.basis.now c.in_ok-equal.equal (only_hyp q) bool_type (conjunction p q) p c.in_ok-equal.ensures }
+
+pub returns : goal.returns
+returns c =
+    let B = c.args.basis.now in
+    let p = letter (codes "p") in
+    let q = letter (codes "q") in
+    became c.sym.result (theorem_on c.in_ok-equal.equal.basis (symmetric c.in_ok-equal.equal.sequent)) (theorem_on B (general Conj)) c.sym.ensures
+    (turned B c.in_ok-equal.equal (only_hyp q) bool_type (conjunction p q) p c.in_ok-equal.ensures)

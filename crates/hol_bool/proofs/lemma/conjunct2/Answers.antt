@@ -1,0 +1,40 @@
+use Rattle.std.proofs.Common.{◌≡◌, ap, sym, ◌∙◌, subst, [], ◌∷◌, Some, refl, codes, true}
+use Rattle.std.specs.Prelude.{None, List}
+use Rattle.std.specs.FinSet as set
+use Rattle.hol_types.specs.Fun.{fun_type}
+use Rattle.hol_terms.specs.Nameless.{Nameless, nameless, fixed, app}
+use Rattle.hol_terms.specs.Alpha.{strip, alpha_eq}
+use Rattle.hol_formulas.specs.Equation.{equation, bool_type, dest_eq}
+use Rattle.hol_formulas.specs.Formula.{truth, falsity, negation, conjunction, disjunction, implication, equivalence, connective_type, quantifier_type, dest_conj, dest_imp}
+use Rattle.hol_kernel.specs.Items.{Items}
+use Rattle.hol_kernel.specs.Sequent.{no_hyps, only_hyp, sequent_of, Hyps, Sequent}
+use Rattle.hol_kernel.specs.Theorem.{Theorem, theorem_on, over}
+use Rattle.hol_kernel.specs.Typing.{HasType, is_type}
+use Rattle.hol_equal.proofs.Outcomes.{became}
+use Rattle.hol_bool.specs.Applied.{second_conjunct}
+use Rattle.hol_bool.specs.Lemmas.{general}
+use Rattle.hol_bool.specs.Unfolded.{letter}
+use Rattle.hol_bool.specs.declared.lemma.Lemma.TheVariants.{Conjunct2}
+use Rattle.hol_bool.proofs.lemma.conjunct2.Goals as goal
+
+pub assume-requires : goal.assume-requires
+assume-requires c =
+    let own : nameless [] c.in_ok-both.both ≡ conjunction (letter (codes "p")) (letter (codes "q")) = ap (nameless []) c.in_ok-both.ensures.is in
+    rw own record { typed = refl }
+
+pub conjunct2-requires : goal.conjunct2-requires
+conjunct2-requires c =
+    let B = c.args.basis.now in
+    let two = conjunction (letter (codes "p")) (letter (codes "q")) in
+    let own : nameless [] c.in_ok-both.both ≡ two = ap (nameless []) c.in_ok-both.ensures.is in
+    let assumed : c.in_ok-assumed.assumed ≡ theorem_on B (sequent_of (only_hyp two) two) = c.in_ok-assumed.ensures ∙ (λ i. theorem_on B (sequent_of (only_hyp (own i)) (own i))) in
+    rw assumed record { is = refl }
+
+pub returns : goal.returns
+returns c =
+    let B = c.args.basis.now in
+    let two = conjunction (letter (codes "p")) (letter (codes "q")) in
+    let own : nameless [] c.in_ok-both.both ≡ two = ap (nameless []) c.in_ok-both.ensures.is in
+    let assumed : c.in_ok-assumed.assumed ≡ theorem_on B (sequent_of (only_hyp two) two) = c.in_ok-assumed.ensures ∙ (λ i. theorem_on B (sequent_of (only_hyp (own i)) (own i))) in
+    became c.conjunct2.result (theorem_on c.in_ok-assumed.assumed.basis (second_conjunct c.in_ok-assumed.assumed.sequent)) (theorem_on B (general Conjunct2)) c.conjunct2.ensures
+    (λ i. theorem_on (assumed i).basis (second_conjunct (assumed i).sequent))

@@ -1,0 +1,40 @@
+use Rattle.std.proofs.Common.{◌≡◌, ap, sym, ◌∙◌, subst, [], ◌∷◌, Some, refl, codes, true}
+use Rattle.std.specs.Prelude.{None, List}
+use Rattle.std.specs.FinSet as set
+use Rattle.hol_types.specs.Fun.{fun_type}
+use Rattle.hol_terms.specs.Nameless.{Nameless, nameless, fixed, app}
+use Rattle.hol_terms.specs.Alpha.{strip, alpha_eq}
+use Rattle.hol_formulas.specs.Equation.{equation, bool_type, dest_eq}
+use Rattle.hol_formulas.specs.Formula.{truth, falsity, negation, conjunction, disjunction, implication, equivalence, connective_type, quantifier_type, dest_conj, dest_imp}
+use Rattle.hol_kernel.specs.Items.{Items}
+use Rattle.hol_kernel.specs.Sequent.{no_hyps, only_hyp, sequent_of, Hyps, Sequent}
+use Rattle.hol_kernel.specs.Theorem.{Theorem, theorem_on, over}
+use Rattle.hol_kernel.specs.Typing.{HasType, is_type}
+use Rattle.hol_equal.proofs.Outcomes.{became}
+use Rattle.hol_formulas.specs.Constants.{var_a}
+use Rattle.hol_bool.specs.Applied.{forall_unfolded}
+use Rattle.hol_bool.specs.Unfolded.{predicate}
+use Rattle.hol_bool.specs.declared.lemma.Lemma.TheVariants.{Gen}
+use Rattle.hol_equal.specs.Applied.{lhs, rhs}
+use Rattle.hol_bool.specs.Lemmas.{general}
+use Rattle.hol_bool.proofs.lemma.generalization.Goals as goal
+
+pub forall_at-requires : goal.forall_at-requires
+forall_at-requires c =
+    let own : nameless [] c.in_ok-p.p ≡ predicate = ap (nameless []) c.in_ok-p.ensures.is in
+    rw (c.in_ok-ty.ensures, own) record { stands = refl; typed = refl }
+
+pub assumed_right-requires : goal.assumed_right-requires
+assumed_right-requires c =
+    let B = c.args.basis.now in
+    let own : nameless [] c.in_ok-p.p ≡ predicate = ap (nameless []) c.in_ok-p.ensures.is in
+    let equal : c.in_ok-equal.equal ≡ theorem_on B (forall_unfolded var_a predicate) = c.in_ok-equal.ensures ∙ (λ i. theorem_on B (forall_unfolded (c.in_ok-ty.ensures i) (own i))) in
+    rw equal record { is = refl }
+
+pub returns : goal.returns
+returns c =
+    let B = c.args.basis.now in
+    let own : nameless [] c.in_ok-p.p ≡ predicate = ap (nameless []) c.in_ok-p.ensures.is in
+    let equal : c.in_ok-equal.equal ≡ theorem_on B (forall_unfolded var_a predicate) = c.in_ok-equal.ensures ∙ (λ i. theorem_on B (forall_unfolded (c.in_ok-ty.ensures i) (own i))) in
+    let back : Theorem → Theorem = λ th. theorem_on th.basis (sequent_of (only_hyp (rhs th.sequent.concl)) (lhs th.sequent.concl)) in
+    became c.assumed_right.result (back c.in_ok-equal.equal) (theorem_on B (general Gen)) c.assumed_right.ensures (λ i. back (equal i))

@@ -1,0 +1,47 @@
+use Rattle.std.proofs.Common.{◌≡◌, ap, sym, ◌∙◌, subst, [], ◌∷◌, Some, refl, codes, true}
+use Rattle.std.specs.Prelude.{None, List}
+use Rattle.std.specs.FinSet as set
+use Rattle.hol_types.specs.Fun.{fun_type}
+use Rattle.hol_terms.specs.Nameless.{Nameless, nameless, fixed, app}
+use Rattle.hol_terms.specs.Alpha.{strip, alpha_eq}
+use Rattle.hol_formulas.specs.Equation.{equation, bool_type, dest_eq}
+use Rattle.hol_formulas.specs.Formula.{truth, falsity, negation, conjunction, disjunction, implication, equivalence, connective_type, quantifier_type, dest_conj, dest_imp}
+use Rattle.hol_kernel.specs.Items.{Items}
+use Rattle.hol_kernel.specs.Sequent.{no_hyps, only_hyp, sequent_of, Hyps, Sequent}
+use Rattle.hol_kernel.specs.Theorem.{Theorem, theorem_on, over}
+use Rattle.hol_kernel.specs.Typing.{HasType, is_type}
+use Rattle.hol_equal.proofs.Outcomes.{became}
+use Rattle.std.specs.Prelude.{MatchOption}
+use Rattle.hol_formulas.proofs.FormulaLaws.{dest_binary_is}
+use Rattle.hol_equal.specs.Applied.{lhs, rhs}
+use Rattle.hol_equal.specs.Applied as made
+use Rattle.hol_bool.specs.Lemmas.{hypothesis, conclusion}
+use Rattle.hol_bool.proofs.Chains.{one_basis, eq_mp_fits, followed}
+use Rattle.hol_bool.proofs.Connected.{operands_typed}
+use Rattle.hol_bool.proofs.Instances.{typed_at, holds, refuted, gives_by}
+use Rattle.hol_bool.proofs.LemmaHypotheses.{swapped}
+use Rattle.hol_kernel.specs.Typing.{has_type}
+use Rattle.hol_kernel.proofs.Declared.{has_type_is}
+use Rattle.hol_bool.specs.Applied.{with_left, with_right}
+use Rattle.hol_bool.specs.Rules.{disj1_of}
+use Rattle.hol_bool.proofs.DisjunctionRules.{disj1_none, disj1_gives}
+use Rattle.hol_bool.proofs.lemmas.Lemmas.disj1.Goals as goal
+
+pub follow-requires : goal.follow-requires
+follow-requires c =
+    let A = c.args.a.now.basis in
+    let a = c.args.a.now.sequent in
+    let x = nameless [] c.args.q.now in
+    let has : has_type A x bool_type ≡ true = holds (over A (disj1_of A a x)) (has_type A x bool_type) c.requires.applies (λ e. ap (over A) (disj1_none A a x e)) in
+    let given : HasType c.args.self.now x bool_type = typed_at c.args.self.now A x x c.requires.one_basis refl (has_type_is A x bool_type has) in
+    let own : HasType c.args.self.now (nameless [] c.concl.result.now) bool_type = typed_at c.args.self.now A (nameless [] c.concl.result.now) a.concl c.requires.one_basis c.concl.ensures.concl c.well_typed.ensures.conclusion in
+    record { over = c.requires.one_basis; first = own; second = given; proved = ap only_hyp c.concl.ensures.concl }
+
+pub returns-clause-gives : goal.returns-clause-gives
+returns-clause-gives c =
+    let A = c.args.a.now.basis in
+    let a = c.args.a.now.sequent in
+    let x = nameless [] c.args.q.now in
+    let has : has_type A x bool_type ≡ true = holds (over A (disj1_of A a x)) (has_type A x bool_type) c.requires.applies (λ e. ap (over A) (disj1_none A a x e)) in
+    gives_by c.follow.result (theorem_on c.args.self.now (sequent_of a.hyps (disjunction (nameless [] c.concl.result.now) x))) A (disj1_of A a x) (with_right a x) c.follow.ensures.is
+    (λ i. theorem_on (c.requires.one_basis i) (sequent_of a.hyps (disjunction (c.concl.ensures.concl i) x))) (disj1_gives A a x has)

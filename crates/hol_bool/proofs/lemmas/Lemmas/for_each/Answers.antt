@@ -1,0 +1,31 @@
+use Rattle.std.proofs.Common.{◌≡◌, ap, sym, ◌∙◌, subst, [], ◌∷◌, Some, refl, codes, true}
+use Rattle.std.specs.Prelude.{None, List}
+use Rattle.std.specs.FinSet as set
+use Rattle.hol_types.specs.Fun.{fun_type}
+use Rattle.hol_terms.specs.Nameless.{Nameless, nameless, fixed, app}
+use Rattle.hol_terms.specs.Alpha.{strip, alpha_eq}
+use Rattle.hol_formulas.specs.Equation.{equation, bool_type, dest_eq}
+use Rattle.hol_formulas.specs.Formula.{truth, falsity, negation, conjunction, disjunction, implication, equivalence, connective_type, quantifier_type, dest_conj, dest_imp}
+use Rattle.hol_kernel.specs.Items.{Items}
+use Rattle.hol_kernel.specs.Sequent.{no_hyps, only_hyp, sequent_of, Hyps, Sequent}
+use Rattle.hol_kernel.specs.Theorem.{Theorem, theorem_on, over}
+use Rattle.hol_kernel.specs.Typing.{HasType, is_type}
+use Rattle.hol_equal.proofs.Outcomes.{became}
+use Rattle.hol_equal.specs.Applied.{lhs}
+use Rattle.hol_bool.specs.Applied.{generalized}
+use Rattle.hol_bool.proofs.lemmas.Lemmas.for_each.Goals as goal
+
+pub under_truth-requires : goal.under_truth-requires
+under_truth-requires c =
+    record { one_basis = c.requires.one_basis; stands = c.requires.stands; absent = c.requires.absent }
+
+pub for_all-requires : goal.for_all-requires
+for_all-requires c =
+    rw c.in_ok-constant.ensures.gives record { one_basis = c.in_ok-constant.ensures.kept ∙ c.requires.one_basis; stands = c.requires.stands; is = refl }
+
+pub returns-clause-gives : goal.returns-clause-gives
+returns-clause-gives c =
+    let s = c.in_ok-constant.constant.sequent in
+    let every = app (fixed (codes "!") (quantifier_type c.args.v.now.1)) (lhs s.concl) in
+    became c.for_all.result (theorem_on c.in_ok-constant.constant.basis (sequent_of s.hyps every)) (theorem_on c.args.a.now.basis (generalized c.args.v.now c.args.a.now.sequent)) c.for_all.ensures.gives
+    (rw c.in_ok-constant.ensures.gives refl)

@@ -1,0 +1,55 @@
+use Rattle.std.proofs.Common.{◌≡◌, ap, sym, ◌∙◌, subst, [], ◌∷◌, Some, refl, codes, true}
+use Rattle.std.specs.Prelude.{None, List}
+use Rattle.std.specs.FinSet as set
+use Rattle.hol_types.specs.Fun.{fun_type}
+use Rattle.hol_terms.specs.Nameless.{Nameless, nameless, fixed, app}
+use Rattle.hol_terms.specs.Alpha.{strip, alpha_eq}
+use Rattle.hol_formulas.specs.Equation.{equation, bool_type, dest_eq}
+use Rattle.hol_formulas.specs.Formula.{truth, falsity, negation, conjunction, disjunction, implication, equivalence, connective_type, quantifier_type, dest_conj, dest_imp}
+use Rattle.hol_kernel.specs.Items.{Items}
+use Rattle.hol_kernel.specs.Sequent.{no_hyps, only_hyp, sequent_of, Hyps, Sequent}
+use Rattle.hol_kernel.specs.Theorem.{Theorem, theorem_on, over}
+use Rattle.hol_kernel.specs.Typing.{HasType, is_type}
+use Rattle.hol_equal.proofs.Outcomes.{became}
+use Rattle.std.specs.Prelude.{MatchOption}
+use Rattle.hol_formulas.proofs.FormulaLaws.{dest_binary_is}
+use Rattle.hol_equal.specs.Applied.{lhs, rhs}
+use Rattle.hol_equal.specs.Applied as made
+use Rattle.hol_bool.specs.Lemmas.{hypothesis, conclusion}
+use Rattle.hol_bool.proofs.Chains.{one_basis, eq_mp_fits, followed}
+use Rattle.hol_bool.proofs.Connected.{operands_typed}
+use Rattle.hol_bool.proofs.Instances.{typed_at, holds, refuted, gives_by}
+use Rattle.hol_bool.proofs.LemmaHypotheses.{swapped}
+use Rattle.hol_kernel.specs.Rules.{deduct_antisym_of}
+use Rattle.hol_bool.proofs.HypLaws.{discharged}
+use Rattle.hol_bool.proofs.lemmas.Lemmas.with_first.Goals as goal
+
+pub with_assumed-requires : goal.with_assumed-requires
+with_assumed-requires c = record { one_basis = c.requires.one_basis; typed = c.requires.typed }
+
+pub instance-requires : goal.instance-requires
+instance-requires c =
+    let A = c.args.a.now.basis in
+    let p = nameless [] c.args.p.now in
+    let over : c.with_assumed.new.self ≡ A = c.in_ok-both.ensures.kept ∙ c.requires.one_basis in
+    record { first = typed_at c.with_assumed.new.self A p p over refl c.requires.typed; second = typed_at c.with_assumed.new.self A (nameless [] c.concl.result.now) c.args.a.now.sequent.concl over c.concl.ensures.concl c.well_typed.ensures.conclusion }
+
+pub deduct_antisym-requires : goal.deduct_antisym-requires
+deduct_antisym-requires c =
+    let A = c.args.a.now.basis in
+    let a = c.args.a.now.sequent in
+    let p = nameless [] c.args.p.now in
+    let two = conjunction p a.concl in
+    let first : c.in_ok-first.first ≡ theorem_on A (sequent_of (only_hyp two) p) = c.in_ok-first.ensures.is ∙ (λ i. theorem_on ((c.in_ok-both.ensures.kept ∙ c.requires.one_basis) i) (sequent_of (only_hyp (conjunction p (c.concl.ensures.concl i))) p)) in
+    record { one_basis = one_basis A c.in_ok-both.both c.in_ok-first.first (sequent_of (set.union (only_hyp p) a.hyps) two) (sequent_of (only_hyp two) p) c.in_ok-both.ensures.gives first }
+
+pub returns-clause-gives : goal.returns-clause-gives
+returns-clause-gives c =
+    let A = c.args.a.now.basis in
+    let a = c.args.a.now.sequent in
+    let p = nameless [] c.args.p.now in
+    let two = conjunction p a.concl in
+    let first : c.in_ok-first.first ≡ theorem_on A (sequent_of (only_hyp two) p) = c.in_ok-first.ensures.is ∙ (λ i. theorem_on ((c.in_ok-both.ensures.kept ∙ c.requires.one_basis) i) (sequent_of (only_hyp (conjunction p (c.concl.ensures.concl i))) p)) in
+    let body = equivalence two p in
+    became c.deduct_antisym.result (theorem_on c.in_ok-both.both.basis (deduct_antisym_of c.in_ok-both.both.sequent c.in_ok-first.first.sequent)) (theorem_on A (sequent_of (set.remove a.hyps (strip p)) body)) c.deduct_antisym.ensures
+    ((λ i. theorem_on (c.in_ok-both.ensures.gives i).basis (deduct_antisym_of (c.in_ok-both.ensures.gives i).sequent (first i).sequent)) ∙ ap (λ (hs : Hyps). theorem_on A (sequent_of hs body)) (discharged p two a.hyps))
