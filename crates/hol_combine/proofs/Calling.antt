@@ -93,6 +93,10 @@ justified args goal step h j =
       all = λ p i. in_union_right hyps_total hyps_same no_hyps (assumed goal.assumptions) p (is_subset-contains hyps_total (args_hyps args) (assumed goal.assumptions) h p i);
     })
 
-pub small_valid : (args : TacArgsValue) (goal : GoalValue) (step : Step) (result : Result Ran RunError) → are_assumed args goal ≡ true → IsJustified args goal step → IfOk result (λ ran. ran.step ≡ step) → IfOk result (IsValidRun (suits args) (goal ∷ []))
-small_valid args goal step (Ok ran) h j e = subst (λ (s : Step). IsValid (suits args) no_hyps s.just (goal ∷ []) s.goals.items) (sym e) (justified args goal step h j)
-small_valid args goal step (Err fault) h j e = tt
+pub small_justified : (args : TacArgsValue) (goal : GoalValue) (step : Step) (result : Result Ran RunError) → IsJustified args goal step → IfOk result (λ ran. ran.step ≡ step) → IfOk result (λ ran. IsJustified args goal ran.step)
+small_justified args goal step (Ok ran) j e = subst (IsJustified args goal) (sym e) j
+small_justified args goal step (Err fault) j e = tt
+
+pub justified_valid : (args : TacArgsValue) (goal : GoalValue) (result : Result Ran RunError) → are_assumed args goal ≡ true → IfOk result (λ ran. IsJustified args goal ran.step) → IfOk result (IsValidRun (suits args) (goal ∷ []))
+justified_valid args goal (Ok ran) h j = justified args goal ran.step h j
+justified_valid args goal (Err fault) h j = tt

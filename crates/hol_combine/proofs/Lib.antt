@@ -7,5 +7,6 @@ pub mod Lists
 pub mod Assumed
 pub mod Same
 pub mod Calling
+pub mod Handed
 pub mod Arms
 pub mod Loops

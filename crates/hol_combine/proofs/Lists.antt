@@ -6,7 +6,7 @@ use Rattle.std.proofs.lemmas.Bool.{and_parts}
 use Rattle.std.proofs.lemmas.List.{take_rest}
 use Rattle.hol_goal.specs.Goal.{GoalValue}
 use Rattle.hol_goal.specs.declared.tac_code.TacCode.{TacCode}
-use Rattle.hol_combine.specs.ExprValue.{CallValue, ExprValue, ExprValues, Call, Then, ThenL, OrElse, Try, Repeat, Every, First, Replicate, Changed, no_exprs, more_exprs, exprs, then_all, or_else_all, expr_nodes, exprs_nodes}
+use Rattle.hol_combine.specs.ExprValue.{CallValue, ExprValue, ExprValues, Call, Then, ThenL, OrElse, Try, Repeat, Every, First, Replicate, Changed, DischThen, PopAssum, FirstAssum, SubgoalThen, no_exprs, more_exprs, exprs, then_all, or_else_all, expr_nodes, exprs_nodes}
 use Rattle.hol_combine.specs.Runs.{RunValue, Leaves, Refuses, Stops, before_goals, then_on, otherwise, each, unchanged, run, run_every, run_first, run_each}
 use Rattle.hol_combine.specs.Suits.{all_calls, all_calls_of}
 use Rattle.hol_combine.specs.More.{run_more}
@@ -59,6 +59,10 @@ has_nodes (Every ts) = omega arith
 has_nodes (First ts) = omega arith
 has_nodes (Replicate n t) = omega arith
 has_nodes (Changed t) = omega arith
+has_nodes (DischThen called) = omega arith
+has_nodes (PopAssum called) = omega arith
+has_nodes (FirstAssum called) = omega arith
+has_nodes (SubgoalThen p called) = omega arith
 
 pub nodes_at : (ts : List ExprValue) (i : ℕ) (d : ExprValue) → i < length ts → expr_nodes (get_or ts i d) ≤ exprs_nodes (exprs ts)
 nodes_at [] i d h = absurd (omega (arith, h))

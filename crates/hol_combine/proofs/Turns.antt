@@ -1,14 +1,17 @@
 -- No run leaves more turns than it had.
 use Rattle.std.specs.Prelude.{◌≡◌, ◌≤◌, ℕ, zero, suc, Bool, true, false, cond, nat_eq, length, List, [], ◌∷◌, Option, Some, None}
 use Rattle.std.proofs.Common.{arith}
+use Rattle.hol_terms.specs.Nameless.{Nameless}
 use Rattle.hol_goal.specs.Goal.{GoalValue}
 use Rattle.hol_goal.specs.Answer.{AnswerResult, AnswerValue, Left, Unfit}
 use Rattle.hol_goal.specs.Arguments.{TacArgsValue}
 use Rattle.hol_goal.specs.declared.tac_code.TacCode.{TacCode}
 use Rattle.hol_goal.specs.declared.tac_code.TacCode.TheVariants.{AllTac, NoTac, ReflTac, AcceptTac, ConjTac, Disj1Tac, Disj2Tac, EqTac, DischTac, GenTac, XGenTac, ExistsTac, SpecTac, MpTac, AssumeTac, ContrTac, ChooseTac, XChooseTac, DisjCasesTac, Subst1Tac, ApTermTac, ApThmTac, MkCombTac, UndischTac, StripAssumeTac, StripTac, MatchMpTac, BetaTac, RewriteTac, OnceRewriteTac, AsmRewriteTac, OnceAsmRewriteTac, PureRewriteTac}
+use Rattle.hol_just.specs.Leaving.{concluding}
+use Rattle.hol_just.specs.Strip.{antecedent}
 use Rattle.hol_just.specs.Tac.{Meaning, tac}
-use Rattle.hol_combine.specs.ExprValue.{CallValue, ExprValue, ExprValues, Call, Then, ThenL, OrElse, Try, Repeat, Every, First, Replicate, Changed, no_exprs, more_exprs}
-use Rattle.hol_combine.specs.Runs.{RunValue, Leaves, Refuses, Stops, before_goals, then_on, otherwise, each, unchanged, has_large, answer_of, run_meaning, meaning_at, are_assumed, run_call, is_just, changed, replicate, as_many, count, run, run_every, run_first, run_each}
+use Rattle.hol_combine.specs.ExprValue.{CallValue, TheoremTacValue, ExprValue, ExprValues, Call, Then, ThenL, OrElse, Try, Repeat, Every, First, Replicate, Changed, DischThen, PopAssum, FirstAssum, SubgoalThen, no_exprs, more_exprs}
+use Rattle.hol_combine.specs.Runs.{RunValue, Leaves, Refuses, Stops, before_goals, then_on, otherwise, each, unchanged, has_large, answer_of, run_meaning, meaning_at, are_assumed, call_paid, run_call, handed, hand, disch_then, pop_assum, first_assum, subgoal_then, is_just, changed, replicate, as_many, count, run, run_every, run_first, run_each}
 use Rattle.hol_combine.proofs.Falling.{IsWithin, Falls, within_more, within_before, within_then, within_otherwise, each_falls, repeated_falls}
 
 within_cond : (n : ℕ) (b : Bool) (x y : RunValue) → IsWithin n x → IsWithin n y → IsWithin n (cond b x y)
@@ -71,12 +74,38 @@ meaning_falls (Some f) name args goal turns h =
     let answer : AnswerValue = f args goal (record { turns_left = turns }) in
     answer_falls name answer.result answer.used.turns_left turns (h args goal turns)
 
+paid_falls : (table : List (List ℕ × TacCode)) (call : CallValue) (goal : GoalValue) (turns : ℕ) → IsWithin turns (call_paid table call goal turns)
+paid_falls table call goal turns = meaning_falls (meaning_at table call.index) call.name call.args goal turns (at_falls table call.index)
+
 call_falls : (table : List (List ℕ × TacCode)) (call : CallValue) (goal : GoalValue) (turns : ℕ) → IsWithin turns (run_call table call goal turns)
 call_falls table call goal zero = tt
 call_falls table call goal (suc turns) =
-    within_cond (suc turns) (are_assumed call.args goal) (run_meaning (meaning_at table call.index) call.name call.args goal turns) (Refuses _ turns)
-    (within_more turns (suc turns) _ (omega arith) (meaning_falls (meaning_at table call.index) call.name call.args goal turns (at_falls table call.index)))
+    within_cond (suc turns) (are_assumed call.args goal) (call_paid table call goal turns) (Refuses _ turns)
+    (within_more turns (suc turns) _ (omega arith) (paid_falls table call goal turns))
     (omega arith)
+
+-- ---- theorems that are handed over
+
+module _ (table : List (List ℕ × TacCode)) (called : TheoremTacValue) where
+  hand_falls : (p : Nameless) (goal : GoalValue) (turns : ℕ) → IsWithin turns (hand table called p goal turns)
+  hand_falls p goal zero = tt
+  hand_falls p goal (suc turns) = within_more turns (suc turns) _ (omega arith) (paid_falls table (handed called p) goal turns)
+
+  disch_falls : (goal : GoalValue) (o : Option (Nameless × Nameless)) (turns : ℕ) → IsWithin turns (disch_then table called goal o turns)
+  disch_falls goal None turns = omega arith
+  disch_falls goal (Some (p, q)) turns = hand_falls p (concluding goal q) turns
+
+  pop_falls : (ps : List Nameless) (w : Nameless) (turns : ℕ) → IsWithin turns (pop_assum table called ps w turns)
+  pop_falls [] w turns = omega arith
+  pop_falls (p ∷ ps) w turns = hand_falls p (record { assumptions = ps; conclusion = w }) turns
+
+  first_assum_falls : (ps : List Nameless) (goal : GoalValue) (turns : ℕ) → IsWithin turns (first_assum table called ps goal turns)
+  first_assum_falls [] goal turns = omega arith
+  first_assum_falls (p ∷ ps) goal turns = within_otherwise turns (hand table called p goal turns) (first_assum table called ps goal) (hand_falls p goal turns) (λ l. first_assum_falls ps goal l)
+
+  subgoal_falls : (p : Nameless) (goal : GoalValue) (turns : ℕ) → IsWithin turns (subgoal_then table p called goal turns)
+  subgoal_falls p goal turns =
+      within_cond turns (has_large (concluding goal p ∷ [])) (Stops _) _ tt (within_before turns (concluding goal p ∷ []) (hand table called p goal turns) (hand_falls p goal turns))
 
 -- ---- tacticals
 
@@ -103,6 +132,10 @@ mutual
   run_falls table (First ts) goal turns = first_falls table ts goal turns
   run_falls table (Replicate n t) goal turns = replicate_falls (run table t) (run_falls table t) n goal turns
   run_falls table (Changed t) goal turns = changed_falls goal turns (run table t goal turns) (run_falls table t goal turns)
+  run_falls table (DischThen called) goal turns = disch_falls table called goal (antecedent goal.conclusion) turns
+  run_falls table (PopAssum called) goal turns = pop_falls table called goal.assumptions goal.conclusion turns
+  run_falls table (FirstAssum called) goal turns = first_assum_falls table called goal.assumptions goal turns
+  run_falls table (SubgoalThen p called) goal turns = subgoal_falls table called p goal turns
 
   pub every_falls : (table : List (List ℕ × TacCode)) (ts : ExprValues) (goal : GoalValue) (turns : ℕ) → IsWithin turns (run_every table ts goal turns)
   every_falls table no_exprs goal turns = omega arith

@@ -1,11 +1,12 @@
 -- How the logic stores expressions: as trees of numbers, by functions that map no two to one tree.
-use Rattle.std.specs.Coded.{Coded, coded×, coded_ℕ, coded_list, code_by}
-use Rattle.std.proofs.Common.{◌≡◌, ◌≢◌, ℕ, List, ap, arith, refl}
+use Rattle.std.specs.Coded.{Coded, coded×, coded_ℕ, coded_list, coded_option, code_by}
+use Rattle.std.proofs.Common.{◌≡◌, ◌≢◌, ℕ, List, Option, ap, arith, refl}
 use base.Stored.{Gv, gnil, gnum, gcons}
+use Rattle.hol_terms.specs.Nameless.{Nameless}
 use Rattle.hol_terms.specs.Code.{coded_nameless}
 use Rattle.hol_kernel.specs.Given.{Given, given_code}
 use Rattle.hol_goal.specs.Arguments.{TacArgsValue, Nothing, Term, Pair, Theorem, TermAndTheorem, Theorems}
-use Rattle.hol_combine.specs.ExprValue.{CallValue, ExprValue, ExprValues, Call, Then, ThenL, OrElse, Try, Repeat, Every, First, Replicate, Changed, no_exprs, more_exprs}
+use Rattle.hol_combine.specs.ExprValue.{CallValue, TheoremTacValue, ExprValue, ExprValues, Call, Then, ThenL, OrElse, Try, Repeat, Every, First, Replicate, Changed, DischThen, PopAssum, FirstAssum, SubgoalThen, no_exprs, more_exprs}
 
 abbrev head : Gv → Gv
 head gnil = gnil
@@ -60,6 +61,13 @@ coded_call =
     (λ p. record { index = p.0; name = p.1.0; args = p.1.1 })
     (λ _. refl)
 
+abbrev pub coded_theorem_tac : Coded TheoremTacValue
+coded_theorem_tac =
+    code_by (ℕ × (List ℕ × Option Nameless)) (coded× coded_ℕ (coded× (coded_list coded_ℕ) (coded_option coded_nameless)))
+    (λ c. (c.index, (c.name, c.term)))
+    (λ p. record { index = p.0; name = p.1.0; term = p.1.1 })
+    (λ _. refl)
+
 abbrev mutual
   pub expr_code : ExprValue → Gv
   expr_code (Call c) = gcons (gnum 0) (coded_call.code c)
@@ -72,6 +80,10 @@ abbrev mutual
   expr_code (First ts) = gcons (gnum 7) (exprs_code ts)
   expr_code (Replicate n t) = gcons (gnum 8) (gcons (gnum n) (expr_code t))
   expr_code (Changed t) = gcons (gnum 9) (expr_code t)
+  expr_code (DischThen called) = gcons (gnum 10) (coded_theorem_tac.code called)
+  expr_code (PopAssum called) = gcons (gnum 11) (coded_theorem_tac.code called)
+  expr_code (FirstAssum called) = gcons (gnum 12) (coded_theorem_tac.code called)
+  expr_code (SubgoalThen p called) = gcons (gnum 13) (gcons (coded_nameless.code p) (coded_theorem_tac.code called))
 
   pub exprs_code : ExprValues → Gv
   exprs_code no_exprs = gcons (gnum 0) gnil
@@ -99,6 +111,14 @@ mutual
   expr_inj (Replicate n t) _ p = absurd (apart _ _ p (omega arith))
   expr_inj (Changed t) (Changed t_) p = λ i. Changed (expr_inj t t_ (ap (λ g. tail g) p) i)
   expr_inj (Changed t) _ p = absurd (apart _ _ p (omega arith))
+  expr_inj (DischThen called) (DischThen called_) p = λ i. DischThen (coded_theorem_tac.inj called called_ (ap (λ g. tail g) p) i)
+  expr_inj (DischThen called) _ p = absurd (apart _ _ p (omega arith))
+  expr_inj (PopAssum called) (PopAssum called_) p = λ i. PopAssum (coded_theorem_tac.inj called called_ (ap (λ g. tail g) p) i)
+  expr_inj (PopAssum called) _ p = absurd (apart _ _ p (omega arith))
+  expr_inj (FirstAssum called) (FirstAssum called_) p = λ i. FirstAssum (coded_theorem_tac.inj called called_ (ap (λ g. tail g) p) i)
+  expr_inj (FirstAssum called) _ p = absurd (apart _ _ p (omega arith))
+  expr_inj (SubgoalThen q called) (SubgoalThen q_ called_) p = λ i. SubgoalThen (coded_nameless.inj q q_ (ap (λ g. head (tail g)) p) i) (coded_theorem_tac.inj called called_ (ap (λ g. tail (tail g)) p) i)
+  expr_inj (SubgoalThen q called) _ p = absurd (apart _ _ p (omega arith))
 
   pub exprs_inj : (x y : ExprValues) → exprs_code x ≡ exprs_code y → x ≡ y
   exprs_inj no_exprs no_exprs p = refl

@@ -1,5 +1,6 @@
 -- Expressions of functions on goals whose names are resolved (HOL Light Reference Manual: the tacticals of these names).
-use Rattle.std.specs.Prelude.{ℕ, ◌+◌, List, [], ◌∷◌}
+use Rattle.std.specs.Prelude.{ℕ, ◌+◌, List, [], ◌∷◌, Option}
+use Rattle.hol_terms.specs.Nameless.{Nameless}
 use Rattle.hol_goal.specs.Arguments.{TacArgsValue}
 
 -- a call: the index of what is called among the registered functions, the name that it was called by, and its arguments
@@ -7,6 +8,12 @@ pub record CallValue : Type 0 where
   pub index : ℕ
   pub name : List ℕ
   pub args : TacArgsValue
+
+-- a function of a theorem: a call whose last argument, a theorem, is left out, with the term that is written before it where there is one
+pub record TheoremTacValue : Type 0 where
+  pub index : ℕ
+  pub name : List ℕ
+  pub term : Option Nameless
 
 mutual
   -- a call, or a tactical applied to what it takes
@@ -21,6 +28,10 @@ mutual
     First : ExprValues → ExprValue
     Replicate : ℕ → ExprValue → ExprValue
     Changed : ExprValue → ExprValue
+    DischThen : TheoremTacValue → ExprValue
+    PopAssum : TheoremTacValue → ExprValue
+    FirstAssum : TheoremTacValue → ExprValue
+    SubgoalThen : Nameless → TheoremTacValue → ExprValue
 
   pub data ExprValues : Type 0 where
     no_exprs : ExprValues
@@ -54,6 +65,10 @@ abbrev mutual
   expr_nodes (First ts) = 1 + exprs_nodes ts
   expr_nodes (Replicate n t) = 1 + expr_nodes t
   expr_nodes (Changed t) = 1 + expr_nodes t
+  expr_nodes (DischThen tac) = 1
+  expr_nodes (PopAssum tac) = 1
+  expr_nodes (FirstAssum tac) = 1
+  expr_nodes (SubgoalThen p tac) = 1
 
   pub exprs_nodes : ExprValues → ℕ
   exprs_nodes no_exprs = 0

@@ -49,3 +49,4 @@ deep_le_nodes (node.Every ts) = omega (arith, most_le_nodes ts.items)
 deep_le_nodes (node.First ts) = omega (arith, most_le_nodes ts.items)
 deep_le_nodes (node.Replicate n t) = omega arith
 deep_le_nodes (node.Changed t) = omega arith
+deep_le_nodes (node.Hand how called) = omega arith

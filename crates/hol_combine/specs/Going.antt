@@ -3,6 +3,8 @@ use Rattle.std.specs.Prelude.{◌≡◌, ◌≤◌, ℕ, zero, suc, Bool, IsTrue
 use Rattle.hol_kernel.specs.Items.{Items}
 use Rattle.hol_kernel.specs.Sequent.{no_hyps}
 use Rattle.hol_goal.specs.Goal.{GoalValue}
+use Rattle.hol_just.specs.Gives.{moved}
+use Rattle.hol_just.specs.Justifies.{CutsBy}
 use Rattle.hol_just.specs.Valid.{IsValid}
 use Rattle.hol_just.specs.declared.reason.Move.{Move}
 use Rattle.hol_combine.specs.Runs.{DoesNotFit}
@@ -44,6 +46,10 @@ IsRefusal name turns (error.Refused why left) = (refusal_value why ≡ DoesNotFi
 IsRefusal name turns error.TurnLimit = ⊥
 IsRefusal name turns error.LargeGoal = ⊥
 IsRefusal name turns error.Memory = Unit {0}
+
+-- moves that begin with a cut, and go on where what was cut in is assumed
+abbrev pub FollowsCut : List Move → List Move → Type 0
+FollowsCut more moves = (cutting : List Move) × CutsBy cutting × (moves ≡ cutting ++ moved 1 more)
 
 -- a number so many times
 abbrev pub copies : ℕ → ℕ → List ℕ

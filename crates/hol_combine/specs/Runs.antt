@@ -8,11 +8,14 @@ use Rattle.hol_terms.specs.Alpha.{alpha_eq}
 use Rattle.hol_goal.specs.Goal.{GoalValue, goal_size}
 use Rattle.hol_goal.specs.Achieves.{assumed}
 use Rattle.hol_goal.specs.Answer.{UsedValue, AnswerResult, AnswerValue, Left, Unfit}
-use Rattle.hol_goal.specs.Arguments.{TacArgsValue}
+use Rattle.hol_kernel.specs.Given.{assumed as assume}
+use Rattle.hol_goal.specs.Arguments.{TacArgsValue, Theorem, TermAndTheorem}
 use Rattle.hol_goal.specs.declared.tac_code.TacCode.{TacCode}
 use Rattle.hol_just.specs.Tac.{Meaning, tac}
 use Rattle.hol_just.specs.Answering.{args_hyps}
-use Rattle.hol_combine.specs.ExprValue.{CallValue, ExprValue, ExprValues, Call, Then, ThenL, OrElse, Try, Repeat, Every, First, Replicate, Changed, no_exprs, more_exprs}
+use Rattle.hol_just.specs.Leaving.{concluding}
+use Rattle.hol_just.specs.Strip.{antecedent}
+use Rattle.hol_combine.specs.ExprValue.{CallValue, TheoremTacValue, ExprValue, ExprValues, Call, Then, ThenL, OrElse, Try, Repeat, Every, First, Replicate, Changed, DischThen, PopAssum, FirstAssum, SubgoalThen, no_exprs, more_exprs}
 
 -- why a run is refused: what has this name doesn't fit, or a hypothesis of a theorem given to it is no assumption
 pub data RefusalValue : Type 0 where
@@ -94,10 +97,12 @@ meaning_at (row ∷ rows) (suc index) = meaning_at rows index
 abbrev pub are_assumed : TacArgsValue → GoalValue → Bool
 are_assumed args goal = set.is_subset (args_hyps args) (assumed goal.assumptions)
 
+abbrev pub call_paid : List (List ℕ × TacCode) → CallValue → GoalValue → ℕ → RunValue
+call_paid table call goal turns = run_meaning (meaning_at table call.index) call.name call.args goal turns
+
 -- A call pays, tests the hypotheses of the theorems that are written, and calls.
 abbrev pub run_call : List (List ℕ × TacCode) → CallValue → GoalValue → ℕ → RunValue
-run_call table call goal turns =
-    paying (λ left. cond (are_assumed call.args goal) (run_meaning (meaning_at table call.index) call.name call.args goal left) (Refuses (LacksHyps call.name) left)) turns
+run_call table call goal turns = paying (λ left. cond (are_assumed call.args goal) (call_paid table call goal left) (Refuses (LacksHyps call.name) left)) turns
 
 -- ---- tacticals
 
@@ -121,6 +126,43 @@ abbrev pub changed : GoalValue → RunValue → RunValue
 changed goal (Leaves goals turns) = cond (is_just goal goals) (Refuses (DoesNotFit (codes "CHANGED_TAC")) turns) (Leaves goals turns)
 changed goal (Refuses why turns) = Refuses why turns
 changed goal (Stops why) = Stops why
+
+-- ---- functions of a theorem
+
+-- the call with the theorem `{p} |- p` as the last argument
+abbrev pub handed_args : Option Nameless → Nameless → TacArgsValue
+handed_args None p = Theorem (assume p)
+handed_args (Some t) p = TermAndTheorem t (assume p)
+
+abbrev pub handed : TheoremTacValue → Nameless → CallValue
+handed called p = record { index = called.index; name = called.name; args = handed_args called.term p }
+
+-- It pays and calls. The hypotheses of a theorem that a tactical hands over are not tested.
+abbrev pub hand : List (List ℕ × TacCode) → TheoremTacValue → Nameless → GoalValue → ℕ → RunValue
+hand table called p goal turns = paying (call_paid table (handed called p) goal) turns
+
+-- DISCH_THEN hands p of `p ==> q` over, on q, and p of `~p`, on F.
+abbrev pub disch_then : List (List ℕ × TacCode) → TheoremTacValue → GoalValue → Option (Nameless × Nameless) → ℕ → RunValue
+disch_then table called goal None turns = Refuses (DoesNotFit (codes "DISCH_THEN")) turns
+disch_then table called goal (Some (p, q)) turns = hand table called p (concluding goal q) turns
+
+-- POP_ASSUM takes the newest assumption out, and hands it over.
+abbrev pub pop_assum : List (List ℕ × TacCode) → TheoremTacValue → List Nameless → Nameless → ℕ → RunValue
+pop_assum table called [] w turns = Refuses (DoesNotFit (codes "POP_ASSUM")) turns
+pop_assum table called (p ∷ ps) w turns = hand table called p (record { assumptions = ps; conclusion = w }) turns
+
+-- FIRST_ASSUM hands over the first assumption, the newest first, with which the function isn't refused. The goal keeps all.
+abbrev pub first_assum : List (List ℕ × TacCode) → TheoremTacValue → List Nameless → GoalValue → ℕ → RunValue
+first_assum table called [] goal turns = Refuses (DoesNotFit (codes "FIRST_ASSUM")) turns
+first_assum table called (p ∷ ps) goal turns = otherwise (hand table called p goal turns) (first_assum table called ps goal)
+
+-- SUBGOAL_THEN leaves p, which may not be too large, and then what comes of the goal with p handed over.
+abbrev pub subgoal_then : List (List ℕ × TacCode) → Nameless → TheoremTacValue → GoalValue → ℕ → RunValue
+subgoal_then table p called goal turns =
+    let first : List GoalValue = concluding goal p ∷ [] in
+    cond (has_large first) (Stops LargeGoal) (before_goals first (hand table called p goal turns))
+
+-- ---- rounds
 
 -- REPEAT pays, and then does it and repeats on each goal that is left, or leaves the goal unchanged where that is refused: at most so many rounds.
 abbrev pub repeat : (GoalValue → ℕ → RunValue) → ℕ → GoalValue → ℕ → RunValue
@@ -158,6 +200,10 @@ abbrev mutual
   run table (First ts) goal turns = run_first table ts goal turns
   run table (Replicate n t) goal turns = replicate (run table t) n goal turns
   run table (Changed t) goal turns = changed goal (run table t goal turns)
+  run table (DischThen called) goal turns = disch_then table called goal (antecedent goal.conclusion) turns
+  run table (PopAssum called) goal turns = pop_assum table called goal.assumptions goal.conclusion turns
+  run table (FirstAssum called) goal turns = first_assum table called goal.assumptions goal turns
+  run table (SubgoalThen p called) goal turns = subgoal_then table p called goal turns
 
   -- each after those before it
   pub run_every : List (List ℕ × TacCode) → ExprValues → GoalValue → ℕ → RunValue

@@ -7,9 +7,9 @@ ghost use Rattle.hol_terms.specs.Alpha.{alpha_eq};
 ghost use Rattle.hol_kernel.specs.Given.{given_sequent};
 ghost use Rattle.hol_goal.specs.Achieves.{assumed};
 ghost use Rattle.hol_goal.specs.ArgumentsView.{args_value};
-ghost use Rattle.hol_just.specs.Answering.{suits};
+ghost use Rattle.hol_just.specs.Answering.{suits, IsJustified};
 ghost use Rattle.hol_combine.specs.ExprView.{call_value};
-ghost use Rattle.hol_combine.specs.Runs.{are_assumed, has_large, small, meaning_at, run_meaning, run_call};
+ghost use Rattle.hol_combine.specs.Runs.{are_assumed, has_large, small, call_paid, run_call};
 ghost use Rattle.hol_combine.specs.RunView.{IsRun, IsValidRun};
 ghost use Rattle.hol_combine.specs.Going.{LeavesAtMost};
 
@@ -51,8 +51,8 @@ pub(crate) fn run_call<T: Tacs>(
     call_paid(alloc, call, goal, tacs, left)
 }
 
-// A call that has paid, whose theorems' hypotheses are assumptions.
-fn call_paid<T: Tacs>(
+/// A call that has paid. Nothing is asked of its theorems' hypotheses.
+pub(crate) fn call_paid<T: Tacs>(
     alloc: Global,
     call: &TacCall,
     goal: &Goal,
@@ -61,9 +61,8 @@ fn call_paid<T: Tacs>(
 ) -> Result<Ran, RunError>
     requires index { call.now.index < length (T.Tacs.table_of tacs.now) }
     requires turns { turns ≤ 100000 }
-    requires assumed { are_assumed (args_value call.now.args) goal.now ≡ true }
-    ensures answer { IsRun (run_meaning (meaning_at (T.Tacs.table_of tacs.now) call.now.index) (call_value call.now).name (args_value call.now.args) goal.now turns) result }
-    ensures valid { IfOk result (IsValidRun (suits (args_value call.now.args)) (goal.now ∷ [])) }
+    ensures answer { IsRun (call_paid (T.Tacs.table_of tacs.now) (call_value call.now) goal.now turns) result }
+    ensures valid { IfOk result (λ ran. IsJustified (args_value call.now.args) goal.now ran.step) }
     ensures left { LeavesAtMost turns result }
 {
     match tacs.call_at(call.index, &call.args, goal, turns) {
@@ -89,8 +88,8 @@ fn small(tried: Tried) -> Result<Ran, RunError>
     Ok(Ran { step, left })
 }
 
-// Whether one of the goals has over 20,000 nodes.
-fn has_large(goals: &[Goal]) -> bool
+/// Whether one of the goals has over 20,000 nodes.
+pub(crate) fn has_large(goals: &[Goal]) -> bool
     ensures { result ≡ has_large goals.now }
 {
     goals.iter().any(|goal| goal.size() > LARGEST_GOAL)

@@ -2,7 +2,9 @@
 ghost use Rattle.std.specs.Prelude.{◌≡◌, IfOk};
 ghost use Rattle.hol_combine.specs.ExprView.{expr_of_node};
 
+use crate::formula::Formula;
 use hol_goal::TacArgs;
+use hol_terms::Term;
 use std::alloc::{AllocError, Global};
 use std::marker::Model;
 use std::rc::Rc;
@@ -16,6 +18,30 @@ pub struct TacCall {
     pub name: String,
     /// The arguments.
     pub args: TacArgs,
+}
+
+/// A registered function on goals whose last argument, a theorem, is left out.
+#[derive(Drop)]
+pub struct TheoremTac {
+    /// The function's index in the registry.
+    pub index: usize,
+    /// The name that it is called by. A refusal says this name.
+    pub name: String,
+    /// The term that is written before the theorem, where there is one.
+    pub term: Option<Term>,
+}
+
+/// Where the theorem that is handed to such a function comes from.
+#[derive(Drop)]
+pub enum Handing {
+    /// `DISCH_THEN t`: what an implication, or a negation, is from.
+    DischThen,
+    /// `POP_ASSUM t`: the newest assumption, which is taken out.
+    PopAssum,
+    /// `FIRST_ASSUM t`: the newest assumption with which it isn't refused.
+    FirstAssum,
+    /// `SUBGOAL_THEN p t`: the formula, which becomes a goal of its own.
+    SubgoalThen(Formula),
 }
 
 /// An expression of functions on goals: a call, or a tactical of HOL Light applied to what it takes. Copies share their nodes.
@@ -49,6 +75,8 @@ pub enum ExprNode {
     Replicate(usize, Expr),
     /// `CHANGED_TAC t`
     Changed(Expr),
+    /// A theorem is handed to a function.
+    Hand(Handing, TheoremTac),
 }
 
 impl Model for Expr {

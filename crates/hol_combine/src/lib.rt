@@ -5,14 +5,18 @@
 
 mod calls;
 mod expr;
+mod formula;
+mod handing;
 mod laws;
 mod parts;
 mod ran;
 mod running;
 mod tacs;
+mod theorem_tacs;
 mod work;
 
-pub use expr::{Expr, ExprNode, TacCall};
+pub use expr::{Expr, ExprNode, Handing, TacCall, TheoremTac};
+pub use formula::Formula;
 pub use laws::repeat_law;
 pub use ran::{Ran, Refusal, RunError};
 pub use running::run;

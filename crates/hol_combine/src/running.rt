@@ -13,6 +13,7 @@ use crate::expr::{Expr, ExprNode};
 use crate::parts::{is_just, push_each, refused, unchanged};
 use crate::ran::{Ran, RunError};
 use crate::tacs::Tacs;
+use crate::theorem_tacs::run_handing;
 use crate::work::Work;
 use hol_goal::Goal;
 use hol_registry::Registry;
@@ -94,6 +95,7 @@ fn run_expr<T: Tacs>(
             }
             Ok(ran)
         }
+        ExprNode::Hand(how, tac) => run_handing(alloc, how, tac, goal, tacs, turns),
     }
 }
 

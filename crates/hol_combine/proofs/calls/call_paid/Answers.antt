@@ -4,7 +4,7 @@ use Rattle.hol_goal.specs.ArgumentsView.{args_value}
 use Rattle.hol_just.specs.Answering.{IsAnsweredBy}
 use Rattle.hol_combine.specs.Runs.{Refuses, DoesNotFit, meaning_at}
 use Rattle.hol_combine.specs.RunView.{IsRun}
-use Rattle.hol_combine.proofs.Calling.{by_meaning, answered_left, answered_unfit, left_falls, refused_falls, at_most_more, small_valid}
+use Rattle.hol_combine.proofs.Calling.{by_meaning, answered_left, answered_unfit, left_falls, refused_falls, at_most_more, small_justified}
 use Rattle.hol_combine.proofs.Turns.{at_falls}
 use Rattle.hol_combine.proofs.calls.call_paid.Goals as goal
 
@@ -18,7 +18,7 @@ returns-in-Ok-clause-answer g c =
     c.small.ensures.answer
 
 pub returns-in-Ok-clause-valid : goal.returns-in-Ok-clause-valid
-returns-in-Ok-clause-valid g c = small_valid (args_value c.args.call.now.args) c.args.goal.now c.in-Ok.tried.step c.small.result c.requires.assumed c.in-Ok.ensures.valid c.small.ensures.step
+returns-in-Ok-clause-valid g c = small_justified (args_value c.args.call.now.args) c.args.goal.now c.in-Ok.tried.step c.small.result c.in-Ok.ensures.valid c.small.ensures.step
 
 pub returns-in-Ok-clause-left : goal.returns-in-Ok-clause-left
 returns-in-Ok-clause-left g c =

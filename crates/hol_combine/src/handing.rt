@@ -1,0 +1,105 @@
+//! Parts of runs that hand a theorem over.
+ghost use Rattle.std.specs.Prelude.{◌≡◌, ◌++◌, ◌∷◌, Some, [], IfOk};
+ghost use Rattle.hol_terms.specs.Named.{named_type};
+ghost use Rattle.hol_terms.specs.Nameless.{nameless};
+ghost use Rattle.hol_formulas.specs.Equation.{bool_type};
+ghost use Rattle.hol_kernel.specs.Given.{assumed};
+ghost use Rattle.hol_goal.specs.ArgumentsView.{args_value};
+ghost use Rattle.hol_just.specs.Gives.{moved};
+ghost use Rattle.hol_combine.specs.ExprView.{call_value, theorem_tac_value};
+ghost use Rattle.hol_combine.specs.Runs.{handed_args, handed};
+ghost use Rattle.hol_combine.specs.Going.{FollowsCut};
+
+use crate::expr::{TacCall, TheoremTac};
+use crate::ran::Ran;
+use hol_goal::{Goal, TacArgs};
+use hol_just::{Just, Step};
+use hol_kernel::{Given, KernelError};
+use hol_terms::Term;
+use std::alloc::{AllocError, Global};
+
+/// The call of the function with the theorem `{p} |- p`.
+pub(crate) fn handed(alloc: Global, tac: &TheoremTac, p: &Term) -> Result<TacCall, AllocError>
+    requires { named_type p.now ≡ Some bool_type }
+    ensures { IfOk result (λ call. call_value call ≡ handed (theorem_tac_value tac.now) (nameless [] p.now)) }
+{
+    let name = String::from_str(alloc, tac.name.as_str())?;
+    let args = handed_args(tac, p)?;
+    Ok(TacCall {
+        index: tac.index,
+        name,
+        args,
+    })
+}
+
+// Its arguments: what is written, and the theorem `{p} |- p`.
+fn handed_args(tac: &TheoremTac, p: &Term) -> Result<TacArgs, AllocError>
+    requires { named_type p.now ≡ Some bool_type }
+    ensures { IfOk result (λ args. args_value args ≡ handed_args (theorem_tac_value tac.now).term (nameless [] p.now)) }
+{
+    let th = assume(p)?;
+    match &tac.term {
+        None => Ok(TacArgs::Theorem(th)),
+        Some(t) => Ok(TacArgs::TermAndTheorem(t.copy()?, th)),
+    }
+}
+
+// The theorem `{p} |- p`.
+#[tactic(auto, using(crate::proofs::Handed::formula_assumed))]
+fn assume(p: &Term) -> Result<Given, AllocError>
+    requires { named_type p.now ≡ Some bool_type }
+    ensures { IfOk result (λ th. th ≡ assumed (nameless [] p.now)) }
+{
+    match Given::assumed(p) {
+        Ok(th) => Ok(th),
+        Err(KernelError::Memory) => Err(AllocError),
+        Err(KernelError::Refused(_)) => unreachable!(),
+        Err(KernelError::Clash(_)) => unreachable!(),
+    }
+}
+
+/// What was done, after these moves.
+pub(crate) fn after(just: Just, ran: Ran) -> Result<Ran, AllocError>
+    ensures goals { IfOk result (λ new. new.step.goals.items ≡ ran.step.goals.items) }
+    ensures just { IfOk result (λ new. new.step.just ≡ just ++ moved 0 ran.step.just) }
+    ensures left { IfOk result (λ new. new.left ≡ ran.left) }
+{
+    let Ran { step, left } = ran;
+    let mut just = just;
+    just.then_at(0, &step.just)?;
+    Ok(Ran {
+        step: Step {
+            goals: step.goals,
+            just,
+        },
+        left,
+    })
+}
+
+/// What was done, after a cut that left this goal.
+pub(crate) fn after_cut(alloc: Global, first: Goal, ran: Ran) -> Result<Ran, AllocError>
+    ensures goals { IfOk result (λ new. new.step.goals.items ≡ first ∷ ran.step.goals.items) }
+    ensures just { IfOk result (λ new. FollowsCut ran.step.just new.step.just) }
+    ensures left { IfOk result (λ new. new.left ≡ ran.left) }
+{
+    let Ran { step, left } = ran;
+    let mut goals = step.goals;
+    goals.insert(0, first)?;
+    let mut just = Just::prove_hyp(alloc)?;
+    just.then_at(1, &step.just)?;
+    Ok(Ran {
+        step: Step { goals, just },
+        left,
+    })
+}
+
+/// Copies of the terms.
+pub(crate) fn copies(alloc: Global, terms: &[Term]) -> Result<Vec<Term>, AllocError>
+    ensures { IfOk result (λ copied. copied.items ≡ terms.now) }
+{
+    let mut copied = Vec::with_capacity(alloc, terms.len())?;
+    for term in terms {
+        copied.push(term.copy()?)?;
+    }
+    Ok(copied)
+}

@@ -1,0 +1,200 @@
+//! Functions of a theorem, and the tacticals that hand them one.
+ghost use Rattle.std.specs.Prelude.{◌≡◌, ◌≤◌, ◌<◌, ◌∷◌, Some, [], IfOk, length};
+ghost use Rattle.hol_terms.specs.Named.{named_type};
+ghost use Rattle.hol_terms.specs.Nameless.{nameless};
+ghost use Rattle.hol_formulas.specs.Equation.{bool_type};
+ghost use Rattle.hol_kernel.specs.Sequent.{no_hyps};
+ghost use Rattle.hol_goal.specs.Goal.{GoalValue};
+ghost use Rattle.hol_just.specs.Answering.{IsJustified};
+ghost use Rattle.hol_just.specs.Justifies.{always};
+ghost use Rattle.hol_just.specs.Leaving.{assuming};
+ghost use Rattle.hol_just.specs.Strip.{antecedent};
+ghost use Rattle.hol_just.specs.Valid.{IsValid};
+ghost use Rattle.hol_combine.specs.ExprView.{theorem_tac_value, expr_of_handing};
+ghost use Rattle.hol_combine.specs.ExprValue.{SubgoalThen};
+ghost use Rattle.hol_combine.specs.Runs.{handed, hand, disch_then, pop_assum, first_assum, subgoal_then, run};
+ghost use Rattle.hol_combine.specs.Suits.{suits_written, suits_expr};
+ghost use Rattle.hol_combine.specs.RunView.{IsRun, IsValidRun};
+ghost use Rattle.hol_combine.specs.Going.{LeavesAtMost};
+
+use crate::calls::{call_paid, has_large};
+use crate::expr::{Handing, TheoremTac};
+use crate::formula::Formula;
+use crate::handing::{after, after_cut, copies, handed};
+use crate::parts::refused;
+use crate::ran::{Ran, RunError};
+use crate::tacs::Tacs;
+use hol_formulas::{dest_imp, dest_neg, mk_falsity};
+use hol_goal::Goal;
+use hol_just::Just;
+use hol_terms::Term;
+use std::alloc::Global;
+use std::slice;
+
+/// Hands a theorem over.
+pub(crate) fn run_handing<T: Tacs>(
+    alloc: Global,
+    how: &Handing,
+    tac: &TheoremTac,
+    goal: &Goal,
+    tacs: &T,
+    turns: u32,
+) -> Result<Ran, RunError>
+    requires index { tac.now.index < length (T.Tacs.table_of tacs.now) }
+    requires turns { turns ≤ 100000 }
+    ensures answer { IsRun (run (T.Tacs.table_of tacs.now) (expr_of_handing how.now (theorem_tac_value tac.now)) goal.now turns) result }
+    ensures valid { IfOk result (IsValidRun (suits_expr (expr_of_handing how.now (theorem_tac_value tac.now))) (goal.now ∷ [])) }
+    ensures left { LeavesAtMost turns result }
+{
+    match how {
+        Handing::DischThen => disch_then(alloc, tac, goal, tacs, turns),
+        Handing::PopAssum => pop_assum(alloc, tac, goal, tacs, turns),
+        Handing::FirstAssum => first_assum(alloc, tac, goal, tacs, turns),
+        Handing::SubgoalThen(p) => subgoal_then(alloc, p, tac, goal, tacs, turns),
+    }
+}
+
+// Pays a turn, and calls the function with the theorem `{p} |- p`.
+fn hand<T: Tacs>(
+    alloc: Global,
+    tac: &TheoremTac,
+    p: &Term,
+    goal: &Goal,
+    tacs: &T,
+    turns: u32,
+) -> Result<Ran, RunError>
+    requires index { tac.now.index < length (T.Tacs.table_of tacs.now) }
+    requires formula { named_type p.now ≡ Some bool_type }
+    requires turns { turns ≤ 100000 }
+    ensures answer { IsRun (hand (T.Tacs.table_of tacs.now) (theorem_tac_value tac.now) (nameless [] p.now) goal.now turns) result }
+    ensures valid { IfOk result (λ ran. IsJustified (handed (theorem_tac_value tac.now) (nameless [] p.now)).args goal.now ran.step) }
+    ensures left { LeavesAtMost turns result }
+{
+    if turns == 0 {
+        return Err(RunError::TurnLimit);
+    }
+    let call = handed(alloc, tac, p)?;
+    call_paid(alloc, &call, goal, tacs, turns - 1)
+}
+
+// DISCH_THEN: what the conclusion is from.
+fn disch_then<T: Tacs>(
+    alloc: Global,
+    tac: &TheoremTac,
+    goal: &Goal,
+    tacs: &T,
+    turns: u32,
+) -> Result<Ran, RunError>
+    requires index { tac.now.index < length (T.Tacs.table_of tacs.now) }
+    requires turns { turns ≤ 100000 }
+    ensures answer { IsRun (disch_then (T.Tacs.table_of tacs.now) (theorem_tac_value tac.now) goal.now (antecedent goal.now.conclusion) turns) result }
+    ensures valid { IfOk result (IsValidRun (suits_written (theorem_tac_value tac.now)) (goal.now ∷ [])) }
+    ensures left { LeavesAtMost turns result }
+{
+    if let Some((p, q)) = dest_imp(goal.conclusion()) {
+        let next = goal.with_conclusion(alloc, q)?;
+        let just = Just::disch_tac(alloc, p)?;
+        return hand_after(alloc, just, tac, p, &next, tacs, turns);
+    }
+    let Some(p) = dest_neg(goal.conclusion()) else {
+        return Err(refused(alloc, "DISCH_THEN", turns));
+    };
+    let next = goal.with_conclusion(alloc, &mk_falsity(alloc)?)?;
+    let just = Just::disch_neg_tac(alloc, p)?;
+    hand_after(alloc, just, tac, p, &next, tacs, turns)
+}
+
+// Hands over what moves assumed.
+fn hand_after<T: Tacs>(
+    alloc: Global,
+    just: Just,
+    tac: &TheoremTac,
+    p: &Term,
+    goal: &Goal,
+    tacs: &T,
+    turns: u32,
+) -> Result<Ran, RunError>
+    requires index { tac.now.index < length (T.Tacs.table_of tacs.now) }
+    requires formula { named_type p.now ≡ Some bool_type }
+    requires turns { turns ≤ 100000 }
+    ensures answer { IsRun (hand (T.Tacs.table_of tacs.now) (theorem_tac_value tac.now) (nameless [] p.now) goal.now turns) result }
+    ensures valid { IfOk result (λ ran. (whole : GoalValue) → IsValid always no_hyps just (whole ∷ []) (assuming goal.now (nameless [] p.now) goal.now.conclusion ∷ []) → IsValidRun (suits_written (theorem_tac_value tac.now)) (whole ∷ []) ran) }
+    ensures left { LeavesAtMost turns result }
+{
+    let ran = hand(alloc, tac, p, goal, tacs, turns)?;
+    Ok(after(just, ran)?)
+}
+
+// POP_ASSUM: the newest assumption, taken out.
+fn pop_assum<T: Tacs>(
+    alloc: Global,
+    tac: &TheoremTac,
+    goal: &Goal,
+    tacs: &T,
+    turns: u32,
+) -> Result<Ran, RunError>
+    requires index { tac.now.index < length (T.Tacs.table_of tacs.now) }
+    requires turns { turns ≤ 100000 }
+    ensures answer { IsRun (pop_assum (T.Tacs.table_of tacs.now) (theorem_tac_value tac.now) goal.now.assumptions goal.now.conclusion turns) result }
+    ensures valid { IfOk result (IsValidRun (suits_written (theorem_tac_value tac.now)) (goal.now ∷ [])) }
+    ensures left { LeavesAtMost turns result }
+{
+    let Some((p, older)) = goal.assumptions().split_first() else {
+        return Err(refused(alloc, "POP_ASSUM", turns));
+    };
+    let popped = Goal::new(copies(alloc, older)?, goal.conclusion().copy()?);
+    hand(alloc, tac, p, &popped, tacs, turns)
+}
+
+// FIRST_ASSUM: the newest assumption with which the function isn't refused.
+fn first_assum<T: Tacs>(
+    alloc: Global,
+    tac: &TheoremTac,
+    goal: &Goal,
+    tacs: &T,
+    turns: u32,
+) -> Result<Ran, RunError>
+    requires index { tac.now.index < length (T.Tacs.table_of tacs.now) }
+    requires turns { turns ≤ 100000 }
+    ensures answer { IsRun (first_assum (T.Tacs.table_of tacs.now) (theorem_tac_value tac.now) goal.now.assumptions goal.now turns) result }
+    ensures valid { IfOk result (IsValidRun (suits_written (theorem_tac_value tac.now)) (goal.now ∷ [])) }
+    ensures left { LeavesAtMost turns result }
+{
+    let mut left = turns;
+    for p in goal.assumptions() {
+        match hand(alloc, tac, p, goal, tacs, left) {
+            Ok(ran) => return Ok(ran),
+            Err(RunError::Refused(_, after)) => {
+                left = after;
+                continue;
+            }
+            Err(RunError::TurnLimit) => return Err(RunError::TurnLimit),
+            Err(RunError::LargeGoal) => return Err(RunError::LargeGoal),
+            Err(RunError::Memory) => return Err(RunError::Memory),
+        }
+    }
+    Err(refused(alloc, "FIRST_ASSUM", left))
+}
+
+// SUBGOAL_THEN: the formula, which is left as the first goal.
+fn subgoal_then<T: Tacs>(
+    alloc: Global,
+    p: &Formula,
+    tac: &TheoremTac,
+    goal: &Goal,
+    tacs: &T,
+    turns: u32,
+) -> Result<Ran, RunError>
+    requires index { tac.now.index < length (T.Tacs.table_of tacs.now) }
+    requires turns { turns ≤ 100000 }
+    ensures answer { IsRun (subgoal_then (T.Tacs.table_of tacs.now) p.now (theorem_tac_value tac.now) goal.now turns) result }
+    ensures valid { IfOk result (IsValidRun (suits_expr (SubgoalThen p.now (theorem_tac_value tac.now))) (goal.now ∷ [])) }
+    ensures left { LeavesAtMost turns result }
+{
+    let first = goal.with_conclusion(alloc, p.term())?;
+    if has_large(slice::from_ref(&first)) {
+        return Err(RunError::LargeGoal);
+    }
+    let ran = hand(alloc, tac, p.term(), goal, tacs, turns)?;
+    Ok(after_cut(alloc, first, ran)?)
+}
