@@ -8,140 +8,213 @@ ghost use Rattle.hol_just.specs.Over.{Infers};
 
 use crate::cursor::Cursor;
 use crate::refusals::made_in_bool;
-use hol_bool::{conj, contr, disch, disj1, disj2, exists, generalize, mp, not_intro, undisch};
+use hol_bool::{Lemmas, exists};
 use hol_kernel::Thm;
 use hol_terms::Term;
 use std::alloc::{AllocError, Global};
 
 /// CONJ of the two theorems after the place.
-pub(crate) fn conjunction(alloc: Global, thms: &mut Cursor) -> Result<(), AllocError>
-    requires { IsSome (inferred (from_two conjoined) thms.old.after) }
-    ensures { OnOk result (Infers (from_two conjoined) thms.old thms.new) }
+pub(crate) fn conjunction(
+    alloc: Global,
+    lemmas: &mut Lemmas,
+    thms: &mut Cursor,
+) -> Result<(), AllocError>
+    requires lemmas { lemmas.old ≡ thms.old.basis }
+    requires gives { IsSome (inferred (from_two conjoined) thms.old.after) }
+    ensures infers { OnOk result (Infers (from_two conjoined) thms.old thms.new) }
+    ensures kept { lemmas.new ≡ lemmas.old }
 {
     let Some(left) = thms.take() else {
         unreachable!()
     };
-    conjunction_with(alloc, left, thms)
+    conjunction_with(alloc, left, lemmas, thms)
 }
 
 // CONJ of the theorem and the one after the place.
-fn conjunction_with(alloc: Global, left: Thm, thms: &mut Cursor) -> Result<(), AllocError>
+fn conjunction_with(
+    alloc: Global,
+    left: Thm,
+    lemmas: &mut Lemmas,
+    thms: &mut Cursor,
+) -> Result<(), AllocError>
+    requires lemmas { lemmas.old ≡ thms.old.basis }
     requires over { left.basis ≡ thms.old.basis }
     requires gives { IsSome (inferred (from_one (conjoined left.sequent)) thms.old.after) }
-    ensures { OnOk result (Infers (from_one (conjoined left.sequent)) thms.old thms.new) }
+    ensures infers { OnOk result (Infers (from_one (conjoined left.sequent)) thms.old thms.new) }
+    ensures kept { lemmas.new ≡ lemmas.old }
 {
     let Some(right) = thms.take() else {
         unreachable!()
     };
-    let thm = conj(alloc, &left, &right)?;
+    let thm = lemmas.conj(alloc, &left, &right)?;
     thms.put(thm)
 }
 
 /// DISJ1 of the theorem after the place.
-pub(crate) fn left_disjunct(alloc: Global, q: &Term, thms: &mut Cursor) -> Result<(), AllocError>
-    requires { IsSome (inferred (from_one (left_disjunct thms.old.basis (nameless [] q.now))) thms.old.after) }
-    ensures { OnOk result (Infers (from_one (left_disjunct thms.old.basis (nameless [] q.now))) thms.old thms.new) }
+pub(crate) fn left_disjunct(
+    alloc: Global,
+    q: &Term,
+    lemmas: &mut Lemmas,
+    thms: &mut Cursor,
+) -> Result<(), AllocError>
+    requires lemmas { lemmas.old ≡ thms.old.basis }
+    requires gives { IsSome (inferred (from_one (left_disjunct thms.old.basis (nameless [] q.now))) thms.old.after) }
+    ensures infers { OnOk result (Infers (from_one (left_disjunct thms.old.basis (nameless [] q.now))) thms.old thms.new) }
+    ensures kept { lemmas.new ≡ lemmas.old }
 {
     let Some(left) = thms.take() else {
         unreachable!()
     };
-    let thm = made_in_bool(disj1(alloc, &left, q))?;
+    let thm = lemmas.disj1(alloc, &left, q)?;
     thms.put(thm)
 }
 
 /// DISJ2 of the theorem after the place.
-pub(crate) fn right_disjunct(alloc: Global, p: &Term, thms: &mut Cursor) -> Result<(), AllocError>
-    requires { IsSome (inferred (from_one (disj2_of thms.old.basis (nameless [] p.now))) thms.old.after) }
-    ensures { OnOk result (Infers (from_one (disj2_of thms.old.basis (nameless [] p.now))) thms.old thms.new) }
+pub(crate) fn right_disjunct(
+    alloc: Global,
+    p: &Term,
+    lemmas: &mut Lemmas,
+    thms: &mut Cursor,
+) -> Result<(), AllocError>
+    requires lemmas { lemmas.old ≡ thms.old.basis }
+    requires gives { IsSome (inferred (from_one (disj2_of thms.old.basis (nameless [] p.now))) thms.old.after) }
+    ensures infers { OnOk result (Infers (from_one (disj2_of thms.old.basis (nameless [] p.now))) thms.old thms.new) }
+    ensures kept { lemmas.new ≡ lemmas.old }
 {
     let Some(right) = thms.take() else {
         unreachable!()
     };
-    let thm = made_in_bool(disj2(alloc, p, &right))?;
+    let thm = lemmas.disj2(alloc, p, &right)?;
     thms.put(thm)
 }
 
 /// DISCH of the theorem after the place.
-pub(crate) fn discharge(alloc: Global, p: &Term, thms: &mut Cursor) -> Result<(), AllocError>
-    requires { IsSome (inferred (from_one (disch_of thms.old.basis (nameless [] p.now))) thms.old.after) }
-    ensures { OnOk result (Infers (from_one (disch_of thms.old.basis (nameless [] p.now))) thms.old thms.new) }
+pub(crate) fn discharge(
+    alloc: Global,
+    p: &Term,
+    lemmas: &mut Lemmas,
+    thms: &mut Cursor,
+) -> Result<(), AllocError>
+    requires lemmas { lemmas.old ≡ thms.old.basis }
+    requires gives { IsSome (inferred (from_one (disch_of thms.old.basis (nameless [] p.now))) thms.old.after) }
+    ensures infers { OnOk result (Infers (from_one (disch_of thms.old.basis (nameless [] p.now))) thms.old thms.new) }
+    ensures kept { lemmas.new ≡ lemmas.old }
 {
     let Some(consequent) = thms.take() else {
         unreachable!()
     };
-    let thm = made_in_bool(disch(alloc, p, &consequent))?;
+    let thm = lemmas.disch(alloc, p, &consequent)?;
     thms.put(thm)
 }
 
 /// UNDISCH of the theorem after the place.
-pub(crate) fn undischarge(alloc: Global, thms: &mut Cursor) -> Result<(), AllocError>
-    requires { IsSome (inferred (from_one undisch_of) thms.old.after) }
-    ensures { OnOk result (Infers (from_one undisch_of) thms.old thms.new) }
+pub(crate) fn undischarge(
+    alloc: Global,
+    lemmas: &mut Lemmas,
+    thms: &mut Cursor,
+) -> Result<(), AllocError>
+    requires lemmas { lemmas.old ≡ thms.old.basis }
+    requires gives { IsSome (inferred (from_one undisch_of) thms.old.after) }
+    ensures infers { OnOk result (Infers (from_one undisch_of) thms.old thms.new) }
+    ensures kept { lemmas.new ≡ lemmas.old }
 {
     let Some(implication) = thms.take() else {
         unreachable!()
     };
-    let thm = made_in_bool(undisch(alloc, &implication))?;
+    let thm = lemmas.undisch(alloc, &implication)?;
     thms.put(thm)
 }
 
 /// NOT_INTRO of the theorem after the place.
-pub(crate) fn negation(alloc: Global, thms: &mut Cursor) -> Result<(), AllocError>
-    requires { IsSome (inferred (from_one not_intro_of) thms.old.after) }
-    ensures { OnOk result (Infers (from_one not_intro_of) thms.old thms.new) }
+pub(crate) fn negation(
+    alloc: Global,
+    lemmas: &mut Lemmas,
+    thms: &mut Cursor,
+) -> Result<(), AllocError>
+    requires lemmas { lemmas.old ≡ thms.old.basis }
+    requires gives { IsSome (inferred (from_one not_intro_of) thms.old.after) }
+    ensures infers { OnOk result (Infers (from_one not_intro_of) thms.old thms.new) }
+    ensures kept { lemmas.new ≡ lemmas.old }
 {
     let Some(implication) = thms.take() else {
         unreachable!()
     };
-    let thm = made_in_bool(not_intro(alloc, &implication))?;
+    let thm = lemmas.not_intro(alloc, &implication)?;
     thms.put(thm)
 }
 
 /// MP of the two theorems after the place.
-pub(crate) fn modus_ponens(alloc: Global, thms: &mut Cursor) -> Result<(), AllocError>
-    requires { IsSome (inferred (from_two mp_of) thms.old.after) }
-    ensures { OnOk result (Infers (from_two mp_of) thms.old thms.new) }
+pub(crate) fn modus_ponens(
+    alloc: Global,
+    lemmas: &mut Lemmas,
+    thms: &mut Cursor,
+) -> Result<(), AllocError>
+    requires lemmas { lemmas.old ≡ thms.old.basis }
+    requires gives { IsSome (inferred (from_two mp_of) thms.old.after) }
+    ensures infers { OnOk result (Infers (from_two mp_of) thms.old thms.new) }
+    ensures kept { lemmas.new ≡ lemmas.old }
 {
     let Some(implication) = thms.take() else {
         unreachable!()
     };
-    modus_ponens_with(alloc, implication, thms)
+    modus_ponens_with(alloc, implication, lemmas, thms)
 }
 
 // MP of the theorem and the one after the place.
-fn modus_ponens_with(alloc: Global, implication: Thm, thms: &mut Cursor) -> Result<(), AllocError>
+fn modus_ponens_with(
+    alloc: Global,
+    implication: Thm,
+    lemmas: &mut Lemmas,
+    thms: &mut Cursor,
+) -> Result<(), AllocError>
+    requires lemmas { lemmas.old ≡ thms.old.basis }
     requires over { implication.basis ≡ thms.old.basis }
     requires gives { IsSome (inferred (from_one (mp_of implication.sequent)) thms.old.after) }
-    ensures { OnOk result (Infers (from_one (mp_of implication.sequent)) thms.old thms.new) }
+    ensures infers { OnOk result (Infers (from_one (mp_of implication.sequent)) thms.old thms.new) }
+    ensures kept { lemmas.new ≡ lemmas.old }
 {
     let Some(premise) = thms.take() else {
         unreachable!()
     };
-    let thm = made_in_bool(mp(alloc, &implication, &premise))?;
+    let thm = lemmas.mp(alloc, &implication, &premise)?;
     thms.put(thm)
 }
 
 /// CONTR of the theorem after the place.
-pub(crate) fn contradiction(alloc: Global, p: &Term, thms: &mut Cursor) -> Result<(), AllocError>
-    requires { IsSome (inferred (from_one (contr_of thms.old.basis (nameless [] p.now))) thms.old.after) }
-    ensures { OnOk result (Infers (from_one (contr_of thms.old.basis (nameless [] p.now))) thms.old thms.new) }
+pub(crate) fn contradiction(
+    alloc: Global,
+    p: &Term,
+    lemmas: &mut Lemmas,
+    thms: &mut Cursor,
+) -> Result<(), AllocError>
+    requires lemmas { lemmas.old ≡ thms.old.basis }
+    requires gives { IsSome (inferred (from_one (contr_of thms.old.basis (nameless [] p.now))) thms.old.after) }
+    ensures infers { OnOk result (Infers (from_one (contr_of thms.old.basis (nameless [] p.now))) thms.old thms.new) }
+    ensures kept { lemmas.new ≡ lemmas.old }
 {
     let Some(falsity) = thms.take() else {
         unreachable!()
     };
-    let thm = made_in_bool(contr(alloc, p, &falsity))?;
+    let thm = lemmas.contr(alloc, p, &falsity)?;
     thms.put(thm)
 }
 
 /// GEN of the theorem after the place.
-pub(crate) fn generalization(alloc: Global, v: &Term, thms: &mut Cursor) -> Result<(), AllocError>
-    requires { IsSome (inferred (from_one (gen_of thms.old.basis v.now)) thms.old.after) }
-    ensures { OnOk result (Infers (from_one (gen_of thms.old.basis v.now)) thms.old thms.new) }
+pub(crate) fn generalization(
+    alloc: Global,
+    v: &Term,
+    lemmas: &mut Lemmas,
+    thms: &mut Cursor,
+) -> Result<(), AllocError>
+    requires lemmas { lemmas.old ≡ thms.old.basis }
+    requires gives { IsSome (inferred (from_one (gen_of thms.old.basis v.now)) thms.old.after) }
+    ensures infers { OnOk result (Infers (from_one (gen_of thms.old.basis v.now)) thms.old thms.new) }
+    ensures kept { lemmas.new ≡ lemmas.old }
 {
     let Some(property) = thms.take() else {
         unreachable!()
     };
-    let thm = made_in_bool(generalize(alloc, v, &property))?;
+    let thm = lemmas.generalize(alloc, v, &property)?;
     thms.put(thm)
 }
 

@@ -7,32 +7,44 @@ ghost use Rattle.hol_just.specs.Over.{Infers};
 
 use crate::cursor::Cursor;
 use crate::refusals::made_in_bool;
-use hol_bool::{choose, conjunct1, conjunct2, disj_cases, spec};
+use hol_bool::{Lemmas, choose, disj_cases, spec};
 use hol_kernel::Thm;
 use hol_terms::Term;
 use std::alloc::{AllocError, Global};
 
 /// CONJUNCT1 of the theorem after the place.
-pub(crate) fn left_conjunct(alloc: Global, thms: &mut Cursor) -> Result<(), AllocError>
-    requires { IsSome (inferred (from_one conjunct1_of) thms.old.after) }
-    ensures { OnOk result (Infers (from_one conjunct1_of) thms.old thms.new) }
+pub(crate) fn left_conjunct(
+    alloc: Global,
+    lemmas: &mut Lemmas,
+    thms: &mut Cursor,
+) -> Result<(), AllocError>
+    requires lemmas { lemmas.old ≡ thms.old.basis }
+    requires gives { IsSome (inferred (from_one conjunct1_of) thms.old.after) }
+    ensures infers { OnOk result (Infers (from_one conjunct1_of) thms.old thms.new) }
+    ensures kept { lemmas.new ≡ lemmas.old }
 {
     let Some(both) = thms.take() else {
         unreachable!()
     };
-    let thm = made_in_bool(conjunct1(alloc, &both))?;
+    let thm = lemmas.conjunct1(alloc, &both)?;
     thms.put(thm)
 }
 
 /// CONJUNCT2 of the theorem after the place.
-pub(crate) fn right_conjunct(alloc: Global, thms: &mut Cursor) -> Result<(), AllocError>
-    requires { IsSome (inferred (from_one conjunct2_of) thms.old.after) }
-    ensures { OnOk result (Infers (from_one conjunct2_of) thms.old thms.new) }
+pub(crate) fn right_conjunct(
+    alloc: Global,
+    lemmas: &mut Lemmas,
+    thms: &mut Cursor,
+) -> Result<(), AllocError>
+    requires lemmas { lemmas.old ≡ thms.old.basis }
+    requires gives { IsSome (inferred (from_one conjunct2_of) thms.old.after) }
+    ensures infers { OnOk result (Infers (from_one conjunct2_of) thms.old thms.new) }
+    ensures kept { lemmas.new ≡ lemmas.old }
 {
     let Some(both) = thms.take() else {
         unreachable!()
     };
-    let thm = made_in_bool(conjunct2(alloc, &both))?;
+    let thm = lemmas.conjunct2(alloc, &both)?;
     thms.put(thm)
 }
 

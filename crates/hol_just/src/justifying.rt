@@ -10,6 +10,7 @@ use crate::cursor::Cursor;
 use crate::just::Just;
 use crate::reason::Move;
 use crate::steps::infer;
+use hol_bool::Lemmas;
 use hol_kernel::{Basis, Thm};
 use std::alloc::{AllocError, Global};
 
@@ -31,22 +32,30 @@ pub fn justify(
     ensures over { IfOk result (λ out. AreOver basis.now out.items) }
 {
     let mut cursor = Cursor::new(alloc, thms, basis)?;
+    let mut lemmas = Lemmas::new(alloc, basis)?;
     let moves = just.moves();
     let mut left = moves.len();
     'moves: while left > 0 {
         left -= 1;
-        apply(alloc, &moves[left], &mut cursor)?;
+        apply(alloc, &moves[left], &mut lemmas, &mut cursor)?;
     }
     cursor.finish()
 }
 
 // Applies a move.
-fn apply(alloc: Global, one: &Move, thms: &mut Cursor) -> Result<(), AllocError>
+fn apply(
+    alloc: Global,
+    one: &Move,
+    lemmas: &mut Lemmas,
+    thms: &mut Cursor,
+) -> Result<(), AllocError>
+    requires lemmas { lemmas.old ≡ thms.old.basis }
     requires gives { IsSome (inferred_at one.now.place (inference thms.old.basis one.now.reason) (thms.old.before ++ thms.old.after)) }
     requires fits { Fits thms.old.basis one.now.reason }
+    ensures kept { lemmas.new ≡ lemmas.old }
     ensures basis { OnOk result (thms.new.basis ≡ thms.old.basis) }
     ensures inferred { OnOk result (inferred_at one.now.place (inference thms.old.basis one.now.reason) (thms.old.before ++ thms.old.after) ≡ Some (thms.new.before ++ thms.new.after)) }
 {
     thms.go_to(one.place)?;
-    infer(alloc, &one.reason, thms)
+    infer(alloc, &one.reason, lemmas, thms)
 }

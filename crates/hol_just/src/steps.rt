@@ -16,33 +16,41 @@ use crate::elimination_steps::{cases, choice, left_conjunct, right_conjunct, spe
 use crate::equal_steps::{cut, replacement, symmetry};
 use crate::reason::Reason;
 use crate::refusals::made_in_kernel;
+use hol_bool::Lemmas;
 use hol_kernel::{Given, Thm};
 use hol_terms::Term;
 use std::alloc::{AllocError, Global};
 
 /// Applies a reason after the place.
-pub(crate) fn infer(alloc: Global, reason: &Reason, thms: &mut Cursor) -> Result<(), AllocError>
+pub(crate) fn infer(
+    alloc: Global,
+    reason: &Reason,
+    lemmas: &mut Lemmas,
+    thms: &mut Cursor,
+) -> Result<(), AllocError>
+    requires lemmas { lemmas.old ≡ thms.old.basis }
     requires gives { IsSome (inferred (inference thms.old.basis reason.now) thms.old.after) }
     requires fits { Fits thms.old.basis reason.now }
-    ensures { OnOk result (Infers (inference thms.old.basis reason.now) thms.old thms.new) }
+    ensures infers { OnOk result (Infers (inference thms.old.basis reason.now) thms.old thms.new) }
+    ensures kept { lemmas.new ≡ lemmas.old }
 {
     match reason {
         Reason::Reflexivity(t) => reflexivity(alloc, t, thms),
         Reason::Premise(given) => premise(alloc, given, thms),
         Reason::Combination => combination(alloc, thms),
         Reason::Antisymmetry => antisymmetry(alloc, thms),
-        Reason::Conjunction => conjunction(alloc, thms),
-        Reason::LeftDisjunct(q) => left_disjunct(alloc, q, thms),
-        Reason::RightDisjunct(p) => right_disjunct(alloc, p, thms),
-        Reason::Discharge(p) => discharge(alloc, p, thms),
-        Reason::Undischarge => undischarge(alloc, thms),
-        Reason::Negation => negation(alloc, thms),
-        Reason::ModusPonens => modus_ponens(alloc, thms),
-        Reason::Contradiction(p) => contradiction(alloc, p, thms),
-        Reason::Generalization(v) => generalization(alloc, v, thms),
+        Reason::Conjunction => conjunction(alloc, lemmas, thms),
+        Reason::LeftDisjunct(q) => left_disjunct(alloc, q, lemmas, thms),
+        Reason::RightDisjunct(p) => right_disjunct(alloc, p, lemmas, thms),
+        Reason::Discharge(p) => discharge(alloc, p, lemmas, thms),
+        Reason::Undischarge => undischarge(alloc, lemmas, thms),
+        Reason::Negation => negation(alloc, lemmas, thms),
+        Reason::ModusPonens => modus_ponens(alloc, lemmas, thms),
+        Reason::Contradiction(p) => contradiction(alloc, p, lemmas, thms),
+        Reason::Generalization(v) => generalization(alloc, v, lemmas, thms),
         Reason::Existence(e, t) => existence(alloc, e, t, thms),
-        Reason::LeftConjunct => left_conjunct(alloc, thms),
-        Reason::RightConjunct => right_conjunct(alloc, thms),
+        Reason::LeftConjunct => left_conjunct(alloc, lemmas, thms),
+        Reason::RightConjunct => right_conjunct(alloc, lemmas, thms),
         Reason::Cases => cases(alloc, thms),
         Reason::Cut => cut(alloc, thms),
         Reason::Symmetry => symmetry(alloc, thms),

@@ -1,11 +1,18 @@
-use Rattle.std.proofs.Common.{ap, sym, Some}
+use Rattle.std.proofs.Common.{ap, sym, ◌∙◌, Some}
 use Rattle.hol_just.specs.Reasons.{conjoined}
 use Rattle.hol_just.proofs.Applied.{second_taken, is_first, where_ok}
 use Rattle.hol_just.proofs.bool_steps.conjunction_with.Goals as goal
 
-pub returns : goal.returns
-returns c =
+pub conj-requires : goal.conj-requires
+conj-requires c =
+    record {
+      one_basis = c.requires.lemmas ∙ sym c.requires.over;
+      same_basis = c.requires.over ∙ sym ((is_first c.args.thms.now c.take.new.self c.take.result c.in-Some.right c.take.ensures c.in-Some.is).over);
+    }
+
+pub returns-clause-infers : goal.returns-clause-infers
+returns-clause-infers c =
     where_ok c.put.result
     (second_taken (conjoined c.args.left.sequent) c.args.left.basis c.args.thms.now c.take.new.self c.put.new.self c.in-Some.right c.in_ok-thm.thm (is_first c.args.thms.now c.take.new.self c.take.result c.in-Some.right c.take.ensures c.in-Some.is)
-    (ap Some (sym c.in_ok-thm.ensures)))
+    (ap Some (sym c.in_ok-thm.ensures.gives)))
     c.put.ensures
