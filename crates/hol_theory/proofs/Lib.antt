@@ -1,0 +1,6 @@
+pub mod Keys
+pub mod Entries
+pub mod Items
+pub mod Theories
+pub mod Imports
+pub mod Comparing

@@ -1,0 +1,138 @@
+-- Theories, and what may come after them.
+use Rattle.std.specs.Prelude.{◌≡◌, Bool, true, false, cond, List, [], ◌∷◌, ◌++◌, Option, Some, None, is_some, Result, Ok, Err, OnOk, OnErr, refl}
+use Rattle.std.proofs.Common.{ap, sym, ◌∙◌, subst, inl, inr}
+use Rattle.std.specs.FinSet as set
+use Rattle.indexmap.specs.IndexMap.{insert_entry, insert_all}
+use Rattle.hol_kernel.specs.Item.{Item}
+use Rattle.hol_kernel.specs.Items.{Items, Holds, IsSubset, item_set}
+use Rattle.hol_kernel.specs.Signature.{ItemKey, has_key, prelude_has}
+use Rattle.hol_kernel.specs.Legal.{IsNew}
+use Rattle.hol_kernel.specs.Extends.{Agree}
+use Rattle.hol_kernel.proofs.ItemOrder.{total, only}
+use Rattle.hol_kernel.proofs.Members.{not_in_empty, in_insert_cases}
+use Rattle.hol_kernel.proofs.Subsets.{within_of_subset, subset_of_within}
+use Rattle.hol_theory.specs.Key.{KeyValue, key_eq}
+use Rattle.hol_theory.specs.Entry.{EntryValue, Entries, IsEntry, EachIsEntry, entry_at, entry_basis, own_item}
+use Rattle.hol_theory.specs.Theory.{with_item, items_of, items_in, RestsOn, entry_key, IsNamedIn, IsTheory}
+use Rattle.hol_theory.specs.Adding.{AreNew, CanFollow}
+use Rattle.hol_theory.proofs.Keys.{key_itself}
+use Rattle.hol_theory.proofs.Entries.{at_left, at_right, stands_once, each_joined, inserted_new, all_inserted_new}
+use Rattle.hol_theory.proofs.Items.{with_old, with_cases, after_cases, after_own, items_joined, rests_joined, items_legal, same_by_name, is_false}
+
+theory_of : (es : Entries) → EachIsEntry es → RestsOn [] es → ((x : Item) → Holds (items_in es) x → IsNamedIn es x) → IsTheory es
+theory_of es each rests named = record { each = each; legal = items_legal es each rests named; rests = rests; named = named }
+
+-- the theory without entries
+pub theory_without_entries : IsTheory []
+theory_without_entries = theory_of [] tt tt (λ x h. absurd (not_in_empty total only x h))
+
+named_left : (es fs : Entries) (x : Item) → IsNamedIn es x → IsNamedIn (es ++ fs) x
+named_left es fs x n k has = let r = n k has in (r.0, at_left (entry_key k) es fs r.0 r.1, r.2)
+
+named_right : (es fs : Entries) (x : Item) → AreNew es fs → IsNamedIn fs x → IsNamedIn (es ++ fs) x
+named_right es fs x new n k has =
+    let r = n k has in
+    (r.0, at_right (entry_key k) es fs (stands_once es fs new (entry_key k) r.0 r.1) ∙ r.1, r.2)
+
+-- new entries that can follow a theory make a theory with it
+pub theory_followed : (es more : Entries) → IsTheory es → AreNew es more → CanFollow es more → IsTheory (es ++ more)
+theory_followed es more t new c =
+    theory_of (es ++ more) (each_joined es more t.each c.each) (rests_joined [] es more t.rests c.rests)
+    (λ x h. elim (after_cases (items_of es) more x (subst (λ (items : List Item). Holds (item_set items) x) (items_joined [] es more) h)) [
+      | inl i ↦ named_left es more x (t.named x i)
+      | inr p ↦ elim (c.named x (after_own [] more p.0 x p.1 p.2)) [
+        | inl i ↦ named_left es more x (t.named x i)
+        | inr n ↦ named_right es more x new n
+      ]
+    ])
+
+-- ---- what the map has after entries are inserted; `self` is what it had
+
+stands_not : (r : Bool) (o : Option EntryValue) → r ≡ is_some o → r ≡ false → o ≡ None
+stands_not r None e f = refl
+stands_not r (Some v) e f = let g : true ≡ false = sym e ∙ f in absurd (cc)
+
+pub free_key : (r : Bool) (es self : Entries) (key : KeyValue) → r ≡ is_some (entry_at key es) → r ≡ false → es ≡ self → entry_at key self ≡ None
+free_key r es self key e f is = stands_not r (entry_at key self) (e ∙ ap (λ (t : Entries). is_some (entry_at key t)) is) f
+
+pub entries_with_one : (es self new : Entries) (key : KeyValue) (value : EntryValue) (entry : KeyValue × EntryValue) → es ≡ self → entry ≡ (key, value) → new ≡ insert_entry key_eq es entry.0 entry.1 →
+    entry_at key self ≡ None → new ≡ self ++ (key, value) ∷ []
+entries_with_one es self new key value entry is copied n none =
+    n
+    ∙ ap (λ (e : KeyValue × EntryValue). insert_entry key_eq es e.0 e.1) copied
+    ∙ ap (λ (t : Entries). insert_entry key_eq t key value) is
+    ∙ inserted_new self key value none
+
+pub theory_with_one : (es self new : Entries) (key : KeyValue) (value : EntryValue) (entry : KeyValue × EntryValue) → es ≡ self → entry ≡ (key, value) → new ≡ insert_entry key_eq es entry.0 entry.1 →
+    IsTheory es → entry_at key self ≡ None → (entry_at key self ≡ None → CanFollow self ((key, value) ∷ [])) → IsTheory new
+theory_with_one es self new key value entry is copied n t none follow =
+    subst IsTheory (sym (entries_with_one es self new key value entry is copied n none))
+    (theory_followed self ((key, value) ∷ []) (subst IsTheory is t) (none, tt) (follow none))
+
+all_inserted : (es self copied more : Entries) → es ≡ self → copied ≡ more → AreNew self more → insert_all key_eq es copied ≡ self ++ more
+all_inserted es self copied more is same new =
+    ap (λ (t : Entries). insert_all key_eq t copied) is ∙ ap (λ (t : Entries). insert_all key_eq self t) same ∙ all_inserted_new self more new
+
+module _ {A B : Type 0} where
+  pub entries_with_all : (r : Result A B) (es self new copied more : Entries) → OnOk r (new ≡ insert_all key_eq es copied) → es ≡ self → copied ≡ more → AreNew self more → OnOk r (new ≡ self ++ more)
+  entries_with_all (Ok done) es self new copied more n is same fresh = n ∙ all_inserted es self copied more is same fresh
+  entries_with_all (Err e) es self new copied more n is same fresh = tt
+
+  pub theory_with_all : (r : Result A B) (es self new copied more : Entries) → OnOk r (new ≡ insert_all key_eq es copied) → OnErr r (new ≡ es) → es ≡ self → copied ≡ more →
+      IsTheory es → AreNew self more → CanFollow self more → IsTheory new
+  theory_with_all (Ok done) es self new copied more n old is same t fresh follow =
+      subst IsTheory (sym (n ∙ all_inserted es self copied more is same fresh)) (theory_followed self more (subst IsTheory is t) fresh follow)
+  theory_with_all (Err e) es self new copied more n old is same t fresh follow = subst IsTheory (sym old) t
+
+-- ---- names
+
+-- a name under whose key nothing stands is new over the items of a theory
+pub free_name_is_new : (es : Entries) (k : ItemKey) → IsTheory es → entry_at (entry_key k) es ≡ None → prelude_has k ≡ false → IsNew (items_in es) k
+free_name_is_new es k t none own = (
+  own,
+  λ y h. is_false (has_key y k) (λ has.
+      let r = t.named y h k has in
+      let e : None ≡ Some r.0 = sym none ∙ r.1 in
+      absurd (cc)),
+)
+
+-- sets of items of a theory agree
+pub items_agree : (es : Entries) (a b : Items) → IsTheory es → IsSubset a (items_in es) → IsSubset b (items_in es) → Agree a b
+items_agree es a b t in_a in_b x y k x_in y_in has_x has_y =
+    same_by_name es x y k (t.named x (within_of_subset a (items_in es) in_a x x_in)) (t.named y (within_of_subset b (items_in es) in_b y y_in)) has_x has_y
+
+-- ---- an entry alone
+
+-- one without an own item
+pub one_follows : (es : Entries) (key : KeyValue) (value : EntryValue) → IsEntry key value → own_item key value ≡ None → IsSubset (entry_basis value) (items_in es) → CanFollow es ((key, value) ∷ [])
+one_follows es key value entry own rests = record {
+  each = (entry, tt);
+  rests = (subst (λ (o : Option Item). IsSubset (entry_basis value) (item_set (with_item (items_of es) o))) (sym own) rests, tt);
+  named = λ x h. absurd (not_in_empty total only x (subst (λ (o : Option Item). Holds (item_set (with_item [] o)) x) own h));
+}
+
+-- one whose own item has no other name than the entry's
+pub one_follows_with : (es : Entries) (key : KeyValue) (value : EntryValue) (x : Item) → IsEntry key value → own_item key value ≡ Some x → IsSubset (entry_basis value) (set.insert (items_in es) x) →
+    ((k : ItemKey) → has_key x k ≡ true → entry_key k ≡ key) → CanFollow es ((key, value) ∷ [])
+one_follows_with es key value x entry own rests names = record {
+  each = (entry, tt);
+  rests = (
+    subset_of_within (entry_basis value) (item_set (with_item (items_of es) (own_item key value)))
+        (λ y h. elim (in_insert_cases total only (items_in es) x y (within_of_subset (entry_basis value) (set.insert (items_in es) x) rests y h)) [
+          | inl is ↦ after_own (items_of es) ((key, value) ∷ []) (key, value) y (inl refl) (own ∙ ap Some (sym is))
+          | inr i ↦ with_old (items_of es) (own_item key value) y i
+        ]),
+    tt,
+  );
+  named = λ y h. elim (with_cases [] (own_item key value) y h) [
+    | inl none ↦ absurd (not_in_empty total only y none)
+    | inr is ↦ inr (λ k has.
+        let same : Some x ≡ Some y = sym own ∙ is in
+        let item : x ≡ y = cc in
+        let keys : entry_key k ≡ key = names k (ap (λ (z : Item). has_key z k) item ∙ has) in (
+          value,
+          ap (λ b. cond b (Some value) None) (ap (λ (q : KeyValue). key_eq q key) keys ∙ key_itself key),
+          subst (λ (q : KeyValue). own_item q value ≡ Some y) (sym keys) is,
+        ))
+  ];
+}

@@ -1,0 +1,17 @@
+//! The entries of a theory: an ordered map from keys to types, constants and theorems, whose items are a legal list.
+//!
+//! Calls that answer a `Result` answer its memory error where memory is short, and nowhere else.
+#![tactic(auto)]
+
+mod env;
+mod error;
+mod key;
+mod laws;
+mod same;
+mod value;
+
+pub use env::Env;
+pub use error::EnvError;
+pub use key::{Key, Kind};
+pub use laws::free_keys_are_new_names;
+pub use value::{Value, ValueNode};
