@@ -3,7 +3,7 @@ use Rattle.std.proofs.Common.{◌≡◌, ◌≢◌, ℕ, ◌+◌, ◌<◌, ◌�
 use Rattle.std.specs.Prelude.{◌↔◌}
 use Rattle.std.specs.List.{All}
 use Rattle.std.proofs.lemmas.Bool.{eq-eqb, ne_eqb}
-use Rattle.std.proofs.lemmas.List.Elements.{All-weaker, All-nil, All-push}
+use Rattle.std.proofs.lemmas.List.Elements.{All-weaker, All-nil, All-push, All-append}
 use Rattle.hol_types.specs.Tree.{TypeTree, TyVar, TyApp, more_types, type_list}
 use Rattle.hol_types.specs.Fun.{fun_type}
 use Rattle.hol_types.specs.Subst.{type_subst, types_subst, type_lookup}
@@ -12,12 +12,12 @@ use Rattle.hol_infer.specs.Raw.{RawTree}
 use Rattle.hol_infer.specs.Typing.{IsTyping, IsOpen}
 use Rattle.hol_infer.specs.SlotTree.{SlotTree, SlotBound, SlotConstant, SlotFree, SlotApply, SlotAbstraction, typed, AreSlotsIn}
 use Rattle.hol_infer.specs.declared.cell.Cell.{Cell}
-use Rattle.hol_infer.specs.declared.cell.Cell.TheVariants.{Unknown, Link, Rigid, App}
+use Rattle.hol_infer.specs.declared.cell.Cell.TheVariants.{Unknown, Link, Rigid, App, Generic}
 use Rattle.hol_infer.specs.declared.generate.Graph.{Graph}
-use Rattle.hol_infer.specs.Graph.{CellHolds}
-use Rattle.hol_infer.specs.Generate.{Solves, slots, IsWellFormed, Agree, IsNewCell, IsFresh, IsFunction, BuildsType, BuildsTypes, IsPlace, HasNoPlace, pairs_from}
+use Rattle.hol_infer.specs.Graph.{CellHolds, IsExpandedCell}
+use Rattle.hol_infer.specs.Generate.{Solves, slots, IsWellFormed, Agree, IsNewCell, IsFresh, IsFunction, BuildsType, BuildsTypes, IsPlace, HasNoPlace, pairs_from, Grows}
 use Rattle.hol_infer.proofs.Growing.{solves_agree, map_agree}
-use Rattle.std.proofs.lemmas.List.{map-append}
+use Rattle.std.proofs.lemmas.List.{map-append, append-nil, append_assoc}
 
 pub agree_trans : (n m : ℕ) (a b c : ℕ → TypeTree) → n ≤ m → Agree n a b → Agree m b c → Agree n a c
 agree_trans n m a b c le p q = record { agree = λ i lt. p.agree i lt ∙ q.agree i (omega arith) }
@@ -72,6 +72,7 @@ cell_holds_new : (n : ℕ) (types types' : ℕ → TypeTree) (t : TypeTree) (cel
 cell_holds_new n types types' t Unknown a in' h = tt
 cell_holds_new n types types' t (Link j) a in' h = h ∙ a.agree j in'
 cell_holds_new n types types' t (Rigid x) a in' h = h
+cell_holds_new n types types' t (Generic ty) a in' h = h
 cell_holds_new n types types' t (App c parts) a in' h = parts_agree n types types' c parts.items t (map_agree n types types' parts.items a in') h
 
 -- a solution and a type for the new slot give a solution
@@ -97,6 +98,27 @@ extend_function g h slot d r w d_in r_in new type_of types s =
     let same : types' slot ≡ t = ap types' new.slot_is ∙ put_same types (slots g) t in
     (types', a, (new.solves type_of types').1 (solves_agree g type_of types types' w a s, same ∙ fun_same (types d) (types' d) (types r) (types' r) (a.agree d d_in) (a.agree r r_in)), same)
 
+-- ---- slots more
+
+pub grows_refl : (g : Graph) → Grows g g
+grows_refl g = record { extra = []; cells_are = sym (append-nil g.cells.items); expanded = All-nil IsExpandedCell; pending_are = refl }
+
+pub grows_fresh : (g g1 h : Graph) (slot : ℕ) (cell : Cell) → Grows g g1 → IsFresh g1 h slot cell → IsExpandedCell cell → Grows g h
+grows_fresh g g1 h slot cell w fresh plain = record {
+  extra = w.extra ++ cell ∷ [];
+  cells_are = fresh.cells_are ∙ ap (λ (xs : List Cell). xs ++ cell ∷ []) w.cells_are ∙ append_assoc g.cells.items w.extra (cell ∷ []);
+  expanded = All-push IsExpandedCell w.extra cell w.expanded plain;
+  pending_are = fresh.pending_are ∙ w.pending_are;
+}
+
+pub grows_trans : (f g h : Graph) → Grows f g → Grows g h → Grows f h
+grows_trans f g h v w = record {
+  extra = v.extra ++ w.extra;
+  cells_are = w.cells_are ∙ ap (λ (xs : List Cell). xs ++ w.extra) v.cells_are ∙ append_assoc f.cells.items v.extra w.extra;
+  expanded = All-append IsExpandedCell v.extra w.extra v.expanded w.expanded;
+  pending_are = w.pending_are ∙ v.pending_are;
+}
+
 -- ---- the slots of a type
 
 lookup_for : (pairs : List (TypeTree × List ℕ)) (a : List ℕ) (t : TypeTree) → type_lookup pairs a ≡ Some t → type_subst pairs (TyVar a) ≡ t
@@ -111,6 +133,8 @@ builds_type_place g names base i a w base_in p = record {
   well_formed = w;
   more = omega arith;
   slot_in = (let l = p.below in omega (arith, l));
+  grows = grows_refl g;
+  names_are = refl;
   sound = λ type_of types s. (s, sym (lookup_for (pairs_from types base names) a (types (base + i)) (p.gives types base)));
   complete = λ type_of types s. (types, agree_refl (slots g) types, s);
 }
@@ -120,6 +144,8 @@ builds_type_rigid g h names base slot a w rigid none fresh = record {
   well_formed = fresh.well_formed;
   more = (let e = fresh.slots_are in omega (arith, e));
   slot_in = (let e = fresh.slots_are in let f = fresh.slot_is in omega (arith, e, f));
+  grows = grows_fresh g g h slot (Rigid a) (grows_refl g) fresh tt;
+  names_are = fresh.names_are;
   sound = λ type_of types s. (let x = (fresh.solves type_of types).0 s in (x.0, x.1 ∙ sym (lookup_none (pairs_from types base names) a (none.gives types base))));
   complete = λ type_of types s. (let x = extend_fresh g h slot (Rigid a) w rigid fresh type_of types (TyVar a) s refl in (x.0, x.1, x.2));
 }
@@ -130,6 +156,8 @@ builds_types_none g names base w = record {
   well_formed = w;
   more = omega arith;
   parts_in = All-nil (λ (p : ℕ). p < slots g);
+  grows = grows_refl g;
+  names_are = refl;
   sound = λ type_of types s. (s, refl);
   complete = λ type_of types s. (types, agree_refl (slots g) types, s);
 }
@@ -145,6 +173,8 @@ builds_types_more g g1 h names base parts tys slot ty b c = record {
   well_formed = c.well_formed;
   more = (let p = b.more in let q = c.more in omega (arith, p, q));
   parts_in = All-push (λ (p : ℕ). p < slots h) parts slot (env_more (slots g1) (slots h) parts c.more b.parts_in) c.slot_in;
+  grows = grows_trans g g1 h b.grows c.grows;
+  names_are = c.names_are ∙ b.names_are;
   sound = λ type_of types z.
       let x = c.sound type_of types z in
       let y = b.sound type_of types x.0 in (
@@ -161,17 +191,19 @@ builds_types_more g g1 h names base parts tys slot ty b c = record {
       (y.0, agree_trans (slots g) (slots g1) types x.0 y.0 m x.1 y.1, y.2);
 }
 
-subst_list : (pairs : List (TypeTree × List ℕ)) (ts : List TypeTree) → type_list (map (type_subst pairs) ts) ≡ types_subst pairs (type_list ts)
+pub subst_list : (pairs : List (TypeTree × List ℕ)) (ts : List TypeTree) → type_list (map (type_subst pairs) ts) ≡ types_subst pairs (type_list ts)
 subst_list pairs [] = refl
 subst_list pairs (t ∷ ts) = ap (more_types (type_subst pairs t)) (subst_list pairs ts)
 
 pub builds_type_app : (g g1 h : Graph) (names : List (List ℕ)) (base slot : ℕ) (c : List ℕ) (cell : Cell) (parts : List ℕ) (tys : List TypeTree) →
-    ((types : ℕ → TypeTree) (t : TypeTree) → CellHolds types t cell ↔ (t ≡ TyApp c (type_list (map types parts)))) → IsNewCell (slots g1) cell →
+    ((types : ℕ → TypeTree) (t : TypeTree) → CellHolds types t cell ↔ (t ≡ TyApp c (type_list (map types parts)))) → IsNewCell (slots g1) cell → IsExpandedCell cell →
     BuildsTypes g g1 names base parts tys → IsFresh g1 h slot cell → BuildsType g h names base slot (TyApp c (type_list tys))
-builds_type_app g g1 h names base slot c cell parts tys is new b fresh = record {
+builds_type_app g g1 h names base slot c cell parts tys is new plain b fresh = record {
   well_formed = fresh.well_formed;
   more = (let e = fresh.slots_are in let p = b.more in omega (arith, e, p));
   slot_in = (let e = fresh.slots_are in let f = fresh.slot_is in omega (arith, e, f));
+  grows = grows_fresh g g1 h slot cell b.grows fresh plain;
+  names_are = fresh.names_are ∙ b.names_are;
   sound = λ type_of types z.
       let x = (fresh.solves type_of types).0 z in
       let y = b.sound type_of types x.0 in (

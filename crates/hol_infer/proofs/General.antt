@@ -1,20 +1,21 @@
 -- The shapes of a solved graph make the most general typing.
-use Rattle.std.proofs.Common.{◌≡◌, ℕ, ◌<◌, [], List, length, refl, sym, ◌∙◌, ap, subst, Option, Some, None}
+use Rattle.std.proofs.Common.{◌≡◌, ℕ, ◌<◌, [], List, length, refl, ◌∙◌, ap, arith, Option, Some, None}
 use Rattle.std.proofs.lemmas.List.Elements.{All-nil}
 use Rattle.hol_types.specs.Tree.{TypeTree, TyVar}
 use Rattle.hol_terms.specs.Nameless.{Nameless, free, fixed, app, lam, base_of}
 use Rattle.hol_infer.specs.Raw.{RawTree}
 use Rattle.hol_infer.specs.Typing.{HasNoTyping}
 use Rattle.hol_infer.specs.Shape.{ShapeTree}
-use Rattle.hol_infer.specs.SlotTree.{SlotTree, SlotBound, SlotConstant, SlotFree, SlotApply, SlotAbstraction, typed, AreSlotsIn}
-use Rattle.hol_infer.specs.declared.cell.Cell.{Cell}
+use Rattle.hol_infer.specs.SlotTree.{SlotTree, SlotBound, SlotConstant, SlotFree, SlotApply, SlotAbstraction, typed}
 use Rattle.hol_infer.specs.declared.cell.Cell.TheVariants.{Unknown}
 use Rattle.hol_infer.specs.declared.cell.Equation.{Equation}
 use Rattle.hol_infer.specs.declared.generate.Graph.{Graph}
-use Rattle.hol_infer.specs.Graph.{Respects, EquationHolds, IsSolution, SameSolutions}
-use Rattle.hol_infer.specs.Generate.{Solves, slot_of, IsWellFormed, IsFresh, Generates}
+use Rattle.hol_infer.specs.Graph.{Respects, EquationHolds, IsSolution}
+use Rattle.hol_infer.specs.Generate.{Solves, slots, slot_of, IsWellFormed, IsFresh, Generates}
+use Rattle.hol_infer.specs.Expanding.{Refines, IsSettled}
 use Rattle.hol_infer.specs.Found.{types_at, AreGeneral}
 use Rattle.hol_infer.specs.Solved.{IsGraphOf, IsSolvedBy, IsGeneralTyping}
+use Rattle.hol_infer.proofs.Extending.{term_agree, are_slots_in_more}
 
 -- ---- the graph of a whole term
 
@@ -50,20 +51,6 @@ whole_graph raw expected g g1 h term p q r fresh gen = record {
 
 -- ---- solving
 
-pub solved_by : (before after : List Cell) (pending : List Equation) (shapes : List ShapeTree) → length after ≡ length before → SameSolutions after [] before pending → AreGeneral after shapes → IsSolvedBy before pending shapes
-solved_by before after pending shapes len same general = record {
-  respects = λ at. (same (types_at shapes at)).0 (record { respects = general.respects at; equations = All-nil (EquationHolds (types_at shapes at)) });
-  instances = λ types s. general.instances types ((same types).1 s).respects;
-  rigid = general.rigid;
-  len = general.len ∙ len;
-  below = general.below;
-}
-
-pub unsolved : (before after : List Cell) (pending : List Equation) → SameSolutions after [] before pending → ((types : ℕ → TypeTree) → Respects after types → ⊥) → (types : ℕ → TypeTree) → IsSolution before pending types → ⊥
-unsolved before after pending same none types s = none types ((same types).1 s).respects
-
--- ---- typings
-
 -- types for the free names by their slots
 abbrev name_type : (ℕ → TypeTree) → Option ℕ → TypeTree
 name_type types None = TyVar []
@@ -74,6 +61,32 @@ solves_by_names g types s = record {
   solution = s;
   names = λ a k e. ap (name_type types) e;
 }
+
+pub solved_by : (g h : Graph) (shapes : List ShapeTree) → IsSettled g h → AreGeneral h.cells.items shapes → IsSolvedBy g shapes
+solved_by g h shapes settled general = record {
+  more = (let m = settled.refines.more in let n = general.len in omega (arith, m, n));
+  solves = λ at.
+      let s : IsSolution h.cells.items h.pending.items (types_at shapes at) =
+      record { respects = general.respects at; equations = rw settled.solved (All-nil (EquationHolds (types_at shapes at))) } in
+      let type_of = λ (a : List ℕ). name_type (types_at shapes at) (slot_of h.names.items a) in
+      (type_of, settled.refines.sound type_of (types_at shapes at) (solves_by_names h (types_at shapes at) s));
+  instances = λ type_of types s.
+      let x = settled.refines.complete type_of types s in
+      (x.0, x.1, general.instances x.0 x.2.solution.respects);
+  rigid = general.rigid;
+  below = general.below;
+}
+
+-- types that meet the graph and the equations meet what is settled, with types for the slots more
+pub unsettled : (g h : Graph) → Refines g h → ((types : ℕ → TypeTree) → IsSolution h.cells.items h.pending.items types → ⊥) → (types : ℕ → TypeTree) → IsSolution g.cells.items g.pending.items types → ⊥
+unsettled g h refines none types s =
+    let x = refines.complete (λ (a : List ℕ). name_type types (slot_of g.names.items a)) types (solves_by_names g types s) in
+    none x.0 x.2.solution
+
+pub unsolved : (g h : Graph) → IsSettled g h → ((types : ℕ → TypeTree) → Respects h.cells.items types → ⊥) → (types : ℕ → TypeTree) → IsSolution g.cells.items g.pending.items types → ⊥
+unsolved g h settled none = unsettled g h settled.refines (λ types s. none types s.respects)
+
+-- ---- typings
 
 app_same : (u u' v v' : Nameless) → u ≡ u' → v ≡ v' → app u v ≡ app u' v'
 app_same u u' v v' p q = cc
@@ -88,14 +101,15 @@ typed_same types types' (SlotFree x s) h = ap (λ (t : TypeTree). free (x, t)) (
 typed_same types types' (SlotApply f a) h = app_same (typed types f) (typed types' f) (typed types a) (typed types' a) (typed_same types types' f h) (typed_same types types' a h)
 typed_same types types' (SlotAbstraction x s b) h = lam_same (base_of x) (types s) (types' s) (typed types b) (typed types' b) (h s) (typed_same types types' b h)
 
-pub general_of : (raw : RawTree) (g : Graph) (term : SlotTree) (shapes : List ShapeTree) → IsGraphOf raw g term → IsSolvedBy g.cells.items g.pending.items shapes → IsGeneralTyping raw shapes term
+pub general_of : (raw : RawTree) (g : Graph) (term : SlotTree) (shapes : List ShapeTree) → IsGraphOf raw g term → IsSolvedBy g shapes → IsGeneralTyping raw shapes term
 general_of raw g term shapes of solved = record {
-  slots_in = subst (λ (n : ℕ). AreSlotsIn n term) (sym solved.len) of.slots_in;
+  slots_in = are_slots_in_more (slots g) (length shapes) term solved.more of.slots_in;
   scoped = of.scoped;
-  typing = λ at. of.sound (λ a. name_type (types_at shapes at) (slot_of g.names.items a)) (types_at shapes at) (solves_by_names g (types_at shapes at) (solved.respects at));
+  typing = λ at. (let x = solved.solves at in of.sound x.0 (types_at shapes at) x.1);
   instances = λ p t.
       let x = of.complete p t in
-      (x.1, x.3 ∙ typed_same x.1 (types_at shapes x.1) term (solved.instances x.1 x.2.solution));
+      let y = solved.instances x.0 x.1 x.2 in
+      (y.0, x.3 ∙ term_agree (slots g) x.1 y.0 term y.1 of.slots_in ∙ typed_same y.0 (types_at shapes y.0) term y.2);
   rigid = solved.rigid;
   below = solved.below;
 }

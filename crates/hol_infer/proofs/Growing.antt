@@ -7,8 +7,9 @@ use Rattle.std.proofs.lemmas.List.{get_or_append_left, get_or_past}
 use Rattle.std.proofs.lemmas.List.Elements.{All-push, All-head, All-tail, All-weaker}
 use Rattle.std.proofs.Math.Seq.{get_or-append_seam}
 use Rattle.hol_types.specs.Tree.{TypeTree, TyApp, type_list}
+use Rattle.hol_infer.specs.Typing.{IsGenericInstance}
 use Rattle.hol_infer.specs.declared.cell.Cell.{Cell}
-use Rattle.hol_infer.specs.declared.cell.Cell.TheVariants.{Unknown, Link, Rigid, App}
+use Rattle.hol_infer.specs.declared.cell.Cell.TheVariants.{Unknown, Link, Rigid, App, Generic}
 use Rattle.hol_infer.specs.declared.cell.Equation.{Equation}
 use Rattle.hol_infer.specs.declared.generate.Graph.{Graph}
 use Rattle.hol_infer.specs.Graph.{CellHolds, cell_at, Respects, EquationHolds, IsSolution, IsCellIn, IsGraph, AreIn}
@@ -39,12 +40,14 @@ is_cell_in_new n Unknown h = tt
 is_cell_in_new n (Link j) h = h
 is_cell_in_new n (Rigid a) h = h
 is_cell_in_new n (App c parts) h = below_more n parts.items h
+is_cell_in_new n (Generic ty) h = h
 
 is_cell_in_more : (n i : ℕ) (cell : Cell) → IsCellIn n i cell → IsCellIn (n + 1) i cell
 is_cell_in_more n i Unknown h = tt
 is_cell_in_more n i (Link j) h = h
 is_cell_in_more n i (Rigid a) h = h
 is_cell_in_more n i (App c parts) h = below_more n parts.items h
+is_cell_in_more n i (Generic ty) h = h
 
 -- a slot is an old one, the new one, or none
 by_slot : (n i : ℕ) → (i < n) ⊎ ((i ≡ n) ⊎ (n + 1 ≤ i))
@@ -116,6 +119,8 @@ fresh_of g h slot cell w new at cells pending names =
     record {
       slot_is = at;
       slots_are = len;
+      cells_are = cells;
+      pending_are = pending;
       names_are = names;
       well_formed = record {
         cells_in = subst (λ (xs : List Cell). IsGraph xs) (sym cells) (is_graph_push g.cells.items cell w.cells_in new);
@@ -152,6 +157,7 @@ cell_holds_agree : (n i : ℕ) (types types' : ℕ → TypeTree) (cell : Cell) �
 cell_holds_agree n i types types' Unknown a lt in' h = tt
 cell_holds_agree n i types types' (Link j) a lt in' h = sym (a.agree i lt) ∙ h ∙ a.agree j (omega arith)
 cell_holds_agree n i types types' (Rigid x) a lt in' h = sym (a.agree i lt) ∙ h
+cell_holds_agree n i types types' (Generic ty) a lt in' h = subst (IsGenericInstance ty) (a.agree i lt) h
 cell_holds_agree n i types types' (App c parts) a lt in' h =
     sym (a.agree i lt) ∙ h ∙ app_ap c (map types parts.items) (map types' parts.items) (parts_agree n types types' parts.items a in')
 

@@ -7,6 +7,7 @@ pub mod Extending
 pub mod Instances
 pub mod Types
 pub mod Slots
+pub mod Opening
 pub mod Generating
 pub mod General
 pub mod Holes

@@ -1,14 +1,14 @@
 -- A merge of two roots keeps the solutions.
-use Rattle.std.proofs.Common.{◌≡◌, ◌≢◌, ℕ, ◌<◌, inl, inr, List, ◌∷◌, length, set, sym, ◌∙◌, ap, subst, arith, get_or-set_same, get_or-set_other, length-set, slice_index_or}
+use Rattle.std.proofs.Common.{◌≡◌, ◌≢◌, ℕ, ◌<◌, ◌≤◌, inl, inr, List, ◌∷◌, length, set, sym, ◌∙◌, ap, subst, arith, get_or-set_same, get_or-set_other, length-set, slice_index_or}
 use Rattle.std.proofs.lemmas.List.Elements.{All-cons, All-head, All-tail}
 use Rattle.std.proofs.lemmas.List.Sums.{sum_by-set}
 use Rattle.std.proofs.lemmas.Bool.{cases_eq}
 use Rattle.std.proofs.lemmas.List.{get_or_default}
 use Rattle.hol_types.specs.Tree.{TypeTree}
 use Rattle.hol_infer.specs.declared.cell.Cell.{Cell}
-use Rattle.hol_infer.specs.declared.cell.Cell.TheVariants.{Unknown, Link, Rigid, App}
+use Rattle.hol_infer.specs.declared.cell.Cell.TheVariants.{Unknown, Link, Rigid, App, Generic}
 use Rattle.hol_infer.specs.declared.cell.Equation.{Equation}
-use Rattle.hol_infer.specs.Graph.{CellHolds, cell_at, Respects, EquationHolds, SameSolutions, HasNoSolution, IsCellIn, IsGraph, AreBelow, AreIn, IsRootCell, cell_weight, work_left, IsJoined, HaveNoType}
+use Rattle.hol_infer.specs.Graph.{CellHolds, cell_at, Respects, EquationHolds, SameSolutions, HasNoSolution, IsCellIn, IsGraph, AreBelow, AreIn, IsRootCell, cell_weight, work_left, IsJoined, HaveNoType, generic_weight, generics, AreJoinable}
 
 -- a slot's cell after a write
 pub written : (cells : List Cell) (at : ℕ) (cell : Cell) → at < length cells → cell_at (set cells at cell) at ≡ cell
@@ -48,6 +48,7 @@ root_anywhere n i j Unknown r h = tt
 root_anywhere n i j (Link k) r h = absurd r
 root_anywhere n i j (Rigid a) r h = h
 root_anywhere n i j (App c parts) r h = h
+root_anywhere n i j (Generic ty) r h = h
 
 pub is_graph_set : (cells : List Cell) (at : ℕ) (cell : Cell) → at < length cells → IsGraph cells → IsCellIn (length cells) at cell → IsGraph (set cells at cell)
 is_graph_set cells at cell h g new = record {
@@ -110,6 +111,19 @@ module _ (cells : List Cell) (low high : ℕ) (order : low < high) (high_in : hi
       let f : cell_weight (cell_at given low) ≡ 1 = ap cell_weight e in
       omega (arith, a, b, f)
 
+  pub taken_generics : cell_at cells low ≡ Unknown → generics (set (set cells high (Link low)) low (cell_at cells high)) ≤ generics cells
+  taken_generics unknown =
+      let given : List Cell = set cells high (Link low) in
+      let low_given : low < length given = rw length-set low_in in
+      let a = sum_by-set generic_weight cells high (Link low) Unknown high_in in
+      let b = sum_by-set generic_weight given low (cell_at cells high) Unknown low_given in
+      let e : cell_at given low ≡ Unknown = kept cells high low (Link low) apart ∙ unknown in
+      let f : generic_weight (cell_at given low) ≡ 0 = ap generic_weight e in
+      omega (arith, a, b, f)
+
+  pub linked_generics : generics (set cells high (Link low)) ≤ generics cells
+  linked_generics = let a = sum_by-set generic_weight cells high (Link low) Unknown high_in in omega (arith, a)
+
   -- the higher root says no more than the lower one, apart from the new equations
   pub linked_solutions : (pending pending' : List Equation) → IsJoined (cell_at cells low) (cell_at cells high) pending pending' →
       SameSolutions (set cells high (Link low)) pending' cells (record { left = low; right = high } ∷ pending)
@@ -156,3 +170,9 @@ no_type_at cells i j x y p q h = subst (λ (u : Cell). HaveNoType u (cell_at cel
 
 pub linked_below : (cells : List Cell) (low high : ℕ) (cell : Cell) (before after : List Equation) → IsGraph cells → IsJoined (cell_at cells low) (cell_at cells high) before after → AreIn cells before → AreIn (set cells high cell) after
 linked_below cells low high cell before after g j h = subst (λ (n : ℕ). AreBelow n after) (sym (length-set cells high cell)) (j.are_in (length cells) low high (g.cell_in low) (g.cell_in high) h)
+
+pub joinable_at : (cells : List Cell) (i j : ℕ) (x y : Cell) → cell_at cells i ≡ x → cell_at cells j ≡ y → AreJoinable x y → AreJoinable (cell_at cells i) (cell_at cells j)
+joinable_at cells i j x y p q h = subst (λ (u : Cell). AreJoinable u (cell_at cells j)) (sym p) (subst (λ (v : Cell). AreJoinable x v) (sym q) h)
+
+pub joinable_of : (cells : List Cell) (i j : ℕ) (x y : Cell) → cell_at cells i ≡ x → cell_at cells j ≡ y → AreJoinable (cell_at cells i) (cell_at cells j) → AreJoinable x y
+joinable_of cells i j x y p q h = subst (λ (v : Cell). AreJoinable x v) q (subst (λ (u : Cell). AreJoinable u (cell_at cells j)) p h)

@@ -9,8 +9,8 @@ use Rattle.std.proofs.lemmas.List.Sums.{sum_by-set}
 use Rattle.hol_types.specs.Tree.{TypeTree, TypeList, TyApp, more_types, type_list, type_size, types_size}
 use Rattle.hol_infer.specs.Shape.{ShapeTree, Hole, shape_list, fill, fills}
 use Rattle.hol_infer.specs.declared.cell.Cell.{Cell}
-use Rattle.hol_infer.specs.declared.cell.Cell.TheVariants.{Unknown, Link, Rigid, App}
-use Rattle.hol_infer.specs.Graph.{cell_at, Respects, CellHolds, IsGraph, IsCellIn}
+use Rattle.hol_infer.specs.declared.cell.Cell.TheVariants.{Unknown, Link, Rigid, App, Generic}
+use Rattle.hol_infer.specs.Graph.{cell_at, Respects, CellHolds, IsGraph, IsCellIn, IsExpandedCell}
 use Rattle.hol_infer.specs.Found.{found_at, ArePartsFound, BuiltFrom, IsBlocked, HasRigidNames, HaveRigidNames, AreHolesBelow, AllHolesBelow, IsBuilt, IsStuckAt, IsStuck, none_weight, missing, shape_at, types_at, AreGeneral}
 
 -- a sweep that has come to slot n
@@ -52,6 +52,7 @@ built_from_more : (found : List (Option ShapeTree)) (at i : ℕ) (s t : ShapeTre
 built_from_more found at i s t Unknown none b = b
 built_from_more found at i s t (Link j) none b = keeps found at j s t none b
 built_from_more found at i s t (Rigid a) none b = b
+built_from_more found at i s t (Generic ty) none b = b
 built_from_more found at i s t (App c parts) none (shapes, p, e) = (shapes, parts_keep found at t parts.items shapes none p, e)
 
 -- the types of parts are instances of their shapes
@@ -69,6 +70,7 @@ built_from_general : (cells : List Cell) (found : List (Option ShapeTree)) (i : 
 built_from_general cells found i s Unknown types b r holds e = sym (ap (fill types) e)
 built_from_general cells found i s (Link j) types b r holds e = holds ∙ b.general types r j s e
 built_from_general cells found i s (Rigid a) types b r holds e = holds ∙ sym (ap (fill types) e)
+built_from_general cells found i s (Generic ty) types b r holds e = absurd e
 built_from_general cells found i s (App c parts) types b r holds (shapes, p, e) =
     holds ∙ ap (TyApp c) (parts_general cells found types b r parts.items shapes p) ∙ sym (ap (fill types) e)
 
@@ -84,6 +86,7 @@ built_from_rigid : (cells : List Cell) (found : List (Option ShapeTree)) (n i : 
 built_from_rigid cells found n i s Unknown b in' e = subst HasRigidNames (sym e) tt
 built_from_rigid cells found n i s (Link j) b in' e = b.rigid j s e
 built_from_rigid cells found n i s (Rigid a) b in' e = subst HasRigidNames (sym e) in'
+built_from_rigid cells found n i s (Generic ty) b in' e = absurd e
 built_from_rigid cells found n i s (App c parts) b in' (shapes, p, e) = subst HasRigidNames (sym e) (parts_rigid cells found b parts.items shapes p)
 
 -- and the open slots are among those of the graph
@@ -98,6 +101,7 @@ built_from_below : (cells : List Cell) (found : List (Option ShapeTree)) (i : �
 built_from_below cells found i s Unknown lt b e = subst (AreHolesBelow (length cells)) (sym e) lt
 built_from_below cells found i s (Link j) lt b e = b.below j s e
 built_from_below cells found i s (Rigid a) lt b e = subst (AreHolesBelow (length cells)) (sym e) tt
+built_from_below cells found i s (Generic ty) lt b e = absurd e
 built_from_below cells found i s (App c parts) lt b (shapes, p, e) = subst (AreHolesBelow (length cells)) (sym e) (parts_below cells found b parts.items shapes p)
 
 pub is_built_more : (cells : List Cell) (found : List (Option ShapeTree)) (at : ℕ) (t : ShapeTree) → at < length found → length found ≡ length cells → found_at found at ≡ None → IsGraph cells → IsBuilt cells found → BuiltFrom found at t (cell_at cells at) → IsBuilt cells (set found at (Some t))
@@ -143,19 +147,20 @@ part_size types (p ∷ parts) j (zero, lt, e) = let f : type_size (types p) ≡ 
 part_size types (p ∷ parts) j (suc k, lt, e) = let r = part_size types parts j (k, omega (arith, lt), e) in omega (arith, r)
 
 -- where no slot can get a shape, one without a shape would be of an infinite type
-module _ (cells : List Cell) (found : List (Option ShapeTree)) (graph : IsGraph cells) (stuck : IsStuck cells found) (types : ℕ → TypeTree) (r : Respects cells types) where
+module _ (cells : List Cell) (found : List (Option ShapeTree)) (graph : IsGraph cells) (stuck : IsStuck cells found) (expanded : (i : ℕ) → IsExpandedCell (cell_at cells i)) (types : ℕ → TypeTree) (r : Respects cells types) where
   abbrev weight : ℕ → ℕ
   weight i = type_size (types i) * (length cells + 1) + i
 
   blocked_falls : (fuel i : ℕ) (cell : Cell) →
       ((j : ℕ) → j < length cells → weight j < fuel → found_at found j ≡ None → ⊥) →
-      i < length cells → weight i < suc fuel → IsCellIn (length cells) i cell → CellHolds types (types i) cell → IsBlocked found cell → ⊥
-  blocked_falls fuel i Unknown below lt less in' holds blocked = blocked
-  blocked_falls fuel i (Link j) below lt less in' holds blocked =
+      i < length cells → weight i < suc fuel → IsCellIn (length cells) i cell → IsExpandedCell cell → CellHolds types (types i) cell → IsBlocked found cell → ⊥
+  blocked_falls fuel i (Generic ty) below lt less in' plain holds blocked = plain
+  blocked_falls fuel i Unknown below lt less in' plain holds blocked = blocked
+  blocked_falls fuel i (Link j) below lt less in' plain holds blocked =
       let e : weight j ≡ type_size (types i) * (length cells + 1) + j = ap (λ (t : TypeTree). type_size t * (length cells + 1) + j) (sym holds) in
       below j (omega arith) (omega (arith, e)) blocked
-  blocked_falls fuel i (Rigid a) below lt less in' holds blocked = blocked
-  blocked_falls fuel i (App c parts) below lt less in' holds (j, contains, none) =
+  blocked_falls fuel i (Rigid a) below lt less in' plain holds blocked = blocked
+  blocked_falls fuel i (App c parts) below lt less in' plain holds (j, contains, none) =
       let e : type_size (types i) ≡ 1 + types_size (type_list (map types parts.items)) = ap type_size holds in
       let p = part_size types parts.items j contains in
       let j_in : j < length cells = All-contains (λ (k : ℕ). k < length cells) parts.items j in' contains in
@@ -164,7 +169,7 @@ module _ (cells : List Cell) (found : List (Option ShapeTree)) (graph : IsGraph 
 
   none_below : (fuel i : ℕ) → i < length cells → weight i < fuel → found_at found i ≡ None → ⊥
   none_below zero i lt less none = omega arith
-  none_below (suc fuel) i lt less none = blocked_falls fuel i (cell_at cells i) (none_below fuel) lt less (graph.cell_in i) (r.cell i) (stuck.stuck i lt none)
+  none_below (suc fuel) i lt less none = blocked_falls fuel i (cell_at cells i) (none_below fuel) lt less (graph.cell_in i) (expanded i) (r.cell i) (stuck.stuck i lt none)
 
   pub stuck_untypable : (i : ℕ) → i < length cells → found_at found i ≡ None → ⊥
   stuck_untypable i lt none = none_below (weight i + 1) i lt (omega arith) none
@@ -194,6 +199,7 @@ module _ (cells : List Cell) (found : List (Option ShapeTree)) (ss : List ShapeT
   cell_holds at i Unknown lt in' e = tt
   cell_holds at i (Link j) lt in' e = ap (fill at) (some_same (shape_at ss i) (shape_at ss j) (sym e ∙ all j (omega arith)))
   cell_holds at i (Rigid a) lt in' e = ap (fill at) e
+  cell_holds at i (Generic ty) lt in' e = absurd e
   cell_holds at i (App c parts) lt in' (shapes, p, e) = ap (fill at) e ∙ ap (TyApp c) (parts_hold at parts.items shapes in' p)
 
   pub shapes_general : AreGeneral cells ss

@@ -1,19 +1,16 @@
 -- Slots for types of functions, for free names, and for instances of generic types.
-use Rattle.std.proofs.Common.{◌≡◌, ℕ, ◌+◌, ◌<◌, List, [], ◌∷◌, ◌++◌, length, map, codes, get_or, refl, sym, ◌∙◌, ap, subst, arith, Bool, true, false, cond, bytes_eq, Option, Some, None}
+use Rattle.std.proofs.Common.{◌≡◌, ℕ, ◌+◌, ◌<◌, List, [], ◌∷◌, ◌++◌, length, map, codes, refl, sym, ◌∙◌, ap, subst, arith, Bool, true, false, cond, bytes_eq, Option, Some, None}
 use Rattle.std.specs.Prelude.{◌↔◌}
 use Rattle.std.proofs.lemmas.Slice.Eq.{bytes_eq-Decides}
 use Rattle.hol_types.specs.Tree.{TypeTree, TyApp, type_list}
 use Rattle.hol_types.specs.Fun.{fun_type}
-use Rattle.hol_types.specs.Names.{is_among, type_names}
-use Rattle.hol_types.specs.Subst.{type_subst, type_for}
+use Rattle.hol_infer.specs.Typing.{IsGenericInstance}
 use Rattle.hol_infer.specs.declared.cell.Cell.{Cell}
-use Rattle.hol_infer.specs.declared.cell.Cell.TheVariants.{Unknown}
+use Rattle.hol_infer.specs.declared.cell.Cell.TheVariants.{Unknown, Generic}
 use Rattle.hol_infer.specs.declared.generate.Graph.{Graph}
 use Rattle.hol_infer.specs.Graph.{CellHolds, IsGraph}
-use Rattle.hol_infer.specs.Generate.{Solves, slots, slot_of, IsWellFormed, Agree, IsFresh, IsFunction, IsEquated, AddsUnknown, BuildsType, Instantiates, FindsName, pairs_from}
-use Rattle.hol_infer.proofs.Growing.{solves_agree}
-use Rattle.hol_infer.proofs.Extending.{agree_trans, extend_fresh}
-use Rattle.hol_infer.proofs.Instances.{put_from, put_from_agree, put_from_at, named_types, subst_same}
+use Rattle.hol_infer.specs.Generate.{Solves, slots, slot_of, IsWellFormed, IsFresh, IsFunction, IsEquated, AddsUnknown, Instantiates, FindsName}
+use Rattle.hol_infer.proofs.Extending.{extend_fresh, grows_refl, grows_fresh}
 
 pub function_of : (g h : Graph) (slot d r : ℕ) (cell : Cell) → ((types : ℕ → TypeTree) (t : TypeTree) → CellHolds types t cell ↔ (t ≡ fun_type (types d) (types r))) → IsFresh g h slot cell → IsFunction g h slot d r
 function_of g h slot d r cell is fresh = record {
@@ -26,11 +23,21 @@ function_of g h slot d r cell is fresh = record {
   );
 }
 
+pub unknown_none : (g : Graph) → IsWellFormed g → AddsUnknown g g 0
+unknown_none g w = record {
+  well_formed = w;
+  slots_are = omega arith;
+  names_are = refl;
+  grows = grows_refl g;
+  solves = λ type_of types. (λ s. s, λ s. s);
+}
+
 pub unknown_more : (g g1 h : Graph) (n slot : ℕ) → AddsUnknown g g1 n → IsFresh g1 h slot Unknown → AddsUnknown g h (n + 1)
 unknown_more g g1 h n slot adds fresh = record {
   well_formed = fresh.well_formed;
   slots_are = (let a = adds.slots_are in let b = fresh.slots_are in omega (arith, a, b));
   names_are = fresh.names_are ∙ adds.names_are;
+  grows = grows_fresh g g1 h slot Unknown adds.grows fresh tt;
   solves = λ type_of types. (
     λ s. (adds.solves type_of types).0 ((fresh.solves type_of types).0 s).0,
     λ s. (fresh.solves type_of types).1 ((adds.solves type_of types).1 s, tt),
@@ -124,31 +131,17 @@ finds_name_new g g1 h a slot w none fresh cells pending names =
 
 -- ---- an instance of a generic type
 
-pub instantiates_of : (g g1 g2 h : Graph) (generic : TypeTree) (names : List (List ℕ)) (base slot e : ℕ) → IsWellFormed g → e < slots g →
-    ((a : List ℕ) → is_among (type_names generic) a ≡ true → is_among names a ≡ true) → base ≡ slots g → AddsUnknown g g1 (length names) →
-    BuildsType g1 g2 names base slot generic → IsEquated g2 h slot e → Instantiates g h generic e
-instantiates_of g g1 g2 h generic names base slot e w e_in covers base_is adds builds same = record {
+pub instantiates_of : (g g1 h : Graph) (generic : TypeTree) (slot e : ℕ) → IsWellFormed g → e < slots g → IsFresh g g1 slot (Generic generic) → IsEquated g1 h slot e → Instantiates g h generic e
+instantiates_of g g1 h generic slot e w e_in fresh same = record {
   well_formed = same.well_formed;
-  more = (let n1 = adds.slots_are in let m = builds.more in let n = same.slots_are in omega (arith, n1, m, n));
+  more = (let m = fresh.slots_are in let n = same.slots_are in omega (arith, m, n));
   sound = λ type_of types s.
       let p = (same.solves type_of types).0 s in
-      let q = builds.sound type_of types p.0 in
-      ((adds.solves type_of types).0 q.0, (pairs_from types base names, sym p.1 ∙ q.1));
-  complete = λ type_of types s (pairs, e_is).
-      let n1 = adds.slots_are in
-      let at = λ (k : ℕ). type_for pairs (get_or names k []) in
-      let types1 = put_from types (slots g) at in
-      let agree1 : Agree (slots g) types types1 = put_from_agree types (slots g) at in
-      let s1 : Solves g1 type_of types1 = (adds.solves type_of types1).1 (solves_agree g type_of types types1 w agree1 s) in
-      let x = builds.complete type_of types1 s1 in
-      let agree2 : Agree (slots g) types x.0 = agree_trans (slots g) (slots g1) types types1 x.0 (omega (arith, n1)) agree1 x.1 in
-      let each : (k : ℕ) → k < length names → x.0 (base + k) ≡ type_for pairs (get_or names k []) =
-      λ k lt. sym (x.1.agree (base + k) (omega (arith, n1, base_is))) ∙ ap (λ (b : ℕ). types1 (b + k)) base_is ∙ put_from_at types (slots g) at k in
-      let slot_is : x.0 slot ≡ type_subst pairs generic =
-      (builds.sound type_of x.0 x.2).1 ∙ subst_same (pairs_from x.0 base names) pairs generic (λ a m. named_types pairs x.0 base names a each (covers a m)) in
-      let e2 : types e ≡ x.0 e = agree2.agree e e_in in
-      let s2 : Solves h type_of x.0 = (same.solves type_of x.0).1 (x.2, slot_is ∙ sym e_is ∙ e2) in
-      (x.0, agree2, s2);
+      let q = (fresh.solves type_of types).0 p.0 in
+      (q.0, subst (IsGenericInstance generic) p.1 q.1);
+  complete = λ type_of types s instance.
+      let x = extend_fresh g g1 slot (Generic generic) w tt fresh type_of types (types e) s instance in
+      (x.0, x.1, (same.solves type_of x.0).1 (x.2, x.3 ∙ x.1.agree e e_in));
 }
 
 pub function_cell : (name : List ℕ) (parts : List ℕ) (d r : ℕ) (types : ℕ → TypeTree) (t : TypeTree) → name ≡ codes "fun" → parts ≡ d ∷ r ∷ [] →

@@ -1,10 +1,10 @@
 -- Steps of the loop that solves the equations.
-use Rattle.std.proofs.Common.{◌≡◌, ℕ, ◌↔◌, List, [], ◌∷◌, ◌++◌, sym, ◌∙◌}
+use Rattle.std.proofs.Common.{◌≡◌, ℕ, ◌↔◌, List, [], ◌∷◌, ◌++◌, sym, ◌∙◌, subst}
 use Rattle.std.proofs.lemmas.List.Elements.{All-cons, All-head, All-tail, All-push}
 use Rattle.hol_types.specs.Tree.{TypeTree}
 use Rattle.hol_infer.specs.declared.cell.Cell.{Cell}
 use Rattle.hol_infer.specs.declared.cell.Equation.{Equation}
-use Rattle.hol_infer.specs.Graph.{Respects, EquationHolds, SameSolutions, HasNoSolution}
+use Rattle.hol_infer.specs.Graph.{Respects, EquationHolds, IsSolution, SameSolutions, HasNoSolution}
 use Rattle.hol_infer.proofs.Growing.{all_last}
 
 pub same_solutions_refl : (cells : List Cell) (pending : List Equation) → SameSolutions cells pending cells pending
@@ -51,6 +51,9 @@ last_first cells pending e types = (
       let parts = all_last (EquationHolds types) pending e s.equations in
       record { respects = s.respects; equations = All-cons (EquationHolds types) e pending parts.1 parts.0 },
 )
+
+pub first_last : (cells : List Cell) (before after : List Equation) (e : Equation) → after ≡ before ++ e ∷ [] → SameSolutions cells after cells (e ∷ before)
+first_last cells before after e is types = subst (λ (p : List Equation). IsSolution cells p types ↔ IsSolution cells (e ∷ before) types) (sym is) ((last_first cells before e types).1, (last_first cells before e types).0)
 
 -- two slots in place of two slots of the same types, also the other way round
 pub roots_edge : (cells : List Cell) (pending : List Equation) (e : Equation) (left right : ℕ) →

@@ -9,7 +9,7 @@ use Rattle.hol_infer.specs.Typing.{IsOpen}
 use Rattle.hol_infer.specs.declared.cell.Cell.{Cell}
 use Rattle.hol_infer.specs.declared.cell.Cell.TheVariants.{Rigid}
 use Rattle.hol_infer.specs.declared.generate.Graph.{Graph}
-use Rattle.hol_infer.specs.Graph.{CellHolds}
+use Rattle.hol_infer.specs.Graph.{CellHolds, IsExpandedCell}
 use Rattle.hol_infer.specs.Generate.{slots, IsWellFormed, IsNewCell, IsFresh, HasNoPlace, IsRigidBut, AreRigidBut, BuildsType, BuildsTypes}
 use Rattle.hol_infer.proofs.Extending.{builds_type_rigid, builds_types_more, builds_type_app}
 
@@ -31,13 +31,13 @@ rigid_slot g h names base slot ty a b w e n rigid none fresh =
     (builds_type_rigid g h names base slot a w (r none.not_among) none (subst (λ (c : List ℕ). IsFresh g h slot (Rigid c)) n fresh))
 
 pub app_slot : (g g1 h : Graph) (names : List (List ℕ)) (base slot : ℕ) (ty : TypeTree) (c b : List ℕ) (cell : Cell) (parts : List ℕ) (args items : List TypeTree) (i : ℕ) →
-    ((types : ℕ → TypeTree) (t : TypeTree) → CellHolds types t cell ↔ (t ≡ TyApp b (type_list (map types parts)))) → IsNewCell (slots g1) cell →
+    ((types : ℕ → TypeTree) (t : TypeTree) → CellHolds types t cell ↔ (t ≡ TyApp b (type_list (map types parts)))) → IsNewCell (slots g1) cell → IsExpandedCell cell →
     TyApp c (type_list args) ≡ ty → b ≡ c → items ≡ args → length items ≤ i → BuildsTypes g g1 names base parts (take i items) → IsFresh g1 h slot cell → BuildsType g h names base slot ty
-app_slot g g1 h names base slot ty c b cell parts args items i is new e n p len b' fresh =
+app_slot g g1 h names base slot ty c b cell parts args items i is new plain e n p len b' fresh =
     let all : BuildsTypes g g1 names base parts args = subst (λ (ts : List TypeTree). BuildsTypes g g1 names base parts ts) (take_all i items len ∙ p) b' in
     subst (λ (t : TypeTree). BuildsType g h names base slot t) e
     (subst (λ (d : List ℕ). BuildsType g h names base slot (TyApp d (type_list args))) n
-    (builds_type_app g g1 h names base slot b cell parts args is new all fresh))
+    (builds_type_app g g1 h names base slot b cell parts args is new plain all fresh))
 
 -- an argument has fewer nodes than the whole
 item_size : (items : List TypeTree) (i : ℕ) (d : TypeTree) → i < length items → type_size (get_or items i d) ≤ types_size (type_list items)

@@ -5,7 +5,7 @@ use Rattle.hol_types.specs.Tree.{TypeTree}
 use Rattle.hol_infer.specs.Typing.{IsOpen}
 use Rattle.hol_infer.specs.Shape.{ShapeTree, ShapeList, Hole, Fixed, Built, no_shapes, more_shapes, shape_list, fill}
 use Rattle.hol_infer.specs.declared.cell.Cell.{Cell}
-use Rattle.hol_infer.specs.declared.cell.Cell.TheVariants.{Unknown, Link, Rigid, App}
+use Rattle.hol_infer.specs.declared.cell.Cell.TheVariants.{Unknown, Link, Rigid, App, Generic}
 use Rattle.hol_infer.specs.Graph.{cell_at, Respects}
 
 abbrev pub found_at : List (Option ShapeTree) → ℕ → Option ShapeTree
@@ -25,6 +25,7 @@ BuiltFrom found i s Unknown = s ≡ Hole i
 BuiltFrom found i s (Link j) = found_at found j ≡ Some s
 BuiltFrom found i s (Rigid a) = s ≡ Fixed a
 BuiltFrom found i s (App c parts) = (shapes : List ShapeTree) × ArePartsFound found parts.items shapes × (s ≡ Built c (shape_list shapes))
+BuiltFrom found i s (Generic ty) = ⊥
 
 -- a part of the cell has no shape yet
 abbrev pub IsBlocked : List (Option ShapeTree) → Cell → Type 0
@@ -32,6 +33,7 @@ IsBlocked found Unknown = ⊥
 IsBlocked found (Link j) = found_at found j ≡ None
 IsBlocked found (Rigid a) = ⊥
 IsBlocked found (App c parts) = IsPartMissing found parts.items
+IsBlocked found (Generic ty) = Unit {0}
 
 -- the type variables of annotations in the shape are no open ones
 abbrev mutual

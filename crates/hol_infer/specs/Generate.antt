@@ -1,5 +1,5 @@
 -- What the equations of a term say of its typings. Only private contracts and proofs cite this.
-use Rattle.std.specs.Prelude.{◌≡◌, ℕ, ◌+◌, ◌<◌, ◌≤◌, ◌↔◌, List, [], ◌∷◌, length, map, Option, Some, None, cond, bytes_eq, false}
+use Rattle.std.specs.Prelude.{◌≡◌, ℕ, ◌+◌, ◌<◌, ◌≤◌, ◌↔◌, List, [], ◌∷◌, ◌++◌, length, map, Option, Some, None, cond, bytes_eq, false}
 use Rattle.std.specs.List.{All}
 use Rattle.hol_types.specs.Tree.{TypeTree, TypeList, TyVar, TyApp, no_types, more_types}
 use Rattle.hol_types.specs.Fun.{fun_type}
@@ -11,9 +11,9 @@ use Rattle.hol_infer.specs.Typing.{IsOpen, IsTyping, IsGenericInstance, Meets}
 use Rattle.hol_infer.specs.SlotTree.{SlotTree, typed, AreSlotsIn}
 use Rattle.hol_infer.specs.Scoped.{IsScoped, IsSlotScoped}
 use Rattle.hol_infer.specs.declared.cell.Cell.{Cell}
-use Rattle.hol_infer.specs.declared.cell.Cell.TheVariants.{Unknown, Link, Rigid, App}
+use Rattle.hol_infer.specs.declared.cell.Cell.TheVariants.{Unknown, Link, Rigid, App, Generic}
 use Rattle.hol_infer.specs.declared.generate.Graph.{Graph}
-use Rattle.hol_infer.specs.Graph.{IsSolution, CellHolds, IsGraph, AreIn}
+use Rattle.hol_infer.specs.Graph.{IsSolution, CellHolds, IsGraph, AreIn, IsExpandedCell}
 
 -- the slot of a free name
 abbrev pub slot_of : List (List ℕ × ℕ) → List ℕ → Option ℕ
@@ -44,11 +44,21 @@ IsNewCell n Unknown = Unit {0}
 IsNewCell n (Link j) = j < n
 IsNewCell n (Rigid a) = IsOpen a → ⊥
 IsNewCell n (App c parts) = All (λ p. p < n) parts.items
+IsNewCell n (Generic ty) = Unit {0}
+
+-- h has the slots of g, slots more that have no generic types, and the equations of g
+pub record Grows (g h : Graph) : Type 0 where
+  pub extra : List Cell
+  pub cells_are : h.cells.items ≡ g.cells.items ++ extra
+  pub expanded : All IsExpandedCell extra
+  pub pending_are : h.pending.items ≡ g.pending.items
 
 -- h is g with one slot more
 pub record IsFresh (g h : Graph) (slot : ℕ) (cell : Cell) : Type 0 where
   pub slot_is : slot ≡ slots g
   pub slots_are : slots h ≡ slots g + 1
+  pub cells_are : h.cells.items ≡ g.cells.items ++ cell ∷ []
+  pub pending_are : h.pending.items ≡ g.pending.items
   pub names_are : h.names.items ≡ g.names.items
   pub well_formed : IsWellFormed h
   pub solves : (type_of : List ℕ → TypeTree) (types : ℕ → TypeTree) → Solves h type_of types ↔ (Solves g type_of types × CellHolds types (types slot) cell)
@@ -77,6 +87,7 @@ pub record AddsUnknown (g h : Graph) (n : ℕ) : Type 0 where
   pub well_formed : IsWellFormed h
   pub slots_are : slots h ≡ slots g + n
   pub names_are : h.names.items ≡ g.names.items
+  pub grows : Grows g h
   pub solves : (type_of : List ℕ → TypeTree) (types : ℕ → TypeTree) → Solves h type_of types ↔ Solves g type_of types
 
 -- the types from slot `base` on stand for the names
@@ -108,6 +119,8 @@ pub record BuildsType (g h : Graph) (names : List (List ℕ)) (base slot : ℕ) 
   pub well_formed : IsWellFormed h
   pub more : slots g ≤ slots h
   pub slot_in : slot < slots h
+  pub grows : Grows g h
+  pub names_are : h.names.items ≡ g.names.items
   pub sound : (type_of : List ℕ → TypeTree) (types : ℕ → TypeTree) → Solves h type_of types → Solves g type_of types × (types slot ≡ type_subst (pairs_from types base names) ty)
   pub complete : (type_of : List ℕ → TypeTree) (types : ℕ → TypeTree) → Solves g type_of types → (types' : ℕ → TypeTree) × Agree (slots g) types types' × Solves h type_of types'
 
@@ -116,6 +129,8 @@ pub record BuildsTypes (g h : Graph) (names : List (List ℕ)) (base : ℕ) (par
   pub well_formed : IsWellFormed h
   pub more : slots g ≤ slots h
   pub parts_in : All (λ p. p < slots h) parts
+  pub grows : Grows g h
+  pub names_are : h.names.items ≡ g.names.items
   pub sound : (type_of : List ℕ → TypeTree) (types : ℕ → TypeTree) → Solves h type_of types → Solves g type_of types × (map types parts ≡ map (type_subst (pairs_from types base names)) tys)
   pub complete : (type_of : List ℕ → TypeTree) (types : ℕ → TypeTree) → Solves g type_of types → (types' : ℕ → TypeTree) × Agree (slots g) types types' × Solves h type_of types'
 

@@ -3,9 +3,11 @@ use Rattle.std.specs.Prelude.{◌≡◌, ℕ, ◌+◌, ◌<◌, ◌↔◌, List,
 use Rattle.std.specs.List.{All, sum_by}
 use Rattle.hol_types.specs.Tree.{TypeTree, TyVar, TyApp, type_list}
 use Rattle.hol_infer.specs.declared.cell.Cell.{Cell}
-use Rattle.hol_infer.specs.declared.cell.Cell.TheVariants.{Unknown, Link, Rigid, App}
+use Rattle.hol_infer.specs.declared.cell.Cell.TheVariants.{Unknown, Link, Rigid, App, Generic}
 use Rattle.hol_infer.specs.declared.cell.Equation.{Equation}
-use Rattle.hol_infer.specs.Typing.{IsOpen}
+use Rattle.hol_infer.specs.declared.graph.Side.{Side}
+use Rattle.hol_infer.specs.declared.graph.Side.TheVariants.{Low, High}
+use Rattle.hol_infer.specs.Typing.{IsOpen, IsGenericInstance}
 
 -- the slot of type t meets its cell
 abbrev pub CellHolds : (ℕ → TypeTree) → TypeTree → Cell → Type 0
@@ -13,6 +15,7 @@ CellHolds types t Unknown = Unit {0}
 CellHolds types t (Link j) = t ≡ types j
 CellHolds types t (Rigid a) = t ≡ TyVar a
 CellHolds types t (App c parts) = t ≡ TyApp c (type_list (map types parts.items))
+CellHolds types t (Generic ty) = IsGenericInstance ty t
 
 -- the cell of a slot; none beyond the graph
 abbrev pub cell_at : List Cell → ℕ → Cell
@@ -44,6 +47,7 @@ IsCellIn n i Unknown = Unit {0}
 IsCellIn n i (Link j) = j < i
 IsCellIn n i (Rigid a) = IsOpen a → ⊥
 IsCellIn n i (App c parts) = All (λ p. p < n) parts.items
+IsCellIn n i (Generic ty) = Unit {0}
 
 pub record IsGraph (cells : List Cell) : Type 0 where
   pub cell_in : (i : ℕ) → IsCellIn (length cells) i (cell_at cells i)
@@ -61,6 +65,7 @@ IsRootCell Unknown = Unit {0}
 IsRootCell (Link j) = ⊥
 IsRootCell (Rigid a) = Unit {0}
 IsRootCell (App c parts) = Unit {0}
+IsRootCell (Generic ty) = Unit {0}
 
 -- a slot of which something is known
 abbrev pub IsKnownCell : Cell → Type 0
@@ -68,6 +73,7 @@ IsKnownCell Unknown = ⊥
 IsKnownCell (Link j) = ⊥
 IsKnownCell (Rigid a) = Unit {0}
 IsKnownCell (App c parts) = Unit {0}
+IsKnownCell (Generic ty) = Unit {0}
 
 -- what is left to do: each merge of two roots lowers it
 abbrev pub cell_weight : Cell → ℕ
@@ -75,6 +81,7 @@ cell_weight Unknown = 1
 cell_weight (Link j) = 0
 cell_weight (Rigid a) = 1
 cell_weight (App c parts) = 1 + length parts.items
+cell_weight (Generic ty) = 1
 
 abbrev pub work_left : List Cell → List Equation → ℕ
 work_left cells pending = sum_by cell_weight cells + length pending
@@ -95,3 +102,56 @@ abbrev pub part_equations : List ℕ → List ℕ → List Equation
 part_equations [] rights = []
 part_equations (l ∷ lefts) [] = []
 part_equations (l ∷ lefts) (r ∷ rights) = record { left = l; right = r } ∷ part_equations lefts rights
+
+-- ---- generic types whose parts have no slots yet
+
+abbrev pub IsGenericCell : Cell → Type 0
+IsGenericCell Unknown = ⊥
+IsGenericCell (Link j) = ⊥
+IsGenericCell (Rigid a) = ⊥
+IsGenericCell (App c parts) = ⊥
+IsGenericCell (Generic ty) = Unit {0}
+
+-- and no such cell
+abbrev pub IsExpandedCell : Cell → Type 0
+IsExpandedCell Unknown = Unit {0}
+IsExpandedCell (Link j) = Unit {0}
+IsExpandedCell (Rigid a) = Unit {0}
+IsExpandedCell (App c parts) = Unit {0}
+IsExpandedCell (Generic ty) = ⊥
+
+abbrev pub generic_weight : Cell → ℕ
+generic_weight Unknown = 0
+generic_weight (Link j) = 0
+generic_weight (Rigid a) = 0
+generic_weight (App c parts) = 0
+generic_weight (Generic ty) = 1
+
+-- how many there are
+abbrev pub generics : List Cell → ℕ
+generics cells = sum_by generic_weight cells
+
+-- a generic type's slot may be one with a slot of this cell
+abbrev pub MeetsGeneric : TypeTree → Cell → Type 0
+MeetsGeneric ty Unknown = Unit {0}
+MeetsGeneric ty (Link j) = Unit {0}
+MeetsGeneric ty (Rigid a) = ⊥
+MeetsGeneric ty (App c parts) = ⊥
+MeetsGeneric ty (Generic other) = ty ≡ other
+
+-- The cells of two slots may be joined: a generic type is met by the same one, or by nothing known.
+abbrev pub AreJoinable : Cell → Cell → Type 0
+AreJoinable Unknown high = Unit {0}
+AreJoinable (Link j) high = Unit {0}
+AreJoinable (Rigid a) high = IsExpandedCell high
+AreJoinable (App c parts) high = IsExpandedCell high
+AreJoinable (Generic ty) high = MeetsGeneric ty high
+
+-- which of two slots must get slots for the parts of its generic type
+abbrev pub IsGenericSide : Side → Cell → Cell → Type 0
+IsGenericSide Low low high = IsGenericCell low
+IsGenericSide High low high = IsGenericCell high
+
+-- the slot's cell is a generic type
+abbrev pub IsGenericAt : List Cell → ℕ → Type 0
+IsGenericAt cells slot = (slot < length cells) × IsGenericCell (cell_at cells slot)

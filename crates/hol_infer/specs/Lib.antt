@@ -12,6 +12,7 @@ pub mod SlotTree
 pub mod RawView
 pub mod Scoped
 pub mod Generate
+pub mod Expanding
 pub mod Solved
 pub mod Resolving
 pub mod NamesView

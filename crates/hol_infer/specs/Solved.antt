@@ -1,5 +1,5 @@
 -- What the solutions of a graph say of the typings of a term. Only private contracts and proofs cite this.
-use Rattle.std.specs.Prelude.{◌≡◌, ℕ, ◌+◌, ◌<◌, List, [], ◌∷◌, ◌++◌, length, Option, Some, None, slice_get}
+use Rattle.std.specs.Prelude.{◌≡◌, ℕ, ◌+◌, ◌<◌, ◌≤◌, List, [], ◌∷◌, ◌++◌, length, Option, Some, None, slice_get}
 use Rattle.hol_types.specs.Tree.{TypeTree}
 use Rattle.hol_terms.specs.Nameless.{Nameless, nameless_type}
 use Rattle.hol_infer.specs.Raw.{RawTree}
@@ -7,11 +7,8 @@ use Rattle.hol_infer.specs.Typing.{IsTypingOf}
 use Rattle.hol_infer.specs.Shape.{ShapeTree, shape_size, shape_holes}
 use Rattle.hol_infer.specs.SlotTree.{SlotTree, SlotBound, SlotConstant, SlotFree, SlotApply, SlotAbstraction, typed, AreSlotsIn}
 use Rattle.hol_infer.specs.Scoped.{IsScoped, IsSlotScoped}
-use Rattle.hol_infer.specs.declared.cell.Cell.{Cell}
-use Rattle.hol_infer.specs.declared.cell.Equation.{Equation}
 use Rattle.hol_infer.specs.declared.generate.Graph.{Graph}
-use Rattle.hol_infer.specs.Graph.{IsSolution}
-use Rattle.hol_infer.specs.Generate.{Solves, slots, IsWellFormed}
+use Rattle.hol_infer.specs.Generate.{Solves, slots, IsWellFormed, Agree}
 use Rattle.hol_infer.specs.Found.{shape_at, types_at, HasRigidNames, AreHolesBelow}
 
 -- the solutions of the graph are the typings of the term
@@ -22,12 +19,13 @@ pub record IsGraphOf (raw : RawTree) (g : Graph) (term : SlotTree) : Type 0 wher
   pub sound : (type_of : List ℕ → TypeTree) (types : ℕ → TypeTree) → Solves g type_of types → IsTypingOf raw (typed types term)
   pub complete : (p : Nameless) → IsTypingOf raw p → (type_of : List ℕ → TypeTree) × (types : ℕ → TypeTree) × Solves g type_of types × (p ≡ typed types term)
 
--- the solutions of the graph and the equations are the instances of the shapes
-pub record IsSolvedBy (cells : List Cell) (pending : List Equation) (shapes : List ShapeTree) : Type 0 where
-  pub respects : (at : ℕ → TypeTree) → IsSolution cells pending (types_at shapes at)
-  pub instances : (types : ℕ → TypeTree) → IsSolution cells pending types → (i : ℕ) → types i ≡ types_at shapes types i
+-- the solutions of the graph are the instances of the shapes, of which there may be more than it has slots
+pub record IsSolvedBy (g : Graph) (shapes : List ShapeTree) : Type 0 where
+  pub more : slots g ≤ length shapes
+  pub solves : (at : ℕ → TypeTree) → (type_of : List ℕ → TypeTree) × Solves g type_of (types_at shapes at)
+  pub instances : (type_of : List ℕ → TypeTree) (types : ℕ → TypeTree) → Solves g type_of types →
+      (types' : ℕ → TypeTree) × Agree (slots g) types types' × ((i : ℕ) → types' i ≡ types_at shapes types' i)
   pub rigid : (i : ℕ) → HasRigidNames (shape_at shapes i)
-  pub len : length shapes ≡ length cells
   pub below : (i : ℕ) → i < length shapes → AreHolesBelow (length shapes) (shape_at shapes i)
 
 -- the typings of the term are the instances of the shapes

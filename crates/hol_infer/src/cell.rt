@@ -1,5 +1,5 @@
 //! What is known of slots, and equations between them.
-use hol_types::Name;
+use hol_types::{Name, Ty};
 
 /// What is known of the type of a slot.
 #[derive(Drop)]
@@ -12,6 +12,8 @@ pub enum Cell {
     Rigid(Name),
     /// It is this constructor, applied to the types of these slots.
     App(Name, Vec<usize>),
+    /// It is an instance of this generic type. Its parts get slots where it must be one with what is known otherwise.
+    Generic(Ty),
 }
 
 /// Two slots that must have one type.

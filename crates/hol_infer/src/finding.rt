@@ -2,7 +2,7 @@
 ghost use Rattle.std.specs.Prelude.{◌≡◌, ℕ, ◌+◌, ◌<◌, ◌≤◌, length, IfOk, IfErr, OnOk, MatchOption, None};
 ghost use Rattle.std.specs.List.{All};
 ghost use Rattle.hol_types.specs.Tree.{TypeTree};
-ghost use Rattle.hol_infer.specs.Graph.{Respects, IsGraph, IsCellIn};
+ghost use Rattle.hol_infer.specs.Graph.{Respects, IsGraph, IsCellIn, cell_at, IsExpandedCell};
 ghost use Rattle.hol_infer.specs.Found.{found_at, ArePartsFound, IsPartMissing, BuiltFrom, IsBlocked, IsBuilt, IsStuck, missing, StepGives, SweepGives, AreGeneral};
 
 use crate::cell::Cell;
@@ -52,6 +52,7 @@ fn shape_of_cell(
             Some(shapes) => Ok(Some(Shape::app(alloc, name, shapes)?)),
             None => Ok(None),
         },
+        Cell::Generic(_) => Ok(None),
     }
 }
 
@@ -139,6 +140,7 @@ fn all_found(alloc: Global, cells: &[Cell], found: &[Option<Shape>]) -> Result<V
     requires len { length found.now ≡ length cells.now }
     requires built { IsBuilt cells.now found.now }
     requires stuck { IsStuck cells.now found.now }
+    requires expanded { (i : ℕ) → IsExpandedCell (cell_at cells.now i) }
     ensures general { IfOk result (λ v. AreGeneral cells.now v.items) }
     ensures untypable { IfErr result (λ e. e ≡ Fault.Untypable → (types : ℕ → TypeTree) → Respects cells.now types → ⊥) }
 {
@@ -170,6 +172,7 @@ fn none_found(alloc: Global, count: usize) -> Result<Vec<Option<Shape>>, AllocEr
 /// all that can be found, and one sweep sees that nothing is left.
 pub fn shapes_of(alloc: Global, cells: &[Cell]) -> Result<Vec<Shape>, Fault>
     requires graph { IsGraph cells.now }
+    requires expanded { (i : ℕ) → IsExpandedCell (cell_at cells.now i) }
     ensures general { IfOk result (λ v. AreGeneral cells.now v.items) }
     ensures untypable { IfErr result (λ e. e ≡ Fault.Untypable → (types : ℕ → TypeTree) → Respects cells.now types → ⊥) }
 {

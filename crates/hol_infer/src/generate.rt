@@ -71,8 +71,9 @@ impl Graph {
         Ok(())
     }
 
-    // Some slots more, of which nothing is known.
-    fn unknowns(&mut self, count: usize) -> Result<usize, AllocError>
+    /// Some slots more, of which nothing is known.
+    #[tactic(auto, using(crate::proofs::Slots::unknown_none))]
+    pub(crate) fn unknowns(&mut self, count: usize) -> Result<usize, AllocError>
         requires { IsWellFormed self.old }
         ensures base { IfOk result (λ base. base ≡ slots self.old) }
         ensures adds { OnOk result (AddsUnknown self.old self.new count) }
@@ -85,6 +86,7 @@ impl Graph {
     }
 
     // The slot of a type variable, for which that at its place from `base` on stands where it is one of the names.
+    #[tactic(auto, using(crate::proofs::Extending::builds_type_place))]
     fn type_variable_slot(
         &mut self,
         names: &[Name],
@@ -102,8 +104,9 @@ impl Graph {
         }
     }
 
-    // A slot for a type, in which the slots from `base` on stand for the names.
-    fn type_slot(
+    /// A slot for a type, in which the slots from `base` on stand for the names.
+    #[tactic(auto, using(crate::proofs::Extending::builds_types_none))]
+    pub(crate) fn type_slot(
         &mut self,
         alloc: Global,
         names: &[Name],
@@ -128,20 +131,13 @@ impl Graph {
         }
     }
 
-    // Gives the slot an instance of the generic type.
-    fn instantiate(
-        &mut self,
-        alloc: Global,
-        generic: &Ty,
-        expected: usize,
-    ) -> Result<(), AllocError>
+    // Gives the slot an instance of the generic type, whose parts have no slots yet.
+    fn instantiate(&mut self, generic: &Ty, expected: usize) -> Result<(), AllocError>
         requires well_formed { IsWellFormed self.old }
         requires expected_in { expected < slots self.old }
         ensures { OnOk result (Instantiates self.old self.new generic.now expected) }
     {
-        let names = generic.tyvars(alloc)?;
-        let base = self.unknowns(names.len())?;
-        let slot = self.type_slot(alloc, &names, base, generic)?;
+        let slot = self.fresh(Cell::Generic(generic.copy()?))?;
         self.equate(slot, expected)?;
         Ok(())
     }
@@ -204,7 +200,6 @@ impl Graph {
     // A constant, whose type is that of the slot `expected`.
     fn constant(
         &mut self,
-        alloc: Global,
         name: &Name,
         generic: &Ty,
         expected: usize,
@@ -213,7 +208,7 @@ impl Graph {
         requires expected_in { expected < slots self.old }
         ensures { IfOk result (λ skeleton. (env : List ℕ) → Generates self.old self.new env (RawConstant name.now generic.now) expected (slot_tree skeleton)) }
     {
-        self.instantiate(alloc, generic, expected)?;
+        self.instantiate(generic, expected)?;
         Ok(Skeleton::Constant(name.copy()?, expected))
     }
 
@@ -297,7 +292,7 @@ impl Graph {
     {
         match term {
             RawTerm::Bound(index) => self.bound(&*scope, *index, expected),
-            RawTerm::Constant(name, generic) => self.constant(alloc, name, generic, expected),
+            RawTerm::Constant(name, generic) => self.constant(name, generic, expected),
             RawTerm::Free(name) => self.free(name, expected),
             RawTerm::Apply(function, argument) => {
                 let (function_slot, domain) = self.open_application(alloc, expected)?;

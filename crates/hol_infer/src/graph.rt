@@ -1,8 +1,8 @@
 //! Unification over a graph of slots.
-ghost use Rattle.std.specs.Prelude.{◌≡◌, ℕ, ◌+◌, ◌<◌, ◌≤◌, ◌++◌, ◌∷◌, [], length, set, OnOk, IfErr};
+ghost use Rattle.std.specs.Prelude.{◌≡◌, ℕ, ◌+◌, ◌<◌, ◌≤◌, ◌++◌, ◌∷◌, [], length, set, OnOk, IfOk, IfErr, IfSome, MatchOption, None};
 ghost use Rattle.hol_infer.specs.declared.cell.Cell.TheVariants.{Link};
 ghost use Rattle.hol_types.specs.Tree.{TypeTree};
-ghost use Rattle.hol_infer.specs.Graph.{cell_at, Respects, SameSolutions, HasNoSolution, IsGraph, AreIn, IsRootCell, IsKnownCell, IsJoined, HaveNoType, part_equations, work_left};
+ghost use Rattle.hol_infer.specs.Graph.{cell_at, Respects, SameSolutions, HasNoSolution, IsGraph, AreIn, IsRootCell, IsKnownCell, IsJoined, HaveNoType, part_equations, work_left, generics, AreJoinable, IsGenericSide, IsGenericAt};
 
 use crate::cell::{Cell, Equation};
 use crate::fault::Fault;
@@ -45,12 +45,15 @@ fn push_parts(
 fn join(low: &Cell, high: &Cell, pending: &mut Vec<Equation>) -> Result<(), Fault>
     requires low_known { IsKnownCell low.now }
     requires high_root { IsRootCell high.now }
+    requires joinable { AreJoinable low.now high.now }
     ensures joined { OnOk result (IsJoined low.now high.now pending.old.items pending.new.items) }
     ensures untypable { IfErr result (λ e. e ≡ Fault.Untypable → HaveNoType low.now high.now) }
 {
     match (low, high) {
         (Cell::Rigid(_), Cell::Unknown) => Ok(()),
         (Cell::App(_, _), Cell::Unknown) => Ok(()),
+        (Cell::Generic(_), Cell::Unknown) => Ok(()),
+        (Cell::Generic(_), Cell::Generic(_)) => Ok(()),
         (Cell::Rigid(a), Cell::Rigid(b)) => {
             if !a.same(b) {
                 return Err(Fault::Untypable);
@@ -69,6 +72,10 @@ fn join(low: &Cell, high: &Cell, pending: &mut Vec<Equation>) -> Result<(), Faul
         }
         (Cell::Rigid(_), Cell::App(_, _)) => Err(Fault::Untypable),
         (Cell::App(_, _), Cell::Rigid(_)) => Err(Fault::Untypable),
+        (Cell::Generic(_), Cell::Rigid(_)) => Err(Fault::Untypable),
+        (Cell::Generic(_), Cell::App(_, _)) => Err(Fault::Untypable),
+        (Cell::Rigid(_), Cell::Generic(_)) => Err(Fault::Untypable),
+        (Cell::App(_, _), Cell::Generic(_)) => Err(Fault::Untypable),
         (Cell::Unknown, _) => Err(Fault::Untypable),
         (Cell::Link(_), _) => Err(Fault::Untypable),
         (_, Cell::Link(_)) => Err(Fault::Untypable),
@@ -88,12 +95,14 @@ fn merge(
     requires pending_in { AreIn cells.old pending.old.items }
     requires low_root { IsRootCell (cell_at cells.old low) }
     requires high_root { IsRootCell (cell_at cells.old high) }
+    requires joinable { AreJoinable (cell_at cells.old low) (cell_at cells.old high) }
     ensures graph { IsGraph cells.new }
     ensures len { length cells.new ≡ length cells.old }
     ensures pending_in { OnOk result (AreIn cells.new pending.new.items) }
     ensures solutions { OnOk result (SameSolutions cells.new pending.new.items cells.old (record { left = low; right = high } ∷ pending.old.items)) }
     ensures untypable { IfErr result (λ e. e ≡ Fault.Untypable → HasNoSolution cells.old (record { left = low; right = high } ∷ pending.old.items)) }
     ensures less { OnOk result (work_left cells.new pending.new.items < work_left cells.old pending.old.items) }
+    ensures generics { generics cells.new ≤ generics cells.old }
 {
     if let Cell::Unknown = &cells[low] {
         take_cell(cells, low, high);
@@ -114,8 +123,89 @@ fn take_cell(cells: &mut [Cell], low: usize, high: usize)
     cells[low] = cell;
 }
 
-// Makes one slot of the roots of two slots.
-fn equate(cells: &mut [Cell], pending: &mut Vec<Equation>, equation: Equation) -> Result<(), Fault>
+/// One of two slots.
+#[derive(Clone, Copy)]
+pub enum Side {
+    /// That of the lower number.
+    Low,
+    /// That of the higher number.
+    High,
+}
+
+// Which of two slots of these cells must get slots for the parts of its generic type before they can be one.
+fn waiting(low: &Cell, high: &Cell) -> Option<Side>
+    ensures { MatchOption result (AreJoinable low.now high.now) (λ side. IsGenericSide side low.now high.now) }
+{
+    match (low, high) {
+        (Cell::Generic(a), Cell::Generic(b)) => {
+            if a.same(b) {
+                return None;
+            }
+            Some(Side::Low)
+        }
+        (Cell::Generic(_), Cell::Rigid(_)) => Some(Side::Low),
+        (Cell::Generic(_), Cell::App(_, _)) => Some(Side::Low),
+        (Cell::Generic(_), Cell::Unknown) => None,
+        (Cell::Generic(_), Cell::Link(_)) => None,
+        (Cell::Rigid(_), Cell::Generic(_)) => Some(Side::High),
+        (Cell::App(_, _), Cell::Generic(_)) => Some(Side::High),
+        (Cell::Rigid(_), Cell::Unknown) => None,
+        (Cell::Rigid(_), Cell::Link(_)) => None,
+        (Cell::Rigid(_), Cell::Rigid(_)) => None,
+        (Cell::Rigid(_), Cell::App(_, _)) => None,
+        (Cell::App(_, _), Cell::Unknown) => None,
+        (Cell::App(_, _), Cell::Link(_)) => None,
+        (Cell::App(_, _), Cell::Rigid(_)) => None,
+        (Cell::App(_, _), Cell::App(_, _)) => None,
+        (Cell::Unknown, _) => None,
+        (Cell::Link(_), _) => None,
+    }
+}
+
+// Makes one slot of two roots; or puts the equation back and answers the root that must first get slots for the parts of its generic type.
+fn settle(
+    cells: &mut [Cell],
+    pending: &mut Vec<Equation>,
+    low: usize,
+    high: usize,
+) -> Result<Option<usize>, Fault>
+    requires order { low < high }
+    requires high_in { high < length cells.old }
+    requires graph { IsGraph cells.old }
+    requires pending_in { AreIn cells.old pending.old.items }
+    requires low_root { IsRootCell (cell_at cells.old low) }
+    requires high_root { IsRootCell (cell_at cells.old high) }
+    ensures graph { IsGraph cells.new }
+    ensures len { length cells.new ≡ length cells.old }
+    ensures pending_in { OnOk result (AreIn cells.new pending.new.items) }
+    ensures solutions { OnOk result (SameSolutions cells.new pending.new.items cells.old (record { left = low; right = high } ∷ pending.old.items)) }
+    ensures untypable { IfErr result (λ e. e ≡ Fault.Untypable → HasNoSolution cells.old (record { left = low; right = high } ∷ pending.old.items)) }
+    ensures waits { IfOk result (λ o. IfSome o (λ slot. IsGenericAt cells.new slot)) }
+    ensures less { IfOk result (λ o. o ≡ None → work_left cells.new pending.new.items < work_left cells.old pending.old.items) }
+    ensures generics { generics cells.new ≤ generics cells.old }
+{
+    let slot = match waiting(&cells[low], &cells[high]) {
+        None => {
+            merge(cells, pending, low, high)?;
+            return Ok(None);
+        }
+        Some(Side::Low) => low,
+        Some(Side::High) => high,
+    };
+    pending.push(Equation {
+        left: low,
+        right: high,
+    })?;
+    Ok(Some(slot))
+}
+
+// Makes one slot of the roots of two slots; or puts an equation between the roots back and answers the one that must first get slots
+// for the parts of its generic type.
+fn equate(
+    cells: &mut [Cell],
+    pending: &mut Vec<Equation>,
+    equation: Equation,
+) -> Result<Option<usize>, Fault>
     requires graph { IsGraph cells.old }
     requires pending_in { AreIn cells.old pending.old.items }
     requires left_in { equation.left < length cells.old }
@@ -125,32 +215,40 @@ fn equate(cells: &mut [Cell], pending: &mut Vec<Equation>, equation: Equation) -
     ensures pending_in { OnOk result (AreIn cells.new pending.new.items) }
     ensures solutions { OnOk result (SameSolutions cells.new pending.new.items cells.old (equation ∷ pending.old.items)) }
     ensures untypable { IfErr result (λ e. e ≡ Fault.Untypable → HasNoSolution cells.old (equation ∷ pending.old.items)) }
-    ensures less { OnOk result (work_left cells.new pending.new.items ≤ work_left cells.old pending.old.items) }
+    ensures waits { IfOk result (λ o. IfSome o (λ slot. IsGenericAt cells.new slot)) }
+    ensures less { IfOk result (λ o. o ≡ None → work_left cells.new pending.new.items ≤ work_left cells.old pending.old.items) }
+    ensures generics { generics cells.new ≤ generics cells.old }
 {
     let left = root(cells, equation.left);
     let right = root(cells, equation.right);
     if left < right {
-        return merge(cells, pending, left, right);
+        return settle(cells, pending, left, right);
     }
     if right < left {
-        return merge(cells, pending, right, left);
+        return settle(cells, pending, right, left);
     }
-    Ok(())
+    Ok(None)
 }
 
-/// Solves the equations: the types that meet the graph afterwards are those that met it and the equations before.
+/// Solves equations, until none is left or a slot must get slots for the parts of its generic type, which is then the answer: the types that
+/// meet the graph and the equations afterwards are those that did before.
 ///
 /// Answers `Untypable` only where there were none.
-pub fn unify(cells: &mut [Cell], pending: &mut Vec<Equation>) -> Result<(), Fault>
+pub fn unify(cells: &mut [Cell], pending: &mut Vec<Equation>) -> Result<Option<usize>, Fault>
     requires graph { IsGraph cells.old }
     requires pending_in { AreIn cells.old pending.old.items }
     ensures graph { IsGraph cells.new }
     ensures len { length cells.new ≡ length cells.old }
-    ensures solved { OnOk result (SameSolutions cells.new [] cells.old pending.old.items) }
+    ensures pending_in { OnOk result (AreIn cells.new pending.new.items) }
+    ensures solutions { OnOk result (SameSolutions cells.new pending.new.items cells.old pending.old.items) }
+    ensures stops { IfOk result (λ o. MatchOption o (pending.new.items ≡ []) (λ slot. IsGenericAt cells.new slot)) }
+    ensures generics { generics cells.new ≤ generics cells.old }
     ensures untypable { IfErr result (λ e. e ≡ Fault.Untypable → HasNoSolution cells.old pending.old.items) }
 {
     while let Some(equation) = pending.pop() {
-        equate(cells, pending, equation)?;
+        if let Some(slot) = equate(cells, pending, equation)? {
+            return Ok(Some(slot));
+        }
     }
-    Ok(())
+    Ok(None)
 }

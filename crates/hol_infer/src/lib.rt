@@ -7,6 +7,7 @@ mod building;
 mod cell;
 mod definition;
 mod elaboration;
+mod expanding;
 mod fault;
 mod finding;
 mod generate;

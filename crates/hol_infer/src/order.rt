@@ -34,6 +34,7 @@ fn visits_count(cells: &[Cell]) -> usize {
             Cell::Rigid(_) => 2,
             Cell::Link(_) => 3,
             Cell::App(_, parts) => parts.len().saturating_add(2),
+            Cell::Generic(_) => 2,
         };
         count = count.saturating_add(visits);
     }
@@ -66,6 +67,7 @@ fn enter(
         }
         Some(Cell::Unknown) => {}
         Some(Cell::Rigid(_)) => {}
+        Some(Cell::Generic(_)) => {}
         None => {}
     }
     Ok(())

@@ -2,18 +2,17 @@
 ghost use Rattle.std.specs.Prelude.{◌≡◌, ℕ, ◌+◌, IfOk, IfErr, min, slice_get};
 ghost use Rattle.hol_types.specs.Tree.{TypeTree};
 ghost use Rattle.hol_infer.specs.RawView.{raw_tree, slot_tree, scope_slots};
-ghost use Rattle.hol_infer.specs.Graph.{IsSolution, IsGraph, AreIn};
+ghost use Rattle.hol_infer.specs.Graph.{IsSolution};
 ghost use Rattle.hol_infer.specs.Generate.{IsWellFormed, IsClosedAt};
 ghost use Rattle.hol_infer.specs.Typing.{HasNoTyping};
 ghost use Rattle.hol_infer.specs.Solved.{IsGraphOf, IsSolvedBy, IsGeneralTyping, slot_term_size, slot_size_of};
 ghost use Rattle.hol_infer.specs.Shape.{shape_size};
 ghost use Rattle.hol_infer.specs.Found.{shape_at};
 
-use crate::cell::{Cell, Equation};
+use crate::cell::Cell;
 use crate::fault::Fault;
 use crate::finding::shapes_of;
 use crate::generate::Graph;
-use crate::graph::unify;
 use crate::raw::RawTerm;
 use crate::shape::{Shape, TOO_LARGE};
 use crate::skeleton::{Scope, Skeleton};
@@ -38,33 +37,15 @@ fn equations(alloc: Global, term: &RawTerm) -> Result<(Graph, Skeleton), AllocEr
     Ok((graph, skeleton))
 }
 
-// The shapes of the slots, once the equations are solved.
-fn solve_cells(
-    alloc: Global,
-    cells: &mut [Cell],
-    pending: &mut Vec<Equation>,
-) -> Result<Vec<Shape>, Fault>
-    requires graph { IsGraph cells.old }
-    requires pending_in { AreIn cells.old pending.old.items }
-    ensures solved { IfOk result (λ v. IsSolvedBy cells.old pending.old.items v.items) }
-    ensures untypable { IfErr result (λ e. e ≡ Fault.Untypable → (types : ℕ → TypeTree) → IsSolution cells.old pending.old.items types → ⊥) }
-{
-    unify(cells, pending)?;
-    shapes_of(alloc, cells)
-}
-
-// The shapes of the slots of a graph.
+// The shapes of the slots of a graph, once its equations are solved.
 fn solve(alloc: Global, graph: Graph) -> Result<Vec<Shape>, Fault>
     requires { IsWellFormed graph }
-    ensures solved { IfOk result (λ v. IsSolvedBy graph.cells.items graph.pending.items v.items) }
+    ensures solved { IfOk result (λ v. IsSolvedBy graph v.items) }
     ensures untypable { IfErr result (λ e. e ≡ Fault.Untypable → (types : ℕ → TypeTree) → IsSolution graph.cells.items graph.pending.items types → ⊥) }
 {
-    let Graph {
-        mut cells,
-        mut pending,
-        ..
-    } = graph;
-    solve_cells(alloc, &mut cells, &mut pending)
+    let mut settled = graph;
+    settled.settle(alloc)?;
+    shapes_of(alloc, &settled.cells)
 }
 
 /// The most general typing of a term.

@@ -4,19 +4,19 @@ use Rattle.hol_infer.proofs.Solving.{same_solutions_trans, has_no_solution_same,
 use Rattle.hol_infer.proofs.graph.equate.Goals as goal
 
 pub returns-then-left-right-clause-untypable : goal.returns-then-left-right-clause-untypable
-returns-then-left-right-clause-untypable c = IfErr-weaker c.merge.result _ _
+returns-then-left-right-clause-untypable c = IfErr-weaker c.settle.result _ _
     (λ e h u. has_no_solution_same _ _ _ _ (roots_edge c.args.cells.now c.args.pending.now.items c.args.equation c.root-left.result c.root-right.result c.root-left.ensures.same c.root-right.ensures.same) (h u))
-    c.merge.ensures.untypable
+    c.settle.ensures.untypable
 
 pub returns-then-right-left-clause-untypable : goal.returns-then-right-left-clause-untypable
-returns-then-right-left-clause-untypable c = IfErr-weaker c.merge-then-right-left.result _ _
+returns-then-right-left-clause-untypable c = IfErr-weaker c.settle-then-right-left.result _ _
     (λ e h u. has_no_solution_same _ _ _ _ (turned_edge c.args.cells.now c.args.pending.now.items c.args.equation c.root-left.result c.root-right.result c.root-left.ensures.same c.root-right.ensures.same) (h u))
-    c.merge-then-right-left.ensures.untypable
+    c.settle-then-right-left.ensures.untypable
 
 pub returns-then-right-left-clause-solutions : goal.returns-then-right-left-clause-solutions
-returns-then-right-left-clause-solutions c = on_ok_weaker c.merge-then-right-left.result
+returns-then-right-left-clause-solutions c = on_ok_weaker c.settle-then-right-left.result
     (λ h. same_solutions_trans _ _ _ _ _ _ h (turned_edge c.args.cells.now c.args.pending.now.items c.args.equation c.root-left.result c.root-right.result c.root-left.ensures.same c.root-right.ensures.same))
-    c.merge-then-right-left.ensures.solutions
+    c.settle-then-right-left.ensures.solutions
 
 pub returns-clause-solutions : goal.returns-clause-solutions
 returns-clause-solutions c = drop_edge c.args.cells.now c.args.pending.now.items c.args.equation

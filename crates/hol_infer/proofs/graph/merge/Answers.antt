@@ -2,7 +2,7 @@ use Rattle.std.proofs.Common.{◌≡◌, ◌∷◌, ◌∙◌, arith, rules}
 use Rattle.hol_infer.specs.Graph.{cell_at, HasNoSolution}
 use Rattle.hol_infer.specs.declared.cell.Cell.TheVariants.{Unknown}
 use Rattle.hol_infer.specs.declared.fault.Fault.TheVariants.{Untypable}
-use Rattle.hol_infer.proofs.Merging.{read_cell, taken_solutions, taken_less, joined_at, no_type_at, linked_solutions, linked_graph, linked_less, linked_below, clash}
+use Rattle.hol_infer.proofs.Merging.{read_cell, taken_solutions, taken_less, joined_at, no_type_at, linked_solutions, linked_graph, linked_less, linked_below, clash, joinable_of, taken_generics, linked_generics}
 use Rattle.hol_infer.proofs.graph.merge.Goals as goal
 
 pub returns-in-Unknown-clause-solutions : goal.returns-in-Unknown-clause-solutions
@@ -52,3 +52,17 @@ returns-clause-less c =
     (read_cell c.args.cells.now c.args.low c.index-cells-low-2.result (omega arith) c.index-cells-low-2.is)
     (read_cell c.args.cells.now c.args.high c.index-cells-high.result (omega arith) c.index-cells-high.is)
     c.in_ok-join.ensures.joined)
+
+pub join-requires-clause-joinable : goal.join-requires-clause-joinable
+join-requires-clause-joinable c = joinable_of c.args.cells.now c.args.low c.args.high c.index-cells-low-2.result c.index-cells-high.result
+    (read_cell c.args.cells.now c.args.low c.index-cells-low-2.result (omega arith) c.index-cells-low-2.is)
+    (read_cell c.args.cells.now c.args.high c.index-cells-high.result (omega arith) c.index-cells-high.is)
+    c.requires.joinable
+
+pub returns-in-Unknown-clause-generics : goal.returns-in-Unknown-clause-generics
+returns-in-Unknown-clause-generics c =
+    let e : cell_at c.args.cells.now c.args.low ≡ Unknown = read_cell c.args.cells.now c.args.low c.index-cells-low.result (omega arith) c.index-cells-low.is ∙ c.index-cells-low.is ∙ c.in-Unknown.is in
+    rw c.take_cell.ensures (taken_generics c.args.cells.now c.args.low c.args.high c.requires.order c.requires.high_in e)
+
+pub returns-clause-generics : goal.returns-clause-generics
+returns-clause-generics c = linked_generics c.args.cells.now c.args.low c.args.high c.requires.order c.requires.high_in

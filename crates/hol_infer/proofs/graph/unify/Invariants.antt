@@ -1,5 +1,5 @@
-use Rattle.std.proofs.Common.{◌≡◌, length}
-use Rattle.hol_infer.specs.Graph.{SameSolutions, IsGraph, AreIn, work_left}
+use Rattle.std.proofs.Common.{◌≡◌, ◌≤◌, length}
+use Rattle.hol_infer.specs.Graph.{SameSolutions, IsGraph, AreIn, work_left, generics}
 use Rattle.hol_infer.proofs.graph.unify.Given as goal
 
 abbrev pub invariant-loop-equation : goal.invariant-loop-equation
@@ -8,6 +8,7 @@ invariant-loop-equation l = record {
   len : length l.cells ≡ length l.initial.cells;
   pending_in : AreIn l.cells l.pending.items;
   solutions : SameSolutions l.cells l.pending.items l.initial.cells l.initial.pending.items;
+  generics : generics l.cells ≤ generics l.initial.cells;
 }
 
 abbrev pub decreases-loop-equation : goal.decreases-loop-equation

@@ -27,6 +27,6 @@ returns-in-Var t c = IfOk-weaker c.type_variable_slot.result _ _
 pub returns-in_ok-copy-in-App : goal.returns-in_ok-copy-in-App
 returns-in_ok-copy-in-App t c = IfOk-weaker c.fresh.result _ _
     (λ slot f. app_slot c.args.self.now c.loop-arg.self c.fresh.new.self c.args.names.now c.args.base slot c.args.ty.now c.in-App.name c.in_ok-copy-in-App.field-0 _
-    c.loop-arg.parts.items c.in-App.args.items c.deref-arg-items.result.now c.loop-arg.arg-index (λ types u. (λ e. e, λ e. e)) c.loop-arg.invariant.builds.parts_in
+    c.loop-arg.parts.items c.in-App.args.items c.deref-arg-items.result.now c.loop-arg.arg-index (λ types u. (λ e. e, λ e. e)) c.loop-arg.invariant.builds.parts_in tt
     (rw c.in-App.is at c.node.ensures) c.in_ok-copy-in-App.ensures c.deref-arg-items.ensures.value c.loop-arg-test.false c.loop-arg.invariant.builds f)
     c.fresh.ensures
