@@ -1,0 +1,40 @@
+-- What all turns come to after one.
+use Rattle.std.proofs.Common.{◌≡◌, ℕ, zero, suc, ◌-◌, ◌<◌, ◌≤◌, [], refl, ap, Option, Some, None, true, false, nat_lt, arith}
+use Rattle.hol_terms.specs.Nameless.{Nameless}
+use Rattle.hol_terms.specs.Size.{term_size}
+use Rattle.hol_conv.specs.Beta.{beta_turn}
+use Rattle.hol_conv.specs.Turns.{all_turns, finished, limit, too_large}
+
+turns_end : (turn : Nameless → Option Nameless) (n : ℕ) (t : Nameless) → turn t ≡ None → all_turns turn n t ≡ finished t n
+turns_end turn zero t e = rw e refl
+turns_end turn (suc n) t e = rw e refl
+
+turns_limit : (turn : Nameless → Option Nameless) (n : ℕ) (t u : Nameless) → turn t ≡ Some u → n ≡ 0 → all_turns turn n t ≡ limit
+turns_limit turn zero t u e z = rw e refl
+turns_limit turn (suc n) t u e z = absurd (omega (arith, z))
+
+turns_large : (turn : Nameless → Option Nameless) (n : ℕ) (t u : Nameless) → turn t ≡ Some u → 0 < n → 20000 < term_size [] u → all_turns turn n t ≡ too_large
+turns_large turn zero t u e z h = absurd (omega (arith, z))
+turns_large turn (suc n) t u e z h = let q : nat_lt 20000 (term_size [] u) ≡ true = grind arith in rw e (rw q refl)
+
+turns_more : (turn : Nameless → Option Nameless) (n : ℕ) (t u : Nameless) → turn t ≡ Some u → 0 < n → term_size [] u ≤ 20000 → all_turns turn n t ≡ all_turns turn (n - 1) u
+turns_more turn zero t u e z h = absurd (omega (arith, z))
+turns_more turn (suc n) t u e z h =
+    let q : nat_lt 20000 (term_size [] u) ≡ false = grind arith in
+    let m : n ≡ suc n - 1 = omega arith in
+    rw e (rw q (ap (λ k. all_turns turn k u) m))
+
+-- ---- of beta reduction
+pub beta_end : (n : ℕ) (t : Nameless) → beta_turn t ≡ None → all_turns beta_turn n t ≡ finished t n
+beta_end = turns_end beta_turn
+
+pub beta_limit : (n : ℕ) (t u : Nameless) → beta_turn t ≡ Some u → n ≡ 0 → all_turns beta_turn n t ≡ limit
+beta_limit = turns_limit beta_turn
+
+pub beta_large : (n : ℕ) (t u : Nameless) → beta_turn t ≡ Some u → 0 < n → 20000 < term_size [] u → all_turns beta_turn n t ≡ too_large
+beta_large = turns_large beta_turn
+
+pub beta_more : (n : ℕ) (t u : Nameless) → beta_turn t ≡ Some u → 0 < n → term_size [] u ≤ 20000 → all_turns beta_turn n t ≡ all_turns beta_turn (n - 1) u
+beta_more = turns_more beta_turn
+
+pub ruleset turns = (beta_end, beta_limit, beta_large, beta_more)

@@ -1,0 +1,111 @@
+-- Closing over a variable and beta reduction may change places: a turn under a binder is a turn of the body, whose variable is then bound.
+use Rattle.std.proofs.Common.{◌≡◌, ℕ, ◌+◌, ◌-◌, ◌<◌, ◌≤◌, List, refl, ap, sym, ◌∙◌, Bool, true, false, cond, nat_lt, ◌==◌, Option, Some, None, arith}
+use Rattle.std.proofs.lemmas.Bool.Decides.{nat_tests}
+use Rattle.std.specs.Option.{option_map, option_or}
+use Rattle.hol_types.specs.Tree.{TypeTree}
+use Rattle.hol_types.specs.Equal.{variable_eq}
+use Rattle.hol_terms.specs.Nameless.{Nameless, free, bound, fixed, app, lam}
+use Rattle.hol_subst.specs.Shift.{shift}
+use Rattle.hol_subst.specs.Closing.{close, open_with}
+use Rattle.hol_subst.proofs.Closing.{below, not_below, below_is, not_below_is, unequal_test}
+use Rattle.hol_conv.specs.Beta.{reduct, beta_turn}
+
+abbrev Var : Type 0
+Var = List ℕ × TypeTree
+
+-- ---- shifting
+shift_index : (v : Var) (j m k i : ℕ) → m ≤ k → shift j m (close v k (bound i)) ≡ close v (k + j) (shift j m (bound i))
+shift_index v j m k i h = by (nat_lt i k) refl (nat_lt i m) refl
+  where
+    by : (a : Bool) → nat_lt i k ≡ a → (c : Bool) → nat_lt i m ≡ c → shift j m (bound (cond a i (i + 1))) ≡ close v (k + j) (bound (cond c i (i + j)))
+    by true p true q = let low : i < k = below_is i k p in rw (q, below i (k + j) (omega arith)) refl
+    by true p false q = let low : i < k = below_is i k p in rw (q, below (i + j) (k + j) (omega arith)) refl
+    by false p true q = let high : k ≤ i = not_below_is i k p in let low : i < m = below_is i m q in absurd (omega arith)
+    by false p false q =
+        let high : k ≤ i = not_below_is i k p in
+        rw (not_below (i + 1) m (omega arith), not_below (i + j) (k + j) (omega arith)) (ap bound (omega arith))
+
+shift_close : (v : Var) (j m k : ℕ) (n : Nameless) → m ≤ k → shift j m (close v k n) ≡ close v (k + j) (shift j m n)
+shift_close v j m k (free w) h = by (variable_eq v w)
+  where
+    by : (c : Bool) → shift j m (cond c (bound k) (free w)) ≡ cond c (bound (k + j)) (free w)
+    by true = rw (not_below k m h) refl
+    by false = refl
+shift_close v j m k (bound i) h = shift_index v j m k i h
+shift_close v j m k (fixed c s) h = refl
+shift_close v j m k (app f x) h = λ i. app (shift_close v j m k f h i) (shift_close v j m k x h i)
+shift_close v j m k (lam a s b) h =
+    let more : k + 1 + j ≡ k + j + 1 = omega arith in
+    ap (lam a s) (shift_close v j (m + 1) (k + 1) b (omega arith) ∙ ap (λ z. close v z (shift j (m + 1) b)) more)
+
+-- ---- opening
+open_index : (v : Var) (x : Nameless) (j k i : ℕ) → open_with (close v k x) j (close v (k + j + 1) (bound i)) ≡ close v (k + j) (open_with x j (bound i))
+open_index v x j k i = by (nat_lt i j) refl (i == j) refl
+  where
+    above : j < i → (i == j) ≡ false → nat_lt i j ≡ false → (a : Bool) → nat_lt i (k + j + 1) ≡ a → open_with (close v k x) j (bound (cond a i (i + 1))) ≡ close v (k + j) (bound (i - 1))
+    above h q p true e =
+        let low : i < k + j + 1 = below_is i (k + j + 1) e in
+        rw (p, q, below (i - 1) (k + j) (omega arith)) refl
+    above h q p false e =
+        let high : k + j + 1 ≤ i = not_below_is i (k + j + 1) e in
+        rw (not_below (i + 1) j (omega arith), unequal_test (i + 1) j (omega arith), not_below (i - 1) (k + j) (omega arith)) (ap bound (omega arith))
+
+    by : (a : Bool) → nat_lt i j ≡ a → (c : Bool) → (i == j) ≡ c → open_with (close v k x) j (close v (k + j + 1) (bound i)) ≡ close v (k + j) (cond a (bound i) (cond c (shift j 0 x) (bound (i - 1))))
+    by true p c q = let low : i < j = below_is i j p in rw (below i (k + j + 1) (omega arith), p, below i (k + j) (omega arith)) refl
+    by false p true q =
+        let same : i ≡ j = grind (arith, nat_tests) in
+        rw (below i (k + j + 1) (omega (arith, same)), p, q) (shift_close v j 0 k x (omega arith))
+    by false p false q =
+        let high : j < i = grind (arith, nat_tests) in
+        above high q p (nat_lt i (k + j + 1)) refl
+
+pub open_closing : (v : List ℕ × TypeTree) (x : Nameless) (j k : ℕ) (b : Nameless) → open_with (close v k x) j (close v (k + j + 1) b) ≡ close v (k + j) (open_with x j b)
+open_closing v x j k (free w) = by (variable_eq v w)
+  where
+    by : (c : Bool) → open_with (close v k x) j (cond c (bound (k + j + 1)) (free w)) ≡ cond c (bound (k + j)) (free w)
+    by true = rw (not_below (k + j + 1) j (omega arith), unequal_test (k + j + 1) j (omega arith)) (ap bound (omega arith))
+    by false = refl
+open_closing v x j k (bound i) = open_index v x j k i
+open_closing v x j k (fixed c s) = refl
+open_closing v x j k (app f y) = λ i. app (open_closing v x j k f i) (open_closing v x j k y i)
+open_closing v x j k (lam a s b) =
+    let more : k + j + 1 ≡ k + (j + 1) = omega arith in
+    ap (lam a s) (ap (λ z. open_with (close v k x) (j + 1) (close v (z + 1) b)) more ∙ open_closing v x (j + 1) k b ∙ ap (λ z. close v z (open_with x (j + 1) b)) (sym more))
+
+-- ---- turns
+reduct_close : (v : Var) (k : ℕ) (f x : Nameless) → reduct (close v k f) (close v k x) ≡ option_map (close v k) (reduct f x)
+reduct_close v k (free w) x = by (variable_eq v w)
+  where
+    by : (c : Bool) → reduct (cond c (bound k) (free w)) (close v k x) ≡ None
+    by true = refl
+    by false = refl
+reduct_close v k (bound i) x = refl
+reduct_close v k (fixed c s) x = refl
+reduct_close v k (app f y) x = refl
+reduct_close v k (lam a s b) x =
+    let same : k ≡ k + 0 = omega arith in
+    ap Some (ap (λ z. open_with (close v k x) 0 (close v (z + 1) b)) same ∙ open_closing v x 0 k b ∙ ap (λ z. close v z (open_with x 0 b)) (sym same))
+
+parts_close : (c : Nameless → Nameless) (d : Nameless → Nameless) (f x : Nameless) → ((g y : Nameless) → c (app g y) ≡ app (d g) (d y)) → (r o p : Option Nameless) → option_or (option_map c r) (option_or (option_map (λ g. app g (d x)) (option_map d o)) (option_map (λ y. app (d f) y) (option_map d p))) ≡ option_map c (option_or r (option_or (option_map (λ g. app g x) o) (option_map (λ y. app f y) p)))
+parts_close c d f x e (Some u) o p = refl
+parts_close c d f x e None (Some g) p = ap Some (sym (e g x))
+parts_close c d f x e None None (Some y) = ap Some (sym (e f y))
+parts_close c d f x e None None None = refl
+
+body_close : (c : Nameless → Nameless) (d : Nameless → Nameless) (a : List ℕ) (s : TypeTree) → ((b : Nameless) → c (lam a s b) ≡ lam a s (d b)) → (o : Option Nameless) → option_map (λ b. lam a s b) (option_map d o) ≡ option_map c (option_map (λ b. lam a s b) o)
+body_close c d a s e None = refl
+body_close c d a s e (Some b) = ap Some (sym (e b))
+
+pub turn_close : (v : List ℕ × TypeTree) (k : ℕ) (n : Nameless) → beta_turn (close v k n) ≡ option_map (close v k) (beta_turn n)
+turn_close v k (free w) = by (variable_eq v w)
+  where
+    by : (c : Bool) → beta_turn (cond c (bound k) (free w)) ≡ None
+    by true = refl
+    by false = refl
+turn_close v k (bound i) = refl
+turn_close v k (fixed c s) = refl
+turn_close v k (app f x) =
+    (λ i. option_or (reduct_close v k f x i) (option_or (option_map (λ g. app g (close v k x)) (turn_close v k f i)) (option_map (λ y. app (close v k f) y) (turn_close v k x i))))
+    ∙ parts_close (close v k) (close v k) f x (λ g y. refl) (reduct f x) (beta_turn f) (beta_turn x)
+turn_close v k (lam a s b) =
+    ap (option_map (λ d. lam a s d)) (turn_close v (k + 1) b) ∙ body_close (close v k) (close v (k + 1)) a s (λ d. refl) (beta_turn b)

@@ -1,0 +1,5 @@
+pub mod Commuting
+pub mod Reducts
+pub mod BetaTurns
+pub mod Passing
+pub mod AllTurns

@@ -1,0 +1,4 @@
+pub mod Beta
+pub mod Turns
+pub mod Outcomes
+pub mod Paths
