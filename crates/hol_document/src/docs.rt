@@ -1,13 +1,4 @@
 //! The documents.
-ghost use Rattle.std.specs.Prelude.{◌≡◌, ◌≤◌, ◌<◌, Ok, Err, Some, IfOk, IfErr, OnOk, OnErr, [], ℕ, List, length, string_bytes, map, slice_index_or};
-ghost use Rattle.std.specs.List.{insert};
-ghost use Rattle.std.specs.Option.{option_map};
-ghost use Rattle.hol_exec.specs.ReportView.{report_value};
-ghost use Rattle.hol_exec.specs.SetupView.{setup_value};
-ghost use Rattle.hol_document.specs.Asked.{IfRefused, Reported, BasisOf, commands_at};
-ghost use Rattle.hol_document.specs.DocsView.{documents, cache_of};
-ghost use Rattle.hol_document.specs.Documents.{find_theory, with_theory, with_command, command_limit};
-ghost use Rattle.hol_document.specs.Shown.{ShowsProved, TellsOfProved};
 
 use crate::afresh;
 use crate::error::{DocsError, Refusal};
@@ -38,6 +29,16 @@ pub struct Docs {
 }
 
 impl Docs {
+    ghost use Rattle.std.specs.Prelude.{◌≡◌, ◌≤◌, ◌<◌, Ok, Err, Some, IfOk, IfErr, OnOk, OnErr, [], ℕ, List, length, string_bytes, map, slice_index_or};
+    ghost use Rattle.std.specs.List.{insert};
+    ghost use Rattle.std.specs.Option.{option_map};
+    ghost use Rattle.hol_exec.specs.ReportView.{report_value};
+    ghost use Rattle.hol_exec.specs.SetupView.{setup_value};
+    ghost use Rattle.hol_document.specs.Asked.{IfRefused, Reported, BasisOf, commands_at};
+    ghost use Rattle.hol_document.specs.DocsView.{documents, cache_of};
+    ghost use Rattle.hol_document.specs.Documents.{find_theory, with_theory, with_command, command_limit};
+    ghost use Rattle.hol_document.specs.Shown.{ShowsProved, TellsOfProved};
+
     /// Documents without theories, run by this set-up. `cache` is the number of outcomes that are kept after they have left the documents.
     pub fn new(alloc: Global, setup: Setup, cache: u32) -> Docs
         ensures documents { documents result ≡ record { theories = []; setup = setup_value setup } }

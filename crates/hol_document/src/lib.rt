@@ -5,6 +5,7 @@
 
 mod afresh;
 mod docs;
+mod editable;
 mod end;
 mod error;
 mod items;
@@ -13,6 +14,7 @@ mod line;
 mod theory;
 
 pub use docs::{COMMAND_LIMIT, Docs, THEORY_LIMIT};
+pub use editable::Editable;
 pub use error::{DocsError, Refusal};
 pub use laws::{
     bases_are_unique, finished_proofs_have_their_goals, reports_are_unique, rows_are_unique,

@@ -5,6 +5,7 @@ pub mod Steps
 pub mod Outcomes
 pub mod Histories
 pub mod Entries
+pub mod Rows
 pub mod Resolving
 pub mod Answered
 pub mod Runs

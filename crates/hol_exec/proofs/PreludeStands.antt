@@ -32,7 +32,7 @@ has c a = has_constant no_items c a
 
 -- ---- the prelude stands
 
-same_bytes : (a b : List ℕ) → bytes_eq a b ≡ bytes_eq b a
+pub same_bytes : (a b : List ℕ) → bytes_eq a b ≡ bytes_eq b a
 same_bytes a b = by (bytes_eq a b) (bytes_eq b a) refl refl
   where
     by : (x y : Bool) → bytes_eq a b ≡ x → bytes_eq b a ≡ y → x ≡ y

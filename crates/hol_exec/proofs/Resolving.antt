@@ -8,9 +8,7 @@ use Rattle.hol_exec.specs.declared.refusal.RefusalKind.TheVariants as refusal
 use Rattle.hol_goal.specs.Arguments.{TacArgsValue, Nothing, arguments_of}
 use Rattle.hol_goal.specs.declared.tac_args.ArgumentKind.{ArgumentKind}
 use Rattle.hol_goal.specs.declared.tac_args.ArgumentKind.TheVariants as takes
-use Rattle.hol_exec.specs.declared.running_tac.RunningTac.{RunningTac}
-use Rattle.hol_exec.specs.declared.running_tac.RunningTac.TheVariants as running
-use Rattle.hol_exec.specs.TacView.{code_of}
+use Rattle.hol_goal.specs.declared.tac_code.TacCode.{TacCode}
 use Rattle.hol_exec.specs.declared.tac.CallRole.TheVariants.{Whole}
 use Rattle.hol_exec.specs.Setup.{SetupValue}
 use Rattle.hol_exec.specs.ReadsValue.{Values}
@@ -19,23 +17,9 @@ use Rattle.hol_exec.specs.ExprValue.{ExprValue, Calls}
 use Rattle.hol_exec.specs.Tac.{CalledValue, Registered, called}
 use Rattle.hol_exec.specs.Expr.{AreArguments, IsCallExpr, ResolutionValue, Resolved, Unresolved, calls_of, first_unfit, named_refusals, first_refusal, IsResolvedFitting, IsResolvedPast, IsResolution}
 
--- what is registered takes no arguments
-takes_nothing : (tac : RunningTac) → arguments_of (code_of tac) ≡ takes.Nothing
-takes_nothing running.AllTac = refl
-takes_nothing running.NoTac = refl
-takes_nothing running.ReflTac = refl
-takes_nothing running.ConjTac = refl
-takes_nothing running.Disj1Tac = refl
-takes_nothing running.Disj2Tac = refl
-takes_nothing running.EqTac = refl
-takes_nothing running.GenTac = refl
-takes_nothing running.ApTermTac = refl
-takes_nothing running.ApThmTac = refl
-takes_nothing running.MkCombTac = refl
-
 module _ (setup : SetupValue) (cited : Values) where
-  pub resolved_call : (call : CallText) (name : List ℕ) (tac : RunningTac) (basis : Items) → name ≡ call.name → Some (Registered (code_of tac)) ≡ called setup Whole call cited → basis ≡ no_items → IsCallExpr setup Whole call cited (Calls name (code_of tac) Nothing) basis
-  resolved_call call name tac basis named is plain = (named, sym is, rw (takes_nothing tac) (refl, plain))
+  pub resolved_call : (call : CallText) (name : List ℕ) (code : TacCode) (basis : Items) → name ≡ call.name → Some (Registered code) ≡ called setup Whole call cited → arguments_of code ≡ takes.Nothing → basis ≡ no_items → IsCallExpr setup Whole call cited (Calls name code Nothing) basis
+  resolved_call call name code basis named is takes_nothing plain = (named, sym is, rw takes_nothing (refl, plain))
 
   -- a call that is a whole expression
   pub call_fits : (tactic : TacText) (call : CallText) → first_unfit setup (calls_of tactic) cited ≡ None → tactic ≡ Call call → IsSome (called setup Whole call cited)

@@ -8,12 +8,22 @@ use Rattle.hol_exec.specs.declared.expr.Resolution.TheVariants as resolution
 use Rattle.hol_exec.specs.declared.expr.RunEnd.{RunEnd}
 use Rattle.hol_exec.specs.declared.expr.RunEnd.TheVariants as run
 use Rattle.hol_exec.specs.declared.expr.Run.{Run}
-use Rattle.hol_exec.specs.TacView.{code_of, used_value}
+use Rattle.hol_exec.specs.TacView.{used_value}
+use Rattle.hol_exec.specs.Setup.{SetupValue}
+use Rattle.hol_exec.specs.Tac.{IsRowOf}
 use Rattle.hol_exec.specs.ExprValue.{ExprValue, Calls}
 use Rattle.hol_exec.specs.Expr.{ResolutionValue, Resolved, Unresolved, RunResult, RunValue, Leaving, LargeGoal, RefusedBy, OutOfTurns}
 
 abbrev pub expr_value : Expr → ExprValue
-expr_value (expr.Calls name tac) = Calls (string_bytes name) (code_of tac) Nothing
+expr_value (expr.Calls name tac) = Calls (string_bytes name) tac.code Nothing
+
+-- the function that is called stands in the table
+abbrev pub CanRun : SetupValue → Expr → Type 0
+CanRun setup (expr.Calls name tac) = IsRowOf setup.table tac.index tac.code
+
+abbrev pub CanRunIfResolved : SetupValue → Resolution → Type 0
+CanRunIfResolved setup (resolution.Resolved e basis) = CanRun setup e
+CanRunIfResolved setup (resolution.Unresolved kind arg) = Unit {0}
 
 abbrev pub resolution_value : Resolution → ResolutionValue
 resolution_value (resolution.Resolved e basis) = Resolved (expr_value e) basis

@@ -1,6 +1,7 @@
 -- Calls of functions on goals, as they are written: what a name calls, and whether arguments are of its kind. What each function leaves of a goal is said by
 -- its code, in hol_just.
-use Rattle.std.specs.Prelude.{ℕ, List, [], ◌∷◌, Bool, true, false, cond, bytes_eq, Option, Some, None}
+use Rattle.std.specs.Prelude.{◌≡◌, ℕ, List, [], ◌∷◌, Bool, true, false, cond, bytes_eq, slice_get, Option, Some, None}
+use Rattle.std.specs.Option.{option_map}
 use Rattle.std.specs.Map.{lookup}
 use Rattle.hol_notation_tactics.specs.Text.{ArgumentText, Term, Theorem, Pair, Theorems, CallText}
 use Rattle.hol_goal.specs.Arguments.{arguments_of}
@@ -59,6 +60,10 @@ is_one form (a ∷ b ∷ arguments) = false
 abbrev pub are_two : (ArgumentText → Bool) → (ArgumentText → Bool) → List ArgumentText → Bool
 are_two form next [] = false
 are_two form next (a ∷ arguments) = cond (form a) (is_one next arguments) false
+
+-- the row of the table at an index has the code
+abbrev pub IsRowOf : List (List ℕ × TacCode) → ℕ → TacCode → Type 0
+IsRowOf table index code = option_map (λ row. row.1) (slice_get table index) ≡ Some code
 
 -- ---- calls
 

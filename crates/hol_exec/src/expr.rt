@@ -1,21 +1,21 @@
 //! Expressions of functions on goals: what is written, resolved, and its run.
-ghost use Rattle.std.specs.Prelude.{◌≡◌, IfOk, IsSome, None};
+ghost use Rattle.std.specs.Prelude.{◌≡◌, ◌≤◌, IfOk, IsSome, None};
 ghost use Rattle.hol_goal.specs.Arguments.{Nothing};
 ghost use Rattle.hol_just.specs.Answering.{IsJustified};
 ghost use Rattle.hol_exec.specs.SetupView.{setup_value};
-ghost use Rattle.hol_exec.specs.TacView.{code_of, used_value};
-ghost use Rattle.hol_exec.specs.Tac.{called};
+ghost use Rattle.hol_exec.specs.TacView.{used_value};
+ghost use Rattle.hol_exec.specs.Tac.{called, IsRowOf};
 ghost use Rattle.hol_exec.specs.Expr.{calls_of, first_unfit, IsResolvedCall, IsResolvedFitting, IsResolution, left_run, has_large, run_paid, run_call, run_expr};
-ghost use Rattle.hol_exec.specs.ExprView.{expr_value, resolution_value, run_end, run_value};
+ghost use Rattle.hol_exec.specs.ExprView.{expr_value, CanRun, CanRunIfResolved, resolution_value, run_end, run_value};
 ghost use Rattle.hol_exec.specs.Valid.{IsJustifiedEnd};
 
 use crate::calls::{calls_of, first_unfit};
 use crate::reads::Reads;
 use crate::refusal::RefusalKind;
-use crate::running_tac::RunningTac;
+use crate::registered::Registered;
 use crate::setup::Setup;
 use crate::tac::{CallRole, Callee, called};
-use hol_goal::Goal;
+use hol_goal::{Goal, TacArgs};
 use hol_just::{Step, TacFault, Tried};
 use hol_kernel::Basis;
 use hol_notation_tactics::{TacCall, TacExpr, TacExprNode};
@@ -28,7 +28,7 @@ const LARGEST_GOAL: u32 = 20_000;
 #[derive(Drop)]
 pub(crate) enum Expr {
     /// A call of a function on goals, with the name that it is called by. It has no arguments.
-    Calls(String, RunningTac),
+    Calls(String, Registered),
 }
 
 /// What resolving comes to.
@@ -77,7 +77,8 @@ pub(crate) fn resolve(
     tactic: &TacExpr,
     reads: &Reads,
 ) -> Result<Resolution, AllocError>
-    ensures { IfOk result (λ r. IsResolution (setup_value setup.now) tactic.now reads.now.cited (resolution_value r)) }
+    ensures value { IfOk result (λ r. IsResolution (setup_value setup.now) tactic.now reads.now.cited (resolution_value r)) }
+    ensures can_run { IfOk result (CanRunIfResolved (setup_value setup.now)) }
 {
     if let Some(unknown) = reads.first_unknown() {
         let unknown = String::from_str(alloc, unknown)?;
@@ -100,7 +101,8 @@ fn resolve_fitting(
     reads: &Reads,
 ) -> Result<Resolution, AllocError>
     requires { first_unfit (setup_value setup.now) (calls_of tactic.now) reads.now.cited ≡ None }
-    ensures { IfOk result (λ r. IsResolvedFitting (setup_value setup.now) tactic.now reads.now.cited (resolution_value r)) }
+    ensures value { IfOk result (λ r. IsResolvedFitting (setup_value setup.now) tactic.now reads.now.cited (resolution_value r)) }
+    ensures can_run { IfOk result (CanRunIfResolved (setup_value setup.now)) }
 {
     match tactic.node() {
         TacExprNode::Call(call) => resolve_call(alloc, setup, call, reads),
@@ -132,7 +134,8 @@ fn resolve_call(
     reads: &Reads,
 ) -> Result<Resolution, AllocError>
     requires { IsSome (called (setup_value setup.now) CallRole.Whole call.now reads.now.cited) }
-    ensures { IfOk result (λ r. IsResolvedCall (setup_value setup.now) call.now reads.now.cited (resolution_value r)) }
+    ensures value { IfOk result (λ r. IsResolvedCall (setup_value setup.now) call.now reads.now.cited (resolution_value r)) }
+    ensures can_run { IfOk result (CanRunIfResolved (setup_value setup.now)) }
 {
     let name = String::from_str(alloc, call.name.as_str())?;
     let Some(Callee::Registered(tac)) = called(setup, CallRole::Whole, call, reads) else {
@@ -144,27 +147,33 @@ fn resolve_call(
 /// Runs the expression on the goal, with what may still be used.
 pub(crate) fn run_expr(
     alloc: Global,
+    setup: &Setup,
     expr: &Expr,
     goal: &Goal,
     used: Used,
 ) -> Result<Run, AllocError>
+    requires can_run { CanRun (setup_value setup.now) expr.now }
+    requires turns { used.turns_left ≤ 100000 }
     ensures run { IfOk result (λ run. run_value run ≡ run_expr (expr_value expr.now) goal.now (used_value used)) }
     ensures valid { IfOk result (λ run. IsJustifiedEnd goal.now run.result) }
 {
     match expr {
-        Expr::Calls(name, tac) => run_call(alloc, name.as_str(), *tac, goal, used),
+        Expr::Calls(name, tac) => run_call(alloc, setup, name.as_str(), *tac, goal, used),
     }
 }
 
 // A call pays one turn, and then calls.
 fn run_call(
     alloc: Global,
+    setup: &Setup,
     name: &str,
-    tac: RunningTac,
+    tac: Registered,
     goal: &Goal,
     used: Used,
 ) -> Result<Run, AllocError>
-    ensures run { IfOk result (λ run. run_value run ≡ run_call name.now (code_of tac) Nothing goal.now (used_value used) used.turns_left) }
+    requires row { IsRowOf (setup_value setup.now).table tac.index tac.code }
+    requires turns { used.turns_left ≤ 100000 }
+    ensures run { IfOk result (λ run. run_value run ≡ run_call name.now tac.code Nothing goal.now (used_value used) used.turns_left) }
     ensures valid { IfOk result (λ run. IsJustifiedEnd goal.now run.result) }
 {
     if used.turns_left == 0 {
@@ -173,22 +182,25 @@ fn run_call(
             used,
         });
     }
-    run_paid(alloc, name, tac, goal, used.turns_left - 1)
+    run_paid(alloc, setup, name, tac, goal, used.turns_left - 1)
 }
 
 // A call that has paid, so many turns being left.
 #[tactic(auto, using(crate::proofs::Answered::is_left, crate::proofs::Answered::is_refused))]
 fn run_paid(
     alloc: Global,
+    setup: &Setup,
     name: &str,
-    tac: RunningTac,
+    tac: Registered,
     goal: &Goal,
     turns: u32,
 ) -> Result<Run, AllocError>
-    ensures run { IfOk result (λ run. run_value run ≡ run_paid name.now (code_of tac) Nothing goal.now (record { turns_left = turns })) }
+    requires row { IsRowOf (setup_value setup.now).table tac.index tac.code }
+    requires turns { turns ≤ 100000 }
+    ensures run { IfOk result (λ run. run_value run ≡ run_paid name.now tac.code Nothing goal.now (record { turns_left = turns })) }
     ensures valid { IfOk result (λ run. IsJustifiedEnd goal.now run.result) }
 {
-    match tac.answer(alloc, goal, turns) {
+    match setup.call(tac, &TacArgs::Nothing, goal, turns) {
         Ok(tried) => Ok(left_of(goal, tried)),
         Err(TacFault::Refused(turns_left)) => Ok(Run {
             result: RunEnd::RefusedBy(String::from_str(alloc, name)?),

@@ -5,7 +5,7 @@ ghost use Rattle.hol_kernel.specs.Items.{no_items};
 ghost use Rattle.hol_kernel.specs.Typing.{is_known};
 ghost use Rattle.hol_exec.specs.ParsedView.{local_text};
 ghost use Rattle.hol_exec.specs.SetupView.{setup_value};
-ghost use Rattle.hol_exec.specs.ExprView.{expr_value};
+ghost use Rattle.hol_exec.specs.ExprView.{expr_value, CanRun};
 ghost use Rattle.hol_exec.specs.Local.{IsLocalOutcome, IsOpening, IsApplying, opens, opens_term, applied, finishes, finished};
 ghost use Rattle.hol_exec.specs.Lookups.{reading_basis};
 ghost use Rattle.hol_exec.specs.Standing.{first_taken};
@@ -21,7 +21,7 @@ use crate::parsed::LocalCommand;
 use crate::reading::{Reading, is_statement, read_term};
 use crate::reads::Reads;
 use crate::refusal::RefusalKind;
-use crate::setup::{Setup, turns_of};
+use crate::setup::Setup;
 use hol_kernel::Basis;
 use hol_notation_tactics::TacExpr;
 use hol_notation_terms::Quotation;
@@ -133,7 +133,7 @@ fn apply_tactic(
         return Ok(refused(alloc, RefusalKind::NoProofOpen));
     }
     match resolve(alloc, setup, tactic, reads)? {
-        Resolution::Resolved(expr, basis) => applied(alloc, reads, turns_of(setup), &expr, basis),
+        Resolution::Resolved(expr, basis) => applied(alloc, setup, reads, &expr, basis),
         Resolution::Unresolved(kind, arg) => Ok(Outcome::refuses(kind, arg)),
     }
 }
@@ -141,18 +141,20 @@ fn apply_tactic(
 // A resolved expression: no goal open; refused; turn limit.
 fn applied(
     alloc: Global,
+    setup: &Setup,
     reads: &Reads,
-    turns: u32,
     expr: &Expr,
     basis: Basis,
 ) -> Result<Outcome, AllocError>
-    requires { basis ≡ no_items }
-    ensures { IfOk result (λ outcome. outcome ≡ applied reads.now.goal turns (expr_value expr.now) basis) }
+    requires plain { basis ≡ no_items }
+    requires can_run { CanRun (setup_value setup.now) expr.now }
+    ensures { IfOk result (λ outcome. outcome ≡ applied reads.now.goal (setup_value setup.now).turns (expr_value expr.now) basis) }
 {
     let Some(goal) = reads.goal() else {
         return Ok(refused(alloc, RefusalKind::NoGoalOpen));
     };
-    let Run { result, used: _ } = run_expr(alloc, expr, goal, Used { turns_left: turns })?;
+    let turns_left = setup.turns();
+    let Run { result, used: _ } = run_expr(alloc, setup, expr, goal, Used { turns_left })?;
     match result {
         RunEnd::Leaving(step) => Ok(Outcome::leaves(goal.copy(alloc)?, step, basis)),
         RunEnd::LargeGoal => Ok(refused(alloc, RefusalKind::TooLarge)),

@@ -1,13 +1,13 @@
 //! Calls of functions on goals, as they are written: what a name calls, and whether arguments are of its kind.
-ghost use Rattle.std.specs.Prelude.{◌≡◌, bytes_eq};
+ghost use Rattle.std.specs.Prelude.{◌≡◌, IfSome, bytes_eq};
 ghost use Rattle.std.specs.Map.{lookup};
 ghost use Rattle.hol_exec.specs.SetupView.{setup_value};
 ghost use Rattle.hol_exec.specs.Tac.{kind_of, is_term, is_theorem, is_pair, is_theorems, is_none, is_one, are_two, fits, named, called};
-ghost use Rattle.hol_exec.specs.TacView.{called_value, called_option};
+ghost use Rattle.hol_exec.specs.TacView.{called_value, called_option, IsCallable};
 
 use crate::reads::Reads;
-use crate::running_tac::RunningTac;
-use crate::setup::{Setup, tac_of};
+use crate::registered::Registered;
+use crate::setup::Setup;
 use hol_goal::ArgumentKind;
 use hol_notation_tactics::{TacArg, TacArgNode, TacCall};
 
@@ -24,7 +24,7 @@ pub(crate) enum CallRole {
 #[derive(Clone, Copy)]
 pub(crate) enum Callee {
     /// A registered function on goals.
-    Registered(RunningTac),
+    Registered(Registered),
 }
 
 // The kind of arguments of what is called.
@@ -32,7 +32,7 @@ fn kind_of(called: Callee) -> ArgumentKind
     ensures { result ≡ kind_of (called_value called) }
 {
     match called {
-        Callee::Registered(tac) => tac.code().arguments(),
+        Callee::Registered(tac) => tac.code.arguments(),
     }
 }
 
@@ -154,15 +154,17 @@ fn fits_in_part(kind: ArgumentKind, arguments: &[TacArg]) -> bool
 
 // What the name of the call stands for.
 fn named(setup: &Setup, call: &TacCall, _reads: &Reads) -> Option<Callee>
-    ensures { called_option result ≡ named call.now.name (lookup (bytes_eq call.now.name) (setup_value setup.now).table) _reads.now.cited }
+    ensures called { called_option result ≡ named call.now.name (lookup (bytes_eq call.now.name) (setup_value setup.now).table) _reads.now.cited }
+    ensures callable { IfSome result (IsCallable (setup_value setup.now)) }
 {
-    let tac = tac_of(setup, call.name.as_str())?;
+    let tac = setup.find(call.name.as_str())?;
     Some(Callee::Registered(tac))
 }
 
 /// What a call of the role calls, where the name stands for something and the arguments are of its kind.
 pub(crate) fn called(setup: &Setup, role: CallRole, call: &TacCall, reads: &Reads) -> Option<Callee>
-    ensures { called_option result ≡ called (setup_value setup.now) role call.now reads.now.cited }
+    ensures called { called_option result ≡ called (setup_value setup.now) role call.now reads.now.cited }
+    ensures callable { IfSome result (IsCallable (setup_value setup.now)) }
 {
     let called = named(setup, call, reads)?;
     if fits(kind_of(called), role, &call.arguments) {

@@ -46,6 +46,13 @@ impl Entry {
         (self.tac)(args, goal, turns)
     }
 
+    /// The code.
+    pub(crate) fn code(&self) -> TacCode
+        ensures { result ≡ (view.row self.now).1 }
+    {
+        self.code
+    }
+
     /// The name.
     pub(crate) fn into_name(self) -> String
         ensures { string_bytes result ≡ view.name self }

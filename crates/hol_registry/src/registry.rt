@@ -1,5 +1,6 @@
 //! Registries of functions on goals.
-ghost use Rattle.std.specs.Prelude.{◌≡◌, ◌≤◌, ◌<◌, map, length, bytes_eq, slice_get, IfOk, IfErr, IfSome, OnOk};
+ghost use Rattle.std.specs.Prelude.{◌≡◌, ◌≤◌, ◌<◌, map, length, bytes_eq, slice_get, IfOk, IfErr, IfSome, OnOk, Some};
+ghost use Rattle.std.specs.Option.{option_map};
 ghost use Rattle.std.specs.List.{IsDistinct};
 ghost use Rattle.hol_goal.specs.ArgumentsView.{args_value};
 ghost use Rattle.hol_just.specs.Answering.{AnswersCode, IsJustified};
@@ -9,7 +10,7 @@ ghost use Rattle.hol_registry.specs.Refusal.{IsRefusal};
 use crate::entry::Entry;
 use crate::error::RegistryError;
 use crate::named;
-use hol_goal::{Goal, TacArgs};
+use hol_goal::{Goal, TacArgs, TacCode};
 use hol_just::{TacFault, Tried};
 
 /// Functions on goals whose names differ.
@@ -42,6 +43,14 @@ impl Registry {
         ensures within { IfSome result (λ i. i < length (table self.now)) }
     {
         named::find(&self.entries, name)
+    }
+
+    /// The code of the entry at an index.
+    pub fn code(&self, index: usize) -> TacCode
+        requires { index < length (table self.now) }
+        ensures { option_map (λ row. row.1) (slice_get (table self.now) index) ≡ Some result }
+    {
+        self.entries[index].code()
     }
 
     /// Calls the function of the entry at an index: it answers what the entry's code means, with a justified step, or that memory is short.

@@ -1,4 +1,5 @@
 pub mod Applied
+pub mod Registering
 pub mod Known
 pub mod Cutting
 pub mod Sessions

@@ -2,7 +2,7 @@
 use Rattle.std.specs.Prelude.{◌≡◌, ℕ, List, [], ◌∷◌, codes}
 use Rattle.clap.specs.Words.{Text}
 use Rattle.hol_goal.specs.declared.tac_code.TacCode.{TacCode}
-use Rattle.hol_goal.specs.declared.tac_code.TacCode.TheVariants.{AllTac, NoTac, ReflTac, ConjTac, Disj1Tac, Disj2Tac, EqTac, GenTac, ApTermTac, ApThmTac, MkCombTac}
+use Rattle.hol_goal.specs.declared.tac_code.TacCode.TheVariants.{AllTac, NoTac, ReflTac, ConjTac, Disj1Tac, Disj2Tac, EqTac, DischTac, GenTac, ApTermTac, ApThmTac, MkCombTac}
 use Rattle.hol_document.specs.Documents.{Documents}
 use Rattle.hol_serve.specs.Settings.{option_text, IsValue}
 
@@ -10,12 +10,16 @@ use Rattle.hol_serve.specs.Settings.{option_text, IsValue}
 abbrev pub tacs : List (List ℕ × TacCode)
 tacs =
     (codes "ALL_TAC", AllTac) ∷ (codes "NO_TAC", NoTac) ∷ (codes "REFL_TAC", ReflTac) ∷ (codes "CONJ_TAC", ConjTac) ∷ (codes "DISJ1_TAC", Disj1Tac) ∷ (codes "DISJ2_TAC", Disj2Tac)
-    ∷ (codes "EQ_TAC", EqTac) ∷ (codes "GEN_TAC", GenTac) ∷ (codes "AP_TERM_TAC", ApTermTac) ∷ (codes "AP_THM_TAC", ApThmTac) ∷ (codes "MK_COMB_TAC", MkCombTac) ∷ []
+    ∷ (codes "EQ_TAC", EqTac) ∷ (codes "DISCH_TAC", DischTac) ∷ (codes "GEN_TAC", GenTac) ∷ (codes "AP_TERM_TAC", ApTermTac) ∷ (codes "AP_THM_TAC", ApThmTac) ∷ (codes "MK_COMB_TAC", MkCombTac) ∷ []
 
--- no theories stand; what they are run by is the table above, and the number of turns that the words name, or 10,000
+-- no theories stand; what they are run by is a table of functions and a number of turns
+abbrev pub begun_by : List (List ℕ × TacCode) → ℕ → Documents
+begun_by table turns = record { theories = []; setup = record { table = table; turns = turns } }
+
+-- they are run by the table above, and the number of turns that the words name, or 10,000
 abbrev pub IsBegun : List Text → Documents → Type 0
 IsBegun words docs = (turns : ℕ) × IsValue 1 100000 10000 (option_text (codes "turns") words) turns
-    × (docs ≡ record { theories = []; setup = record { table = tacs; turns = turns } })
+    × (docs ≡ begun_by tacs turns)
 
 -- this holds of documents that the program begins with, as the words say, and of those that it ends with
 abbrev pub Begins : List Text → (Documents → Documents → Type 0) → Type 0

@@ -9,5 +9,4 @@ pub mod Texts
 pub mod Machine
 pub mod Ending
 pub mod Begun
-pub mod Over
 pub mod BegunView

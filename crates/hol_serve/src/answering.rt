@@ -1,7 +1,6 @@
 //! One line and its reply.
 
 ghost use Rattle.std.specs.Prelude.{◌≡◌, ◌≤◌, ◌⊎◌, IfOk, OnErr, length};
-ghost use Rattle.hol_document.specs.DocsView.{documents};
 ghost use Rattle.hol_document.specs.declared.error.Refusal.{Refusal};
 ghost use Rattle.serde_json.specs.Errors.{IsMemory};
 ghost use Rattle.hol_serve.specs.Lines.{line_limit};
@@ -16,7 +15,7 @@ use crate::lines::Reply;
 use crate::reading::request_of;
 use crate::replies::{reports, rests_on};
 use crate::requests::Request;
-use hol_document::{Docs, DocsError};
+use hol_document::{DocsError, Editable};
 use serde_json::{Error, Value};
 use std::alloc::{AllocError, Global};
 
@@ -32,9 +31,13 @@ fn refusal_reply(error: DocsError) -> Result<Reply, AllocError>
 }
 
 // Serves a request over the documents. Where it finds no memory they stay as they were.
-fn served(alloc: Global, docs: &mut Docs, request: Request<'_>) -> Result<Reply, AllocError>
-    ensures ok { IfOk result (λ reply. (value : ReplyValue) × Says value reply × Serves (documents docs.old) (request_text request.entry) value (documents docs.new)) }
-    ensures kept { OnErr result (documents docs.new ≡ documents docs.old) }
+fn served<D: Editable>(
+    alloc: Global,
+    docs: &mut D,
+    request: Request<'_>,
+) -> Result<Reply, AllocError>
+    ensures ok { IfOk result (λ reply. (value : ReplyValue) × Says value reply × Serves (D.value docs.old) (request_text request.entry) value (D.value docs.new)) }
+    ensures kept { OnErr result (D.value docs.new ≡ D.value docs.old) }
 {
     match request {
         Request::NewTheory { name, at } => match docs.new_theory(name, at as usize) {
@@ -67,9 +70,9 @@ fn unread_reply(error: &Error) -> Reply
 }
 
 /// The reply to a line, with its newline.
-pub(crate) fn answer(alloc: Global, docs: &mut Docs, line: &[u8]) -> Reply
+pub(crate) fn answer<D: Editable>(alloc: Global, docs: &mut D, line: &[u8]) -> Reply
     requires { length line.now ≤ line_limit }
-    ensures { MayAnswer (documents docs.old) line.now (reply_bytes result.text) result.closes (documents docs.new) }
+    ensures { MayAnswer (D.value docs.old) line.now (reply_bytes result.text) result.closes (D.value docs.new) }
 {
     let value = match Value::from_slice(alloc, line) {
         Ok(value) => value,

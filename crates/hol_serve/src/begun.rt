@@ -1,59 +1,119 @@
-//! The documents over which the program begins.
+//! Sessions over documents that begin without theories.
+ghost use Rattle.std.specs.Prelude.{◌≡◌, ◌≢◌, ◌⊎◌, ◌≤◌, [], true, Err, OnOk, map};
+ghost use Rattle.hol_document.specs.Documents.{Documents};
+ghost use Rattle.hol_exec.specs.Setup.{take_nothing};
+ghost use Rattle.hol_exec.specs.SetupView.{setup_value};
+ghost use Rattle.hol_registry.specs.RegistryView.{name, row};
+ghost use Rattle.hol_serve.specs.Begun.{tacs, begun_by};
+ghost use Rattle.hol_serve.specs.BegunView.{row_of, names_differ, are_known};
+ghost use Rattle.hol_serve.specs.Lines.{read_limit};
+ghost use Rattle.hol_serve.specs.Machine.{MayAnswer};
+ghost use Rattle.hol_serve.specs.Session.{CountsUp, Finishes, StopsReading, StopsWriting};
 
-ghost use Rattle.std.specs.Prelude.{◌≡◌, Err, IfOk, map};
-ghost use Rattle.hol_document.specs.DocsView.{documents};
-ghost use Rattle.hol_serve.specs.Begun.{tacs, IsBegun};
-ghost use Rattle.hol_serve.specs.BegunView.{row_value, row_of};
-ghost use Rattle.hol_serve.specs.Settings.{AreBad};
-
-use crate::settings::{Words, settings};
+use crate::lines::{Fault, Sink, Source};
+use crate::meant::Meant;
+use crate::serving::run;
 use hol_document::Docs;
-use hol_exec::{RunningTac, set_up};
-use std::alloc::{AllocError, Global};
+use hol_exec::Setup;
+use hol_goal::{Goal, TacArgs, TacCode};
+use hol_registry::{Entry, Registry, RegistryError};
+use std::alloc::Global;
 
 // The functions on goals that the program knows.
-const TACS: [RunningTac; 11] = [
-    RunningTac::AllTac,
-    RunningTac::NoTac,
-    RunningTac::ReflTac,
-    RunningTac::ConjTac,
-    RunningTac::Disj1Tac,
-    RunningTac::Disj2Tac,
-    RunningTac::EqTac,
-    RunningTac::GenTac,
-    RunningTac::ApTermTac,
-    RunningTac::ApThmTac,
-    RunningTac::MkCombTac,
+const CODES: [TacCode; 12] = [
+    TacCode::AllTac,
+    TacCode::NoTac,
+    TacCode::ReflTac,
+    TacCode::ConjTac,
+    TacCode::Disj1Tac,
+    TacCode::Disj2Tac,
+    TacCode::EqTac,
+    TacCode::DischTac,
+    TacCode::GenTac,
+    TacCode::ApTermTac,
+    TacCode::ApThmTac,
+    TacCode::MkCombTac,
 ];
 
-// The functions, each under the name of its code.
-fn rows_of(alloc: Global, tacs: &[RunningTac]) -> Result<Vec<(String, RunningTac)>, AllocError>
-    ensures { IfOk result (λ rows. map row_value rows.items ≡ map row_of tacs.now) }
-{
-    let mut rows = Vec::new(alloc);
-    for tac in tacs {
-        let name = String::from_str(alloc, tac.code().name())?;
-        rows.push((name, *tac))?;
-    }
-    Ok(rows)
-}
-
-// The functions on goals that the program knows, each under the name of its code.
-fn table(alloc: Global) -> Result<Vec<(String, RunningTac)>, AllocError>
-    ensures { IfOk result (λ rows. map row_value rows.items ≡ tacs) }
-{
-    rows_of(alloc, &TACS)
-}
-
-/// Documents without theories, as the program's words say they are run.
+/// Serves the reader's lines over documents without theories, run by the functions that the program knows, each under the name of its code,
+/// and by this number of turns.
 ///
 /// # Errors
-/// `Words::Bad` where the words aren't the program's.
-pub(crate) fn begun<'a>(alloc: Global, words: &'a [&'a str]) -> Result<Docs, Words>
-    ensures begun { IfOk result (λ docs. IsBegun (map (λ w. w.now) words.now) (documents docs)) }
-    ensures bad { result ≡ Err Words.Bad → AreBad (map (λ w. w.now) words.now) }
+/// Those of [`run`]; also `Fault::Memory` where there is no memory to begin with.
+pub(crate) fn serve_begun<R: Source, W: Sink>(
+    alloc: Global,
+    turns: u32,
+    cache: u32,
+    reader: &mut R,
+    writer: &mut W,
+) -> Result<(), Fault>
+    requires { turns ≤ 100000 }
+    ensures ok { OnOk result ((new : Documents) × Finishes MayAnswer (begun_by tacs turns) new
+        (R.remaining reader.old) (R.remaining reader.new) (W.contents writer.old) (W.contents writer.new)) }
+    ensures read_fault { result ≡ Err Fault.Read → ((new : Documents) × StopsReading MayAnswer (begun_by tacs turns) new
+        (R.remaining reader.old) (R.remaining reader.new) (W.contents writer.old) (W.contents writer.new))
+        × (R.has_failed reader.new ⊎ CountsUp read_limit (R.reads reader.old) (R.reads reader.new)) }
+    ensures write_fault { result ≡ Err Fault.Write → ((new : Documents) × StopsWriting MayAnswer (begun_by tacs turns) new
+        (R.remaining reader.old) (R.remaining reader.new) (W.contents writer.old) (W.contents writer.new))
+        × W.has_failed writer.new }
+    ensures reads { result ≢ Err Fault.Read → R.has_failed reader.new → R.has_failed reader.old }
+    ensures writes { result ≢ Err Fault.Write → W.has_failed writer.new → W.has_failed writer.old }
+    ensures memory { result ≡ Err Fault.Memory → (reader.new ≡ reader.old) × (writer.new ≡ writer.old) }
 {
-    let (turns, cache) = settings(alloc, words)?;
-    let setup = set_up(table(alloc)?, turns);
-    Ok(Docs::new(alloc, setup, cache))
+    serve_with(alloc, &CODES, turns, cache, reader, writer)
+}
+
+// The same with the functions of these codes.
+#[tactic(auto, using(crate::proofs::Registering::known_at, crate::proofs::Registering::rows_plain, crate::proofs::Registering::names_plain))]
+fn serve_with<R: Source, W: Sink>(
+    alloc: Global,
+    codes: &[TacCode],
+    turns: u32,
+    cache: u32,
+    reader: &mut R,
+    writer: &mut W,
+) -> Result<(), Fault>
+    requires turns { turns ≤ 100000 }
+    requires known { are_known codes.now ≡ true }
+    ensures ok { OnOk result ((new : Documents) × Finishes MayAnswer (begun_by (map row_of codes.now) turns) new
+        (R.remaining reader.old) (R.remaining reader.new) (W.contents writer.old) (W.contents writer.new)) }
+    ensures read_fault { result ≡ Err Fault.Read → ((new : Documents) × StopsReading MayAnswer (begun_by (map row_of codes.now) turns) new
+        (R.remaining reader.old) (R.remaining reader.new) (W.contents writer.old) (W.contents writer.new))
+        × (R.has_failed reader.new ⊎ CountsUp read_limit (R.reads reader.old) (R.reads reader.new)) }
+    ensures write_fault { result ≡ Err Fault.Write → ((new : Documents) × StopsWriting MayAnswer (begun_by (map row_of codes.now) turns) new
+        (R.remaining reader.old) (R.remaining reader.new) (W.contents writer.old) (W.contents writer.new))
+        × W.has_failed writer.new }
+    ensures reads { result ≢ Err Fault.Read → R.has_failed reader.new → R.has_failed reader.old }
+    ensures writes { result ≢ Err Fault.Write → W.has_failed writer.new → W.has_failed writer.old }
+    ensures memory { result ≡ Err Fault.Memory → (reader.new ≡ reader.old) × (writer.new ≡ writer.old) }
+{
+    let mut entries = Vec::new(alloc);
+    for code in codes {
+        let meant = Meant::new(*code);
+        let tac = Box::new(
+            alloc,
+            move |args: &TacArgs, goal: &Goal, turns: u32|
+                requires { turns ≤ 100000 }
+            { meant.answer(alloc, args, goal, turns) },
+        )?;
+        let name = String::from_str(alloc, code.name())?;
+        entries.push(Entry::new(name, *code, tac))?;
+    }
+    let mut docs = Docs::new(alloc, setup_of(entries, turns), cache);
+    run(alloc, reader, writer, &mut docs)
+}
+
+// The set-up of these functions, whose names differ, and of this number of turns.
+#[tactic(auto, using(crate::proofs::Registering::twice_not))]
+fn setup_of(entries: Vec<Entry>, turns: u32) -> Setup
+    requires turns { turns ≤ 100000 }
+    requires plain { take_nothing (map row entries.items) ≡ true }
+    requires differ { names_differ (map name entries.items) ≡ true }
+    ensures { setup_value result ≡ record { table = map row entries.items; turns = turns } }
+{
+    let registry = match Registry::new(entries) {
+        Ok(registry) => registry,
+        Err(RegistryError::Twice(_)) => unreachable!(),
+    };
+    Setup::new(registry, turns)
 }

@@ -7,6 +7,7 @@ mod constants;
 mod ending;
 mod laws;
 mod lines;
+mod meant;
 mod program;
 mod reading;
 mod replies;

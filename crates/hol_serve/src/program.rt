@@ -9,11 +9,10 @@ ghost use Rattle.hol_serve.specs.Session.{CountsUp, Finishes, StopsReading, Stop
 ghost use Rattle.hol_serve.specs.Settings.{AreBad};
 ghost use Rattle.hol_serve.specs.declared.ending.Ending.TheVariants as ending;
 
-use crate::begun::begun;
+use crate::begun::serve_begun;
 use crate::ending::Ending;
 use crate::lines::{Fault, Sink, Source, write_reply};
-use crate::serving::run;
-use crate::settings::Words;
+use crate::settings::{Words, settings};
 use std::alloc::Global;
 
 // Serves the reader's lines as the words say, over documents that begin so.
@@ -37,8 +36,8 @@ fn serve<'a, R: Source, W: Sink>(
     ensures reads { result ≢ Err Ending.Read → R.has_failed reader.new → R.has_failed reader.old }
     ensures writes { result ≢ Err Ending.Write → W.has_failed writer.new → W.has_failed writer.old }
 {
-    let mut docs = begun(alloc, words?)?;
-    match run(alloc, reader, writer, &mut docs) {
+    let (turns, cache) = settings(alloc, words?)?;
+    match serve_begun(alloc, turns, cache, reader, writer) {
         Ok(()) => Ok(()),
         Err(Fault::Read) => Err(Ending::Read),
         Err(Fault::Write) => Err(Ending::Write),

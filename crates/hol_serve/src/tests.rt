@@ -6,5 +6,6 @@ mod endings;
 mod faults;
 mod histories;
 mod readers;
+mod registries;
 mod sessions;
 mod support;

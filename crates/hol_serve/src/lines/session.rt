@@ -8,7 +8,7 @@ ghost use Rattle.hol_serve.specs.Session.{Answers, AnswersInPart, CountsUp, Fini
 use crate::lines::line::Line;
 use crate::lines::service::{Service, Sink, Source};
 use crate::lines::writing::{WriteFault, write_reply};
-use std::alloc::Global;
+use std::alloc::{AllocError, AllocFailed, Global};
 use thiserror::Error;
 
 const NEWLINE: u8 = b'\n';
@@ -25,9 +25,31 @@ pub(crate) enum Fault {
     /// The writer failed, or took no byte.
     #[error("write fault")]
     Write,
-    /// The buffer of a line wasn't had. Nothing was read or written.
+    /// What a session begins with wasn't had. Nothing was read or written.
     #[error("no memory")]
     Memory,
+}
+
+impl From<AllocError> for Fault {
+    ghost use Rattle.std.specs.Prelude.{◌≡◌};
+    ghost use Rattle.hol_serve.specs.declared.lines.session.Fault.TheVariants.{Memory};
+
+    ghost from_gives = { λ _ e. e ≡ Memory };
+
+    fn from(_refused: AllocError) -> Fault {
+        Fault::Memory
+    }
+}
+
+impl<T: Drop> From<AllocFailed<T>> for Fault {
+    ghost use Rattle.std.specs.Prelude.{◌≡◌};
+    ghost use Rattle.hol_serve.specs.declared.lines.session.Fault.TheVariants.{Memory};
+
+    ghost from_gives = { λ _ e. e ≡ Memory };
+
+    fn from(_refused: AllocFailed<T>) -> Fault {
+        Fault::Memory
+    }
 }
 
 // Answers the line, and tells whether the session ends with it.

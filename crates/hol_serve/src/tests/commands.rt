@@ -227,6 +227,16 @@ fn leaves_goals(rt: HostRuntime) -> Result<(), Fail> {
             r#"{"goals":[{"asl":[],"free":["p:bool","q:bool"],"goal":"p ==> q"},{"asl":[],"free":["p:bool","q:bool"],"goal":"q ==> p"}],"ok":true}"#,
         ),
         (
+            "`~p`",
+            "e DISCH_TAC",
+            r#"{"goals":[{"asl":["p"],"free":["p:bool"],"goal":"F"}],"ok":true}"#,
+        ),
+        (
+            "`p ==> q`",
+            "e DISCH_TAC",
+            r#"{"goals":[{"asl":["p"],"free":["p:bool","q:bool"],"goal":"q"}],"ok":true}"#,
+        ),
+        (
             "`!x:A. P x`",
             "e GEN_TAC",
             r#"{"goals":[{"asl":[],"free":["P:A->bool","x:A"],"goal":"P x"}],"ok":true}"#,

@@ -1,24 +1,22 @@
 //! Copies of commands, of what they read, of their outcomes, of keys and of reports.
+ghost use Rattle.std.specs.Prelude.{◌≤◌};
 
-use crate::begun::begun;
+use crate::tests::support::{insert_all, setup_of_one};
 use hol_document::Docs;
 use hol_exec::{
-    Key, Kind, LocalCommand, Outcome, Parsed, Reads, Report, RunningTac, Setup, ShownGoal, State,
-    apply, parse, run_local, set_up,
+    Key, Kind, LocalCommand, Outcome, Parsed, Reads, Report, Setup, ShownGoal, State, apply, parse,
+    run_local,
 };
+use hol_goal::{Goal, TacArgs, TacCode};
+use hol_tac::refl_tac;
 use std::alloc::Global;
 use std::fmt::Write;
 use std::hash::{DefaultHasher, Hash, Hasher};
+use std::process::Abort;
 use std::test::Fail;
 
 // What a proof of `x = x` is.
 const PROOF: [&str; 3] = ["g REFL1 `x:A = x`", "e REFL_TAC", "qed"];
-
-fn setup(alloc: Global) -> Result<Setup, Fail> {
-    let mut table = Vec::new(alloc);
-    table.push((String::from_str(alloc, "REFL_TAC")?, RunningTac::ReflTac))?;
-    Ok(set_up(table, 10))
-}
 
 // A command that was carried out, what it read and its outcome.
 #[derive(Drop)]
@@ -69,9 +67,8 @@ fn copies_are_same(alloc: Global, step: &Step) -> Result<bool, Fail> {
 }
 
 // Whether the text is a command that is, carried out, the same as its copies.
-fn is_copied(alloc: Global, text: &str, state: &mut State) -> Result<bool, Fail> {
-    let setup = setup(alloc)?;
-    match carry_out(alloc, &setup, text, state)? {
+fn is_copied(alloc: Global, setup: &Setup, text: &str, state: &mut State) -> Result<bool, Fail> {
+    match carry_out(alloc, setup, text, state)? {
         Some(step) => copies_are_same(alloc, &step),
         None => Ok(false),
     }
@@ -86,22 +83,20 @@ fn stands(alloc: Global, state: &State, name: &str) -> Result<bool, Fail> {
 
 #[test]
 fn copies_of_steps_and_keys_are_the_same(rt: HostRuntime) -> Result<(), Fail> {
-    let mut state = State::new(rt.alloc());
+    let alloc = rt.alloc();
+    let tac = Box::new(
+        alloc,
+        move |args: &TacArgs, goal: &Goal, turns: u32|
+            requires { turns ≤ 100000 }
+        { refl_tac(alloc, args, goal, turns) },
+    )?;
+    let setup = setup_of_one(alloc, "REFL_TAC", TacCode::ReflTac, tac)?;
+    let mut state = State::new(alloc);
     for text in ["qed", PROOF[0], PROOF[1], PROOF[2]] {
-        assert!(rt; is_copied(rt.alloc(), text, &mut state)?);
+        assert!(rt; is_copied(alloc, &setup, text, &mut state)?);
     }
-    assert!(rt; stands(rt.alloc(), &state, "REFL1")?);
+    assert!(rt; stands(alloc, &state, "REFL1")?);
     Ok(())
-}
-
-// The documents of one theory with these commands.
-fn documents(alloc: Global, texts: &[&str]) -> Result<Docs, Fail> {
-    let mut docs = begun(alloc, &["hol-serve"])?;
-    docs.new_theory("A", 0)?;
-    for (at, text) in texts.iter().enumerate() {
-        docs.insert("A", at, text)?;
-    }
-    Ok(docs)
 }
 
 // The texts of a goal, one a line.
@@ -135,9 +130,8 @@ fn texts_of(alloc: Global, report: &Report) -> Result<String, Fail> {
     Ok(out)
 }
 
-#[test]
-fn copies_of_reports_have_the_same_texts(rt: HostRuntime) -> Result<(), Fail> {
-    let docs = documents(rt.alloc(), &["qed", PROOF[0], PROOF[1], PROOF[2]])?;
+// That reports and their copies have the same texts.
+fn expect_copies<R: Abort + AllocGlobal>(rt: &R, docs: &Docs) -> Result<(), Fail> {
     for at in 0..4usize {
         let report = docs.report("A", at)?;
         let copy = report.copy(rt.alloc())?;
@@ -146,4 +140,19 @@ fn copies_of_reports_have_the_same_texts(rt: HostRuntime) -> Result<(), Fail> {
         assert!(rt; at == 2 || !texts.is_empty());
     }
     Ok(())
+}
+
+#[test]
+fn copies_of_reports_have_the_same_texts(rt: HostRuntime) -> Result<(), Fail> {
+    let alloc = rt.alloc();
+    let tac = Box::new(
+        alloc,
+        move |args: &TacArgs, goal: &Goal, turns: u32|
+            requires { turns ≤ 100000 }
+        { refl_tac(alloc, args, goal, turns) },
+    )?;
+    let setup = setup_of_one(alloc, "REFL_TAC", TacCode::ReflTac, tac)?;
+    let mut docs = Docs::new(alloc, setup, 1);
+    insert_all(&mut docs, &["qed", PROOF[0], PROOF[1], PROOF[2]])?;
+    expect_copies(&rt, &docs)
 }

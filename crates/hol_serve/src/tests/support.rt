@@ -1,8 +1,17 @@
 //! Sessions over a text.
+ghost use Rattle.std.specs.Prelude.{◌≡◌, ℕ, ◌≤◌, IfOk, true};
+ghost use Rattle.hol_goal.specs.Arguments.{arguments_of};
+ghost use Rattle.hol_goal.specs.ArgumentsView.{args_value};
+ghost use Rattle.hol_just.specs.Answering.{AnswersCode, IsJustified};
+ghost use Rattle.hol_exec.specs.Setup.{is_nothing};
 
-use crate::begun::begun;
+use crate::begun::serve_begun;
 use crate::lines::{Fault, Sink, Source, Watched};
-use crate::serving::run;
+use hol_document::{Docs, DocsError};
+use hol_exec::Setup;
+use hol_goal::{Goal, TacArgs, TacCode};
+use hol_just::{TacFault, Tried};
+use hol_registry::{Entry, Registry};
 use std::alloc::Global;
 use std::fmt::Write;
 use std::process::Abort;
@@ -36,10 +45,7 @@ pub(crate) fn session<R: Source, W: Sink>(
     reader: &mut R,
     writer: &mut W,
 ) -> Result<(), Fault> {
-    let Ok(mut docs) = begun(alloc, &["hol-serve"]) else {
-        return Err(Fault::Memory);
-    };
-    run(alloc, reader, writer, &mut docs)
+    serve_begun(alloc, 10_000, 256, reader, writer)
 }
 
 /// What a session over the text writes.
@@ -129,6 +135,35 @@ pub(crate) fn expect_reports<R: Abort + AllocGlobal>(
             expect_report(rt, before, commands.as_str(), want)?;
             commands.clear();
         }
+    }
+    Ok(())
+}
+
+/// A registered function on goals.
+pub(crate) type Tac = Box<dyn Fn(&TacArgs, &Goal, u32) -> Result<Tried, TacFault>>;
+
+/// A set-up of one function, which takes no arguments, and of ten turns.
+pub(crate) fn setup_of_one(
+    alloc: Global,
+    name: &str,
+    code: TacCode,
+    tac: Tac,
+) -> Result<Setup, Fail>
+    requires callable { (args : _) (goal : _) (turns : ℕ) → turns ≤ 100000 → Tac.pre tac args goal turns }
+    requires answers { (args : _) (goal : _) (turns : ℕ) (result : _) → turns ≤ 100000 → Tac.post tac args goal turns result → AnswersCode code (args_value args.now) goal.now turns result }
+    requires valid { (args : _) (goal : _) (turns : ℕ) (result : _) → turns ≤ 100000 → Tac.post tac args goal turns result → IfOk result (λ tried. IsJustified (args_value args.now) goal.now tried.step) }
+    requires plain { is_nothing (arguments_of code) ≡ true }
+{
+    let mut entries = Vec::new(alloc);
+    entries.push(Entry::new(String::from_str(alloc, name)?, code, tac))?;
+    Ok(Setup::new(Registry::new(entries)?, 10))
+}
+
+/// Puts commands into a theory of their own.
+pub(crate) fn insert_all(docs: &mut Docs, texts: &[&str]) -> Result<(), DocsError> {
+    docs.new_theory("A", 0)?;
+    for (at, text) in texts.iter().enumerate() {
+        docs.insert("A", at, text)?;
     }
     Ok(())
 }

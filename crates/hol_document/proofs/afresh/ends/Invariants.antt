@@ -5,4 +5,4 @@ use Rattle.hol_document.specs.Run.{EndSo}
 use Rattle.hol_document.proofs.afresh.ends.Given as goal
 
 abbrev pub invariant-loop-theory : goal.invariant-loop-theory
-invariant-loop-theory l = EndSo (setup_value l.setup) (take l.theory-index l.theories) (map end_value l.ends.items)
+invariant-loop-theory g l = EndSo (setup_value l.setup) (take l.theory-index l.theories) (map end_value l.ends.items)

@@ -6,7 +6,7 @@ use Rattle.hol_document.proofs.Running.{report_is}
 use Rattle.hol_document.proofs.afresh.report.Goals as goal
 
 pub returns : goal.returns
-returns c = IfOk-weaker c.report_of.result _ _ (λ report says.
+returns g c = IfOk-weaker c.report_of.result _ _ (λ report says.
     report_is (record { theories = c.args.theories.now; setup = setup_value c.args.setup.now }) c.args.i c.args.at c.index-theories-i.result _ _ c.lines-lines.result.now _ c.index-lines-at.result
     c.in_ok-state.state c.run.new.state _ (report_value report)
     c.requires.theory c.index-theories-i.is (grind arith) c.lines-lines.ensures c.requires.command c.index-lines-at.is (grind arith)

@@ -5,4 +5,4 @@ use Rattle.hol_document.specs.Run.{LeadTo}
 use Rattle.hol_document.proofs.afresh.state_after.Given as goal
 
 abbrev pub invariant-loop-line : goal.invariant-loop-line
-invariant-loop-line l = LeadTo (setup_value l.setup) (map end_value l.earlier) (take l.line-index l.lines) l.state
+invariant-loop-line g l = LeadTo (setup_value l.setup) (map end_value l.earlier) (take l.line-index l.lines) l.state

@@ -1,0 +1,66 @@
+//! Documents under edit, as lines are answered over them.
+ghost use Rattle.std.specs.Prelude.{◌≡◌, Ok, Err, IfOk, IfErr, OnOk, OnErr, map, string_bytes};
+ghost use Rattle.std.specs.Option.{option_map};
+ghost use Rattle.hol_exec.specs.ReportView.{report_value};
+ghost use Rattle.hol_document.specs.Asked.{IfRefused, Reported, BasisOf};
+ghost use Rattle.hol_document.specs.Documents.{Documents, with_theory, with_command};
+ghost use Rattle.hol_document.specs.Shown.{ShowsProved, TellsOfProved};
+
+use crate::docs::Docs;
+use crate::error::DocsError;
+use hol_exec::Report;
+
+/// Documents under edit, as those who answer requests over them see them. [`Docs`] are such; they hold closures, and what is generic over this trait may make
+/// closures of its own, as reading and writing JSON does.
+pub trait Editable {
+    /// What they are.
+    ghost value: { Self → Documents };
+
+    /// Makes a theory, as [`Docs::new_theory`].
+    fn new_theory(&mut self, name: &str, at: usize) -> Result<(), DocsError>
+        ensures ok { OnOk result (with_theory (value self.old).theories name.now at ≡ Ok (value self.new).theories) }
+        ensures refused { IfErr result (IfRefused (λ refusal. with_theory (value self.old).theories name.now at ≡ Err refusal)) }
+        ensures kept { OnErr result (value self.new ≡ value self.old) }
+        ensures setup { (value self.new).setup ≡ (value self.old).setup };
+
+    /// Puts a command's text at a place, as [`Docs::insert`].
+    fn insert(&mut self, theory: &str, at: usize, text: &str) -> Result<(), DocsError>
+        ensures ok { OnOk result (with_command (value self.old).theories theory.now at text.now ≡ Ok (value self.new).theories) }
+        ensures refused { IfErr result (IfRefused (λ refusal. with_command (value self.old).theories theory.now at text.now ≡ Err refusal)) }
+        ensures kept { OnErr result (value self.new ≡ value self.old) }
+        ensures setup { (value self.new).setup ≡ (value self.old).setup };
+
+    /// The report on a command, as [`Docs::report`].
+    fn report(&self, theory: &str, at: usize) -> Result<Report, DocsError>
+        ensures ok { IfOk result (λ report. Reported (value self.now) theory.now at (Ok (report_value report))) }
+        ensures proved { IfOk result (λ report. ShowsProved (value self.now) theory.now at (report_value report)) }
+        ensures refused { IfErr result (IfRefused (λ refusal. Reported (value self.now) theory.now at (Err refusal))) };
+
+    /// The items of a theorem's basis, as [`Docs::basis`].
+    fn basis(&self, theory: &str, name: &str) -> Result<Option<Vec<String>>, DocsError>
+        ensures ok { IfOk result (λ texts. BasisOf (value self.now) theory.now name.now (Ok (option_map (λ ts. map string_bytes ts.items) texts))) }
+        ensures proved { IfOk result (λ texts. TellsOfProved (value self.now) theory.now name.now (option_map (λ ts. map string_bytes ts.items) texts)) }
+        ensures refused { IfErr result (IfRefused (λ refusal. BasisOf (value self.now) theory.now name.now (Err refusal))) };
+}
+
+impl Editable for Docs {
+    ghost use Rattle.hol_document.specs.DocsView.{documents};
+
+    ghost value = { λ docs. documents docs };
+
+    fn new_theory(&mut self, name: &str, at: usize) -> Result<(), DocsError> {
+        Docs::new_theory(self, name, at)
+    }
+
+    fn insert(&mut self, theory: &str, at: usize, text: &str) -> Result<(), DocsError> {
+        Docs::insert(self, theory, at, text)
+    }
+
+    fn report(&self, theory: &str, at: usize) -> Result<Report, DocsError> {
+        Docs::report(self, theory, at)
+    }
+
+    fn basis(&self, theory: &str, name: &str) -> Result<Option<Vec<String>>, DocsError> {
+        Docs::basis(self, theory, name)
+    }
+}

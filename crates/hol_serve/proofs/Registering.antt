@@ -1,0 +1,97 @@
+-- Codes whose functions the program registers.
+use Rattle.std.specs.Prelude.{◌≡◌, ◌+◌, ◌<◌, ◌≤◌, ◌&&◌, ℕ, Bool, true, false, not, List, [], ◌∷◌, ◌++◌, map, take, length, get_or, bytes_eq, is_some, Option, Some, None, refl, suc, zero, string_bytes}
+use Rattle.std.specs.List.{list_all}
+use Rattle.std.proofs.Common.{ap, ◌∙◌, arith}
+use Rattle.std.proofs.lemmas.Bool.{and_parts}
+use Rattle.std.proofs.lemmas.List.{take_all}
+use Rattle.std.proofs.lemmas.Slice.Eq.{bytes_eq-Decides}
+use Rattle.hol_goal.specs.Arguments.{arguments_of}
+use Rattle.hol_goal.specs.TacNames.{tac_name}
+use Rattle.hol_goal.specs.declared.tac_code.TacCode.{TacCode}
+use Rattle.hol_just.specs.Tac.{Meaning, tac}
+use Rattle.hol_registry.specs.RegistryView.{name, row}
+use Rattle.hol_registry.specs.declared.entry.Entry.{Entry}
+use Rattle.hol_registry.specs.Refusal.{IsRefusal}
+use Rattle.hol_registry.specs.declared.error.RegistryError.{RegistryError}
+use Rattle.hol_registry.specs.declared.error.RegistryError.TheVariants.{Twice}
+use Rattle.hol_exec.specs.Setup.{is_nothing, take_nothing}
+use Rattle.hol_document.specs.Documents.{Documents}
+use Rattle.hol_serve.specs.BegunView.{row_of, names_differ, is_known, are_known}
+
+pub has_meaning : (code : TacCode) → is_some (tac code) ≡ true → tac code ≡ None → ⊥
+has_meaning code e f = by (tac code) e f
+  where
+    by : (o : Option Meaning) → is_some o ≡ true → o ≡ None → ⊥
+    by None e f = absurd (cc)
+    by (Some m) e f = absurd (cc)
+
+-- ---- a code of the list
+
+all_at : {X : Type 0} (p : X → Bool) (xs : List X) (i : ℕ) (x : X) → list_all p xs ≡ true → i < length xs → x ≡ get_or xs i x → p x ≡ true
+all_at p [] i x all l is = absurd (omega (arith, l))
+all_at p (y ∷ xs) zero x all l is = ap p is ∙ (and_parts (p y) (list_all p xs) all).0
+all_at p (y ∷ xs) (suc i) x all l is = all_at p xs i x (and_parts (p y) (list_all p xs) all).1 (omega (arith, l)) is
+
+pub known_at : (codes : List TacCode) (i : ℕ) (code : TacCode) → are_known codes ≡ true → i < length codes → code ≡ get_or codes i code → is_some (tac code) ≡ true
+known_at codes i code known l is =
+    let each = all_at is_known codes i code (and_parts (list_all is_known codes) (names_differ (map tac_name codes)) known).0 l is in
+    (and_parts (is_some (tac code)) (is_nothing (arguments_of code)) each).0
+
+-- ---- all of them
+
+all_rows : (codes : List TacCode) → list_all is_known codes ≡ true → take_nothing (map row_of codes) ≡ true
+all_rows [] all = refl
+all_rows (code ∷ codes) all =
+    let parts = and_parts (is_known code) (list_all is_known codes) all in
+    let first : is_nothing (arguments_of code) ≡ true = (and_parts (is_some (tac code)) (is_nothing (arguments_of code)) parts.0).1 in
+    λ i. both (first i) (all_rows codes parts.1 i)
+  where
+    both : Bool → Bool → Bool
+    both a b = a && b
+
+pub rows_plain : (codes : List TacCode) (rows : List (List ℕ × TacCode)) → are_known codes ≡ true → rows ≡ map row_of codes → take_nothing rows ≡ true
+rows_plain codes rows known is = ap take_nothing is ∙ all_rows codes (and_parts (list_all is_known codes) (names_differ (map tac_name codes)) known).0
+
+pub names_of_rows : {X W g : _} (entries : List (Entry X W g)) → map name entries ≡ map (λ (r : List ℕ × TacCode). r.0) (map row entries)
+names_of_rows [] = refl
+names_of_rows (entry ∷ entries) = ap (λ names. name entry ∷ names) (names_of_rows entries)
+
+names_of : (codes : List TacCode) → map (λ (row : List ℕ × TacCode). row.0) (map row_of codes) ≡ map tac_name codes
+names_of [] = refl
+names_of (code ∷ codes) = ap (λ names. tac_name code ∷ names) (names_of codes)
+
+pub names_plain : (codes : List TacCode) (rows : List (List ℕ × TacCode)) → are_known codes ≡ true → rows ≡ map row_of codes → names_differ (map (λ (row : List ℕ × TacCode). row.0) rows) ≡ true
+names_plain codes rows known is =
+    ap (λ (rs : List (List ℕ × TacCode)). names_differ (map (λ (row : List ℕ × TacCode). row.0) rs)) is
+    ∙ ap names_differ (names_of codes)
+    ∙ (and_parts (list_all is_known codes) (names_differ (map tac_name codes)) known).1
+
+-- ---- no name is met again
+
+not_true : (b : Bool) → not b ≡ true → b ≡ true → ⊥
+not_true true e f = absurd (cc)
+not_true false e f = absurd (cc)
+
+apart : (name : List ℕ) (names after : List (List ℕ)) → list_all (λ other. not (bytes_eq name other)) (names ++ name ∷ after) ≡ true → ⊥
+apart name [] after e = not_true (bytes_eq name name) (and_parts (not (bytes_eq name name)) (list_all (λ other. not (bytes_eq name other)) after) e).0 ((bytes_eq-Decides name name).1 refl)
+apart name (n ∷ names) after e = apart name names after (and_parts (not (bytes_eq name n)) (list_all (λ other. not (bytes_eq name other)) (names ++ name ∷ after)) e).1
+
+again : (names after : List (List ℕ)) (name : List ℕ) (i : ℕ) → i < length names → get_or names i name ≡ name → names_differ (names ++ name ∷ after) ≡ true → ⊥
+again [] after name i l is e = absurd (omega (arith, l))
+again (n ∷ names) after name zero l is e =
+    let parts = and_parts (list_all (λ other. not (bytes_eq n other)) (names ++ name ∷ after)) (names_differ (names ++ name ∷ after)) e in
+    apart name names after (rw is at parts.0)
+again (n ∷ names) after name (suc i) l is e =
+    again names after name i (omega (arith, l)) is (and_parts (list_all (λ other. not (bytes_eq n other)) (names ++ name ∷ after)) (names_differ (names ++ name ∷ after)) e).1
+
+pub twice_not : (names : List (List ℕ)) (error : RegistryError) → names_differ names ≡ true → IsRefusal names error → ⊥
+twice_not names (Twice name) e h = again h.before h.after (string_bytes name) h.again.0 h.again.1 h.again.2 (rw h.stands at e)
+
+-- ---- the documents that a session begins with
+
+-- the rows of the codes that were gone through are those of all
+pub rows_taken : (codes : List TacCode) (n : ℕ) (rows : List (List ℕ × TacCode)) → length codes ≤ n → rows ≡ map row_of (take n codes) → rows ≡ map row_of codes
+rows_taken codes n rows end is = is ∙ ap (map row_of) (take_all n codes end)
+
+pub begins : (P : Documents → Documents → Type 0) (old new start : Documents) → old ≡ start → P old new → (n : Documents) × P start n
+begins P old new start e h = (new, rw e at h)
