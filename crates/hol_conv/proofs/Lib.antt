@@ -3,3 +3,5 @@ pub mod Reducts
 pub mod BetaTurns
 pub mod Passing
 pub mod AllTurns
+pub mod Conversions
+pub mod Ended

@@ -2,3 +2,4 @@ pub mod Beta
 pub mod Turns
 pub mod Outcomes
 pub mod Paths
+pub mod Equations

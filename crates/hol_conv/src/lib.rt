@@ -4,7 +4,9 @@
 #![tactic(auto)]
 
 mod beta;
+mod conversion;
 mod direction;
+mod equations;
 mod error;
 mod next;
 mod reduct;
@@ -12,5 +14,6 @@ mod rewritten;
 mod turned;
 
 pub use beta::beta_all;
+pub use conversion::beta_conversion;
 pub use error::ConvError;
 pub use rewritten::Rewritten;

@@ -3,7 +3,7 @@ ghost use Rattle.std.specs.Prelude.{◌≡◌, [], IfOk, IfSome, MatchOption, re
 ghost use Rattle.hol_terms.specs.Named.{named_type};
 ghost use Rattle.hol_terms.specs.Nameless.{nameless};
 ghost use Rattle.hol_conv.specs.Beta.{beta_turn};
-ghost use Rattle.hol_conv.specs.Paths.{Passed};
+ghost use Rattle.hol_conv.specs.Paths.{Passed, IsTurned};
 
 use crate::direction::Direction;
 use crate::reduct::reduct;
@@ -23,6 +23,7 @@ pub(crate) fn next(
     requires { Passed (reverse path.now) t.now }
     ensures turn { IfOk result (λ found. MatchOption found (beta_turn (nameless [] t.now) ≡ None) (λ r. beta_turn (nameless [] t.now) ≡ Some (nameless [] r.term))) }
     ensures passed { IfOk result (λ found. IfSome found (λ r. Passed (reverse r.path.items) r.term)) }
+    ensures at { IfOk result (λ found. IfSome found (λ r. IsTurned (reverse r.path.items) t.now r.term)) }
     ensures typed { IfOk result (λ found. IfSome found (λ r. named_type r.term ≡ named_type t.now)) }
 {
     let _ty = t.type_of();
