@@ -12,10 +12,10 @@ use Rattle.hol_infer.specs.declared.cell.Equation.{Equation}
 use Rattle.hol_infer.specs.declared.generate.Graph.{Graph}
 use Rattle.hol_infer.specs.Graph.{Respects, EquationHolds, IsSolution}
 use Rattle.hol_infer.specs.Generate.{Solves, slots, slot_of, IsWellFormed, IsFresh, Generates}
-use Rattle.hol_infer.specs.Expanding.{Refines, IsSettled}
+use Rattle.hol_infer.specs.Expanding.{Refines}
 use Rattle.hol_infer.specs.Found.{types_at, AreGeneral}
 use Rattle.hol_infer.specs.Solved.{IsGraphOf, IsSolvedBy, IsGeneralTyping}
-use Rattle.hol_infer.proofs.Extending.{term_agree, are_slots_in_more}
+use Rattle.hol_infer.proofs.Extending.{agree_trans, term_agree, are_slots_in_more}
 
 -- ---- the graph of a whole term
 
@@ -62,18 +62,21 @@ solves_by_names g types s = record {
   names = λ a k e. ap (name_type types) e;
 }
 
-pub solved_by : (g h : Graph) (shapes : List ShapeTree) → IsSettled g h → AreGeneral h.cells.items shapes → IsSolvedBy g shapes
-solved_by g h shapes settled general = record {
-  more = (let m = settled.refines.more in let n = general.len in omega (arith, m, n));
+pub solved_by : (g h : Graph) (shapes : List ShapeTree) → Refines g h → h.pending.items ≡ [] → AreGeneral h.cells.items shapes → IsSolvedBy g shapes
+solved_by g h shapes refines solved general = record {
+  more = (let m = refines.more in let n = general.len in omega (arith, m, n));
   solves = λ at.
       let s : IsSolution h.cells.items h.pending.items (types_at shapes at) =
-      record { respects = general.respects at; equations = rw settled.solved (All-nil (EquationHolds (types_at shapes at))) } in
+      record { respects = general.respects at; equations = rw solved (All-nil (EquationHolds (types_at shapes at))) } in
       let type_of = λ (a : List ℕ). name_type (types_at shapes at) (slot_of h.names.items a) in
-      (type_of, settled.refines.sound type_of (types_at shapes at) (solves_by_names h (types_at shapes at) s));
+      (type_of, refines.sound type_of (types_at shapes at) (solves_by_names h (types_at shapes at) s));
   instances = λ type_of types s.
-      let x = settled.refines.complete type_of types s in
-      (x.0, x.1, general.instances x.0 x.2.solution.respects);
+      let x = refines.complete type_of types s in
+      let y = general.instances x.0 x.2.solution.respects in
+      (y.0, agree_trans (slots g) (slots h) types x.0 y.0 refines.more x.1 y.1, y.2);
   rigid = general.rigid;
+  limit = general.limit;
+  small = general.small;
   below = general.below;
 }
 
@@ -83,8 +86,8 @@ unsettled g h refines none types s =
     let x = refines.complete (λ (a : List ℕ). name_type types (slot_of g.names.items a)) types (solves_by_names g types s) in
     none x.0 x.2.solution
 
-pub unsolved : (g h : Graph) → IsSettled g h → ((types : ℕ → TypeTree) → Respects h.cells.items types → ⊥) → (types : ℕ → TypeTree) → IsSolution g.cells.items g.pending.items types → ⊥
-unsolved g h settled none = unsettled g h settled.refines (λ types s. none types s.respects)
+pub unsolved : (g h : Graph) → Refines g h → ((types : ℕ → TypeTree) → Respects h.cells.items types → ⊥) → (types : ℕ → TypeTree) → IsSolution g.cells.items g.pending.items types → ⊥
+unsolved g h refines none = unsettled g h refines (λ types s. none types s.respects)
 
 -- ---- typings
 
@@ -111,6 +114,8 @@ general_of raw g term shapes of solved = record {
       let y = solved.instances x.0 x.1 x.2 in
       (y.0, x.3 ∙ term_agree (slots g) x.1 y.0 term y.1 of.slots_in ∙ typed_same y.0 (types_at shapes y.0) term y.2);
   rigid = solved.rigid;
+  limit = solved.limit;
+  small = solved.small;
   below = solved.below;
 }
 

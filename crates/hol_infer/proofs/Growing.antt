@@ -161,14 +161,17 @@ cell_holds_agree n i types types' (Generic ty) a lt in' h = subst (IsGenericInst
 cell_holds_agree n i types types' (App c parts) a lt in' h =
     sym (a.agree i lt) ∙ h ∙ app_ap c (map types parts.items) (map types' parts.items) (parts_agree n types types' parts.items a in')
 
+pub respects_agree : (cells : List Cell) (types types' : ℕ → TypeTree) → IsGraph cells → Agree (length cells) types types' → Respects cells types → Respects cells types'
+respects_agree cells types types' g a r = record {
+  cell = λ i. elim (cases_lt i (length cells)) [
+    | inl lt ↦ cell_holds_agree (length cells) i types types' (cell_at cells i) a lt (g.cell_in i) (r.cell i)
+    | inr ge ↦ rw (past_cell cells i ge) tt
+  ];
+}
+
 pub agree_solves : (cells : List Cell) (pending : List Equation) (types types' : ℕ → TypeTree) → IsGraph cells → AreIn cells pending → Agree (length cells) types types' → IsSolution cells pending types → IsSolution cells pending types'
 agree_solves cells pending types types' g p a s = record {
-  respects = record {
-    cell = λ i. elim (cases_lt i (length cells)) [
-      | inl lt ↦ cell_holds_agree (length cells) i types types' (cell_at cells i) a lt (g.cell_in i) (s.respects.cell i)
-      | inr ge ↦ rw (past_cell cells i ge) tt
-    ];
-  };
+  respects = respects_agree cells types types' g a s.respects;
   equations = λ k d lt. let in' = p k d lt in sym (a.agree (get_or pending k d).left in'.0) ∙ s.equations k d lt ∙ a.agree (get_or pending k d).right in'.1;
 }
 

@@ -67,7 +67,7 @@ or_left : (a b : Bool) → (a || b) ≡ false → a ≡ false
 or_left false b e = refl
 or_left true b e = e
 
-among_front : (a : List ℕ) (xs ys : List (List ℕ)) → is_among xs a ≡ true → is_among (xs ++ ys) a ≡ true
+pub among_front : (a : List ℕ) (xs ys : List (List ℕ)) → is_among xs a ≡ true → is_among (xs ++ ys) a ≡ true
 among_front a [] ys e = absurd (cc)
 among_front a (x ∷ xs) ys e = by (bytes_eq a x) e (among_front a xs ys)
   where
@@ -75,7 +75,7 @@ among_front a (x ∷ xs) ys e = by (bytes_eq a x) e (among_front a xs ys)
     by true f r = refl
     by false f r = r f
 
-among_back : (a : List ℕ) (xs ys : List (List ℕ)) → is_among ys a ≡ true → is_among (xs ++ ys) a ≡ true
+pub among_back : (a : List ℕ) (xs ys : List (List ℕ)) → is_among ys a ≡ true → is_among (xs ++ ys) a ≡ true
 among_back a [] ys e = e
 among_back a (x ∷ xs) ys e = by (bytes_eq a x) (among_back a xs ys e)
   where

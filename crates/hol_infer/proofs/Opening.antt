@@ -1,27 +1,25 @@
 -- Slots for the parts of generic types keep the solutions.
-use Rattle.std.proofs.Common.{◌≡◌, ◌≢◌, ℕ, zero, suc, ◌+◌, ◌<◌, ◌≤◌, inl, inr, List, [], ◌∷◌, ◌++◌, length, map, set, get_or, refl, sym, ◌∙◌, ap, subst, arith, true, length-append, length-set, bytes_eq}
+use Rattle.std.proofs.Common.{◌≡◌, ℕ, ◌+◌, ◌<◌, List, [], ◌∷◌, ◌++◌, length, map, set, get_or, refl, sym, ◌∙◌, ap, subst, arith, true, length-append, length-set}
 use Rattle.std.specs.Prelude.{◌↔◌}
-use Rattle.std.specs.List.{All, sum_by}
-use Rattle.std.proofs.lemmas.Bool.{cases_eq, cases_lt}
+use Rattle.std.specs.List.{All}
 use Rattle.std.proofs.lemmas.Slice.Eq.{bytes_eq-Decides}
-use Rattle.std.proofs.lemmas.List.{get_or_append_left, get_or_past}
-use Rattle.std.proofs.lemmas.List.Elements.{All-head, All-tail}
+use Rattle.std.proofs.lemmas.List.{get_or_append_left, append-nil}
+use Rattle.std.proofs.lemmas.List.Elements.{All-nil, All-head, All-tail}
 use Rattle.std.proofs.lemmas.List.Sums.{sum_by-set, sum_by-append, sum_by-cons}
-use Rattle.hol_types.specs.Tree.{TypeTree, TyVar, TyApp, type_list}
+use Rattle.hol_types.specs.Tree.{TypeTree, TyVar, TyApp, type_list, type_size}
 use Rattle.hol_types.specs.Names.{is_among, type_names}
-use Rattle.hol_types.specs.Subst.{type_subst, types_subst, type_for}
+use Rattle.hol_types.specs.Subst.{type_subst, type_for}
 use Rattle.hol_infer.specs.Typing.{IsGenericInstance}
 use Rattle.hol_infer.specs.declared.cell.Cell.{Cell}
 use Rattle.hol_infer.specs.declared.cell.Cell.TheVariants.{Unknown, Link, Rigid, App, Generic}
-use Rattle.hol_infer.specs.declared.cell.Equation.{Equation}
 use Rattle.hol_infer.specs.declared.generate.Graph.{Graph}
-use Rattle.hol_infer.specs.Graph.{CellHolds, cell_at, Respects, IsSolution, IsGraph, IsCellIn, AreIn, IsExpandedCell, IsGenericCell, IsGenericAt, generic_weight, generics, SameSolutions, HasNoSolution}
-use Rattle.hol_infer.specs.Generate.{Solves, slots, IsWellFormed, Agree, Grows, AddsUnknown, BuildsTypes, pairs_from}
-use Rattle.hol_infer.specs.Expanding.{Refines, BuildsInstance, Expands, ExpandsAll, IsSettled}
+use Rattle.hol_infer.specs.Graph.{CellHolds, cell_at, Respects, IsGraph, IsCellIn, AreIn, IsExpandedCell, IsGenericCell, generic_weight, generics, SameSolutions}
+use Rattle.hol_infer.specs.Generate.{Solves, slots, IsWellFormed, Agree, AddsUnknown, BuildsTypes, pairs_from}
+use Rattle.hol_infer.specs.Expanding.{Refines, BuildsInstance, Expands}
 use Rattle.hol_infer.proofs.Growing.{solves_agree}
-use Rattle.hol_infer.proofs.Extending.{agree_trans, agree_refl, grows_refl, grows_trans, subst_list}
+use Rattle.hol_infer.proofs.Extending.{agree_trans, agree_refl, grows_trans, subst_list}
 use Rattle.hol_infer.proofs.Instances.{put_from, put_from_agree, put_from_at, named_types, subst_same}
-use Rattle.hol_infer.proofs.Merging.{written, kept, respects_set, holds_set, respects_unset, is_graph_set}
+use Rattle.hol_infer.proofs.Merging.{written, respects_set, holds_set, respects_unset, is_graph_set}
 
 -- ---- refining
 
@@ -58,6 +56,26 @@ refines_same g h w graph pending len names same = record {
   complete = λ type_of types s. (types, agree_refl (slots g) types, record { solution = (same types).1 s.solution; names = λ a k e. s.names a k (rw names at e) });
 }
 
+-- ---- cells of a graph that grows
+
+old_at : (cells extra : List Cell) (i : ℕ) → i < length cells → cell_at (cells ++ extra) i ≡ cell_at cells i
+old_at cells extra i lt = get_or_append_left cells extra Unknown i lt
+
+expanded_counts : (c : Cell) → IsExpandedCell c → generic_weight c ≡ 0
+expanded_counts Unknown h = refl
+expanded_counts (Link j) h = refl
+expanded_counts (Rigid a) h = refl
+expanded_counts (App d parts) h = refl
+expanded_counts (Generic ty) h = absurd h
+
+weights_none : (cells : List Cell) → All IsExpandedCell cells → generics cells ≡ 0
+weights_none [] all = refl
+weights_none (c ∷ cells) all =
+    let r = weights_none cells (All-tail IsExpandedCell c cells all) in
+    let h : generic_weight c ≡ 0 = expanded_counts c (All-head IsExpandedCell c cells all) in
+    let whole : generics (c ∷ cells) ≡ generic_weight c + generics cells = sum_by-cons generic_weight c cells in
+    omega (arith, r, h, whole)
+
 -- ---- the cell of an instance
 
 variable_for : (t : TypeTree) (a : List ℕ) → type_subst ((t, a) ∷ []) (TyVar a) ≡ t
@@ -66,10 +84,12 @@ variable_for t a = rw ((bytes_eq-Decides a a).1 refl) refl
 pub builds_variable : (g : Graph) (ty : TypeTree) (a : List ℕ) → TyVar a ≡ ty → IsWellFormed g → BuildsInstance g g Unknown ty
 builds_variable g ty a e w = record {
   well_formed = w;
-  grows = grows_refl g;
+  extra = [];
+  cells_are = sym (append-nil g.cells.items);
+  pending_are = refl;
   names_are = refl;
   cell_in = λ i. tt;
-  expanded = tt;
+  smaller = (let none = weights_none [] (All-nil IsExpandedCell) in let one : type_size ty ≡ 1 = ap type_size (sym e) in omega (arith, none, one));
   sound = λ type_of types s. (s, λ t holds. subst (λ (u : TypeTree). IsGenericInstance u t) e ((t, a) ∷ [], sym (variable_for t a)));
   complete = λ type_of types t s instance. (types, agree_refl (slots g) types, s, tt);
 }
@@ -83,10 +103,15 @@ pub builds_constructed : (g g1 h : Graph) (c : List ℕ) (args : List TypeTree) 
     BuildsInstance g h cell (TyApp c (type_list args))
 builds_constructed g g1 h c args names base parts cell w covers base_is adds builds is in' plain = record {
   well_formed = builds.well_formed;
-  grows = grows_trans g g1 h adds.grows builds.grows;
+  extra = (grows_trans g g1 h adds.grows builds.grows).extra;
+  cells_are = (grows_trans g g1 h adds.grows builds.grows).cells_are;
+  pending_are = (grows_trans g g1 h adds.grows builds.grows).pending_are;
   names_are = builds.names_are ∙ adds.names_are;
   cell_in = in';
-  expanded = plain;
+  smaller =
+      let none = weights_none (grows_trans g g1 h adds.grows builds.grows).extra (grows_trans g g1 h adds.grows builds.grows).expanded in
+      let zero' = expanded_counts cell plain in
+      omega (arith, none, zero');
   sound = λ type_of types s.
       let q = builds.sound type_of types s in
       let σ = pairs_from types base names in
@@ -111,37 +136,6 @@ builds_constructed g g1 h c args names base parts cell w covers base_is adds bui
 
 pub builds_same : (g h : Graph) (cell : Cell) (s t : TypeTree) → s ≡ t → BuildsInstance g h cell s → BuildsInstance g h cell t
 builds_same g h cell s t e b = subst (λ (u : TypeTree). BuildsInstance g h cell u) e b
-
--- ---- cells of a graph that grows
-
-expanded_at : (cells : List Cell) → All IsExpandedCell cells → (i : ℕ) → IsExpandedCell (cell_at cells i)
-expanded_at cells all i = elim (cases_lt i (length cells)) [
-  | inl lt ↦ all i Unknown lt
-  | inr ge ↦ rw (get_or_past cells i Unknown ge) tt
-]
-
-old_at : (cells extra : List Cell) (i : ℕ) → i < length cells → cell_at (cells ++ extra) i ≡ cell_at cells i
-old_at cells extra i lt = get_or_append_left cells extra Unknown i lt
-
-extra_at : (cells extra : List Cell) (i : ℕ) → All IsExpandedCell extra → length cells ≤ i → IsExpandedCell (cell_at (cells ++ extra) i)
-extra_at [] extra i all ge = expanded_at extra all i
-extra_at (c ∷ cells) extra zero all ge = absurd (omega (arith, ge))
-extra_at (c ∷ cells) extra (suc i) all ge = extra_at cells extra i all (omega (arith, ge))
-
-expanded_counts : (c : Cell) → IsExpandedCell c → generic_weight c ≡ 0
-expanded_counts Unknown h = refl
-expanded_counts (Link j) h = refl
-expanded_counts (Rigid a) h = refl
-expanded_counts (App d parts) h = refl
-expanded_counts (Generic ty) h = absurd h
-
-weights_none : (cells : List Cell) → All IsExpandedCell cells → generics cells ≡ 0
-weights_none [] all = refl
-weights_none (c ∷ cells) all =
-    let r = weights_none cells (All-tail IsExpandedCell c cells all) in
-    let h : generic_weight c ≡ 0 = expanded_counts c (All-head IsExpandedCell c cells all) in
-    let whole : generics (c ∷ cells) ≡ generic_weight c + generics cells = sum_by-cons generic_weight c cells in
-    omega (arith, r, h, whole)
 
 -- ---- a slot whose generic type's parts get slots
 
@@ -168,22 +162,15 @@ module _ (g g0 g1 h : Graph) (slot : ℕ) (ty : TypeTree) (cell : Cell) (w : IsW
   slots1 : slots h ≡ slots g1
   slots1 = ap length cells1 ∙ length-set g1.cells.items slot cell
 
-  grown : slots g1 ≡ slots g + length builds.grows.extra
-  grown = ap length builds.grows.cells_are ∙ length-append g0.cells.items builds.grows.extra ∙ ap (λ (n : ℕ). n + length builds.grows.extra) slots0
+  grown : slots g1 ≡ slots g + length builds.extra
+  grown = ap length builds.cells_are ∙ length-append g0.cells.items builds.extra ∙ ap (λ (n : ℕ). n + length builds.extra) slots0
 
   in1 : slot < slots g1
   in1 = omega (arith, grown, slot_in)
 
-  -- the cells of h but the slot's
-  other : (i : ℕ) → i ≢ slot → cell_at h.cells.items i ≡ cell_at (g0.cells.items ++ builds.grows.extra) i
-  other i ne = ap (λ (xs : List Cell). cell_at xs i) cells1 ∙ kept g1.cells.items slot i cell ne ∙ ap (λ (xs : List Cell). cell_at xs i) builds.grows.cells_are
-
   middle : cell_at g1.cells.items slot ≡ Unknown
-  middle = ap (λ (xs : List Cell). cell_at xs slot) builds.grows.cells_are ∙ old_at g0.cells.items builds.grows.extra slot (omega (arith, slots0, slot_in))
+  middle = ap (λ (xs : List Cell). cell_at xs slot) builds.cells_are ∙ old_at g0.cells.items builds.extra slot (omega (arith, slots0, slot_in))
       ∙ ap (λ (xs : List Cell). cell_at xs slot) cells0 ∙ written g.cells.items slot Unknown slot_in
-
-  here : cell_at h.cells.items slot ≡ cell
-  here = ap (λ (xs : List Cell). cell_at xs slot) cells1 ∙ written g1.cells.items slot cell in1
 
   formed : IsWellFormed h
   formed = record {
@@ -231,30 +218,21 @@ module _ (g g0 g1 h : Graph) (slot : ℕ) (ty : TypeTree) (cell : Cell) (w : IsW
   pub expands_of : Expands g h slot
   expands_of = record {
     refines = record { well_formed = formed; more = omega (arith, slots1, grown); sound = sound_of; complete = complete_of };
-    pending_are = pending1 ∙ builds.grows.pending_are ∙ pending0;
-    done = rw here builds.expanded;
-    others = λ i ne lt. other i ne ∙ old_at g0.cells.items builds.grows.extra i (omega (arith, slots0, lt)) ∙ ap (λ (xs : List Cell). cell_at xs i) cells0 ∙ kept g.cells.items slot i Unknown ne;
-    new = λ i ge. (let ne : i ≢ slot = omega (arith, ge, slot_in) in rw (other i ne) (extra_at g0.cells.items builds.grows.extra i builds.grows.expanded (omega (arith, slots0, ge))));
     fewer = λ at.
         let a = sum_by-set generic_weight g1.cells.items slot cell Unknown in1 in
         let b : generics h.cells.items ≡ generics (set g1.cells.items slot cell) = ap generics cells1 in
-        let c : generic_weight cell ≡ 0 = expanded_counts cell builds.expanded in
-        let d : generics g1.cells.items ≡ generics g0.cells.items + generics builds.grows.extra = ap generics builds.grows.cells_are ∙ sum_by-append generic_weight g0.cells.items builds.grows.extra in
-        let e = weights_none builds.grows.extra builds.grows.expanded in
+        let d : generics g1.cells.items ≡ generics g0.cells.items + generics builds.extra = ap generics builds.cells_are ∙ sum_by-append generic_weight g0.cells.items builds.extra in
+        let e = builds.smaller in
         let f : generics g0.cells.items ≡ generics (set g.cells.items slot Unknown) = ap generics cells0 in
         let k = sum_by-set generic_weight g.cells.items slot Unknown Unknown slot_in in
-        let l : generic_weight (cell_at g.cells.items slot) ≡ 1 = ap generic_weight generic in
-        omega (arith, a, b, c, d, e, f, k, l);
+        let l : generic_weight (cell_at g.cells.items slot) ≡ type_size ty = ap generic_weight generic in
+        omega (arith, a, b, d, e, f, k, l);
   }
 
 -- a slot with no generic type stays
 pub expands_none : (g : Graph) (slot : ℕ) → IsWellFormed g → IsExpandedCell (cell_at g.cells.items slot) → Expands g g slot
 expands_none g slot w plain = record {
   refines = refines_refl g w;
-  pending_are = refl;
-  done = plain;
-  others = λ i ne lt. refl;
-  new = λ i ge. rw (get_or_past g.cells.items i Unknown ge) tt;
   fewer = λ at. absurd (apart (cell_at g.cells.items slot) plain at.1);
 }
   where
@@ -264,37 +242,3 @@ expands_none g slot w plain = record {
     apart (Rigid a) e h = h
     apart (App d parts) e h = h
     apart (Generic ty) e h = e
-
--- ---- all slots
-
-pub expands_all_none : (g : Graph) → IsWellFormed g → ExpandsAll g g 0
-expands_all_none g w = record {
-  refines = refines_refl g w;
-  pending_are = refl;
-  done = λ i lt. absurd (omega (arith, lt));
-  new = λ i ge. rw (get_or_past g.cells.items i Unknown ge) tt;
-}
-
-pub expands_all_more : (f g h : Graph) (n : ℕ) → n < slots f → ExpandsAll f g n → Expands g h n → ExpandsAll f h (n + 1)
-expands_all_more f g h n n_in all one = record {
-  refines = refines_trans f g h all.refines one.refines;
-  pending_are = one.pending_are ∙ all.pending_are;
-  done = λ i lt. elim (cases_eq i n) [
-    | inl e ↦ subst (λ (k : ℕ). IsExpandedCell (cell_at h.cells.items k)) (sym e) one.done
-    | inr ne ↦ rw (one.others i ne (omega (arith, lt, n_in, more))) (all.done i (omega (arith, lt, ne)))
-  ];
-  new = λ i ge. elim (cases_lt i (slots g)) [
-    | inl lt ↦ rw (one.others i (omega (arith, ge, n_in)) lt) (all.new i ge)
-    | inr past ↦ one.new i past
-  ];
-}
-  where
-    more : slots f ≤ slots g
-    more = all.refines.more
-
-pub settled_of : (f g h : Graph) → Refines f g → g.pending.items ≡ [] → ExpandsAll g h (slots g) → IsSettled f h
-settled_of f g h refines solved all = record {
-  refines = refines_trans f g h refines all.refines;
-  solved = all.pending_are ∙ solved;
-  expanded = λ i. elim (cases_lt i (slots g)) [ inl lt ↦ all.done i lt | inr ge ↦ all.new i ge ];
-}

@@ -99,21 +99,22 @@ mutual
   all_below n no_shapes h = tt
   all_below n (more_shapes s ss) (h, hs) = (holes_below n s h, all_below n ss hs)
 
-term_below : (shapes : List ShapeTree) (term : SlotTree) → ((i : ℕ) → i < length shapes → AreHolesBelow (length shapes) (shape_at shapes i)) → AreSlotsIn (length shapes) term → AreTermHolesIn shapes (below (length shapes)) term
-term_below shapes (SlotBound i) h in' = tt
-term_below shapes (SlotConstant c s) h in' = holes_below (length shapes) (shape_at shapes s) (h s in')
-term_below shapes (SlotFree x s) h in' = holes_below (length shapes) (shape_at shapes s) (h s in')
-term_below shapes (SlotApply f a) h (p, q) = (term_below shapes f h p, term_below shapes a h q)
-term_below shapes (SlotAbstraction x s b) h (p, q) = (holes_below (length shapes) (shape_at shapes s) (h s p), term_below shapes b h q)
+term_below : (limit : ℕ) (shapes : List ShapeTree) (term : SlotTree) → ((i : ℕ) → i < length shapes → AreHolesBelow limit (shape_at shapes i)) → AreSlotsIn (length shapes) term → AreTermHolesIn shapes (below limit) term
+term_below limit shapes (SlotBound i) h in' = tt
+term_below limit shapes (SlotConstant c s) h in' = holes_below limit (shape_at shapes s) (h s in')
+term_below limit shapes (SlotFree x s) h in' = holes_below limit (shape_at shapes s) (h s in')
+term_below limit shapes (SlotApply f a) h (p, q) = (term_below limit shapes f h p, term_below limit shapes a h q)
+term_below limit shapes (SlotAbstraction x s b) h (p, q) = (holes_below limit (shape_at shapes s) (h s p), term_below limit shapes b h q)
 
 -- where the term has over 20,000 nodes, so has a most general typing
-pub large_of : (raw : RawTree) (shapes : List ShapeTree) (term : SlotTree) → length shapes < 2 ^ 64 → IsGeneralTyping raw shapes term → 20000 < slot_term_size shapes [] term → HasLargeReading raw
-large_of raw shapes term small general large =
-    let order = below (length shapes) in
-    let len = length_below (length shapes) in
+pub large_of : (raw : RawTree) (shapes : List ShapeTree) (term : SlotTree) → IsGeneralTyping raw shapes term → 20000 < slot_term_size shapes [] term → HasLargeReading raw
+large_of raw shapes term general large =
+    let order = below general.limit in
+    let len = length_below general.limit in
+    let small = general.small in
     let size = size_of shapes order term in (
       typed (types_at shapes (open_type order)) term,
-      principal_by raw shapes term order (omega (arith, len, small)) general (term_below shapes term general.below general.slots_in),
+      principal_by raw shapes term order (omega (arith, len, small)) general (term_below general.limit shapes term general.below general.slots_in),
       omega (arith, size, large),
     )
 

@@ -7,11 +7,16 @@ use Rattle.std.proofs.lemmas.List.Elements.{All-head, All-tail, All-contains}
 use Rattle.std.proofs.Math.Nat.{mul-le-mul_right}
 use Rattle.std.proofs.lemmas.List.Sums.{sum_by-set}
 use Rattle.hol_types.specs.Tree.{TypeTree, TypeList, TyApp, more_types, type_list, type_size, types_size}
+use Rattle.hol_types.specs.Names.{tyvars}
 use Rattle.hol_infer.specs.Shape.{ShapeTree, Hole, shape_list, fill, fills}
 use Rattle.hol_infer.specs.declared.cell.Cell.{Cell}
 use Rattle.hol_infer.specs.declared.cell.Cell.TheVariants.{Unknown, Link, Rigid, App, Generic}
-use Rattle.hol_infer.specs.Graph.{cell_at, Respects, CellHolds, IsGraph, IsCellIn, IsExpandedCell}
+use Rattle.hol_infer.specs.declared.numbering.Numbering.{Numbering}
+use Rattle.hol_infer.specs.Graph.{cell_at, Respects, CellHolds, IsGraph, IsCellIn}
+use Rattle.hol_infer.specs.Generate.{pairs_from}
+use Rattle.hol_infer.specs.Numbering.{base_at, limit_of, IsCounted, IsNumbering, IsNumberedAt, IsNumbered}
 use Rattle.hol_infer.specs.Found.{found_at, ArePartsFound, BuiltFrom, IsBlocked, HasRigidNames, HaveRigidNames, AreHolesBelow, AllHolesBelow, IsBuilt, IsStuckAt, IsStuck, none_weight, missing, shape_at, types_at, AreGeneral}
+use Rattle.hol_infer.proofs.Numbers.{filled, instance_rigid, instance_below, instance_fits, numbered}
 
 -- a sweep that has come to slot n
 abbrev pub SweepSoFar : List Cell → List (Option ShapeTree) → List (Option ShapeTree) → ℕ → Bool → Type 0
@@ -48,85 +53,85 @@ parts_keep found at t (p ∷ parts) (s ∷ shapes) none e =
     cons_same (found_at (set found at (Some t)) p) (Some s) (map (found_at (set found at (Some t))) parts) (map Some shapes)
     (keeps found at p s t none both.0) (parts_keep found at t parts shapes none both.1)
 
-built_from_more : (found : List (Option ShapeTree)) (at i : ℕ) (s t : ShapeTree) (cell : Cell) → found_at found at ≡ None → BuiltFrom found i s cell → BuiltFrom (set found at (Some t)) i s cell
-built_from_more found at i s t Unknown none b = b
-built_from_more found at i s t (Link j) none b = keeps found at j s t none b
-built_from_more found at i s t (Rigid a) none b = b
-built_from_more found at i s t (Generic ty) none b = b
-built_from_more found at i s t (App c parts) none (shapes, p, e) = (shapes, parts_keep found at t parts.items shapes none p, e)
+built_from_more : (numbering : Numbering) (found : List (Option ShapeTree)) (at i : ℕ) (s t : ShapeTree) (cell : Cell) → found_at found at ≡ None → BuiltFrom numbering found i s cell → BuiltFrom numbering (set found at (Some t)) i s cell
+built_from_more numbering found at i s t Unknown none b = b
+built_from_more numbering found at i s t (Link j) none b = keeps found at j s t none b
+built_from_more numbering found at i s t (Rigid a) none b = b
+built_from_more numbering found at i s t (Generic ty) none b = b
+built_from_more numbering found at i s t (App c parts) none (shapes, p, e) = (shapes, parts_keep found at t parts.items shapes none p, e)
 
 -- the types of parts are instances of their shapes
-parts_general : (cells : List Cell) (found : List (Option ShapeTree)) (types : ℕ → TypeTree) → IsBuilt cells found → Respects cells types → (parts : List ℕ) (shapes : List ShapeTree) → ArePartsFound found parts shapes → type_list (map types parts) ≡ fills types (shape_list shapes)
-parts_general cells found types b r [] [] e = refl
-parts_general cells found types b r [] (s ∷ shapes) e = absurd (cc)
-parts_general cells found types b r (p ∷ parts) [] e = absurd (cc)
-parts_general cells found types b r (p ∷ parts) (s ∷ shapes) e =
+parts_general : (cells : List Cell) (numbering : Numbering) (found : List (Option ShapeTree)) (types : ℕ → TypeTree) → IsBuilt cells numbering found → Respects cells types → IsNumbered cells numbering types → (parts : List ℕ) (shapes : List ShapeTree) → ArePartsFound found parts shapes → type_list (map types parts) ≡ fills types (shape_list shapes)
+parts_general cells numbering found types b r m [] [] e = refl
+parts_general cells numbering found types b r m [] (s ∷ shapes) e = absurd (cc)
+parts_general cells numbering found types b r m (p ∷ parts) [] e = absurd (cc)
+parts_general cells numbering found types b r m (p ∷ parts) (s ∷ shapes) e =
     let both = cons_parts (found_at found p) (Some s) (map (found_at found) parts) (map Some shapes) e in
     types_same (types p) (fill types s) (type_list (map types parts)) (fills types (shape_list shapes))
-    (b.general types r p s both.0) (parts_general cells found types b r parts shapes both.1)
+    (b.general types r m p s both.0) (parts_general cells numbering found types b r m parts shapes both.1)
 
 -- a shape made of general shapes is general
-built_from_general : (cells : List Cell) (found : List (Option ShapeTree)) (i : ℕ) (s : ShapeTree) (cell : Cell) (types : ℕ → TypeTree) → IsBuilt cells found → Respects cells types → CellHolds types (types i) cell → BuiltFrom found i s cell → types i ≡ fill types s
-built_from_general cells found i s Unknown types b r holds e = sym (ap (fill types) e)
-built_from_general cells found i s (Link j) types b r holds e = holds ∙ b.general types r j s e
-built_from_general cells found i s (Rigid a) types b r holds e = holds ∙ sym (ap (fill types) e)
-built_from_general cells found i s (Generic ty) types b r holds e = absurd e
-built_from_general cells found i s (App c parts) types b r holds (shapes, p, e) =
-    holds ∙ ap (TyApp c) (parts_general cells found types b r parts.items shapes p) ∙ sym (ap (fill types) e)
+built_from_general : (cells : List Cell) (numbering : Numbering) (found : List (Option ShapeTree)) (i : ℕ) (s : ShapeTree) (cell : Cell) (types : ℕ → TypeTree) → IsBuilt cells numbering found → Respects cells types → IsNumbered cells numbering types → CellHolds types (types i) cell → IsNumberedAt types (base_at numbering i) (types i) cell → BuiltFrom numbering found i s cell → types i ≡ fill types s
+built_from_general cells numbering found i s Unknown types b r m holds numbers e = sym (ap (fill types) e)
+built_from_general cells numbering found i s (Link j) types b r m holds numbers e = holds ∙ b.general types r m j s e
+built_from_general cells numbering found i s (Rigid a) types b r m holds numbers e = holds ∙ sym (ap (fill types) e)
+built_from_general cells numbering found i s (Generic ty) types b r m holds numbers e = numbers ∙ sym (filled types (base_at numbering i) ty) ∙ sym (ap (fill types) e)
+built_from_general cells numbering found i s (App c parts) types b r m holds numbers (shapes, p, e) =
+    holds ∙ ap (TyApp c) (parts_general cells numbering found types b r m parts.items shapes p) ∙ sym (ap (fill types) e)
 
 -- and one made of shapes with rigid names has rigid names
-parts_rigid : (cells : List Cell) (found : List (Option ShapeTree)) → IsBuilt cells found → (parts : List ℕ) (shapes : List ShapeTree) → ArePartsFound found parts shapes → HaveRigidNames (shape_list shapes)
-parts_rigid cells found b parts [] e = tt
-parts_rigid cells found b [] (s ∷ shapes) e = absurd (cc)
-parts_rigid cells found b (p ∷ parts) (s ∷ shapes) e =
+parts_rigid : (cells : List Cell) (numbering : Numbering) (found : List (Option ShapeTree)) → IsBuilt cells numbering found → (parts : List ℕ) (shapes : List ShapeTree) → ArePartsFound found parts shapes → HaveRigidNames (shape_list shapes)
+parts_rigid cells numbering found b parts [] e = tt
+parts_rigid cells numbering found b [] (s ∷ shapes) e = absurd (cc)
+parts_rigid cells numbering found b (p ∷ parts) (s ∷ shapes) e =
     let both = cons_parts (found_at found p) (Some s) (map (found_at found) parts) (map Some shapes) e in
-    (b.rigid p s both.0, parts_rigid cells found b parts shapes both.1)
+    (b.rigid p s both.0, parts_rigid cells numbering found b parts shapes both.1)
 
-built_from_rigid : (cells : List Cell) (found : List (Option ShapeTree)) (n i : ℕ) (s : ShapeTree) (cell : Cell) → IsBuilt cells found → IsCellIn n i cell → BuiltFrom found i s cell → HasRigidNames s
-built_from_rigid cells found n i s Unknown b in' e = subst HasRigidNames (sym e) tt
-built_from_rigid cells found n i s (Link j) b in' e = b.rigid j s e
-built_from_rigid cells found n i s (Rigid a) b in' e = subst HasRigidNames (sym e) in'
-built_from_rigid cells found n i s (Generic ty) b in' e = absurd e
-built_from_rigid cells found n i s (App c parts) b in' (shapes, p, e) = subst HasRigidNames (sym e) (parts_rigid cells found b parts.items shapes p)
+built_from_rigid : (cells : List Cell) (numbering : Numbering) (found : List (Option ShapeTree)) (n i : ℕ) (s : ShapeTree) (cell : Cell) → IsBuilt cells numbering found → IsCellIn n i cell → BuiltFrom numbering found i s cell → HasRigidNames s
+built_from_rigid cells numbering found n i s Unknown b in' e = subst HasRigidNames (sym e) tt
+built_from_rigid cells numbering found n i s (Link j) b in' e = b.rigid j s e
+built_from_rigid cells numbering found n i s (Rigid a) b in' e = subst HasRigidNames (sym e) in'
+built_from_rigid cells numbering found n i s (Generic ty) b in' e = subst HasRigidNames (sym e) (instance_rigid (base_at numbering i) (tyvars ty) ty)
+built_from_rigid cells numbering found n i s (App c parts) b in' (shapes, p, e) = subst HasRigidNames (sym e) (parts_rigid cells numbering found b parts.items shapes p)
 
 -- and the open slots are among those of the graph
-parts_below : (cells : List Cell) (found : List (Option ShapeTree)) → IsBuilt cells found → (parts : List ℕ) (shapes : List ShapeTree) → ArePartsFound found parts shapes → AllHolesBelow (length cells) (shape_list shapes)
-parts_below cells found b parts [] e = tt
-parts_below cells found b [] (s ∷ shapes) e = absurd (cc)
-parts_below cells found b (p ∷ parts) (s ∷ shapes) e =
+parts_below : (cells : List Cell) (numbering : Numbering) (found : List (Option ShapeTree)) → IsBuilt cells numbering found → (parts : List ℕ) (shapes : List ShapeTree) → ArePartsFound found parts shapes → AllHolesBelow (limit_of numbering) (shape_list shapes)
+parts_below cells numbering found b parts [] e = tt
+parts_below cells numbering found b [] (s ∷ shapes) e = absurd (cc)
+parts_below cells numbering found b (p ∷ parts) (s ∷ shapes) e =
     let both = cons_parts (found_at found p) (Some s) (map (found_at found) parts) (map Some shapes) e in
-    (b.below p s both.0, parts_below cells found b parts shapes both.1)
+    (b.below p s both.0, parts_below cells numbering found b parts shapes both.1)
 
-built_from_below : (cells : List Cell) (found : List (Option ShapeTree)) (i : ℕ) (s : ShapeTree) (cell : Cell) → i < length cells → IsBuilt cells found → BuiltFrom found i s cell → AreHolesBelow (length cells) s
-built_from_below cells found i s Unknown lt b e = subst (AreHolesBelow (length cells)) (sym e) lt
-built_from_below cells found i s (Link j) lt b e = b.below j s e
-built_from_below cells found i s (Rigid a) lt b e = subst (AreHolesBelow (length cells)) (sym e) tt
-built_from_below cells found i s (Generic ty) lt b e = absurd e
-built_from_below cells found i s (App c parts) lt b (shapes, p, e) = subst (AreHolesBelow (length cells)) (sym e) (parts_below cells found b parts.items shapes p)
+built_from_below : (cells : List Cell) (numbering : Numbering) (found : List (Option ShapeTree)) (i : ℕ) (s : ShapeTree) (cell : Cell) → i < numbering.slots → IsCounted numbering.row cell → IsBuilt cells numbering found → BuiltFrom numbering found i s cell → AreHolesBelow (limit_of numbering) s
+built_from_below cells numbering found i s Unknown lt counted b e = subst (AreHolesBelow (limit_of numbering)) (sym e) (omega (arith, lt))
+built_from_below cells numbering found i s (Link j) lt counted b e = b.below j s e
+built_from_below cells numbering found i s (Rigid a) lt counted b e = subst (AreHolesBelow (limit_of numbering)) (sym e) tt
+built_from_below cells numbering found i s (Generic ty) lt counted b e = subst (AreHolesBelow (limit_of numbering)) (sym e) (instance_below (limit_of numbering) (base_at numbering i) ty (instance_fits numbering i (length (tyvars ty)) lt counted))
+built_from_below cells numbering found i s (App c parts) lt counted b (shapes, p, e) = subst (AreHolesBelow (limit_of numbering)) (sym e) (parts_below cells numbering found b parts.items shapes p)
 
-pub is_built_more : (cells : List Cell) (found : List (Option ShapeTree)) (at : ℕ) (t : ShapeTree) → at < length found → length found ≡ length cells → found_at found at ≡ None → IsGraph cells → IsBuilt cells found → BuiltFrom found at t (cell_at cells at) → IsBuilt cells (set found at (Some t))
-is_built_more cells found at t lt len none graph b new =
+pub is_built_more : (cells : List Cell) (numbering : Numbering) (found : List (Option ShapeTree)) (at : ℕ) (t : ShapeTree) → at < length found → length found ≡ length cells → found_at found at ≡ None → IsGraph cells → IsNumbering cells numbering → IsBuilt cells numbering found → BuiltFrom numbering found at t (cell_at cells at) → IsBuilt cells numbering (set found at (Some t))
+is_built_more cells numbering found at t lt len none graph is b new =
     let the_new : (i : ℕ) (s : ShapeTree) → i ≡ at → found_at (set found at (Some t)) i ≡ Some s → t ≡ s =
     λ i s e p. some_same t s (sym (get_or-set_same found at (Some t) None lt) ∙ ap (λ (k : ℕ). found_at (set found at (Some t)) k) (sym e) ∙ p) in
     record {
       built = λ i s p. elim (cases_eq i at) [
         | inl e ↦
-            subst (λ (k : ℕ). BuiltFrom (set found at (Some t)) k s (cell_at cells k)) (sym e)
-            (built_from_more found at at s t (cell_at cells at) none
-            (subst (λ (u : ShapeTree). BuiltFrom found at u (cell_at cells at)) (the_new i s e p) new))
-        | inr ne ↦ built_from_more found at i s t (cell_at cells i) none (b.built i s (sym (get_or-set_other found at i (Some t) None ne) ∙ p))
+            subst (λ (k : ℕ). BuiltFrom numbering (set found at (Some t)) k s (cell_at cells k)) (sym e)
+            (built_from_more numbering found at at s t (cell_at cells at) none
+            (subst (λ (u : ShapeTree). BuiltFrom numbering found at u (cell_at cells at)) (the_new i s e p) new))
+        | inr ne ↦ built_from_more numbering found at i s t (cell_at cells i) none (b.built i s (sym (get_or-set_other found at i (Some t) None ne) ∙ p))
       ];
-      general = λ types r i s p. elim (cases_eq i at) [
+      general = λ types r m i s p. elim (cases_eq i at) [
         | inl e ↦
-            ap types e ∙ built_from_general cells found at t (cell_at cells at) types b r (r.cell at) new ∙ ap (fill types) (the_new i s e p)
-        | inr ne ↦ b.general types r i s (sym (get_or-set_other found at i (Some t) None ne) ∙ p)
+            ap types e ∙ built_from_general cells numbering found at t (cell_at cells at) types b r m (r.cell at) (m.cell at) new ∙ ap (fill types) (the_new i s e p)
+        | inr ne ↦ b.general types r m i s (sym (get_or-set_other found at i (Some t) None ne) ∙ p)
       ];
       rigid = λ i s p. elim (cases_eq i at) [
-        | inl e ↦ subst HasRigidNames (the_new i s e p) (built_from_rigid cells found (length cells) at t (cell_at cells at) b (graph.cell_in at) new)
+        | inl e ↦ subst HasRigidNames (the_new i s e p) (built_from_rigid cells numbering found (length cells) at t (cell_at cells at) b (graph.cell_in at) new)
         | inr ne ↦ b.rigid i s (sym (get_or-set_other found at i (Some t) None ne) ∙ p)
       ];
       below = λ i s p. elim (cases_eq i at) [
-        | inl e ↦ subst (AreHolesBelow (length cells)) (the_new i s e p) (built_from_below cells found at t (cell_at cells at) (omega (arith, lt, len)) b new)
+        | inl e ↦ subst (AreHolesBelow (limit_of numbering)) (the_new i s e p) (let slots = is.slots_are in built_from_below cells numbering found at t (cell_at cells at) (omega (arith, lt, len, slots)) (is.counted at) b new)
         | inr ne ↦ b.below i s (sym (get_or-set_other found at i (Some t) None ne) ∙ p)
       ];
     }
@@ -147,20 +152,20 @@ part_size types (p ∷ parts) j (zero, lt, e) = let f : type_size (types p) ≡ 
 part_size types (p ∷ parts) j (suc k, lt, e) = let r = part_size types parts j (k, omega (arith, lt), e) in omega (arith, r)
 
 -- where no slot can get a shape, one without a shape would be of an infinite type
-module _ (cells : List Cell) (found : List (Option ShapeTree)) (graph : IsGraph cells) (stuck : IsStuck cells found) (expanded : (i : ℕ) → IsExpandedCell (cell_at cells i)) (types : ℕ → TypeTree) (r : Respects cells types) where
+module _ (cells : List Cell) (found : List (Option ShapeTree)) (graph : IsGraph cells) (stuck : IsStuck cells found) (types : ℕ → TypeTree) (r : Respects cells types) where
   abbrev weight : ℕ → ℕ
   weight i = type_size (types i) * (length cells + 1) + i
 
   blocked_falls : (fuel i : ℕ) (cell : Cell) →
       ((j : ℕ) → j < length cells → weight j < fuel → found_at found j ≡ None → ⊥) →
-      i < length cells → weight i < suc fuel → IsCellIn (length cells) i cell → IsExpandedCell cell → CellHolds types (types i) cell → IsBlocked found cell → ⊥
-  blocked_falls fuel i (Generic ty) below lt less in' plain holds blocked = plain
-  blocked_falls fuel i Unknown below lt less in' plain holds blocked = blocked
-  blocked_falls fuel i (Link j) below lt less in' plain holds blocked =
+      i < length cells → weight i < suc fuel → IsCellIn (length cells) i cell → CellHolds types (types i) cell → IsBlocked found cell → ⊥
+  blocked_falls fuel i (Generic ty) below lt less in' holds blocked = blocked
+  blocked_falls fuel i Unknown below lt less in' holds blocked = blocked
+  blocked_falls fuel i (Link j) below lt less in' holds blocked =
       let e : weight j ≡ type_size (types i) * (length cells + 1) + j = ap (λ (t : TypeTree). type_size t * (length cells + 1) + j) (sym holds) in
       below j (omega arith) (omega (arith, e)) blocked
-  blocked_falls fuel i (Rigid a) below lt less in' plain holds blocked = blocked
-  blocked_falls fuel i (App c parts) below lt less in' plain holds (j, contains, none) =
+  blocked_falls fuel i (Rigid a) below lt less in' holds blocked = blocked
+  blocked_falls fuel i (App c parts) below lt less in' holds (j, contains, none) =
       let e : type_size (types i) ≡ 1 + types_size (type_list (map types parts.items)) = ap type_size holds in
       let p = part_size types parts.items j contains in
       let j_in : j < length cells = All-contains (λ (k : ℕ). k < length cells) parts.items j in' contains in
@@ -169,22 +174,22 @@ module _ (cells : List Cell) (found : List (Option ShapeTree)) (graph : IsGraph 
 
   none_below : (fuel i : ℕ) → i < length cells → weight i < fuel → found_at found i ≡ None → ⊥
   none_below zero i lt less none = omega arith
-  none_below (suc fuel) i lt less none = blocked_falls fuel i (cell_at cells i) (none_below fuel) lt less (graph.cell_in i) (expanded i) (r.cell i) (stuck.stuck i lt none)
+  none_below (suc fuel) i lt less none = blocked_falls fuel i (cell_at cells i) (none_below fuel) lt less (graph.cell_in i) (r.cell i) (stuck.stuck i lt none)
 
   pub stuck_untypable : (i : ℕ) → i < length cells → found_at found i ≡ None → ⊥
   stuck_untypable i lt none = none_below (weight i + 1) i lt (omega arith) none
 
 -- before anything is found
-pub is_built_none : (cells : List Cell) (found : List (Option ShapeTree)) → ((i : ℕ) → found_at found i ≡ None) → IsBuilt cells found
-is_built_none cells found none = record {
+pub is_built_none : (cells : List Cell) (numbering : Numbering) (found : List (Option ShapeTree)) → ((i : ℕ) → found_at found i ≡ None) → IsBuilt cells numbering found
+is_built_none cells numbering found none = record {
   built = λ i t p. (let w : found_at found i ≡ None = none i in absurd (none_some t (sym w ∙ p)));
-  general = λ types r i t p. (let w : found_at found i ≡ None = none i in absurd (none_some t (sym w ∙ p)));
+  general = λ types r m i t p. (let w : found_at found i ≡ None = none i in absurd (none_some t (sym w ∙ p)));
   rigid = λ i t p. (let w : found_at found i ≡ None = none i in absurd (none_some t (sym w ∙ p)));
   below = λ i t p. (let w : found_at found i ≡ None = none i in absurd (none_some t (sym w ∙ p)));
 }
 
 -- all shapes are found
-module _ (cells : List Cell) (found : List (Option ShapeTree)) (ss : List ShapeTree) (graph : IsGraph cells) (b : IsBuilt cells found) (len : length ss ≡ length cells) (all : (i : ℕ) → i < length cells → found_at found i ≡ Some (shape_at ss i)) where
+module _ (cells : List Cell) (numbering : Numbering) (found : List (Option ShapeTree)) (ss : List ShapeTree) (graph : IsGraph cells) (is : IsNumbering cells numbering) (b : IsBuilt cells numbering found) (len : length ss ≡ length cells) (all : (i : ℕ) → i < length cells → found_at found i ≡ Some (shape_at ss i)) where
   parts_hold : (at : ℕ → TypeTree) (parts : List ℕ) (shapes : List ShapeTree) → All (λ p. p < length cells) parts → ArePartsFound found parts shapes → fills at (shape_list shapes) ≡ type_list (map (types_at ss at) parts)
   parts_hold at [] [] in' e = refl
   parts_hold at [] (s ∷ shapes) in' e = absurd (cc)
@@ -195,12 +200,18 @@ module _ (cells : List Cell) (found : List (Option ShapeTree)) (ss : List ShapeT
       types_same (fill at s) (types_at ss at p) (fills at (shape_list shapes)) (type_list (map (types_at ss at) parts))
       (ap (fill at) same) (parts_hold at parts shapes (All-tail (λ (k : ℕ). k < length cells) p parts in') both.1)
 
-  cell_holds : (at : ℕ → TypeTree) (i : ℕ) (cell : Cell) → i < length cells → IsCellIn (length cells) i cell → BuiltFrom found i (shape_at ss i) cell → CellHolds (types_at ss at) (types_at ss at i) cell
+  cell_holds : (at : ℕ → TypeTree) (i : ℕ) (cell : Cell) → i < length cells → IsCellIn (length cells) i cell → BuiltFrom numbering found i (shape_at ss i) cell → CellHolds (types_at ss at) (types_at ss at i) cell
   cell_holds at i Unknown lt in' e = tt
   cell_holds at i (Link j) lt in' e = ap (fill at) (some_same (shape_at ss i) (shape_at ss j) (sym e ∙ all j (omega arith)))
   cell_holds at i (Rigid a) lt in' e = ap (fill at) e
-  cell_holds at i (Generic ty) lt in' e = absurd e
+  cell_holds at i (Generic ty) lt in' e = (pairs_from at (base_at numbering i) (tyvars ty), ap (fill at) e ∙ filled at (base_at numbering i) ty)
   cell_holds at i (App c parts) lt in' (shapes, p, e) = ap (fill at) e ∙ ap (TyApp c) (parts_hold at parts.items shapes in' p)
+
+  instances_at : (types : ℕ → TypeTree) → Respects cells types → IsNumbered cells numbering types → (i : ℕ) → types i ≡ types_at ss types i
+  instances_at types r m i = elim (cases_lt i (length cells)) [
+    | inl lt ↦ b.general types r m i (shape_at ss i) (all i lt)
+    | inr ge ↦ sym (ap (fill types) (get_or_past ss i (Hole i) (rw len ge)))
+  ]
 
   pub shapes_general : AreGeneral cells ss
   shapes_general = record {
@@ -210,14 +221,13 @@ module _ (cells : List Cell) (found : List (Option ShapeTree)) (ss : List ShapeT
         | inr ge ↦ rw (get_or_past cells i Unknown ge) tt
       ];
     };
-    instances = λ types r i. elim (cases_lt i (length cells)) [
-      | inl lt ↦ b.general types r i (shape_at ss i) (all i lt)
-      | inr ge ↦ sym (ap (fill types) (get_or_past ss i (Hole i) (rw len ge)))
-    ];
+    instances = λ types r. (let x = numbered cells numbering types graph is r in (x.0, x.1, instances_at x.0 x.2 x.3));
     rigid = λ i. elim (cases_lt i (length cells)) [
       | inl lt ↦ b.rigid i (shape_at ss i) (all i lt)
       | inr ge ↦ rw (get_or_past ss i (Hole i) (rw len ge)) tt
     ];
     len = len;
-    below = λ i lt. subst (λ (n : ℕ). AreHolesBelow n (shape_at ss i)) (sym len) (b.below i (shape_at ss i) (all i (omega (arith, lt, len))));
+    limit = limit_of numbering;
+    small = is.fits;
+    below = λ i lt. b.below i (shape_at ss i) (all i (omega (arith, lt, len)));
   }

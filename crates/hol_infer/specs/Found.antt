@@ -1,12 +1,16 @@
 -- The shapes of slots that are found so far. Only private contracts and proofs cite this.
-use Rattle.std.specs.Prelude.{◌≡◌, ℕ, ◌<◌, List, length, get_or, map, Option, Some, None, Bool, true, false}
+use Rattle.std.specs.Prelude.{◌≡◌, ℕ, ◌<◌, ◌^◌, List, length, get_or, map, Option, Some, None, Bool, true, false}
 use Rattle.std.specs.List.{sum_by, Contains}
 use Rattle.hol_types.specs.Tree.{TypeTree}
+use Rattle.hol_types.specs.Names.{tyvars}
 use Rattle.hol_infer.specs.Typing.{IsOpen}
-use Rattle.hol_infer.specs.Shape.{ShapeTree, ShapeList, Hole, Fixed, Built, no_shapes, more_shapes, shape_list, fill}
+use Rattle.hol_infer.specs.Shape.{ShapeTree, ShapeList, Hole, Fixed, Built, no_shapes, more_shapes, shape_list, fill, instance_shape}
 use Rattle.hol_infer.specs.declared.cell.Cell.{Cell}
 use Rattle.hol_infer.specs.declared.cell.Cell.TheVariants.{Unknown, Link, Rigid, App, Generic}
+use Rattle.hol_infer.specs.declared.numbering.Numbering.{Numbering}
 use Rattle.hol_infer.specs.Graph.{cell_at, Respects}
+use Rattle.hol_infer.specs.Generate.{Agree}
+use Rattle.hol_infer.specs.Numbering.{base_at, limit_of, IsNumbered}
 
 abbrev pub found_at : List (Option ShapeTree) → ℕ → Option ShapeTree
 found_at found i = get_or found i None
@@ -20,12 +24,12 @@ abbrev pub IsPartMissing : List (Option ShapeTree) → List ℕ → Type 0
 IsPartMissing found parts = (j : ℕ) × Contains parts j × (found_at found j ≡ None)
 
 -- s is what the cell of slot i makes of the shapes of its parts
-abbrev pub BuiltFrom : List (Option ShapeTree) → ℕ → ShapeTree → Cell → Type 0
-BuiltFrom found i s Unknown = s ≡ Hole i
-BuiltFrom found i s (Link j) = found_at found j ≡ Some s
-BuiltFrom found i s (Rigid a) = s ≡ Fixed a
-BuiltFrom found i s (App c parts) = (shapes : List ShapeTree) × ArePartsFound found parts.items shapes × (s ≡ Built c (shape_list shapes))
-BuiltFrom found i s (Generic ty) = ⊥
+abbrev pub BuiltFrom : Numbering → List (Option ShapeTree) → ℕ → ShapeTree → Cell → Type 0
+BuiltFrom numbering found i s Unknown = s ≡ Hole i
+BuiltFrom numbering found i s (Link j) = found_at found j ≡ Some s
+BuiltFrom numbering found i s (Rigid a) = s ≡ Fixed a
+BuiltFrom numbering found i s (App c parts) = (shapes : List ShapeTree) × ArePartsFound found parts.items shapes × (s ≡ Built c (shape_list shapes))
+BuiltFrom numbering found i s (Generic ty) = s ≡ instance_shape (base_at numbering i) (tyvars ty) ty
 
 -- a part of the cell has no shape yet
 abbrev pub IsBlocked : List (Option ShapeTree) → Cell → Type 0
@@ -33,7 +37,7 @@ IsBlocked found Unknown = ⊥
 IsBlocked found (Link j) = found_at found j ≡ None
 IsBlocked found (Rigid a) = ⊥
 IsBlocked found (App c parts) = IsPartMissing found parts.items
-IsBlocked found (Generic ty) = Unit {0}
+IsBlocked found (Generic ty) = ⊥
 
 -- the type variables of annotations in the shape are no open ones
 abbrev mutual
@@ -57,12 +61,12 @@ abbrev mutual
   AllHolesBelow n no_shapes = Unit {0}
   AllHolesBelow n (more_shapes s ss) = AreHolesBelow n s × AllHolesBelow n ss
 
-pub record IsBuilt (cells : List Cell) (found : List (Option ShapeTree)) : Type 0 where
-  pub built : (i : ℕ) (s : ShapeTree) → found_at found i ≡ Some s → BuiltFrom found i s (cell_at cells i)
-  -- the types of each solution are instances of the shapes
-  pub general : (types : ℕ → TypeTree) → Respects cells types → (i : ℕ) (s : ShapeTree) → found_at found i ≡ Some s → types i ≡ fill types s
+pub record IsBuilt (cells : List Cell) (numbering : Numbering) (found : List (Option ShapeTree)) : Type 0 where
+  pub built : (i : ℕ) (s : ShapeTree) → found_at found i ≡ Some s → BuiltFrom numbering found i s (cell_at cells i)
+  -- the types of each solution are instances of the shapes, where the numbers have types that fit
+  pub general : (types : ℕ → TypeTree) → Respects cells types → IsNumbered cells numbering types → (i : ℕ) (s : ShapeTree) → found_at found i ≡ Some s → types i ≡ fill types s
   pub rigid : (i : ℕ) (s : ShapeTree) → found_at found i ≡ Some s → HasRigidNames s
-  pub below : (i : ℕ) (s : ShapeTree) → found_at found i ≡ Some s → AreHolesBelow (length cells) s
+  pub below : (i : ℕ) (s : ShapeTree) → found_at found i ≡ Some s → AreHolesBelow (limit_of numbering) s
 
 abbrev pub IsStuckAt : List Cell → List (Option ShapeTree) → ℕ → Type 0
 IsStuckAt cells found i = found_at found i ≡ None → IsBlocked found (cell_at cells i)
@@ -99,7 +103,10 @@ SweepGives cells before after false = IsStuck cells after
 -- The shapes are those of which the types of all solutions are instances, and all whose instances are solutions.
 pub record AreGeneral (cells : List Cell) (shapes : List ShapeTree) : Type 0 where
   pub respects : (at : ℕ → TypeTree) → Respects cells (types_at shapes at)
-  pub instances : (types : ℕ → TypeTree) → Respects cells types → (i : ℕ) → types i ≡ types_at shapes types i
+  pub instances : (types : ℕ → TypeTree) → Respects cells types →
+      (types' : ℕ → TypeTree) × Agree (length cells) types types' × ((i : ℕ) → types' i ≡ types_at shapes types' i)
   pub rigid : (i : ℕ) → HasRigidNames (shape_at shapes i)
   pub len : length shapes ≡ length cells
-  pub below : (i : ℕ) → i < length shapes → AreHolesBelow (length shapes) (shape_at shapes i)
+  pub limit : ℕ
+  pub small : limit < 2 ^ 64
+  pub below : (i : ℕ) → i < length shapes → AreHolesBelow limit (shape_at shapes i)

@@ -1,7 +1,7 @@
 -- What a graph of slots, and equations between slots, say of the types of the slots. Only private contracts and proofs cite this.
 use Rattle.std.specs.Prelude.{◌≡◌, ℕ, ◌+◌, ◌<◌, ◌↔◌, List, [], ◌∷◌, length, get_or, map}
 use Rattle.std.specs.List.{All, sum_by}
-use Rattle.hol_types.specs.Tree.{TypeTree, TyVar, TyApp, type_list}
+use Rattle.hol_types.specs.Tree.{TypeTree, TyVar, TyApp, type_list, type_size}
 use Rattle.hol_infer.specs.declared.cell.Cell.{Cell}
 use Rattle.hol_infer.specs.declared.cell.Cell.TheVariants.{Unknown, Link, Rigid, App, Generic}
 use Rattle.hol_infer.specs.declared.cell.Equation.{Equation}
@@ -125,9 +125,9 @@ generic_weight Unknown = 0
 generic_weight (Link j) = 0
 generic_weight (Rigid a) = 0
 generic_weight (App c parts) = 0
-generic_weight (Generic ty) = 1
+generic_weight (Generic ty) = type_size ty
 
--- how many there are
+-- how many nodes they have
 abbrev pub generics : List Cell → ℕ
 generics cells = sum_by generic_weight cells
 

@@ -7,6 +7,7 @@ pub mod ShapeCode
 pub mod ShapeView
 pub mod ShapeFalls
 pub mod Graph
+pub mod Numbering
 pub mod Found
 pub mod SlotTree
 pub mod RawView

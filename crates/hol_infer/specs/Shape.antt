@@ -1,5 +1,5 @@
 -- Types as inference finds them: over slots, which stand for types that are still open. Only private contracts and proofs cite this.
-use Rattle.std.specs.Prelude.{ℕ, ◌+◌, List, [], ◌∷◌, ◌++◌}
+use Rattle.std.specs.Prelude.{ℕ, ◌+◌, List, [], ◌∷◌, ◌++◌, cond, bytes_eq}
 use Rattle.hol_types.specs.Tree.{TypeTree, TypeList, TyVar, TyApp, no_types, more_types}
 
 mutual
@@ -49,3 +49,18 @@ abbrev mutual
   pub shapes_holes : ShapeList → List ℕ
   shapes_holes no_shapes = []
   shapes_holes (more_shapes s ss) = shape_holes s ++ shapes_holes ss
+
+-- the place of a name among the names, or their number
+abbrev pub place_among : List (List ℕ) → List ℕ → ℕ
+place_among [] a = 0
+place_among (b ∷ names) a = cond (bytes_eq b a) 0 (1 + place_among names a)
+
+-- the shape of a type whose variables are the open slots from `base` on, in the order of the names
+abbrev mutual
+  pub instance_shape : ℕ → List (List ℕ) → TypeTree → ShapeTree
+  instance_shape base names (TyVar a) = Hole (base + place_among names a)
+  instance_shape base names (TyApp c ts) = Built c (instance_shapes base names ts)
+
+  pub instance_shapes : ℕ → List (List ℕ) → TypeList → ShapeList
+  instance_shapes base names no_types = no_shapes
+  instance_shapes base names (more_types t ts) = more_shapes (instance_shape base names t) (instance_shapes base names ts)

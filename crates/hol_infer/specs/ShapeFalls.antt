@@ -3,7 +3,7 @@ use Rattle.std.specs.Prelude.{◌+◌, ◌≤◌, max, List, [], ◌∷◌}
 use Rattle.std.proofs.Common.{arith}
 use denote.Param.Weighed.{most}
 use Rattle.hol_infer.specs.declared.shape.ShapeNode.{ShapeNode}
-use Rattle.hol_infer.specs.declared.shape.ShapeNode.TheVariants.{Open, Rigid, App}
+use Rattle.hol_infer.specs.declared.shape.ShapeNode.TheVariants.{Open, Rigid, App, Instance}
 use Rattle.hol_infer.specs.declared.shape.Shape.TheDeep.{deep-ShapeNode}
 use Rattle.hol_infer.specs.Shape.{ShapeTree, shape_list, shape_size, shapes_size}
 use Rattle.hol_infer.specs.ShapeView.{shape_of}
@@ -16,3 +16,4 @@ pub deep_le_size : (n : ShapeNode) → max (deep-ShapeNode n) 0 ≤ shape_size (
 deep_le_size (Open k) = omega arith
 deep_le_size (Rigid a) = omega arith
 deep_le_size (App c ss) = omega (arith, most_le_size ss.items)
+deep_le_size (Instance ty base) = omega arith

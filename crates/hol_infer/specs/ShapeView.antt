@@ -1,9 +1,19 @@
 -- The shape that a node stands for: what contracts see of it.
+use Rattle.std.specs.Prelude.{◌+◌, ◌<◌, ◌^◌, length}
+use Rattle.hol_types.specs.Names.{tyvars}
 use Rattle.hol_infer.specs.declared.shape.ShapeNode.{ShapeNode}
-use Rattle.hol_infer.specs.declared.shape.ShapeNode.TheVariants.{Open, Rigid, App}
-use Rattle.hol_infer.specs.Shape.{ShapeTree, Hole, Fixed, Built, shape_list}
+use Rattle.hol_infer.specs.declared.shape.ShapeNode.TheVariants.{Open, Rigid, App, Instance}
+use Rattle.hol_infer.specs.Shape.{ShapeTree, Hole, Fixed, Built, shape_list, instance_shape}
 
 abbrev pub shape_of : ShapeNode → ShapeTree
 shape_of (Open k) = Hole k
 shape_of (Rigid a) = Fixed a
 shape_of (App c parts) = Built c (shape_list parts.items)
+shape_of (Instance ty base) = instance_shape base (tyvars ty) ty
+
+-- the numbers of the open slots of a generic type's variables
+abbrev pub HasNumbers : ShapeNode → Type 0
+HasNumbers (Open k) = Unit {0}
+HasNumbers (Rigid a) = Unit {0}
+HasNumbers (App c parts) = Unit {0}
+HasNumbers (Instance ty base) = base + length (tyvars ty) < 2 ^ 64

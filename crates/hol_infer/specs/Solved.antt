@@ -1,5 +1,5 @@
 -- What the solutions of a graph say of the typings of a term. Only private contracts and proofs cite this.
-use Rattle.std.specs.Prelude.{◌≡◌, ℕ, ◌+◌, ◌<◌, ◌≤◌, List, [], ◌∷◌, ◌++◌, length, Option, Some, None, slice_get}
+use Rattle.std.specs.Prelude.{◌≡◌, ℕ, ◌+◌, ◌<◌, ◌≤◌, ◌^◌, List, [], ◌∷◌, ◌++◌, length, Option, Some, None, slice_get}
 use Rattle.hol_types.specs.Tree.{TypeTree}
 use Rattle.hol_terms.specs.Nameless.{Nameless, nameless_type}
 use Rattle.hol_infer.specs.Raw.{RawTree}
@@ -26,7 +26,9 @@ pub record IsSolvedBy (g : Graph) (shapes : List ShapeTree) : Type 0 where
   pub instances : (type_of : List ℕ → TypeTree) (types : ℕ → TypeTree) → Solves g type_of types →
       (types' : ℕ → TypeTree) × Agree (slots g) types types' × ((i : ℕ) → types' i ≡ types_at shapes types' i)
   pub rigid : (i : ℕ) → HasRigidNames (shape_at shapes i)
-  pub below : (i : ℕ) → i < length shapes → AreHolesBelow (length shapes) (shape_at shapes i)
+  pub limit : ℕ
+  pub small : limit < 2 ^ 64
+  pub below : (i : ℕ) → i < length shapes → AreHolesBelow limit (shape_at shapes i)
 
 -- the typings of the term are the instances of the shapes
 pub record IsGeneralTyping (raw : RawTree) (shapes : List ShapeTree) (term : SlotTree) : Type 0 where
@@ -35,7 +37,9 @@ pub record IsGeneralTyping (raw : RawTree) (shapes : List ShapeTree) (term : Slo
   pub typing : (at : ℕ → TypeTree) → IsTypingOf raw (typed (types_at shapes at) term)
   pub instances : (p : Nameless) → IsTypingOf raw p → (at : ℕ → TypeTree) × (p ≡ typed (types_at shapes at) term)
   pub rigid : (i : ℕ) → HasRigidNames (shape_at shapes i)
-  pub below : (i : ℕ) → i < length shapes → AreHolesBelow (length shapes) (shape_at shapes i)
+  pub limit : ℕ
+  pub small : limit < 2 ^ 64
+  pub below : (i : ℕ) → i < length shapes → AreHolesBelow limit (shape_at shapes i)
 
 -- ---- sizes
 

@@ -19,6 +19,7 @@ use std::alloc::{AllocError, Global};
 /// Puts the open slots of the term at the end of the list as they occur, each unless it is there.
 #[tactic(auto, using(crate::proofs::Holes::add_holes_append))]
 pub fn add_term_holes(
+    alloc: Global,
     shapes: &[Shape],
     term: &Skeleton,
     order: &mut Vec<usize>,
@@ -28,15 +29,15 @@ pub fn add_term_holes(
 {
     match term {
         Skeleton::Bound(_) => Ok(()),
-        Skeleton::Constant(_, slot) => shapes[*slot].add_holes(order),
-        Skeleton::Free(_, slot) => shapes[*slot].add_holes(order),
+        Skeleton::Constant(_, slot) => shapes[*slot].add_holes(alloc, order),
+        Skeleton::Free(_, slot) => shapes[*slot].add_holes(alloc, order),
         Skeleton::Apply(function, argument) => {
-            add_term_holes(shapes, function, order)?;
-            add_term_holes(shapes, argument, order)
+            add_term_holes(alloc, shapes, function, order)?;
+            add_term_holes(alloc, shapes, argument, order)
         }
         Skeleton::Abstraction(_, slot, body) => {
-            shapes[*slot].add_holes(order)?;
-            add_term_holes(shapes, body, order)
+            shapes[*slot].add_holes(alloc, order)?;
+            add_term_holes(alloc, shapes, body, order)
         }
     }
 }

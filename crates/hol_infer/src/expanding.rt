@@ -1,10 +1,11 @@
 //! Slots for the parts of generic types, where unification meets them.
-ghost use Rattle.std.specs.Prelude.{◌≡◌, ◌+◌, ◌<◌, ◌≤◌, [], length, set, IfOk, IfErr, OnOk, MatchOption};
-ghost use Rattle.hol_types.specs.Tree.{TyApp, type_list};
+ghost use Rattle.std.specs.Prelude.{◌≡◌, ◌+◌, ◌<◌, ◌≤◌, [], length, set, IfOk, IfErr, OnOk, MatchOption, IsTrue};
+ghost use Rattle.hol_types.specs.Tree.{TyApp, type_list, no_types, more_types};
+ghost use Rattle.hol_types.specs.Names.{is_among, type_names};
 ghost use Rattle.hol_infer.specs.declared.cell.Cell.TheVariants.{Generic};
 ghost use Rattle.hol_infer.specs.Graph.{cell_at, HasNoSolution, IsExpandedCell, IsGenericAt, generics};
 ghost use Rattle.hol_infer.specs.Generate.{slots, IsWellFormed, AreRigidBut, BuildsTypes};
-ghost use Rattle.hol_infer.specs.Expanding.{Refines, BuildsInstance, Expands, ExpandsAll, IsSettled};
+ghost use Rattle.hol_infer.specs.Expanding.{Refines, AreApart, BuildsInstance, Expands};
 
 use crate::cell::Cell;
 use crate::fault::Fault;
@@ -54,6 +55,50 @@ impl Graph {
         Ok(Cell::App(name.copy()?, parts))
     }
 
+    // Slots for two types that have no type variable in common, whose parts get no slots yet, and the cell of their constructor.
+    fn split(
+        &mut self,
+        alloc: Global,
+        name: &Name,
+        first: &Ty,
+        second: &Ty,
+    ) -> Result<Cell, AllocError>
+        requires well_formed { IsWellFormed self.old }
+        requires apart { AreApart first.now second.now }
+        ensures { IfOk result (λ cell. BuildsInstance self.old self.new cell (TyApp name.now (more_types first.now (more_types second.now no_types)))) }
+    {
+        let left = self.fresh(Cell::Generic(first.copy()?))?;
+        let right = self.fresh(Cell::Generic(second.copy()?))?;
+        let mut parts = Vec::with_capacity(alloc, 2)?;
+        parts.push(left)?;
+        parts.push(right)?;
+        Ok(Cell::App(name.copy()?, parts))
+    }
+
+    // The cell of an instance of a type with this constructor, with slots for its arguments.
+    fn applied(
+        &mut self,
+        alloc: Global,
+        generic: &Ty,
+        name: &Name,
+        args: &[Ty],
+    ) -> Result<Cell, AllocError>
+        requires well_formed { IsWellFormed self.old }
+        requires parts { TyApp name.now (type_list args.now) ≡ generic.now }
+        ensures { IfOk result (λ cell. BuildsInstance self.old self.new cell generic.now) }
+    {
+        match args {
+            [first, second] => {
+                if are_apart(alloc, first, second)? {
+                    self.split(alloc, name, first, second)
+                } else {
+                    self.constructed(alloc, generic, name, args)
+                }
+            }
+            _ => self.constructed(alloc, generic, name, args),
+        }
+    }
+
     // The cell of an instance of the generic type, with slots for its parts.
     fn instance(&mut self, alloc: Global, generic: &Ty) -> Result<Cell, AllocError>
         requires { IsWellFormed self.old }
@@ -61,7 +106,7 @@ impl Graph {
     {
         match generic.node() {
             TyNode::Var(_) => Ok(Cell::Unknown),
-            TyNode::App(name, args) => self.constructed(alloc, generic, name, args),
+            TyNode::App(name, args) => self.applied(alloc, generic, name, args),
         }
     }
 
@@ -103,17 +148,6 @@ impl Graph {
         }
     }
 
-    // Gives the parts of each generic type slots.
-    fn expand_all(&mut self, alloc: Global) -> Result<(), AllocError>
-        requires { IsWellFormed self.old }
-        ensures { OnOk result (ExpandsAll self.old self.new (slots self.old)) }
-    {
-        for slot in 0..self.cells.len() {
-            self.expand(alloc, slot)?;
-        }
-        Ok(())
-    }
-
     // Solves equations, until none is left or a slot must get slots for the parts of its generic type.
     fn unify_some(&mut self) -> Result<Option<usize>, Fault>
         requires { IsWellFormed self.old }
@@ -128,8 +162,12 @@ impl Graph {
         }
     }
 
-    // Solves the equations, and gives the parts of a generic type slots where it meets a type that is known otherwise.
-    fn unify_all(&mut self, alloc: Global) -> Result<(), Fault>
+    /// Solves the equations, and gives the parts of a generic type slots where it meets a type that is known otherwise. Equal generic types
+    /// are one without them: so a constant whose instances are only equated with each other costs no slots for its parts. Each such meeting
+    /// costs a walk over the generic type, and two slots, or slots for all its parts where its arguments have a type variable in common.
+    ///
+    /// Answers `Untypable` only where no types met the graph and the equations.
+    pub fn settle(&mut self, alloc: Global) -> Result<(), Fault>
         requires { IsWellFormed self.old }
         ensures refines { OnOk result (Refines self.old self.new) }
         ensures solved { OnOk result (self.new.pending.items ≡ []) }
@@ -140,21 +178,40 @@ impl Graph {
         }
         Ok(())
     }
+}
 
-    /// Solves the equations, so that the types that meet the graph are those that met it and the equations before, and each generic type has
-    /// slots for its parts. Equal generic types are one without them: so a constant whose instances are only equated with each other
-    /// costs slots for one of them.
-    ///
-    /// Answers `Untypable` only where there were no such types.
-    pub fn settle(&mut self, alloc: Global) -> Result<(), Fault>
-        requires { IsWellFormed self.old }
-        ensures settled { OnOk result (IsSettled self.old self.new) }
-        ensures untypable { IfErr result (λ e. e ≡ Fault.Untypable → HasNoSolution self.old.cells.items self.old.pending.items) }
-    {
-        self.unify_all(alloc)?;
-        self.expand_all(alloc)?;
-        Ok(())
+// Whether the type variable occurs in the type.
+#[tactic(auto, using(crate::proofs::Splitting::among_step, crate::proofs::Splitting::filtered))]
+fn has_variable(ty: &Ty, name: &Name) -> bool
+    ensures { result ≡ is_among (type_names ty.now) name.now }
+{
+    if !ty.may_have_var(name) {
+        return false;
     }
+    match ty.node() {
+        TyNode::Var(other) => name.same(other),
+        TyNode::App(_, args) => {
+            for arg in args {
+                if has_variable(arg, name) {
+                    return true;
+                }
+            }
+            false
+        }
+    }
+}
+
+// Whether two types have no type variable in common.
+fn are_apart(alloc: Global, first: &Ty, second: &Ty) -> Result<bool, AllocError>
+    ensures { IfOk result (λ apart. IsTrue apart → AreApart first.now second.now) }
+{
+    let names = first.tyvars(alloc)?;
+    for name in &names {
+        if has_variable(second, name) {
+            return Ok(false);
+        }
+    }
+    Ok(true)
 }
 
 // The generic type of a slot, if its cell is one.

@@ -1,12 +1,15 @@
 //! The shapes of the slots of a solved graph, or that there are none.
-ghost use Rattle.std.specs.Prelude.{◌≡◌, ℕ, ◌+◌, ◌<◌, ◌≤◌, length, IfOk, IfErr, OnOk, MatchOption, None};
+ghost use Rattle.std.specs.Prelude.{◌≡◌, ℕ, ◌+◌, ◌<◌, ◌≤◌, ◌^◌, length, IfOk, IfErr, OnOk, MatchOption, None};
 ghost use Rattle.std.specs.List.{All};
 ghost use Rattle.hol_types.specs.Tree.{TypeTree};
-ghost use Rattle.hol_infer.specs.Graph.{Respects, IsGraph, IsCellIn, cell_at, IsExpandedCell};
+ghost use Rattle.hol_infer.specs.Graph.{Respects, IsGraph, IsCellIn};
+ghost use Rattle.hol_infer.specs.declared.numbering.Numbering.{Numbering};
+ghost use Rattle.hol_infer.specs.Numbering.{IsNumbering, IsCounted, limit_of};
 ghost use Rattle.hol_infer.specs.Found.{found_at, ArePartsFound, IsPartMissing, BuiltFrom, IsBlocked, IsBuilt, IsStuck, missing, StepGives, SweepGives, AreGeneral};
 
 use crate::cell::Cell;
 use crate::fault::Fault;
+use crate::numbering::{Numbering, numbering_of};
 use crate::order::parts_first;
 use crate::shape::Shape;
 use std::alloc::{AllocError, Global};
@@ -31,15 +34,20 @@ fn parts_found(
 }
 
 // The shape of a slot with this cell, where the shapes of the cell's parts are found.
+#[tactic(auto, using(crate::proofs::Numbers::instance_fits))]
 fn shape_of_cell(
     alloc: Global,
+    numbering: Numbering,
     found: &[Option<Shape>],
     slot: usize,
     cell: &Cell,
 ) -> Result<Option<Shape>, AllocError>
     requires slot_in { slot < length found.now }
+    requires numbered { slot < numbering.slots }
     requires cell_in { IsCellIn (length found.now) slot cell.now }
-    ensures { IfOk result (λ o. MatchOption o (IsBlocked found.now cell.now) (λ shape. BuiltFrom found.now slot shape cell.now)) }
+    requires fits { limit_of numbering < 2 ^ 64 }
+    requires counted { IsCounted numbering.row cell.now }
+    ensures { IfOk result (λ o. MatchOption o (IsBlocked found.now cell.now) (λ shape. BuiltFrom numbering found.now slot shape cell.now)) }
 {
     match cell {
         Cell::Unknown => Ok(Some(Shape::open(alloc, slot)?)),
@@ -52,29 +60,31 @@ fn shape_of_cell(
             Some(shapes) => Ok(Some(Shape::app(alloc, name, shapes)?)),
             None => Ok(None),
         },
-        Cell::Generic(_) => Ok(None),
+        Cell::Generic(ty) => Ok(Some(Shape::instance(alloc, ty, numbering.base(slot))?)),
     }
 }
 
 // Gives the slot its shape, where it has none and those of its parts are found. Says whether it did.
 fn step(
     alloc: Global,
+    numbering: Numbering,
     cells: &[Cell],
     found: &mut [Option<Shape>],
     slot: usize,
 ) -> Result<bool, AllocError>
     requires graph { IsGraph cells.now }
+    requires numbering { IsNumbering cells.now numbering }
     requires len { length found.old ≡ length cells.now }
     requires slot_in { slot < length cells.now }
-    requires built { IsBuilt cells.now found.old }
+    requires built { IsBuilt cells.now numbering found.old }
     ensures len { length found.new ≡ length cells.now }
-    ensures built { IsBuilt cells.now found.new }
+    ensures built { IsBuilt cells.now numbering found.new }
     ensures gives { IfOk result (λ b. StepGives cells.now found.old found.new slot b) }
 {
     if found[slot].is_some() {
         return Ok(false);
     }
-    match shape_of_cell(alloc, found, slot, &cells[slot])? {
+    match shape_of_cell(alloc, numbering, found, slot, &cells[slot])? {
         Some(shape) => {
             found[slot] = Some(shape);
             Ok(true)
@@ -84,17 +94,23 @@ fn step(
 }
 
 // Gives shapes to all slots whose parts have shapes, from the lowest up. Says whether there were such slots.
-fn sweep(alloc: Global, cells: &[Cell], found: &mut [Option<Shape>]) -> Result<bool, AllocError>
+fn sweep(
+    alloc: Global,
+    numbering: Numbering,
+    cells: &[Cell],
+    found: &mut [Option<Shape>],
+) -> Result<bool, AllocError>
     requires graph { IsGraph cells.now }
+    requires numbering { IsNumbering cells.now numbering }
     requires len { length found.old ≡ length cells.now }
-    requires built { IsBuilt cells.now found.old }
+    requires built { IsBuilt cells.now numbering found.old }
     ensures len { length found.new ≡ length cells.now }
-    ensures built { IsBuilt cells.now found.new }
+    ensures built { IsBuilt cells.now numbering found.new }
     ensures gives { IfOk result (λ b. SweepGives cells.now found.old found.new b) }
 {
     let mut progress = false;
     for slot in 0..cells.len() {
-        if step(alloc, cells, found, slot)? {
+        if step(alloc, numbering, cells, found, slot)? {
             progress = true;
         }
     }
@@ -104,33 +120,41 @@ fn sweep(alloc: Global, cells: &[Cell], found: &mut [Option<Shape>]) -> Result<b
 // Gives each of the slots its shape in turn, where those of its parts are found.
 fn find_in_order(
     alloc: Global,
+    numbering: Numbering,
     cells: &[Cell],
     found: &mut [Option<Shape>],
     order: &[usize],
 ) -> Result<(), AllocError>
     requires graph { IsGraph cells.now }
+    requires numbering { IsNumbering cells.now numbering }
     requires len { length found.old ≡ length cells.now }
     requires order_in { All (λ s. s < length cells.now) order.now }
-    requires built { IsBuilt cells.now found.old }
+    requires built { IsBuilt cells.now numbering found.old }
     ensures len { length found.new ≡ length cells.now }
-    ensures built { IsBuilt cells.now found.new }
+    ensures built { IsBuilt cells.now numbering found.new }
 {
     for slot in order {
-        step(alloc, cells, found, *slot)?;
+        step(alloc, numbering, cells, found, *slot)?;
     }
     Ok(())
 }
 
 // Gives shapes to slots until no slot can get one.
-fn saturate(alloc: Global, cells: &[Cell], found: &mut [Option<Shape>]) -> Result<(), AllocError>
+fn saturate(
+    alloc: Global,
+    numbering: Numbering,
+    cells: &[Cell],
+    found: &mut [Option<Shape>],
+) -> Result<(), AllocError>
     requires graph { IsGraph cells.now }
+    requires numbering { IsNumbering cells.now numbering }
     requires len { length found.old ≡ length cells.now }
-    requires built { IsBuilt cells.now found.old }
+    requires built { IsBuilt cells.now numbering found.old }
     ensures len { length found.new ≡ length cells.now }
-    ensures built { IsBuilt cells.now found.new }
+    ensures built { IsBuilt cells.now numbering found.new }
     ensures stuck { OnOk result (IsStuck cells.now found.new) }
 {
-    while sweep(alloc, cells, found)? {}
+    while sweep(alloc, numbering, cells, found)? {}
     Ok(())
 }
 
@@ -138,9 +162,8 @@ fn saturate(alloc: Global, cells: &[Cell], found: &mut [Option<Shape>]) -> Resul
 fn all_found(alloc: Global, cells: &[Cell], found: &[Option<Shape>]) -> Result<Vec<Shape>, Fault>
     requires graph { IsGraph cells.now }
     requires len { length found.now ≡ length cells.now }
-    requires built { IsBuilt cells.now found.now }
+    requires built { (numbering : Numbering) × IsNumbering cells.now numbering × IsBuilt cells.now numbering found.now }
     requires stuck { IsStuck cells.now found.now }
-    requires expanded { (i : ℕ) → IsExpandedCell (cell_at cells.now i) }
     ensures general { IfOk result (λ v. AreGeneral cells.now v.items) }
     ensures untypable { IfErr result (λ e. e ≡ Fault.Untypable → (types : ℕ → TypeTree) → Respects cells.now types → ⊥) }
 {
@@ -169,16 +192,17 @@ fn none_found(alloc: Global, count: usize) -> Result<Vec<Option<Shape>>, AllocEr
 /// The shape of each slot: of these the types that meet the graph are the instances.
 ///
 /// Answers `Untypable` only where no types meet the graph. Its time is linear in the graph: with each slot after its parts, one pass finds
-/// all that can be found, and one sweep sees that nothing is left.
+/// all that can be found, and one sweep sees that nothing is left. A generic type whose parts have no slots has its shape at once, however
+/// large it is.
 pub fn shapes_of(alloc: Global, cells: &[Cell]) -> Result<Vec<Shape>, Fault>
     requires graph { IsGraph cells.now }
-    requires expanded { (i : ℕ) → IsExpandedCell (cell_at cells.now i) }
     ensures general { IfOk result (λ v. AreGeneral cells.now v.items) }
     ensures untypable { IfErr result (λ e. e ≡ Fault.Untypable → (types : ℕ → TypeTree) → Respects cells.now types → ⊥) }
 {
+    let numbering = numbering_of(alloc, cells)?;
     let order = parts_first(alloc, cells)?;
     let mut found = none_found(alloc, cells.len())?;
-    find_in_order(alloc, cells, &mut found, &order)?;
-    saturate(alloc, cells, &mut found)?;
+    find_in_order(alloc, numbering, cells, &mut found, &order)?;
+    saturate(alloc, numbering, cells, &mut found)?;
     all_found(alloc, cells, &found)
 }

@@ -13,6 +13,7 @@ mod finding;
 mod generate;
 mod graph;
 mod laws;
+mod numbering;
 mod order;
 mod principal;
 mod raw;

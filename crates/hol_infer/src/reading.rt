@@ -54,7 +54,7 @@ fn named(alloc: Global, shapes: &[Shape], skeleton: &Skeleton) -> Result<Term, T
     ensures memory { IsOkUnless result TermError.Memory }
 {
     let mut order = Vec::new(alloc);
-    add_term_holes(shapes, skeleton, &mut order)?;
+    add_term_holes(alloc, shapes, skeleton, &mut order)?;
     let term = build(alloc, shapes, &order, &Scope::Outside, skeleton)?;
     Ok(term)
 }

@@ -1,11 +1,13 @@
 //! Types as inference finds them, over slots that are still open.
-ghost use Rattle.std.specs.Prelude.{◌≡◌, ◌+◌, IfOk, OnOk, min};
-ghost use Rattle.hol_infer.specs.Shape.{Hole, Fixed, Built, shape_list, shape_size, shapes_size, fill, shape_holes};
+ghost use Rattle.std.specs.Prelude.{◌≡◌, ◌+◌, ◌<◌, ◌≤◌, ◌^◌, length, IfOk, OnOk, min};
+ghost use Rattle.hol_types.specs.Names.{tyvars};
+ghost use Rattle.hol_infer.specs.Shape.{Hole, Fixed, Built, shape_list, shape_size, shapes_size, fill, shape_holes, place_among, instance_shape};
 ghost use Rattle.hol_infer.specs.Typing.{open_name};
 ghost use Rattle.hol_infer.specs.Holes.{is_hole_among, add_hole, add_holes, hole_index, open_type};
+ghost use Rattle.hol_infer.specs.Generate.{pairs_from};
 ghost use Rattle.hol_infer.specs.ShapeView.{shape_of};
 
-use hol_types::{Name, Ty};
+use hol_types::{Name, Ty, TyNode};
 use std::alloc::{AllocError, Global};
 use std::marker::Model;
 use std::rc::Rc;
@@ -31,6 +33,8 @@ pub enum ShapeNode {
     Rigid(Name),
     /// A constructor and its arguments, in order.
     App(Name, Vec<Shape>),
+    /// The generic type, whose type variables are the open slots from this number on, in order of their names.
+    Instance(Ty, usize),
 }
 
 impl Model for Shape {
@@ -42,11 +46,11 @@ impl Model for Shape {
 
     ghost coded = { coded_shape };
 
-    ghost use Rattle.hol_infer.specs.ShapeView.{shape_of};
+    ghost use Rattle.hol_infer.specs.ShapeView.{shape_of, HasNumbers};
 
     ghost view = { λ a. shape_of a.node.value };
 
-    ghost invariant = { λ a. a.size ≡ min (shape_size (shape_of a.node.value)) 20001 };
+    ghost invariant = { λ a. (a.size ≡ min (shape_size (shape_of a.node.value)) 20001) × HasNumbers a.node.value };
 
     ghost size = { shape_size };
 
@@ -87,6 +91,18 @@ impl Shape {
         })
     }
 
+    /// The generic type, whose type variables are the open slots from `base` on, in order of their names. It takes no walk.
+    #[tactic(auto, using(crate::proofs::Numbers::instance_size))]
+    pub fn instance(alloc: Global, generic: &Ty, base: usize) -> Result<Shape, AllocError>
+        requires { base + length (tyvars generic.now) < 2 ^ 64 }
+        ensures { IfOk result (λ s. s ≡ instance_shape base (tyvars generic.now) generic.now) }
+    {
+        Ok(Shape {
+            size: generic.size(),
+            node: Rc::new(alloc, ShapeNode::Instance(generic.copy()?, base))?,
+        })
+    }
+
     /// The same shape, sharing its nodes.
     pub fn copy(&self) -> Result<Shape, AllocError>
         ensures { IfOk result (λ s. s ≡ self.now) }
@@ -106,7 +122,7 @@ impl Shape {
 
     /// Puts the open slots at the end of the list as they occur, each unless it is there.
     #[tactic(auto, using(crate::proofs::Holes::add_step))]
-    pub fn add_holes(&self, order: &mut Vec<usize>) -> Result<(), AllocError>
+    pub fn add_holes(&self, alloc: Global, order: &mut Vec<usize>) -> Result<(), AllocError>
         ensures { OnOk result (order.new.items ≡ add_holes order.old.items (shape_holes self.now)) }
     {
         match &*self.node {
@@ -114,15 +130,19 @@ impl Shape {
             ShapeNode::Rigid(_) => Ok(()),
             ShapeNode::App(_, parts) => {
                 for part in parts {
-                    part.add_holes(order)?;
+                    part.add_holes(alloc, order)?;
                 }
                 Ok(())
+            }
+            ShapeNode::Instance(generic, base) => {
+                let names = generic.tyvars(alloc)?;
+                add_type_holes(&names, *base, generic, order)
             }
         }
     }
 
     /// The type, where an open slot is the type variable named by its place in the order.
-    #[tactic(auto, using(crate::proofs::Holes::fill_all))]
+    #[tactic(auto, using(crate::proofs::Holes::fill_all, crate::proofs::Numbers::filled))]
     pub fn ty(&self, alloc: Global, order: &[usize]) -> Result<Ty, AllocError>
         ensures { IfOk result (λ t. t ≡ fill (open_type order.now) self.now) }
     {
@@ -136,8 +156,67 @@ impl Shape {
                 }
                 Ty::app(alloc, name, &args)
             }
+            ShapeNode::Instance(generic, base) => {
+                let names = generic.tyvars(alloc)?;
+                let pairs = open_pairs(alloc, order, &names, *base)?;
+                generic.subst(alloc, &pairs)
+            }
         }
     }
+}
+
+// The place of a name among the names, or their number.
+#[tactic(auto, using(crate::proofs::Numbers::place_most))]
+fn place_among(names: &[Name], name: &Name) -> usize
+    ensures place { result ≡ place_among names.now name.now }
+    ensures most { result ≤ length names.now }
+{
+    for (i, other) in names.iter().enumerate() {
+        if other.same(name) {
+            return i;
+        }
+    }
+    names.len()
+}
+
+// Puts the open slots that the type variables are at the end of the list as they occur, each unless it is there.
+#[tactic(auto, using(crate::proofs::Numbers::add_type_step))]
+fn add_type_holes(
+    names: &[Name],
+    base: usize,
+    ty: &Ty,
+    order: &mut Vec<usize>,
+) -> Result<(), AllocError>
+    requires { base + length names.now < 2 ^ 64 }
+    ensures { OnOk result (order.new.items ≡ add_holes order.old.items (shape_holes (instance_shape base names.now ty.now))) }
+{
+    match ty.node() {
+        TyNode::Var(name) => add_hole(order, base + place_among(names, name)),
+        TyNode::App(_, args) => {
+            for arg in args {
+                add_type_holes(names, base, arg, order)?;
+            }
+            Ok(())
+        }
+    }
+}
+
+// The names, each with the type of its open slot: these are those from `base` on.
+fn open_pairs(
+    alloc: Global,
+    order: &[usize],
+    names: &[Name],
+    base: usize,
+) -> Result<Vec<(Ty, Name)>, AllocError>
+    requires { base + length names.now < 2 ^ 64 }
+    ensures { IfOk result (λ pairs. pairs.items ≡ pairs_from (open_type order.now) base names.now) }
+{
+    let mut pairs = Vec::with_capacity(alloc, names.len())?;
+    for (i, name) in names.iter().enumerate() {
+        let ty = open_ty(alloc, order, base + i)?;
+        pairs.push((ty, name.copy()?))?;
+    }
+    Ok(pairs)
 }
 
 // Whether the slot is in the order.

@@ -5,5 +5,5 @@ use Rattle.hol_infer.proofs.finding.find_in_order.Given as goal
 abbrev pub invariant-loop-slot : goal.invariant-loop-slot
 invariant-loop-slot l = record {
   len : length l.found ≡ length l.cells;
-  built : IsBuilt l.cells l.found;
+  built : IsBuilt l.cells l.numbering l.found;
 }

@@ -5,7 +5,7 @@ use Rattle.hol_infer.proofs.finding.saturate.Given as goal
 abbrev pub invariant-loop : goal.invariant-loop
 invariant-loop l = record {
   len : length l.found ≡ length l.cells;
-  built : IsBuilt l.cells l.found;
+  built : IsBuilt l.cells l.numbering l.found;
 }
 
 abbrev pub decreases-loop : goal.decreases-loop

@@ -6,6 +6,6 @@ use Rattle.hol_infer.proofs.finding.sweep.Given as goal
 abbrev pub invariant-loop-slot : goal.invariant-loop-slot
 invariant-loop-slot l = record {
   len : length l.found ≡ length l.cells;
-  built : IsBuilt l.cells l.found;
+  built : IsBuilt l.cells l.numbering l.found;
   so_far : SweepSoFar l.cells l.initial.found l.found l.slot l.progress;
 }

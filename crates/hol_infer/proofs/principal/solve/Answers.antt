@@ -9,10 +9,10 @@ use Rattle.hol_infer.proofs.principal.solve.Goals as goal
 
 pub returns-clause-solved : goal.returns-clause-solved
 returns-clause-solved c = IfOk-weaker c.shapes_of.result _ _
-    (λ v g. solved_by c.args.graph c.settle.new.self v.items c.in_ok-settle.ensures.settled (subst (λ (xs : List Cell). AreGeneral xs v.items) c.deref.ensures.value g))
+    (λ v g. solved_by c.args.graph c.settle.new.self v.items c.in_ok-settle.ensures.refines c.in_ok-settle.ensures.solved (subst (λ (xs : List Cell). AreGeneral xs v.items) c.deref.ensures.value g))
     c.shapes_of.ensures.general
 
 pub returns-clause-untypable : goal.returns-clause-untypable
 returns-clause-untypable c = IfErr-weaker c.shapes_of.result _ _
-    (λ e h u. unsolved c.args.graph c.settle.new.self c.in_ok-settle.ensures.settled (subst (λ (xs : List Cell). (types : ℕ → TypeTree) → Respects xs types → ⊥) c.deref.ensures.value (h u)))
+    (λ e h u. unsolved c.args.graph c.settle.new.self c.in_ok-settle.ensures.refines (subst (λ (xs : List Cell). (types : ℕ → TypeTree) → Respects xs types → ⊥) c.deref.ensures.value (h u)))
     c.shapes_of.ensures.untypable

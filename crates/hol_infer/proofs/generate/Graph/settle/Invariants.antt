@@ -1,6 +1,6 @@
 use Rattle.hol_infer.specs.Graph.{generics}
 use Rattle.hol_infer.specs.Expanding.{Refines}
-use Rattle.hol_infer.proofs.generate.Graph.unify_all.Given as goal
+use Rattle.hol_infer.proofs.generate.Graph.settle.Given as goal
 
 abbrev pub invariant-loop-slot : goal.invariant-loop-slot
 invariant-loop-slot l = Refines l.initial.self l.self
