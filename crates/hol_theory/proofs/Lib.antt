@@ -4,3 +4,4 @@ pub mod Items
 pub mod Theories
 pub mod Imports
 pub mod Comparing
+pub mod Declaring

@@ -8,7 +8,7 @@ use Rattle.hol_kernel.specs.Item.{Item}
 use Rattle.hol_kernel.specs.Items.{Items, Holds, in_order}
 use Rattle.hol_kernel.specs.Legal.{IsLegalSet}
 use Rattle.hol_kernel.specs.Sequent.{no_hyps}
-use Rattle.hol_kernel.specs.Signature.{axiom_key, has_key, item_types, item_constants}
+use Rattle.hol_kernel.specs.Signature.{ItemKey, axiom_key, has_key, item_types, item_constants}
 use Rattle.hol_kernel.specs.Theorem.{Theorem, IsTheorem}
 use Rattle.hol_theory.specs.declared.key.Kind.TheVariants as key_kind
 use Rattle.hol_theory.specs.Key.{KeyValue, key_eq}
@@ -35,11 +35,15 @@ entry_basis (AType arity item basis) = basis
 entry_basis (AConstant ty item basis) = basis
 entry_basis (ATheorem th) = th.basis
 
+-- the item of a basis that has the name
+abbrev pub item_at : ItemKey → Items → Option Item
+item_at k basis = find (λ x. has_key x k) (in_order basis)
+
 -- the own item of an entry: of a type or a constant the one that makes it, and of a theorem the axiom of its name, where it rests on one
 abbrev pub own_item : KeyValue → EntryValue → Option Item
 own_item key (AType arity item basis) = Some item
 own_item key (AConstant ty item basis) = Some item
-own_item key (ATheorem th) = find (λ x. has_key x (axiom_key key.name)) (in_order th.basis)
+own_item key (ATheorem th) = item_at (axiom_key key.name) th.basis
 
 -- ---- what an entry is
 

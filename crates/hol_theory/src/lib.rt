@@ -7,11 +7,13 @@ mod env;
 mod error;
 mod key;
 mod laws;
+mod making;
 mod same;
 mod value;
 
 pub use env::Env;
 pub use error::EnvError;
 pub use key::{Key, Kind};
-pub use laws::free_keys_are_new_names;
+pub use laws::{declared_entries_follow, free_keys_are_new_names};
+pub use making::{item_at, new_axiom, new_constant, new_type};
 pub use value::{Value, ValueNode};
