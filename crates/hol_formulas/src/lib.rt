@@ -6,6 +6,7 @@
 mod bijections;
 mod connectives;
 mod equations;
+mod generic;
 mod laws;
 mod names;
 mod postulate;

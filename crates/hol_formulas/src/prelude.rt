@@ -3,13 +3,12 @@ ghost use Rattle.std.specs.Prelude.{◌≡◌, ◌↔◌, ℕ, List, IfOk, IsTru
 ghost use Rattle.std.specs.List.{list_any};
 ghost use Rattle.hol_types.specs.Tree.{TypeTree};
 ghost use Rattle.hol_types.specs.Subst.{type_subst};
-ghost use Rattle.hol_terms.specs.Named.{constant};
-ghost use Rattle.hol_formulas.specs.Equation.{equality_type};
-ghost use Rattle.hol_formulas.specs.Constants.{var_a, binder_type, choice_type, function_property_type, prelude_types, is_constructor, is_instance, prelude_generic, is_instance_of};
+ghost use Rattle.hol_formulas.specs.Constants.{binder_type, choice_type, function_property_type, prelude_types, is_constructor, is_instance, prelude_generic, is_instance_of};
 
+use crate::generic::{is_binder_type, is_choice_type, is_equality_type, is_function_property_type};
 use crate::sort::function_type;
 use crate::types::{
-    bool_type, connective_type, equality_type, negation_type, quantifier_type, type_variable,
+    bool_type, is_bool, is_connective_type, is_negation_type, quantifier_type, type_variable,
 };
 use hol_types::{Name, Ty};
 use std::alloc::{AllocError, Global};
@@ -51,45 +50,24 @@ pub fn is_instance(alloc: Global, generic: &Ty, ty: &Ty) -> Result<bool, AllocEr
     Ok(found.is_some())
 }
 
-/// The generic type of equality.
-pub(crate) fn generic_equality(alloc: Global) -> Result<Ty, AllocError>
-    ensures { IfOk result (λ ty. ty ≡ equality_type var_a) }
-{
-    let a = type_variable(alloc, "A")?;
-    equality_type(alloc, &a)
-}
-
-/// The generic type of a constant of the prelude, where there is one of this name.
-fn generic_type(alloc: Global, constant: &Name) -> Result<Option<Ty>, AllocError>
-    ensures { IfOk result (λ generic. generic ≡ prelude_generic constant.now) }
-{
-    let generic = match constant.as_str() {
-        "=" => generic_equality(alloc),
-        "@" => choice_type(alloc),
-        "T" => bool_type(alloc),
-        "F" => bool_type(alloc),
-        "/\\" => connective_type(alloc),
-        "\\/" => connective_type(alloc),
-        "==>" => connective_type(alloc),
-        "~" => negation_type(alloc),
-        "!" => binder_type(alloc),
-        "?" => binder_type(alloc),
-        "?!" => binder_type(alloc),
-        "ONE_ONE" => function_property_type(alloc),
-        "ONTO" => function_property_type(alloc),
-        _ => return Ok(None),
-    };
-    Ok(Some(generic?))
-}
-
 /// Whether the prelude has the constant, and the type is an instance of its generic type.
-pub fn has_constant(alloc: Global, constant: &Name, ty: &Ty) -> Result<bool, AllocError>
+///
+/// Takes no memory: the type is told by its form.
+#[tactic(auto, using(crate::proofs::TypeForms::closed_forms))]
+pub fn has_constant(_alloc: Global, constant: &Name, ty: &Ty) -> Result<bool, AllocError>
     ensures { IfOk result (λ has. has ≡ is_instance_of (prelude_generic constant.now) ty.now) }
 {
-    match generic_type(alloc, constant)? {
-        Some(generic) => is_instance(alloc, &generic, ty),
-        None => Ok(false),
-    }
+    let has = match constant.as_str() {
+        "=" => is_equality_type(ty),
+        "@" => is_choice_type(ty),
+        "T" | "F" => is_bool(ty),
+        "/\\" | "\\/" | "==>" => is_connective_type(ty),
+        "~" => is_negation_type(ty),
+        "!" | "?" | "?!" => is_binder_type(ty),
+        "ONE_ONE" | "ONTO" => is_function_property_type(ty),
+        _ => false,
+    };
+    Ok(has)
 }
 
 /// `(A->bool)->A`.

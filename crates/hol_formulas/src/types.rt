@@ -36,11 +36,23 @@ pub(crate) fn type_variable(alloc: Global, name: &str) -> Result<Ty, AllocError>
     Ty::var(alloc, &name)
 }
 
+// `bool`, which shares the nodes of the given type where it is `bool`.
+#[tactic(auto, using(crate::proofs::TypeTests::same_type))]
+fn bool_beside(alloc: Global, ty: &Ty) -> Result<Ty, AllocError>
+    ensures { IfOk result (λ truth. truth ≡ bool_type) }
+{
+    if is_bool(ty) {
+        ty.copy()
+    } else {
+        bool_type(alloc)
+    }
+}
+
 /// The type of `=` between terms of a type.
 pub fn equality_type(alloc: Global, ty: &Ty) -> Result<Ty, AllocError>
     ensures { IfOk result (λ equality. equality ≡ equality_type ty.now) }
 {
-    let truth = bool_type(alloc)?;
+    let truth = bool_beside(alloc, ty)?;
     let property = Ty::fun(alloc, ty, &truth)?;
     Ty::fun(alloc, ty, &property)
 }
