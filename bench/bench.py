@@ -3,10 +3,11 @@
 
     python3 bench/bench.py --program PATH [--rounds N]
 
-PATH is the built program, crates/hol_serve/out/hol_serve. Two jobs are measured, each in a process of its own:
+PATH is the built program, crates/hol_serve/out/hol_serve. Three jobs are measured, each in a process of its own:
 
   inserts   1,000 inserts at the end of one theory
   reports   1,000 reports on the commands of a theory of 200, each place five times
+  steps     a report on the `qed` after 998 steps, half of which take a quotation: a theory of 1,000 commands, the most that one may have
 
 Each request is a line on the program's standard input, and its reply is read from its standard output. The clock
 runs from the first request of the job to its last reply; what sets the job up (the theory, and the 200 commands
@@ -34,6 +35,7 @@ import time
 INSERTS = 1000
 REPORTS = 1000
 COMMANDS = 200
+STEPS = 998
 
 
 def request(**keys):
@@ -53,6 +55,13 @@ def command(place):
 
 def inserts(count):
     return [request(op="insert", theory="A", at=place, text=command(place)) for place in range(count)]
+
+
+def proof(steps):
+    """A proof of so many steps, which is an even number: an assumption is made and taken back, and used at the end."""
+    back_and_forth = ["e DISCH_TAC", "e UNDISCH_TAC `p:bool`"] * (steps // 2 - 1)
+    texts = ["g N `p ==> p`", *back_and_forth, "e DISCH_TAC", "e ACCEPT_TAC (ASSUME `p:bool`)", "qed"]
+    return [request(op="insert", theory="A", at=place, text=text) for place, text in enumerate(texts)]
 
 
 def reports(count):
@@ -110,6 +119,10 @@ def is_done(reply):
     return reply == b'{"ok":true}\n'
 
 
+def is_made(reply):
+    return reply == b'{"made":["thm N |- p ==> p"],"ok":true}\n'
+
+
 def is_report(reply):
     return reply.startswith((b'{"goals":', b'{"made":')) and reply.endswith(b',"ok":true}\n')
 
@@ -147,6 +160,7 @@ def main():
     jobs = [
         ("1,000 inserts into one theory", [new_theory()], inserts(INSERTS), is_done),
         ("1,000 reports over 200 commands", [new_theory(), *inserts(COMMANDS)], reports(REPORTS), is_report),
+        ("a report on the end of 998 steps", [new_theory(), *proof(STEPS)], [request(op="report", theory="A", at=STEPS + 1)], is_made),
     ]
     print("%-44s %11s %11s %14s %12s" % ("job", "time", "lines/s", "processor", "peak memory"))
     for name, setup, lines, is_right in jobs:

@@ -1,12 +1,14 @@
 -- What a run comes to, from what the function on goals answered.
-use Rattle.std.specs.Prelude.{◌≡◌, ℕ, List, Option, Some, None, Result, Ok, Err}
+use Rattle.std.specs.Prelude.{◌≡◌, ℕ, List, [], ◌∷◌, Option, Some, None, Result, Ok, Err, IfOk}
 use Rattle.std.proofs.Common.{◌∙◌, subst}
 use Rattle.hol_goal.specs.Goal.{GoalValue}
 use Rattle.hol_goal.specs.Answer.{UsedValue, AnswerResult, Left, Unfit}
 use Rattle.hol_goal.specs.Arguments.{TacArgsValue}
 use Rattle.hol_goal.specs.declared.tac_code.TacCode.{TacCode}
 use Rattle.hol_just.specs.Tac.{Meaning, tac}
-use Rattle.hol_just.specs.Answering.{IsResult, IsAnsweredBy, AnswersCode}
+use Rattle.hol_just.specs.Answering.{IsResult, IsAnsweredBy, AnswersCode, AreLeft, IsJustified, suits}
+use Rattle.hol_just.specs.Valid.{IsValid}
+use Rattle.hol_kernel.specs.Sequent.{no_hyps}
 use Rattle.hol_just.specs.declared.tried.Tried.{Tried}
 use Rattle.hol_just.specs.declared.tried.TacFault.{TacFault}
 use Rattle.hol_just.specs.declared.tried.TacFault.TheVariants.{Refused}
@@ -43,3 +45,8 @@ module _ (name : List ℕ) (args : TacArgsValue) (goal : GoalValue) (turns : ℕ
 
   pub is_refused : (code : TacCode) (r : Result Tried TacFault) (left : ℕ) → AnswersCode code args goal turns r → r ≡ Err (Refused left) → refused_run name left ≡ run_paid name code args goal (record { turns_left = turns })
   is_refused code r left h is = meant_refused (tac code) left (subst (AnswersCode code args goal turns) is h)
+
+-- what the call leaves is valid without hypotheses, where those of the arguments are assumed
+pub is_justified : (args : TacArgsValue) (goal : GoalValue) (r : Result Tried TacFault) (tried : Tried) → IfOk r (λ t. IsJustified args goal t.step) → r ≡ Ok tried → AreLeft no_hyps args goal
+    → IsValid (suits args) no_hyps tried.step.just (goal ∷ []) tried.step.goals.items
+is_justified args goal r tried h is left = subst (λ (o : Result Tried TacFault). IfOk o (λ t. IsJustified args goal t.step)) is h no_hyps left

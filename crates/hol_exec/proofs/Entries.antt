@@ -18,7 +18,7 @@ same_kind a b e k =
     theorem_kind b.kind (rw k at ranks)
 
 entry_under : (a b : KeyValue) (value : EntryValue) → key_eq a b ≡ true → IsEntry a value → IsEntry b value
-entry_under a b (ATheorem th) e h = record { theorem = h.theorem; under = same_kind a b e h.under; without_hypotheses = h.without_hypotheses }
+entry_under a b (ATheorem th) e h = record { theorem = h.theorem; under = same_kind a b e h.under; without_hypotheses = h.without_hypotheses; plain = h.plain }
 
 one_inserted : (es : Entries) (key : KeyValue) (value : EntryValue) → EachIsEntry es → IsEntry key value → EachIsEntry (insert_entry key_eq es key value)
 one_inserted [] key value all h = (h, tt)

@@ -1,11 +1,13 @@
 pub mod Parsing
 pub mod PreludeStands
 pub mod Statements
+pub mod Suited
 pub mod Steps
 pub mod Outcomes
 pub mod Histories
 pub mod Entries
 pub mod Rows
+pub mod Plain
 pub mod Resolving
 pub mod Answered
 pub mod Runs

@@ -13,7 +13,7 @@ use Rattle.hol_stack.specs.StackValue.{StepValue}
 use Rattle.hol_exec.specs.Key.{KeyValue}
 use Rattle.hol_exec.specs.Setup.{SetupValue}
 use Rattle.hol_exec.specs.Parsed.{LocalText, Goal, Apply, Qed, DirectText, Unread, Back, Rotate, Oops, ParsedValue, Local, Direct}
-use Rattle.hol_exec.specs.Reading.{ReadingValue, WrongArity, NoTyping, LargeReading, ReadsAs}
+use Rattle.hol_resolve.specs.Reading.{ReadingValue, WrongArity, NoTyping, LargeReading, ReadsAs}
 use Rattle.hol_exec.specs.StateValue.{ProofValue, StateValue, EndedTheory}
 use Rattle.hol_exec.specs.ReadsValue.{ReadsValue, ClosingValue, reads_of, AreReads, first_goal}
 use Rattle.hol_exec.specs.OutcomeValue.{OutcomeValue, Opens, Leaves, Undoes, Rotates, Makes, Refuses, MakesTheorems}
@@ -24,7 +24,7 @@ use Rattle.hol_exec.specs.Local.{opens, opens_read, IsOpening, run_outcome, at_s
 use Rattle.hol_exec.specs.Lookups.{reading_basis}
 use Rattle.hol_exec.specs.Standing.{first_taken}
 use Rattle.hol_exec.specs.ExprValue.{ExprValue}
-use Rattle.hol_exec.specs.Expr.{ResolutionValue, Resolved, Unresolved, RunResult, Leaving, LargeGoal, RefusedBy, OutOfTurns, run_expr}
+use Rattle.hol_exec.specs.Expr.{ResolutionValue, Resolved, Unresolved, RunResult, Leaving, LargeGoal, RefusedBy, LackingHyps, OutOfTurns, run_expr}
 use Rattle.hol_exec.specs.declared.refusal.RefusalKind.TheVariants as refusal
 use Rattle.hol_exec.specs.At.{undoes_to, undoes, rotates_goals, rotates, drops, direct, IsOutcome, IsOutcomeAt}
 use Rattle.hol_exec.specs.Valid.{IsLeft, IsValidChange, CanStep}
@@ -43,7 +43,7 @@ module _ (goal : GoalValue) (goals : List GoalValue) (basis : Items) where
       typed p true e = stated p _ (first_taken [] reads.made) e
       typed p false e = absurd (cc)
 
-      by : (r : ReadingValue) → Leaves goal goals basis ≡ opens_read name q.place reads r → ⊥
+      by : (r : ReadingValue Nameless) → Leaves goal goals basis ≡ opens_read name q.place reads r → ⊥
       by WrongArity e = absurd (cc)
       by NoTyping e = absurd (cc)
       by LargeReading e = absurd (cc)
@@ -61,6 +61,7 @@ module _ (goal : GoalValue) (goals : List GoalValue) (basis : Items) where
   run_first g b (Leaving more) e = cc
   run_first g b LargeGoal e = absurd (cc)
   run_first g b (RefusedBy name) e = absurd (cc)
+  run_first g b (LackingHyps name) e = absurd (cc)
   run_first g b OutOfTurns e = absurd (cc)
 
   applied_first : (o : Option GoalValue) (turns : ℕ) (x : ExprValue) (b : Items) → Leaves goal goals basis ≡ applied o turns x b → o ≡ Some goal

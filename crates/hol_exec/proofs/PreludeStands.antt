@@ -1,7 +1,7 @@
 -- What stands for readings is the prelude alone, and what a quotation reads as is well typed over it.
-use Rattle.std.specs.Prelude.{◌≡◌, ℕ, Bool, true, false, cond, ◌&&◌, ◌||◌, ◌==◌, List, [], ◌∷◌, ◌++◌, bytes_eq, codes, Option, Some, None, refl, suc}
+use Rattle.std.specs.Prelude.{◌≡◌, ℕ, Bool, true, false, cond, ◌&&◌, ◌||◌, ◌==◌, List, [], ◌∷◌, ◌++◌, bytes_eq, codes, Option, Some, None, Result, Ok, refl, suc}
 use Rattle.std.specs.List.{list_any, list_all}
-use Rattle.std.proofs.Common.{ap, sym, ◌∙◌}
+use Rattle.std.proofs.Common.{ap, sym, ◌∙◌, subst}
 use Rattle.std.proofs.lemmas.Bool.{and_parts, eq-eqb}
 use Rattle.std.proofs.lemmas.Slice.Eq.{bytes_eq-Decides}
 use Rattle.hol_types.specs.Tree.{TypeTree, TypeList, TyVar, TyApp, no_types, more_types}
@@ -21,8 +21,14 @@ use Rattle.hol_infer.specs.Standing.{stands, all_stand, TermStands, AreStanding,
 use Rattle.hol_infer.proofs.StandingLaws.{reading_stands}
 use Rattle.hol_exec.specs.Entry.{ATheorem}
 use Rattle.hol_exec.specs.ReadsValue.{Values}
-use Rattle.hol_exec.specs.Lookups.{LookupsValue, cited_constants, cited_types, lookups_of, reading_basis}
-use Rattle.hol_exec.specs.Reading.{ReadsAs, IsTermReadAs}
+use Rattle.hol_resolve.specs.Lookups.{LookupsValue}
+use Rattle.hol_resolve.specs.Over.{AreOver}
+use Rattle.hol_resolve.specs.Readings.{ReadingsValue, AreRead}
+use Rattle.hol_resolve.specs.declared.quotations.AnyQuotation.{AnyQuotation}
+use Rattle.hol_resolve.specs.declared.refusal.Refusal.{Refusal}
+use Rattle.hol_resolve.proofs.Standing.{readings_are_over}
+use Rattle.hol_exec.specs.Lookups.{cited_constants, cited_types, lookups_of, reading_basis}
+use Rattle.hol_resolve.specs.Reading.{ReadsAs, IsTermReadAs}
 
 abbrev takes : List ℕ → ℕ → Bool
 takes c n = has_arity no_items c n
@@ -133,6 +139,12 @@ known_reading over t p e h = by (rw e at h)
 
 pub reading_known : (cited : Values) (t : TermText) (p : Nameless) → IsTermReadAs (lookups_of cited) t (ReadsAs p) → is_known no_items p ≡ true
 reading_known cited t p h = known_reading (lookups_of cited) t p (same_lookups cited) h
+
+-- what the quotations of a command read as stands over no items
+pub readings_over : (cited : Values) (over : LookupsValue) (quoted : List AnyQuotation) (own : Result ReadingsValue Refusal) (readings : ReadingsValue) → over ≡ lookups_of cited → AreRead over quoted own → own ≡ Ok readings → AreOver no_items readings
+readings_over cited over quoted own readings e h f =
+    readings_are_over no_items (lookups_of []) quoted readings prelude_stands
+    (subst (λ (w : LookupsValue). AreRead w quoted (Ok readings)) (e ∙ same_lookups cited) (subst (λ (r : Result ReadingsValue Refusal). AreRead over quoted r) f h))
 
 pub no_basis : (cited : Values) (p : Nameless) → reading_basis cited p ≡ no_items
 no_basis [] p = refl

@@ -2,16 +2,11 @@
 use Rattle.std.specs.Prelude.{◌≡◌, ◌+◌, ◌&&◌, ℕ, Bool, true, false, cond, List, [], ◌∷◌, ◌++◌, length, slice_get, bytes_eq, Option, Some, None, IfSome, refl, zero, suc}
 use Rattle.std.specs.Option.{option_map, option_and_then}
 use Rattle.std.specs.Map.{lookup}
-use Rattle.std.specs.List.{list_all, position_from}
+use Rattle.std.specs.List.{position_from}
 use Rattle.std.proofs.Common.{ap, sym, ◌∙◌, append_assoc, arith}
-use Rattle.std.proofs.lemmas.Bool.{and_parts}
 use Rattle.std.proofs.lemmas.Iterator.Adapters.{position_from-zero}
-use Rattle.hol_goal.specs.Arguments.{arguments_of}
-use Rattle.hol_goal.specs.declared.tac_args.ArgumentKind.{ArgumentKind}
-use Rattle.hol_goal.specs.declared.tac_args.ArgumentKind.TheVariants as takes
 use Rattle.hol_goal.specs.declared.tac_code.TacCode.{TacCode}
 use Rattle.hol_registry.specs.Table.{index_of}
-use Rattle.hol_exec.specs.Setup.{is_nothing, take_nothing}
 use Rattle.hol_exec.specs.Tac.{IsRowOf}
 use Rattle.hol_exec.proofs.PreludeStands.{same_bytes}
 
@@ -60,19 +55,3 @@ module _ (name : List ℕ) where
 
   pub none_found : (table : List Row) → index_of name table ≡ None → None ≡ lookup (bytes_eq name) table
   none_found table found = sym (looked_up table ∙ ap (option_and_then (code_at table)) found)
-
-nothing_of : (k : ArgumentKind) → is_nothing k ≡ true → k ≡ takes.Nothing
-nothing_of takes.Nothing e = refl
-nothing_of takes.Term e = absurd (cc)
-nothing_of takes.Pair e = absurd (cc)
-nothing_of takes.Theorem e = absurd (cc)
-nothing_of takes.TermAndTheorem e = absurd (cc)
-nothing_of takes.Theorems e = absurd (cc)
-
--- each row of a table whose functions take no arguments
-pub row_takes_nothing : (table : List Row) (i : ℕ) (code : TacCode) → take_nothing table ≡ true → option_map (λ row. row.1) (slice_get table i) ≡ Some code → arguments_of code ≡ takes.Nothing
-row_takes_nothing [] i code all is = absurd (cc)
-row_takes_nothing (row ∷ rows) zero code all is =
-    let same : row.1 ≡ code = cc in
-    ap arguments_of (sym same) ∙ nothing_of (arguments_of row.1) (and_parts (is_nothing (arguments_of row.1)) (take_nothing rows) all).0
-row_takes_nothing (row ∷ rows) (suc i) code all is = row_takes_nothing rows i code (and_parts (is_nothing (arguments_of row.1)) (take_nothing rows) all).1 is

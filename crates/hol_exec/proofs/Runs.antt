@@ -1,16 +1,17 @@
 -- Outcomes, from what the steps of a command found.
 use Rattle.std.specs.Prelude.{◌≡◌, ℕ, Bool, true, false, List, Result, Ok, Err, IfOk}
+use Rattle.hol_terms.specs.Nameless.{Nameless}
 use Rattle.hol_notation_terms.specs.Text.{QuotationText}
 use Rattle.hol_notation_tactics.specs.Text.{TacText}
 use Rattle.hol_exec.specs.Setup.{SetupValue}
 use Rattle.hol_exec.specs.Lookups.{lookups_of}
-use Rattle.hol_exec.specs.Reading.{ReadingValue, IsTermReadAs}
+use Rattle.hol_resolve.specs.Reading.{ReadingValue, IsTermReadAs}
 use Rattle.hol_exec.specs.ReadsValue.{ReadsValue}
 use Rattle.hol_exec.specs.Expr.{ResolutionValue, IsResolution}
 use Rattle.hol_exec.specs.OutcomeValue.{OutcomeValue}
 use Rattle.hol_exec.specs.Local.{opens_read, IsOpening, resolved_outcome, IsApplying}
 
-pub opens_by : (in_proof : Bool) (name : List ℕ) (q : QuotationText) (reads : ReadsValue) (reading : ReadingValue) (outcome : OutcomeValue) →
+pub opens_by : (in_proof : Bool) (name : List ℕ) (q : QuotationText) (reads : ReadsValue) (reading : ReadingValue Nameless) (outcome : OutcomeValue) →
     in_proof ≡ false → IsTermReadAs (lookups_of reads.cited) q.term reading → outcome ≡ opens_read name q.place reads reading → IsOpening in_proof name q reads outcome
 opens_by in_proof name q reads reading outcome e h f =
     rw e (reading, h, f)
@@ -20,7 +21,7 @@ pub applies_by : (in_proof : Bool) (setup : SetupValue) (tactic : TacText) (read
 applies_by in_proof setup tactic reads resolution outcome e h f = rw e (resolution, h, f)
 
 -- the same where what is read is of a case
-pub opens_at : (in_proof : Bool) (name : List ℕ) (q : QuotationText) (reads : ReadsValue) (read reading : ReadingValue) (outcome : OutcomeValue) →
+pub opens_at : (in_proof : Bool) (name : List ℕ) (q : QuotationText) (reads : ReadsValue) (read reading : ReadingValue Nameless) (outcome : OutcomeValue) →
     in_proof ≡ false → IsTermReadAs (lookups_of reads.cited) q.term read → read ≡ reading → outcome ≡ opens_read name q.place reads reading → IsOpening in_proof name q reads outcome
 opens_at in_proof name q reads read reading outcome e h g f = opens_by in_proof name q reads reading outcome e (rw g at h) f
 

@@ -10,18 +10,9 @@ use Rattle.hol_formulas.specs.Equation.{bool_type}
 use Rattle.hol_kernel.specs.Items.{Items, no_items}
 use Rattle.hol_kernel.specs.Typing.{is_type_at, is_known}
 use Rattle.hol_kernel.proofs.Variables.{typed_known, known_typed}
-use Rattle.hol_notation_terms.specs.Text.{TermText}
-use Rattle.hol_infer.specs.Resolving.{raw_of, term_has_arities}
 use Rattle.hol_goal.specs.Goal.{GoalValue}
 use Rattle.hol_goal.specs.Achieves.{IsTyped}
-use Rattle.hol_exec.specs.ReadsValue.{Values}
-use Rattle.hol_exec.specs.Lookups.{lookups_of}
-use Rattle.hol_exec.specs.Reading.{ReadingValue, IsReadAs, IsTermReadAs}
 use Rattle.hol_exec.specs.Valid.{IsStatement}
-
-pub read_over : (cited own : Values) (t : TermText) (constants : List (List ℕ × TypeTree)) (arities : List (List ℕ × ℕ)) (reading : ReadingValue) → own ≡ cited → constants ≡ (lookups_of own).constants → arities ≡ (lookups_of own).types →
-    IsReadAs (term_has_arities arities t) (raw_of arities constants [] t) reading → IsTermReadAs (lookups_of cited) t reading
-read_over cited own t constants arities reading d e f h = rw (← d) (rw (e, f) at h)
 
 of_bool : (o : Option TypeTree) → is_type_at o bool_type ≡ true → o ≡ Some bool_type
 of_bool None e = absurd (cc)

@@ -1,5 +1,5 @@
 -- What is left of a goal, and when a proof can take that step.
-use Rattle.std.specs.Prelude.{◌≡◌, List, [], ◌∷◌, length, refl, Some}
+use Rattle.std.specs.Prelude.{◌≡◌, true, List, [], ◌∷◌, length, refl, Some}
 use Rattle.std.specs.FinSet as set
 use Rattle.std.proofs.Common.{ap, sym, ◌∙◌, subst}
 use Rattle.hol_kernel.specs.Items.{Items, no_items}
@@ -10,8 +10,8 @@ use Rattle.hol_kernel.proofs.ItemOrder.{total, only}
 use Rattle.hol_kernel.proofs.Members.{not_in_empty}
 use Rattle.hol_kernel.proofs.Subsets.{subset_trans, subset_right}
 use Rattle.hol_goal.specs.Goal.{GoalValue}
-use Rattle.hol_goal.specs.Arguments.{Nothing}
-use Rattle.hol_just.specs.Answering.{AreLeft, suits}
+use Rattle.hol_exec.specs.ExprValue.{ExprValue}
+use Rattle.hol_exec.proofs.Suited.{suits_larger}
 use Rattle.hol_just.specs.Valid.{IsValid}
 use Rattle.hol_just.specs.declared.reason.Move.{Move}
 use Rattle.hol_just.specs.declared.tried.Step.{Step}
@@ -21,24 +21,18 @@ use Rattle.hol_exec.specs.declared.expr.RunEnd.{RunEnd}
 use Rattle.hol_exec.specs.declared.expr.RunEnd.TheVariants.{Leaving}
 use Rattle.hol_exec.specs.StateValue.{ProofValue}
 use Rattle.hol_exec.specs.ReadsValue.{first_of}
-use Rattle.hol_exec.specs.Valid.{IsJustifiedEnd, IsLeft, CanStep}
+use Rattle.hol_exec.specs.Valid.{suits_expr, IsJustifiedEnd, IsLeft, CanStep}
 
 -- ---- what a run left
 
--- where there are no arguments no hypotheses are theirs
-nothing_left : (goal : GoalValue) → AreLeft no_hyps Nothing goal
-nothing_left goal = record {
-  among = set.contains-is_subset hyps_total no_hyps no_hyps (λ q h. h);
-  all = λ p h. absurd (not_in_empty hyps_total hyps_same p h);
-}
-
-pub left_by : (basis : Items) (first goal : GoalValue) (step : Step) (ended : RunEnd) → basis ≡ no_items → goal ≡ first → ended ≡ Leaving step → IsJustifiedEnd first ended → IsLeft basis step.just goal step.goals.items
-left_by basis first goal step ended plain same is h = record {
+-- an expression that a basis suits is suited by each that contains it
+pub left_by : (basis : Items) (e : ExprValue) (first goal : GoalValue) (step : Step) (ended : RunEnd) → basis ≡ no_items → suits_expr e basis ≡ true → goal ≡ first → ended ≡ Leaving step → IsJustifiedEnd e first ended → IsLeft basis step.just goal step.goals.items
+left_by basis e first goal step ended plain suited same is h = record {
   plain = plain;
   valid =
       subst (λ (g : GoalValue). IsValid (set.is_subset basis) no_hyps step.just (g ∷ []) step.goals.items) (sym same)
-      (valid_under (suits Nothing) (set.is_subset basis) no_hyps step.just (first ∷ []) step.goals.items (λ more k. refl)
-      (subst (IsJustifiedEnd first) is h no_hyps (nothing_left first)));
+      (valid_under (suits_expr e) (set.is_subset basis) no_hyps step.just (first ∷ []) step.goals.items (λ more k. suits_larger e basis more k suited)
+      (subst (IsJustifiedEnd e first) is h));
 }
 
 -- equal values are left so too

@@ -1,29 +1,28 @@
 -- A text is one thing, and has one outcome at a state.
-use Rattle.std.specs.Prelude.{◌≡◌, ℕ, List, [], Bool, true, false, Option, Some, None, refl}
+use Rattle.std.specs.Prelude.{◌≡◌, ℕ, List, [], ◌∷◌, Bool, true, false, Option, Some, None, Result, refl}
 use Rattle.std.proofs.Common.{ap, sym, ◌∙◌, subst, inl, inr}
 use Rattle.hol_notation_terms.specs.Text.{TermText, QuotationText}
-use Rattle.hol_notation_tactics.specs.Text.{ArgumentText, CallText, TacText, Call, Then, ThenL, OrElse, Repeat, Try, Changed, Every, First, Replicate, DischThen, PopAssum, FirstAssum, SubgoalThen}
+use Rattle.hol_notation_tactics.specs.Text.{TacText}
 use Rattle.hol_notation_commands.specs.Reading.{Reads, Breaks}
 use Rattle.hol_notation_commands.proofs.OneReading.{one-reading as one_command}
-use Rattle.hol_kernel.specs.Items.{Items}
 use Rattle.hol_infer.specs.Raw.{RawTree}
 use Rattle.hol_infer.specs.Resolving.{raw_of, term_has_arities}
 use Rattle.hol_infer.proofs.Unique.{one_reading as one_term, reading_typable, reading_not_large, large_typable}
 use Rattle.hol_exec.specs.Setup.{SetupValue}
 use Rattle.hol_exec.specs.Parsed.{LocalText, Goal, Apply, Qed, ParsedValue, Local, Direct, Unread, IsParsed, parsed}
-use Rattle.hol_exec.specs.Lookups.{LookupsValue, lookups_of}
-use Rattle.hol_exec.specs.Reading.{ReadingValue, WrongArity, NoTyping, LargeReading, ReadsAs, IsReadAs, IsTermReadAs}
+use Rattle.hol_terms.specs.Nameless.{Nameless}
+use Rattle.hol_resolve.specs.Lookups.{LookupsValue}
+use Rattle.hol_resolve.specs.Quotations.{quotations_of}
+use Rattle.hol_resolve.specs.Readings.{QuotedValue, ATerm, ReadingsValue, Attempts, reading_map, IsQuotedAs, AreAttempts, read_all, AreRead}
+use Rattle.hol_resolve.specs.declared.quotations.AnyQuotation.{AnyQuotation}
+use Rattle.hol_resolve.specs.declared.quotations.AnyQuotation.TheVariants as quoted
+use Rattle.hol_resolve.specs.declared.refusal.Refusal.{Refusal}
+use Rattle.hol_exec.specs.Lookups.{lookups_of}
+use Rattle.hol_resolve.specs.Reading.{ReadingValue, WrongArity, NoTyping, LargeReading, ReadsAs, IsReadAs, IsTermReadAs}
 use Rattle.hol_exec.specs.StateValue.{StateValue, EndedTheory}
 use Rattle.hol_exec.specs.ReadsValue.{ReadsValue, Values}
 use Rattle.hol_exec.specs.declared.refusal.RefusalKind.{RefusalKind}
-use Rattle.hol_goal.specs.Arguments.{TacArgsValue, arguments_of}
-use Rattle.hol_goal.specs.declared.tac_args.ArgumentKind.{ArgumentKind}
-use Rattle.hol_goal.specs.declared.tac_args.ArgumentKind.TheVariants as takes
-use Rattle.hol_goal.specs.declared.tac_code.TacCode.{TacCode}
-use Rattle.hol_exec.specs.declared.tac.CallRole.TheVariants.{Whole}
-use Rattle.hol_exec.specs.ExprValue.{ExprValue, Calls}
-use Rattle.hol_exec.specs.Tac.{Registered}
-use Rattle.hol_exec.specs.Expr.{AreArguments, IsCallExpr, ResolutionValue, Resolved, Unresolved, named_refusals, first_refusal, IsResolvedCall, IsResolvedFitting, IsResolvedPast}
+use Rattle.hol_exec.specs.Expr.{ResolutionValue, named_refusals, first_refusal, resolved_read, IsResolvedFitting, IsResolvedPast}
 use Rattle.hol_exec.specs.OutcomeValue.{OutcomeValue}
 use Rattle.hol_exec.specs.Local.{opens_read, IsOpening, resolved_outcome, IsApplying, IsLocalOutcome}
 use Rattle.hol_exec.specs.At.{IsOutcome}
@@ -47,7 +46,7 @@ one_text text a b (inr p) (inr q) =
 both_ways : (b : Bool) → b ≡ true → b ≡ false → ⊥
 both_ways b p q = let e : true ≡ false = sym p ∙ q in absurd (cc)
 
-pub one_read : (arities : Bool) (raw : RawTree) (a b : ReadingValue) → IsReadAs arities raw a → IsReadAs arities raw b → a ≡ b
+pub one_read : (arities : Bool) (raw : RawTree) (a b : ReadingValue Nameless) → IsReadAs arities raw a → IsReadAs arities raw b → a ≡ b
 one_read arities raw WrongArity WrongArity p q = refl
 one_read arities raw WrongArity NoTyping p q = absurd (both_ways _ q.0 p)
 one_read arities raw WrongArity LargeReading p q = absurd (both_ways _ q.0 p)
@@ -65,48 +64,36 @@ one_read arities raw (ReadsAs s) NoTyping p q = absurd (reading_typable raw s p.
 one_read arities raw (ReadsAs s) LargeReading p q = absurd (reading_not_large raw s p.1 p.2 q.1)
 one_read arities raw (ReadsAs s) (ReadsAs t) p q = ap ReadsAs (one_term raw s t p.1 q.1)
 
-pub one_reading : (over : LookupsValue) (t : TermText) (a b : ReadingValue) → IsTermReadAs over t a → IsTermReadAs over t b → a ≡ b
+pub one_reading : (over : LookupsValue) (t : TermText) (a b : ReadingValue Nameless) → IsTermReadAs over t a → IsTermReadAs over t b → a ≡ b
 one_reading over t a b p q = one_read (term_has_arities over.types t) (raw_of over.types over.constants [] t) a b p q
+
+-- ---- what is quoted
+
+one_quoted : (over : LookupsValue) (q : AnyQuotation) (a b : ReadingValue QuotedValue) → IsQuotedAs over q a → IsQuotedAs over q b → a ≡ b
+one_quoted over (quoted.Term t) a b p q = p.2 ∙ ap (reading_map ATerm) (one_reading over t.term p.0 q.0 p.1 q.1) ∙ sym q.2
+one_quoted over (quoted.Type t) a b p q = p ∙ sym q
+
+one_attempts : (over : LookupsValue) (qs : List AnyQuotation) (a b : Attempts) → AreAttempts over qs a → AreAttempts over qs b → a ≡ b
+one_attempts over [] [] [] p q = refl
+one_attempts over [] [] (y ∷ b) p q = absurd q
+one_attempts over [] (x ∷ a) b p q = absurd p
+one_attempts over (t ∷ qs) [] b p q = absurd p
+one_attempts over (t ∷ qs) (x ∷ a) [] p q = absurd q
+one_attempts over (t ∷ qs) (x ∷ a) (y ∷ b) p q =
+    let place : x.0 ≡ y.0 = p.0 ∙ sym q.0 in
+    let read : x.1 ≡ y.1 = one_quoted over t x.1 y.1 p.1 q.1 in
+    let rest : a ≡ b = one_attempts over qs a b p.2 q.2 in
+    λ i. (place i, read i) ∷ rest i
+
+one_all_read : (over : LookupsValue) (qs : List AnyQuotation) (a b : Result ReadingsValue Refusal) → AreRead over qs a → AreRead over qs b → a ≡ b
+one_all_read over qs a b p q = p.2 ∙ ap read_all (one_attempts over qs p.0 q.0 p.1 q.1) ∙ sym q.2
 
 -- ---- resolutions
 
 module _ (setup : SetupValue) (cited : Values) where
-  one_arguments : (kind : ArgumentKind) (arguments : List ArgumentText) (a b : TacArgsValue) (x y : Items) → AreArguments kind arguments cited a x → AreArguments kind arguments cited b y → (a ≡ b) × (x ≡ y)
-  one_arguments takes.Nothing arguments a b x y p q = (p.0 ∙ sym q.0, p.1 ∙ sym q.1)
-  one_arguments takes.Term arguments a b x y p q = absurd p
-  one_arguments takes.Pair arguments a b x y p q = absurd p
-  one_arguments takes.Theorem arguments a b x y p q = absurd p
-  one_arguments takes.TermAndTheorem arguments a b x y p q = absurd p
-  one_arguments takes.Theorems arguments a b x y p q = absurd p
-
-  one_expr : (call : CallText) (a b : ExprValue) (x y : Items) → IsCallExpr setup Whole call cited a x → IsCallExpr setup Whole call cited b y → (a ≡ b) × (x ≡ y)
-  one_expr call (Calls m c s) (Calls n d t) x y p q =
-      let names : m ≡ n = p.0 ∙ sym q.0 in
-      let some : Some (Registered c) ≡ Some (Registered d) = sym p.1 ∙ q.1 in
-      let codes : c ≡ d = cc in
-      let same = one_arguments (arguments_of c) call.arguments s t x y p.2 (subst (λ (code : TacCode). AreArguments (arguments_of code) call.arguments cited t y) (sym codes) q.2) in
-      (λ i. Calls (names i) (codes i) (same.0 i), same.1)
-
-  one_call : (call : CallText) (a b : ResolutionValue) → IsResolvedCall setup call cited a → IsResolvedCall setup call cited b → a ≡ b
-  one_call call (Resolved e x) (Resolved f y) p q = let same = one_expr call e f x y p q in λ i. Resolved (same.0 i) (same.1 i)
-  one_call call (Resolved e x) (Unresolved kind arg) p q = absurd q
-  one_call call (Unresolved kind arg) b p q = absurd p
-
   one_fitting : (tactic : TacText) (a b : ResolutionValue) → IsResolvedFitting setup tactic cited a → IsResolvedFitting setup tactic cited b → a ≡ b
-  one_fitting (Call call) a b p q = one_call call a b p q
-  one_fitting (Then t u) a b p q = p ∙ sym q
-  one_fitting (ThenL t us) a b p q = p ∙ sym q
-  one_fitting (OrElse t u) a b p q = p ∙ sym q
-  one_fitting (Repeat t) a b p q = p ∙ sym q
-  one_fitting (Try t) a b p q = p ∙ sym q
-  one_fitting (Changed t) a b p q = p ∙ sym q
-  one_fitting (Every ts) a b p q = p ∙ sym q
-  one_fitting (First ts) a b p q = p ∙ sym q
-  one_fitting (Replicate n t) a b p q = p ∙ sym q
-  one_fitting (DischThen call) a b p q = p ∙ sym q
-  one_fitting (PopAssum call) a b p q = p ∙ sym q
-  one_fitting (FirstAssum call) a b p q = p ∙ sym q
-  one_fitting (SubgoalThen term call) a b p q = p ∙ sym q
+  one_fitting tactic a b p q =
+      p.2 ∙ ap (resolved_read setup tactic cited) (one_all_read (lookups_of cited) (quotations_of tactic) p.0 q.0 p.1 q.1) ∙ sym q.2
 
   one_past : (tactic : TacText) (o : Option (RefusalKind × List ℕ)) (a b : ResolutionValue) → IsResolvedPast setup tactic cited o a → IsResolvedPast setup tactic cited o b → a ≡ b
   one_past tactic (Some refused) a b p q = p ∙ sym q

@@ -14,7 +14,7 @@ use Rattle.hol_stack.specs.Codes.{step_code}
 use Rattle.hol_exec.specs.declared.key.Kind.{Kind}
 use Rattle.hol_exec.specs.declared.key.Kind.TheVariants as key_kind
 use Rattle.hol_exec.specs.declared.refusal.RefusalKind.{RefusalKind}
-use Rattle.hol_exec.specs.declared.refusal.RefusalKind.TheVariants.{Syntax, InProof, NoProofOpen, UnknownTheorem, UnknownTac, Untypable, NotBool, Arity, NameTaken, TooLarge, NoGoalOpen, Refused, TurnLimit, GoalsRemain, NothingToUndo}
+use Rattle.hol_exec.specs.declared.refusal.RefusalKind.TheVariants.{Syntax, InProof, NoProofOpen, UnknownTheorem, UnknownTac, Untypable, NotBool, Arity, NameTaken, TooLarge, BadRule, HypsNotAssumed, NoGoalOpen, Refused, TurnLimit, GoalsRemain, NothingToUndo}
 use Rattle.hol_exec.specs.Key.{KeyValue, kind_rank}
 use Rattle.hol_exec.specs.Entry.{EntryValue, ATheorem, Entries}
 use Rattle.hol_exec.specs.StateValue.{ProofValue, StateValue}
@@ -95,7 +95,7 @@ coded_reads =
 abbrev refusal_at : ℕ → RefusalKind
 refusal_at n =
     if n == 1 then Syntax else if n == 2 then InProof else if n == 3 then NoProofOpen else if n == 5 then UnknownTheorem else if n == 6 then UnknownTac
-    else if n == 7 then Untypable else if n == 8 then NotBool else if n == 9 then Arity else if n == 10 then NameTaken else if n == 13 then TooLarge
+    else if n == 7 then Untypable else if n == 8 then NotBool else if n == 9 then Arity else if n == 10 then NameTaken else if n == 13 then TooLarge else if n == 14 then BadRule else if n == 15 then HypsNotAssumed
     else if n == 16 then NoGoalOpen else if n == 17 then Refused else if n == 18 then TurnLimit
     else if n == 19 then GoalsRemain else NothingToUndo
 
@@ -110,6 +110,8 @@ refusal_back NotBool = refl
 refusal_back Arity = refl
 refusal_back NameTaken = refl
 refusal_back TooLarge = refl
+refusal_back BadRule = refl
+refusal_back HypsNotAssumed = refl
 refusal_back NoGoalOpen = refl
 refusal_back Refused = refl
 refusal_back TurnLimit = refl

@@ -2,7 +2,7 @@
 -- Source: this project.
 use Rattle.std.specs.Prelude.{◌≡◌, List, [], ◌∷◌, Option}
 use Rattle.std.specs.Map.{lookup}
-use Rattle.hol_kernel.specs.Items.{Items}
+use Rattle.hol_kernel.specs.Items.{Items, no_items}
 use Rattle.hol_kernel.specs.Sequent.{no_hyps}
 use Rattle.hol_kernel.specs.Theorem.{Theorem, IsTheorem}
 use Rattle.hol_exec.specs.declared.key.Kind.TheVariants as key_kind
@@ -24,11 +24,12 @@ abbrev pub entry_basis : EntryValue → Items
 entry_basis (ATheorem th) = th.basis
 
 -- A theorem as an entry: it has a derivation over its basis, which is legal; it stands under a theorem's key; and it has no hypotheses, so
--- that `|- p` says all of it.
+-- that `|- p` says all of it; and it rests on no items, since no command makes any.
 pub record IsTheoremEntry (key : KeyValue) (th : Theorem) : Type 0 where
   pub theorem : IsTheorem th
   pub under : key.kind ≡ key_kind.Theorem
   pub without_hypotheses : th.sequent.hyps ≡ no_hyps
+  pub plain : th.basis ≡ no_items
 
 abbrev pub IsEntry : KeyValue → EntryValue → Type 0
 IsEntry key (ATheorem th) = IsTheoremEntry key th

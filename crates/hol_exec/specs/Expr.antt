@@ -1,16 +1,21 @@
 -- Expressions of functions on goals: what they resolve to, and how they run.
 -- Sources: the tactics of the HOL Light Reference Manual; turns are this project's.
-use Rattle.std.specs.Prelude.{◌≡◌, ℕ, zero, suc, List, [], ◌∷◌, ◌++◌, Bool, nat_lt, cond, Option, Some, None, is_some}
+use Rattle.std.specs.Prelude.{◌≡◌, ℕ, zero, suc, List, [], ◌∷◌, ◌++◌, Bool, true, false, nat_lt, cond, decimal, Option, Some, None, is_some, Result, Ok, Err}
 use Rattle.std.specs.List.{list_any}
-use Rattle.hol_kernel.specs.Items.{Items, no_items}
-use Rattle.hol_notation_tactics.specs.Text.{ArgumentText, CallText, TacText, TacTexts, Call, Then, ThenL, OrElse, Repeat, Try, Changed, Every, First, Replicate, DischThen, PopAssum, FirstAssum, SubgoalThen, no_tacs, more_tacs}
+use Rattle.hol_kernel.specs.Items.{Items}
+use Rattle.hol_notation_tactics.specs.Text.{CallText, TacText, TacTexts, Call, Then, ThenL, OrElse, Repeat, Try, Changed, Every, First, Replicate, DischThen, PopAssum, FirstAssum, SubgoalThen, no_tacs, more_tacs}
 use Rattle.hol_goal.specs.Goal.{GoalValue, goal_size}
 use Rattle.hol_goal.specs.Answer.{UsedValue, AnswerResult, AnswerValue, Left, Unfit, answered}
-use Rattle.hol_goal.specs.Arguments.{TacArgsValue, Nothing, arguments_of}
-use Rattle.hol_goal.specs.declared.tac_args.ArgumentKind.{ArgumentKind}
-use Rattle.hol_goal.specs.declared.tac_args.ArgumentKind.TheVariants as takes
+use Rattle.hol_goal.specs.Arguments.{TacArgsValue, arguments_of}
 use Rattle.hol_goal.specs.declared.tac_code.TacCode.{TacCode}
 use Rattle.hol_just.specs.Tac.{Meaning, tac}
+use Rattle.hol_resolve.specs.Among.{are_assumed}
+use Rattle.hol_resolve.specs.Forward.{rule_word}
+use Rattle.hol_resolve.specs.Quotations.{quotations_of}
+use Rattle.hol_resolve.specs.Readings.{ReadingsValue, AreRead}
+use Rattle.hol_resolve.specs.Written.{arguments_written}
+use Rattle.hol_resolve.specs.declared.refusal.Refusal.{Refusal}
+use Rattle.hol_resolve.specs.declared.refusal.Refusal.TheVariants as resolving
 use Rattle.hol_exec.specs.declared.tac.CallRole.{CallRole}
 use Rattle.hol_exec.specs.declared.tac.CallRole.TheVariants.{Whole, TheoremTactic}
 use Rattle.hol_exec.specs.declared.refusal.RefusalKind.{RefusalKind}
@@ -18,25 +23,10 @@ use Rattle.hol_exec.specs.declared.refusal.RefusalKind.TheVariants as refusal
 use Rattle.hol_exec.specs.Setup.{SetupValue}
 use Rattle.hol_exec.specs.ExprValue.{ExprValue, Calls}
 use Rattle.hol_exec.specs.ReadsValue.{Values}
+use Rattle.hol_exec.specs.Lookups.{lookups_of}
+use Rattle.hol_exec.specs.Resolved.{cited_theorems, resolved_basis}
 use Rattle.hol_exec.specs.Standing.{first_unknown}
-use Rattle.hol_exec.specs.Tac.{Registered, called}
-
--- ---- resolved expressions
-
--- Arguments of a kind, as they are written, resolve to these over the values of what is cited, on the union of the bases of all that is resolved. No
--- function that takes some is registered.
-abbrev pub AreArguments : ArgumentKind → List ArgumentText → Values → TacArgsValue → Items → Type 0
-AreArguments takes.Nothing arguments cited args basis = (args ≡ Nothing) × (basis ≡ no_items)
-AreArguments takes.Term arguments cited args basis = ⊥
-AreArguments takes.Pair arguments cited args basis = ⊥
-AreArguments takes.Theorem arguments cited args basis = ⊥
-AreArguments takes.TermAndTheorem arguments cited args basis = ⊥
-AreArguments takes.Theorems arguments cited args basis = ⊥
-
--- a call of the role resolves to the expression
-abbrev pub IsCallExpr : SetupValue → CallRole → CallText → Values → ExprValue → Items → Type 0
-IsCallExpr setup role call cited (Calls name code args) basis =
-    (name ≡ call.name) × (called setup role call cited ≡ Some (Registered code)) × AreArguments (arguments_of code) call.arguments cited args basis
+use Rattle.hol_exec.specs.Tac.{CalledValue, Registered, called}
 
 -- ---- resolving, of one number all that is written before the next
 
@@ -87,34 +77,59 @@ first_refusal [] = None
 first_refusal (None ∷ more) = first_refusal more
 first_refusal (Some refused ∷ more) = Some refused
 
--- a call that fits: nothing else is refused
-abbrev pub IsResolvedCall : SetupValue → CallText → Values → ResolutionValue → Type 0
-IsResolvedCall setup call cited (Resolved expr basis) = IsCallExpr setup Whole call cited expr basis
-IsResolvedCall setup call cited (Unresolved kind arg) = ⊥
+-- what is refused of readings and of arguments, as the command is refused; arguments of another kind are refused by the name of what is called
+abbrev pub unresolved : List ℕ → Refusal → ResolutionValue
+unresolved name (resolving.WrongArity place) = Unresolved refusal.Arity (decimal place)
+unresolved name (resolving.NoTyping place) = Unresolved refusal.Untypable (decimal place)
+unresolved name resolving.TooLarge = Unresolved refusal.TooLarge []
+unresolved name (resolving.UnknownTheorem theorem) = Unresolved refusal.UnknownTheorem theorem
+unresolved name resolving.WrongArguments = Unresolved refusal.UnknownTac name
+unresolved name (resolving.BadRule rule) = Unresolved refusal.BadRule (rule_word rule)
+
+-- a call with its arguments
+abbrev pub resolved_with : List ℕ → TacCode → Items → Result TacArgsValue Refusal → ResolutionValue
+resolved_with name code basis (Ok args) = Resolved (Calls name code args) basis
+resolved_with name code basis (Err r) = unresolved name r
+
+abbrev pub resolved_on : Items → CallText → TacCode → Values → ReadingsValue → ResolutionValue
+resolved_on basis call code cited readings =
+    resolved_with call.name code basis (arguments_written basis (cited_theorems cited) readings (arguments_of code) call.arguments)
+
+-- a call, over the readings of all quotations: its arguments are those of the kind, by the theorems that are cited
+abbrev pub resolved_call : CallText → Option CalledValue → Values → ReadingsValue → ResolutionValue
+resolved_call call None cited readings = Unresolved refusal.UnknownTac call.name
+resolved_call call (Some (Registered code)) cited readings = resolved_on (resolved_basis cited readings) call code cited readings
 
 -- No tactical runs: a text with one is no command of this kind, and what is written would be refused.
 abbrev pub idle_tactical : ResolutionValue
 idle_tactical = Unresolved refusal.UnknownTac []
 
--- Where all theorems are known and all calls fit. What is quoted is read after that and before anything is resolved; of a call that runs no
--- argument is quoted, so no refusal of a reading stands here.
-abbrev pub IsResolvedFitting : SetupValue → TacText → Values → ResolutionValue → Type 0
-IsResolvedFitting setup (Call call) cited resolution = IsResolvedCall setup call cited resolution
-IsResolvedFitting setup (Then t u) cited resolution = resolution ≡ idle_tactical
-IsResolvedFitting setup (ThenL t us) cited resolution = resolution ≡ idle_tactical
-IsResolvedFitting setup (OrElse t u) cited resolution = resolution ≡ idle_tactical
-IsResolvedFitting setup (Repeat t) cited resolution = resolution ≡ idle_tactical
-IsResolvedFitting setup (Try t) cited resolution = resolution ≡ idle_tactical
-IsResolvedFitting setup (Changed t) cited resolution = resolution ≡ idle_tactical
-IsResolvedFitting setup (Every ts) cited resolution = resolution ≡ idle_tactical
-IsResolvedFitting setup (First ts) cited resolution = resolution ≡ idle_tactical
-IsResolvedFitting setup (Replicate n t) cited resolution = resolution ≡ idle_tactical
-IsResolvedFitting setup (DischThen call) cited resolution = resolution ≡ idle_tactical
-IsResolvedFitting setup (PopAssum call) cited resolution = resolution ≡ idle_tactical
-IsResolvedFitting setup (FirstAssum call) cited resolution = resolution ≡ idle_tactical
-IsResolvedFitting setup (SubgoalThen p call) cited resolution = resolution ≡ idle_tactical
+abbrev pub resolved_tactic : SetupValue → TacText → Values → ReadingsValue → ResolutionValue
+resolved_tactic setup (Call call) cited readings = resolved_call call (called setup Whole call cited) cited readings
+resolved_tactic setup (Then t u) cited readings = idle_tactical
+resolved_tactic setup (ThenL t us) cited readings = idle_tactical
+resolved_tactic setup (OrElse t u) cited readings = idle_tactical
+resolved_tactic setup (Repeat t) cited readings = idle_tactical
+resolved_tactic setup (Try t) cited readings = idle_tactical
+resolved_tactic setup (Changed t) cited readings = idle_tactical
+resolved_tactic setup (Every ts) cited readings = idle_tactical
+resolved_tactic setup (First ts) cited readings = idle_tactical
+resolved_tactic setup (Replicate n t) cited readings = idle_tactical
+resolved_tactic setup (DischThen call) cited readings = idle_tactical
+resolved_tactic setup (PopAssum call) cited readings = idle_tactical
+resolved_tactic setup (FirstAssum call) cited readings = idle_tactical
+resolved_tactic setup (SubgoalThen p call) cited readings = idle_tactical
 
--- past what is refused of names
+-- what is written, by what its quotations read as
+abbrev pub resolved_read : SetupValue → TacText → Values → Result ReadingsValue Refusal → ResolutionValue
+resolved_read setup tactic cited (Ok readings) = resolved_tactic setup tactic cited readings
+resolved_read setup tactic cited (Err r) = unresolved [] r
+
+-- past what is refused of names: all that is quoted is read before anything is resolved
+abbrev pub IsResolvedFitting : SetupValue → TacText → Values → ResolutionValue → Type 0
+IsResolvedFitting setup tactic cited resolution =
+    (readings : Result ReadingsValue Refusal) × AreRead (lookups_of cited) (quotations_of tactic) readings × (resolution ≡ resolved_read setup tactic cited readings)
+
 abbrev pub IsResolvedPast : SetupValue → TacText → Values → Option (RefusalKind × List ℕ) → ResolutionValue → Type 0
 IsResolvedPast setup tactic cited (Some refused) resolution = resolution ≡ Unresolved refused.0 refused.1
 IsResolvedPast setup tactic cited None resolution = IsResolvedFitting setup tactic cited resolution
@@ -125,11 +140,13 @@ IsResolution setup tactic cited resolution = IsResolvedPast setup tactic cited (
 
 -- ---- runs
 
--- the goals left, or a goal that is left is too large, or the refusal of the TAC of a name, or no turn was left to go on with
+-- the goals left, or a goal that is left is too large, or the refusal of the TAC of a name, or that theorems given to it have hypotheses that are no assumptions, or
+-- no turn was left to go on with
 pub data RunResult : Type 0 where
   Leaving : List GoalValue → RunResult
   LargeGoal : RunResult
   RefusedBy : List ℕ → RunResult
+  LackingHyps : List ℕ → RunResult
   OutOfTurns : RunResult
 
 -- what a run comes to
@@ -163,10 +180,15 @@ meant (Some f) args goal used = f args goal used
 abbrev pub run_paid : List ℕ → TacCode → TacArgsValue → GoalValue → UsedValue → RunValue
 run_paid name code args goal used = run_answer name (meant (tac code) args goal used)
 
--- a call pays one turn, and then calls
+-- past the test of hypotheses
+abbrev pub run_assumed : List ℕ → TacCode → TacArgsValue → GoalValue → UsedValue → Bool → RunValue
+run_assumed name code args goal used true = run_paid name code args goal used
+run_assumed name code args goal used false = record { result = LackingHyps name; used = used }
+
+-- a call pays one turn, tests that the hypotheses of the theorems that are given are assumptions, and then calls
 abbrev pub run_call : List ℕ → TacCode → TacArgsValue → GoalValue → UsedValue → ℕ → RunValue
 run_call name code args goal used zero = record { result = OutOfTurns; used = used }
-run_call name code args goal used (suc turns) = run_paid name code args goal (record used { turns_left = turns })
+run_call name code args goal used (suc turns) = run_assumed name code args goal (record used { turns_left = turns }) (are_assumed goal args)
 
 -- the run of an expression on a goal, with what was used before
 abbrev pub run_expr : ExprValue → GoalValue → UsedValue → RunValue

@@ -11,8 +11,7 @@ pub mod StateValue
 pub mod ReadsValue
 pub mod Lookups
 pub mod Standing
-pub mod Reading
-pub mod ReadingView
+pub mod Resolved
 pub mod Tac
 pub mod TacView
 pub mod Expr

@@ -19,10 +19,10 @@ use Rattle.hol_exec.specs.Setup.{SetupValue}
 use Rattle.hol_exec.specs.Parsed.{LocalText, Goal, Apply, Qed}
 use Rattle.hol_exec.specs.ReadsValue.{ReadsValue, ClosingValue}
 use Rattle.hol_exec.specs.Lookups.{lookups_of, reading_basis}
-use Rattle.hol_exec.specs.Reading.{ReadingValue, WrongArity, NoTyping, LargeReading, ReadsAs, IsTermReadAs}
+use Rattle.hol_resolve.specs.Reading.{ReadingValue, WrongArity, NoTyping, LargeReading, ReadsAs, IsTermReadAs}
 use Rattle.hol_exec.specs.Standing.{first_taken}
 use Rattle.hol_exec.specs.ExprValue.{ExprValue}
-use Rattle.hol_exec.specs.Expr.{ResolutionValue, Resolved, Unresolved, IsResolution, RunResult, Leaving, LargeGoal, RefusedBy, OutOfTurns, run_expr}
+use Rattle.hol_exec.specs.Expr.{ResolutionValue, Resolved, Unresolved, IsResolution, RunResult, Leaving, LargeGoal, RefusedBy, LackingHyps, OutOfTurns, run_expr}
 use Rattle.hol_exec.specs.OutcomeValue.{OutcomeValue, Opens, Leaves, Makes, Refuses}
 
 -- ---- `g`: in a proof; arity; untypable; too large; not bool; name taken
@@ -36,7 +36,7 @@ abbrev pub opens_term : List ℕ → ℕ → ReadsValue → Nameless → Outcome
 opens_term name place reads p =
     cond (is_type_at (nameless_type [] p) bool_type) (opens name p (reading_basis reads.cited p) (first_taken [] reads.made)) (Refuses refusal.NotBool (decimal place))
 
-abbrev pub opens_read : List ℕ → ℕ → ReadsValue → ReadingValue → OutcomeValue
+abbrev pub opens_read : List ℕ → ℕ → ReadsValue → ReadingValue Nameless → OutcomeValue
 opens_read name place reads WrongArity = Refuses refusal.Arity (decimal place)
 opens_read name place reads NoTyping = Refuses refusal.Untypable (decimal place)
 opens_read name place reads LargeReading = Refuses refusal.TooLarge []
@@ -46,7 +46,7 @@ opens_read name place reads (ReadsAs p) = opens_term name place reads p
 abbrev pub IsOpening : Bool → List ℕ → QuotationText → ReadsValue → OutcomeValue → Type 0
 IsOpening true name quotation reads outcome = outcome ≡ Refuses refusal.InProof []
 IsOpening false name quotation reads outcome =
-    (reading : ReadingValue) × IsTermReadAs (lookups_of reads.cited) quotation.term reading × (outcome ≡ opens_read name quotation.place reads reading)
+    (reading : ReadingValue Nameless) × IsTermReadAs (lookups_of reads.cited) quotation.term reading × (outcome ≡ opens_read name quotation.place reads reading)
 
 -- ---- `e`: no proof open; then what resolving refuses; no goal open; then the run
 
@@ -54,6 +54,7 @@ abbrev pub run_outcome : GoalValue → Items → RunResult → OutcomeValue
 run_outcome goal basis (Leaving goals) = Leaves goal goals basis
 run_outcome goal basis LargeGoal = Refuses refusal.TooLarge []
 run_outcome goal basis (RefusedBy name) = Refuses refusal.Refused name
+run_outcome goal basis (LackingHyps name) = Refuses refusal.HypsNotAssumed name
 run_outcome goal basis OutOfTurns = Refuses refusal.TurnLimit []
 
 -- a command's run starts with all of its turns

@@ -6,14 +6,10 @@ use Rattle.hol_types.specs.Tree.{TypeTree}
 use Rattle.hol_terms.specs.Nameless.{Nameless}
 use Rattle.hol_kernel.specs.Items.{Items, no_items}
 use Rattle.hol_formulas.specs.Constants.{prelude_types, prelude_constants}
+use Rattle.hol_resolve.specs.Lookups.{LookupsValue}
 use Rattle.hol_exec.specs.Key.{KeyValue}
 use Rattle.hol_exec.specs.Entry.{EntryValue, ATheorem}
 use Rattle.hol_exec.specs.ReadsValue.{Values}
-
--- the generic types of constants, and the arities of type constructors, by name
-pub record LookupsValue : Type 0 where
-  pub constants : List (List ℕ × TypeTree)
-  pub types : List (List ℕ × ℕ)
 
 -- what stands under a key is this for readings: a theorem is no constant and no type
 abbrev pub value_constants : KeyValue → Option EntryValue → List (List ℕ × TypeTree)

@@ -2,7 +2,7 @@
 -- Source: this project.
 use Rattle.std.specs.Prelude.{ℕ, List, codes}
 use Rattle.hol_exec.specs.declared.refusal.RefusalKind.{RefusalKind}
-use Rattle.hol_exec.specs.declared.refusal.RefusalKind.TheVariants.{Syntax, InProof, NoProofOpen, UnknownTheorem, UnknownTac, Untypable, NotBool, Arity, NameTaken, TooLarge, NoGoalOpen, Refused, TurnLimit, GoalsRemain, NothingToUndo}
+use Rattle.hol_exec.specs.declared.refusal.RefusalKind.TheVariants.{Syntax, InProof, NoProofOpen, UnknownTheorem, UnknownTac, Untypable, NotBool, Arity, NameTaken, TooLarge, BadRule, HypsNotAssumed, NoGoalOpen, Refused, TurnLimit, GoalsRemain, NothingToUndo}
 
 abbrev pub kind_number : RefusalKind → ℕ
 kind_number Syntax = 1
@@ -15,6 +15,8 @@ kind_number NotBool = 8
 kind_number Arity = 9
 kind_number NameTaken = 10
 kind_number TooLarge = 13
+kind_number BadRule = 14
+kind_number HypsNotAssumed = 15
 kind_number NoGoalOpen = 16
 kind_number Refused = 17
 kind_number TurnLimit = 18
@@ -32,6 +34,8 @@ kind_text NotBool = codes "not bool"
 kind_text Arity = codes "type constructor's arity"
 kind_text NameTaken = codes "name taken"
 kind_text TooLarge = codes "too large"
+kind_text BadRule = codes "bad rule"
+kind_text HypsNotAssumed = codes "hypotheses not among assumptions"
 kind_text NoGoalOpen = codes "no goal open"
 kind_text Refused = codes "refused"
 kind_text TurnLimit = codes "turn limit"

@@ -3,17 +3,18 @@
 use Rattle.std.specs.Prelude.{◌||◌, ◌++◌, ℕ, List, [], ◌∷◌, Bool, false, not, cond, bytes_eq, Option, Some, None, is_some}
 use Rattle.std.specs.List.{list_any}
 use Rattle.hol_formulas.specs.Constants.{prelude_types, prelude_constants}
+use Rattle.hol_prelude.specs.Statements.{prelude_statements}
 use Rattle.hol_exec.specs.declared.key.Kind.{Kind}
 use Rattle.hol_exec.specs.declared.key.Kind.TheVariants as key_kind
 use Rattle.hol_exec.specs.Key.{KeyValue, key_eq}
 use Rattle.hol_exec.specs.Entry.{EntryValue}
 use Rattle.hol_exec.specs.ReadsValue.{Values}
 
--- the name is that of a type or a constant of the prelude; its theorems can't be cited
+-- the name is that of a type, a constant or a theorem of the prelude
 abbrev pub in_prelude : Kind → List ℕ → Bool
 in_prelude key_kind.Type name = list_any (λ p. bytes_eq name p.0) prelude_types
 in_prelude key_kind.Constant name = list_any (λ p. bytes_eq name p.0) prelude_constants
-in_prelude key_kind.Theorem name = false
+in_prelude key_kind.Theorem name = list_any (λ p. bytes_eq name p.0) prelude_statements
 
 -- whether something stands under a key: an entry, this being its value, or what the prelude has
 abbrev pub is_standing : KeyValue → Option EntryValue → Bool

@@ -1,6 +1,7 @@
 //! What the end of a proof reads of it.
 ghost use Rattle.std.specs.Prelude.{◌≡◌, [], IfOk, Some};
 ghost use Rattle.hol_terms.specs.Nameless.{nameless};
+ghost use Rattle.hol_kernel.specs.Items.{no_items};
 ghost use Rattle.hol_kernel.specs.Sequent.{no_hyps};
 ghost use Rattle.hol_kernel.specs.Theorem.{theorem_over};
 ghost use Rattle.hol_exec.specs.ReadsValue.{ClosingValue, closing_of};
@@ -21,7 +22,8 @@ pub(crate) struct Closing {
 }
 
 impl Model for Closing {
-    ghost use Rattle.std.specs.Prelude.{string_bytes, length};
+    ghost use Rattle.std.specs.Prelude.{◌≡◌, string_bytes, length};
+    ghost use Rattle.hol_kernel.specs.Items.{no_items};
     ghost use Rattle.hol_exec.specs.ReadsValue.{ClosingValue};
     ghost use Rattle.hol_exec.specs.Codes.{coded_closing};
 
@@ -30,6 +32,8 @@ impl Model for Closing {
     ghost coded = { coded_closing };
 
     ghost view = { λ c. record { name = string_bytes c.name; statement = c.stack.goal.conclusion; basis = c.stack.newest.basis; open_goals = length c.stack.newest.goals } };
+
+    ghost invariant = { λ c. c.stack.newest.basis ≡ no_items };
 }
 
 impl Same for Closing {
@@ -68,7 +72,8 @@ impl Closing {
 
     /// The proof's basis.
     pub(crate) fn basis(&self) -> &Basis
-        ensures { result.now ≡ self.now.basis }
+        ensures value { result.now ≡ self.now.basis }
+        ensures plain { result.now ≡ no_items }
     {
         self.stack.basis()
     }
@@ -94,7 +99,8 @@ impl Closing {
     #[tactic(auto, using(crate::proofs::Steps::none_open))]
     pub(crate) fn theorem(&self, alloc: Global) -> Result<Thm, AllocError>
         requires { self.now.open_goals ≡ 0 }
-        ensures { IfOk result (λ th. th ≡ theorem_over self.now.basis no_hyps self.now.statement) }
+        ensures value { IfOk result (λ th. th ≡ theorem_over self.now.basis no_hyps self.now.statement) }
+        ensures plain { self.now.basis ≡ no_items }
     {
         match self.stack.finish(alloc) {
             Ok(theorem) => Ok(theorem),

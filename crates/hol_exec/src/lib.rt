@@ -4,6 +4,7 @@
 #![tactic(auto)]
 
 mod calls;
+mod cited;
 mod closing;
 mod direct_outcome;
 mod entry;
@@ -23,6 +24,7 @@ mod refusal;
 mod registered;
 mod report;
 mod reporting;
+mod resolution;
 mod run;
 mod same;
 mod setup;

@@ -1,34 +1,23 @@
 //! The constants and types that stand for a command's readings.
 ghost use Rattle.std.specs.Prelude.{◌≡◌, ◌++◌, IfOk};
+ghost use Rattle.hol_resolve.specs.LookupsView.{lookups_value};
 ghost use Rattle.hol_exec.specs.Lookups.{lookups_of, value_constants, value_types};
 
 use crate::entry::{Entry, EntryNode};
 use crate::key::Key;
-use hol_kernel::{prelude_constants, prelude_types};
-use hol_types::{Name, Ty};
+use crate::setup::Setup;
+use hol_resolve::Lookups;
 use std::alloc::{AllocError, Global};
-
-/// The generic types of constants, and the arities of type constructors, by name.
-#[derive(Drop)]
-pub(crate) struct Lookups {
-    /// Constants with their generic types.
-    pub(crate) constants: Vec<(Name, Ty)>,
-    /// Type constructors with their arities.
-    pub(crate) types: Vec<(Name, usize)>,
-}
 
 /// What stands where these entries are cited: what the prelude has, and what they are.
 pub(crate) fn lookups_of(
     alloc: Global,
+    setup: &Setup,
     cited: &[(Key, Option<Entry>)],
 ) -> Result<Lookups, AllocError>
-    ensures constants { IfOk result (λ lookups. lookups.constants.items ≡ (lookups_of cited.now).constants) }
-    ensures types { IfOk result (λ lookups. lookups.types.items ≡ (lookups_of cited.now).types) }
+    ensures { IfOk result (λ lookups. lookups_value lookups ≡ lookups_of cited.now) }
 {
-    let mut lookups = Lookups {
-        constants: prelude_constants(alloc)?,
-        types: prelude_types(alloc)?,
-    };
+    let mut lookups = setup.lookups().copy(alloc)?;
     for value in cited {
         add_value(&mut lookups, value);
     }

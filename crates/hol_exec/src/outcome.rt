@@ -1,6 +1,7 @@
 //! What a command does to a state.
 ghost use Rattle.std.specs.Prelude.{◌≡◌, ◌↔◌, IsTrue, IfOk, string_bytes, []};
 ghost use Rattle.hol_terms.specs.Nameless.{nameless};
+ghost use Rattle.hol_kernel.specs.Items.{no_items};
 ghost use Rattle.hol_exec.specs.Entry.{EachIsEntry};
 ghost use Rattle.hol_exec.specs.OutcomeValue.{OutcomeValue, Opens, Leaves, Undoes, Rotates, Makes, Refuses, MakesTheorems};
 ghost use Rattle.hol_exec.specs.OutcomeView.{outcome_of};
@@ -58,7 +59,8 @@ impl Model for Outcome {
 
 impl Outcome {
     pub(crate) fn opens(name: String, statement: Term, basis: Basis) -> Outcome
-        requires { IsStatement basis (nameless [] statement) }
+        requires statement { IsStatement basis (nameless [] statement) }
+        requires plain { basis ≡ no_items }
         ensures { result ≡ Opens (string_bytes name) (nameless [] statement) basis }
     {
         Outcome {
@@ -188,7 +190,8 @@ fn opening_copy(
     statement: &Term,
     basis: &Basis,
 ) -> Result<Outcome, AllocError>
-    requires { IsStatement basis.now (nameless [] statement.now) }
+    requires statement { IsStatement basis.now (nameless [] statement.now) }
+    requires plain { basis.now ≡ no_items }
     ensures { IfOk result (λ o. o ≡ Opens name.now (nameless [] statement.now) basis.now) }
 {
     let name = String::from_str(alloc, name)?;

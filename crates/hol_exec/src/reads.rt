@@ -6,6 +6,7 @@ ghost use Rattle.hol_exec.specs.Key.{key_eq};
 ghost use Rattle.hol_exec.specs.Standing.{first_taken, first_unknown};
 ghost use Rattle.hol_exec.specs.ParsedView.{local_text};
 ghost use Rattle.hol_exec.specs.SameReads.{same_reads};
+ghost use Rattle.hol_exec.specs.Valid.{ArePlain};
 ghost use Rattle.hol_exec.specs.ReadsValue.{ReadsValue, values_of, goal_for, closing_for, reads_of};
 
 use crate::closing::Closing;
@@ -34,12 +35,15 @@ pub struct Reads {
 impl Model for Reads {
     ghost use Rattle.hol_exec.specs.ReadsValue.{ReadsValue};
     ghost use Rattle.hol_exec.specs.Codes.{coded_reads};
+    ghost use Rattle.hol_exec.specs.Valid.{ArePlain};
 
     ghost Value = { ReadsValue };
 
     ghost coded = { coded_reads };
 
     ghost view = { λ r. record { cited = r.cited.items; made = r.made.items; in_proof = r.in_proof; goal = r.goal; closing = r.closing } };
+
+    ghost invariant = { λ r. ArePlain r.cited.items };
 }
 
 impl PartialEq for Reads {
@@ -78,9 +82,11 @@ impl Hash for Reads {
 
 impl Reads {
     /// What the command reads of the state.
+    #[tactic(auto, using(crate::proofs::Plain::values_plain))]
     pub fn of(alloc: Global, command: &LocalCommand, state: &State) -> Result<Reads, AllocError>
         ensures { IfOk result (λ r. r ≡ reads_of (local_text command.now) state.now) }
     {
+        state.promise();
         let cited = values_of(alloc, cited_keys(alloc, command)?, state)?;
         let made = values_of(alloc, made_keys(alloc, command)?, state)?;
         let in_proof = state.proof().is_some();
@@ -97,7 +103,8 @@ impl Reads {
 
     /// The values of the keys that the command cites.
     pub(crate) fn cited(&self) -> &[(Key, Option<Entry>)]
-        ensures { result.now ≡ self.now.cited }
+        ensures value { result.now ≡ self.now.cited }
+        ensures plain { ArePlain result.now }
     {
         self.cited.as_slice()
     }

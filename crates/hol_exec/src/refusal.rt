@@ -21,8 +21,12 @@ pub enum RefusalKind {
     Arity,
     /// The name of what the command makes stands already, or is made twice.
     NameTaken,
-    /// The term that is read has over 20,000 nodes.
+    /// A term that is read, a theorem that a rule gives, or a goal that is left has over 20,000 nodes.
     TooLarge,
+    /// A rule by which a theorem is written doesn't apply.
+    BadRule,
+    /// A theorem given to a TAC has hypotheses that are no assumptions of the goal.
+    HypsNotAssumed,
     /// A TAC needs an open goal.
     NoGoalOpen,
     /// The TAC doesn't fit the goal.
@@ -54,6 +58,8 @@ impl RefusalKind {
             RefusalKind::Arity => 9,
             RefusalKind::NameTaken => 10,
             RefusalKind::TooLarge => 13,
+            RefusalKind::BadRule => 14,
+            RefusalKind::HypsNotAssumed => 15,
             RefusalKind::NoGoalOpen => 16,
             RefusalKind::Refused => 17,
             RefusalKind::TurnLimit => 18,
@@ -77,6 +83,8 @@ impl RefusalKind {
             RefusalKind::Arity => "type constructor's arity",
             RefusalKind::NameTaken => "name taken",
             RefusalKind::TooLarge => "too large",
+            RefusalKind::BadRule => "bad rule",
+            RefusalKind::HypsNotAssumed => "hypotheses not among assumptions",
             RefusalKind::NoGoalOpen => "no goal open",
             RefusalKind::Refused => "refused",
             RefusalKind::TurnLimit => "turn limit",

@@ -5,26 +5,28 @@ ghost use Rattle.hol_kernel.specs.Items.{no_items};
 ghost use Rattle.hol_kernel.specs.Typing.{is_known};
 ghost use Rattle.hol_exec.specs.ParsedView.{local_text};
 ghost use Rattle.hol_exec.specs.SetupView.{setup_value};
-ghost use Rattle.hol_exec.specs.ExprView.{expr_value, CanRun};
+ghost use Rattle.hol_exec.specs.ExprView.{expr_value};
 ghost use Rattle.hol_exec.specs.Local.{IsLocalOutcome, IsOpening, IsApplying, opens, opens_term, applied, finishes, finished};
 ghost use Rattle.hol_exec.specs.Lookups.{reading_basis};
 ghost use Rattle.hol_exec.specs.Standing.{first_taken};
 ghost use Rattle.hol_exec.specs.OutcomeValue.{Refuses};
-ghost use Rattle.hol_exec.specs.Valid.{IsStatement};
+ghost use Rattle.hol_exec.specs.Valid.{IsStatement, IsRunnable};
 
 use crate::closing::Closing;
 use crate::entry::Entry;
-use crate::expr::{Expr, Resolution, Run, RunEnd, Used, resolve, run_expr};
+use crate::expr::{Expr, Run, RunEnd, Used, run_expr};
 use crate::key::{Key, Kind};
 use crate::outcome::Outcome;
 use crate::parsed::LocalCommand;
-use crate::reading::{Reading, is_statement, read_term};
+use crate::reading::{is_statement, read_cited};
 use crate::reads::Reads;
 use crate::refusal::RefusalKind;
+use crate::resolution::{Resolution, resolve};
 use crate::setup::Setup;
 use hol_kernel::Basis;
 use hol_notation_tactics::TacExpr;
 use hol_notation_terms::Quotation;
+use hol_resolve::Reading;
 use hol_terms::Term;
 use std::alloc::{AllocError, Global};
 
@@ -39,7 +41,7 @@ pub fn run_local(
 {
     match command {
         LocalCommand::Goal { name, quotation } => {
-            open_goal(alloc, name.as_str(), quotation, reads)
+            open_goal(alloc, setup, name.as_str(), quotation, reads)
         }
         LocalCommand::Apply(tactic) => apply_tactic(alloc, setup, tactic, reads),
         LocalCommand::Qed => finish(alloc, reads),
@@ -67,6 +69,7 @@ pub(crate) fn refused_at(
 // `g`: in a proof; arity; untypable; too large; then what is read.
 fn open_goal(
     alloc: Global,
+    setup: &Setup,
     name: &str,
     quotation: &Quotation,
     reads: &Reads,
@@ -76,7 +79,7 @@ fn open_goal(
     if reads.in_proof() {
         return Ok(refused(alloc, RefusalKind::InProof));
     }
-    match read_term(alloc, &quotation.term, reads)? {
+    match read_cited(alloc, setup, &quotation.term, reads)? {
         Reading::WrongArity => refused_at(alloc, RefusalKind::Arity, quotation.place),
         Reading::NoTyping => refused_at(alloc, RefusalKind::Untypable, quotation.place),
         Reading::LargeReading => Ok(refused(alloc, RefusalKind::TooLarge)),
@@ -146,8 +149,7 @@ fn applied(
     expr: &Expr,
     basis: Basis,
 ) -> Result<Outcome, AllocError>
-    requires plain { basis ≡ no_items }
-    requires can_run { CanRun (setup_value setup.now) expr.now }
+    requires { IsRunnable (setup_value setup.now) expr.now basis }
     ensures { IfOk result (λ outcome. outcome ≡ applied reads.now.goal (setup_value setup.now).turns (expr_value expr.now) basis) }
 {
     let Some(goal) = reads.goal() else {
@@ -159,6 +161,7 @@ fn applied(
         RunEnd::Leaving(step) => Ok(Outcome::leaves(goal.copy(alloc)?, step, basis)),
         RunEnd::LargeGoal => Ok(refused(alloc, RefusalKind::TooLarge)),
         RunEnd::RefusedBy(name) => Ok(Outcome::refuses(RefusalKind::Refused, name)),
+        RunEnd::LackingHyps(name) => Ok(Outcome::refuses(RefusalKind::HypsNotAssumed, name)),
         RunEnd::OutOfTurns => Ok(refused(alloc, RefusalKind::TurnLimit)),
     }
 }

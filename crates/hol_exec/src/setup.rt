@@ -1,40 +1,56 @@
 //! What is fixed for a run.
-ghost use Rattle.std.specs.Prelude.{◌≡◌, ◌≤◌, true};
-ghost use Rattle.hol_exec.specs.Setup.{take_nothing};
-ghost use Rattle.hol_registry.specs.RegistryView.{table};
+ghost use Rattle.std.specs.Prelude.{◌≡◌, ◌≤◌};
+ghost use Rattle.std.specs.Coded.{Coded-set, coded×, coded_list, coded_ℕ};
+ghost use Rattle.hol_types.specs.Code.{coded_name, coded_type};
+ghost use Rattle.hol_formulas.specs.Constants.{prelude_types, prelude_constants};
 
 use crate::registered::Registered;
 use hol_goal::{Goal, TacArgs};
 use hol_just::{TacFault, Tried};
+use hol_kernel::{Thm, prelude_constants, prelude_types};
+use hol_prelude::Prelude;
 use hol_registry::Registry;
+use hol_resolve::Lookups;
+use std::alloc::{AllocError, Global};
 
-/// What is fixed for a run: the registered functions on goals, and the number of turns that a command has.
+/// What is fixed for a run: the registered functions on goals, what the prelude has, and the number of turns that a command has.
 #[derive(Drop)]
 pub struct Setup {
     registry: Registry,
+    prelude: Prelude,
+    lookups: Lookups,
     turns: u32,
     ghost turns_fit: { turns ≤ 100000 },
-    ghost plain: { take_nothing (table registry) ≡ true },
+    ghost constants: { lookups.constants.items ≡ prelude_constants } by { Coded-set (coded_list (coded× coded_name coded_type)) lookups.constants.items prelude_constants },
+    ghost types: { lookups.types.items ≡ prelude_types } by { Coded-set (coded_list (coded× coded_name coded_ℕ)) lookups.types.items prelude_types },
 }
 
 impl Setup {
-    ghost use Rattle.std.specs.Prelude.{ℕ, IfOk, IfSome, bytes_eq};
+    ghost use Rattle.std.specs.Prelude.{◌≡◌, IfOk, IfSome, MatchOption, Some, None, bytes_eq};
     ghost use Rattle.std.specs.Option.{option_map};
     ghost use Rattle.std.specs.Map.{lookup};
-    ghost use Rattle.hol_goal.specs.Arguments.{arguments_of};
     ghost use Rattle.hol_goal.specs.ArgumentsView.{args_value};
-    ghost use Rattle.hol_goal.specs.declared.tac_args.ArgumentKind.TheVariants as takes;
     ghost use Rattle.hol_just.specs.Answering.{AnswersCode, IsJustified};
+    ghost use Rattle.hol_prelude.specs.Statements.{prelude_theorem};
+    ghost use Rattle.hol_registry.specs.RegistryView.{table};
+    ghost use Rattle.hol_resolve.specs.LookupsView.{lookups_value};
     ghost use Rattle.hol_exec.specs.SetupView.{setup_value};
     ghost use Rattle.hol_exec.specs.Tac.{IsRowOf};
 
-    /// The set-up of these functions, none of which takes arguments, and of this number of turns, at most 100,000.
-    pub fn new(registry: Registry, turns: u32) -> Setup
-        requires turns { turns ≤ 100000 }
-        requires functions { take_nothing (table registry) ≡ true }
-        ensures { setup_value result ≡ record { table = table registry; turns = turns } }
+    /// The set-up of these functions and of this number of turns, at most 100,000.
+    pub fn new(alloc: Global, registry: Registry, turns: u32) -> Result<Setup, AllocError>
+        requires { turns ≤ 100000 }
+        ensures { IfOk result (λ setup. setup_value setup ≡ record { table = table registry; turns = turns }) }
     {
-        Setup { registry, turns }
+        Ok(Setup {
+            registry,
+            prelude: Prelude::new(alloc)?,
+            lookups: Lookups {
+                constants: prelude_constants(alloc)?,
+                types: prelude_types(alloc)?,
+            },
+            turns,
+        })
     }
 
     /// The number of turns that a command has.
@@ -45,12 +61,25 @@ impl Setup {
         self.turns
     }
 
+    /// The prelude's theorem of the name.
+    pub(crate) fn prelude_theorem(&self, name: &str) -> Option<&Thm>
+        ensures { MatchOption result (prelude_theorem name.now ≡ None) (λ th. prelude_theorem name.now ≡ Some th.now) }
+    {
+        self.prelude.get(name)
+    }
+
+    /// What the prelude has for readings.
+    pub(crate) fn lookups(&self) -> &Lookups
+        ensures { lookups_value result.now ≡ record { constants = prelude_constants; types = prelude_types } }
+    {
+        &self.lookups
+    }
+
     /// The function that is registered under the name.
-    #[tactic(auto, using(crate::proofs::Rows::row_found, crate::proofs::Rows::none_found, crate::proofs::Rows::row_takes_nothing))]
+    #[tactic(auto, using(crate::proofs::Rows::row_found, crate::proofs::Rows::none_found))]
     pub(crate) fn find(&self, name: &str) -> Option<Registered>
         ensures code { option_map (λ r. r.code) result ≡ lookup (bytes_eq name.now) (setup_value self.now).table }
         ensures row { IfSome result (λ r. IsRowOf (setup_value self.now).table r.index r.code) }
-        ensures takes_nothing { IfSome result (λ r. arguments_of r.code ≡ takes.Nothing) }
     {
         let index = self.registry.find(name)?;
         let code = self.registry.code(index);

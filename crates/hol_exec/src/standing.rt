@@ -26,8 +26,38 @@ fn in_prelude(kind: Kind, name: &str) -> bool
                 | "ONE_ONE"
                 | "ONTO"
         ),
-        Kind::Theorem => false,
+        Kind::Theorem => is_prelude_theorem(name),
     }
+}
+
+// Whether the name is that of a theorem of the prelude.
+fn is_prelude_theorem(name: &str) -> bool
+    ensures { result ≡ in_prelude Kind.Theorem name.now }
+{
+    matches!(
+        name,
+        "T_DEF"
+            | "AND_DEF"
+            | "IMP_DEF"
+            | "FORALL_DEF"
+            | "EXISTS_DEF"
+            | "OR_DEF"
+            | "F_DEF"
+            | "NOT_DEF"
+            | "EXISTS_UNIQUE_DEF"
+            | "ETA_AX"
+            | "SELECT_AX"
+            | "ONE_ONE"
+            | "ONTO"
+            | "INFINITY_AX"
+            | "TRUTH"
+            | "REFL_CLAUSE"
+            | "EQ_CLAUSES"
+            | "NOT_CLAUSES_WEAK"
+            | "AND_CLAUSES"
+            | "OR_CLAUSES"
+            | "IMP_CLAUSES"
+    )
 }
 
 /// Whether something stands under the key, which has this value.

@@ -1,6 +1,7 @@
 //! The state of a theory while it is run.
 ghost use Rattle.std.specs.Prelude.{◌≡◌, ◌≢◌, ◌<◌, ◌≤◌, ◌+◌, OnOk, OnErr, IfSome, Some, None, [], option_copied};
 ghost use Rattle.indexmap.specs.IndexMap.{insert_entry, insert_all, spare, IsUnique};
+ghost use Rattle.hol_kernel.specs.Items.{no_items};
 ghost use Rattle.hol_exec.specs.Key.{key_eq};
 ghost use Rattle.hol_exec.specs.Entry.{entry_at, EachIsEntry};
 ghost use Rattle.hol_exec.specs.StateValue.{StateValue, start, open_goals};
@@ -96,7 +97,8 @@ impl State {
         step: &Step,
         basis: &Basis,
     ) -> Result<(), AllocError>
-        requires { IfSome self.old.proof (CanStep basis.now step.now.just step.now.goals.items) }
+        requires step { IfSome self.old.proof (CanStep basis.now step.now.just step.now.goals.items) }
+        requires plain { basis.now ≡ no_items }
         ensures ok { OnOk result (self.new ≡ record { entries = self.old.entries; proof = stepped_in step.now.goals.items basis.now self.old.proof }) }
         ensures err { OnErr result (self.new ≡ self.old) }
     {

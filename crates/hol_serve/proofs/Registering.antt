@@ -5,7 +5,6 @@ use Rattle.std.proofs.Common.{ap, ◌∙◌, arith}
 use Rattle.std.proofs.lemmas.Bool.{and_parts}
 use Rattle.std.proofs.lemmas.List.{take_all}
 use Rattle.std.proofs.lemmas.Slice.Eq.{bytes_eq-Decides}
-use Rattle.hol_goal.specs.Arguments.{arguments_of}
 use Rattle.hol_goal.specs.TacNames.{tac_name}
 use Rattle.hol_goal.specs.declared.tac_code.TacCode.{TacCode}
 use Rattle.hol_just.specs.Tac.{Meaning, tac}
@@ -14,7 +13,6 @@ use Rattle.hol_registry.specs.declared.entry.Entry.{Entry}
 use Rattle.hol_registry.specs.Refusal.{IsRefusal}
 use Rattle.hol_registry.specs.declared.error.RegistryError.{RegistryError}
 use Rattle.hol_registry.specs.declared.error.RegistryError.TheVariants.{Twice}
-use Rattle.hol_exec.specs.Setup.{is_nothing, take_nothing}
 use Rattle.hol_document.specs.Documents.{Documents}
 use Rattle.hol_serve.specs.BegunView.{row_of, names_differ, is_known, are_known}
 
@@ -34,23 +32,9 @@ all_at p (y ∷ xs) (suc i) x all l is = all_at p xs i x (and_parts (p y) (list_
 
 pub known_at : (codes : List TacCode) (i : ℕ) (code : TacCode) → are_known codes ≡ true → i < length codes → code ≡ get_or codes i code → is_some (tac code) ≡ true
 known_at codes i code known l is =
-    let each = all_at is_known codes i code (and_parts (list_all is_known codes) (names_differ (map tac_name codes)) known).0 l is in
-    (and_parts (is_some (tac code)) (is_nothing (arguments_of code)) each).0
+    all_at is_known codes i code (and_parts (list_all is_known codes) (names_differ (map tac_name codes)) known).0 l is
 
 -- ---- all of them
-
-all_rows : (codes : List TacCode) → list_all is_known codes ≡ true → take_nothing (map row_of codes) ≡ true
-all_rows [] all = refl
-all_rows (code ∷ codes) all =
-    let parts = and_parts (is_known code) (list_all is_known codes) all in
-    let first : is_nothing (arguments_of code) ≡ true = (and_parts (is_some (tac code)) (is_nothing (arguments_of code)) parts.0).1 in
-    λ i. both (first i) (all_rows codes parts.1 i)
-  where
-    both : Bool → Bool → Bool
-    both a b = a && b
-
-pub rows_plain : (codes : List TacCode) (rows : List (List ℕ × TacCode)) → are_known codes ≡ true → rows ≡ map row_of codes → take_nothing rows ≡ true
-rows_plain codes rows known is = ap take_nothing is ∙ all_rows codes (and_parts (list_all is_known codes) (names_differ (map tac_name codes)) known).0
 
 pub names_of_rows : {X W g : _} (entries : List (Entry X W g)) → map name entries ≡ map (λ (r : List ℕ × TacCode). r.0) (map row entries)
 names_of_rows [] = refl

@@ -1,7 +1,6 @@
 //! Sessions over documents that begin without theories.
-ghost use Rattle.std.specs.Prelude.{◌≡◌, ◌≢◌, ◌⊎◌, ◌≤◌, [], true, Err, OnOk, map};
+ghost use Rattle.std.specs.Prelude.{◌≡◌, ◌≢◌, ◌⊎◌, ◌≤◌, [], true, Err, IfOk, OnOk, map};
 ghost use Rattle.hol_document.specs.Documents.{Documents};
-ghost use Rattle.hol_exec.specs.Setup.{take_nothing};
 ghost use Rattle.hol_exec.specs.SetupView.{setup_value};
 ghost use Rattle.hol_registry.specs.RegistryView.{name, row};
 ghost use Rattle.hol_serve.specs.Begun.{tacs, begun_by};
@@ -17,22 +16,34 @@ use hol_document::Docs;
 use hol_exec::Setup;
 use hol_goal::{Goal, TacArgs, TacCode};
 use hol_registry::{Entry, Registry, RegistryError};
-use std::alloc::Global;
+use std::alloc::{AllocError, Global};
 
 // The functions on goals that the program knows.
-const CODES: [TacCode; 12] = [
+const CODES: [TacCode; 24] = [
     TacCode::AllTac,
     TacCode::NoTac,
     TacCode::ReflTac,
+    TacCode::AcceptTac,
     TacCode::ConjTac,
     TacCode::Disj1Tac,
     TacCode::Disj2Tac,
     TacCode::EqTac,
     TacCode::DischTac,
     TacCode::GenTac,
+    TacCode::XGenTac,
+    TacCode::ExistsTac,
+    TacCode::SpecTac,
+    TacCode::MpTac,
+    TacCode::AssumeTac,
+    TacCode::ContrTac,
+    TacCode::ChooseTac,
+    TacCode::XChooseTac,
+    TacCode::DisjCasesTac,
+    TacCode::Subst1Tac,
     TacCode::ApTermTac,
     TacCode::ApThmTac,
     TacCode::MkCombTac,
+    TacCode::UndischTac,
 ];
 
 /// Serves the reader's lines over documents without theories, run by the functions that the program knows, each under the name of its code,
@@ -64,7 +75,7 @@ pub(crate) fn serve_begun<R: Source, W: Sink>(
 }
 
 // The same with the functions of these codes.
-#[tactic(auto, using(crate::proofs::Registering::known_at, crate::proofs::Registering::rows_plain, crate::proofs::Registering::names_plain))]
+#[tactic(auto, using(crate::proofs::Registering::known_at, crate::proofs::Registering::names_plain))]
 fn serve_with<R: Source, W: Sink>(
     alloc: Global,
     codes: &[TacCode],
@@ -99,21 +110,21 @@ fn serve_with<R: Source, W: Sink>(
         let name = String::from_str(alloc, code.name())?;
         entries.push(Entry::new(name, *code, tac))?;
     }
-    let mut docs = Docs::new(alloc, setup_of(entries, turns), cache);
+    let setup = setup_of(alloc, entries, turns)?;
+    let mut docs = Docs::new(alloc, setup, cache);
     run(alloc, reader, writer, &mut docs)
 }
 
 // The set-up of these functions, whose names differ, and of this number of turns.
 #[tactic(auto, using(crate::proofs::Registering::twice_not))]
-fn setup_of(entries: Vec<Entry>, turns: u32) -> Setup
+fn setup_of(alloc: Global, entries: Vec<Entry>, turns: u32) -> Result<Setup, AllocError>
     requires turns { turns ≤ 100000 }
-    requires plain { take_nothing (map row entries.items) ≡ true }
     requires differ { names_differ (map name entries.items) ≡ true }
-    ensures { setup_value result ≡ record { table = map row entries.items; turns = turns } }
+    ensures { IfOk result (λ setup. setup_value setup ≡ record { table = map row entries.items; turns = turns }) }
 {
     let registry = match Registry::new(entries) {
         Ok(registry) => registry,
         Err(RegistryError::Twice(_)) => unreachable!(),
     };
-    Setup::new(registry, turns)
+    Setup::new(alloc, registry, turns)
 }

@@ -1,5 +1,6 @@
 //! Sessions over texts, and over readers and writers that fail. Expected replies come from docs/PROTOCOL.md, RFC 8259 and HOL Light.
 
+mod arguments;
 mod commands;
 mod copies;
 mod endings;

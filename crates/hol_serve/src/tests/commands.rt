@@ -1,6 +1,6 @@
 //! Commands, and the reports on them.
 
-use crate::tests::support::{expect_reports, reply_to_last};
+use crate::tests::support::{Rows, expect_reports, reply_to_last};
 use std::fmt::Write;
 use std::test::Fail;
 
@@ -152,9 +152,10 @@ g M `p = p`
 < {"arg":"NOPE","ok":true,"refusal":5,"text":"unknown theorem"}
 > e FOO_TAC
 < {"arg":"FOO_TAC","ok":true,"refusal":6,"text":"unknown TAC or wrong arguments"}
-> e ACCEPT_TAC N
-> e ACCEPT_TAC (ASSUME `p`)
-> e ACCEPT_TAC (REFL `p`)
+> e ACCEPT_TAC
+> e ACCEPT_TAC `p`
+> e ACCEPT_TAC [N]
+> e ACCEPT_TAC N N
 < {"arg":"ACCEPT_TAC","ok":true,"refusal":6,"text":"unknown TAC or wrong arguments"}
 > e REFL_TAC N
 > e REFL_TAC `x x`
@@ -257,12 +258,12 @@ fn leaves_goals(rt: HostRuntime) -> Result<(), Fail> {
             r#"{"goals":[{"asl":[],"free":["f:A->B","g:A->B"],"goal":"f = g"},{"asl":[],"free":["x:A","y:A"],"goal":"x = y"}],"ok":true}"#,
         ),
     ];
+    let mut session = Rows::new(rt.alloc());
     for (goal, command, want) in rows {
         let commands = format!(in rt.alloc(); "g N {goal}\n{command}")?;
-        let reply = reply_to_last(rt.alloc(), commands.as_str())?;
-        assert_eq!(rt; reply.as_str(), want, "{command} of {goal}");
+        session.add(commands.as_str(), want)?;
     }
-    Ok(())
+    session.expect(&rt)
 }
 
 // Proofs of more than one step, whose theorems are made by their justifications.
@@ -326,11 +327,11 @@ qed",
             r#"{"made":["thm N |- g (f x) = g (f x)"],"ok":true}"#,
         ),
     ];
+    let mut session = Rows::new(rt.alloc());
     for (commands, want) in rows {
-        let reply = reply_to_last(rt.alloc(), commands)?;
-        assert_eq!(rt; reply.as_str(), want, "after {commands}");
+        session.add(commands, want)?;
     }
-    Ok(())
+    session.expect(&rt)
 }
 
 // In each equation a variable is twice in the next one, so its types double.

@@ -80,6 +80,8 @@ fn refuses_what_doesnt_fit_the_documents(rt: HostRuntime) -> Result<(), Fail> {
 #[test]
 fn refuses_what_is_no_request(rt: HostRuntime) -> Result<(), Fail> {
     let alloc = rt.alloc();
+    let mut sent: Vec<u8> = Vec::new(alloc);
+    let mut want = String::new(alloc);
     for (lines, reply) in [
         (
             r#"{"op":"x"}
@@ -128,14 +130,15 @@ fn refuses_what_is_no_request(rt: HostRuntime) -> Result<(), Fail> {
             "{\"error\":4,\"ok\":false,\"text\":\"unknown theory\"}\n",
         ),
     ] {
-        let replies = String::from_utf8(replies_to(alloc, lines)?)?;
-        assert_eq!(rt;
-            replies.as_str(),
-            reply
-                .repeat(alloc, lines.split(|byte| *byte == b'\n').count())?
-                .as_str()
-        );
+        if !sent.is_empty() {
+            sent.push(b'\n')?;
+        }
+        sent.extend_from_slice(lines)?;
+        let count = lines.split(|byte| *byte == b'\n').count();
+        want.push_str(reply.repeat(alloc, count)?.as_str())?;
     }
+    let replies = String::from_utf8(replies_to(alloc, &sent)?)?;
+    assert_eq!(rt; replies.as_str(), want.as_str());
     Ok(())
 }
 

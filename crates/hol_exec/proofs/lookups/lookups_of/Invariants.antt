@@ -4,7 +4,7 @@ use Rattle.hol_exec.specs.Lookups.{cited_constants, cited_types}
 use Rattle.hol_exec.proofs.lookups.lookups_of.Given as goal
 
 abbrev pub invariant-loop-value : goal.invariant-loop-value
-invariant-loop-value l = record {
+invariant-loop-value g l = record {
   constants : prelude_constants ++ cited_constants l.cited ≡ l.lookups.constants.items ++ cited_constants (drop l.value-index l.cited);
   types : prelude_types ++ cited_types l.cited ≡ l.lookups.types.items ++ cited_types (drop l.value-index l.cited);
 }

@@ -4,11 +4,8 @@ use Rattle.hol_serve.specs.Begun.{begun_by}
 use Rattle.hol_serve.specs.BegunView.{names_differ}
 use Rattle.hol_serve.specs.Machine.{MayAnswer}
 use Rattle.hol_serve.specs.Session.{Finishes, StopsWriting}
-use Rattle.hol_serve.proofs.Registering.{rows_plain, names_of_rows, names_plain, rows_taken, begins}
+use Rattle.hol_serve.proofs.Registering.{names_of_rows, names_plain, rows_taken, begins}
 use Rattle.hol_serve.proofs.begun.serve_with.Goals as goal
-
-pub setup_of-requires-clause-plain : goal.setup_of-requires-clause-plain
-setup_of-requires-clause-plain g c = rows_plain c.args.codes.now _ c.requires.known (rows_taken c.args.codes.now c.loop-code.code-index _ c.loop-code-test.false c.loop-code.invariant)
 
 pub setup_of-requires-clause-differ : goal.setup_of-requires-clause-differ
 setup_of-requires-clause-differ g c = ap names_differ (names_of_rows c.loop-code.entries.items) ∙ names_plain c.args.codes.now _ c.requires.known (rows_taken c.args.codes.now c.loop-code.code-index _ c.loop-code-test.false c.loop-code.invariant)
@@ -17,7 +14,7 @@ pub returns-clause-ok : goal.returns-clause-ok
 returns-clause-ok g c =
     on_ok_weaker c.run.result (λ h.
     begins (λ old new. Finishes MayAnswer old new (g.R.Read.remaining c.args.reader.now) (g.R.Read.remaining c.run.new.reader) (g.W.Write.contents c.args.writer.now) (g.W.Write.contents c.run.new.writer)) _ _ _
-    (c.new-docs.ensures.documents ∙ ap (λ s. record { theories = []; setup = s }) c.setup_of.ensures ∙ ap (λ rows. begun_by rows c.args.turns) (rows_taken c.args.codes.now c.loop-code.code-index _ c.loop-code-test.false c.loop-code.invariant))
+    (c.new-docs.ensures.documents ∙ ap (λ s. record { theories = []; setup = s }) c.in_ok-setup.ensures ∙ ap (λ rows. begun_by rows c.args.turns) (rows_taken c.args.codes.now c.loop-code.code-index _ c.loop-code-test.false c.loop-code.invariant))
     h)
     c.run.ensures.ok
 
@@ -25,7 +22,7 @@ pub returns-clause-write_fault : goal.returns-clause-write_fault
 returns-clause-write_fault g c e =
     let (stops, failed) = c.run.ensures.write_fault e in (
       begins (λ old new. StopsWriting MayAnswer old new (g.R.Read.remaining c.args.reader.now) (g.R.Read.remaining c.run.new.reader) (g.W.Write.contents c.args.writer.now) (g.W.Write.contents c.run.new.writer)) _ _ _
-          (c.new-docs.ensures.documents ∙ ap (λ s. record { theories = []; setup = s }) c.setup_of.ensures ∙ ap (λ rows. begun_by rows c.args.turns) (rows_taken c.args.codes.now c.loop-code.code-index _ c.loop-code-test.false c.loop-code.invariant))
+          (c.new-docs.ensures.documents ∙ ap (λ s. record { theories = []; setup = s }) c.in_ok-setup.ensures ∙ ap (λ rows. begun_by rows c.args.turns) (rows_taken c.args.codes.now c.loop-code.code-index _ c.loop-code-test.false c.loop-code.invariant))
           stops,
       failed,
     )

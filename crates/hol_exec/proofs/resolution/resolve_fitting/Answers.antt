@@ -1,0 +1,25 @@
+use Rattle.std.proofs.Common.{ap, ◌∙◌, Ok, Err}
+use Rattle.hol_resolve.specs.ReadingView.{readings_value, readings_result}
+use Rattle.hol_exec.specs.ExprView.{resolution_value}
+use Rattle.hol_exec.specs.Lookups.{lookups_of}
+use Rattle.hol_exec.specs.SetupView.{setup_value}
+use Rattle.hol_exec.proofs.PreludeStands.{readings_over}
+use Rattle.hol_exec.proofs.Resolving.{past_readings}
+use Rattle.hol_exec.proofs.Runs.{if_ok}
+use Rattle.hol_exec.proofs.resolution.resolve_fitting.Goals as goal
+
+pub resolve_read-requires : goal.resolve_read-requires
+resolve_read-requires g c =
+    readings_over c.cited.result.now _ _ _ (readings_value c.in-Ok.readings) c.in_ok-lookups.ensures c.in_ok-readings.ensures (ap readings_result c.in-Ok.is)
+
+pub returns-in-Ok-clause-value : goal.returns-in-Ok-clause-value
+returns-in-Ok-clause-value g c =
+    if_ok c.resolve_read.result _ _ (λ r e.
+    past_readings (setup_value c.args.setup.now) c.args.reads.now.cited c.args.tactic.now _ _ _ (Ok (readings_value c.in-Ok.readings)) (resolution_value r)
+    (c.in_ok-lookups.ensures ∙ ap lookups_of c.cited.ensures.value) (c.deref.ensures.value ∙ c.in_ok-quotations.ensures) c.in_ok-readings.ensures (ap readings_result c.in-Ok.is) e) c.resolve_read.ensures.value
+
+pub returns-clause-value : goal.returns-clause-value
+returns-clause-value g c =
+    if_ok c.unresolved.result _ _ (λ r e.
+    past_readings (setup_value c.args.setup.now) c.args.reads.now.cited c.args.tactic.now _ _ _ (Err c.in-Err.refusal) (resolution_value r)
+    (c.in_ok-lookups.ensures ∙ ap lookups_of c.cited.ensures.value) (c.deref.ensures.value ∙ c.in_ok-quotations.ensures) c.in_ok-readings.ensures (ap readings_result c.in-Err.is) e) c.unresolved.ensures.value
