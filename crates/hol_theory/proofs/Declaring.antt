@@ -65,7 +65,7 @@ or_none : (a b : Bool) → b ≡ false → (a || b) ≡ true → a ≡ true
 or_none true b f e = refl
 or_none false b f e = absurd (true≢false (sym e ∙ f))
 
-larger_within : (basis larger items : Items) (x : Item) → IsSubset basis items → larger ≡ set.insert basis x → IsSubset larger (set.insert items x)
+pub larger_within : (basis larger items : Items) (x : Item) → IsSubset basis items → larger ≡ set.insert basis x → IsSubset larger (set.insert items x)
 larger_within basis larger items x within is =
     subst (λ (s : Items). IsSubset s (set.insert items x)) (sym is)
     (subset_of_within (set.insert basis x) (set.insert items x)
@@ -121,7 +121,7 @@ axiom_follows es basis name p entry legal within n =
 
 -- ---- what the program makes
 
-found_is : (k : ItemKey) (basis larger : Items) (x item : Item) → HasNewKeys basis x → larger ≡ set.insert basis x → has_key x k ≡ true → item_at k larger ≡ Some item → item ≡ x
+pub found_is : (k : ItemKey) (basis larger : Items) (x item : Item) → HasNewKeys basis x → larger ≡ set.insert basis x → has_key x k ≡ true → item_at k larger ≡ Some item → item ≡ x
 found_is k basis larger x item new is has found =
     let same : Some x ≡ Some item = sym (item_found basis larger x k new is has) ∙ found in
     let it : x ≡ item = cc in
@@ -133,7 +133,7 @@ type_found basis larger name arity d = ap is_some (item_found basis larger (decl
 pub constant_found : (basis larger : Items) (name : List ℕ) (ty : TypeTree) → IsDeclareConst basis name ty larger → is_some (item_at (constant_key name) larger) ≡ true
 constant_found basis larger name ty d = ap is_some (item_found basis larger (declared_constant name ty) (constant_key name) d.0 d.2 (own_name (constant_key name)))
 
-keyed : (kind : Kind) (key : KeyValue) (name text : List ℕ) → key ≡ record { kind = kind; name = text } → text ≡ name → key ≡ record { kind = kind; name = name }
+pub keyed : (kind : Kind) (key : KeyValue) (name text : List ℕ) → key ≡ record { kind = kind; name = text } → text ≡ name → key ≡ record { kind = kind; name = name }
 keyed kind key name text is same = is ∙ ap (λ (n : List ℕ). record { kind = kind; name = n }) same
 
 pub type_made : (basis larger : Items) (name text : List ℕ) (arity : ℕ) (item : Item) (key : KeyValue) (value : EntryValue) → IsDeclareType basis name arity larger → item_at (type_key name) larger ≡ Some item →

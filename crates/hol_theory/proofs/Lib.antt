@@ -5,3 +5,4 @@ pub mod Theories
 pub mod Imports
 pub mod Comparing
 pub mod Declaring
+pub mod Defining

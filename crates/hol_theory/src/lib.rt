@@ -14,6 +14,11 @@ mod value;
 pub use env::Env;
 pub use error::EnvError;
 pub use key::{Key, Kind};
-pub use laws::{declared_entries_follow, free_keys_are_new_names};
-pub use making::{item_at, new_axiom, new_constant, new_type};
+pub use laws::{
+    declared_entries_follow, defined_entries_follow, free_keys_are_new_names, theorems_follow,
+};
+pub use making::{
+    DefinedNames, Entries, item_at, item_entries, new_axiom, new_constant, new_definition,
+    new_type, new_type_definition,
+};
 pub use value::{Value, ValueNode};

@@ -1,11 +1,14 @@
-//! The entries of what is declared over a basis.
-ghost use Rattle.std.specs.Prelude.{◌≡◌, true, is_some, IfOk, Some, [], option_copied};
+//! The entries of what is declared and defined over a basis.
+ghost use Rattle.std.specs.Prelude.{◌≡◌, ◌++◌, true, is_some, IfOk, OnOk, Some, [], map, option_copied};
 ghost use Rattle.hol_terms.specs.Nameless.{nameless};
 ghost use Rattle.hol_kernel.specs.Clashing.{key_at};
 ghost use Rattle.hol_kernel.specs.Gives.{GivesSome, in_kernel};
+ghost use Rattle.hol_kernel.specs.Items.{IsSubset};
+ghost use Rattle.hol_kernel.specs.Signature.{item_types, item_constants};
+ghost use Rattle.hol_kernel.specs.Theorem.{IsTheorem};
 ghost use Rattle.hol_kernel.specs.declared.error.Rule.TheVariants as rule;
-ghost use Rattle.hol_theory.specs.Entry.{item_at};
-ghost use Rattle.hol_theory.specs.Making.{IsNewType, IsNewConstant, IsNewAxiom};
+ghost use Rattle.hol_theory.specs.Entry.{EachIsEntry, item_at};
+ghost use Rattle.hol_theory.specs.Making.{type_entry, constant_entry, item_entries, IsNewType, IsNewConstant, IsNewAxiom, IsNewDefinition, IsNewTypeDefinition};
 
 use crate::key::{Key, Kind};
 use crate::value::Value;
@@ -26,6 +29,9 @@ pub fn item_at<'a>(basis: &'a Basis, kind: ItemKind, name: &Name) -> Option<&'a 
     None
 }
 
+/// Entries with their keys.
+pub type Entries = Vec<(Key, Value)>;
+
 // The item of the name, which the basis has.
 fn own_item(basis: &Basis, kind: ItemKind, name: &Name) -> Result<Item, AllocError>
     requires { is_some (item_at (key_at kind name.now) basis.now) ≡ true }
@@ -35,6 +41,50 @@ fn own_item(basis: &Basis, kind: ItemKind, name: &Name) -> Result<Item, AllocErr
         Some(item) => item.copy(),
         None => unreachable!(),
     }
+}
+
+/// What the item makes, as entries over the basis: its type constructors, then its constants.
+pub fn item_entries(alloc: Global, item: &Item, basis: &Basis) -> Result<Entries, AllocError>
+    ensures { IfOk result (λ entries. entries.items ≡ item_entries item.now basis.now) }
+{
+    let mut entries = Vec::new(alloc);
+    add_types(alloc, &mut entries, item, basis)?;
+    add_constants(alloc, &mut entries, item, basis)?;
+    Ok(entries)
+}
+
+// Adds the item's type constructors as entries.
+fn add_types(
+    alloc: Global,
+    entries: &mut Entries,
+    item: &Item,
+    basis: &Basis,
+) -> Result<(), AllocError>
+    ensures { OnOk result (entries.new.items ≡ entries.old.items ++ map (type_entry item.now basis.now) (item_types item.now)) }
+{
+    for (name, arity) in item.types(alloc)? {
+        let key = Key::new(alloc, Kind::Type, name.as_str())?;
+        let value = Value::type_constructor(arity, item.copy()?, basis.copy()?);
+        entries.push((key, value))?;
+    }
+    Ok(())
+}
+
+// Adds the item's constants as entries.
+fn add_constants(
+    alloc: Global,
+    entries: &mut Entries,
+    item: &Item,
+    basis: &Basis,
+) -> Result<(), AllocError>
+    ensures { OnOk result (entries.new.items ≡ entries.old.items ++ map (constant_entry item.now basis.now) (item_constants item.now)) }
+{
+    for (name, ty) in item.constants(alloc)? {
+        let key = Key::new(alloc, Kind::Constant, name.as_str())?;
+        let value = Value::constant(ty, item.copy()?, basis.copy()?);
+        entries.push((key, value))?;
+    }
+    Ok(())
 }
 
 /// The entry of a type constructor of this arity, declared over the basis (fusion.ml, new_type).
@@ -51,7 +101,7 @@ pub fn new_type(
     let larger = basis.declare_type(alloc, name, arity)?;
     let item = own_item(&larger, ItemKind::Type, name)?;
     let key = Key::new(alloc, Kind::Type, name.as_str())?;
-    Ok((key, Value::type_constructor(arity, item, larger)))
+    Ok((key, Value::type_constructor(arity as usize, item, larger)))
 }
 
 /// The entry of a constant of this generic type, declared over the basis (fusion.ml, new_constant).
@@ -86,4 +136,67 @@ pub fn new_axiom(
     let theorem = Thm::axiom_of(alloc, &larger, name)?;
     let key = Key::new(alloc, Kind::Theorem, name.as_str())?;
     Ok((key, Value::theorem(theorem)))
+}
+
+/// The entry of a constant that is defined over the basis as the term `right`, and its definition `|- name = right` (fusion.ml,
+/// new_basic_definition).
+///
+/// Refused by `Rule::Define` where the name is not new among constants, or `right` is not well typed over the basis, has a free variable, or has a
+/// type variable that its type has not.
+pub fn new_definition(
+    alloc: Global,
+    basis: &Basis,
+    name: &Name,
+    right: &Term,
+) -> Result<(Entries, Thm), KernelError>
+    ensures made { GivesSome in_kernel rule.Define (λ made. IsNewDefinition basis.now name.now (nameless [] right.now) made.0.items made.1) result }
+    ensures entries { IfOk result (λ made. EachIsEntry made.0.items) }
+{
+    let (larger, th) = basis.define(alloc, name, right)?;
+    th.promise();
+    let item = own_item(&larger, ItemKind::Constant, name)?;
+    let entries = item_entries(alloc, &item, &larger)?;
+    Ok((entries, th))
+}
+
+/// The names that a type definition makes.
+#[derive(Clone, Copy)]
+pub struct DefinedNames<'a> {
+    /// The type constructor.
+    pub name: &'a Name,
+    /// The constant to the new type.
+    pub abs: &'a Name,
+    /// The constant from the new type.
+    pub rep: &'a Name,
+    /// The theorem `|- abs (rep a) = a`.
+    pub abs_rep: &'a Name,
+    /// The theorem `|- P r = (rep (abs r) = r)`.
+    pub rep_abs: &'a Name,
+}
+
+/// The entries of a type constructor whose values stand for those that a predicate `P` has, by a theorem `|- P x` over the basis (fusion.ml,
+/// new_basic_type_definition): the constructor, the constants to the new type and from it, and what these satisfy.
+///
+/// Refused by `Rule::TypeDefine` where the theorem has a hypothesis or its conclusion is no application, where a variable is free in `P`, where
+/// a name is not new in its kind, and where the two constants have one name.
+pub fn new_type_definition(
+    alloc: Global,
+    basis: &Basis,
+    names: &DefinedNames<'_>,
+    member: &Thm,
+) -> Result<Entries, KernelError>
+    requires within { IsSubset member.now.basis basis.now }
+    ensures made { GivesSome in_kernel rule.TypeDefine (λ entries. IsNewTypeDefinition basis.now names.now.name.now names.now.abs.now names.now.rep.now names.now.abs_rep.now names.now.rep_abs.now member.now entries.items) result }
+    ensures entries { IfOk result (λ entries. EachIsEntry entries.items) }
+{
+    let made = basis.type_define(alloc, names.name, names.abs, names.rep, member)?;
+    made.abs_rep.promise();
+    made.rep_abs.promise();
+    let item = own_item(&made.basis, ItemKind::Type, names.name)?;
+    let mut entries = item_entries(alloc, &item, &made.basis)?;
+    let first = Key::new(alloc, Kind::Theorem, names.abs_rep.as_str())?;
+    entries.push((first, Value::theorem(made.abs_rep)))?;
+    let second = Key::new(alloc, Kind::Theorem, names.rep_abs.as_str())?;
+    entries.push((second, Value::theorem(made.rep_abs)))?;
+    Ok(entries)
 }

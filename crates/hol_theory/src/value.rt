@@ -20,7 +20,7 @@ pub enum ValueNode {
     /// A type constructor.
     Type {
         /// The number of its arguments.
-        arity: u32,
+        arity: usize,
         /// The item that makes it.
         item: Item,
         /// What the item rests on, with the item.
@@ -53,7 +53,7 @@ impl Model for Value {
 
 impl Value {
     /// A type constructor that the item makes, over a basis.
-    pub fn type_constructor(arity: u32, item: Item, basis: Basis) -> Value
+    pub fn type_constructor(arity: usize, item: Item, basis: Basis) -> Value
         ensures { result ≡ AType arity item basis }
     {
         Value {
