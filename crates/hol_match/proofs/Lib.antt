@@ -8,3 +8,6 @@ pub mod Staying
 pub mod Opened
 pub mod RuleSets
 pub mod ApartHeads
+pub mod Under
+pub mod Contracta
+pub mod Apartness

@@ -93,7 +93,7 @@ tells_takes v u s found =
     (λ more. taken (term_lookup more.terms (v.0, s)) more (v.0, s) u) (tells_type v.1 s found)
     (λ more. tells_taken (v.0, s) u more (term_lookup more.terms (v.0, s)) refl)
 
-strip_type : (env : List TypeTree) (n : Nameless) → nameless_type env (strip n) ≡ nameless_type env n
+pub strip_type : (env : List TypeTree) (n : Nameless) → nameless_type env (strip n) ≡ nameless_type env n
 strip_type env (free v) = refl
 strip_type env (bound i) = refl
 strip_type env (fixed c s) = refl

@@ -9,3 +9,6 @@ pub mod RuleView
 pub mod RuleSets
 pub mod Heads
 pub mod SetView
+pub mod Contracta
+pub mod Apart
+pub mod Binding

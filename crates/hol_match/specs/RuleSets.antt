@@ -5,12 +5,11 @@ use Rattle.std.specs.Option.{option_map}
 use Rattle.hol_types.specs.Tree.{TypeTree}
 use Rattle.hol_terms.specs.Named.{Named}
 use Rattle.hol_terms.specs.Nameless.{Nameless, nameless, nameless_type}
-use Rattle.hol_terms.specs.Scoped.{add_all}
 use Rattle.hol_subst.specs.Hypotheses.{hyps_of}
 use Rattle.hol_kernel.specs.Sequent.{Sequent}
 use Rattle.hol_match.specs.Instance.{InstanceValue, instance_of}
 use Rattle.hol_match.specs.Fixed.{stays_of}
-use Rattle.hol_match.specs.Matching.{matched}
+use Rattle.hol_match.specs.Matching.{matched_under}
 use Rattle.hol_match.specs.Matches.{IsMatch}
 use Rattle.hol_match.specs.Rules.{RuleValue, AreRulesOf}
 
@@ -24,11 +23,6 @@ pub record RuleEntry : Type 0 where
 -- both sides of the rule have one type
 abbrev pub IsTypedRule : RuleValue → Type 0
 IsTypedRule r = (s : TypeTree) × (nameless_type [] r.left ≡ Some s) × (nameless_type [] r.right ≡ Some s)
-
--- the variables that stay in some rule, each once, after others
-abbrev pub staying_variables : List (List ℕ × TypeTree) → List RuleEntry → List (List ℕ × TypeTree)
-staying_variables vs [] = vs
-staying_variables vs (e ∷ es) = staying_variables (add_all vs (map (λ p. p.1) e.stays.terms)) es
 
 -- the rules of the theorem of number i, the first one at place k
 abbrev pub entries : ℕ → ℕ → InstanceValue → List RuleValue → List RuleEntry
@@ -54,9 +48,13 @@ AreEntries i (s ∷ sequents) es = (own : List RuleEntry) × (rest : List RuleEn
 abbrev pub beside : InstanceValue → InstanceValue → InstanceValue
 beside s q = instance_of (drop (length s.types) q.types) (drop (length s.terms) q.terms)
 
--- the match of the rule's left side with the term
+-- the match of the rule's left side with a term under binders of the types env
+abbrev pub fit_under : List TypeTree → RuleEntry → Nameless → Option InstanceValue
+fit_under env e t = option_map (beside e.stays) (matched_under env 0 e.rule.left e.stays t)
+
+-- the same of a whole term
 abbrev pub fit : RuleEntry → Nameless → Option InstanceValue
-fit e t = option_map (beside e.stays) (matched 0 e.rule.left e.stays t)
+fit e t = fit_under [] e t
 
 -- the match of the rule of number i, or else what a later rule gives
 abbrev pub or_later : ℕ → Option InstanceValue → Option (ℕ × InstanceValue) → Option (ℕ × InstanceValue)

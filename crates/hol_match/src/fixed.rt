@@ -126,8 +126,11 @@ fn variables_of(alloc: Global, terms: &[Term]) -> Result<Vec<Variable>, AllocErr
     Ok(variables)
 }
 
-// Puts the variables that are not there at the end.
-fn add_variables(variables: &mut Vec<Variable>, own: &[Variable]) -> Result<(), AllocError>
+/// Puts the variables that are not there at the end.
+pub(crate) fn add_variables(
+    variables: &mut Vec<Variable>,
+    own: &[Variable],
+) -> Result<(), AllocError>
     ensures { OnOk result (variables.new.items ≡ add_all variables.old.items own.now) }
 {
     for v in own {

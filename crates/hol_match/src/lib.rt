@@ -3,6 +3,7 @@
 //! A call that answers a `Result` answers the error of memory where memory is short, and nowhere else.
 #![tactic(auto)]
 
+mod binder;
 mod fixed;
 mod heads;
 mod instance;
@@ -14,6 +15,7 @@ mod rules;
 mod set_rule;
 mod type_matching;
 
+pub use binder::Binder;
 pub use instance::Instance;
 pub use matching::term_match;
 pub use rule_set::RuleSet;

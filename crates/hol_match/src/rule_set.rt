@@ -1,14 +1,20 @@
 //! Sets of rules, and the first one that fits a term.
 ghost use Rattle.std.specs.Prelude.{◌≡◌, ◌<◌, ◌++◌, [], map, length, IfOk, IfSome, OnOk, MatchOption, slice_get, Some, None};
+ghost use Rattle.std.specs.Coded.{Coded-set, coded_list};
+ghost use Rattle.hol_terms.specs.Code.{coded_variable};
+ghost use Rattle.hol_terms.specs.Named.{abs, named_type};
 ghost use Rattle.hol_terms.specs.Nameless.{nameless};
 ghost use Rattle.hol_kernel.specs.Given.{given_sequent};
-ghost use Rattle.hol_match.specs.RuleSets.{AreEntries, IsTypedRule, IsFit, entries, fit, first_fit, staying_variables};
+ghost use Rattle.hol_match.specs.RuleSets.{AreEntries, IsTypedRule, IsFit, entries, fit, first_fit};
+ghost use Rattle.hol_match.specs.Contracta.{contractum};
+ghost use Rattle.hol_match.specs.Apart.{IsApart, rule_variables};
 ghost use Rattle.hol_match.specs.Heads.{head_place};
 ghost use Rattle.hol_match.specs.SetView.{set_rule, set_rules, Adds};
 ghost use Rattle.hol_match.specs.RuleView.{rule_values};
 ghost use Rattle.hol_match.specs.Fixed.{stays};
 ghost use Rattle.hol_match.specs.Matches.{IsMatch};
 
+use crate::binder::{Binder, binder_apart, rule_variables};
 use crate::fixed::Fixed;
 use crate::heads::{head_place, may_match};
 use crate::instance::Instance;
@@ -29,6 +35,8 @@ use std::rc::Rc;
 #[derive(Drop)]
 pub struct RuleSet {
     rules: Vec<SetRule>,
+    variables: Vec<Variable>,
+    ghost own: { variables.items ≡ rule_variables [] (set_rules rules.items) } by { Coded-set (coded_list coded_variable) variables.items (rule_variables [] (set_rules rules.items)) },
 }
 
 impl RuleSet {
@@ -37,7 +45,8 @@ impl RuleSet {
         ensures { IfOk result (λ set. AreEntries 0 (map given_sequent thms.now) (set_rules set.rules.items)) }
     {
         let rules = all_rules(alloc, thms)?;
-        Ok(RuleSet { rules })
+        let variables = rule_variables(alloc, &rules)?;
+        Ok(RuleSet { rules, variables })
     }
 
     /// The number of the first rule that matches the term, and the match: the instance of its left side that is the term up to bound
@@ -49,11 +58,29 @@ impl RuleSet {
         first_of(alloc, &self.rules, t)
     }
 
-    /// The variables that stay in some rule, each once.
-    pub fn staying_variables(&self, alloc: Global) -> Result<Vec<Variable>, AllocError>
-        ensures { IfOk result (λ vs. vs.items ≡ staying_variables [] (set_rules self.now.rules.items)) }
+    /// What the first rule that matches the term makes of it: the match of its right side.
+    #[tactic(auto, using(crate::proofs::Contracta::contracting))]
+    pub fn contract(&self, alloc: Global, t: &Term) -> Result<Option<Term>, AllocError>
+        ensures is { IfOk result (λ found. MatchOption found (contractum [] (set_rules self.now.rules.items) (nameless [] t.now) ≡ None) (λ u. contractum [] (set_rules self.now.rules.items) (nameless [] t.now) ≡ Some (nameless [] u))) }
+        ensures typed { IfOk result (λ found. IfSome found (λ u. named_type u ≡ named_type t.now)) }
     {
-        variables_of(alloc, &self.rules)
+        match self.find(alloc, t)? {
+            Some((i, found)) => Ok(Some(found.apply(alloc, self.rule(i).right())?)),
+            None => Ok(None),
+        }
+    }
+
+    /// The variable and the body of the abstraction of `v`, where the variable is called by a name, with primes if need be, that keeps
+    /// it apart from the rules: it stays in none and has the name of no variable of a right side. So what a rule makes of a part of the
+    /// body is free of it where it was.
+    #[tactic(auto, using(crate::proofs::Apartness::apart_of))]
+    pub fn opened(&self, alloc: Global, v: &Variable, body: &Term) -> Result<Binder, AllocError>
+        ensures same { IfOk result (λ o. nameless [] (abs o.variable o.body) ≡ nameless [] (abs v.now body.now)) }
+        ensures typed { IfOk result (λ o. named_type o.body ≡ named_type body.now) }
+        ensures domain { IfOk result (λ o. o.variable.1 ≡ v.now.1) }
+        ensures apart { IfOk result (λ o. IsApart (set_rules self.now.rules.items) o.variable) }
+    {
+        binder_apart(alloc, &self.variables, v, body)
     }
 
     /// The number of rules.
@@ -89,17 +116,6 @@ fn first_of(
         }
     }
     Ok(None)
-}
-
-// The variables that stay in some rule, each once.
-fn variables_of(alloc: Global, rules: &[SetRule]) -> Result<Vec<Variable>, AllocError>
-    ensures { IfOk result (λ vs. vs.items ≡ staying_variables [] (set_rules rules.now)) }
-{
-    let mut variables = Vec::new(alloc);
-    for rule in rules {
-        rule.fixed().add_to(&mut variables)?;
-    }
-    Ok(variables)
 }
 
 // The match of the rule's left side with a term that begins with a constant of this place, or with none.

@@ -165,9 +165,14 @@ fn unused_name(alloc: Global, hyps: &[Term], p: &Term, name: &Name) -> Result<Na
     free_name(alloc, &avoid, name)
 }
 
-// The body with the variable `u` for `v`, which has the same type.
+/// The body with the variable `u` for `v`, which has the same type.
 #[tactic(auto, using(crate::proofs::Opened::other_variable, crate::proofs::Opened::renamed_type))]
-fn renamed(alloc: Global, u: &Variable, v: &Variable, body: &Term) -> Result<Term, AllocError>
+pub(crate) fn renamed(
+    alloc: Global,
+    u: &Variable,
+    v: &Variable,
+    body: &Term,
+) -> Result<Term, AllocError>
     requires typed { u.now.1 ≡ v.now.1 }
     ensures renamed { IfOk result (λ t. nameless [] t ≡ open_with (free u.now) 0 (nameless (v.now ∷ []) body.now)) }
     ensures kept { IfOk result (λ t. named_type t ≡ named_type body.now) }
