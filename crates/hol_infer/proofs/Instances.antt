@@ -128,7 +128,7 @@ mutual
   subst_same σ τ (TyVar b) h = h b (rw ((bytes_eq-Decides b b).1 refl) refl)
   subst_same σ τ (TyApp c ts) h = ap (TyApp c) (substs_same σ τ ts h)
 
-  substs_same : (σ τ : List (TypeTree × List ℕ)) (ts : TypeList) → ((a : List ℕ) → is_among (types_names ts) a ≡ true → type_for σ a ≡ type_for τ a) → types_subst σ ts ≡ types_subst τ ts
+  pub substs_same : (σ τ : List (TypeTree × List ℕ)) (ts : TypeList) → ((a : List ℕ) → is_among (types_names ts) a ≡ true → type_for σ a ≡ type_for τ a) → types_subst σ ts ≡ types_subst τ ts
   substs_same σ τ no_types h = refl
   substs_same σ τ (more_types t ts) h =
       λ i. more_types (subst_same σ τ t (λ a e. h a (among_front a (type_names t) (types_names ts) e)) i) (substs_same σ τ ts (λ a e. h a (among_back a (type_names t) (types_names ts) e)) i)

@@ -10,6 +10,7 @@ pub mod Saturating
 pub mod Types
 pub mod Slots
 pub mod Opening
+pub mod Linear
 pub mod Splitting
 pub mod Generating
 pub mod General

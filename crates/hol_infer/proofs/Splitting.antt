@@ -1,15 +1,14 @@
--- Instances of a type whose two arguments have no type variable in common.
-use Rattle.std.proofs.Common.{◌≡◌, ℕ, suc, inl, inr, ◌+◌, ◌<◌, List, [], ◌∷◌, ◌++◌, length, map, get_or, drop, refl, sym, ◌∙◌, ap, subst, arith, Bool, true, false, ◌||◌, bytes_eq}
+-- Instances of a type whose arguments have no type variable in common.
+use Rattle.std.proofs.Common.{◌≡◌, ℕ, suc, inl, inr, ◌+◌, ◌<◌, ◌≤◌, List, [], ◌∷◌, ◌++◌, length, map, get_or, take, drop, refl, sym, ◌∙◌, ap, subst, arith, Bool, true, false, ◌||◌, bytes_eq, length-append}
 use Rattle.std.specs.Prelude.{◌↔◌, IsTrue}
-use Rattle.std.specs.List.{All}
 use Rattle.std.proofs.lemmas.Bool.{cases_eq}
-use Rattle.std.proofs.lemmas.List.{append_assoc, get_or_default}
-use Rattle.std.proofs.lemmas.List.Elements.{All-nil, All-cons}
-use Rattle.std.proofs.lemmas.List.Sums.{sum_by-cons}
+use Rattle.std.proofs.lemmas.List.{append_assoc, append-nil, map-append, get_or_default, take_more, take_all}
+use Rattle.std.proofs.lemmas.List.Elements.{All-nil, All-push}
+use Rattle.std.proofs.lemmas.List.Sums.{sum_by-append, sum_by-cons}
 use Rattle.std.proofs.lemmas.Slice.Eq.{bytes_eq-Decides}
-use Rattle.hol_types.specs.Tree.{TypeTree, TyApp, no_types, more_types, type_list, type_size}
+use Rattle.hol_types.specs.Tree.{TypeTree, TypeList, TyApp, more_types, type_list, type_size, types_size}
 use Rattle.hol_types.specs.Names.{is_among, type_names, types_names}
-use Rattle.hol_types.specs.Subst.{type_subst, type_for}
+use Rattle.hol_types.specs.Subst.{type_subst, types_subst, type_for}
 use Rattle.hol_types.proofs.Filters.{among_append}
 use Rattle.hol_types.proofs.Steps.{next_of}
 use Rattle.hol_infer.specs.Typing.{IsGenericInstance}
@@ -18,9 +17,12 @@ use Rattle.hol_infer.specs.declared.cell.Cell.TheVariants.{Generic}
 use Rattle.hol_infer.specs.declared.generate.Graph.{Graph}
 use Rattle.hol_infer.specs.Graph.{CellHolds, IsCellIn, generic_weight, generics}
 use Rattle.hol_infer.specs.Generate.{slots, IsWellFormed, IsFresh}
-use Rattle.hol_infer.specs.Expanding.{AreApart, BuildsInstance}
-use Rattle.hol_infer.proofs.Extending.{agree_trans, extend_fresh}
-use Rattle.hol_infer.proofs.Instances.{turned, subst_same}
+use Rattle.hol_infer.specs.Linear.{ArePairwiseApart}
+use Rattle.hol_infer.specs.Expanding.{AreInstances, BuildsParts, BuildsInstance}
+use Rattle.hol_infer.proofs.Growing.{map_agree}
+use Rattle.hol_infer.proofs.Extending.{agree_trans, agree_refl, extend_fresh, env_more, subst_list}
+use Rattle.hol_infer.proofs.Instances.{turned, subst_same, substs_same}
+use Rattle.hol_infer.proofs.Linear.{both_false}
 use Rattle.hol_infer.proofs.Numbers.{among_after}
 
 -- ---- the test
@@ -63,7 +65,7 @@ apart_all t (b ∷ names) h a e = by (bytes_eq b a) refl (apart_all t names (λ 
     by true f r = subst (λ (x : List ℕ). is_among (type_names t) x ≡ false) ((bytes_eq-Decides b a).0 f) (h 0 (omega arith))
     by false f r = r (among_after a b names f e)
 
--- ---- pairs for both
+-- ---- pairs for all
 
 -- the names with what the pairs put for them, before other pairs
 abbrev restricted : List (TypeTree × List ℕ) → List (List ℕ) → List (TypeTree × List ℕ) → List (TypeTree × List ℕ)
@@ -78,10 +80,6 @@ restricted_in pairs rest (b ∷ names) a h = by (bytes_eq b a) refl (restricted_
     by true e r = rw e (ap (type_for pairs) ((bytes_eq-Decides b a).0 e))
     by false e r = rw e (r (among_after a b names e h))
 
-both_false : (a b : Bool) → (a || b) ≡ false → (a ≡ false) × (b ≡ false)
-both_false true b e = absurd (cc)
-both_false false b e = (refl, e)
-
 restricted_out : (pairs rest : List (TypeTree × List ℕ)) (names : List (List ℕ)) (a : List ℕ) → is_among names a ≡ false → type_for (restricted pairs names rest) a ≡ type_for rest a
 restricted_out pairs rest [] a h = refl
 restricted_out pairs rest (b ∷ names) a h =
@@ -93,69 +91,124 @@ not_both : (p q : Bool) → (p ≡ true → q ≡ false) → q ≡ true → p �
 not_both true q h e = let z : true ≡ false = sym e ∙ h refl in absurd (cc)
 not_both false q h e = refl
 
-both_same : (c : List ℕ) (s s' t t' : TypeTree) → s ≡ s' → t ≡ t' → TyApp c (more_types s (more_types t no_types)) ≡ TyApp c (more_types s' (more_types t' no_types))
-both_same c s s' t t' p q = cc
+more_same : (t t' : TypeTree) (ts ts' : TypeList) → t ≡ t' → ts ≡ ts' → more_types t ts ≡ more_types t' ts'
+more_same t t' ts ts' p q = cc
 
-both_instances : (c : List ℕ) (a b s t : TypeTree) → AreApart a b → IsGenericInstance a s → IsGenericInstance b t →
-    IsGenericInstance (TyApp c (more_types a (more_types b no_types))) (TyApp c (more_types s (more_types t no_types)))
-both_instances c a b s t apart (ps, p) (qs, q) =
-    let σ = restricted ps (type_names a) qs in
-    let left : type_subst σ a ≡ type_subst ps a = subst_same σ ps a (λ n h. restricted_in ps qs (type_names a) n h) in
-    let right : type_subst σ b ≡ type_subst qs b =
-    subst_same σ qs b (λ n h. restricted_out ps qs (type_names a) n (not_both (is_among (type_names a) n) (is_among (type_names b) n) (apart n) h)) in
-    (σ, both_same c s (type_subst σ a) t (type_subst σ b) (p ∙ sym left) (q ∙ sym right))
+-- types that are instances each by itself are so by the same pairs
+all_instances : (tys ts : List TypeTree) → ArePairwiseApart tys → AreInstances tys ts → (pairs : List (TypeTree × List ℕ)) × (type_list ts ≡ types_subst pairs (type_list tys))
+all_instances [] [] apart is = ([], refl)
+all_instances [] (t ∷ ts) apart is = absurd is
+all_instances (g ∷ tys) [] apart is = absurd is
+all_instances (g ∷ tys) (t ∷ ts) apart ((ps, p), is) =
+    let rest = all_instances tys ts apart.1 is in
+    let σ = restricted ps (type_names g) rest.0 in
+    let here : type_subst σ g ≡ type_subst ps g = subst_same σ ps g (λ n h. restricted_in ps rest.0 (type_names g) n h) in
+    let after : types_subst σ (type_list tys) ≡ types_subst rest.0 (type_list tys) =
+    substs_same σ rest.0 (type_list tys) (λ n h. restricted_out ps rest.0 (type_names g) n (not_both (is_among (type_names g) n) (is_among (types_names (type_list tys)) n) (apart.0 n) h)) in
+    (σ, more_same t (type_subst σ g) (type_list ts) (types_subst σ (type_list tys)) (p ∙ sym here) (rest.1 ∙ sym after))
 
--- ---- slots for both
+-- ---- slots for all
 
-pub both_cell : (c d : List ℕ) (parts : List ℕ) (left right : ℕ) (types : ℕ → TypeTree) (t : TypeTree) → d ≡ c → parts ≡ left ∷ right ∷ [] →
-    (t ≡ TyApp d (type_list (map types parts))) ↔ (t ≡ TyApp c (more_types (types left) (more_types (types right) no_types)))
-both_cell c d parts left right types t n p =
-    subst (λ (a : List ℕ). (t ≡ TyApp a (type_list (map types parts))) ↔ (t ≡ TyApp c (more_types (types left) (more_types (types right) no_types)))) (sym n)
-    (subst (λ (xs : List ℕ). (t ≡ TyApp c (type_list (map types xs))) ↔ (t ≡ TyApp c (more_types (types left) (more_types (types right) no_types)))) (sym p) (λ e. e, λ e. e))
+instances_push : (tys ts : List TypeTree) (g t : TypeTree) → AreInstances tys ts → IsGenericInstance g t → AreInstances (tys ++ g ∷ []) (ts ++ t ∷ [])
+instances_push [] [] g t is h = (h, tt)
+instances_push [] (s ∷ ts) g t is h = absurd is
+instances_push (f ∷ tys) [] g t is h = absurd is
+instances_push (f ∷ tys) (s ∷ ts) g t is h = (is.0, instances_push tys ts g t is.1 h)
 
-pub both_in : (g g1 h : Graph) (a b : TypeTree) (left right : ℕ) (parts : List ℕ) → IsFresh g g1 left (Generic a) → IsFresh g1 h right (Generic b) → parts ≡ left ∷ right ∷ [] → All (λ p. p < slots h) parts
-both_in g g1 h a b left right parts one two e =
-    let P = λ (p : ℕ). p < slots h in
-    let m = one.slot_is in
-    let n = one.slots_are in
-    let k = two.slot_is in
-    let l = two.slots_are in
-    let left_in : left < slots h = omega (arith, m, n, l) in
-    let right_in : right < slots h = omega (arith, k, l) in
-    subst (λ (xs : List ℕ). All P xs) (sym e) (All-cons P left (right ∷ []) left_in (All-cons P right [] right_in (All-nil P)))
+sizes_push : (tys : List TypeTree) (g : TypeTree) → types_size (type_list (tys ++ g ∷ [])) ≡ types_size (type_list tys) + type_size g
+sizes_push [] g = omega arith
+sizes_push (t ∷ tys) g = let r = sizes_push tys g in omega (arith, r)
 
-pub builds_split : (g g1 h : Graph) (c : List ℕ) (a b : TypeTree) (left right : ℕ) (cell : Cell) → IsWellFormed g → AreApart a b → IsFresh g g1 left (Generic a) → IsFresh g1 h right (Generic b) →
-    ((types : ℕ → TypeTree) (t : TypeTree) → CellHolds types t cell ↔ (t ≡ TyApp c (more_types (types left) (more_types (types right) no_types)))) → ((i : ℕ) → IsCellIn (slots h) i cell) → generic_weight cell ≡ 0 →
-    BuildsInstance g h cell (TyApp c (more_types a (more_types b no_types)))
-builds_split g g1 h c a b left right cell w apart one two is in' plain = record {
-  well_formed = two.well_formed;
-  extra = Generic a ∷ Generic b ∷ [];
-  cells_are = two.cells_are ∙ ap (λ (xs : List Cell). xs ++ Generic b ∷ []) one.cells_are ∙ append_assoc g.cells.items (Generic a ∷ []) (Generic b ∷ []);
-  pending_are = two.pending_are ∙ one.pending_are;
-  names_are = two.names_are ∙ one.names_are;
-  cell_in = in';
-  smaller =
-      let x : generics (Generic a ∷ Generic b ∷ []) ≡ type_size a + generics (Generic b ∷ []) = sum_by-cons generic_weight (Generic a) (Generic b ∷ []) in
-      let y : generics (Generic b ∷ []) ≡ type_size b + generics [] = sum_by-cons generic_weight (Generic b) [] in
+append_same : (xs xs' ys ys' : List TypeTree) → xs ≡ xs' → ys ≡ ys' → xs ++ ys ≡ xs' ++ ys'
+append_same xs xs' ys ys' p q = cc
+
+one_same : (s t : TypeTree) → s ≡ t → s ∷ [] ≡ t ∷ []
+one_same s t p = cc
+
+pub parts_none : (g : Graph) → IsWellFormed g → BuildsParts g g [] []
+parts_none g w = record {
+  well_formed = w;
+  extra = [];
+  cells_are = sym (append-nil g.cells.items);
+  pending_are = refl;
+  names_are = refl;
+  parts_in = All-nil (λ (p : ℕ). p < slots g);
+  sizes = refl;
+  sound = λ type_of types s. (s, tt);
+  complete = λ type_of types pairs s. (types, agree_refl (slots g) types, s, refl);
+}
+
+slots_more : (g g1 : Graph) (parts : List ℕ) (tys : List TypeTree) → BuildsParts g g1 parts tys → slots g ≤ slots g1
+slots_more g g1 parts tys b = let e : slots g1 ≡ slots g + length b.extra = ap length b.cells_are ∙ length-append g.cells.items b.extra in omega (arith, e)
+
+parts_more : (g g1 h : Graph) (parts : List ℕ) (tys : List TypeTree) (slot : ℕ) (ty : TypeTree) → BuildsParts g g1 parts tys → IsFresh g1 h slot (Generic ty) → BuildsParts g h (parts ++ slot ∷ []) (tys ++ ty ∷ [])
+parts_more g g1 h parts tys slot ty b fresh = record {
+  well_formed = fresh.well_formed;
+  extra = b.extra ++ Generic ty ∷ [];
+  cells_are = fresh.cells_are ∙ ap (λ (xs : List Cell). xs ++ Generic ty ∷ []) b.cells_are ∙ append_assoc g.cells.items b.extra (Generic ty ∷ []);
+  pending_are = fresh.pending_are ∙ b.pending_are;
+  names_are = fresh.names_are ∙ b.names_are;
+  parts_in =
+      let e = fresh.slots_are in
+      let f = fresh.slot_is in
+      All-push (λ (p : ℕ). p < slots h) parts slot (env_more (slots g1) (slots h) parts (omega (arith, e)) b.parts_in) (omega (arith, e, f));
+  sizes =
+      let x : generics (b.extra ++ Generic ty ∷ []) ≡ generics b.extra + generics (Generic ty ∷ []) = sum_by-append generic_weight b.extra (Generic ty ∷ []) in
+      let y : generics (Generic ty ∷ []) ≡ type_size ty + generics [] = sum_by-cons generic_weight (Generic ty) [] in
       let z : generics [] ≡ 0 = refl in
-      omega (arith, x, y, z, plain);
+      let u = b.sizes in
+      let v = sizes_push tys ty in
+      omega (arith, x, y, z, u, v);
   sound = λ type_of types s.
-      let p = (two.solves type_of types).0 s in
-      let q = (one.solves type_of types).0 p.0 in (
+      let p = (fresh.solves type_of types).0 s in
+      let q = b.sound type_of types p.0 in (
         q.0,
-        λ t holds.
-            subst (IsGenericInstance (TyApp c (more_types a (more_types b no_types)))) (sym ((is types t).0 holds))
-            (both_instances c a b (types left) (types right) apart q.1 p.1),
+        subst (λ (ts : List TypeTree). AreInstances (tys ++ ty ∷ []) ts) (sym (map-append types parts (slot ∷ []))) (instances_push tys (map types parts) ty (types slot) q.1 p.1),
       );
-  complete = λ type_of types t s (pairs, e).
-      let x = extend_fresh g g1 left (Generic a) w tt one type_of types (type_subst pairs a) s (pairs, refl) in
-      let y = extend_fresh g1 h right (Generic b) one.well_formed tt two type_of x.0 (type_subst pairs b) x.2 (pairs, refl) in
-      let at = one.slot_is in
-      let len = one.slots_are in
-      let kept : y.0 left ≡ type_subst pairs a = sym (y.1.agree left (omega (arith, at, len))) ∙ x.3 in (
+  complete = λ type_of types pairs s.
+      let x = b.complete type_of types pairs s in
+      let y = extend_fresh g1 h slot (Generic ty) b.well_formed tt fresh type_of x.0 (type_subst pairs ty) x.2 (pairs, refl) in (
         y.0,
-        agree_trans (slots g) (slots g1) types x.0 y.0 (omega (arith, len)) x.1 y.1,
+        agree_trans (slots g) (slots g1) types x.0 y.0 (slots_more g g1 parts tys b) x.1 y.1,
         y.2,
-        (is y.0 t).1 (e ∙ both_same c (type_subst pairs a) (y.0 left) (type_subst pairs b) (y.0 right) (sym kept) (sym y.3)),
+        map-append y.0 parts (slot ∷ [])
+            ∙ append_same (map y.0 parts) (map (type_subst pairs) tys) (y.0 slot ∷ []) (type_subst pairs ty ∷ []) (sym (map_agree (slots g1) x.0 y.0 parts y.1 b.parts_in) ∙ x.3)
+            (one_same (y.0 slot) (type_subst pairs ty) y.3)
+            ∙ sym (map-append (type_subst pairs) tys (ty ∷ [])),
       );
+}
+
+-- one turn of the loop over the types
+pub parts_step : (g g1 h : Graph) (parts parts' : List ℕ) (tys : List TypeTree) (i part : ℕ) (ty ty' : TypeTree) → i < length tys → ty ≡ get_or tys i ty → parts' ≡ parts ++ part ∷ [] → ty' ≡ ty →
+    BuildsParts g g1 parts (take i tys) → IsFresh g1 h part (Generic ty') → BuildsParts g h parts' (take (i + 1) tys)
+parts_step g g1 h parts parts' tys i part ty ty' lt e p n b fresh =
+    let q : take (i + 1) tys ≡ take i tys ++ ty ∷ [] = take_more tys i ty lt ∙ ap (λ (t : TypeTree). take i tys ++ t ∷ []) (sym e) in
+    subst (λ (xs : List ℕ). BuildsParts g h xs (take (i + 1) tys)) (sym p)
+    (subst (λ (ts : List TypeTree). BuildsParts g h (parts ++ part ∷ []) ts) (sym q)
+    (parts_more g g1 h parts (take i tys) part ty b (subst (λ (t : TypeTree). IsFresh g1 h part (Generic t)) n fresh)))
+
+pub parts_all : (g h : Graph) (parts : List ℕ) (tys : List TypeTree) (i : ℕ) → length tys ≤ i → BuildsParts g h parts (take i tys) → BuildsParts g h parts tys
+parts_all g h parts tys i le b = subst (λ (ts : List TypeTree). BuildsParts g h parts ts) (take_all i tys le) b
+
+app_ap : (c : List ℕ) (ss ts : List TypeTree) → ss ≡ ts → TyApp c (type_list ss) ≡ TyApp c (type_list ts)
+app_ap c ss ts e = cc
+
+pub builds_split : (g h : Graph) (c : List ℕ) (parts : List ℕ) (tys : List TypeTree) (cell : Cell) → ArePairwiseApart tys → BuildsParts g h parts tys →
+    ((types : ℕ → TypeTree) (t : TypeTree) → CellHolds types t cell ↔ (t ≡ TyApp c (type_list (map types parts)))) → ((i : ℕ) → IsCellIn (slots h) i cell) → generic_weight cell ≡ 0 →
+    BuildsInstance g h cell (TyApp c (type_list tys))
+builds_split g h c parts tys cell apart b is in' plain = record {
+  well_formed = b.well_formed;
+  extra = b.extra;
+  cells_are = b.cells_are;
+  pending_are = b.pending_are;
+  names_are = b.names_are;
+  cell_in = in';
+  smaller = (let e = b.sizes in omega (arith, e, plain));
+  sound = λ type_of types s.
+      let q = b.sound type_of types s in
+      let all = all_instances tys (map types parts) apart q.1 in
+      (q.0, λ t holds. (all.0, (is types t).0 holds ∙ ap (TyApp c) all.1));
+  complete = λ type_of types t s (pairs, e).
+      let y = b.complete type_of types pairs s in
+      (y.0, y.1, y.2, (is y.0 t).1 (e ∙ ap (TyApp c) (sym (subst_list pairs tys)) ∙ app_ap c (map (type_subst pairs) tys) (map y.0 parts) (sym y.3)));
 }

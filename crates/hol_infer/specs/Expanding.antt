@@ -1,7 +1,8 @@
 -- What slots for the parts of generic types leave of the solutions of a graph. Only private contracts and proofs cite this.
-use Rattle.std.specs.Prelude.{◌≡◌, ℕ, ◌+◌, ◌<◌, ◌≤◌, List, ◌++◌, true, false}
-use Rattle.hol_types.specs.Tree.{TypeTree, type_size}
-use Rattle.hol_types.specs.Names.{is_among, type_names}
+use Rattle.std.specs.Prelude.{◌≡◌, ℕ, ◌+◌, ◌<◌, ◌≤◌, List, [], ◌∷◌, ◌++◌, map}
+use Rattle.std.specs.List.{All}
+use Rattle.hol_types.specs.Tree.{TypeTree, type_list, type_size, types_size}
+use Rattle.hol_types.specs.Subst.{type_subst}
 use Rattle.hol_infer.specs.Typing.{IsGenericInstance}
 use Rattle.hol_infer.specs.declared.cell.Cell.{Cell}
 use Rattle.hol_infer.specs.declared.generate.Graph.{Graph}
@@ -15,9 +16,25 @@ pub record Refines (g h : Graph) : Type 0 where
   pub sound : (type_of : List ℕ → TypeTree) (types : ℕ → TypeTree) → Solves h type_of types → Solves g type_of types
   pub complete : (type_of : List ℕ → TypeTree) (types : ℕ → TypeTree) → Solves g type_of types → (types' : ℕ → TypeTree) × Agree (slots g) types types' × Solves h type_of types'
 
--- the two types have no type variable in common
-abbrev pub AreApart : TypeTree → TypeTree → Type 0
-AreApart s t = (a : List ℕ) → is_among (type_names s) a ≡ true → is_among (type_names t) a ≡ false
+-- the types are instances of the generic ones, each by itself
+abbrev pub AreInstances : List TypeTree → List TypeTree → Type 0
+AreInstances [] [] = Unit {0}
+AreInstances [] (t ∷ ts) = ⊥
+AreInstances (g ∷ generics) [] = ⊥
+AreInstances (g ∷ generics) (t ∷ ts) = IsGenericInstance g t × AreInstances generics ts
+
+-- h is g with a slot for each of the generic types, whose parts have no slots
+pub record BuildsParts (g h : Graph) (parts : List ℕ) (tys : List TypeTree) : Type 0 where
+  pub well_formed : IsWellFormed h
+  pub extra : List Cell
+  pub cells_are : h.cells.items ≡ g.cells.items ++ extra
+  pub pending_are : h.pending.items ≡ g.pending.items
+  pub names_are : h.names.items ≡ g.names.items
+  pub parts_in : All (λ p. p < slots h) parts
+  pub sizes : generics extra ≡ types_size (type_list tys)
+  pub sound : (type_of : List ℕ → TypeTree) (types : ℕ → TypeTree) → Solves h type_of types → Solves g type_of types × AreInstances tys (map types parts)
+  pub complete : (type_of : List ℕ → TypeTree) (types : ℕ → TypeTree) (pairs : List (TypeTree × List ℕ)) → Solves g type_of types →
+      (types' : ℕ → TypeTree) × Agree (slots g) types types' × Solves h type_of types' × (map types' parts ≡ map (type_subst pairs) tys)
 
 -- h is g with slots for the parts of an instance of the generic type, which has this cell
 pub record BuildsInstance (g h : Graph) (cell : Cell) (ty : TypeTree) : Type 0 where

@@ -13,6 +13,7 @@ pub mod SlotTree
 pub mod RawView
 pub mod Scoped
 pub mod Generate
+pub mod Linear
 pub mod Expanding
 pub mod Solved
 pub mod Resolving

@@ -1,5 +1,6 @@
 //! What is known of slots, and equations between them.
-use hol_types::{Name, Ty};
+use crate::scheme::Scheme;
+use hol_types::Name;
 
 /// What is known of the type of a slot.
 #[derive(Drop)]
@@ -13,7 +14,7 @@ pub enum Cell {
     /// It is this constructor, applied to the types of these slots.
     App(Name, Vec<usize>),
     /// It is an instance of this generic type. Its parts get slots where it must be one with what is known otherwise.
-    Generic(Ty),
+    Generic(Scheme),
 }
 
 /// Two slots that must have one type.

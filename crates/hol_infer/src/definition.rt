@@ -10,6 +10,7 @@ use crate::raw::RawTerm;
 use crate::resolving::{
     Names, ResolveError, applied, operator, over, resolve, resolve_annotation, truth_type,
 };
+use crate::scheme::Scheme;
 use hol_notation_terms::{Definition, Operator, PreVariable, RightSide};
 use hol_types::{Name, Ty};
 use std::alloc::{AllocError, Global};
@@ -52,7 +53,7 @@ fn typed_right(
 // The right side, under abstractions over variables of these names.
 fn resolve_right(
     alloc: Global,
-    constants: &[(Name, Ty)],
+    constants: &[(Name, Scheme)],
     arities: &[(Name, usize)],
     names: &Names<'_>,
     right: &RightSide,
@@ -68,7 +69,7 @@ fn resolve_right(
 // `\v1 .. vn. r`, the first variable outermost, under abstractions over variables of these names.
 fn resolve_value(
     alloc: Global,
-    constants: &[(Name, Ty)],
+    constants: &[(Name, Scheme)],
     arities: &[(Name, usize)],
     names: &Names<'_>,
     variables: &[PreVariable],
@@ -91,9 +92,9 @@ fn resolve_value(
 // What stands but for the name.
 fn without(
     alloc: Global,
-    constants: &[(Name, Ty)],
+    constants: &[(Name, Scheme)],
     name: &str,
-) -> Result<Vec<(Name, Ty)>, AllocError>
+) -> Result<Vec<(Name, Scheme)>, AllocError>
     ensures { IfOk result (λ others. others.items ≡ without name.now constants.now) }
 {
     let mut others = Vec::new(alloc);
@@ -108,7 +109,7 @@ fn without(
 // `\v1 .. vn. r` of the definition, where the constant that it defines does not stand.
 fn resolve_parameters(
     alloc: Global,
-    constants: &[(Name, Ty)],
+    constants: &[(Name, Scheme)],
     arities: &[(Name, usize)],
     definition: &Definition,
 ) -> Result<RawTerm, ResolveError>
@@ -129,7 +130,7 @@ fn resolve_parameters(
 // `(=) c`, where c is a free variable.
 fn equality_with(
     alloc: Global,
-    constants: &[(Name, Ty)],
+    constants: &[(Name, Scheme)],
     defined: &str,
 ) -> Result<RawTerm, ResolveError>
     ensures ok { IfOk result (λ t. raw_tree t ≡ RawApply (operator_raw constants.now [] Equals) (RawFree defined.now)) }
@@ -145,7 +146,7 @@ fn equality_with(
 /// Answers `Arity` only where a type that is written has that fault.
 pub fn resolve_definition(
     alloc: Global,
-    constants: &[(Name, Ty)],
+    constants: &[(Name, Scheme)],
     arities: &[(Name, usize)],
     definition: &Definition,
 ) -> Result<RawTerm, ResolveError>

@@ -7,9 +7,9 @@ ghost use Rattle.hol_infer.specs.Resolving.{type_of_text, has_arities, term_has_
 ghost use Rattle.hol_infer.specs.Typing.{HasNoTyping};
 ghost use Rattle.hol_infer.specs.Reading.{IsReading, HasLargeReading};
 
-use crate::definition::resolve_definition;
+use crate::constants::{resolved, resolved_definition};
 use crate::reading::{ReadingError, read};
-use crate::resolving::{Names, ResolveError, resolve, resolve_type};
+use crate::resolving::{ResolveError, resolve_type};
 use hol_notation_terms::{Definition, PreTerm, PreType};
 use hol_terms::Term;
 use hol_types::{Name, Ty};
@@ -36,7 +36,7 @@ pub fn elaborate(
     ensures untypable { IfErr result (λ e. e ≡ ReadingError.Untypable → (term_has_arities arities.now term.now ≡ true) × HasNoTyping (raw_of arities.now constants.now [] term.now)) }
     ensures too_large { IfErr result (λ e. e ≡ ReadingError.TooLarge → (term_has_arities arities.now term.now ≡ true) × HasLargeReading (raw_of arities.now constants.now [] term.now)) }
 {
-    match resolve(alloc, constants, arities, &Names::Outermost, term) {
+    match resolved(alloc, constants, arities, term) {
         Ok(raw) => read(alloc, &raw),
         Err(ResolveError::Arity) => Err(ReadingError::Arity),
         Err(ResolveError::Memory) => Err(ReadingError::Memory),
@@ -62,7 +62,7 @@ pub fn elaborate_definition(
     ensures untypable { IfErr result (λ e. e ≡ ReadingError.Untypable → (definition_has_arities arities.now definition.now ≡ true) × HasNoTyping (definition_raw arities.now constants.now definition.now)) }
     ensures too_large { IfErr result (λ e. e ≡ ReadingError.TooLarge → (definition_has_arities arities.now definition.now ≡ true) × HasLargeReading (definition_raw arities.now constants.now definition.now)) }
 {
-    match resolve_definition(alloc, constants, arities, definition) {
+    match resolved_definition(alloc, constants, arities, definition) {
         Ok(equation) => read(alloc, &equation),
         Err(ResolveError::Arity) => Err(ReadingError::Arity),
         Err(ResolveError::Memory) => Err(ReadingError::Memory),

@@ -1,16 +1,19 @@
 //! Slots for the parts of generic types, where unification meets them.
 ghost use Rattle.std.specs.Prelude.{◌≡◌, ◌+◌, ◌<◌, ◌≤◌, [], length, set, IfOk, IfErr, OnOk, MatchOption, IsTrue};
-ghost use Rattle.hol_types.specs.Tree.{TyApp, type_list, no_types, more_types};
+ghost use Rattle.hol_types.specs.Tree.{TyApp, type_list};
 ghost use Rattle.hol_types.specs.Names.{is_among, type_names};
 ghost use Rattle.hol_infer.specs.declared.cell.Cell.TheVariants.{Generic};
 ghost use Rattle.hol_infer.specs.Graph.{cell_at, HasNoSolution, IsExpandedCell, IsGenericAt, generics};
 ghost use Rattle.hol_infer.specs.Generate.{slots, IsWellFormed, AreRigidBut, BuildsTypes};
-ghost use Rattle.hol_infer.specs.Expanding.{Refines, AreApart, BuildsInstance, Expands};
+ghost use Rattle.hol_infer.specs.declared.scheme.Variables.TheVariants.{Distinct};
+ghost use Rattle.hol_infer.specs.Linear.{AreLinear, AreApart, ArePairwiseApart};
+ghost use Rattle.hol_infer.specs.Expanding.{Refines, BuildsParts, BuildsInstance, Expands};
 
 use crate::cell::Cell;
 use crate::fault::Fault;
 use crate::generate::Graph;
 use crate::graph::unify;
+use crate::scheme::{Scheme, Variables};
 use hol_types::{Name, Ty, TyNode};
 use std::alloc::{AllocError, Global};
 
@@ -55,23 +58,40 @@ impl Graph {
         Ok(Cell::App(name.copy()?, parts))
     }
 
-    // Slots for two types that have no type variable in common, whose parts get no slots yet, and the cell of their constructor.
+    // A slot for each of the types, whose parts get no slots yet.
+    #[tactic(auto, using(crate::proofs::Splitting::parts_none, crate::proofs::Splitting::parts_all))]
+    fn generic_slots(
+        &mut self,
+        alloc: Global,
+        types: &[Ty],
+        variables: Variables,
+    ) -> Result<Vec<usize>, AllocError>
+        requires well_formed { IsWellFormed self.old }
+        requires linear { variables ≡ Distinct → AreLinear types.now }
+        ensures { IfOk result (λ parts. BuildsParts self.old self.new parts.items types.now) }
+    {
+        let mut parts = Vec::with_capacity(alloc, types.len())?;
+        for ty in types {
+            let part = self.fresh(Cell::Generic(Scheme::of(ty, variables)?))?;
+            parts.push(part)?;
+        }
+        Ok(parts)
+    }
+
+    // Slots for types of which no two have a type variable in common, whose parts get no slots yet, and the cell of their constructor.
     fn split(
         &mut self,
         alloc: Global,
         name: &Name,
-        first: &Ty,
-        second: &Ty,
+        args: &[Ty],
+        variables: Variables,
     ) -> Result<Cell, AllocError>
         requires well_formed { IsWellFormed self.old }
-        requires apart { AreApart first.now second.now }
-        ensures { IfOk result (λ cell. BuildsInstance self.old self.new cell (TyApp name.now (more_types first.now (more_types second.now no_types)))) }
+        requires apart { ArePairwiseApart args.now }
+        requires linear { variables ≡ Distinct → AreLinear args.now }
+        ensures { IfOk result (λ cell. BuildsInstance self.old self.new cell (TyApp name.now (type_list args.now))) }
     {
-        let left = self.fresh(Cell::Generic(first.copy()?))?;
-        let right = self.fresh(Cell::Generic(second.copy()?))?;
-        let mut parts = Vec::with_capacity(alloc, 2)?;
-        parts.push(left)?;
-        parts.push(right)?;
+        let parts = self.generic_slots(alloc, args, variables)?;
         Ok(Cell::App(name.copy()?, parts))
     }
 
@@ -79,7 +99,7 @@ impl Graph {
     fn applied(
         &mut self,
         alloc: Global,
-        generic: &Ty,
+        generic: &Scheme,
         name: &Name,
         args: &[Ty],
     ) -> Result<Cell, AllocError>
@@ -87,24 +107,22 @@ impl Graph {
         requires parts { TyApp name.now (type_list args.now) ≡ generic.now }
         ensures { IfOk result (λ cell. BuildsInstance self.old self.new cell generic.now) }
     {
-        match args {
-            [first, second] => {
-                if are_apart(alloc, first, second)? {
-                    self.split(alloc, name, first, second)
-                } else {
-                    self.constructed(alloc, generic, name, args)
-                }
-            }
-            _ => self.constructed(alloc, generic, name, args),
+        let variables = generic.variables();
+        if variables == Variables::Distinct {
+            return self.split(alloc, name, args, variables);
         }
+        if are_two_apart(alloc, args)? {
+            return self.split(alloc, name, args, Variables::Unknown);
+        }
+        self.constructed(alloc, generic.ty(), name, args)
     }
 
     // The cell of an instance of the generic type, with slots for its parts.
-    fn instance(&mut self, alloc: Global, generic: &Ty) -> Result<Cell, AllocError>
+    fn instance(&mut self, alloc: Global, generic: &Scheme) -> Result<Cell, AllocError>
         requires { IsWellFormed self.old }
         ensures { IfOk result (λ cell. BuildsInstance self.old self.new cell generic.now) }
     {
-        match generic.node() {
+        match generic.ty().node() {
             TyNode::Var(_) => Ok(Cell::Unknown),
             TyNode::App(name, args) => self.applied(alloc, generic, name, args),
         }
@@ -121,7 +139,7 @@ impl Graph {
     }
 
     // Gives the parts of the slot's generic type slots.
-    fn open(&mut self, alloc: Global, slot: usize, generic: &Ty) -> Result<(), AllocError>
+    fn open(&mut self, alloc: Global, slot: usize, generic: &Scheme) -> Result<(), AllocError>
         requires well_formed { IsWellFormed self.old }
         requires slot_in { slot < slots self.old }
         requires generic { cell_at self.old.cells.items slot ≡ Generic generic.now }
@@ -203,7 +221,7 @@ fn has_variable(ty: &Ty, name: &Name) -> bool
 
 // Whether two types have no type variable in common.
 fn are_apart(alloc: Global, first: &Ty, second: &Ty) -> Result<bool, AllocError>
-    ensures { IfOk result (λ apart. IsTrue apart → AreApart first.now second.now) }
+    ensures { IfOk result (λ apart. IsTrue apart → AreApart (type_names first.now) (type_names second.now)) }
 {
     let names = first.tyvars(alloc)?;
     for name in &names {
@@ -214,9 +232,20 @@ fn are_apart(alloc: Global, first: &Ty, second: &Ty) -> Result<bool, AllocError>
     Ok(true)
 }
 
+// Whether the types are two that have no type variable in common.
+#[tactic(auto, using(crate::proofs::Linear::two_apart))]
+fn are_two_apart(alloc: Global, types: &[Ty]) -> Result<bool, AllocError>
+    ensures { IfOk result (λ apart. IsTrue apart → ArePairwiseApart types.now) }
+{
+    match types {
+        [first, second] => are_apart(alloc, first, second),
+        _ => Ok(false),
+    }
+}
+
 // The generic type of a slot, if its cell is one.
 #[tactic(auto, using(crate::proofs::Merging::read_cell))]
-fn generic_at(cells: &[Cell], slot: usize) -> Option<&Ty>
+fn generic_at(cells: &[Cell], slot: usize) -> Option<&Scheme>
     requires { slot < length cells.now }
     ensures { MatchOption result (IsExpandedCell (cell_at cells.now slot)) (λ ty. cell_at cells.now slot ≡ Generic ty.now) }
 {

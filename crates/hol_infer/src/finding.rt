@@ -60,7 +60,10 @@ fn shape_of_cell(
             Some(shapes) => Ok(Some(Shape::app(alloc, name, shapes)?)),
             None => Ok(None),
         },
-        Cell::Generic(ty) => Ok(Some(Shape::instance(alloc, ty, numbering.base(slot))?)),
+        Cell::Generic(generic) => {
+            let shape = Shape::instance(alloc, generic.ty(), numbering.base(slot))?;
+            Ok(Some(shape))
+        }
     }
 }
 

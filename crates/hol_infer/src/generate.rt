@@ -8,6 +8,7 @@ ghost use Rattle.hol_infer.specs.Generate.{slots, slot_of, IsWellFormed, IsNewCe
 
 use crate::cell::{Cell, Equation};
 use crate::raw::RawTerm;
+use crate::scheme::Scheme;
 use crate::skeleton::{Scope, Skeleton};
 use hol_types::{Name, Ty, TyNode};
 use std::alloc::{AllocError, Global};
@@ -132,7 +133,7 @@ impl Graph {
     }
 
     // Gives the slot an instance of the generic type, whose parts have no slots yet.
-    fn instantiate(&mut self, generic: &Ty, expected: usize) -> Result<(), AllocError>
+    fn instantiate(&mut self, generic: &Scheme, expected: usize) -> Result<(), AllocError>
         requires well_formed { IsWellFormed self.old }
         requires expected_in { expected < slots self.old }
         ensures { OnOk result (Instantiates self.old self.new generic.now expected) }
@@ -201,7 +202,7 @@ impl Graph {
     fn constant(
         &mut self,
         name: &Name,
-        generic: &Ty,
+        generic: &Scheme,
         expected: usize,
     ) -> Result<Skeleton, AllocError>
         requires well_formed { IsWellFormed self.old }

@@ -5,6 +5,7 @@
 
 mod building;
 mod cell;
+mod constants;
 mod definition;
 mod elaboration;
 mod expanding;
@@ -19,6 +20,7 @@ mod principal;
 mod raw;
 mod reading;
 mod resolving;
+mod scheme;
 mod shape;
 mod skeleton;
 

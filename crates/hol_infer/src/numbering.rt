@@ -52,7 +52,7 @@ fn needed(alloc: Global, cell: &Cell) -> Result<usize, AllocError>
         Cell::Link(_) => Ok(0),
         Cell::Rigid(_) => Ok(0),
         Cell::App(_, _) => Ok(0),
-        Cell::Generic(ty) => variables(alloc, ty),
+        Cell::Generic(generic) => variables(alloc, generic.ty()),
     }
 }
 

@@ -3,6 +3,7 @@ ghost use Rattle.std.specs.Prelude.{◌≡◌, IfOk};
 ghost use Rattle.hol_infer.specs.Raw.{RawApply, RawAbstraction, RawAnnotated};
 ghost use Rattle.hol_infer.specs.RawView.{raw_tree};
 
+use crate::scheme::Scheme;
 use hol_types::{Name, Ty};
 use std::alloc::{AllocError, Global};
 
@@ -12,7 +13,7 @@ pub enum RawTerm {
     /// The variable of the abstraction so many outwards, from 0.
     Bound(usize),
     /// A constant with its generic type.
-    Constant(Name, Ty),
+    Constant(Name, Scheme),
     /// A free variable.
     Free(Name),
     /// An application of the first to the second.

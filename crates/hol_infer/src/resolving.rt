@@ -10,6 +10,7 @@ ghost use Rattle.hol_infer.specs.declared.resolving.ResolveError.TheVariants.{Me
 ghost use Rattle.hol_infer.specs.Raw.{RawConstant, RawApply, RawAbstraction, RawAnnotated};
 
 use crate::raw::RawTerm;
+use crate::scheme::{Scheme, Variables};
 use hol_notation_terms::{Operator, PreTerm, PreTermNode, PreType, PreTypeNode, PreVariable};
 use hol_types::{Name, Ty};
 use std::alloc::{AllocError, AllocFailed, Global};
@@ -86,7 +87,7 @@ fn arity(arities: &[(Name, usize)], name: &str) -> Option<usize>
 }
 
 // The generic type of the constant of this name, if it stands.
-fn generic_type<'a>(constants: &'a [(Name, Ty)], name: &str) -> Option<&'a Ty>
+fn generic_type<'a>(constants: &'a [(Name, Scheme)], name: &str) -> Option<&'a Scheme>
     ensures { MatchOption result (generic_type_of constants.now name.now ≡ None) (λ ty. generic_type_of constants.now name.now ≡ Some ty.now) }
 {
     for entry in constants {
@@ -212,7 +213,7 @@ pub(crate) fn resolve_annotation(
 // What an identifier means.
 fn identifier(
     alloc: Global,
-    constants: &[(Name, Ty)],
+    constants: &[(Name, Scheme)],
     names: &Names<'_>,
     name: &str,
 ) -> Result<RawTerm, ResolveError>
@@ -237,7 +238,7 @@ fn identifier(
 // What a sign of the notation means.
 fn sign(
     alloc: Global,
-    constants: &[(Name, Ty)],
+    constants: &[(Name, Scheme)],
     names: &Names<'_>,
     name: &str,
 ) -> Result<RawTerm, ResolveError>
@@ -269,13 +270,14 @@ fn equivalence(alloc: Global) -> Result<RawTerm, ResolveError>
     let truth = truth_type(alloc)?;
     let range = Ty::fun(alloc, &truth, &truth)?;
     let ty = Ty::fun(alloc, &truth, &range)?;
-    Ok(RawTerm::Constant(Name::new(alloc, "=")?, ty))
+    let scheme = Scheme::of(&ty, Variables::Unknown)?;
+    Ok(RawTerm::Constant(Name::new(alloc, "=")?, scheme))
 }
 
 /// What an operator means.
 pub fn operator(
     alloc: Global,
-    constants: &[(Name, Ty)],
+    constants: &[(Name, Scheme)],
     names: &Names<'_>,
     operator: Operator,
 ) -> Result<RawTerm, ResolveError>
@@ -354,7 +356,7 @@ fn typed(
 /// Answers `Arity` only where a type that is written has that fault.
 pub fn resolve(
     alloc: Global,
-    constants: &[(Name, Ty)],
+    constants: &[(Name, Scheme)],
     arities: &[(Name, usize)],
     names: &Names<'_>,
     term: &PreTerm,

@@ -1,0 +1,126 @@
+-- Types in which no type variable stands twice.
+use Rattle.std.proofs.Common.{◌≡◌, ℕ, ◌+◌, ◌<◌, ◌≤◌, List, [], ◌∷◌, ◌++◌, length, get_or, take, drop, refl, sym, ◌∙◌, ap, subst, Bool, true, false, ◌||◌, not, cond, bytes_eq}
+use Rattle.std.specs.Borrow.{Bor}
+use Rattle.std.specs.Ordering.{nat_cmp, is_eq}
+use Rattle.std.specs.Cmp.Lexicographic.{slice_cmp}
+use Rattle.std.specs.BTreeSet.{BTreeSet, contains_by}
+use Rattle.std.proofs.lemmas.Map.Text.{is_eq-slice_cmp}
+use Rattle.std.proofs.lemmas.List.{append-nil, append_assoc, take_more, take_all}
+use Rattle.std.proofs.lemmas.Slice.Eq.{bytes_eq-Decides}
+use Rattle.hol_types.specs.Tree.{TypeTree, TyApp, type_list}
+use Rattle.hol_types.specs.Names.{is_among, type_names, types_names}
+use Rattle.hol_types.proofs.Filters.{among_append}
+use Rattle.hol_types.proofs.Steps.{next_of}
+use Rattle.hol_infer.specs.Linear.{AreDistinct, IsLinear, AreLinear, AreApart, ArePairwiseApart}
+use Rattle.hol_infer.proofs.Instances.{turned}
+
+-- ---- the names as they occur
+
+-- one turn of the loop over the arguments
+pub names_step : (names : List (List ℕ)) (ts : List TypeTree) (i : ℕ) (t : TypeTree) → i < length ts → t ≡ get_or ts i t →
+    names ++ types_names (type_list (drop i ts)) ≡ (names ++ type_names t) ++ types_names (type_list (drop (i + 1) ts))
+names_step names ts i t h e = rw (next_of ts i t h e) (sym (append_assoc names (type_names t) (types_names (type_list (drop (i + 1) ts)))))
+
+-- ---- one name more
+
+pub both_false : (a b : Bool) → (a || b) ≡ false → (a ≡ false) × (b ≡ false)
+both_false true b e = absurd (cc)
+both_false false b e = (refl, e)
+
+or_none : (b : Bool) → (b || false) ≡ b
+or_none true = refl
+or_none false = refl
+
+pub among_push : (names : List (List ℕ)) (a q : List ℕ) → is_among (names ++ a ∷ []) q ≡ (is_among names q || bytes_eq q a)
+among_push names a q = among_append names (a ∷ []) q ∙ ap (λ (b : Bool). is_among names q || b) (or_none (bytes_eq q a))
+
+distinct_push : (names : List (List ℕ)) (a : List ℕ) → AreDistinct names → is_among names a ≡ false → AreDistinct (names ++ a ∷ [])
+distinct_push [] a d none = (refl, tt)
+distinct_push (b ∷ names) a d none =
+    let both = both_false (bytes_eq a b) (is_among names a) none in
+    let other : bytes_eq b a ≡ false = turned b a both.0 in
+    (among_push names a b ∙ rw (d.0, other) refl, distinct_push names a d.1 both.1)
+
+-- one turn of the loop over the names
+pub distinct_step : (names : List (List ℕ)) (i : ℕ) (a : List ℕ) → i < length names → a ≡ get_or names i a → AreDistinct (take i names) → is_among (take i names) a ≡ false → AreDistinct (take (i + 1) names)
+distinct_step names i a lt e d none =
+    subst AreDistinct (sym (take_more names i a lt ∙ ap (λ (b : List ℕ). take i names ++ b ∷ []) (sym e))) (distinct_push (take i names) a d none)
+
+pub among_step : (names : List (List ℕ)) (i : ℕ) (a q : List ℕ) → i < length names → a ≡ get_or names i a → is_among (take (i + 1) names) q ≡ (is_among (take i names) q || bytes_eq q a)
+among_step names i a q lt e = ap (λ (ns : List (List ℕ)). is_among ns q) (take_more names i a lt ∙ ap (λ (b : List ℕ). take i names ++ b ∷ []) (sym e)) ∙ among_push (take i names) a q
+
+or_true : (b : Bool) → (b || true) ≡ true
+or_true true = refl
+or_true false = refl
+
+not_true : (b : Bool) → not b ≡ true → b ≡ false
+not_true true e = absurd (cc)
+not_true false e = refl
+
+-- a name that was not in the set of those that were seen is not among them
+pub none_seen : (names : List (List ℕ)) (i : ℕ) (a b : List ℕ) (s : BTreeSet (Bor (List ℕ))) (added : Bool) → b ≡ a →
+    ((q : List ℕ) → contains_by (λ k. slice_cmp nat_cmp q k.now) s ≡ is_among (take i names) q) →
+    added ≡ not (contains_by (λ k. slice_cmp nat_cmp b k.now) s) → added ≡ true → is_among (take i names) a ≡ false
+none_seen names i a b s added same seen is was =
+    sym (seen a) ∙ not_true (contains_by (λ k. slice_cmp nat_cmp a k.now) s) (subst (λ (x : List ℕ). not (contains_by (λ k. slice_cmp nat_cmp x k.now) s) ≡ true) same (sym is ∙ was))
+
+-- the set of the names that were seen, with one more
+pub seen_step : (names : List (List ℕ)) (i : ℕ) (a b : List ℕ) (s n : BTreeSet (Bor (List ℕ))) → i < length names → a ≡ get_or names i a → b ≡ a →
+    ((q : List ℕ) → contains_by (λ k. slice_cmp nat_cmp q k.now) s ≡ is_among (take i names) q) →
+    ((q : Bor (List ℕ)) → contains_by (λ k. slice_cmp nat_cmp q.now k.now) n ≡ cond (is_eq (slice_cmp nat_cmp b q.now)) true (contains_by (λ k. slice_cmp nat_cmp q.now k.now) s)) →
+    (q : List ℕ) → contains_by (λ k. slice_cmp nat_cmp q k.now) n ≡ is_among (take (i + 1) names) q
+seen_step names i a b s n lt e same seen updates q =
+    let key : Bor (List ℕ) = record { ref_ptr = (0, 0); now = q } in
+    let test : is_eq (slice_cmp nat_cmp a q) ≡ bytes_eq a q = is_eq-slice_cmp a q in
+    updates key ∙ ap (λ (x : List ℕ). cond (is_eq (slice_cmp nat_cmp x q)) true (contains_by (λ k. slice_cmp nat_cmp q k.now) s)) same ∙ ap (λ (b : Bool). cond b true (contains_by (λ k. slice_cmp nat_cmp q k.now) s)) test ∙ by (bytes_eq a q) refl ∙ sym (among_step names i a q lt e)
+  where
+    by : (b : Bool) → bytes_eq a q ≡ b → cond b true (contains_by (λ k. slice_cmp nat_cmp q k.now) s) ≡ (is_among (take i names) q || bytes_eq q a)
+    by true f =
+        let same : bytes_eq q a ≡ true = (bytes_eq-Decides q a).1 (sym ((bytes_eq-Decides a q).0 f)) in
+        sym (ap (λ (b : Bool). is_among (take i names) q || b) same ∙ or_true (is_among (take i names) q))
+    by false f =
+        let other : bytes_eq q a ≡ false = turned q a f in
+        seen q ∙ sym (ap (λ (b : Bool). is_among (take i names) q || b) other ∙ or_none (is_among (take i names) q))
+
+pub distinct_all : (names : List (List ℕ)) (i : ℕ) → length names ≤ i → AreDistinct (take i names) → AreDistinct names
+distinct_all names i le d = subst AreDistinct (take_all i names le) d
+
+-- ---- the arguments of a constructor
+
+distinct_front : (xs ys : List (List ℕ)) → AreDistinct (xs ++ ys) → AreDistinct xs
+distinct_front [] ys d = tt
+distinct_front (x ∷ xs) ys d = ((both_false (is_among xs x) (is_among ys x) (sym (among_append xs ys x) ∙ d.0)).0, distinct_front xs ys d.1)
+
+distinct_back : (xs ys : List (List ℕ)) → AreDistinct (xs ++ ys) → AreDistinct ys
+distinct_back [] ys d = d
+distinct_back (x ∷ xs) ys d = distinct_back xs ys d.1
+
+distinct_apart : (xs ys : List (List ℕ)) → AreDistinct (xs ++ ys) → AreApart xs ys
+distinct_apart [] ys d a m = absurd (cc)
+distinct_apart (x ∷ xs) ys d a m = by (bytes_eq a x) refl m (distinct_apart xs ys d.1 a)
+  where
+    by : (b : Bool) → bytes_eq a x ≡ b → (b || is_among xs a) ≡ true → (is_among xs a ≡ true → is_among ys a ≡ false) → is_among ys a ≡ false
+    by true e m r =
+        let same : x ≡ a = sym ((bytes_eq-Decides a x).0 e) in
+        subst (λ (n : List ℕ). is_among ys n ≡ false) same (both_false (is_among xs x) (is_among ys x) (sym (among_append xs ys x) ∙ d.0)).1
+    by false e m r = r m
+
+pub linear_args : (ts : List TypeTree) → AreDistinct (types_names (type_list ts)) → AreLinear ts
+linear_args [] d = tt
+linear_args (t ∷ ts) d = (distinct_front (type_names t) (types_names (type_list ts)) d, linear_args ts (distinct_back (type_names t) (types_names (type_list ts)) d))
+
+pub apart_args : (ts : List TypeTree) → AreDistinct (types_names (type_list ts)) → ArePairwiseApart ts
+apart_args [] d = tt
+apart_args (t ∷ ts) d = (distinct_apart (type_names t) (types_names (type_list ts)) d, apart_args ts (distinct_back (type_names t) (types_names (type_list ts)) d))
+
+pub linear_whole : (c : List ℕ) (ts : List TypeTree) (ty : TypeTree) → TyApp c (type_list ts) ≡ ty → IsLinear ty → AreDistinct (types_names (type_list ts))
+linear_whole c ts ty e h = subst IsLinear (sym e) h
+
+-- the types from the i-th on
+pub linear_step : (ts : List TypeTree) (i : ℕ) (t : TypeTree) → i < length ts → t ≡ get_or ts i t → AreLinear (drop i ts) → IsLinear t × AreLinear (drop (i + 1) ts)
+linear_step ts i t lt e h = subst AreLinear (next_of ts i t lt e) h
+
+-- ---- two types
+
+pub two_apart : (s t : TypeTree) → AreApart (type_names s) (type_names t) → ArePairwiseApart (s ∷ t ∷ [])
+two_apart s t h = (λ a m. ap (λ (ns : List (List ℕ)). is_among ns a) (append-nil (type_names t)) ∙ h a m, (λ a m. refl, tt))

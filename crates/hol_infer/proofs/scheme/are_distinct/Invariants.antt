@@ -1,0 +1,13 @@
+use Rattle.std.proofs.Common.{◌≡◌, ℕ, List, take}
+use Rattle.std.specs.Ordering.{nat_cmp}
+use Rattle.std.specs.Cmp.Lexicographic.{slice_cmp}
+use Rattle.std.specs.BTreeSet.{contains_by}
+use Rattle.hol_types.specs.Names.{is_among}
+use Rattle.hol_infer.specs.Linear.{AreDistinct}
+use Rattle.hol_infer.proofs.scheme.are_distinct.Given as goal
+
+abbrev pub invariant-loop-name : goal.invariant-loop-name
+invariant-loop-name l = record {
+  distinct : AreDistinct (take l.name-index l.names);
+  seen : (q : List ℕ) → contains_by (λ k. slice_cmp nat_cmp q k.now) l.seen ≡ is_among (take l.name-index l.names) q;
+}
