@@ -71,8 +71,8 @@ def reports(count):
 class Session:
     """A running program, to which lines are sent and whose replies are read."""
 
-    def __init__(self, program):
-        self.process = subprocess.Popen([program], stdin=subprocess.PIPE, stdout=subprocess.PIPE)
+    def __init__(self, program, *options):
+        self.process = subprocess.Popen([program, *options], stdin=subprocess.PIPE, stdout=subprocess.PIPE)
 
     def send(self, lines):
         """Sends the lines, reads a reply to each, and gives the replies and the seconds that this took."""
@@ -127,9 +127,9 @@ def is_report(reply):
     return reply.startswith((b'{"goals":', b'{"made":')) and reply.endswith(b',"ok":true}\n')
 
 
-def measure(program, setup, lines, is_right, what):
+def measure(program, setup, lines, is_right, what, options=()):
     """The seconds and the peak memory of one round of a job."""
-    session = Session(program)
+    session = Session(program, *options)
     replies, _ = session.send(setup)
     expect(replies, is_done, "what sets up " + what)
     replies, took = session.send(lines)

@@ -133,6 +133,7 @@ fn equated(alloc: Global, args: &TacArgs, goal: &Goal) -> Result<Tried, TacFault
     match mk_comb_tac(alloc, args, goal, 0) {
         Ok(tried) => Ok(tried),
         Err(TacFault::Refused(_left)) => refl_tac(alloc, args, goal, 0),
+        Err(TacFault::TurnLimit) => Err(TacFault::TurnLimit),
         Err(TacFault::Memory) => Err(TacFault::Memory),
     }
 }

@@ -7,7 +7,7 @@ use Rattle.hol_terms.specs.Nameless.{Nameless}
 use Rattle.hol_terms.specs.Alpha.{alpha_eq}
 use Rattle.hol_goal.specs.Goal.{GoalValue, goal_size}
 use Rattle.hol_goal.specs.Achieves.{assumed}
-use Rattle.hol_goal.specs.Answer.{UsedValue, AnswerResult, AnswerValue, Left, Unfit}
+use Rattle.hol_goal.specs.Answer.{UsedValue, AnswerResult, AnswerValue, Left, Unfit, OutOfTurns}
 use Rattle.hol_kernel.specs.Given.{assumed as assume}
 use Rattle.hol_goal.specs.Arguments.{TacArgsValue, Theorem, TermAndTheorem}
 use Rattle.hol_goal.specs.declared.tac_code.TacCode.{TacCode}
@@ -79,6 +79,7 @@ small goals turns = cond (has_large goals) (Stops LargeGoal) (Leaves goals turns
 abbrev pub answer_of : List ℕ → AnswerResult → ℕ → RunValue
 answer_of name (Left goals) turns = small goals turns
 answer_of name Unfit turns = Refuses (DoesNotFit name) turns
+answer_of name OutOfTurns turns = Stops TurnLimit
 
 -- a function on goals by its meaning
 abbrev pub run_meaning : Option Meaning → List ℕ → TacArgsValue → GoalValue → ℕ → RunValue

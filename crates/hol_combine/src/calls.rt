@@ -71,6 +71,7 @@ pub(crate) fn call_paid<T: Tacs>(
             let name = String::from_str(alloc, call.name.as_str())?;
             Err(RunError::Refused(Refusal::DoesNotFit(name), left))
         }
+        Err(TacFault::TurnLimit) => Err(RunError::TurnLimit),
         Err(TacFault::Memory) => Err(RunError::Memory),
     }
 }

@@ -1,4 +1,3 @@
-pub mod Parsing
 pub mod PreludeStands
 pub mod Statements
 pub mod Suited
@@ -9,7 +8,8 @@ pub mod Entries
 pub mod Rows
 pub mod Plain
 pub mod Resolving
-pub mod Answered
 pub mod Runs
 pub mod Unique
 pub mod Comparing
+pub mod Runnable
+pub mod Parts

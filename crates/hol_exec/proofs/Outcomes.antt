@@ -20,11 +20,13 @@ use Rattle.hol_exec.specs.OutcomeValue.{OutcomeValue, Opens, Leaves, Undoes, Rot
 use Rattle.hol_exec.specs.OutcomeView.{outcome_of}
 use Rattle.hol_exec.specs.declared.outcome.Change.{Change}
 use Rattle.hol_exec.specs.declared.outcome.Change.TheVariants as changes
-use Rattle.hol_exec.specs.Local.{opens, opens_read, IsOpening, run_outcome, at_start, applied, resolved_outcome, IsApplying, finishes, IsLocalOutcome}
+use Rattle.hol_exec.specs.Local.{opens, opens_read, IsOpening, refused_outcome, stopped_outcome, run_outcome, applied, resolved_outcome, IsApplying, finishes, IsLocalOutcome}
 use Rattle.hol_exec.specs.Lookups.{reading_basis}
 use Rattle.hol_exec.specs.Standing.{first_taken}
-use Rattle.hol_exec.specs.ExprValue.{ExprValue}
-use Rattle.hol_exec.specs.Expr.{ResolutionValue, Resolved, Unresolved, RunResult, Leaving, LargeGoal, RefusedBy, LackingHyps, OutOfTurns, run_expr}
+use Rattle.hol_combine.specs.ExprValue.{ExprValue}
+use Rattle.hol_combine.specs.Runs.{RefusalValue, DoesNotFit, LacksHyps, StopValue, TurnLimit, LargeGoal, RunValue, run}
+use Rattle.hol_combine.specs.Runs as runs
+use Rattle.hol_exec.specs.Expr.{ResolutionValue, Resolved, Unresolved}
 use Rattle.hol_exec.specs.declared.refusal.RefusalKind.TheVariants as refusal
 use Rattle.hol_exec.specs.At.{undoes_to, undoes, rotates_goals, rotates, drops, direct, IsOutcome, IsOutcomeAt}
 use Rattle.hol_exec.specs.Valid.{IsLeft, IsValidChange, CanStep}
@@ -57,24 +59,30 @@ module _ (goal : GoalValue) (goals : List GoalValue) (basis : Items) where
       by true z = let g : Leaves goal goals basis ≡ Makes _ = rw z at e in absurd (cc)
       by false z = let g : Leaves goal goals basis ≡ Refuses _ _ = rw z at e in absurd (cc)
 
-  run_first : (g : GoalValue) (b : Items) (r : RunResult) → Leaves goal goals basis ≡ run_outcome g b r → g ≡ goal
-  run_first g b (Leaving more) e = cc
-  run_first g b LargeGoal e = absurd (cc)
-  run_first g b (RefusedBy name) e = absurd (cc)
-  run_first g b (LackingHyps name) e = absurd (cc)
-  run_first g b OutOfTurns e = absurd (cc)
+  refused_none : (why : RefusalValue) → Leaves goal goals basis ≡ refused_outcome why → ⊥
+  refused_none (DoesNotFit name) e = absurd (cc)
+  refused_none (LacksHyps name) e = absurd (cc)
 
-  applied_first : (o : Option GoalValue) (turns : ℕ) (x : ExprValue) (b : Items) → Leaves goal goals basis ≡ applied o turns x b → o ≡ Some goal
-  applied_first None turns x b e = absurd (cc)
-  applied_first (Some g) turns x b e = ap Some (run_first g b (run_expr x g (at_start turns)).result e)
+  stopped_none : (why : StopValue) → Leaves goal goals basis ≡ stopped_outcome why → ⊥
+  stopped_none TurnLimit e = absurd (cc)
+  stopped_none LargeGoal e = absurd (cc)
 
-  resolved_first : (o : Option GoalValue) (turns : ℕ) (r : ResolutionValue) → Leaves goal goals basis ≡ resolved_outcome o turns r → o ≡ Some goal
-  resolved_first o turns (Resolved x b) e = applied_first o turns x b e
-  resolved_first o turns (Unresolved kind arg) e = absurd (cc)
+  run_first : (g : GoalValue) (b : Items) (r : RunValue) → Leaves goal goals basis ≡ run_outcome g b r → g ≡ goal
+  run_first g b (runs.Leaves more turns) e = cc
+  run_first g b (runs.Refuses why turns) e = absurd (refused_none why e)
+  run_first g b (runs.Stops why) e = absurd (stopped_none why e)
+
+  applied_first : (setup : SetupValue) (o : Option GoalValue) (x : ExprValue) (b : Items) → Leaves goal goals basis ≡ applied setup o x b → o ≡ Some goal
+  applied_first setup None x b e = absurd (cc)
+  applied_first setup (Some g) x b e = ap Some (run_first g b (run setup.table x g setup.turns) e)
+
+  resolved_first : (setup : SetupValue) (o : Option GoalValue) (r : ResolutionValue) → Leaves goal goals basis ≡ resolved_outcome setup o r → o ≡ Some goal
+  resolved_first setup o (Resolved x b) e = applied_first setup o x b e
+  resolved_first setup o (Unresolved kind arg) e = absurd (cc)
 
   applying_first : (in_proof : Bool) (setup : SetupValue) (tactic : TacText) (reads : ReadsValue) → IsApplying in_proof setup tactic reads (Leaves goal goals basis) → reads.goal ≡ Some goal
   applying_first false setup tactic reads h = absurd (cc)
-  applying_first true setup tactic reads h = resolved_first reads.goal setup.turns h.0 h.2
+  applying_first true setup tactic reads h = resolved_first setup reads.goal h.0 h.2
 
   local_first : (setup : SetupValue) (command : LocalText) (s : StateValue) → IsLocalOutcome setup command (reads_of command s) (Leaves goal goals basis) → first_goal s.proof ≡ Some goal
   local_first setup (Goal name q) s h = absurd (opening_none _ name q _ h)

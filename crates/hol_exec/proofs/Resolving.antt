@@ -1,9 +1,8 @@
 -- What is written, resolved, from the steps of resolving.
-use Rattle.std.specs.Prelude.{◌≡◌, ℕ, List, Option, Some, None, Result, Ok, Err, refl}
+use Rattle.std.specs.Prelude.{◌≡◌, ℕ, List, Option, Some, None, Result, Ok, Err, IfOk, string_bytes, refl}
 use Rattle.std.proofs.Common.{ap, sym, ◌∙◌, subst}
 use Rattle.hol_kernel.specs.Items.{Items, no_items}
-use Rattle.hol_goal.specs.declared.tac_code.TacCode.{TacCode}
-use Rattle.hol_notation_tactics.specs.Text.{CallText, TacText}
+use Rattle.hol_notation_tactics.specs.Text.{TacText}
 use Rattle.hol_resolve.specs.declared.quotations.AnyQuotation.{AnyQuotation}
 use Rattle.hol_resolve.specs.declared.refusal.Refusal.{Refusal}
 use Rattle.hol_resolve.specs.Lookups.{LookupsValue}
@@ -14,12 +13,20 @@ use Rattle.hol_exec.specs.declared.refusal.RefusalKind.TheVariants as refusal
 use Rattle.hol_exec.specs.Setup.{SetupValue}
 use Rattle.hol_exec.specs.Lookups.{lookups_of}
 use Rattle.hol_exec.specs.ReadsValue.{Values}
-use Rattle.hol_exec.specs.Resolved.{resolved_basis}
+use Rattle.hol_exec.specs.Resolved.{cited_theorems}
 use Rattle.hol_exec.specs.Standing.{first_unknown}
-use Rattle.hol_exec.specs.Tac.{CalledValue, Registered}
-use Rattle.hol_exec.specs.Expr.{ResolutionValue, Resolved, Unresolved, calls_of, first_unfit, resolved_on, resolved_call, resolved_read, IsResolvedFitting, IsResolution}
+use Rattle.hol_combine.specs.ExprValue.{ExprValue}
+use Rattle.hol_exec.specs.Expr.{RefusedValue, ResolutionValue, Resolved, Unresolved, calls_of, first_unfit, resolved_expr, refused_resolution, resolution_of, resolved_formulas, resolved_read, IsResolvedFitting, IsResolution}
+use Rattle.hol_exec.specs.ExprView.{resolution_value, IsRefusal, IsFault, IsUnresolved}
+use Rattle.hol_exec.specs.declared.resolution.Resolution.{Resolution}
+use Rattle.hol_exec.specs.declared.unresolved.Unresolved.{Unresolved as Fault}
+use Rattle.hol_exec.specs.declared.unresolved.Unresolved.TheVariants as fault
 use Rattle.hol_exec.specs.Valid.{ArePlain}
-use Rattle.hol_exec.proofs.Plain.{resolved_plain}
+use Rattle.std.proofs.lemmas.Result.{IfOk-from_err}
+use Rattle.hol_resolve.specs.Forward.{CitedValue}
+use Rattle.hol_resolve.specs.Over.{AreWithin}
+use Rattle.hol_exec.proofs.Plain.{resolved_plain, cited_within}
+use Rattle.hol_exec.proofs.Runs.{if_ok}
 
 module _ (setup : SetupValue) (cited : Values) where
   module _ (tactic : TacText) where
@@ -39,9 +46,31 @@ module _ (setup : SetupValue) (cited : Values) where
   past_readings tactic over quoted own read r e f h same is =
       (read, subst (λ (w : Result ReadingsValue Refusal). AreRead (lookups_of cited) (quotations_of tactic) w) same (rw (e, f) at h), is)
 
-  -- what is called is registered; nothing that is cited rests on items
-  pub call_resolved : (call : CallText) (readings : ReadingsValue) (code : TacCode) (o : Option CalledValue) (own : Values) (r : ResolutionValue) → ArePlain own → own ≡ cited → Some (Registered code) ≡ o → r ≡ resolved_on no_items call code own readings
-      → r ≡ resolved_call call o cited readings
-  call_resolved call readings code o own r own_plain same is e =
-      let plain : ArePlain cited = subst ArePlain same own_plain in
-      e ∙ ap (λ (w : Values). resolved_on no_items call code w readings) same ∙ ap (λ (b : Items). resolved_on b call code cited readings) (sym (resolved_plain cited readings plain)) ∙ ap (λ (w : Option CalledValue). resolved_call call w cited readings) is
+  -- ---- past the formulas. Nothing that is cited rests on items.
+
+  module _ (tactic : TacText) (readings : ReadingsValue) (plain : ArePlain cited) where
+    abbrev on : Items → ResolutionValue
+    on basis = resolution_of basis (resolved_expr (record { table = setup.table; cited = cited; readings = readings; basis = basis }) tactic)
+
+    on_none : on no_items ≡ resolved_formulas setup tactic cited readings None
+    on_none = ap on (sym (resolved_plain cited readings plain))
+
+    pub formulas_found : (basis : Items) (e : ExprValue) → basis ≡ no_items → resolved_expr (record { table = setup.table; cited = cited; readings = readings; basis = basis }) tactic ≡ Ok e → Resolved e basis ≡ resolved_formulas setup tactic cited readings None
+    formulas_found basis e none found = sym (ap (resolution_of basis) found) ∙ ap on none ∙ on_none
+
+    pub formulas_refused : (basis : Items) (refused : RefusedValue) → basis ≡ no_items → resolved_expr (record { table = setup.table; cited = cited; readings = readings; basis = basis }) tactic ≡ Err refused → refused_resolution refused ≡ resolved_formulas setup tactic cited readings None
+    formulas_refused basis refused none found = sym (ap (resolution_of basis) found) ∙ ap on none ∙ on_none
+
+-- what is resolved by, where the basis has no items
+pub is_context : (cited : Values) (basis : Items) (theorems : CitedValue) → ArePlain cited → basis ≡ no_items → theorems ≡ cited_theorems cited → AreWithin basis theorems
+is_context cited basis theorems plain e f = rw (e, f) (cited_within cited plain)
+
+-- ---- refusals
+
+pub refusal_ends : {E : Type 0} (refused : RefusedValue) (f : Fault) (result : Result Resolution E) → IsRefusal refused f → IsUnresolved f result → IfOk result (λ r. resolution_value r ≡ refused_resolution refused)
+refusal_ends refused (fault.Refused kind arg) result h u = if_ok result _ _ (λ r e. e ∙ ap refused_resolution (sym h)) u
+refusal_ends refused fault.Memory result h u = IfOk-from_err result _ u
+
+pub fault_ends : {E : Type 0} (R : Result ExprValue RefusedValue) (whole : ResolutionValue) (f : Fault) (result : Result Resolution E) → ((refused : RefusedValue) → R ≡ Err refused → refused_resolution refused ≡ whole) → IsFault R f → IsUnresolved f result → IfOk result (λ r. resolution_value r ≡ whole)
+fault_ends R whole (fault.Refused kind arg) result g h u = if_ok result _ _ (λ r e. e ∙ g (kind, string_bytes arg) h) u
+fault_ends R whole fault.Memory result g h u = IfOk-from_err result _ u

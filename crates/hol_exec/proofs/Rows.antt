@@ -1,57 +1,40 @@
--- Rows of a table of registered functions, found by their names.
-use Rattle.std.specs.Prelude.{◌≡◌, ◌+◌, ◌&&◌, ℕ, Bool, true, false, cond, List, [], ◌∷◌, ◌++◌, length, slice_get, bytes_eq, Option, Some, None, IfSome, refl, zero, suc}
+-- The row of a table that a name stands in.
+use Rattle.std.specs.Prelude.{◌≡◌, ◌<◌, ℕ, List, [], ◌∷◌, length, slice_get, Option, Some, None, refl, suc, zero}
 use Rattle.std.specs.Option.{option_map, option_and_then}
-use Rattle.std.specs.Map.{lookup}
-use Rattle.std.specs.List.{position_from}
-use Rattle.std.proofs.Common.{ap, sym, ◌∙◌, append_assoc, arith}
-use Rattle.std.proofs.lemmas.Iterator.Adapters.{position_from-zero}
+use Rattle.std.proofs.Common.{ap, sym, ◌∙◌, arith}
 use Rattle.hol_goal.specs.declared.tac_code.TacCode.{TacCode}
 use Rattle.hol_registry.specs.Table.{index_of}
-use Rattle.hol_exec.specs.Tac.{IsRowOf}
-use Rattle.hol_exec.proofs.PreludeStands.{same_bytes}
+use Rattle.hol_exec.specs.Tac.{CalledValue, Registered, at_row, registered}
 
 abbrev Row : Type 0
 Row = List ℕ × TacCode
 
--- the code of the row at an index
-abbrev code_at : List Row → ℕ → Option TacCode
-code_at table i = option_map (λ row. row.1) (slice_get table i)
+of_row : (i : ℕ) (code : TacCode) (o : Option Row) → option_map (λ row. row.1) o ≡ Some code → at_row i o ≡ Some (Registered i code)
+of_row i code None e = absurd (cc)
+of_row i code (Some row) e = let same : row.1 ≡ code = cc in ap (λ c. Some (Registered i c)) same
 
-at_end : (before rest : List Row) (row : Row) → slice_get (before ++ row ∷ rest) (length before) ≡ Some row
-at_end [] rest row = refl
-at_end (x ∷ before) rest row = at_end before rest row
+pub row_found : (name : List ℕ) (table : List Row) (i : ℕ) (code : TacCode) → index_of name table ≡ Some i → option_map (λ row. row.1) (slice_get table i) ≡ Some code → Some (Registered i code) ≡ registered name table
+row_found name table i code found is = sym (ap (option_and_then (λ index. at_row index (slice_get table index))) found ∙ of_row i code (slice_get table i) is)
 
-longer : (before : List Row) (row : Row) → length (before ++ row ∷ []) ≡ length before + 1
-longer [] row = refl
-longer (x ∷ before) row = let h : length (before ++ row ∷ []) ≡ length before + 1 = longer before row in omega (arith, h)
+pub none_found : (name : List ℕ) (table : List Row) → index_of name table ≡ None → None ≡ registered name table
+none_found name table found = sym (ap (option_and_then (λ index. at_row index (slice_get table index))) found)
 
-module _ (name : List ℕ) where
-  abbrev named : Row → Bool
-  named row = bytes_eq row.0 name
+-- ---- what is registered stands within the table
 
-  -- the rows before have been passed by
-  from : (before rest : List Row) → lookup (bytes_eq name) rest ≡ option_and_then (code_at (before ++ rest)) (position_from named (length before) rest)
-  from before [] = refl
-  from before (row ∷ rest) =
-      by (named row) refl
-      (from (before ++ row ∷ []) rest ∙ (λ i. option_and_then (code_at (append_assoc before (row ∷ []) rest i)) (position_from named (longer before row i) rest)))
-    where
-      by : (b : Bool) → named row ≡ b → lookup (bytes_eq name) rest ≡ option_and_then (code_at (before ++ row ∷ rest)) (position_from named (length before + 1) rest)
-          → lookup (bytes_eq name) (row ∷ rest) ≡ option_and_then (code_at (before ++ row ∷ rest)) (position_from named (length before) (row ∷ rest))
-      by true e next =
-          ap (λ w. cond w (Some row.1) (lookup (bytes_eq name) rest)) (same_bytes name row.0 ∙ e)
-          ∙ sym (ap (option_map (λ (r : Row). r.1)) (at_end before rest row))
-          ∙ sym (ap (λ w. option_and_then (code_at (before ++ row ∷ rest)) (cond w (Some (length before)) (position_from named (length before + 1) rest))) e)
-      by false e next =
-          ap (λ w. cond w (Some row.1) (lookup (bytes_eq name) rest)) (same_bytes name row.0 ∙ e)
-          ∙ next
-          ∙ sym (ap (λ w. option_and_then (code_at (before ++ row ∷ rest)) (cond w (Some (length before)) (position_from named (length before + 1) rest))) e)
+within : (table : List Row) (i j : ℕ) (code : TacCode) → at_row i (slice_get table j) ≡ Some (Registered i code) → j < length table
+within [] i j code e = absurd (cc)
+within (row ∷ rows) i zero code e = omega arith
+within (row ∷ rows) i (suc j) code e = let h : j < length rows = within rows i j code e in omega (arith, h)
 
-  looked_up : (table : List Row) → lookup (bytes_eq name) table ≡ option_and_then (code_at table) (index_of name table)
-  looked_up table = from [] table ∙ sym (ap (option_and_then (code_at table)) (position_from-zero named table))
+pub registered_within : (name : List ℕ) (table : List Row) (i : ℕ) (code : TacCode) → registered name table ≡ Some (Registered i code) → i < length table
+registered_within name table i code e = by (index_of name table) e
+  where
+    at : (k : ℕ) (o : Option Row) → at_row k o ≡ Some (Registered i code) → k ≡ i
+    at k None e = absurd (cc)
+    at k (Some row) e = cc
 
-  pub row_found : (table : List Row) (i : ℕ) (code : TacCode) → index_of name table ≡ Some i → option_map (λ row. row.1) (slice_get table i) ≡ Some code → Some code ≡ lookup (bytes_eq name) table
-  row_found table i code found is = sym (looked_up table ∙ ap (option_and_then (code_at table)) found ∙ is)
-
-  pub none_found : (table : List Row) → index_of name table ≡ None → None ≡ lookup (bytes_eq name) table
-  none_found table found = sym (looked_up table ∙ ap (option_and_then (code_at table)) found)
+    by : (o : Option ℕ) → option_and_then (λ index. at_row index (slice_get table index)) o ≡ Some (Registered i code) → i < length table
+    by None e = absurd (cc)
+    by (Some k) e =
+        let same : k ≡ i = at k (slice_get table k) e in
+        within table i i code (rw same at e)

@@ -17,7 +17,7 @@ opens_by in_proof name q reads reading outcome e h f =
     rw e (reading, h, f)
 
 pub applies_by : (in_proof : Bool) (setup : SetupValue) (tactic : TacText) (reads : ReadsValue) (resolution : ResolutionValue) (outcome : OutcomeValue) →
-    in_proof ≡ true → IsResolution setup tactic reads.cited resolution → outcome ≡ resolved_outcome reads.goal setup.turns resolution → IsApplying in_proof setup tactic reads outcome
+    in_proof ≡ true → IsResolution setup tactic reads.cited resolution → outcome ≡ resolved_outcome setup reads.goal resolution → IsApplying in_proof setup tactic reads outcome
 applies_by in_proof setup tactic reads resolution outcome e h f = rw e (resolution, h, f)
 
 -- the same where what is read is of a case

@@ -21,6 +21,10 @@ of_bool (Some a) e = ap Some ((type_cmp_decides a bool_type).0 e)
 pub statement_typed : (p : Nameless) (b : Bool) → is_known no_items p ≡ true → b ≡ true → b ≡ is_type_at (nameless_type [] p) bool_type → IsStatement no_items p
 statement_typed p b known e f = typed_known no_items p bool_type known (of_bool (nameless_type [] p) (sym f ∙ e))
 
+-- the same of a copy of a term
+pub formula_typed : (t own : Named) (b : Bool) → b ≡ true → b ≡ is_type_at (nameless_type [] (nameless [] t)) bool_type → own ≡ t → named_type own ≡ Some bool_type
+formula_typed t own b e f same = ap named_type same ∙ sym (type_outside t) ∙ of_bool (nameless_type [] (nameless [] t)) (sym f ∙ e)
+
 -- a statement, as it is made, is a term of type bool
 pub formula_of : (basis : Items) (t : Named) → IsStatement basis (nameless [] t) → named_type t ≡ Some bool_type
 formula_of basis t h = sym (type_outside t) ∙ (known_typed basis (nameless [] t) bool_type h).1

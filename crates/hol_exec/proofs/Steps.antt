@@ -10,29 +10,27 @@ use Rattle.hol_kernel.proofs.ItemOrder.{total, only}
 use Rattle.hol_kernel.proofs.Members.{not_in_empty}
 use Rattle.hol_kernel.proofs.Subsets.{subset_trans, subset_right}
 use Rattle.hol_goal.specs.Goal.{GoalValue}
-use Rattle.hol_exec.specs.ExprValue.{ExprValue}
+use Rattle.hol_combine.specs.ExprValue.{ExprValue}
+use Rattle.hol_combine.specs.Suits.{suits_expr}
 use Rattle.hol_exec.proofs.Suited.{suits_larger}
 use Rattle.hol_just.specs.Valid.{IsValid}
 use Rattle.hol_just.specs.declared.reason.Move.{Move}
 use Rattle.hol_just.specs.declared.tried.Step.{Step}
 use Rattle.hol_just.proofs.Validity.{valid_under}
 use Rattle.hol_stack.specs.Calls.{IsStep}
-use Rattle.hol_exec.specs.declared.expr.RunEnd.{RunEnd}
-use Rattle.hol_exec.specs.declared.expr.RunEnd.TheVariants.{Leaving}
 use Rattle.hol_exec.specs.StateValue.{ProofValue}
 use Rattle.hol_exec.specs.ReadsValue.{first_of}
-use Rattle.hol_exec.specs.Valid.{suits_expr, IsJustifiedEnd, IsLeft, CanStep}
+use Rattle.hol_exec.specs.Valid.{IsLeft, CanStep}
 
 -- ---- what a run left
 
 -- an expression that a basis suits is suited by each that contains it
-pub left_by : (basis : Items) (e : ExprValue) (first goal : GoalValue) (step : Step) (ended : RunEnd) → basis ≡ no_items → suits_expr e basis ≡ true → goal ≡ first → ended ≡ Leaving step → IsJustifiedEnd e first ended → IsLeft basis step.just goal step.goals.items
-left_by basis e first goal step ended plain suited same is h = record {
+pub left_by : (basis : Items) (e : ExprValue) (first goal : GoalValue) (step : Step) → basis ≡ no_items → suits_expr e basis ≡ true → goal ≡ first → IsValid (suits_expr e) no_hyps step.just (first ∷ []) step.goals.items → IsLeft basis step.just goal step.goals.items
+left_by basis e first goal step plain suited same h = record {
   plain = plain;
   valid =
       subst (λ (g : GoalValue). IsValid (set.is_subset basis) no_hyps step.just (g ∷ []) step.goals.items) (sym same)
-      (valid_under (suits_expr e) (set.is_subset basis) no_hyps step.just (first ∷ []) step.goals.items (λ more k. suits_larger e basis more k suited)
-      (subst (IsJustifiedEnd e first) is h));
+      (valid_under (suits_expr e) (set.is_subset basis) no_hyps step.just (first ∷ []) step.goals.items (λ more k. suits_larger e basis more k suited) h);
 }
 
 -- equal values are left so too

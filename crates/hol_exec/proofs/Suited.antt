@@ -15,8 +15,8 @@ use Rattle.hol_kernel.proofs.Weaken.{is_known_more, has_type_more}
 use Rattle.hol_goal.specs.Arguments.{TacArgsValue, Nothing, Term, Pair, Theorem, TermAndTheorem, Theorems}
 use Rattle.hol_just.specs.Answering.{suits}
 use Rattle.hol_just.specs.Justifies.{holds_term, holds_given}
-use Rattle.hol_exec.specs.ExprValue.{ExprValue, Calls}
-use Rattle.hol_exec.specs.Valid.{suits_expr}
+use Rattle.hol_combine.specs.ExprValue.{CallValue, ExprValue, ExprValues, Call, Then, ThenL, OrElse, Try, Repeat, Every, First, Replicate, Changed, DischThen, PopAssum, FirstAssum, SubgoalThen, no_exprs, more_exprs}
+use Rattle.hol_combine.specs.Suits.{all_calls, all_calls_of, written, by_subgoal, suits_expr}
 
 module _ (few more : Items) (sub : IsSubset few more) where
   term_larger : (t : Nameless) → holds_term t few ≡ true → holds_term t more ≡ true
@@ -46,5 +46,30 @@ module _ (few more : Items) (sub : IsSubset few more) where
       let parts = and_parts (holds_term t few) (holds_given th few) h in and_from (holds_term t more) (holds_given th more) (term_larger t parts.0) (given_larger th parts.1)
   args_larger (Theorems ths) h = givens_larger ths h
 
+-- ---- expressions
+
+module _ (few more : CallValue → Bool) (h : (call : CallValue) → few call ≡ true → more call ≡ true) where
+  mutual
+    all_larger : (e : ExprValue) → all_calls few e ≡ true → all_calls more e ≡ true
+    all_larger (Call call) k = h call k
+    all_larger (Then t u) k = let parts = and_parts (all_calls few t) (all_calls few u) k in and_from (all_calls more t) (all_calls more u) (all_larger t parts.0) (all_larger u parts.1)
+    all_larger (ThenL t us) k = let parts = and_parts (all_calls few t) (all_calls_of few us) k in and_from (all_calls more t) (all_calls_of more us) (all_larger t parts.0) (each_larger us parts.1)
+    all_larger (OrElse t u) k = let parts = and_parts (all_calls few t) (all_calls few u) k in and_from (all_calls more t) (all_calls more u) (all_larger t parts.0) (all_larger u parts.1)
+    all_larger (Try t) k = all_larger t k
+    all_larger (Repeat t) k = all_larger t k
+    all_larger (Every ts) k = each_larger ts k
+    all_larger (First ts) k = each_larger ts k
+    all_larger (Replicate n t) k = all_larger t k
+    all_larger (Changed t) k = all_larger t k
+    all_larger (DischThen tac) k = h (written tac) k
+    all_larger (PopAssum tac) k = h (written tac) k
+    all_larger (FirstAssum tac) k = h (written tac) k
+    all_larger (SubgoalThen p tac) k =
+        let parts = and_parts (few (by_subgoal p tac)) (few (written tac)) k in and_from (more (by_subgoal p tac)) (more (written tac)) (h (by_subgoal p tac) parts.0) (h (written tac) parts.1)
+
+    each_larger : (ts : ExprValues) → all_calls_of few ts ≡ true → all_calls_of more ts ≡ true
+    each_larger no_exprs k = refl
+    each_larger (more_exprs t ts) k = let parts = and_parts (all_calls few t) (all_calls_of few ts) k in and_from (all_calls more t) (all_calls_of more ts) (all_larger t parts.0) (each_larger ts parts.1)
+
 pub suits_larger : (e : ExprValue) (few more : Items) → IsSubset few more → suits_expr e few ≡ true → suits_expr e more ≡ true
-suits_larger (Calls name code args) few more sub h = args_larger few more sub args h
+suits_larger e few more sub h = all_larger (λ call. suits call.args few) (λ call. suits call.args more) (λ call. args_larger few more sub call.args) e h

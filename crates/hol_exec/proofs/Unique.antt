@@ -109,7 +109,7 @@ one_opening false name quotation reads a b p q =
 one_applying : (in_proof : Bool) (setup : SetupValue) (tactic : TacText) (reads : ReadsValue) (a b : OutcomeValue) → IsApplying in_proof setup tactic reads a → IsApplying in_proof setup tactic reads b → a ≡ b
 one_applying false setup tactic reads a b p q = p ∙ sym q
 one_applying true setup tactic reads a b p q =
-    p.2 ∙ ap (resolved_outcome reads.goal setup.turns) (one_past setup reads.cited tactic (first_refusal (named_refusals setup tactic reads.cited)) p.0 q.0 p.1 q.1) ∙ sym q.2
+    p.2 ∙ ap (resolved_outcome setup reads.goal) (one_past setup reads.cited tactic (first_refusal (named_refusals setup tactic reads.cited)) p.0 q.0 p.1 q.1) ∙ sym q.2
 
 pub one_local : (setup : SetupValue) (command : LocalText) (reads : ReadsValue) (a b : OutcomeValue) → IsLocalOutcome setup command reads a → IsLocalOutcome setup command reads b → a ≡ b
 one_local setup (Goal name quotation) reads a b p q = one_opening reads.in_proof name quotation reads a b p q

@@ -1,18 +1,22 @@
--- Expressions of functions on goals: what they resolve to, and how they run.
--- Sources: the tactics of the HOL Light Reference Manual; turns are this project's.
-use Rattle.std.specs.Prelude.{◌≡◌, ℕ, zero, suc, List, [], ◌∷◌, ◌++◌, Bool, true, false, nat_lt, cond, decimal, Option, Some, None, is_some, Result, Ok, Err}
-use Rattle.std.specs.List.{list_any}
+-- Expressions of functions on goals, as they are written, and what they resolve to. How they run is hol_combine's.
+-- Sources: the tactics and tacticals of the HOL Light Reference Manual; the order of refusals is this project's.
+use Rattle.std.specs.Prelude.{◌≡◌, ℕ, List, [], ◌∷◌, ◌++◌, Bool, false, cond, decimal, Option, Some, None, is_some, Result, Ok, Err}
+use Rattle.hol_terms.specs.Nameless.{Nameless, nameless_type}
+use Rattle.hol_formulas.specs.Equation.{bool_type}
 use Rattle.hol_kernel.specs.Items.{Items}
+use Rattle.hol_kernel.specs.Typing.{is_type_at}
+use Rattle.hol_notation_terms.specs.Text.{QuotationText}
 use Rattle.hol_notation_tactics.specs.Text.{CallText, TacText, TacTexts, Call, Then, ThenL, OrElse, Repeat, Try, Changed, Every, First, Replicate, DischThen, PopAssum, FirstAssum, SubgoalThen, no_tacs, more_tacs}
-use Rattle.hol_goal.specs.Goal.{GoalValue, goal_size}
-use Rattle.hol_goal.specs.Answer.{UsedValue, AnswerResult, AnswerValue, Left, Unfit, answered}
 use Rattle.hol_goal.specs.Arguments.{TacArgsValue, arguments_of}
+use Rattle.hol_goal.specs.Arguments as args
+use Rattle.hol_goal.specs.declared.tac_args.ArgumentKind.{ArgumentKind}
 use Rattle.hol_goal.specs.declared.tac_code.TacCode.{TacCode}
-use Rattle.hol_just.specs.Tac.{Meaning, tac}
-use Rattle.hol_resolve.specs.Among.{are_assumed}
+use Rattle.hol_goal.specs.declared.tac_args.ArgumentKind.TheVariants as takes
+use Rattle.hol_combine.specs.ExprValue.{CallValue, TheoremTacValue, ExprValue, ExprValues, no_exprs, more_exprs}
+use Rattle.hol_combine.specs.ExprValue as expr
 use Rattle.hol_resolve.specs.Forward.{rule_word}
 use Rattle.hol_resolve.specs.Quotations.{quotations_of}
-use Rattle.hol_resolve.specs.Readings.{ReadingsValue, AreRead}
+use Rattle.hol_resolve.specs.Readings.{ReadingsValue, AreRead, term_at}
 use Rattle.hol_resolve.specs.Written.{arguments_written}
 use Rattle.hol_resolve.specs.declared.refusal.Refusal.{Refusal}
 use Rattle.hol_resolve.specs.declared.refusal.Refusal.TheVariants as resolving
@@ -21,7 +25,6 @@ use Rattle.hol_exec.specs.declared.tac.CallRole.TheVariants.{Whole, TheoremTacti
 use Rattle.hol_exec.specs.declared.refusal.RefusalKind.{RefusalKind}
 use Rattle.hol_exec.specs.declared.refusal.RefusalKind.TheVariants as refusal
 use Rattle.hol_exec.specs.Setup.{SetupValue}
-use Rattle.hol_exec.specs.ExprValue.{ExprValue, Calls}
 use Rattle.hol_exec.specs.ReadsValue.{Values}
 use Rattle.hol_exec.specs.Lookups.{lookups_of}
 use Rattle.hol_exec.specs.Resolved.{cited_theorems, resolved_basis}
@@ -60,7 +63,7 @@ abbrev mutual
 -- the name of the first call whose name stands for nothing, or whose arguments aren't of its kind
 abbrev pub first_unfit : SetupValue → List (CallRole × CallText) → Values → Option (List ℕ)
 first_unfit setup [] cited = None
-first_unfit setup ((role, call) ∷ calls) cited = cond (is_some (called setup role call cited)) (first_unfit setup calls cited) (Some call.name)
+first_unfit setup ((role, call) ∷ calls) cited = cond (is_some (called setup.table role call cited)) (first_unfit setup calls cited) (Some call.name)
 
 -- a name is refused
 abbrev pub refused_name : RefusalKind → Option (List ℕ) → Option (RefusalKind × List ℕ)
@@ -77,53 +80,159 @@ first_refusal [] = None
 first_refusal (None ∷ more) = first_refusal more
 first_refusal (Some refused ∷ more) = Some refused
 
+-- the quotations that SUBGOAL_THEN takes, from left to right
+abbrev mutual
+  pub formulas_of : TacText → List QuotationText
+  formulas_of (Call call) = []
+  formulas_of (Then t u) = formulas_of t ++ formulas_of u
+  formulas_of (ThenL t us) = formulas_of t ++ formulas_of_each us
+  formulas_of (OrElse t u) = formulas_of t ++ formulas_of u
+  formulas_of (Repeat t) = formulas_of t
+  formulas_of (Try t) = formulas_of t
+  formulas_of (Changed t) = formulas_of t
+  formulas_of (Every ts) = formulas_of_each ts
+  formulas_of (First ts) = formulas_of_each ts
+  formulas_of (Replicate n t) = formulas_of t
+  formulas_of (DischThen call) = []
+  formulas_of (PopAssum call) = []
+  formulas_of (FirstAssum call) = []
+  formulas_of (SubgoalThen p call) = p ∷ []
+
+  pub formulas_of_each : TacTexts → List QuotationText
+  formulas_of_each no_tacs = []
+  formulas_of_each (more_tacs t ts) = formulas_of t ++ formulas_of_each ts
+
+-- a reading is of type bool
+abbrev pub is_formula : Option Nameless → Bool
+is_formula None = false
+is_formula (Some p) = is_type_at (nameless_type [] p) bool_type
+
+-- the place of the first of the quotations that isn't
+abbrev pub first_not_bool : ReadingsValue → List QuotationText → Option ℕ
+first_not_bool readings [] = None
+first_not_bool readings (q ∷ quotations) = cond (is_formula (term_at readings q.place)) (first_not_bool readings quotations) (Some q.place)
+
+-- a refusal, and what it speaks of
+abbrev pub RefusedValue : Type 0
+RefusedValue = RefusalKind × List ℕ
+
 -- what is refused of readings and of arguments, as the command is refused; arguments of another kind are refused by the name of what is called
-abbrev pub unresolved : List ℕ → Refusal → ResolutionValue
-unresolved name (resolving.WrongArity place) = Unresolved refusal.Arity (decimal place)
-unresolved name (resolving.NoTyping place) = Unresolved refusal.Untypable (decimal place)
-unresolved name resolving.TooLarge = Unresolved refusal.TooLarge []
-unresolved name (resolving.UnknownTheorem theorem) = Unresolved refusal.UnknownTheorem theorem
-unresolved name resolving.WrongArguments = Unresolved refusal.UnknownTac name
-unresolved name (resolving.BadRule rule) = Unresolved refusal.BadRule (rule_word rule)
+abbrev pub refused_by : List ℕ → Refusal → RefusedValue
+refused_by name (resolving.WrongArity place) = (refusal.Arity, decimal place)
+refused_by name (resolving.NoTyping place) = (refusal.Untypable, decimal place)
+refused_by name resolving.TooLarge = (refusal.TooLarge, [])
+refused_by name (resolving.UnknownTheorem theorem) = (refusal.UnknownTheorem, theorem)
+refused_by name resolving.WrongArguments = (refusal.UnknownTac, name)
+refused_by name (resolving.BadRule rule) = (refusal.BadRule, rule_word rule)
 
--- a call with its arguments
-abbrev pub resolved_with : List ℕ → TacCode → Items → Result TacArgsValue Refusal → ResolutionValue
-resolved_with name code basis (Ok args) = Resolved (Calls name code args) basis
-resolved_with name code basis (Err r) = unresolved name r
+-- ---- parts that are resolved, of which the first refusal counts
 
-abbrev pub resolved_on : Items → CallText → TacCode → Values → ReadingsValue → ResolutionValue
-resolved_on basis call code cited readings =
-    resolved_with call.name code basis (arguments_written basis (cited_theorems cited) readings (arguments_of code) call.arguments)
+abbrev pub mapped : {X Y : Type 0} → (X → Y) → Result X RefusedValue → Result Y RefusedValue
+mapped f (Ok x) = Ok (f x)
+mapped f (Err r) = Err r
 
--- a call, over the readings of all quotations: its arguments are those of the kind, by the theorems that are cited
-abbrev pub resolved_call : CallText → Option CalledValue → Values → ReadingsValue → ResolutionValue
-resolved_call call None cited readings = Unresolved refusal.UnknownTac call.name
-resolved_call call (Some (Registered code)) cited readings = resolved_on (resolved_basis cited readings) call code cited readings
+abbrev pub both : {X Y Z : Type 0} → (X → Y → Z) → Result X RefusedValue → Result Y RefusedValue → Result Z RefusedValue
+both f (Ok x) y = mapped (f x) y
+both f (Err r) y = Err r
 
--- No tactical runs: a text with one is no command of this kind, and what is written would be refused.
-abbrev pub idle_tactical : ResolutionValue
-idle_tactical = Unresolved refusal.UnknownTac []
+abbrev pub named_result : List ℕ → Result TacArgsValue Refusal → Result TacArgsValue RefusedValue
+named_result name (Ok x) = Ok x
+named_result name (Err r) = Err (refused_by name r)
 
-abbrev pub resolved_tactic : SetupValue → TacText → Values → ReadingsValue → ResolutionValue
-resolved_tactic setup (Call call) cited readings = resolved_call call (called setup Whole call cited) cited readings
-resolved_tactic setup (Then t u) cited readings = idle_tactical
-resolved_tactic setup (ThenL t us) cited readings = idle_tactical
-resolved_tactic setup (OrElse t u) cited readings = idle_tactical
-resolved_tactic setup (Repeat t) cited readings = idle_tactical
-resolved_tactic setup (Try t) cited readings = idle_tactical
-resolved_tactic setup (Changed t) cited readings = idle_tactical
-resolved_tactic setup (Every ts) cited readings = idle_tactical
-resolved_tactic setup (First ts) cited readings = idle_tactical
-resolved_tactic setup (Replicate n t) cited readings = idle_tactical
-resolved_tactic setup (DischThen call) cited readings = idle_tactical
-resolved_tactic setup (PopAssum call) cited readings = idle_tactical
-resolved_tactic setup (FirstAssum call) cited readings = idle_tactical
-resolved_tactic setup (SubgoalThen p call) cited readings = idle_tactical
+-- what is written before a theorem that is left out: nothing, or a term
+abbrev pub term_before : TacArgsValue → Option Nameless
+term_before args.Nothing = None
+term_before (args.Term t) = Some t
+term_before (args.Pair s t) = None
+term_before (args.Theorem th) = None
+term_before (args.TermAndTheorem t th) = None
+term_before (args.Theorems ths) = None
+
+-- the kind of arguments without the theorem that comes last
+abbrev pub kind_before : ArgumentKind → ArgumentKind
+kind_before takes.Nothing = takes.Nothing
+kind_before takes.Term = takes.Term
+kind_before takes.Pair = takes.Pair
+kind_before takes.Theorem = takes.Nothing
+kind_before takes.TermAndTheorem = takes.Term
+kind_before takes.Theorems = takes.Theorems
+
+-- the reading of a quotation that SUBGOAL_THEN takes
+abbrev pub formula : ℕ → Option Nameless → Result Nameless RefusedValue
+formula place None = Err (refusal.NotBool, decimal place)
+formula place (Some p) = cond (is_type_at (nameless_type [] p) bool_type) (Ok p) (Err (refusal.NotBool, decimal place))
+
+-- what names and quotations are resolved by: the table of registered functions, the values of what is cited, the readings of all quotations, and the basis of all that is resolved
+pub record ContextValue : Type 0 where
+  pub table : List (List ℕ × TacCode)
+  pub cited : Values
+  pub readings : ReadingsValue
+  pub basis : Items
+
+-- the arguments of a call, over a basis, as the quotations are read
+abbrev pub arguments_for : Items → Values → ReadingsValue → CallText → ArgumentKind → Result TacArgsValue RefusedValue
+arguments_for basis cited readings call kind = named_result call.name (arguments_written basis (cited_theorems cited) readings kind call.arguments)
+
+module _ (context : ContextValue) where
+  abbrev pub given : CallText → ArgumentKind → Result TacArgsValue RefusedValue
+  given call kind = arguments_for context.basis context.cited context.readings call kind
+
+  abbrev pub resolved_call : CallText → Option CalledValue → Result CallValue RefusedValue
+  resolved_call call None = Err (refusal.UnknownTac, call.name)
+  resolved_call call (Some (Registered index code)) = mapped (λ a. record { index = index; name = call.name; args = a }) (given call (arguments_of code))
+
+  abbrev pub resolved_theorem_tac : CallText → Option CalledValue → Result TheoremTacValue RefusedValue
+  resolved_theorem_tac call None = Err (refusal.UnknownTac, call.name)
+  resolved_theorem_tac call (Some (Registered index code)) =
+      mapped (λ a. record { index = index; name = call.name; term = term_before a }) (given call (kind_before (arguments_of code)))
+
+  abbrev pub resolved_whole : CallText → Result CallValue RefusedValue
+  resolved_whole call = resolved_call call (called context.table Whole call context.cited)
+
+  abbrev pub resolved_handing : CallText → Result TheoremTacValue RefusedValue
+  resolved_handing call = resolved_theorem_tac call (called context.table TheoremTactic call context.cited)
+
+  abbrev mutual
+    pub resolved_expr : TacText → Result ExprValue RefusedValue
+    resolved_expr (Call call) = mapped expr.Call (resolved_whole call)
+    resolved_expr (Then t u) = both expr.Then (resolved_expr t) (resolved_expr u)
+    resolved_expr (ThenL t us) = both expr.ThenL (resolved_expr t) (resolved_exprs us)
+    resolved_expr (OrElse t u) = both expr.OrElse (resolved_expr t) (resolved_expr u)
+    resolved_expr (Repeat t) = mapped expr.Repeat (resolved_expr t)
+    resolved_expr (Try t) = mapped expr.Try (resolved_expr t)
+    resolved_expr (Changed t) = mapped expr.Changed (resolved_expr t)
+    resolved_expr (Every ts) = mapped expr.Every (resolved_exprs ts)
+    resolved_expr (First ts) = mapped expr.First (resolved_exprs ts)
+    resolved_expr (Replicate n t) = mapped (expr.Replicate n) (resolved_expr t)
+    resolved_expr (DischThen call) = mapped expr.DischThen (resolved_handing call)
+    resolved_expr (PopAssum call) = mapped expr.PopAssum (resolved_handing call)
+    resolved_expr (FirstAssum call) = mapped expr.FirstAssum (resolved_handing call)
+    resolved_expr (SubgoalThen p call) = both expr.SubgoalThen (formula p.place (term_at context.readings p.place)) (resolved_handing call)
+
+    pub resolved_exprs : TacTexts → Result ExprValues RefusedValue
+    resolved_exprs no_tacs = Ok no_exprs
+    resolved_exprs (more_tacs t ts) = both more_exprs (resolved_expr t) (resolved_exprs ts)
+
+-- ---- all of it
+
+abbrev pub refused_resolution : RefusedValue → ResolutionValue
+refused_resolution refused = Unresolved refused.0 refused.1
+
+abbrev pub resolution_of : Items → Result ExprValue RefusedValue → ResolutionValue
+resolution_of basis (Ok e) = Resolved e basis
+resolution_of basis (Err r) = refused_resolution r
+
+-- past the first quotation that isn't of type bool, if there is one
+abbrev pub resolved_formulas : SetupValue → TacText → Values → ReadingsValue → Option ℕ → ResolutionValue
+resolved_formulas setup tactic cited readings (Some place) = Unresolved refusal.NotBool (decimal place)
+resolved_formulas setup tactic cited readings None =
+    let basis : Items = resolved_basis cited readings in
+    resolution_of basis (resolved_expr (record { table = setup.table; cited = cited; readings = readings; basis = basis }) tactic)
 
 -- what is written, by what its quotations read as
 abbrev pub resolved_read : SetupValue → TacText → Values → Result ReadingsValue Refusal → ResolutionValue
-resolved_read setup tactic cited (Ok readings) = resolved_tactic setup tactic cited readings
-resolved_read setup tactic cited (Err r) = unresolved [] r
+resolved_read setup tactic cited (Ok readings) = resolved_formulas setup tactic cited readings (first_not_bool readings (formulas_of tactic))
+resolved_read setup tactic cited (Err r) = refused_resolution (refused_by [] r)
 
 -- past what is refused of names: all that is quoted is read before anything is resolved
 abbrev pub IsResolvedFitting : SetupValue → TacText → Values → ResolutionValue → Type 0
@@ -131,65 +240,9 @@ IsResolvedFitting setup tactic cited resolution =
     (readings : Result ReadingsValue Refusal) × AreRead (lookups_of cited) (quotations_of tactic) readings × (resolution ≡ resolved_read setup tactic cited readings)
 
 abbrev pub IsResolvedPast : SetupValue → TacText → Values → Option (RefusalKind × List ℕ) → ResolutionValue → Type 0
-IsResolvedPast setup tactic cited (Some refused) resolution = resolution ≡ Unresolved refused.0 refused.1
+IsResolvedPast setup tactic cited (Some refused) resolution = resolution ≡ refused_resolution refused
 IsResolvedPast setup tactic cited None resolution = IsResolvedFitting setup tactic cited resolution
 
 -- what is written comes to this, over the values of what it cites
 abbrev pub IsResolution : SetupValue → TacText → Values → ResolutionValue → Type 0
 IsResolution setup tactic cited resolution = IsResolvedPast setup tactic cited (first_refusal (named_refusals setup tactic cited)) resolution
-
--- ---- runs
-
--- the goals left, or a goal that is left is too large, or the refusal of the TAC of a name, or that theorems given to it have hypotheses that are no assumptions, or
--- no turn was left to go on with
-pub data RunResult : Type 0 where
-  Leaving : List GoalValue → RunResult
-  LargeGoal : RunResult
-  RefusedBy : List ℕ → RunResult
-  LackingHyps : List ℕ → RunResult
-  OutOfTurns : RunResult
-
--- what a run comes to
-pub record RunValue : Type 0 where
-  pub result : RunResult
-  pub used : UsedValue
-
--- a goal may have 20,000 nodes
-abbrev pub has_large : List GoalValue → Bool
-has_large goals = list_any (λ g. nat_lt 20000 (goal_size g)) goals
-
-abbrev pub left_result : List GoalValue → RunResult
-left_result goals = cond (has_large goals) LargeGoal (Leaving goals)
-
--- a run that left goals, and turns
-abbrev pub left_run : List GoalValue → ℕ → RunValue
-left_run goals turns = record { result = left_result goals; used = record { turns_left = turns } }
-
-abbrev pub run_result : List ℕ → AnswerResult → RunResult
-run_result name (Left goals) = left_result goals
-run_result name Unfit = RefusedBy name
-
-abbrev pub run_answer : List ℕ → AnswerValue → RunValue
-run_answer name answer = record { result = run_result name answer.result; used = answer.used }
-
--- what a function on goals answers by its meaning; none without one is registered
-abbrev pub meant : Option Meaning → TacArgsValue → GoalValue → UsedValue → AnswerValue
-meant None args goal used = answered None used
-meant (Some f) args goal used = f args goal used
-
-abbrev pub run_paid : List ℕ → TacCode → TacArgsValue → GoalValue → UsedValue → RunValue
-run_paid name code args goal used = run_answer name (meant (tac code) args goal used)
-
--- past the test of hypotheses
-abbrev pub run_assumed : List ℕ → TacCode → TacArgsValue → GoalValue → UsedValue → Bool → RunValue
-run_assumed name code args goal used true = run_paid name code args goal used
-run_assumed name code args goal used false = record { result = LackingHyps name; used = used }
-
--- a call pays one turn, tests that the hypotheses of the theorems that are given are assumptions, and then calls
-abbrev pub run_call : List ℕ → TacCode → TacArgsValue → GoalValue → UsedValue → ℕ → RunValue
-run_call name code args goal used zero = record { result = OutOfTurns; used = used }
-run_call name code args goal used (suc turns) = run_assumed name code args goal (record used { turns_left = turns }) (are_assumed goal args)
-
--- the run of an expression on a goal, with what was used before
-abbrev pub run_expr : ExprValue → GoalValue → UsedValue → RunValue
-run_expr (Calls name code args) goal used = run_call name code args goal used used.turns_left

@@ -1,5 +1,4 @@
 pub mod Key
-pub mod ExprValue
 pub mod Entry
 pub mod EntryView
 pub mod Setup
@@ -16,6 +15,7 @@ pub mod Tac
 pub mod TacView
 pub mod Expr
 pub mod ExprView
+pub mod ContextView
 pub mod Refusal
 pub mod OutcomeValue
 pub mod OutcomeView

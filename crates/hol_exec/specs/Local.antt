@@ -11,7 +11,9 @@ use Rattle.hol_kernel.specs.Typing.{is_type_at}
 use Rattle.hol_notation_terms.specs.Text.{QuotationText}
 use Rattle.hol_notation_tactics.specs.Text.{TacText}
 use Rattle.hol_goal.specs.Goal.{GoalValue}
-use Rattle.hol_goal.specs.Answer.{UsedValue}
+use Rattle.hol_combine.specs.ExprValue.{ExprValue}
+use Rattle.hol_combine.specs.Runs.{RefusalValue, DoesNotFit, LacksHyps, StopValue, TurnLimit, LargeGoal, RunValue, run}
+use Rattle.hol_combine.specs.Runs as runs
 use Rattle.hol_exec.specs.declared.refusal.RefusalKind.TheVariants as refusal
 use Rattle.hol_exec.specs.Key.{KeyValue, theorem_key, key_text}
 use Rattle.hol_exec.specs.Entry.{ATheorem}
@@ -21,8 +23,7 @@ use Rattle.hol_exec.specs.ReadsValue.{ReadsValue, ClosingValue}
 use Rattle.hol_exec.specs.Lookups.{lookups_of, reading_basis}
 use Rattle.hol_resolve.specs.Reading.{ReadingValue, WrongArity, NoTyping, LargeReading, ReadsAs, IsTermReadAs}
 use Rattle.hol_exec.specs.Standing.{first_taken}
-use Rattle.hol_exec.specs.ExprValue.{ExprValue}
-use Rattle.hol_exec.specs.Expr.{ResolutionValue, Resolved, Unresolved, IsResolution, RunResult, Leaving, LargeGoal, RefusedBy, LackingHyps, OutOfTurns, run_expr}
+use Rattle.hol_exec.specs.Expr.{ResolutionValue, Resolved, Unresolved, IsResolution}
 use Rattle.hol_exec.specs.OutcomeValue.{OutcomeValue, Opens, Leaves, Makes, Refuses}
 
 -- ---- `g`: in a proof; arity; untypable; too large; not bool; name taken
@@ -50,30 +51,33 @@ IsOpening false name quotation reads outcome =
 
 -- ---- `e`: no proof open; then what resolving refuses; no goal open; then the run
 
-abbrev pub run_outcome : GoalValue → Items → RunResult → OutcomeValue
-run_outcome goal basis (Leaving goals) = Leaves goal goals basis
-run_outcome goal basis LargeGoal = Refuses refusal.TooLarge []
-run_outcome goal basis (RefusedBy name) = Refuses refusal.Refused name
-run_outcome goal basis (LackingHyps name) = Refuses refusal.HypsNotAssumed name
-run_outcome goal basis OutOfTurns = Refuses refusal.TurnLimit []
+abbrev pub refused_outcome : RefusalValue → OutcomeValue
+refused_outcome (DoesNotFit name) = Refuses refusal.Refused name
+refused_outcome (LacksHyps name) = Refuses refusal.HypsNotAssumed name
+
+abbrev pub stopped_outcome : StopValue → OutcomeValue
+stopped_outcome TurnLimit = Refuses refusal.TurnLimit []
+stopped_outcome LargeGoal = Refuses refusal.TooLarge []
+
+abbrev pub run_outcome : GoalValue → Items → RunValue → OutcomeValue
+run_outcome goal basis (runs.Leaves goals turns) = Leaves goal goals basis
+run_outcome goal basis (runs.Refuses why turns) = refused_outcome why
+run_outcome goal basis (runs.Stops why) = stopped_outcome why
 
 -- a command's run starts with all of its turns
-abbrev pub at_start : ℕ → UsedValue
-at_start turns = record { turns_left = turns }
+abbrev pub applied : SetupValue → Option GoalValue → ExprValue → Items → OutcomeValue
+applied setup None expr basis = Refuses refusal.NoGoalOpen []
+applied setup (Some goal) expr basis = run_outcome goal basis (run setup.table expr goal setup.turns)
 
-abbrev pub applied : Option GoalValue → ℕ → ExprValue → Items → OutcomeValue
-applied None turns expr basis = Refuses refusal.NoGoalOpen []
-applied (Some goal) turns expr basis = run_outcome goal basis (run_expr expr goal (at_start turns)).result
-
-abbrev pub resolved_outcome : Option GoalValue → ℕ → ResolutionValue → OutcomeValue
-resolved_outcome goal turns (Resolved expr basis) = applied goal turns expr basis
-resolved_outcome goal turns (Unresolved kind arg) = Refuses kind arg
+abbrev pub resolved_outcome : SetupValue → Option GoalValue → ResolutionValue → OutcomeValue
+resolved_outcome setup goal (Resolved expr basis) = applied setup goal expr basis
+resolved_outcome setup goal (Unresolved kind arg) = Refuses kind arg
 
 -- no proof is open, or what is written resolves to something, and the outcome is by that
 abbrev pub IsApplying : Bool → SetupValue → TacText → ReadsValue → OutcomeValue → Type 0
 IsApplying false setup tactic reads outcome = outcome ≡ Refuses refusal.NoProofOpen []
 IsApplying true setup tactic reads outcome =
-    (resolution : ResolutionValue) × IsResolution setup tactic reads.cited resolution × (outcome ≡ resolved_outcome reads.goal setup.turns resolution)
+    (resolution : ResolutionValue) × IsResolution setup tactic reads.cited resolution × (outcome ≡ resolved_outcome setup reads.goal resolution)
 
 -- ---- `qed`: no proof open; goals remain
 

@@ -1,11 +1,11 @@
 -- What a text is to the engine: a command whose outcome is a function of what it reads, or one that is answered directly. This is the one
 -- place where commands are told apart. A command that is none of these is refused as `syntax`, at its first word.
 -- Source: this project.
-use Rattle.std.specs.Prelude.{◌≡◌, ◌⊎◌, ◌+◌, ◌==◌, ℕ, List, [], ◌∷◌, drop, Bool, true, false}
+use Rattle.std.specs.Prelude.{◌≡◌, ◌⊎◌, ℕ, List, []}
 use Rattle.hol_notation_tokens.specs.Token.{skip}
 use Rattle.hol_notation_terms.specs.Text.{QuotationText}
 use Rattle.hol_notation_tactics.specs.Leading as tactics
-use Rattle.hol_notation_tactics.specs.Text.{CallText, TacText, Call, Then, ThenL, OrElse, Repeat, Try, Changed, Every, First, Replicate, DischThen, PopAssum, FirstAssum, SubgoalThen}
+use Rattle.hol_notation_tactics.specs.Text.{TacText}
 use Rattle.hol_notation_commands.specs.Text.{CommandText, Goal as AGoal, Apply as AnApply, Back as ABack, Rotate as ARotate, Qed as AQed, Oops as AnOops, Import, NewType, NewConstant, NewAxiom, NewDefinition, NewBasicTypeDefinition}
 use Rattle.hol_notation_commands.specs.Reading.{IsCommandText, IsBreak}
 
@@ -41,39 +41,9 @@ first_word text = skip text 0
 abbrev pub idle : List ℕ → ParsedValue
 idle text = Direct (Unread (first_word text))
 
-abbrev pub begins_with_bracket : List ℕ → Bool
-begins_with_bracket [] = false
-begins_with_bracket (b ∷ bytes) = b == 40
-
--- what stands after the one letter of `e` begins with a bracket
-abbrev pub is_bracketed : List ℕ → Bool
-is_bracketed text = begins_with_bracket (drop (skip text (first_word text + 1)) text)
-
--- a call in brackets does not run, since brackets are for tacticals
-abbrev pub parsed_call : List ℕ → CallText → Bool → ParsedValue
-parsed_call text call true = idle text
-parsed_call text call false = Local (Apply (Call call))
-
--- no tactical runs
-abbrev pub parsed_tactic : List ℕ → TacText → ParsedValue
-parsed_tactic text (Call call) = parsed_call text call (is_bracketed text)
-parsed_tactic text (Then t u) = idle text
-parsed_tactic text (ThenL t us) = idle text
-parsed_tactic text (OrElse t u) = idle text
-parsed_tactic text (Repeat t) = idle text
-parsed_tactic text (Try t) = idle text
-parsed_tactic text (Changed t) = idle text
-parsed_tactic text (Every ts) = idle text
-parsed_tactic text (First ts) = idle text
-parsed_tactic text (Replicate n t) = idle text
-parsed_tactic text (DischThen call) = idle text
-parsed_tactic text (PopAssum call) = idle text
-parsed_tactic text (FirstAssum call) = idle text
-parsed_tactic text (SubgoalThen p call) = idle text
-
 abbrev pub parsed : List ℕ → CommandText → ParsedValue
 parsed text (AGoal name quotation) = Local (Goal name quotation)
-parsed text (AnApply tactic) = parsed_tactic text tactic
+parsed text (AnApply tactic) = Local (Apply tactic)
 parsed text ABack = Direct Back
 parsed text (ARotate n) = Direct (Rotate n)
 parsed text AQed = Local Qed

@@ -1,6 +1,6 @@
 -- What only private clauses speak of: what the program keeps of an outcome beside its value, and when a proof can take a step.
 -- Source of validity: LNCS 78: from theorems that achieve the goals left, a theorem is had that achieves the goal.
-use Rattle.std.specs.Prelude.{◌≡◌, List, [], ◌∷◌, Bool, true, Some, None}
+use Rattle.std.specs.Prelude.{◌≡◌, ℕ, List, [], ◌∷◌, length, true, Some, None}
 use Rattle.std.specs.FinSet as set
 use Rattle.hol_terms.specs.Nameless.{Nameless, nameless}
 use Rattle.hol_kernel.specs.Items.{Items, no_items}
@@ -9,46 +9,35 @@ use Rattle.hol_kernel.specs.Sequent.{no_hyps}
 use Rattle.hol_kernel.specs.Typing.{HasType}
 use Rattle.hol_formulas.specs.Equation.{bool_type}
 use Rattle.hol_goal.specs.Goal.{GoalValue}
-use Rattle.hol_just.specs.Answering.{suits}
+use Rattle.hol_goal.specs.declared.tac_code.TacCode.{TacCode}
+use Rattle.hol_combine.specs.ExprValue.{ExprValue}
+use Rattle.hol_combine.specs.Suits.{are_indices, suits_expr}
 use Rattle.hol_just.specs.Valid.{IsValid}
 use Rattle.hol_just.specs.declared.reason.Move.{Move}
 use Rattle.hol_stack.specs.Calls.{IsStep}
 use Rattle.hol_stack.specs.StackValue.{StepValue}
-use Rattle.hol_exec.specs.declared.expr.Expr.{Expr}
 use Rattle.hol_exec.specs.declared.resolution.Resolution.{Resolution}
 use Rattle.hol_exec.specs.declared.resolution.Resolution.TheVariants as resolution
-use Rattle.hol_exec.specs.declared.expr.RunEnd.{RunEnd}
-use Rattle.hol_exec.specs.declared.expr.RunEnd.TheVariants.{Leaving, LargeGoal, RefusedBy, LackingHyps, OutOfTurns}
 use Rattle.hol_exec.specs.declared.outcome.Change.{Change}
 use Rattle.hol_exec.specs.declared.outcome.Change.TheVariants.{Opens, Leaves, Undoes, Rotates, Makes, Refuses}
 use Rattle.hol_exec.specs.Setup.{SetupValue}
 use Rattle.hol_exec.specs.Entry.{ATheorem, EachIsEntry}
 use Rattle.hol_exec.specs.ReadsValue.{Values}
-use Rattle.hol_exec.specs.ExprValue.{ExprValue, Calls}
-use Rattle.hol_exec.specs.ExprView.{expr_value, CanRun}
 use Rattle.hol_exec.specs.StateValue.{ProofValue}
 
 -- a well typed term of type bool
 abbrev pub IsStatement : Items → Nameless → Type 0
 IsStatement basis t = HasType basis t bool_type
 
--- the basis suits what the expression's calls are given
-abbrev pub suits_expr : ExprValue → Items → Bool
-suits_expr (Calls name code args) basis = suits args basis
+-- an expression calls registered functions, and the basis suits what they are given
+pub record IsRunnableExpr (table : List (List ℕ × TacCode)) (basis : Items) (e : ExprValue) : Type 0 where
+  pub indices : are_indices (length table) e ≡ true
+  pub suits : suits_expr e basis ≡ true
 
--- what a run leaves is justified, over each basis that suits the expression
-abbrev pub IsJustifiedEnd : ExprValue → GoalValue → RunEnd → Type 0
-IsJustifiedEnd e goal (Leaving step) = IsValid (suits_expr e) no_hyps step.just (goal ∷ []) step.goals.items
-IsJustifiedEnd e goal LargeGoal = Unit {0}
-IsJustifiedEnd e goal (RefusedBy name) = Unit {0}
-IsJustifiedEnd e goal (LackingHyps name) = Unit {0}
-IsJustifiedEnd e goal OutOfTurns = Unit {0}
-
--- An expression that is resolved can be run, and its basis, which has no items, suits it.
-pub record IsRunnable (setup : SetupValue) (e : Expr) (basis : Items) : Type 0 where
-  pub can_run : CanRun setup e
+-- An expression that is resolved can be run, over a basis that has no items.
+pub record IsRunnable (setup : SetupValue) (e : ExprValue) (basis : Items) : Type 0 where
   pub plain : basis ≡ no_items
-  pub suits : suits_expr (expr_value e) basis ≡ true
+  pub expr : IsRunnableExpr setup.table basis e
 
 abbrev pub IsRunnableIf : SetupValue → Resolution → Type 0
 IsRunnableIf setup (resolution.Resolved e basis) = IsRunnable setup e basis

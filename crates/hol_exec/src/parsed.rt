@@ -1,10 +1,10 @@
 //! What a text is to the engine.
 ghost use Rattle.std.specs.Prelude.{◌≡◌, ◌↔◌, IfOk, IsTrue};
-ghost use Rattle.hol_exec.specs.Parsed.{IsParsed, leading_name, parsed, parsed_tactic, idle, is_bracketed};
+ghost use Rattle.hol_exec.specs.Parsed.{IsParsed, leading_name, parsed, idle};
 ghost use Rattle.hol_exec.specs.ParsedView.{local_text, direct_text, parsed_value};
 
 use hol_notation_commands::{Command, CommandNode, read_command};
-use hol_notation_tactics::{TacExpr, TacExprNode};
+use hol_notation_tactics::TacExpr;
 use hol_notation_terms::Quotation;
 use hol_notation_tokens::{SyntaxError, skip};
 use std::alloc::{AllocError, Global};
@@ -154,7 +154,7 @@ fn classified(alloc: Global, text: &str, command: &Command) -> Result<Parsed, Al
             name: String::from_str(alloc, name.as_str())?,
             quotation: quotation.copy()?,
         })),
-        CommandNode::Apply(tactic) => parsed_tactic(text, tactic),
+        CommandNode::Apply(tactic) => Ok(Parsed::Local(LocalCommand::Apply(tactic.copy()?))),
         CommandNode::Qed => Ok(Parsed::Local(LocalCommand::Qed)),
         CommandNode::Back => Ok(Parsed::Direct(DirectCommand::Back)),
         CommandNode::Rotate(times) => Ok(Parsed::Direct(DirectCommand::Rotate(*times))),
@@ -177,50 +177,9 @@ fn classified(alloc: Global, text: &str, command: &Command) -> Result<Parsed, Al
     }
 }
 
-fn parsed_tactic(text: &str, tactic: &TacExpr) -> Result<Parsed, AllocError>
-    ensures { IfOk result (λ value. parsed_value value ≡ parsed_tactic text.now tactic.now) }
-{
-    match tactic.node() {
-        TacExprNode::Call(_) => {
-            if is_bracketed(text) {
-                Ok(idle(text))
-            } else {
-                Ok(Parsed::Local(LocalCommand::Apply(tactic.copy()?)))
-            }
-        }
-        TacExprNode::Then(_, _)
-        | TacExprNode::ThenL(_, _)
-        | TacExprNode::OrElse(_, _)
-        | TacExprNode::Repeat(_)
-        | TacExprNode::Try(_)
-        | TacExprNode::Changed(_)
-        | TacExprNode::Every(_)
-        | TacExprNode::First(_)
-        | TacExprNode::Replicate(_, _)
-        | TacExprNode::DischThen(_)
-        | TacExprNode::PopAssum(_)
-        | TacExprNode::FirstAssum(_)
-        | TacExprNode::SubgoalThen(_, _) => Ok(idle(text)),
-    }
-}
-
 // A command that isn't run.
 fn idle(text: &str) -> Parsed
     ensures { parsed_value result ≡ idle text.now }
 {
     Parsed::Direct(DirectCommand::Unread(skip(text.as_bytes(), 0)))
-}
-
-// Whether a bracket stands after the one letter of `e`.
-#[tactic(auto, using(crate::proofs::Parsing::bracket_past))]
-fn is_bracketed(text: &str) -> bool
-    ensures { result ≡ is_bracketed text.now }
-{
-    let bytes = text.as_bytes();
-    let first = skip(bytes, 0);
-    if first == bytes.len() {
-        return false;
-    }
-    let place = skip(bytes, first + 1);
-    matches!(&bytes[place..], [b'(', ..])
 }

@@ -5,7 +5,6 @@ ghost use Rattle.hol_kernel.specs.Items.{no_items};
 ghost use Rattle.hol_kernel.specs.Typing.{is_known};
 ghost use Rattle.hol_exec.specs.ParsedView.{local_text};
 ghost use Rattle.hol_exec.specs.SetupView.{setup_value};
-ghost use Rattle.hol_exec.specs.ExprView.{expr_value};
 ghost use Rattle.hol_exec.specs.Local.{IsLocalOutcome, IsOpening, IsApplying, opens, opens_term, applied, finishes, finished};
 ghost use Rattle.hol_exec.specs.Lookups.{reading_basis};
 ghost use Rattle.hol_exec.specs.Standing.{first_taken};
@@ -14,7 +13,6 @@ ghost use Rattle.hol_exec.specs.Valid.{IsStatement, IsRunnable};
 
 use crate::closing::Closing;
 use crate::entry::Entry;
-use crate::expr::{Expr, Run, RunEnd, Used, run_expr};
 use crate::key::{Key, Kind};
 use crate::outcome::Outcome;
 use crate::parsed::LocalCommand;
@@ -23,6 +21,7 @@ use crate::reads::Reads;
 use crate::refusal::RefusalKind;
 use crate::resolution::{Resolution, resolve};
 use crate::setup::Setup;
+use hol_combine::{Expr, Refusal, RunError, run};
 use hol_kernel::Basis;
 use hol_notation_tactics::TacExpr;
 use hol_notation_terms::Quotation;
@@ -141,7 +140,7 @@ fn apply_tactic(
     }
 }
 
-// A resolved expression: no goal open; refused; turn limit.
+// A resolved expression: no goal open; then what its run comes to.
 fn applied(
     alloc: Global,
     setup: &Setup,
@@ -150,19 +149,22 @@ fn applied(
     basis: Basis,
 ) -> Result<Outcome, AllocError>
     requires { IsRunnable (setup_value setup.now) expr.now basis }
-    ensures { IfOk result (λ outcome. outcome ≡ applied reads.now.goal (setup_value setup.now).turns (expr_value expr.now) basis) }
+    ensures { IfOk result (λ outcome. outcome ≡ applied (setup_value setup.now) reads.now.goal expr.now basis) }
 {
     let Some(goal) = reads.goal() else {
         return Ok(refused(alloc, RefusalKind::NoGoalOpen));
     };
-    let turns_left = setup.turns();
-    let Run { result, used: _ } = run_expr(alloc, setup, expr, goal, Used { turns_left })?;
-    match result {
-        RunEnd::Leaving(step) => Ok(Outcome::leaves(goal.copy(alloc)?, step, basis)),
-        RunEnd::LargeGoal => Ok(refused(alloc, RefusalKind::TooLarge)),
-        RunEnd::RefusedBy(name) => Ok(Outcome::refuses(RefusalKind::Refused, name)),
-        RunEnd::LackingHyps(name) => Ok(Outcome::refuses(RefusalKind::HypsNotAssumed, name)),
-        RunEnd::OutOfTurns => Ok(refused(alloc, RefusalKind::TurnLimit)),
+    match run(alloc, expr, goal, setup.registry(), setup.turns()) {
+        Ok(ran) => Ok(Outcome::leaves(goal.copy(alloc)?, ran.step, basis)),
+        Err(RunError::Refused(Refusal::DoesNotFit(name), _)) => {
+            Ok(Outcome::refuses(RefusalKind::Refused, name))
+        }
+        Err(RunError::Refused(Refusal::LacksHyps(name), _)) => {
+            Ok(Outcome::refuses(RefusalKind::HypsNotAssumed, name))
+        }
+        Err(RunError::TurnLimit) => Ok(refused(alloc, RefusalKind::TurnLimit)),
+        Err(RunError::LargeGoal) => Ok(refused(alloc, RefusalKind::TooLarge)),
+        Err(RunError::Memory) => Err(AllocError),
     }
 }
 

@@ -5,8 +5,6 @@ ghost use Rattle.hol_types.specs.Code.{coded_name, coded_type};
 ghost use Rattle.hol_formulas.specs.Constants.{prelude_types, prelude_constants};
 
 use crate::registered::Registered;
-use hol_goal::{Goal, TacArgs};
-use hol_just::{TacFault, Tried};
 use hol_kernel::{Thm, prelude_constants, prelude_types};
 use hol_prelude::Prelude;
 use hol_registry::Registry;
@@ -26,16 +24,15 @@ pub struct Setup {
 }
 
 impl Setup {
-    ghost use Rattle.std.specs.Prelude.{◌≡◌, IfOk, IfSome, MatchOption, Some, None, bytes_eq};
+    ghost use Rattle.std.specs.Prelude.{◌≡◌, IfOk, MatchOption, Some, None};
     ghost use Rattle.std.specs.Option.{option_map};
-    ghost use Rattle.std.specs.Map.{lookup};
-    ghost use Rattle.hol_goal.specs.ArgumentsView.{args_value};
-    ghost use Rattle.hol_just.specs.Answering.{AnswersCode, IsJustified};
     ghost use Rattle.hol_prelude.specs.Statements.{prelude_theorem};
     ghost use Rattle.hol_registry.specs.RegistryView.{table};
     ghost use Rattle.hol_resolve.specs.LookupsView.{lookups_value};
     ghost use Rattle.hol_exec.specs.SetupView.{setup_value};
-    ghost use Rattle.hol_exec.specs.Tac.{IsRowOf};
+    ghost use Rattle.hol_exec.specs.Tac.{registered};
+    ghost use Rattle.hol_exec.specs.TacView.{called_option};
+    ghost use Rattle.hol_exec.specs.declared.tac.Callee.TheVariants as Callee;
 
     /// The set-up of these functions and of this number of turns, at most 100,000.
     pub fn new(alloc: Global, registry: Registry, turns: u32) -> Result<Setup, AllocError>
@@ -78,27 +75,17 @@ impl Setup {
     /// The function that is registered under the name.
     #[tactic(auto, using(crate::proofs::Rows::row_found, crate::proofs::Rows::none_found))]
     pub(crate) fn find(&self, name: &str) -> Option<Registered>
-        ensures code { option_map (λ r. r.code) result ≡ lookup (bytes_eq name.now) (setup_value self.now).table }
-        ensures row { IfSome result (λ r. IsRowOf (setup_value self.now).table r.index r.code) }
+        ensures { called_option (option_map Callee.Registered result) ≡ registered name.now (setup_value self.now).table }
     {
         let index = self.registry.find(name)?;
         let code = self.registry.code(index);
         Some(Registered { index, code })
     }
 
-    /// Calls the registered function.
-    pub(crate) fn call(
-        &self,
-        tac: Registered,
-        args: &TacArgs,
-        goal: &Goal,
-        turns: u32,
-    ) -> Result<Tried, TacFault>
-        requires row { IsRowOf (setup_value self.now).table tac.index tac.code }
-        requires turns { turns ≤ 100000 }
-        ensures answer { AnswersCode tac.code (args_value args.now) goal.now turns result }
-        ensures valid { IfOk result (λ tried. IsJustified (args_value args.now) goal.now tried.step) }
+    /// The registered functions.
+    pub(crate) fn registry(&self) -> &Registry
+        ensures { table result.now ≡ (setup_value self.now).table }
     {
-        self.registry.call(tac.index, args, goal, turns)
+        &self.registry
     }
 }

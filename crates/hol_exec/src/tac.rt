@@ -1,13 +1,11 @@
 //! Calls of functions on goals, as they are written: what a name calls, and whether arguments are of its kind.
-ghost use Rattle.std.specs.Prelude.{◌≡◌, IfSome, bytes_eq};
-ghost use Rattle.std.specs.Map.{lookup};
-ghost use Rattle.hol_exec.specs.SetupView.{setup_value};
-ghost use Rattle.hol_exec.specs.Tac.{kind_of, is_term, is_theorem, is_pair, is_theorems, is_none, is_one, are_two, fits, named, called};
-ghost use Rattle.hol_exec.specs.TacView.{called_value, called_option, IsCallable};
+ghost use Rattle.std.specs.Prelude.{◌≡◌};
+ghost use Rattle.hol_exec.specs.Tac.{kind_of, is_term, is_theorem, is_pair, is_theorems, is_none, is_one, are_two, fits, registered, named, called};
+ghost use Rattle.hol_exec.specs.TacView.{called_value, called_option};
 
+use crate::names::Names;
 use crate::reads::Reads;
 use crate::registered::Registered;
-use crate::setup::Setup;
 use hol_goal::ArgumentKind;
 use hol_notation_tactics::{TacArg, TacArgNode, TacCall};
 
@@ -153,20 +151,23 @@ fn fits_in_part(kind: ArgumentKind, arguments: &[TacArg]) -> bool
 }
 
 // What the name of the call stands for.
-fn named(setup: &Setup, call: &TacCall, _reads: &Reads) -> Option<Callee>
-    ensures called { called_option result ≡ named call.now.name (lookup (bytes_eq call.now.name) (setup_value setup.now).table) _reads.now.cited }
-    ensures callable { IfSome result (IsCallable (setup_value setup.now)) }
+fn named<N: Names>(names: &N, call: &TacCall, _reads: &Reads) -> Option<Callee>
+    ensures { called_option result ≡ named call.now.name (registered call.now.name (N.Names.table_of names.now)) _reads.now.cited }
 {
-    let tac = setup.find(call.name.as_str())?;
+    let tac = names.look_up(call.name.as_str())?;
     Some(Callee::Registered(tac))
 }
 
 /// What a call of the role calls, where the name stands for something and the arguments are of its kind.
-pub(crate) fn called(setup: &Setup, role: CallRole, call: &TacCall, reads: &Reads) -> Option<Callee>
-    ensures called { called_option result ≡ called (setup_value setup.now) role call.now reads.now.cited }
-    ensures callable { IfSome result (IsCallable (setup_value setup.now)) }
+pub(crate) fn called<N: Names>(
+    names: &N,
+    role: CallRole,
+    call: &TacCall,
+    reads: &Reads,
+) -> Option<Callee>
+    ensures { called_option result ≡ called (N.Names.table_of names.now) role call.now reads.now.cited }
 {
-    let called = named(setup, call, reads)?;
+    let called = named(names, call, reads)?;
     if fits(kind_of(called), role, &call.arguments) {
         Some(called)
     } else {

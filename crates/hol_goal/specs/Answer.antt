@@ -1,4 +1,4 @@
--- What a function on goals answers: the goals that it leaves, or that it does not fit; and what a run may still use after it.
+-- What a function on goals answers: the goals that it leaves, or that it does not fit, or that turns ran out; and what a run may still use after it.
 -- Source: the tactics of the HOL Light Reference Manual; turns are this project's.
 use Rattle.std.specs.Prelude.{ℕ, List, Option, Some, None}
 use Rattle.hol_goal.specs.Goal.{GoalValue}
@@ -7,10 +7,11 @@ use Rattle.hol_goal.specs.Goal.{GoalValue}
 pub record UsedValue : Type 0 where
   pub turns_left : ℕ
 
--- the goals that are left, or the function doesn't fit the goal
+-- the goals that are left, or the function doesn't fit the goal, or it had no turn left to go on with
 pub data AnswerResult : Type 0 where
   Left : List GoalValue → AnswerResult
   Unfit : AnswerResult
+  OutOfTurns : AnswerResult
 
 pub record AnswerValue : Type 0 where
   pub result : AnswerResult

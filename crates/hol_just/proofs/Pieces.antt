@@ -11,8 +11,12 @@ use Rattle.hol_formulas.specs.Formula.{connective_type, Abstraction, conjunction
 use Rattle.hol_formulas.proofs.FormulaLaws.{dest_binary_is, dest_quantifier_is}
 use Rattle.hol_goal.specs.Goal.{GoalValue}
 use Rattle.hol_just.specs.FreeNames.{free_name}
-use Rattle.hol_just.specs.Leaving.{assuming, goal_terms}
-use Rattle.hol_just.specs.Strip.{Piece, Conjuncts, Disjuncts, Property, Closing, Dropped, Kept, plain_piece, piece, WaitingValue, waiting, new_variable, becomes, Stripped, Leaves, RunsOut, before_goals, and_also, strip_each, strip_parts, strip_in, nodes, all_nodes, strip}
+use Rattle.hol_goal.specs.Arguments.{TacArgsValue, Nothing, Term, Pair, Theorem, TermAndTheorem, Theorems}
+use Rattle.hol_kernel.specs.Given.{given_sequent}
+use Rattle.hol_just.specs.Leaving.{concluding, assuming, goal_terms, theorem_terms, with_nothing, with_theorem}
+use Rattle.hol_just.specs.ConnectiveTacs.{conj_tac}
+use Rattle.hol_just.specs.QuantifierTacs.{gen_tac}
+use Rattle.hol_just.specs.Strip.{Piece, Conjuncts, Disjuncts, Property, Closing, Dropped, Kept, plain_piece, piece, WaitingValue, waiting, new_variable, becomes, Stripped, Leaves, RunsOut, before_goals, and_also, strip_each, strip_parts, strip_in, nodes, all_nodes, strip, strip_assume_tac, antecedent, strip_tac, stripped}
 
 -- ---- which piece is which
 
@@ -231,7 +235,7 @@ module _ (others : List Nameless) (ws : List WaitingValue) (turns : ℕ) where
 
 -- ---- turns are not given back
 
-abbrev IsWithin : ℕ → Stripped → Type 0
+abbrev pub IsWithin : ℕ → Stripped → Type 0
 IsWithin turns (Leaves goals left) = left ≤ turns
 IsWithin turns RunsOut = Unit {0}
 
@@ -263,7 +267,40 @@ parts_fall f others p ps goal Closing turns falls = each_falls f [] turns falls
 parts_fall f others p ps goal Dropped turns falls = each_falls f (waiting ps goal ∷ []) turns falls
 parts_fall f others p ps goal Kept turns falls = each_falls f (waiting ps (assuming goal p goal.conclusion) ∷ []) turns falls
 
-steps_fall : (n : ℕ) (others : List Nameless) (ps : List Nameless) (goal : GoalValue) (turns : ℕ) → IsWithin turns (strip_in n others (waiting ps goal) turns)
+pub steps_fall : (n : ℕ) (others : List Nameless) (ps : List Nameless) (goal : GoalValue) (turns : ℕ) → IsWithin turns (strip_in n others (waiting ps goal) turns)
 steps_fall zero others ps goal turns = omega arith
 steps_fall (suc n) others [] goal turns = omega arith
 steps_fall (suc n) others (p ∷ ps) goal turns = parts_fall (strip_in n others) others p ps goal (piece goal p) turns (λ w t. steps_fall n others w.pieces w.goal t)
+
+-- ---- answers give none back
+
+answer_falls : (s : Stripped) (turns : ℕ) → IsWithin turns s → (stripped (Some s) (record { turns_left = turns })).used.turns_left ≤ turns
+answer_falls (Leaves goals left) turns h = h
+answer_falls RunsOut turns h = omega arith
+
+pub strip_assume_falls : (args : TacArgsValue) (goal : GoalValue) (turns : ℕ) → (stripped (with_theorem args (λ th. strip_assume_tac th goal turns)) (record { turns_left = turns })).used.turns_left ≤ turns
+strip_assume_falls Nothing goal turns = omega arith
+strip_assume_falls (Term t) goal turns = omega arith
+strip_assume_falls (Pair s t) goal turns = omega arith
+strip_assume_falls (Theorem th) goal turns =
+    let w = waiting ((given_sequent th).concl ∷ []) goal in
+    answer_falls (strip (theorem_terms th) w turns) turns (steps_fall (all_nodes w.pieces) (theorem_terms th) w.pieces w.goal turns)
+strip_assume_falls (TermAndTheorem t th) goal turns = omega arith
+strip_assume_falls (Theorems ths) goal turns = omega arith
+
+goals_fall :
+    (goal : GoalValue) (turns : ℕ) (goals : Option (List GoalValue)) (parts : Option (Nameless × Nameless)) →
+    (stripped (option_or (option_map (λ gs. Leaves gs turns) goals) (option_map (λ r. strip [] (waiting (r.0 ∷ []) (concluding goal r.1)) turns) parts)) (record { turns_left = turns })).used.turns_left ≤ turns
+goals_fall goal turns (Some gs) parts = omega arith
+goals_fall goal turns None None = omega arith
+goals_fall goal turns None (Some r) =
+    let w = waiting (r.0 ∷ []) (concluding goal r.1) in
+    answer_falls (strip [] w turns) turns (steps_fall (all_nodes w.pieces) [] w.pieces w.goal turns)
+
+pub strip_tac_falls : (args : TacArgsValue) (goal : GoalValue) (turns : ℕ) → (stripped (with_nothing args (strip_tac goal turns)) (record { turns_left = turns })).used.turns_left ≤ turns
+strip_tac_falls Nothing goal turns = goals_fall goal turns (option_or (gen_tac goal) (conj_tac goal)) (antecedent goal.conclusion)
+strip_tac_falls (Term t) goal turns = omega arith
+strip_tac_falls (Pair s t) goal turns = omega arith
+strip_tac_falls (Theorem th) goal turns = omega arith
+strip_tac_falls (TermAndTheorem t th) goal turns = omega arith
+strip_tac_falls (Theorems ths) goal turns = omega arith

@@ -10,6 +10,7 @@ use Rattle.hol_subst.specs.Closing.{open_with}
 use Rattle.hol_formulas.specs.Formula.{Abstraction, falsity, is_truth, is_falsity, dest_conj, dest_disj, dest_exists, dest_imp, dest_neg}
 use Rattle.hol_kernel.specs.Given.{Given, given_sequent}
 use Rattle.hol_goal.specs.Goal.{GoalValue}
+use Rattle.hol_goal.specs.Answer.{UsedValue, AnswerValue, Left, OutOfTurns, answered}
 use Rattle.hol_just.specs.FreeNames.{free_name}
 use Rattle.hol_just.specs.Leaving.{concluding, assuming, goal_terms, theorem_terms}
 use Rattle.hol_just.specs.ConnectiveTacs.{conj_tac}
@@ -127,3 +128,9 @@ abbrev pub strip_tac : GoalValue → ℕ → Option Stripped
 strip_tac goal turns =
     option_or (option_map (λ goals. Leaves goals turns) (option_or (gen_tac goal) (conj_tac goal)))
     (option_map (λ r. strip [] (waiting (r.0 ∷ []) (concluding goal r.1)) turns) (antecedent goal.conclusion))
+
+-- the answer: where turns run out none is left
+abbrev pub stripped : Option Stripped → UsedValue → AnswerValue
+stripped None used = answered None used
+stripped (Some (Leaves goals turns)) used = record { result = Left goals; used = record used { turns_left = turns } }
+stripped (Some RunsOut) used = record { result = OutOfTurns; used = record used { turns_left = 0 } }

@@ -8,14 +8,15 @@ use Rattle.hol_goal.specs.declared.tac_code.TacCode.TheVariants.{AllTac, NoTac, 
 use Rattle.hol_just.specs.Leaving.{with_nothing, with_term, with_pair, with_theorem, with_term_and_theorem}
 use Rattle.hol_just.specs.EquationTacs.{refl_tac, eq_tac, subst1_tac, ap_term_tac, ap_thm_tac, mk_comb_tac}
 use Rattle.hol_just.specs.ConnectiveTacs.{accept_tac, conj_tac, disj1_tac, disj2_tac, disch_tac, undisch_tac, mp_tac, assume_tac, contr_tac, disj_cases_tac}
+use Rattle.hol_just.specs.Strip.{strip_assume_tac, strip_tac, stripped}
 use Rattle.hol_just.specs.QuantifierTacs.{gen_tac, x_gen_tac, exists_tac, spec_tac, choose_tac, x_choose_tac}
 
 -- what a function answers, from its arguments, the goal, and what the run may still use
 abbrev pub Meaning : Type 0
 Meaning = TacArgsValue → GoalValue → UsedValue → AnswerValue
 
--- The meaning of each code; a code without an entry has none here. A function doesn't fit a goal either where its arguments are of another kind. None of these uses
--- turns.
+-- The meaning of each code; a code without an entry has none here. A function doesn't fit a goal either where its arguments are of another kind. Only the two that
+-- strip use turns.
 abbrev pub tac : TacCode → Option Meaning
 tac AllTac = Some (λ args goal used. answered (with_nothing args (Some (goal ∷ []))) used)
 tac NoTac = Some (λ args goal used. answered None used)
@@ -41,8 +42,8 @@ tac ApTermTac = Some (λ args goal used. answered (with_nothing args (ap_term_ta
 tac ApThmTac = Some (λ args goal used. answered (with_nothing args (ap_thm_tac goal)) used)
 tac MkCombTac = Some (λ args goal used. answered (with_nothing args (mk_comb_tac goal)) used)
 tac UndischTac = Some (λ args goal used. answered (with_term args (λ t. undisch_tac t goal)) used)
-tac StripAssumeTac = None
-tac StripTac = None
+tac StripAssumeTac = Some (λ args goal used. stripped (with_theorem args (λ th. strip_assume_tac th goal used.turns_left)) used)
+tac StripTac = Some (λ args goal used. stripped (with_nothing args (strip_tac goal used.turns_left)) used)
 tac MatchMpTac = None
 tac BetaTac = None
 tac RewriteTac = None

@@ -29,6 +29,8 @@ pub struct Tried {
 pub enum TacFault {
     /// The function doesn't fit the goal, or takes other arguments. The turns left.
     Refused(u32),
+    /// A turn was to be paid, and none was left.
+    TurnLimit,
     /// Memory is short.
     Memory,
 }

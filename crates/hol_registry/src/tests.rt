@@ -51,6 +51,7 @@ fn answer(alloc: Global, registry: &Registry, name: &str) -> Result<String, Fail
             Ok(format!(in alloc; "{index}: {goals} left, {} turns", tried.left)?)
         }
         Err(TacFault::Refused(left)) => Ok(format!(in alloc; "{index}: refused, {left} turns")?),
+        Err(TacFault::TurnLimit) => Err("no turn left".into()),
         Err(TacFault::Memory) => Err("no memory".into()),
     }
 }

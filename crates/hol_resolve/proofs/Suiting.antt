@@ -29,7 +29,7 @@ use Rattle.hol_resolve.specs.Written.{result_map, result_both, read_or_wrong, of
 use Rattle.hol_resolve.proofs.Over.{term_over}
 
 -- what is answered, if anything is, has the property
-abbrev Each : {X : Type 0} → (X → Type 0) → Result X Refusal → Type 0
+abbrev pub Each : {X : Type 0} → (X → Type 0) → Result X Refusal → Type 0
 Each P (Ok x) = P x
 Each P (Err r) = Unit {0}
 
@@ -42,7 +42,7 @@ joined P Q R f g (Ok x) s h k = mapped Q R (f x) (λ y. g x y h) s k
 joined P Q R f g (Err e) s h k = tt
 
 module _ (basis : Items) where
-  abbrev Suits : TacArgsValue → Type 0
+  abbrev pub Suits : TacArgsValue → Type 0
   Suits v = suits v basis ≡ true
 
   abbrev Typed : Nameless → Type 0
@@ -129,7 +129,7 @@ module _ (basis : Items) where
       two_suit [] = tt
       two_suit (a ∷ arguments) = before_suits arguments a
 
-      written_suit : (kind : ArgumentKind) (arguments : List ArgumentText) → Each Suits (arguments_written basis cited readings kind arguments)
+      pub written_suit : (kind : ArgumentKind) (arguments : List ArgumentText) → Each Suits (arguments_written basis cited readings kind arguments)
       written_suit takes.Nothing arguments = none_suits arguments
       written_suit takes.Term arguments = one_suits (one_term readings) one_term_suits arguments
       written_suit takes.Pair arguments = one_suits (one_pair readings) one_pair_suits arguments

@@ -76,7 +76,7 @@ impl Readings {
     }
 
     /// The term that the quotation at the place reads as.
-    pub(crate) fn term_at(&self, place: usize) -> Option<&Term>
+    pub fn term_at(&self, place: usize) -> Option<&Term>
         ensures { option_map (nameless []) (option_copied result) ≡ term_at (readings_value self.now) place }
     {
         match self.at(place)? {

@@ -19,7 +19,7 @@ use hol_registry::{Entry, Registry, RegistryError};
 use std::alloc::{AllocError, Global};
 
 // The functions on goals that the program knows.
-const CODES: [TacCode; 24] = [
+const CODES: [TacCode; 26] = [
     TacCode::AllTac,
     TacCode::NoTac,
     TacCode::ReflTac,
@@ -44,6 +44,8 @@ const CODES: [TacCode; 24] = [
     TacCode::ApThmTac,
     TacCode::MkCombTac,
     TacCode::UndischTac,
+    TacCode::StripTac,
+    TacCode::StripAssumeTac,
 ];
 
 /// Serves the reader's lines over documents without theories, run by the functions that the program knows, each under the name of its code,

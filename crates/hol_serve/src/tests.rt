@@ -10,3 +10,4 @@ mod readers;
 mod registries;
 mod sessions;
 mod support;
+mod tacticals;

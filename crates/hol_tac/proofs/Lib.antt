@@ -6,3 +6,10 @@ pub mod AssumptionLaws
 pub mod FreshNames
 pub mod TermsBy
 pub mod Templates
+pub mod PieceLaws
+pub mod ProgressLaws
+pub mod StripLaws
+pub mod WaitingLaws
+pub mod NewBy
+pub mod UnderWay
+pub mod Assuming

@@ -26,7 +26,7 @@ use Rattle.hol_just.specs.Justifies.{holds_given, LeavesChosen}
 use Rattle.hol_just.specs.declared.reason.Move.{Move}
 use Rattle.hol_just.proofs.QuantifierRules.{allowed_fresh}
 
-or_false : (a b : Bool) → (a || b) ≡ false → (a ≡ false) × (b ≡ false)
+pub or_false : (a b : Bool) → (a || b) ≡ false → (a ≡ false) × (b ≡ false)
 or_false true b e = absurd cc
 or_false false b e = (refl, e)
 
@@ -36,11 +36,11 @@ or_again false b c = refl
 
 -- ---- two lists of terms
 
-free_in_both : (ns ms : List Nameless) (v : List ℕ × TypeTree) → is_free_in (ns ++ ms) v ≡ (is_free_in ns v || is_free_in ms v)
+pub free_in_both : (ns ms : List Nameless) (v : List ℕ × TypeTree) → is_free_in (ns ++ ms) v ≡ (is_free_in ns v || is_free_in ms v)
 free_in_both [] ms v = refl
 free_in_both (n ∷ ns) ms v = ap (λ b. binds (free_occurrences n) v || b) (free_in_both ns ms v) ∙ or_again (binds (free_occurrences n) v) (is_free_in ns v) (is_free_in ms v)
 
-taken_in_both : (ns ms : List Nameless) (a : List ℕ) → is_taken (ns ++ ms) a ≡ (is_taken ns a || is_taken ms a)
+pub taken_in_both : (ns ms : List Nameless) (a : List ℕ) → is_taken (ns ++ ms) a ≡ (is_taken ns a || is_taken ms a)
 taken_in_both [] ms a = refl
 taken_in_both (n ∷ ns) ms a = ap (λ b. has_name a n || b) (taken_in_both ns ms a) ∙ or_again (has_name a n) (is_taken ns a) (is_taken ms a)
 
@@ -94,7 +94,7 @@ taken_keys : (ps : List Named) (a : List ℕ) → list_any (has_name a) (map hyp
 taken_keys [] a = refl
 taken_keys (p ∷ ps) a = λ i. name_stripped a (nameless [] p) i || taken_keys ps a i
 
-taken_in_hyps : (hs : Hyps) (ps : List Named) (a : List ℕ) → hyps_of ps ≡ hs → is_taken (set.items hs) a ≡ is_taken (map (nameless []) ps) a
+pub taken_in_hyps : (hs : Hyps) (ps : List Named) (a : List ℕ) → hyps_of ps ≡ hs → is_taken (set.items hs) a ≡ is_taken (map (nameless []) ps) a
 taken_in_hyps hs ps a is =
     ap (λ (s : Hyps). is_taken (set.items s) a) (sym is) ∙ taken_any (set.items (hyps_of ps)) a
     ∙ any_of_set hyps_total hyps_same (has_name a) (map hyp_of ps) ∙ taken_keys ps a

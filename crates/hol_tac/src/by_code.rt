@@ -13,6 +13,7 @@ use crate::connectives::{
 };
 use crate::equations::{eq_tac, refl_tac};
 use crate::quantifiers::{exists_tac, gen_tac, x_gen_tac};
+use crate::stripping::{strip_assume_tac, strip_tac};
 use crate::substituting::{spec_tac, subst1_tac};
 use crate::trivial::{all_tac, no_tac};
 use hol_goal::{Goal, TacArgs, TacCode};
@@ -55,9 +56,9 @@ pub fn tac(
         TacCode::DisjCasesTac => Some(disj_cases_tac(alloc, args, goal, turns)),
         TacCode::Subst1Tac => Some(subst1_tac(alloc, args, goal, turns)),
         TacCode::SpecTac => Some(spec_tac(alloc, args, goal, turns)),
-        TacCode::StripAssumeTac
-        | TacCode::StripTac
-        | TacCode::MatchMpTac
+        TacCode::StripAssumeTac => Some(strip_assume_tac(alloc, args, goal, turns)),
+        TacCode::StripTac => Some(strip_tac(alloc, args, goal, turns)),
+        TacCode::MatchMpTac
         | TacCode::BetaTac
         | TacCode::RewriteTac
         | TacCode::OnceRewriteTac

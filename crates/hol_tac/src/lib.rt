@@ -9,11 +9,15 @@ mod by_code;
 mod choosing;
 mod connectives;
 mod equations;
+mod pieces;
+mod progress;
 mod quantifiers;
 mod replacing;
 mod steps;
+mod stripping;
 mod substituting;
 mod trivial;
+mod waiting;
 
 pub use applications::{ap_term_tac, ap_thm_tac, mk_comb_tac};
 pub use assumptions::undisch_tac;
@@ -25,5 +29,6 @@ pub use connectives::{
 };
 pub use equations::{eq_tac, refl_tac};
 pub use quantifiers::{exists_tac, gen_tac, x_gen_tac};
+pub use stripping::{strip_assume_tac, strip_tac};
 pub use substituting::{spec_tac, subst1_tac};
 pub use trivial::{all_tac, no_tac};

@@ -1,6 +1,6 @@
 //! Commands, and the reports on them.
 
-use crate::tests::support::{Rows, expect_reports, reply_to_last};
+use crate::tests::support::{Rows, expect_reports, reply_by, reply_to_last};
 use std::fmt::Write;
 use std::test::Fail;
 
@@ -81,10 +81,6 @@ fn refuses_in_the_order_of_numbers(rt: HostRuntime) -> Result<(), Fail> {
 > new_constant c `:bool`
 > new_axiom N `T`
 > new_basic_type_definition a b c d e f
-> e REPEAT REFL_TAC
-> e REFL_TAC THEN REFL_TAC
-> e (REFL_TAC)
-> e(REFL_TAC)
 < {"arg":"0","ok":true,"refusal":1,"text":"syntax"}
 >  new_definition D `c = T`
 < {"arg":"1","ok":true,"refusal":1,"text":"syntax"}
@@ -105,6 +101,10 @@ fn refuses_in_the_order_of_numbers(rt: HostRuntime) -> Result<(), Fail> {
 < {"arg":"5","ok":true,"refusal":1,"text":"syntax"}
 > e REFL_TAC
 > e REFL_TAC NOPE
+> e REPEAT REFL_TAC
+> e REFL_TAC THEN REFL_TAC
+> e (REFL_TAC)
+> e(REFL_TAC)
 > b
 > r 0
 > r 9999
@@ -257,6 +257,36 @@ fn leaves_goals(rt: HostRuntime) -> Result<(), Fail> {
             "e MK_COMB_TAC",
             r#"{"goals":[{"asl":[],"free":["f:A->B","g:A->B"],"goal":"f = g"},{"asl":[],"free":["x:A","y:A"],"goal":"x = y"}],"ok":true}"#,
         ),
+        (
+            "`p:bool`",
+            "e STRIP_TAC",
+            r#"{"arg":"STRIP_TAC","ok":true,"refusal":17,"text":"refused"}"#,
+        ),
+        (
+            r"`(?x:A. P x) /\\ q ==> r`",
+            "e STRIP_TAC",
+            r#"{"goals":[{"asl":["q","P x"],"free":["P:A->bool","q:bool","r:bool","x:A"],"goal":"r"}],"ok":true}"#,
+        ),
+        (
+            "`(?x:A. ?x':A. R x x') ==> t`",
+            "e STRIP_TAC",
+            r#"{"goals":[{"asl":["R x x'"],"free":["R:A->A->bool","t:bool","x:A","x':A"],"goal":"t"}],"ok":true}"#,
+        ),
+        (
+            r"`(?x:A. P x) ==> Q (x:A) \\/ F`",
+            "e STRIP_TAC",
+            r#"{"goals":[{"asl":["P x'"],"free":["P:A->bool","Q:A->bool","x:A","x':A"],"goal":"Q x \\/ F"}],"ok":true}"#,
+        ),
+        (
+            r"`~(T /\\ p /\\ p)`",
+            "e STRIP_TAC",
+            r#"{"goals":[{"asl":["p"],"free":["p:bool"],"goal":"F"}],"ok":true}"#,
+        ),
+        (
+            r"`p /\\ q ==> q`",
+            "e STRIP_TAC",
+            r#"{"goals":[],"ok":true}"#,
+        ),
     ];
     let mut session = Rows::new(rt.alloc());
     for (goal, command, want) in rows {
@@ -264,6 +294,31 @@ fn leaves_goals(rt: HostRuntime) -> Result<(), Fail> {
         session.add(commands.as_str(), want)?;
     }
     session.expect(&rt)
+}
+
+// A call pays a turn, and each disjunction that is split costs one.
+#[test]
+fn strips_by_turns(rt: HostRuntime) -> Result<(), Fail> {
+    let lines = r#"{"op":"new_theory","name":"A","at":0}
+{"op":"insert","theory":"A","at":0,"text":"g D `(p \\/ q) /\\ (r \\/ s) ==> t`"}
+{"op":"insert","theory":"A","at":1,"text":"e STRIP_TAC"}
+{"op":"report","theory":"A","at":1}
+"#;
+    let rows = [
+        (
+            4,
+            r#"{"goals":[{"asl":["r","p"],"free":["p:bool","r:bool","t:bool"],"goal":"t"},{"asl":["s","p"],"free":["p:bool","s:bool","t:bool"],"goal":"t"},{"asl":["r","q"],"free":["q:bool","r:bool","t:bool"],"goal":"t"},{"asl":["s","q"],"free":["q:bool","s:bool","t:bool"],"goal":"t"}],"ok":true}"#,
+        ),
+        (
+            3,
+            r#"{"arg":"","ok":true,"refusal":18,"text":"turn limit"}"#,
+        ),
+    ];
+    for (turns, want) in rows {
+        let reply = reply_by(rt.alloc(), turns, lines)?;
+        assert_eq!(rt; reply.as_str(), want, "{turns} turns");
+    }
+    Ok(())
 }
 
 // Proofs of more than one step, whose theorems are made by their justifications.
@@ -325,6 +380,12 @@ e AP_THM_TAC
 e REFL_TAC
 qed",
             r#"{"made":["thm N |- g (f x) = g (f x)"],"ok":true}"#,
+        ),
+        (
+            r"g N `(?x:A. P x /\\ (q \\/ F)) ==> q`
+e STRIP_TAC
+qed",
+            r#"{"made":["thm N |- (?x. P x /\\ (q \\/ F)) ==> q"],"ok":true}"#,
         ),
     ];
     let mut session = Rows::new(rt.alloc());

@@ -137,6 +137,15 @@ fn expect_replies<R: Abort + AllocGlobal>(rt: &R, sent: &str, want: &str) -> Res
     Ok(())
 }
 
+/// The reply to the last line of a session that is run by so many turns.
+pub(crate) fn reply_by(alloc: Global, turns: u8, lines: &str) -> Result<String, Fail> {
+    let mut reader = Watched::new(lines.as_bytes());
+    let mut writer = Watched::new(Vec::new(alloc));
+    serve_begun(alloc, u32::from(turns), 256, &mut reader, &mut writer)?;
+    let replies = String::from_utf8(writer.inner)?;
+    Ok(String::from_str(alloc, replies.lines().last().unwrap_or(""))?)
+}
+
 /// That commands, which stand in one theory one after the other, have these reports: each line after `> ` is a command, and the next line after
 /// `< ` the report on it.
 pub(crate) fn expect_in_turn<R: Abort + AllocGlobal>(rt: &R, reports: &str) -> Result<(), Fail> {

@@ -1,10 +1,11 @@
-use Rattle.std.proofs.Common.{ap, ◌∙◌, Ok, Err}
+use Rattle.std.proofs.Common.{ap, ◌∙◌, Ok, Err, []}
 use Rattle.hol_resolve.specs.ReadingView.{readings_value, readings_result}
+use Rattle.hol_exec.specs.Expr.{refused_by}
 use Rattle.hol_exec.specs.ExprView.{resolution_value}
 use Rattle.hol_exec.specs.Lookups.{lookups_of}
 use Rattle.hol_exec.specs.SetupView.{setup_value}
 use Rattle.hol_exec.proofs.PreludeStands.{readings_over}
-use Rattle.hol_exec.proofs.Resolving.{past_readings}
+use Rattle.hol_exec.proofs.Resolving.{past_readings, refusal_ends}
 use Rattle.hol_exec.proofs.Runs.{if_ok}
 use Rattle.hol_exec.proofs.resolution.resolve_fitting.Goals as goal
 
@@ -22,4 +23,5 @@ pub returns-clause-value : goal.returns-clause-value
 returns-clause-value g c =
     if_ok c.unresolved.result _ _ (λ r e.
     past_readings (setup_value c.args.setup.now) c.args.reads.now.cited c.args.tactic.now _ _ _ (Err c.in-Err.refusal) (resolution_value r)
-    (c.in_ok-lookups.ensures ∙ ap lookups_of c.cited.ensures.value) (c.deref.ensures.value ∙ c.in_ok-quotations.ensures) c.in_ok-readings.ensures (ap readings_result c.in-Err.is) e) c.unresolved.ensures.value
+    (c.in_ok-lookups.ensures ∙ ap lookups_of c.cited.ensures.value) (c.deref.ensures.value ∙ c.in_ok-quotations.ensures) c.in_ok-readings.ensures (ap readings_result c.in-Err.is) e)
+    (refusal_ends (refused_by [] c.in-Err.refusal) c.in_ok-refused_by-in-Err.field-0 c.unresolved.result c.in_ok-refused_by-in-Err.ensures c.unresolved.ensures.value)

@@ -2,5 +2,5 @@ use Rattle.std.proofs.Common.{sym}
 use Rattle.hol_exec.proofs.Rows.{row_found}
 use Rattle.hol_exec.proofs.setup.Setup.find.Goals as goal
 
-pub returns-clause-code : goal.returns-clause-code
-returns-clause-code g c = row_found c.args.name.now _ _ _ (sym c.in_ok-index.ensures.index) c.code-code.ensures
+pub returns : goal.returns
+returns g c = row_found c.args.name.now _ _ _ (sym c.in_ok-index.ensures.index) c.code-code.ensures

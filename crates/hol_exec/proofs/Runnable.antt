@@ -1,0 +1,215 @@
+-- What is resolved can be run: its calls are of registered functions, and the basis suits what they are given.
+use Rattle.std.specs.Prelude.{◌≡◌, ◌<◌, ℕ, Bool, true, false, cond, ◌&&◌, nat_lt, List, [], length, IsTrue, decimal, Option, Some, None, is_some, Result, Ok, Err, refl}
+use Rattle.std.proofs.Common.{ap, sym, ◌∙◌, arith, subst}
+use Rattle.std.proofs.lemmas.Bool.{and_from, lt-ltb}
+use Rattle.hol_terms.specs.Nameless.{Nameless, nameless_type}
+use Rattle.hol_types.specs.Tree.{TypeTree}
+use Rattle.hol_formulas.specs.Equation.{bool_type}
+use Rattle.hol_kernel.specs.Items.{Items}
+use Rattle.hol_kernel.specs.Given.{assumed as assume}
+use Rattle.hol_kernel.specs.Typing.{is_type_at, is_typed, is_known}
+use Rattle.hol_notation_tactics.specs.Text.{CallText, TacText, TacTexts, Call, Then, ThenL, OrElse, Repeat, Try, Changed, Every, First, Replicate, DischThen, PopAssum, FirstAssum, SubgoalThen, no_tacs, more_tacs}
+use Rattle.hol_goal.specs.Arguments.{TacArgsValue, Nothing, Term, Pair, Theorem, TermAndTheorem, Theorems, arguments_of}
+use Rattle.hol_goal.specs.declared.tac_args.ArgumentKind.{ArgumentKind}
+use Rattle.hol_goal.specs.declared.tac_code.TacCode.{TacCode}
+use Rattle.hol_just.specs.Answering.{suits}
+use Rattle.hol_just.specs.Justifies.{holds_given}
+use Rattle.hol_combine.specs.ExprValue.{CallValue, TheoremTacValue, ExprValue, ExprValues, no_exprs, more_exprs}
+use Rattle.hol_combine.specs.ExprValue as expr
+use Rattle.hol_combine.specs.Suits.{all_calls, all_calls_of, written, written_args, by_subgoal}
+use Rattle.hol_resolve.specs.Over.{AreOver}
+use Rattle.hol_resolve.specs.Readings.{term_at}
+use Rattle.hol_resolve.specs.Steps.{IsTermOver}
+use Rattle.hol_resolve.specs.Written.{arguments_written}
+use Rattle.hol_resolve.specs.declared.refusal.Refusal.{Refusal}
+use Rattle.hol_resolve.proofs.Over.{term_over}
+use Rattle.hol_resolve.proofs.Suiting.{Each as EachWritten, Suits, written_suit}
+use Rattle.hol_exec.specs.declared.tac.CallRole.{CallRole}
+use Rattle.hol_exec.specs.declared.tac.CallRole.TheVariants.{Whole, TheoremTactic}
+use Rattle.hol_exec.specs.declared.refusal.RefusalKind.TheVariants as refusal
+use Rattle.hol_exec.specs.Resolved.{cited_theorems}
+use Rattle.hol_exec.specs.Setup.{SetupValue}
+use Rattle.hol_exec.specs.Expr.{RefusedValue, ContextValue, mapped, both, named_result, term_before, kind_before, formula, given, resolved_call, resolved_theorem_tac, resolved_whole, resolved_handing, resolved_expr, resolved_exprs}
+use Rattle.hol_exec.specs.Tac.{CalledValue, Registered, kind_of, fits, named, fitting, registered, called}
+use Rattle.hol_exec.specs.Valid.{IsRunnableExpr}
+use Rattle.hol_exec.proofs.Rows.{registered_within}
+
+-- what is resolved, if anything is, has the property
+abbrev Each : {X : Type 0} → (X → Type 0) → Result X RefusedValue → Type 0
+Each P (Ok x) = P x
+Each P (Err r) = Unit {0}
+
+of_mapped : {X Y : Type 0} (P : X → Type 0) (Q : Y → Type 0) (f : X → Y) → ((x : X) → P x → Q (f x)) → (r : Result X RefusedValue) → Each P r → Each Q (mapped f r)
+of_mapped P Q f g (Ok x) h = g x h
+of_mapped P Q f g (Err e) h = tt
+
+of_both : {X Y Z : Type 0} (P : X → Type 0) (Q : Y → Type 0) (R : Z → Type 0) (f : X → Y → Z) → ((x : X) (y : Y) → P x → Q y → R (f x y)) → (r : Result X RefusedValue) (s : Result Y RefusedValue) → Each P r → Each Q s → Each R (both f r s)
+of_both P Q R f g (Ok x) s h k = of_mapped Q R (f x) (λ y. g x y h) s k
+of_both P Q R f g (Err e) s h k = tt
+
+bool_over : (basis : Items) (p : Nameless) → is_type_at (nameless_type [] p) bool_type ≡ true → is_typed basis p ≡ true → holds_given (assume p) basis ≡ true
+bool_over basis p e h = by (is_known basis p) refl h
+  where
+    by : (b : Bool) → is_known basis p ≡ b → is_some (cond b (nameless_type [] p) None) ≡ true → holds_given (assume p) basis ≡ true
+    by true f g = ap (λ (k : Bool). is_type_at (cond k (nameless_type [] p) None) bool_type) f ∙ e
+    by false f g = absurd (cc)
+
+-- ---- a test of all calls
+
+module _ (context : ContextValue) (test : CallValue → Bool) (IsGood : Nameless → Type 0) where
+  abbrev Passes : CallValue → Type 0
+  Passes call = test call ≡ true
+
+  abbrev PassesWritten : TheoremTacValue → Type 0
+  PassesWritten tac = test (written tac) ≡ true
+
+  abbrev AllPass : ExprValue → Type 0
+  AllPass e = all_calls test e ≡ true
+
+  abbrev EachPasses : ExprValues → Type 0
+  EachPasses ts = all_calls_of test ts ≡ true
+
+  module _
+      (whole : (call : CallText) → Each Passes (resolved_whole context call))
+      (handing : (call : CallText) → Each PassesWritten (resolved_handing context call))
+      (formulas : (place : ℕ) → Each IsGood (formula place (term_at context.readings place)))
+      (subgoal : (p : Nameless) (tac : TheoremTacValue) → IsGood p → PassesWritten tac → test (by_subgoal p tac) ≡ true) where
+    mutual
+      all_pass : (t : TacText) → Each AllPass (resolved_expr context t)
+      all_pass (Call call) = of_mapped Passes AllPass expr.Call (λ c h. h) (resolved_whole context call) (whole call)
+      all_pass (Then t u) =
+          of_both AllPass AllPass AllPass expr.Then (λ x y. and_from (all_calls test x) (all_calls test y)) (resolved_expr context t) (resolved_expr context u) (all_pass t) (all_pass u)
+      all_pass (ThenL t us) =
+          of_both AllPass EachPasses AllPass expr.ThenL (λ x y. and_from (all_calls test x) (all_calls_of test y)) (resolved_expr context t) (resolved_exprs context us) (all_pass t) (each_passes us)
+      all_pass (OrElse t u) =
+          of_both AllPass AllPass AllPass expr.OrElse (λ x y. and_from (all_calls test x) (all_calls test y)) (resolved_expr context t) (resolved_expr context u) (all_pass t) (all_pass u)
+      all_pass (Repeat t) = of_mapped AllPass AllPass expr.Repeat (λ x h. h) (resolved_expr context t) (all_pass t)
+      all_pass (Try t) = of_mapped AllPass AllPass expr.Try (λ x h. h) (resolved_expr context t) (all_pass t)
+      all_pass (Changed t) = of_mapped AllPass AllPass expr.Changed (λ x h. h) (resolved_expr context t) (all_pass t)
+      all_pass (Every ts) = of_mapped EachPasses AllPass expr.Every (λ x h. h) (resolved_exprs context ts) (each_passes ts)
+      all_pass (First ts) = of_mapped EachPasses AllPass expr.First (λ x h. h) (resolved_exprs context ts) (each_passes ts)
+      all_pass (Replicate n t) = of_mapped AllPass AllPass (expr.Replicate n) (λ x h. h) (resolved_expr context t) (all_pass t)
+      all_pass (DischThen call) = of_mapped PassesWritten AllPass expr.DischThen (λ x h. h) (resolved_handing context call) (handing call)
+      all_pass (PopAssum call) = of_mapped PassesWritten AllPass expr.PopAssum (λ x h. h) (resolved_handing context call) (handing call)
+      all_pass (FirstAssum call) = of_mapped PassesWritten AllPass expr.FirstAssum (λ x h. h) (resolved_handing context call) (handing call)
+      all_pass (SubgoalThen q call) =
+          of_both IsGood PassesWritten AllPass expr.SubgoalThen (λ p tac g h. and_from (test (by_subgoal p tac)) (test (written tac)) (subgoal p tac g h) h)
+          (formula q.place (term_at context.readings q.place)) (resolved_handing context call) (formulas q.place) (handing call)
+
+      each_passes : (ts : TacTexts) → Each EachPasses (resolved_exprs context ts)
+      each_passes no_tacs = refl
+      each_passes (more_tacs t ts) =
+          of_both AllPass EachPasses EachPasses more_exprs (λ x y. and_from (all_calls test x) (all_calls_of test y)) (resolved_expr context t) (resolved_exprs context ts) (all_pass t) (each_passes ts)
+
+-- ---- indices
+
+module _ (context : ContextValue) where
+  abbrev rows : ℕ
+  rows = length context.table
+
+  called_within : (role : CallRole) (call : CallText) (index : ℕ) (code : TacCode) → called context.table role call context.cited ≡ Some (Registered index code) → index < rows
+  called_within role call index code e = by (registered call.name context.table) refl e
+    where
+      fit : (b : Bool) (c : CalledValue) → cond b (Some c) None ≡ Some (Registered index code) → c ≡ Registered index code
+      fit true c e = cc
+      fit false c e = absurd (cc)
+
+      by : (o : Option CalledValue) → registered call.name context.table ≡ o → fitting (named call.name o context.cited) role call.arguments ≡ Some (Registered index code) → index < rows
+      by None f e = absurd (cc)
+      by (Some c) f e = registered_within call.name context.table index code (f ∙ ap Some (fit (fits (kind_of c) role call.arguments) c e))
+
+  abbrev IsIndex : CallValue → Bool
+  IsIndex call = nat_lt call.index rows
+
+  whole_index : (call : CallText) → Each (λ c. IsIndex c ≡ true) (resolved_whole context call)
+  whole_index call = by (called context.table Whole call context.cited) refl
+    where
+      by : (o : Option CalledValue) → called context.table Whole call context.cited ≡ o → Each (λ c. IsIndex c ≡ true) (resolved_call context call o)
+      by None e = tt
+      by (Some (Registered index code)) e =
+          of_mapped (λ a. Unit {0}) (λ c. IsIndex c ≡ true) _ (λ a h. lt-ltb index rows (called_within Whole call index code e)) (given context call (arguments_of code)) (any (given context call (arguments_of code)))
+        where
+          any : (r : Result TacArgsValue RefusedValue) → Each (λ a. Unit {0}) r
+          any (Ok a) = tt
+          any (Err x) = tt
+
+  handing_index : (call : CallText) → Each (λ tac. IsIndex (written tac) ≡ true) (resolved_handing context call)
+  handing_index call = by (called context.table TheoremTactic call context.cited) refl
+    where
+      by : (o : Option CalledValue) → called context.table TheoremTactic call context.cited ≡ o → Each (λ tac. IsIndex (written tac) ≡ true) (resolved_theorem_tac context call o)
+      by None e = tt
+      by (Some (Registered index code)) e =
+          of_mapped (λ a. Unit {0}) (λ tac. IsIndex (written tac) ≡ true) _ (λ a h. lt-ltb index rows (called_within TheoremTactic call index code e)) (given context call (kind_before (arguments_of code))) (any (given context call (kind_before (arguments_of code))))
+        where
+          any : (r : Result TacArgsValue RefusedValue) → Each (λ a. Unit {0}) r
+          any (Ok a) = tt
+          any (Err x) = tt
+
+  -- ---- the basis
+
+  module _ (over : AreOver context.basis context.readings) where
+    abbrev IsSuited : CallValue → Bool
+    IsSuited call = suits call.args context.basis
+
+    all_suit : (call : CallText) (kind : ArgumentKind) → Each (Suits context.basis) (given context call kind)
+    all_suit call kind = by (arguments_written context.basis (cited_theorems context.cited) context.readings kind call.arguments) (written_suit context.basis context.readings over (cited_theorems context.cited) kind call.arguments)
+      where
+        by : (r : Result TacArgsValue Refusal) → EachWritten (Suits context.basis) r → Each (Suits context.basis) (named_result call.name r)
+        by (Ok a) h = h
+        by (Err x) h = tt
+
+    whole_suited : (call : CallText) → Each (λ c. IsSuited c ≡ true) (resolved_whole context call)
+    whole_suited call = by (called context.table Whole call context.cited)
+      where
+        by : (o : Option CalledValue) → Each (λ c. IsSuited c ≡ true) (resolved_call context call o)
+        by None = tt
+        by (Some (Registered index code)) = of_mapped (Suits context.basis) (λ c. IsSuited c ≡ true) _ (λ a h. h) (given context call (arguments_of code)) (all_suit call (arguments_of code))
+
+    before : (a : TacArgsValue) → Suits context.basis a → suits (written_args (term_before a)) context.basis ≡ true
+    before Nothing h = refl
+    before (Term t) h = h
+    before (Pair s t) h = refl
+    before (Theorem th) h = refl
+    before (TermAndTheorem t th) h = refl
+    before (Theorems ths) h = refl
+
+    handing_suited : (call : CallText) → Each (λ tac. IsSuited (written tac) ≡ true) (resolved_handing context call)
+    handing_suited call = by (called context.table TheoremTactic call context.cited)
+      where
+        by : (o : Option CalledValue) → Each (λ tac. IsSuited (written tac) ≡ true) (resolved_theorem_tac context call o)
+        by None = tt
+        by (Some (Registered index code)) =
+            of_mapped (Suits context.basis) (λ tac. IsSuited (written tac) ≡ true) _ before (given context call (kind_before (arguments_of code))) (all_suit call (kind_before (arguments_of code)))
+
+    abbrev IsFormula : Nameless → Type 0
+    IsFormula p = holds_given (assume p) context.basis ≡ true
+
+    formula_suited : (place : ℕ) → Each IsFormula (formula place (term_at context.readings place))
+    formula_suited place = by (term_at context.readings place) (term_over context.basis context.readings place over)
+      where
+        typed : (p : Nameless) (b : Bool) → is_type_at (nameless_type [] p) bool_type ≡ b → is_typed context.basis p ≡ true → Each IsFormula (cond b (Ok p) (Err (refusal.NotBool, decimal place)))
+        typed p true e h = bool_over context.basis p e h
+        typed p false e h = tt
+
+        by : (o : Option Nameless) → IsTermOver context.basis o → Each IsFormula (formula place o)
+        by None h = tt
+        by (Some p) h = typed p (is_type_at (nameless_type [] p) bool_type) refl h
+
+    runs : (t : TacText) → Each (IsRunnableExpr context.table context.basis) (resolved_expr context t)
+    runs t = by (resolved_expr context t)
+        (all_pass context IsIndex (λ p. Unit {0}) whole_index handing_index any (λ p tac g h. h) t)
+        (all_pass context IsSuited IsFormula whole_suited handing_suited formula_suited (λ p tac g h. g) t)
+      where
+        of_any : (r : Result Nameless RefusedValue) → Each (λ p. Unit {0}) r
+        of_any (Ok p) = tt
+        of_any (Err x) = tt
+
+        any : (place : ℕ) → Each (λ p. Unit {0}) (formula place (term_at context.readings place))
+        any place = of_any (formula place (term_at context.readings place))
+
+        by : (r : Result ExprValue RefusedValue) → Each (λ e. all_calls IsIndex e ≡ true) r → Each (λ e. all_calls IsSuited e ≡ true) r → Each (IsRunnableExpr context.table context.basis) r
+        by (Ok e) h k = record { indices = h; suits = k }
+        by (Err x) h k = tt
+
+    pub runs_found : (t : TacText) (e : ExprValue) → resolved_expr context t ≡ Ok e → IsRunnableExpr context.table context.basis e
+    runs_found t e found = subst (Each (IsRunnableExpr context.table context.basis)) found (runs t)

@@ -1,0 +1,157 @@
+//! The functions that strip.
+ghost use Rattle.std.specs.Prelude.{◌≡◌, ◌∷◌, List, map, IfOk, Some, []};
+ghost use Rattle.hol_terms.specs.Named.{named_type};
+ghost use Rattle.hol_terms.specs.Nameless.{Nameless, nameless};
+ghost use Rattle.hol_formulas.specs.Equation.{bool_type};
+ghost use Rattle.hol_formulas.specs.Formula.{falsity, dest_imp, dest_neg};
+ghost use Rattle.hol_kernel.specs.Given.{given_sequent};
+ghost use Rattle.hol_goal.specs.Arguments.{Nothing, Theorem};
+ghost use Rattle.hol_goal.specs.ArgumentsView.{args_value};
+ghost use Rattle.hol_goal.specs.declared.tac_code.TacCode.TheVariants as code;
+ghost use Rattle.hol_just.specs.Leaving.{concluding, theorem_terms};
+ghost use Rattle.hol_just.specs.Strip.{waiting, strip};
+ghost use Rattle.hol_just.specs.Answering.{AnswersCode, IsJustified};
+ghost use Rattle.hol_tac.specs.Fresh.{AreAlike};
+ghost use Rattle.hol_tac.specs.Progress.{progress_value, with_next, Goes};
+ghost use Rattle.hol_tac.specs.Stripping.{IsStripped, KeepsValid};
+
+use crate::assumptions::add_copies;
+use crate::connectives::conj_tac;
+use crate::pieces::becomes;
+use crate::progress::Progress;
+use crate::quantifiers::gen_tac;
+use crate::waiting::Waiting;
+use hol_formulas::{dest_imp, dest_neg, is_conj, is_forall, mk_falsity};
+use hol_goal::{Goal, TacArgs};
+use hol_just::{Just, TacFault, Tried};
+use hol_kernel::Given;
+use hol_terms::Term;
+use std::alloc::{AllocError, Global};
+
+/// STRIP_ASSUME_TAC assumes the parts of a theorem.
+pub fn strip_assume_tac(
+    alloc: Global,
+    args: &TacArgs,
+    goal: &Goal,
+    turns: u32,
+) -> Result<Tried, TacFault>
+    ensures answer { AnswersCode code.StripAssumeTac (args_value args.now) goal.now turns result }
+    ensures valid { IfOk result (λ tried. IsJustified (args_value args.now) goal.now tried.step) }
+{
+    let TacArgs::Theorem(th) = args else {
+        return Err(TacFault::Refused(turns));
+    };
+    strip_theorem(alloc, th, goal, turns)
+}
+
+// Assumes the parts of the theorem.
+fn strip_theorem(alloc: Global, th: &Given, goal: &Goal, turns: u32) -> Result<Tried, TacFault>
+    ensures answer { IsStripped (strip (theorem_terms th.now) (waiting ((given_sequent th.now).concl ∷ []) goal.now) turns) result }
+    ensures valid { IfOk result (λ tried. IsJustified (Theorem th.now) goal.now tried.step) }
+{
+    let before = Just::assume_tac(alloc, th)?;
+    let others = theorem_terms(alloc, th)?;
+    let first = Waiting::one(alloc, th.concl(), goal.copy(alloc)?)?;
+    strip(alloc, &others, before, first, turns)
+}
+
+// Copies of all terms of the theorem.
+fn theorem_terms(alloc: Global, th: &Given) -> Result<Vec<Term>, AllocError>
+    ensures { IfOk result (λ terms. AreAlike (map (nameless []) terms.items) (theorem_terms th.now)) }
+{
+    let mut terms = Vec::new(alloc);
+    terms.push(th.concl().copy()?)?;
+    add_copies(&mut terms, th.hyps())?;
+    Ok(terms)
+}
+
+/// STRIP_TAC is GEN_TAC, or CONJ_TAC, or assumes the parts of `p`, of `p ==> q`, which leaves `q`, and of `~p`, which leaves `F`.
+pub fn strip_tac(alloc: Global, args: &TacArgs, goal: &Goal, turns: u32) -> Result<Tried, TacFault>
+    ensures answer { AnswersCode code.StripTac (args_value args.now) goal.now turns result }
+    ensures valid { IfOk result (λ tried. IsJustified (args_value args.now) goal.now tried.step) }
+{
+    if is_forall(goal.conclusion()) {
+        return gen_tac(alloc, args, goal, turns);
+    }
+    if is_conj(goal.conclusion()) {
+        return conj_tac(alloc, args, goal, turns);
+    }
+    let TacArgs::Nothing = args else {
+        return Err(TacFault::Refused(turns));
+    };
+    if let Some((p, q)) = dest_imp(goal.conclusion()) {
+        return strip_imp(alloc, goal, p, q, turns);
+    }
+    if let Some(p) = dest_neg(goal.conclusion()) {
+        return strip_neg(alloc, goal, p, turns);
+    }
+    Err(TacFault::Refused(turns))
+}
+
+// Assumes the parts of the antecedent.
+fn strip_imp(alloc: Global, goal: &Goal, p: &Term, q: &Term, turns: u32) -> Result<Tried, TacFault>
+    requires antecedent { named_type p.now ≡ Some bool_type }
+    requires consequent { named_type q.now ≡ Some bool_type }
+    requires parts { dest_imp goal.now.conclusion ≡ Some (nameless [] p.now, nameless [] q.now) }
+    ensures answer { IsStripped (strip [] (waiting (nameless [] p.now ∷ []) (concluding goal.now (nameless [] q.now))) turns) result }
+    ensures valid { IfOk result (λ tried. IsJustified Nothing goal.now tried.step) }
+{
+    let before = Just::disch_tac(alloc, p)?;
+    let left = goal.with_conclusion(alloc, q)?;
+    let first = Waiting::one(alloc, p, left)?;
+    strip(alloc, &[], before, first, turns)
+}
+
+// Assumes the parts of what is denied.
+fn strip_neg(alloc: Global, goal: &Goal, p: &Term, turns: u32) -> Result<Tried, TacFault>
+    requires denied { named_type p.now ≡ Some bool_type }
+    requires parts { dest_neg goal.now.conclusion ≡ Some (nameless [] p.now) }
+    ensures answer { IsStripped (strip [] (waiting (nameless [] p.now ∷ []) (concluding goal.now falsity)) turns) result }
+    ensures valid { IfOk result (λ tried. IsJustified Nothing goal.now tried.step) }
+{
+    let before = Just::disch_neg_tac(alloc, p)?;
+    let left = goal.with_conclusion(alloc, &mk_falsity(alloc)?)?;
+    let first = Waiting::one(alloc, p, left)?;
+    strip(alloc, &[], before, first, turns)
+}
+
+// Strips the pieces, one after the other, to which the moves led. Names of new variables are those of none of the others.
+fn strip(
+    alloc: Global,
+    others: &[Term],
+    before: Just,
+    first: Waiting,
+    turns: u32,
+) -> Result<Tried, TacFault>
+    ensures answer { (names : List Nameless) → AreAlike (map (nameless []) others.now) names → IsStripped (strip names first turns) result }
+    ensures valid { (names : List Nameless) → AreAlike (map (nameless []) others.now) names → IfOk result (λ tried. KeepsValid names before first tried.step) }
+{
+    let mut progress = Progress::new(alloc, before, first, turns)?;
+    'pieces: while let Some(next) = progress.next() {
+        if !go_on(alloc, others, next, &mut progress)? {
+            return Err(TacFault::TurnLimit);
+        }
+    }
+    Ok(progress.end())
+}
+
+// Strips the first piece of what was taken. Whether there was a turn for it.
+fn go_on(
+    alloc: Global,
+    others: &[Term],
+    next: Waiting,
+    progress: &mut Progress,
+) -> Result<bool, AllocError>
+    ensures { IfOk result (λ going. (names : List Nameless) → AreAlike (map (nameless []) others.now) names → Goes names (with_next next (progress_value progress.old)) (progress_value progress.new) going) }
+{
+    let mut next = next;
+    let Some(piece) = next.take() else {
+        progress.finish(next.into_goal())?;
+        return Ok(true);
+    };
+    let Some(parts) = becomes(alloc, others, &piece, next, progress.left())? else {
+        return Ok(false);
+    };
+    progress.again(parts)?;
+    Ok(true)
+}
