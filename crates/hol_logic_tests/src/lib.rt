@@ -18,8 +18,6 @@ mod rules_tests;
 #[cfg(test)]
 mod sequents;
 #[cfg(test)]
-mod stripping_tests;
-#[cfg(test)]
 mod substitution_tests;
 #[cfg(test)]
 mod terms_tests;
