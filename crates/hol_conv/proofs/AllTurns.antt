@@ -3,7 +3,9 @@ use Rattle.std.proofs.Common.{◌≡◌, ℕ, zero, suc, ◌-◌, ◌<◌, ◌�
 use Rattle.hol_terms.specs.Nameless.{Nameless}
 use Rattle.hol_terms.specs.Size.{term_size}
 use Rattle.hol_conv.specs.Beta.{beta_turn}
-use Rattle.hol_conv.specs.Turns.{all_turns, finished, limit, too_large}
+use Rattle.hol_conv.specs.declared.redexes.Redexes.{Redexes}
+use Rattle.hol_conv.specs.Redexes.{contraction}
+use Rattle.hol_conv.specs.Turns.{turn, all_turns, finished, limit, too_large}
 
 turns_end : (turn : Nameless → Option Nameless) (n : ℕ) (t : Nameless) → turn t ≡ None → all_turns turn n t ≡ finished t n
 turns_end turn zero t e = rw e refl
@@ -38,3 +40,18 @@ pub beta_more : (n : ℕ) (t u : Nameless) → beta_turn t ≡ Some u → 0 < n 
 beta_more = turns_more beta_turn
 
 pub ruleset turns = (beta_end, beta_limit, beta_large, beta_more)
+
+-- ---- of any redexes
+pub all_end : (r : Redexes) (n : ℕ) (t : Nameless) → turn (contraction r) [] t ≡ None → all_turns (turn (contraction r) []) n t ≡ finished t n
+all_end r = turns_end (turn (contraction r) [])
+
+pub all_limit : (r : Redexes) (n : ℕ) (t u : Nameless) → turn (contraction r) [] t ≡ Some u → n ≡ 0 → all_turns (turn (contraction r) []) n t ≡ limit
+all_limit r = turns_limit (turn (contraction r) [])
+
+pub all_large : (r : Redexes) (n : ℕ) (t u : Nameless) → turn (contraction r) [] t ≡ Some u → 0 < n → 20000 < term_size [] u → all_turns (turn (contraction r) []) n t ≡ too_large
+all_large r = turns_large (turn (contraction r) [])
+
+pub all_more : (r : Redexes) (n : ℕ) (t u : Nameless) → turn (contraction r) [] t ≡ Some u → 0 < n → term_size [] u ≤ 20000 → all_turns (turn (contraction r) []) n t ≡ all_turns (turn (contraction r) []) (n - 1) u
+all_more r = turns_more (turn (contraction r) [])
+
+pub ruleset all = (all_end, all_limit, all_large, all_more)

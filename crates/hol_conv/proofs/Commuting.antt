@@ -8,35 +8,11 @@ use Rattle.hol_terms.specs.Nameless.{Nameless, free, bound, fixed, app, lam}
 use Rattle.hol_subst.specs.Shift.{shift}
 use Rattle.hol_subst.specs.Closing.{close, open_with}
 use Rattle.hol_subst.proofs.Closing.{below, not_below, below_is, not_below_is, unequal_test}
+use Rattle.hol_match.proofs.Contracta.{shift_close}
 use Rattle.hol_conv.specs.Beta.{reduct, beta_turn}
 
 abbrev Var : Type 0
 Var = List ℕ × TypeTree
-
--- ---- shifting
-shift_index : (v : Var) (j m k i : ℕ) → m ≤ k → shift j m (close v k (bound i)) ≡ close v (k + j) (shift j m (bound i))
-shift_index v j m k i h = by (nat_lt i k) refl (nat_lt i m) refl
-  where
-    by : (a : Bool) → nat_lt i k ≡ a → (c : Bool) → nat_lt i m ≡ c → shift j m (bound (cond a i (i + 1))) ≡ close v (k + j) (bound (cond c i (i + j)))
-    by true p true q = let low : i < k = below_is i k p in rw (q, below i (k + j) (omega arith)) refl
-    by true p false q = let low : i < k = below_is i k p in rw (q, below (i + j) (k + j) (omega arith)) refl
-    by false p true q = let high : k ≤ i = not_below_is i k p in let low : i < m = below_is i m q in absurd (omega arith)
-    by false p false q =
-        let high : k ≤ i = not_below_is i k p in
-        rw (not_below (i + 1) m (omega arith), not_below (i + j) (k + j) (omega arith)) (ap bound (omega arith))
-
-shift_close : (v : Var) (j m k : ℕ) (n : Nameless) → m ≤ k → shift j m (close v k n) ≡ close v (k + j) (shift j m n)
-shift_close v j m k (free w) h = by (variable_eq v w)
-  where
-    by : (c : Bool) → shift j m (cond c (bound k) (free w)) ≡ cond c (bound (k + j)) (free w)
-    by true = rw (not_below k m h) refl
-    by false = refl
-shift_close v j m k (bound i) h = shift_index v j m k i h
-shift_close v j m k (fixed c s) h = refl
-shift_close v j m k (app f x) h = λ i. app (shift_close v j m k f h i) (shift_close v j m k x h i)
-shift_close v j m k (lam a s b) h =
-    let more : k + 1 + j ≡ k + j + 1 = omega arith in
-    ap (lam a s) (shift_close v j (m + 1) (k + 1) b (omega arith) ∙ ap (λ z. close v z (shift j (m + 1) b)) more)
 
 -- ---- opening
 open_index : (v : Var) (x : Nameless) (j k i : ℕ) → open_with (close v k x) j (close v (k + j + 1) (bound i)) ≡ close v (k + j) (open_with x j (bound i))
@@ -73,7 +49,7 @@ open_closing v x j k (lam a s b) =
     ap (lam a s) (ap (λ z. open_with (close v k x) (j + 1) (close v (z + 1) b)) more ∙ open_closing v x (j + 1) k b ∙ ap (λ z. close v z (open_with x (j + 1) b)) (sym more))
 
 -- ---- turns
-reduct_close : (v : Var) (k : ℕ) (f x : Nameless) → reduct (close v k f) (close v k x) ≡ option_map (close v k) (reduct f x)
+pub reduct_close : (v : List ℕ × TypeTree) (k : ℕ) (f x : Nameless) → reduct (close v k f) (close v k x) ≡ option_map (close v k) (reduct f x)
 reduct_close v k (free w) x = by (variable_eq v w)
   where
     by : (c : Bool) → reduct (cond c (bound k) (free w)) (close v k x) ≡ None

@@ -5,3 +5,9 @@ pub mod Passing
 pub mod AllTurns
 pub mod Conversions
 pub mod Ended
+pub mod Outside
+pub mod Parts
+pub mod RedexLaws
+pub mod OnceClosed
+pub mod OnceParts
+pub mod OnceLaws

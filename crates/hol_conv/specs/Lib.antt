@@ -3,3 +3,8 @@ pub mod Turns
 pub mod Outcomes
 pub mod Paths
 pub mod Equations
+pub mod Rewriting
+pub mod Once
+pub mod Redexes
+pub mod Passing
+pub mod Beside

@@ -1,8 +1,19 @@
 -- Turns: a term is changed again and again, as long as a turn finds something to change.
 -- Source: this project. HOL Light's rewriting and beta conversion have neither turns nor a limit on sizes.
-use Rattle.std.specs.Prelude.{ℕ, zero, suc, [], cond, nat_lt, Option, Some, None}
-use Rattle.hol_terms.specs.Nameless.{Nameless}
+use Rattle.std.specs.Prelude.{ℕ, zero, suc, List, [], ◌∷◌, cond, nat_lt, Option, Some, None}
+use Rattle.std.specs.Option.{option_map, option_or}
+use Rattle.hol_types.specs.Tree.{TypeTree}
+use Rattle.hol_terms.specs.Nameless.{Nameless, free, bound, fixed, app, lam}
 use Rattle.hol_terms.specs.Size.{term_size}
+
+-- One turn: the term with its first redex in preorder replaced, itself, then in the function, then in the argument; in an abstraction's
+-- body. What a part becomes under binders of the types env, if it is a redex, `contract` says.
+abbrev pub turn : (List TypeTree → Nameless → Option Nameless) → List TypeTree → Nameless → Option Nameless
+turn contract env (free v) = contract env (free v)
+turn contract env (bound i) = contract env (bound i)
+turn contract env (fixed c s) = contract env (fixed c s)
+turn contract env (app f x) = option_or (contract env (app f x)) (option_or (option_map (λ g. app g x) (turn contract env f)) (option_map (λ y. app f y) (turn contract env x)))
+turn contract env (lam a s b) = option_or (contract env (lam a s b)) (option_map (λ d. lam a s d) (turn contract (s ∷ env) b))
 
 -- What comes of all turns: a term in which a turn finds nothing, and the turns that are left; or there is something to change and no turn
 -- is left; or a turn made a term of over 20,000 nodes.

@@ -5,8 +5,9 @@ ghost use Rattle.hol_conv.specs.Beta.{beta_turn};
 ghost use Rattle.hol_conv.specs.Turns.{all_turns};
 ghost use Rattle.hol_conv.specs.Outcomes.{Tells};
 
+use crate::all_turns::all_turns;
 use crate::error::ConvError;
-use crate::next::next;
+use crate::redexes::Redexes;
 use crate::rewritten::Rewritten;
 use hol_terms::Term;
 use std::alloc::Global;
@@ -17,25 +18,9 @@ use std::alloc::Global;
 ///
 /// What is to the left of a replaced redex is not searched again. The first search goes through the term at each place where its nodes
 /// stand, up to the first redex.
-#[tactic(auto, using(crate::proofs::AllTurns::turns))]
+#[tactic(auto, using(crate::proofs::RedexLaws::beta_turns))]
 pub fn beta_all(alloc: Global, term: &Term, turns: u32) -> Result<Rewritten, ConvError>
     ensures { Tells result (all_turns beta_turn turns (nameless [] term.now)) }
 {
-    let mut now = term.copy()?;
-    let mut path = Vec::new(alloc);
-    let mut left = turns;
-    'turns: loop {
-        let Some(turned) = next(alloc, &now, &path)? else {
-            return Ok(Rewritten { term: now, left });
-        };
-        if left == 0 {
-            return Err(ConvError::Limit);
-        }
-        if turned.term.size() > 20_000 {
-            return Err(ConvError::TooLarge);
-        }
-        left -= 1;
-        now = turned.term;
-        path = turned.path;
-    }
+    all_turns(alloc, &Redexes::Beta, term, turns)
 }

@@ -1,0 +1,122 @@
+//! Each topmost redex replaced once.
+ghost use Rattle.std.specs.Prelude.{◌≡◌, ◌+◌, ◌≤◌, [], min, IfOk};
+ghost use Rattle.hol_terms.specs.Named.{comb, abs, named_type};
+ghost use Rattle.hol_terms.specs.Nameless.{nameless};
+ghost use Rattle.hol_conv.specs.Redexes.{contraction};
+ghost use Rattle.hol_conv.specs.Beside.{paid_beside, once_beside, inner_once};
+ghost use Rattle.hol_conv.specs.Outcomes.{Tells};
+
+use crate::error::ConvError;
+use crate::redexes::Redexes;
+use crate::rewritten::Rewritten;
+use hol_terms::{Term, TermNode, Variable};
+use std::alloc::Global;
+
+/// Replaces each topmost redex of a part of a term, beside which the term has so many nodes, or 20,001 for more. Each costs a turn.
+///
+/// Answers `Limit` where a redex is next and no turn is left, and `TooLarge` where the whole term has over 20,000 nodes after a turn.
+#[cycle(once_beside)]
+#[tactic(auto, using(crate::proofs::OnceParts::parts))]
+pub(crate) fn once_beside(
+    alloc: Global,
+    redexes: &Redexes,
+    t: &Term,
+    outside: u32,
+    left: u32,
+) -> Result<Rewritten, ConvError>
+    requires counted { outside ≤ 20001 }
+    ensures tells { Tells result (once_beside (contraction redexes.now) [] outside left (nameless [] t.now)) }
+    ensures typed { IfOk result (λ r. named_type r.term ≡ named_type t.now) }
+{
+    if let Some(u) = redexes.contract(alloc, t)? {
+        return paid_beside(u, outside, left);
+    }
+    let _ty = t.type_of();
+    match t.node() {
+        TermNode::Comb(f, x) => once_in_parts(alloc, redexes, f, x, outside, left),
+        TermNode::Abs(v, b) => once_in_body(alloc, redexes, v, b, outside, left),
+        TermNode::Var(_) | TermNode::Const(_, _) => Ok(Rewritten {
+            term: t.copy()?,
+            left,
+        }),
+    }
+}
+
+// The turn in which the part becomes this term.
+fn paid_beside(term: Term, outside: u32, left: u32) -> Result<Rewritten, ConvError>
+    requires counted { outside ≤ 20001 }
+    ensures tells { Tells result (paid_beside [] outside left (nameless [] term)) }
+    ensures term { IfOk result (λ r. r.term ≡ term) }
+{
+    if left == 0 {
+        return Err(ConvError::Limit);
+    }
+    if outside + term.size() > 20_000 {
+        return Err(ConvError::TooLarge);
+    }
+    Ok(Rewritten {
+        term,
+        left: left - 1,
+    })
+}
+
+// The same in the function and then in the argument.
+#[cycle(once_beside)]
+#[tactic(auto, using(crate::proofs::OnceParts::application_parts))]
+fn once_in_parts(
+    alloc: Global,
+    redexes: &Redexes,
+    f: &Term,
+    x: &Term,
+    outside: u32,
+    left: u32,
+) -> Result<Rewritten, ConvError>
+    requires counted { outside ≤ 20001 }
+    requires fits { named_type (comb f.now x.now) ≡ None → ⊥ }
+    ensures tells { Tells result (inner_once (contraction redexes.now) [] outside left (nameless [] (comb f.now x.now))) }
+    ensures typed { IfOk result (λ r. named_type r.term ≡ named_type (comb f.now x.now)) }
+{
+    let function = once_beside(alloc, redexes, f, beside(outside, x.size()), left)?;
+    let nodes = beside(outside, function.term.size());
+    let argument = once_beside(alloc, redexes, x, nodes, function.left)?;
+    let term = Term::application(alloc, &function.term, &argument.term)?;
+    Ok(Rewritten {
+        term,
+        left: argument.left,
+    })
+}
+
+// The same in the body of the abstraction of `v`.
+#[cycle(once_beside)]
+#[tactic(auto, using(crate::proofs::OnceParts::body_parts, crate::proofs::Parts::nodes_of_body))]
+fn once_in_body(
+    alloc: Global,
+    redexes: &Redexes,
+    v: &Variable,
+    b: &Term,
+    outside: u32,
+    left: u32,
+) -> Result<Rewritten, ConvError>
+    requires counted { outside ≤ 20001 }
+    ensures tells { Tells result (inner_once (contraction redexes.now) [] outside left (nameless [] (abs v.now b.now))) }
+    ensures typed { IfOk result (λ r. named_type r.term ≡ named_type (abs v.now b.now)) }
+{
+    let inside = redexes.opened(alloc, v, b)?;
+    let nodes = beside(outside, v.ty().size());
+    let body = once_beside(alloc, redexes, &inside.body, nodes, left)?;
+    let term = Term::abstraction(alloc, &inside.variable, &body.term)?;
+    Ok(Rewritten {
+        term,
+        left: body.left,
+    })
+}
+
+// The nodes beside a part, where there are `outside` beside the term and one more and `nodes` beside the part in it.
+fn beside(outside: u32, nodes: u32) -> u32
+    requires outside { outside ≤ 20001 }
+    requires nodes { nodes ≤ 20001 }
+    ensures is { result ≡ min (outside + (1 + nodes)) 20001 }
+    ensures counted { result ≤ 20001 }
+{
+    (outside + (1 + nodes)).min(20_001)
+}

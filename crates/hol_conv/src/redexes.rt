@@ -1,0 +1,74 @@
+//! What is replaced in a turn.
+ghost use Rattle.std.specs.Prelude.{◌≡◌, [], IfOk, IfSome, MatchOption, Some, None};
+ghost use Rattle.hol_terms.specs.Named.{abs, named_type};
+ghost use Rattle.hol_terms.specs.Nameless.{nameless};
+ghost use Rattle.hol_conv.specs.Redexes.{beta_contractum, contraction, IsOutside};
+
+use crate::reduct::reduct;
+use hol_match::{Binder, RuleSet};
+use hol_terms::{Term, TermNode, Variable};
+use std::alloc::{AllocError, Global};
+
+/// What is replaced in a turn.
+#[derive(Clone, Copy)]
+pub(crate) enum Redexes<'a> {
+    /// An abstraction that is applied, by its body at the argument.
+    Beta,
+    /// What the left side of a rule matches, by the right side of the first such rule.
+    Rules(&'a RuleSet),
+}
+
+impl<'a> Redexes<'a> {
+    /// What the term becomes, if it is a redex.
+    pub(crate) fn contract(&self, alloc: Global, t: &Term) -> Result<Option<Term>, AllocError>
+        ensures is { IfOk result (λ found. MatchOption found (contraction self.now [] (nameless [] t.now) ≡ None) (λ u. contraction self.now [] (nameless [] t.now) ≡ Some (nameless [] u))) }
+        ensures typed { IfOk result (λ found. IfSome found (λ u. named_type u ≡ named_type t.now)) }
+    {
+        match self {
+            Redexes::Beta => beta(alloc, t),
+            Redexes::Rules(rules) => rules.contract(alloc, t),
+        }
+    }
+
+    /// The variable and the body of the abstraction of `v`, where the variable may be bound above a redex.
+    pub(crate) fn opened(
+        &self,
+        alloc: Global,
+        v: &Variable,
+        body: &Term,
+    ) -> Result<Binder, AllocError>
+        ensures same { IfOk result (λ o. nameless [] (abs o.variable o.body) ≡ nameless [] (abs v.now body.now)) }
+        ensures typed { IfOk result (λ o. named_type o.body ≡ named_type body.now) }
+        ensures domain { IfOk result (λ o. o.variable.1 ≡ v.now.1) }
+        ensures outside { IfOk result (λ o. IsOutside self.now o.variable) }
+    {
+        match self {
+            Redexes::Beta => kept(v, body),
+            Redexes::Rules(rules) => rules.opened(alloc, v, body),
+        }
+    }
+}
+
+// The variable and the body as they are.
+fn kept(v: &Variable, body: &Term) -> Result<Binder, AllocError>
+    ensures variable { IfOk result (λ o. o.variable ≡ v.now) }
+    ensures body { IfOk result (λ o. o.body ≡ body.now) }
+{
+    Ok(Binder {
+        variable: v.copy()?,
+        body: body.copy()?,
+    })
+}
+
+// What an application of an abstraction becomes.
+#[tactic(auto, using(crate::proofs::RedexLaws::beta_redexes))]
+fn beta(alloc: Global, t: &Term) -> Result<Option<Term>, AllocError>
+    ensures is { IfOk result (λ found. MatchOption found (beta_contractum (nameless [] t.now) ≡ None) (λ u. beta_contractum (nameless [] t.now) ≡ Some (nameless [] u))) }
+    ensures typed { IfOk result (λ found. IfSome found (λ u. named_type u ≡ named_type t.now)) }
+{
+    let _ty = t.type_of();
+    match t.node() {
+        TermNode::Comb(f, x) => reduct(alloc, f, x),
+        TermNode::Var(_) | TermNode::Const(_, _) | TermNode::Abs(_, _) => Ok(None),
+    }
+}
