@@ -14,10 +14,11 @@ use Rattle.hol_types.proofs.OrderLaws.{name_equal, name_same}
 use Rattle.hol_kernel.specs.Items.{Items}
 use Rattle.hol_exec.specs.Key.{theorem_key}
 use Rattle.hol_exec.specs.Entry.{EntryValue, ATheorem, entry_at}
+use Rattle.hol_exec.specs.StateValue.{StateValue}
 use Rattle.hol_document.specs.declared.error.Refusal.{Refusal}
 use Rattle.hol_document.specs.Documents.{Documents, find_theory}
 use Rattle.hol_document.specs.ItemTexts.{AreItemTexts}
-use Rattle.hol_document.specs.Asked.{commands_at, BasisTexts, IsBasis, BasisIn, BasisOf}
+use Rattle.hol_document.specs.Asked.{commands_at, BasisTexts, IsBasis, BasisIn, BasisOf, theorem_texts, AreTheorems, TheoremsIn, TheoremsOf}
 use Rattle.hol_document.proofs.Unique.{state_is_one}
 
 -- ---- lists in the order of bytes, in which each text stands as often, are equal
@@ -114,3 +115,19 @@ one_basis_in docs (Some i) name (Err e) q h k = absurd h
 
 pub one_basis_answer : (docs : Documents) (theory name : List ℕ) (r q : Result (Option (List (List ℕ))) Refusal) → BasisOf docs theory name r → BasisOf docs theory name q → r ≡ q
 one_basis_answer docs theory name r q h k = one_basis_in docs (find_theory theory docs.theories) name r q h k
+
+-- ---- theorems
+
+one_theorems : (docs : Documents) (i : ℕ) (a b : List (List ℕ)) → AreTheorems docs i a → AreTheorems docs i b → a ≡ b
+one_theorems docs i a b h k =
+    let states : h.state ≡ k.state = state_is_one docs i (length (commands_at docs i)) h.before k.before h.rows k.rows h.state k.state h.run k.run in
+    h.says ∙ (ap (λ (s : StateValue). theorem_texts s.entries) states ∙ sym k.says)
+
+one_list_in : (docs : Documents) (o : Option ℕ) (r q : Result (List (List ℕ)) Refusal) → TheoremsIn docs o r → TheoremsIn docs o q → r ≡ q
+one_list_in docs None r q h k = h ∙ sym k
+one_list_in docs (Some i) (Ok a) (Ok b) h k = ap Ok (one_theorems docs i a b h k)
+one_list_in docs (Some i) (Ok a) (Err f) h k = absurd k
+one_list_in docs (Some i) (Err e) q h k = absurd h
+
+pub one_list_answer : (docs : Documents) (theory : List ℕ) (r q : Result (List (List ℕ)) Refusal) → TheoremsOf docs theory r → TheoremsOf docs theory q → r ≡ q
+one_list_answer docs theory r q h k = one_list_in docs (find_theory theory docs.theories) r q h k

@@ -1,7 +1,7 @@
 -- Running one text more, or one theory more.
 use Rattle.std.proofs.Common.{◌≡◌, ℕ, ◌+◌, ◌<◌, List, [], ◌∷◌, ◌++◌, map, take, length, get_or, refl, sym, ◌∙◌, ap, add-one, append_assoc, arith}
-use Rattle.std.specs.Prelude.{Result, Ok, Err, IfOk, Option, slice_index_or, string_bytes}
-use Rattle.std.proofs.lemmas.List.{get_or_default}
+use Rattle.std.specs.Prelude.{zero, suc, Result, Ok, Err, IfOk, Option, Some, slice_index_or, slice_get, string_bytes}
+use Rattle.std.proofs.lemmas.List.{get_or_default, append-nil}
 use Rattle.std.proofs.Math.Seq.{take-suc, take-length}
 use Rattle.std.proofs.lemmas.Grind.{common_steps}
 use Rattle.hol_exec.specs.Setup.{SetupValue}
@@ -10,15 +10,15 @@ use Rattle.hol_exec.specs.OutcomeValue.{OutcomeValue, after, MakesTheorems}
 use Rattle.hol_exec.specs.Parsed.{ParsedValue, IsParsed}
 use Rattle.hol_exec.specs.ReadsValue.{reads_at}
 use Rattle.hol_exec.specs.Key.{KeyValue, theorem_key}
-use Rattle.hol_exec.specs.Entry.{EntryValue, entry_at, EachIsEntry}
+use Rattle.hol_exec.specs.Entry.{EntryValue, Entries, entry_at, EachIsEntry}
 use Rattle.hol_exec.specs.ReportValue.{ReportValue}
 use Rattle.hol_exec.specs.ReportOf.{report_of}
 use Rattle.hol_exec.specs.StateValue.{StateValue, EndedTheory, start}
 use Rattle.hol_document.specs.declared.end.End.{End}
-use Rattle.hol_document.specs.Asked.{commands_at, BasisTexts}
+use Rattle.hol_document.specs.Asked.{commands_at, BasisTexts, theorem_texts_of, theorem_texts}
 use Rattle.hol_document.specs.Documents.{TheoryText, Documents, no_theory}
 use Rattle.hol_document.specs.EndView.{end_value}
-use Rattle.hol_document.specs.Shown.{IsProvedReport, IsProvedBasis}
+use Rattle.hol_document.specs.Shown.{IsProvedReport, IsProvedBasis, AreProvedTheorems}
 use Rattle.hol_document.specs.Afresh.{Row, IsRow, AreRows, TheoryRun, IsRun, AreRuns, ended}
 use Rattle.hol_document.specs.Run.{HasOutcome, LeadTo, EndSo}
 use Rattle.hol_document.proofs.Goals.{next_finishes}
@@ -135,3 +135,33 @@ basis_is docs i name key theory front ends lines s found answer h theory_is fron
       proved = proved;
       made = entries_made docs.setup ends lines rows s leads;
     }
+
+-- the theorems of the last state of a theory
+pub theorems_are : (docs : Documents) (i : ℕ) (theory : TheoryText) (front : List TheoryText) (ends : List EndedTheory) (lines : List (List ℕ)) (s : StateValue) (texts : List (List ℕ))
+    → i < length docs.theories → theory ≡ get_or docs.theories i theory → front ≡ take i docs.theories → lines ≡ theory.commands
+    → EndSo docs.setup front ends → LeadTo docs.setup ends lines s → EachIsEntry s.entries → texts ≡ theorem_texts s.entries → AreProvedTheorems docs i texts
+theorems_are docs i theory front ends lines s texts h theory_is front_is lines_are (runs, are, same) (rows, leads) proved says =
+    let commands : commands_at docs i ≡ lines = ap (λ (t : TheoryText). t.commands) (theory_found docs.theories i theory h theory_is) ∙ sym lines_are in
+    record {
+      are = record {
+        before = runs;
+        rows = rows;
+        state = s;
+        run = record { runs = rw front_is at are; leads = rw (take-length (commands_at docs i), commands, ← same) leads };
+        says = says;
+      };
+      proved = proved;
+      made = entries_made docs.setup ends lines rows s leads;
+    }
+
+-- one entry's text more
+texts_next : (entries : Entries) (i : ℕ) (e : KeyValue × EntryValue) → slice_get entries i ≡ Some e → theorem_texts (take (suc i) entries) ≡ theorem_texts (take i entries) ++ theorem_texts_of e
+texts_next [] i e h = absurd (cc)
+texts_next (f ∷ entries) zero e h =
+    let is : f ≡ e = cc in
+    append-nil (theorem_texts_of f) ∙ ap theorem_texts_of is
+texts_next (f ∷ entries) (suc i) e h =
+    ap (λ ts. theorem_texts_of f ++ ts) (texts_next entries i e h) ∙ sym (append_assoc (theorem_texts_of f) (theorem_texts (take i entries)) (theorem_texts_of e))
+
+pub texts_more : (entries : Entries) (i : ℕ) (e : KeyValue × EntryValue) → slice_get entries i ≡ Some e → theorem_texts (take (i + 1) entries) ≡ theorem_texts (take i entries) ++ theorem_texts_of e
+texts_more entries i e h = rw add-one (texts_next entries i e h)

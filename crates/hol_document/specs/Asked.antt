@@ -1,11 +1,11 @@
 -- What is answered to a question about the documents: what running them afresh says.
 -- Source: this project.
-use Rattle.std.specs.Prelude.{◌≡◌, ℕ, List, [], ◌≤◌, ◌<◌, ⊤, length, map, take, Option, Some, None, Result, Ok, Err, slice_index_or}
-use Rattle.hol_exec.specs.Key.{theorem_key}
-use Rattle.hol_exec.specs.Entry.{EntryValue, ATheorem, entry_at}
+use Rattle.std.specs.Prelude.{◌≡◌, ℕ, List, [], ◌∷◌, ◌++◌, ◌≤◌, ◌<◌, ⊤, length, map, take, Option, Some, None, Result, Ok, Err, slice_index_or}
+use Rattle.hol_exec.specs.Key.{KeyValue, theorem_key}
+use Rattle.hol_exec.specs.Entry.{EntryValue, ATheorem, Entries, entry_at}
 use Rattle.hol_exec.specs.OutcomeValue.{after}
 use Rattle.hol_exec.specs.ReportValue.{ReportValue}
-use Rattle.hol_exec.specs.ReportOf.{report_of}
+use Rattle.hol_exec.specs.ReportOf.{report_of, entry_text}
 use Rattle.hol_exec.specs.StateValue.{StateValue, start}
 use Rattle.hol_document.specs.declared.error.Refusal.{Refusal}
 use Rattle.hol_document.specs.declared.error.Refusal.TheVariants.{UnknownTheory, PositionOutOfRange}
@@ -70,6 +70,32 @@ BasisIn docs (Some i) name (Err refusal) = ⊥
 
 abbrev pub BasisOf : Documents → List ℕ → List ℕ → Result (Option (List (List ℕ))) Refusal → Type 0
 BasisOf docs theory name answer = BasisIn docs (find_theory theory docs.theories) name answer
+
+-- ---- the theorems at the end of a theory, imported ones too, in standing order
+
+-- the text of an entry that is a theorem
+abbrev pub theorem_texts_of : KeyValue × EntryValue → List (List ℕ)
+theorem_texts_of (key, ATheorem th) = entry_text (key, ATheorem th) ∷ []
+
+abbrev pub theorem_texts : Entries → List (List ℕ)
+theorem_texts [] = []
+theorem_texts (e ∷ entries) = theorem_texts_of e ++ theorem_texts entries
+
+-- The theory is run afresh, and these are the theorems of its last state.
+pub record AreTheorems (docs : Documents) (i : ℕ) (texts : List (List ℕ)) : Type 0 where
+  pub before : List TheoryRun
+  pub rows : List Row
+  pub state : StateValue
+  pub run : IsRunUpTo docs i (length (commands_at docs i)) before rows state
+  pub says : texts ≡ theorem_texts state.entries
+
+abbrev pub TheoremsIn : Documents → Option ℕ → Result (List (List ℕ)) Refusal → Type 0
+TheoremsIn docs None answer = answer ≡ Err UnknownTheory
+TheoremsIn docs (Some i) (Ok texts) = AreTheorems docs i texts
+TheoremsIn docs (Some i) (Err refusal) = ⊥
+
+abbrev pub TheoremsOf : Documents → List ℕ → Result (List (List ℕ)) Refusal → Type 0
+TheoremsOf docs theory answer = TheoremsIn docs (find_theory theory docs.theories) answer
 
 -- ---- an error is a refusal with this fact, or want of memory
 abbrev pub IfRefused : (Refusal → Type 0) → DocsError → Type 0

@@ -1,7 +1,7 @@
 -- Documents: theories in order, each a name and the texts of its commands; what they are run by; and what an edit makes of them.
 -- Source: this project.
 use Rattle.std.specs.Prelude.{ℕ, List, [], ◌&&◌, length, Bool, not, nat_lt, nat_le, if◌then◌else◌, Option, Some, None, Result, Ok, Err, is_some, position, slice_set, slice_index_or, bytes_eq}
-use Rattle.std.specs.List.{insert}
+use Rattle.std.specs.List.{insert, remove}
 use Rattle.hol_notation_tokens.specs.Token.{is_identifier}
 use Rattle.hol_exec.specs.Setup.{SetupValue}
 use Rattle.hol_document.specs.declared.error.Refusal.{Refusal}
@@ -42,6 +42,14 @@ with_theory theories name at =
     (if nat_le theory_limit (length theories) then Err TooMany else
     Ok (insert theories at (record { name = name; commands = [] })))))
 
+-- the theories without the one of that name, or the refusal
+abbrev pub without_theory_at : List TheoryText → Option ℕ → Result (List TheoryText) Refusal
+without_theory_at theories None = Err UnknownTheory
+without_theory_at theories (Some i) = Ok (remove theories i)
+
+abbrev pub without_theory : List TheoryText → List ℕ → Result (List TheoryText) Refusal
+without_theory theories name = without_theory_at theories (find_theory name theories)
+
 -- the theory with a new command at a place, or the first refusal that fits
 abbrev pub with_command_of : TheoryText → ℕ → List ℕ → Result TheoryText Refusal
 with_command_of theory at text =
@@ -49,17 +57,36 @@ with_command_of theory at text =
     (if nat_le command_limit (length theory.commands) then Err TooMany else
     Ok (record { name = theory.name; commands = insert theory.commands at text }))
 
+-- the theory with another text for the command at a place, or the refusal
+abbrev pub with_text_of : TheoryText → ℕ → List ℕ → Result TheoryText Refusal
+with_text_of theory at text =
+    if nat_lt at (length theory.commands) then Ok (record { name = theory.name; commands = slice_set theory.commands at text }) else Err PositionOutOfRange
+
+-- the theory without the command at a place, or the refusal
+abbrev pub without_command_of : TheoryText → ℕ → Result TheoryText Refusal
+without_command_of theory at =
+    if nat_lt at (length theory.commands) then Ok (record { name = theory.name; commands = remove theory.commands at }) else Err PositionOutOfRange
+
 abbrev pub put_theory : List TheoryText → ℕ → Result TheoryText Refusal → Result (List TheoryText) Refusal
 put_theory theories i (Ok theory) = Ok (slice_set theories i theory)
 put_theory theories i (Err refusal) = Err refusal
 
-abbrev pub with_command_in : List TheoryText → Option ℕ → ℕ → List ℕ → Result (List TheoryText) Refusal
-with_command_in theories None at text = Err UnknownTheory
-with_command_in theories (Some i) at text = put_theory theories i (with_command_of (slice_index_or theories i no_theory) at text)
+-- the theories with an edit of the one at a place, or the first refusal that fits
+abbrev pub edited_at : (TheoryText → Result TheoryText Refusal) → List TheoryText → Option ℕ → Result (List TheoryText) Refusal
+edited_at edit theories None = Err UnknownTheory
+edited_at edit theories (Some i) = put_theory theories i (edit (slice_index_or theories i no_theory))
 
--- the theories with a new command in the one of that name, or the first refusal that fits
+-- the theories with a new command in the one of that name
 abbrev pub with_command : List TheoryText → List ℕ → ℕ → List ℕ → Result (List TheoryText) Refusal
-with_command theories name at text = with_command_in theories (find_theory name theories) at text
+with_command theories name at text = edited_at (λ theory. with_command_of theory at text) theories (find_theory name theories)
+
+-- the theories with another text for a command of the one of that name
+abbrev pub with_text : List TheoryText → List ℕ → ℕ → List ℕ → Result (List TheoryText) Refusal
+with_text theories name at text = edited_at (λ theory. with_text_of theory at text) theories (find_theory name theories)
+
+-- the theories without a command of the one of that name
+abbrev pub without_command : List TheoryText → List ℕ → ℕ → Result (List TheoryText) Refusal
+without_command theories name at = edited_at (λ theory. without_command_of theory at) theories (find_theory name theories)
 
 -- the documents with these theories: every edit keeps the set-up
 abbrev pub with_theories : Documents → List TheoryText → Documents

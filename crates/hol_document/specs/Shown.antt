@@ -13,7 +13,7 @@ use Rattle.hol_exec.specs.OutcomeValue.{OutcomeValue, Opens, Leaves, Undoes, Rot
 use Rattle.hol_exec.specs.ReportValue.{ReportValue}
 use Rattle.hol_document.specs.Documents.{Documents, find_theory}
 use Rattle.hol_document.specs.Afresh.{Row}
-use Rattle.hol_document.specs.Asked.{commands_at, IsReport, IsBasis}
+use Rattle.hol_document.specs.Asked.{commands_at, IsReport, IsBasis, AreTheorems}
 
 -- ---- goals
 
@@ -92,6 +92,12 @@ pub record IsProvedBasis (docs : Documents) (i : ℕ) (name : List ℕ) (answer 
   pub proved : EachIsEntry is.state.entries
   pub made : All (IsMadeIn is.rows) is.state.entries
 
+-- The same of an answer that lists the theorems of a state.
+pub record AreProvedTheorems (docs : Documents) (i : ℕ) (texts : List (List ℕ)) : Type 0 where
+  pub are : AreTheorems docs i texts
+  pub proved : EachIsEntry are.state.entries
+  pub made : All (IsMadeIn are.rows) are.state.entries
+
 abbrev pub ShowsProvedIn : Documents → Option ℕ → ℕ → ReportValue → Type 0
 ShowsProvedIn docs None at report = ⊥
 ShowsProvedIn docs (Some i) at report = (at < length (commands_at docs i)) × IsProvedReport docs i at report
@@ -105,3 +111,10 @@ TellsOfProvedIn docs (Some i) name answer = IsProvedBasis docs i name answer
 
 abbrev pub TellsOfProved : Documents → List ℕ → List ℕ → Option (List (List ℕ)) → Type 0
 TellsOfProved docs theory name answer = TellsOfProvedIn docs (find_theory theory docs.theories) name answer
+
+abbrev pub ListsProvedIn : Documents → Option ℕ → List (List ℕ) → Type 0
+ListsProvedIn docs None texts = ⊥
+ListsProvedIn docs (Some i) texts = AreProvedTheorems docs i texts
+
+abbrev pub ListsProved : Documents → List ℕ → List (List ℕ) → Type 0
+ListsProved docs theory texts = ListsProvedIn docs (find_theory theory docs.theories) texts

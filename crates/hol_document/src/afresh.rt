@@ -1,14 +1,14 @@
 //! Running documents afresh.
-ghost use Rattle.std.specs.Prelude.{◌≡◌, ◌<◌, IfOk, Some, length, map, string_bytes, slice_index_or};
+ghost use Rattle.std.specs.Prelude.{◌≡◌, ◌<◌, ◌++◌, IfOk, OnOk, Some, length, map, string_bytes, slice_index_or};
 ghost use Rattle.std.specs.Option.{option_map};
 ghost use Rattle.hol_exec.specs.OutcomeValue.{after};
 ghost use Rattle.hol_exec.specs.ReportView.{report_value};
 ghost use Rattle.hol_exec.specs.SetupView.{setup_value};
-ghost use Rattle.hol_document.specs.Asked.{BasisTexts};
+ghost use Rattle.hol_document.specs.Asked.{BasisTexts, theorem_texts, theorem_texts_of};
 ghost use Rattle.hol_document.specs.Documents.{no_theory};
 ghost use Rattle.hol_document.specs.EndView.{end_value};
 ghost use Rattle.hol_document.specs.Run.{HasOutcome, LeadTo, EndSo};
-ghost use Rattle.hol_document.specs.Shown.{IsProvedReport, IsProvedBasis};
+ghost use Rattle.hol_document.specs.Shown.{IsProvedReport, IsProvedBasis, AreProvedTheorems};
 
 use crate::end::End;
 use crate::items::item_texts;
@@ -16,7 +16,7 @@ use crate::line::Line;
 use crate::theory::Theory;
 use hol_exec::{
     Entry, EntryNode, Key, Kind, Outcome, Parsed, Reads, Report, Setup, State, apply, direct,
-    report_of, run_local,
+    entry_text, report_of, run_local,
 };
 use std::alloc::{AllocError, Global};
 
@@ -132,4 +132,47 @@ fn basis_texts(alloc: Global, entry: &Entry) -> Result<Vec<String>, AllocError>
     match entry.node() {
         EntryNode::Theorem(theorem) => item_texts(alloc, theorem.basis()),
     }
+}
+
+/// The texts of the theorems that stand at the end of the theory at a place, in standing order.
+pub(crate) fn theorems(
+    alloc: Global,
+    setup: &Setup,
+    theories: &[Theory],
+    i: usize,
+) -> Result<Vec<String>, AllocError>
+    requires { i < length theories.now }
+    ensures { IfOk result (λ texts. AreProvedTheorems (record { theories = theories.now; setup = setup_value setup.now }) i (map string_bytes texts.items)) }
+{
+    let earlier = ends(alloc, setup, &theories[..i])?;
+    let state = state_after(alloc, setup, &earlier, theories[i].lines())?;
+    state.promise();
+    theorem_texts(alloc, &state)
+}
+
+// The texts of the theorems that stand in the state, in standing order.
+fn theorem_texts(alloc: Global, state: &State) -> Result<Vec<String>, AllocError>
+    ensures { IfOk result (λ texts. map string_bytes texts.items ≡ theorem_texts state.now.entries) }
+{
+    let mut texts = Vec::with_capacity(alloc, state.len())?;
+    for i in 0..state.len() {
+        let (key, entry) = state.entry_at(i);
+        add_theorem(alloc, &mut texts, key, entry)?;
+    }
+    Ok(texts)
+}
+
+// Adds the text of an entry that is a theorem.
+fn add_theorem(
+    alloc: Global,
+    texts: &mut Vec<String>,
+    key: &Key,
+    entry: &Entry,
+) -> Result<(), AllocError>
+    ensures { OnOk result (map string_bytes texts.new.items ≡ map string_bytes texts.old.items ++ theorem_texts_of (key.now, entry.now)) }
+{
+    match entry.node() {
+        EntryNode::Theorem(_) => texts.push(entry_text(alloc, key, entry)?)?,
+    }
+    Ok(())
 }

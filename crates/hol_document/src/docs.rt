@@ -30,14 +30,14 @@ pub struct Docs {
 
 impl Docs {
     ghost use Rattle.std.specs.Prelude.{◌≡◌, ◌≤◌, ◌<◌, Ok, Err, Some, IfOk, IfErr, OnOk, OnErr, [], ℕ, List, length, string_bytes, map, slice_index_or};
-    ghost use Rattle.std.specs.List.{insert};
+    ghost use Rattle.std.specs.List.{insert, remove};
     ghost use Rattle.std.specs.Option.{option_map};
     ghost use Rattle.hol_exec.specs.ReportView.{report_value};
     ghost use Rattle.hol_exec.specs.SetupView.{setup_value};
-    ghost use Rattle.hol_document.specs.Asked.{IfRefused, Reported, BasisOf, commands_at};
+    ghost use Rattle.hol_document.specs.Asked.{IfRefused, Reported, BasisOf, TheoremsOf, commands_at};
     ghost use Rattle.hol_document.specs.DocsView.{documents, cache_of};
-    ghost use Rattle.hol_document.specs.Documents.{find_theory, with_theory, with_command, command_limit};
-    ghost use Rattle.hol_document.specs.Shown.{ShowsProved, TellsOfProved};
+    ghost use Rattle.hol_document.specs.Documents.{find_theory, with_theory, without_theory, with_command, with_text, without_command, command_limit};
+    ghost use Rattle.hol_document.specs.Shown.{ShowsProved, TellsOfProved, ListsProved};
 
     /// Documents without theories, run by this set-up. `cache` is the number of outcomes that are kept after they have left the documents.
     pub fn new(alloc: Global, setup: Setup, cache: u32) -> Docs
@@ -68,6 +68,21 @@ impl Docs {
         Ok(())
     }
 
+    /// Drops a theory with its commands. It takes no memory.
+    ///
+    /// Refused where the theory is unknown.
+    pub fn drop_theory(&mut self, name: &str) -> Result<(), Refusal>
+        ensures ok { OnOk result (without_theory (documents self.old).theories name.now ≡ Ok (documents self.new).theories) }
+        ensures refused { IfErr result (λ refusal. without_theory (documents self.old).theories name.now ≡ Err refusal) }
+        ensures kept { OnErr result (documents self.new ≡ documents self.old) }
+        ensures setup { (documents self.new).setup ≡ (documents self.old).setup }
+        ensures cache { cache_of self.new ≡ cache_of self.old }
+    {
+        let i = self.place_of(name)?;
+        let _theory = self.theories.remove(i);
+        Ok(())
+    }
+
     /// Puts a command's text at a place of a theory.
     ///
     /// Refused where the theory is unknown, the place is above the number of its commands, or 1,000 commands stand: in this order.
@@ -84,6 +99,37 @@ impl Docs {
         Ok(())
     }
 
+    /// Puts a text in the place of that of a command of a theory.
+    ///
+    /// Refused where the theory is unknown or no command stands at the place: in this order.
+    pub fn replace(&mut self, theory: &str, at: usize, text: &str) -> Result<(), DocsError>
+        ensures ok { OnOk result (with_text (documents self.old).theories theory.now at text.now ≡ Ok (documents self.new).theories) }
+        ensures refused { IfErr result (IfRefused (λ refusal. with_text (documents self.old).theories theory.now at text.now ≡ Err refusal)) }
+        ensures kept { OnErr result (documents self.new ≡ documents self.old) }
+        ensures setup { (documents self.new).setup ≡ (documents self.old).setup }
+        ensures cache { cache_of self.new ≡ cache_of self.old }
+    {
+        let i = self.place_of_command(theory, at)?;
+        let line = Line::new(self.alloc, text)?;
+        self.theories[i].replace(at, line);
+        Ok(())
+    }
+
+    /// Takes a command of a theory away. It takes no memory.
+    ///
+    /// Refused where the theory is unknown or no command stands at the place: in this order.
+    pub fn remove(&mut self, theory: &str, at: usize) -> Result<(), Refusal>
+        ensures ok { OnOk result (without_command (documents self.old).theories theory.now at ≡ Ok (documents self.new).theories) }
+        ensures refused { IfErr result (λ refusal. without_command (documents self.old).theories theory.now at ≡ Err refusal) }
+        ensures kept { OnErr result (documents self.new ≡ documents self.old) }
+        ensures setup { (documents self.new).setup ≡ (documents self.old).setup }
+        ensures cache { cache_of self.new ≡ cache_of self.old }
+    {
+        let i = self.place_of_command(theory, at)?;
+        self.theories[i].remove(at);
+        Ok(())
+    }
+
     /// The report on the command at a place of a theory: what running the documents afresh says. The theorems that it shows are those of
     /// `Thm`s, so each has a derivation.
     ///
@@ -93,8 +139,21 @@ impl Docs {
         ensures proved { IfOk result (λ report. ShowsProved (documents self.now) theory.now at (report_value report)) }
         ensures refused { IfErr result (IfRefused (λ refusal. Reported (documents self.now) theory.now at (Err refusal))) }
     {
-        let i = self.place_to_report(theory, at)?;
+        let i = self.place_of_command(theory, at)?;
         Ok(afresh::report(self.alloc, &self.setup, &self.theories, i, at)?)
+    }
+
+    /// The theorems that stand at the end of a theory, imported ones too, in standing order: what running the documents afresh says. They are
+    /// those of `Thm`s, so each has a derivation.
+    ///
+    /// Refused where the theory is unknown.
+    pub fn theorems(&self, theory: &str) -> Result<Vec<String>, DocsError>
+        ensures ok { IfOk result (λ texts. TheoremsOf (documents self.now) theory.now (Ok (map string_bytes texts.items))) }
+        ensures proved { IfOk result (λ texts. ListsProved (documents self.now) theory.now (map string_bytes texts.items)) }
+        ensures refused { IfErr result (IfRefused (λ refusal. TheoremsOf (documents self.now) theory.now (Err refusal))) }
+    {
+        let i = self.place_of(theory)?;
+        Ok(afresh::theorems(self.alloc, &self.setup, &self.theories, i)?)
     }
 
     /// The items of the basis of a theorem that stands at the end of a theory, as texts in the order of their bytes; nothing
@@ -152,11 +211,13 @@ impl Docs {
     }
 
     // The place of a theory where a command stands at the place. It takes no memory.
-    fn place_to_report(&self, theory: &str, at: usize) -> Result<usize, Refusal>
+    fn place_of_command(&self, theory: &str, at: usize) -> Result<usize, Refusal>
         ensures found { IfOk result (λ i. find_theory theory.now (documents self.now).theories ≡ Some i) }
         ensures within { IfOk result (λ i. i < length (documents self.now).theories) }
         ensures stands { IfOk result (λ i. at < length (commands_at (documents self.now) i)) }
-        ensures refused { IfErr result (λ refusal. Reported (documents self.now) theory.now at (Err refusal)) }
+        ensures reported { IfErr result (λ refusal. Reported (documents self.now) theory.now at (Err refusal)) }
+        ensures replaced { IfErr result (λ refusal. (text : List ℕ) → with_text (documents self.now).theories theory.now at text ≡ Err refusal) }
+        ensures removed { IfErr result (λ refusal. without_command (documents self.now).theories theory.now at ≡ Err refusal) }
     {
         let i = self.place_of(theory)?;
         if at >= self.theories[i].lines().len() {

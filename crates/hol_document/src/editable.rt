@@ -2,12 +2,12 @@
 ghost use Rattle.std.specs.Prelude.{◌≡◌, Ok, Err, IfOk, IfErr, OnOk, OnErr, map, string_bytes};
 ghost use Rattle.std.specs.Option.{option_map};
 ghost use Rattle.hol_exec.specs.ReportView.{report_value};
-ghost use Rattle.hol_document.specs.Asked.{IfRefused, Reported, BasisOf};
-ghost use Rattle.hol_document.specs.Documents.{Documents, with_theory, with_command};
-ghost use Rattle.hol_document.specs.Shown.{ShowsProved, TellsOfProved};
+ghost use Rattle.hol_document.specs.Asked.{IfRefused, Reported, BasisOf, TheoremsOf};
+ghost use Rattle.hol_document.specs.Documents.{Documents, with_theory, without_theory, with_command, with_text, without_command};
+ghost use Rattle.hol_document.specs.Shown.{ShowsProved, TellsOfProved, ListsProved};
 
 use crate::docs::Docs;
-use crate::error::DocsError;
+use crate::error::{DocsError, Refusal};
 use hol_exec::Report;
 
 /// Documents under edit, as those who answer requests over them see them. [`Docs`] are such; they hold closures, and what is generic over this trait may make
@@ -23,10 +23,31 @@ pub trait Editable {
         ensures kept { OnErr result (value self.new ≡ value self.old) }
         ensures setup { (value self.new).setup ≡ (value self.old).setup };
 
+    /// Drops a theory, as [`Docs::drop_theory`].
+    fn drop_theory(&mut self, name: &str) -> Result<(), Refusal>
+        ensures ok { OnOk result (without_theory (value self.old).theories name.now ≡ Ok (value self.new).theories) }
+        ensures refused { IfErr result (λ refusal. without_theory (value self.old).theories name.now ≡ Err refusal) }
+        ensures kept { OnErr result (value self.new ≡ value self.old) }
+        ensures setup { (value self.new).setup ≡ (value self.old).setup };
+
     /// Puts a command's text at a place, as [`Docs::insert`].
     fn insert(&mut self, theory: &str, at: usize, text: &str) -> Result<(), DocsError>
         ensures ok { OnOk result (with_command (value self.old).theories theory.now at text.now ≡ Ok (value self.new).theories) }
         ensures refused { IfErr result (IfRefused (λ refusal. with_command (value self.old).theories theory.now at text.now ≡ Err refusal)) }
+        ensures kept { OnErr result (value self.new ≡ value self.old) }
+        ensures setup { (value self.new).setup ≡ (value self.old).setup };
+
+    /// Puts another text in a command's place, as [`Docs::replace`].
+    fn replace(&mut self, theory: &str, at: usize, text: &str) -> Result<(), DocsError>
+        ensures ok { OnOk result (with_text (value self.old).theories theory.now at text.now ≡ Ok (value self.new).theories) }
+        ensures refused { IfErr result (IfRefused (λ refusal. with_text (value self.old).theories theory.now at text.now ≡ Err refusal)) }
+        ensures kept { OnErr result (value self.new ≡ value self.old) }
+        ensures setup { (value self.new).setup ≡ (value self.old).setup };
+
+    /// Takes a command away, as [`Docs::remove`].
+    fn remove(&mut self, theory: &str, at: usize) -> Result<(), Refusal>
+        ensures ok { OnOk result (without_command (value self.old).theories theory.now at ≡ Ok (value self.new).theories) }
+        ensures refused { IfErr result (λ refusal. without_command (value self.old).theories theory.now at ≡ Err refusal) }
         ensures kept { OnErr result (value self.new ≡ value self.old) }
         ensures setup { (value self.new).setup ≡ (value self.old).setup };
 
@@ -35,6 +56,12 @@ pub trait Editable {
         ensures ok { IfOk result (λ report. Reported (value self.now) theory.now at (Ok (report_value report))) }
         ensures proved { IfOk result (λ report. ShowsProved (value self.now) theory.now at (report_value report)) }
         ensures refused { IfErr result (IfRefused (λ refusal. Reported (value self.now) theory.now at (Err refusal))) };
+
+    /// The theorems at the end of a theory, as [`Docs::theorems`].
+    fn theorems(&self, theory: &str) -> Result<Vec<String>, DocsError>
+        ensures ok { IfOk result (λ texts. TheoremsOf (value self.now) theory.now (Ok (map string_bytes texts.items))) }
+        ensures proved { IfOk result (λ texts. ListsProved (value self.now) theory.now (map string_bytes texts.items)) }
+        ensures refused { IfErr result (IfRefused (λ refusal. TheoremsOf (value self.now) theory.now (Err refusal))) };
 
     /// The items of a theorem's basis, as [`Docs::basis`].
     fn basis(&self, theory: &str, name: &str) -> Result<Option<Vec<String>>, DocsError>
@@ -52,12 +79,28 @@ impl Editable for Docs {
         Docs::new_theory(self, name, at)
     }
 
+    fn drop_theory(&mut self, name: &str) -> Result<(), Refusal> {
+        Docs::drop_theory(self, name)
+    }
+
     fn insert(&mut self, theory: &str, at: usize, text: &str) -> Result<(), DocsError> {
         Docs::insert(self, theory, at, text)
     }
 
+    fn replace(&mut self, theory: &str, at: usize, text: &str) -> Result<(), DocsError> {
+        Docs::replace(self, theory, at, text)
+    }
+
+    fn remove(&mut self, theory: &str, at: usize) -> Result<(), Refusal> {
+        Docs::remove(self, theory, at)
+    }
+
     fn report(&self, theory: &str, at: usize) -> Result<Report, DocsError> {
         Docs::report(self, theory, at)
+    }
+
+    fn theorems(&self, theory: &str) -> Result<Vec<String>, DocsError> {
+        Docs::theorems(self, theory)
     }
 
     fn basis(&self, theory: &str, name: &str) -> Result<Option<Vec<String>>, DocsError> {

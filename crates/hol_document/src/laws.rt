@@ -6,7 +6,7 @@ ghost use Rattle.hol_exec.specs.ReportValue.{ReportValue};
 ghost use Rattle.hol_document.specs.declared.error.Refusal.{Refusal};
 ghost use Rattle.hol_document.specs.Documents.{Documents};
 ghost use Rattle.hol_document.specs.Afresh.{Row, AreRows, TheoryRun, AreRunsOf};
-ghost use Rattle.hol_document.specs.Asked.{Reported, BasisOf};
+ghost use Rattle.hol_document.specs.Asked.{Reported, BasisOf, TheoremsOf};
 ghost use Rattle.hol_document.specs.Shown.{EachFinishes};
 
 /// Documents have at most one run: the rows of all their theories, and the last states.
@@ -25,6 +25,12 @@ pub fn reports_are_unique()
 #[tactic(auto, using(crate::proofs::Bases::one_basis_answer))]
 pub fn bases_are_unique()
     ensures { (docs : Documents) (theory name : List ℕ) (r q : Result (Option (List (List ℕ))) Refusal) → BasisOf docs theory name r → BasisOf docs theory name q → r ≡ q }
+{}
+
+/// The documents have at most one answer to the question for the theorems of a theory.
+#[tactic(auto, using(crate::proofs::Bases::one_list_answer))]
+pub fn lists_are_unique()
+    ensures { (docs : Documents) (theory : List ℕ) (r q : Result (List (List ℕ)) Refusal) → TheoremsOf docs theory r → TheoremsOf docs theory q → r ≡ q }
 {}
 
 /// What a `qed` makes is the theorem of the last `g` that was accepted before it: under its name, with its statement, without hypotheses.

@@ -17,5 +17,6 @@ pub use docs::{COMMAND_LIMIT, Docs, THEORY_LIMIT};
 pub use editable::Editable;
 pub use error::{DocsError, Refusal};
 pub use laws::{
-    bases_are_unique, finished_proofs_have_their_goals, reports_are_unique, rows_are_unique,
+    bases_are_unique, finished_proofs_have_their_goals, lists_are_unique, reports_are_unique,
+    rows_are_unique,
 };

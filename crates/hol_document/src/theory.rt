@@ -1,6 +1,6 @@
 //! A theory: its name and its commands' texts.
-ghost use Rattle.std.specs.Prelude.{◌≡◌, ◌≤◌, [], IfOk, OnOk, OnErr, length};
-ghost use Rattle.std.specs.List.{insert};
+ghost use Rattle.std.specs.Prelude.{◌≡◌, ◌≤◌, ◌<◌, [], IfOk, OnOk, OnErr, length, slice_set};
+ghost use Rattle.std.specs.List.{insert, remove};
 ghost use Rattle.hol_document.specs.Documents.{TheoryText};
 
 use crate::line::Line;
@@ -56,5 +56,21 @@ impl Theory {
     {
         self.lines.insert(at, line)?;
         Ok(())
+    }
+
+    /// Puts a command in the place of the one there.
+    pub(crate) fn replace(&mut self, at: usize, line: Line)
+        requires { at < length self.old.commands }
+        ensures { self.new ≡ record { name = self.old.name; commands = slice_set self.old.commands at line } }
+    {
+        self.lines[at] = line;
+    }
+
+    /// Takes the command at a place away.
+    pub(crate) fn remove(&mut self, at: usize)
+        requires { at < length self.old.commands }
+        ensures { self.new ≡ record { name = self.old.name; commands = remove self.old.commands at } }
+    {
+        let _line = self.lines.remove(at);
     }
 }

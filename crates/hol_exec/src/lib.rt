@@ -45,7 +45,7 @@ pub use parsed::{DirectCommand, LocalCommand, Parsed, parse};
 pub use reads::Reads;
 pub use refusal::RefusalKind;
 pub use report::{Report, ShownGoal};
-pub use reporting::report_of;
+pub use reporting::{entry_text, report_of};
 pub use run::run_local;
 pub use setup::Setup;
 pub use state::State;

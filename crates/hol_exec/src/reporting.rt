@@ -49,7 +49,8 @@ fn shown_goal(alloc: Global, goal: &Goal) -> Result<ShownGoal, AllocError>
     })
 }
 
-fn entry_text(alloc: Global, key: &Key, entry: &Entry) -> Result<String, AllocError>
+/// An entry as clients see it: `thm N |- p`.
+pub fn entry_text(alloc: Global, key: &Key, entry: &Entry) -> Result<String, AllocError>
     ensures { IfOk result (λ text. string_bytes text ≡ entry_text (key.now, entry.now)) }
 {
     match entry.node() {

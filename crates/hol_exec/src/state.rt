@@ -1,5 +1,5 @@
 //! The state of a theory while it is run.
-ghost use Rattle.std.specs.Prelude.{◌≡◌, ◌≢◌, ◌<◌, ◌≤◌, ◌+◌, OnOk, OnErr, IfSome, Some, None, [], option_copied};
+ghost use Rattle.std.specs.Prelude.{◌≡◌, ◌≢◌, ◌<◌, ◌≤◌, ◌+◌, OnOk, OnErr, IfSome, Some, None, [], length, slice_get, option_copied};
 ghost use Rattle.indexmap.specs.IndexMap.{insert_entry, insert_all, spare, IsUnique};
 ghost use Rattle.hol_kernel.specs.Items.{no_items};
 ghost use Rattle.hol_exec.specs.Key.{key_eq};
@@ -57,6 +57,24 @@ impl State {
         ensures { option_copied result ≡ entry_at key.now self.now.entries }
     {
         self.entries.get(key)
+    }
+
+    /// The number of its entries.
+    pub fn len(&self) -> usize
+        ensures { result ≡ length self.now.entries }
+    {
+        self.entries.len()
+    }
+
+    /// An entry by its place in standing order, from 0.
+    pub fn entry_at(&self, index: usize) -> (&Key, &Entry)
+        requires { index < length self.now.entries }
+        ensures { slice_get self.now.entries index ≡ Some (result.0.now, result.1.now) }
+    {
+        match self.entries.get_index(index) {
+            Some(entry) => entry,
+            None => unreachable!(),
+        }
     }
 
     /// The open proof.

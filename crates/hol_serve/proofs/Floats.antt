@@ -4,7 +4,7 @@ use Rattle.serde_json.specs.Data.{string}
 use Rattle.serde_json.specs.View.{items_of}
 use Rattle.serde_json.specs.Written.{has_float, items_have_float}
 use Rattle.hol_exec.specs.ReportValue.{ShownGoalText, ReportValue, ShowsGoals, HasMade, WasRefused}
-use Rattle.hol_serve.specs.Replies.{goal_data, report_data, RestsOn, reply_data}
+use Rattle.hol_serve.specs.Replies.{goal_data, report_data, Lists, RestsOn, reply_data}
 
 pub no_text_float : (ts : List (List ℕ)) → items_have_float (items_of (map string ts)) ≡ false
 no_text_float [] = refl
@@ -25,3 +25,6 @@ no_float (WasRefused kind arg) = refl
 pub no_items_float : (items : Option (List (List ℕ))) → has_float (reply_data (RestsOn items)) ≡ false
 no_items_float None = refl
 no_items_float (Some items) = rw (no_text_float items) refl
+
+pub no_list_float : (texts : List (List ℕ)) → has_float (reply_data (Lists texts)) ≡ false
+no_list_float texts = rw (no_text_float texts) refl

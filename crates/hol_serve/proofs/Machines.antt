@@ -1,32 +1,43 @@
 -- What the steps of an answer come to, over plain variables.
-use Rattle.std.proofs.Common.{◌≡◌, ◌≢◌, ◌<◌, ◌≤◌, ℕ, List, [], ◌∷◌, length, Option, Some, None, Result, Ok, Err, refl, sym, ◌∙◌, subst, arith}
+use Rattle.std.proofs.Common.{◌≡◌, ◌≢◌, ◌<◌, ◌≤◌, ℕ, List, [], ◌∷◌, length, Option, Some, None, Result, Ok, Err, refl, ap, sym, ◌∙◌, subst, arith}
+use Rattle.std.specs.Prelude.{OnOk, OnErr, IfErr}
 use Rattle.std.specs.Str.{IsUtf8}
 use Rattle.serde_json.specs.Data.{Data}
 use Rattle.serde_json.specs.Read.{read}
 use Rattle.serde_json.proofs.OnLiterals.{serde_json_on_literals}
+use Rattle.hol_exec.specs.Setup.{SetupValue}
 use Rattle.hol_document.specs.declared.error.Refusal.{Refusal}
 use Rattle.hol_document.specs.declared.error.DocsError.{DocsError}
-use Rattle.hol_document.specs.Documents.{Documents, TheoryText, with_theories}
+use Rattle.hol_document.specs.Documents.{Documents, TheoryText}
 use Rattle.hol_document.specs.Asked.{IfRefused}
 use Rattle.hol_serve.specs.Lines.{line_limit}
 use Rattle.hol_serve.specs.declared.lines.service.Reply.{Reply}
 use Rattle.hol_serve.specs.ReplyBytes.{reply_bytes}
 use Rattle.hol_serve.specs.Requests.{RequestText, request_of}
 use Rattle.hol_serve.specs.Replies.{ReplyValue, Refused, ByDocuments, LineTooLong, NotJson, Shape, Memory, Done}
-use Rattle.hol_serve.specs.Texts.{Says}
-use Rattle.hol_serve.specs.Machine.{ReadsAs, Edits, Serves, ServesIf, too_long, no_json, served, no_memory, MayAnswer}
+use Rattle.hol_serve.specs.Texts.{Says, IsServed}
+use Rattle.hol_serve.specs.Machine.{ReadsAs, Edits, ServesIf, too_long, no_json, served, no_memory, MayAnswer}
 
 -- what a refusal tells, where it is this one
 pub told : (P : Refusal → Type 0) (error : DocsError) (refusal : Refusal) → error ≡ DocsError.Refused refusal → IfRefused P error → P refusal
 told P error refusal is h = subst (IfRefused P) is h
 
-pub made_edit : (old new : Documents) (edit : Result (List TheoryText) Refusal) (theories : List TheoryText)
-    → edit ≡ Ok theories → new ≡ with_theories old theories → Edits old edit Done new
-made_edit old new edit theories made is = subst (λ (e : Result (List TheoryText) Refusal). Edits old e Done new) (sym made) (refl, is)
+made_edit : (old new : Documents) (edit : Result (List TheoryText) Refusal) → edit ≡ Ok new.theories → new.setup ≡ old.setup → Edits old edit Done new
+made_edit old new edit made setup =
+    subst (λ (e : Result (List TheoryText) Refusal). Edits old e Done new) (sym made) (refl, ap (λ (s : SetupValue). record { theories = new.theories; setup = s }) setup)
 
 pub refused_edit : (old new : Documents) (edit : Result (List TheoryText) Refusal) (refusal : Refusal)
     → edit ≡ Err refusal → new ≡ old → Edits old edit (Refused (ByDocuments refusal)) new
 refused_edit old new edit refusal is kept = subst (λ (e : Result (List TheoryText) Refusal). Edits old e (Refused (ByDocuments refusal)) new) (sym is) (refl, kept)
+
+-- an edit that takes no memory is made, or refused
+pub served_edit : (old new : Documents) (edit : Result (List TheoryText) Refusal) (r : Result (Unit {0}) Refusal) (reply : Reply)
+    → OnOk r (edit ≡ Ok new.theories) → IfErr r (λ refusal. edit ≡ Err refusal) → OnErr r (new ≡ old) → new.setup ≡ old.setup
+    → OnOk r (Says Done reply) → IfErr r (λ refusal. Says (Refused (ByDocuments refusal)) reply)
+    → (value : ReplyValue) × Says value reply × Edits old edit value new
+served_edit old new edit (Ok done) reply made refused kept setup says_done says_refused = (Done, says_done, made_edit old new edit made setup)
+served_edit old new edit (Err refusal) reply made refused kept setup says_done says_refused =
+    (Refused (ByDocuments refusal), says_refused, refused_edit old new edit refusal refused kept)
 
 pub empty_is_no_json : (line : List ℕ) (d : Data) → read line ≡ Some d → line ≢ []
 unfolding serde_json_on_literals
@@ -48,7 +59,7 @@ line_shape old line d reply short reads none says =
     (Refused Shape, served short d reads (subst (λ (o : Option RequestText). ServesIf old o (Refused Shape) old) (sym none) (refl, refl)), says.0, says.1)
 
 pub line_served : (old new : Documents) (line : List ℕ) (d : Data) (request : RequestText) (reply : Reply) → length line ≤ line_limit → ReadsAs line d → request_of d ≡ Some request
-    → (value : ReplyValue) × Says value reply × Serves old request value new
+    → IsServed old request new reply
     → MayAnswer old line (reply_bytes reply.text) reply.closes new
 line_served old new line d request reply short reads is (value, says, serves) =
     (value, served short d reads (subst (λ (o : Option RequestText). ServesIf old o value new) (sym is) serves), says.0, says.1)

@@ -2,14 +2,14 @@
 use Rattle.std.proofs.Common.{◌≡◌, ℕ, ◌<◌, ◌≤◌, List, length, ap, sym, ◌∙◌, arith, inl, inr}
 use Rattle.std.specs.Prelude.{◌⊎◌, Result, Ok, Err, Option, Some, None}
 use Rattle.hol_document.specs.declared.error.Refusal.{Refusal}
-use Rattle.hol_document.specs.Documents.{Documents, TheoryText, with_theory, with_command}
+use Rattle.hol_document.specs.Documents.{Documents, TheoryText, with_theory, without_theory, with_command, with_text, without_command}
 use Rattle.hol_document.proofs.Unique.{one_answer}
-use Rattle.hol_document.proofs.Bases.{one_basis_answer}
+use Rattle.hol_document.proofs.Bases.{one_basis_answer, one_list_answer}
 use Rattle.hol_serve.specs.Lines.{line_limit}
 use Rattle.serde_json.specs.Data.{Data}
 use Rattle.hol_serve.specs.Machine.{ReadsAs, Machine, too_long, no_json, served, no_memory, Edits, reply_to, Serves, ServesIf}
-use Rattle.hol_serve.specs.Requests.{RequestText, NewTheory, Insert, Report, Basis, request_of}
-use Rattle.hol_serve.specs.Replies.{Memory, ReplyValue, Refused, Reports, RestsOn}
+use Rattle.hol_serve.specs.Requests.{RequestText, NewTheory, DropTheory, Insert, Replace, Remove, Report, Theorems, Basis, Close, request_of}
+use Rattle.hol_serve.specs.Replies.{Memory, ReplyValue, Refused, Reports, Lists, RestsOn}
 
 edits_once : (old : Documents) (r : Result (List TheoryText) Refusal) (a b : ReplyValue) (m n : Documents) → Edits old r a m → Edits old r b n → (a ≡ b) × (m ≡ n)
 edits_once old (Ok theories) a b m n h k = (h.0 ∙ sym k.0, h.1 ∙ sym k.1)
@@ -18,8 +18,14 @@ edits_once old (Err refusal) a b m n h k = (h.0 ∙ sym k.0, h.1 ∙ sym k.1)
 serves_once : (old : Documents) (request : RequestText) (a b : ReplyValue) (m n : Documents) → Serves old request a m → Serves old request b n → (a ≡ b) × (m ≡ n)
 serves_once old (NewTheory name at) a b m n h k = edits_once old (with_theory old.theories name at) a b m n h k
 serves_once old (Insert theory at text) a b m n h k = edits_once old (with_command old.theories theory at text) a b m n h k
+serves_once old (DropTheory name) a b m n h k = edits_once old (without_theory old.theories name) a b m n h k
+serves_once old (Replace theory at text) a b m n h k = edits_once old (with_text old.theories theory at text) a b m n h k
+serves_once old (Remove theory at) a b m n h k = edits_once old (without_command old.theories theory at) a b m n h k
 serves_once old (Report theory at) a b m n h k =
     (h.3 ∙ (ap (reply_to Reports) (one_answer old theory at h.0 k.0 h.1 k.1) ∙ sym k.3), h.4 ∙ sym k.4)
+serves_once old (Theorems theory) a b m n h k =
+    (h.3 ∙ (ap (reply_to Lists) (one_list_answer old theory h.0 k.0 h.1 k.1) ∙ sym k.3), h.4 ∙ sym k.4)
+serves_once old Close a b m n h k = (h.0 ∙ sym k.0, h.1 ∙ sym k.1)
 serves_once old (Basis theory name) a b m n h k =
     (h.3 ∙ (ap (reply_to RestsOn) (one_basis_answer old theory name h.0 k.0 h.1 k.1) ∙ sym k.3), h.4 ∙ sym k.4)
 

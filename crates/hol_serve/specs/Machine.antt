@@ -5,12 +5,12 @@ use Rattle.serde_json.specs.Data.{Data}
 use Rattle.serde_json.specs.Read.{read}
 use Rattle.hol_exec.specs.ReportValue.{ReportValue}
 use Rattle.hol_document.specs.declared.error.Refusal.{Refusal}
-use Rattle.hol_document.specs.Documents.{Documents, TheoryText, with_theory, with_command, with_theories}
-use Rattle.hol_document.specs.Asked.{Reported, BasisOf}
-use Rattle.hol_document.specs.Shown.{ShowsProved, TellsOfProved}
+use Rattle.hol_document.specs.Documents.{Documents, TheoryText, with_theory, without_theory, with_command, with_text, without_command, with_theories}
+use Rattle.hol_document.specs.Asked.{Reported, BasisOf, TheoremsOf}
+use Rattle.hol_document.specs.Shown.{ShowsProved, TellsOfProved, ListsProved}
 use Rattle.hol_serve.specs.Lines.{line_limit}
-use Rattle.hol_serve.specs.Requests.{RequestText, NewTheory, Insert, Report, Basis, request_of}
-use Rattle.hol_serve.specs.Replies.{LineTooLong, NotJson, Shape, ByDocuments, Memory, ReplyValue, Refused, Done, Reports, RestsOn, reply_line, closes}
+use Rattle.hol_serve.specs.Requests.{RequestText, NewTheory, DropTheory, Insert, Replace, Remove, Report, Theorems, Basis, Close, request_of}
+use Rattle.hol_serve.specs.Replies.{LineTooLong, NotJson, Shape, ByDocuments, Memory, ReplyValue, Refused, Done, Reports, Lists, RestsOn, Closed, reply_line, closes}
 
 -- the line is this JSON value, as `serde_json`'s `Value` reads it
 abbrev pub ReadsAs : List ℕ → Data → Type 0
@@ -31,6 +31,10 @@ abbrev pub ShowsProvedIf : Documents → List ℕ → ℕ → Result ReportValue
 ShowsProvedIf docs theory at (Ok report) = ShowsProved docs theory at report
 ShowsProvedIf docs theory at (Err refusal) = Unit {0}
 
+abbrev pub ListsProvedIf : Documents → List ℕ → Result (List (List ℕ)) Refusal → Type 0
+ListsProvedIf docs theory (Ok texts) = ListsProved docs theory texts
+ListsProvedIf docs theory (Err refusal) = Unit {0}
+
 abbrev pub TellsOfProvedIf : Documents → List ℕ → List ℕ → Result (Option (List (List ℕ))) Refusal → Type 0
 TellsOfProvedIf docs theory name (Ok answer) = TellsOfProved docs theory name answer
 TellsOfProvedIf docs theory name (Err refusal) = Unit {0}
@@ -38,11 +42,17 @@ TellsOfProvedIf docs theory name (Err refusal) = Unit {0}
 -- A request that may be served so. A question is answered from the rows of running the documents afresh, and shows proved theorems alone.
 abbrev pub Serves : Documents → RequestText → ReplyValue → Documents → Type 0
 Serves old (NewTheory name at) reply new = Edits old (with_theory old.theories name at) reply new
+Serves old (DropTheory name) reply new = Edits old (without_theory old.theories name) reply new
 Serves old (Insert theory at text) reply new = Edits old (with_command old.theories theory at text) reply new
+Serves old (Replace theory at text) reply new = Edits old (with_text old.theories theory at text) reply new
+Serves old (Remove theory at) reply new = Edits old (without_command old.theories theory at) reply new
 Serves old (Report theory at) reply new =
     (answer : Result ReportValue Refusal) × Reported old theory at answer × ShowsProvedIf old theory at answer × (reply ≡ reply_to Reports answer) × (new ≡ old)
+Serves old (Theorems theory) reply new =
+    (answer : Result (List (List ℕ)) Refusal) × TheoremsOf old theory answer × ListsProvedIf old theory answer × (reply ≡ reply_to Lists answer) × (new ≡ old)
 Serves old (Basis theory name) reply new =
     (answer : Result (Option (List (List ℕ))) Refusal) × BasisOf old theory name answer × TellsOfProvedIf old theory name answer × (reply ≡ reply_to RestsOn answer) × (new ≡ old)
+Serves old Close reply new = (reply ≡ Closed) × (new ≡ old)
 
 abbrev pub ServesIf : Documents → Option RequestText → ReplyValue → Documents → Type 0
 ServesIf old None reply new = (reply ≡ Refused Shape) × (new ≡ old)

@@ -44,6 +44,8 @@ pub data ReplyValue : Type 0 where
   Done : ReplyValue
   -- what a command's report says
   Reports : ReportValue → ReplyValue
+  -- the theorems at the end of a theory
+  Lists : List (List ℕ) → ReplyValue
   -- the items that a theorem rests on, or none where there is no such theorem
   RestsOn : Option (List (List ℕ)) → ReplyValue
   -- the session ends
@@ -75,6 +77,7 @@ reply_data (Refused refusal) =
     (member (codes "text") (string (refusal_text refusal)) no_members)))
 reply_data Done = object (member (codes "ok") (boolean true) no_members)
 reply_data (Reports report) = report_data report
+reply_data (Lists texts) = object (member (codes "ok") (boolean true) (member (codes "theorems") (texts_data texts) no_members))
 reply_data (RestsOn items) = object (member (codes "items") (items_data items) (member (codes "ok") (boolean true) no_members))
 reply_data Closed = object (member (codes "ok") (boolean true) no_members)
 
@@ -87,5 +90,6 @@ abbrev pub closes : ReplyValue → Bool
 closes (Refused refusal) = false
 closes Done = false
 closes (Reports report) = false
+closes (Lists texts) = false
 closes (RestsOn items) = false
 closes Closed = true

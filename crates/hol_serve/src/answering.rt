@@ -1,21 +1,22 @@
 //! One line and its reply.
 
-ghost use Rattle.std.specs.Prelude.{◌≡◌, ◌≤◌, ◌⊎◌, IfOk, OnErr, length};
+ghost use Rattle.std.specs.Prelude.{◌≡◌, ◌≤◌, ◌⊎◌, Err, IfOk, OnOk, IfErr, OnErr, length};
 ghost use Rattle.hol_document.specs.declared.error.Refusal.{Refusal};
 ghost use Rattle.serde_json.specs.Errors.{IsMemory};
 ghost use Rattle.hol_serve.specs.Lines.{line_limit};
-ghost use Rattle.hol_serve.specs.Machine.{Serves, MayAnswer};
-ghost use Rattle.hol_serve.specs.Replies.{ReplyValue, Refused, ByDocuments, Memory, NotJson};
+ghost use Rattle.hol_serve.specs.Machine.{MayAnswer};
+ghost use Rattle.hol_serve.specs.Replies.{Done, Refused, ByDocuments, Memory, NotJson};
 ghost use Rattle.hol_serve.specs.ReplyBytes.{reply_bytes};
-ghost use Rattle.hol_serve.specs.Texts.{Says};
+ghost use Rattle.hol_serve.specs.Requests.{Report, Theorems, Basis};
+ghost use Rattle.hol_serve.specs.Texts.{Says, IsServed};
 ghost use Rattle.hol_serve.specs.Views.{request_text};
 
-use crate::constants::{done, memory, not_json, refused, shape};
+use crate::constants::{closed, done, memory, not_json, refused, shape};
 use crate::lines::Reply;
 use crate::reading::request_of;
-use crate::replies::{reports, rests_on};
+use crate::replies::{lists, reports, rests_on};
 use crate::requests::Request;
-use hol_document::{DocsError, Editable};
+use hol_document::{DocsError, Editable, Refusal};
 use serde_json::{Error, Value};
 use std::alloc::{AllocError, Global};
 
@@ -30,13 +31,64 @@ fn refusal_reply(error: DocsError) -> Result<Reply, AllocError>
     }
 }
 
+// The reply to an edit that takes no memory.
+fn edit_reply(edit: Result<(), Refusal>) -> Reply
+    ensures done { OnOk edit (Says Done result) }
+    ensures refused { IfErr edit (λ refusal. Says (Refused (ByDocuments refusal)) result) }
+{
+    match edit {
+        Ok(()) => done(),
+        Err(refusal) => refused(refusal),
+    }
+}
+
+// Serves a question for a report.
+fn reported<D: Editable>(
+    alloc: Global,
+    docs: &D,
+    theory: &str,
+    at: u64,
+) -> Result<Reply, AllocError>
+    ensures { IfOk result (IsServed (D.value docs.now) (Report theory.now at) (D.value docs.now)) }
+{
+    match docs.report(theory, at as usize) {
+        Ok(report) => reports(alloc, report),
+        Err(error) => refusal_reply(error),
+    }
+}
+
+// Serves a question for theorems.
+fn listed<D: Editable>(alloc: Global, docs: &D, theory: &str) -> Result<Reply, AllocError>
+    ensures { IfOk result (IsServed (D.value docs.now) (Theorems theory.now) (D.value docs.now)) }
+{
+    match docs.theorems(theory) {
+        Ok(texts) => lists(alloc, texts),
+        Err(error) => refusal_reply(error),
+    }
+}
+
+// Serves a question for a basis.
+fn based<D: Editable>(
+    alloc: Global,
+    docs: &D,
+    theory: &str,
+    name: &str,
+) -> Result<Reply, AllocError>
+    ensures { IfOk result (IsServed (D.value docs.now) (Basis theory.now name.now) (D.value docs.now)) }
+{
+    match docs.basis(theory, name) {
+        Ok(items) => rests_on(alloc, items),
+        Err(error) => refusal_reply(error),
+    }
+}
+
 // Serves a request over the documents. Where it finds no memory they stay as they were.
 fn served<D: Editable>(
     alloc: Global,
     docs: &mut D,
     request: Request<'_>,
 ) -> Result<Reply, AllocError>
-    ensures ok { IfOk result (λ reply. (value : ReplyValue) × Says value reply × Serves (D.value docs.old) (request_text request.entry) value (D.value docs.new)) }
+    ensures ok { IfOk result (IsServed (D.value docs.old) (request_text request.entry) (D.value docs.new)) }
     ensures kept { OnErr result (D.value docs.new ≡ D.value docs.old) }
 {
     match request {
@@ -44,18 +96,20 @@ fn served<D: Editable>(
             Ok(()) => Ok(done()),
             Err(error) => refusal_reply(error),
         },
+        Request::DropTheory { name } => Ok(edit_reply(docs.drop_theory(name))),
         Request::Insert { theory, at, text } => match docs.insert(theory, at as usize, text) {
             Ok(()) => Ok(done()),
             Err(error) => refusal_reply(error),
         },
-        Request::Report { theory, at } => match docs.report(theory, at as usize) {
-            Ok(report) => reports(alloc, report),
+        Request::Replace { theory, at, text } => match docs.replace(theory, at as usize, text) {
+            Ok(()) => Ok(done()),
             Err(error) => refusal_reply(error),
         },
-        Request::Basis { theory, name } => match docs.basis(theory, name) {
-            Ok(items) => rests_on(alloc, items),
-            Err(error) => refusal_reply(error),
-        },
+        Request::Remove { theory, at } => Ok(edit_reply(docs.remove(theory, at as usize))),
+        Request::Report { theory, at } => reported(alloc, docs, theory, at),
+        Request::Theorems { theory } => listed(alloc, docs, theory),
+        Request::Basis { theory, name } => based(alloc, docs, theory, name),
+        Request::Close => Ok(closed()),
     }
 }
 

@@ -3,7 +3,7 @@
 
 ghost use Rattle.std.specs.Prelude.{◌≡◌, false};
 ghost use Rattle.hol_serve.specs.ReplyBytes.{reply_bytes};
-ghost use Rattle.hol_serve.specs.Replies.{Done, Refused, LineTooLong, NotJson, Shape, ByDocuments, Memory};
+ghost use Rattle.hol_serve.specs.Replies.{Done, Closed, Refused, LineTooLong, NotJson, Shape, ByDocuments, Memory};
 ghost use Rattle.hol_serve.specs.Texts.{Says};
 
 use crate::lines::{Reply, ReplyText};
@@ -25,6 +25,16 @@ pub(crate) fn done() -> Reply
     ensures { Says Done result }
 {
     constant(b"{\"ok\":true}\n")
+}
+
+/// The session ends.
+pub(crate) fn closed() -> Reply
+    ensures { Says Closed result }
+{
+    Reply {
+        text: ReplyText::Constant(b"{\"ok\":true}\n"),
+        closes: true,
+    }
 }
 
 /// The line is longer than 65,536 bytes.

@@ -2,7 +2,7 @@
 
 ghost use Rattle.std.specs.Prelude.{◌≡◌, option_map, codes};
 ghost use Rattle.serde_json.specs.View.{view};
-ghost use Rattle.hol_serve.specs.Requests.{text_at, number_at, new_theory_of, insert_of, report_of, basis_of, request_for, request_of};
+ghost use Rattle.hol_serve.specs.Requests.{Insert, Replace, Remove, Report, text_at, number_at, new_theory_of, drop_theory_of, text_at_place, at_place, theorems_of, basis_of, request_for, request_of};
 ghost use Rattle.hol_serve.specs.Views.{request_text};
 
 use crate::requests::Request;
@@ -30,8 +30,15 @@ fn new_theory_of<'v>(value: &'v Value) -> Option<Request<'v>>
     Some(Request::NewTheory { name, at })
 }
 
+fn drop_theory_of<'v>(value: &'v Value) -> Option<Request<'v>>
+    ensures { option_map request_text result ≡ drop_theory_of (view value.now) }
+{
+    let name = text_at(value, "name")?;
+    Some(Request::DropTheory { name })
+}
+
 fn insert_of<'v>(value: &'v Value) -> Option<Request<'v>>
-    ensures { option_map request_text result ≡ insert_of (view value.now) }
+    ensures { option_map request_text result ≡ text_at_place Insert (view value.now) }
 {
     let theory = text_at(value, "theory")?;
     let at = number_at(value, "at")?;
@@ -39,12 +46,36 @@ fn insert_of<'v>(value: &'v Value) -> Option<Request<'v>>
     Some(Request::Insert { theory, at, text })
 }
 
+fn replace_of<'v>(value: &'v Value) -> Option<Request<'v>>
+    ensures { option_map request_text result ≡ text_at_place Replace (view value.now) }
+{
+    let theory = text_at(value, "theory")?;
+    let at = number_at(value, "at")?;
+    let text = text_at(value, "text")?;
+    Some(Request::Replace { theory, at, text })
+}
+
+fn remove_of<'v>(value: &'v Value) -> Option<Request<'v>>
+    ensures { option_map request_text result ≡ at_place Remove (view value.now) }
+{
+    let theory = text_at(value, "theory")?;
+    let at = number_at(value, "at")?;
+    Some(Request::Remove { theory, at })
+}
+
 fn report_of<'v>(value: &'v Value) -> Option<Request<'v>>
-    ensures { option_map request_text result ≡ report_of (view value.now) }
+    ensures { option_map request_text result ≡ at_place Report (view value.now) }
 {
     let theory = text_at(value, "theory")?;
     let at = number_at(value, "at")?;
     Some(Request::Report { theory, at })
+}
+
+fn theorems_of<'v>(value: &'v Value) -> Option<Request<'v>>
+    ensures { option_map request_text result ≡ theorems_of (view value.now) }
+{
+    let theory = text_at(value, "theory")?;
+    Some(Request::Theorems { theory })
 }
 
 fn basis_of<'v>(value: &'v Value) -> Option<Request<'v>>
@@ -60,18 +91,16 @@ fn basis_of<'v>(value: &'v Value) -> Option<Request<'v>>
 pub(crate) fn request_of<'v>(value: &'v Value) -> Option<Request<'v>>
     ensures { option_map request_text result ≡ request_of (view value.now) }
 {
-    let op = text_at(value, "op")?;
-    if op == "new_theory" {
-        return new_theory_of(value);
+    match text_at(value, "op")? {
+        "new_theory" => new_theory_of(value),
+        "drop_theory" => drop_theory_of(value),
+        "insert" => insert_of(value),
+        "replace" => replace_of(value),
+        "remove" => remove_of(value),
+        "report" => report_of(value),
+        "theorems" => theorems_of(value),
+        "basis" => basis_of(value),
+        "close" => Some(Request::Close),
+        _ => None,
     }
-    if op == "insert" {
-        return insert_of(value);
-    }
-    if op == "report" {
-        return report_of(value);
-    }
-    if op == "basis" {
-        return basis_of(value);
-    }
-    None
 }

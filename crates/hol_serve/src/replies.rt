@@ -8,7 +8,7 @@ ghost use Rattle.serde_json.specs.Written.{compact_text, has_float};
 ghost use Rattle.hol_exec.specs.ReportValue.{ShowsGoals, HasMade, WasRefused};
 ghost use Rattle.hol_exec.specs.ReportView.{report_value, shown_goal_text};
 ghost use Rattle.hol_serve.specs.ReplyBytes.{reply_bytes};
-ghost use Rattle.hol_serve.specs.Replies.{Reports, RestsOn, texts_data, goal_data, report_data, items_data, reply_data};
+ghost use Rattle.hol_serve.specs.Replies.{Reports, Lists, RestsOn, texts_data, goal_data, report_data, items_data, reply_data};
 ghost use Rattle.hol_serve.specs.Texts.{Says};
 ghost use Rattle.hol_serve.specs.Views.{items_text};
 
@@ -98,6 +98,21 @@ pub(crate) fn reports(alloc: Global, report: Report) -> Result<Reply, AllocError
     ensures { IfOk result (Says (Reports (report_value report))) }
 {
     let value = report_value(alloc, report)?;
+    line_of(alloc, &value)
+}
+
+fn theorems_value(alloc: Global, texts: Vec<String>) -> Result<Value, AllocError>
+    ensures { IfOk result (λ value. view value ≡ reply_data (Lists (map string_bytes texts.items))) }
+{
+    let theorems = texts_value(alloc, texts)?;
+    json!(in alloc; {"ok": true, "theorems": theorems})
+}
+
+/// The reply to `theorems`.
+pub(crate) fn lists(alloc: Global, texts: Vec<String>) -> Result<Reply, AllocError>
+    ensures { IfOk result (Says (Lists (map string_bytes texts.items))) }
+{
+    let value = theorems_value(alloc, texts)?;
     line_of(alloc, &value)
 }
 

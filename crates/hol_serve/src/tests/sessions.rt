@@ -78,6 +78,64 @@ fn refuses_what_doesnt_fit_the_documents(rt: HostRuntime) -> Result<(), Fail> {
 }
 
 #[test]
+fn edits_theories(rt: HostRuntime) -> Result<(), Fail> {
+    expect_session(
+        &rt,
+        r#"
+> {"op":"new_theory","name":"A","at":0}
+< {"ok":true}
+> {"op":"insert","theory":"A","at":0,"text":"g M `f = g:A->B`"}
+< {"ok":true}
+> {"op":"insert","theory":"A","at":1,"text":"e REFL_TAC"}
+< {"ok":true}
+> {"op":"insert","theory":"A","at":2,"text":"qed"}
+< {"ok":true}
+> {"op":"theorems","theory":"A"}
+< {"ok":true,"theorems":[]}
+> {"op":"replace","theory":"A","at":0,"text":"g M `f = f:A->B`"}
+< {"ok":true}
+> {"op":"report","theory":"A","at":2}
+< {"made":["thm M |- f = f"],"ok":true}
+> {"op":"insert","theory":"A","at":3,"text":"g N `T = T`"}
+< {"ok":true}
+> {"op":"insert","theory":"A","at":4,"text":"e REFL_TAC"}
+< {"ok":true}
+> {"op":"insert","theory":"A","at":5,"text":"qed"}
+< {"ok":true}
+> {"op":"theorems","theory":"A"}
+< {"ok":true,"theorems":["thm M |- f = f","thm N |- T <=> T"]}
+> {"op":"remove","theory":"A","at":1}
+< {"ok":true}
+> {"op":"theorems","theory":"A"}
+< {"ok":true,"theorems":["thm M |- f = f"]}
+> {"op":"report","theory":"A","at":1}
+< {"arg":"","ok":true,"refusal":19,"text":"goals remain"}
+> {"op":"replace","theory":"A","at":5,"text":"qed"}
+< {"error":7,"ok":false,"text":"position out of range"}
+> {"op":"remove","theory":"A","at":5}
+< {"error":7,"ok":false,"text":"position out of range"}
+> {"op":"replace","theory":"B","at":0,"text":"qed"}
+< {"error":4,"ok":false,"text":"unknown theory"}
+> {"op":"remove","theory":"B","at":0}
+< {"error":4,"ok":false,"text":"unknown theory"}
+> {"op":"theorems","theory":"B"}
+< {"error":4,"ok":false,"text":"unknown theory"}
+> {"op":"drop_theory","name":"B"}
+< {"error":4,"ok":false,"text":"unknown theory"}
+> {"op":"drop_theory","name":"A"}
+< {"ok":true}
+> {"op":"report","theory":"A","at":0}
+< {"error":4,"ok":false,"text":"unknown theory"}
+> {"op":"new_theory","name":"A","at":0}
+< {"ok":true}
+> {"op":"close"}
+< {"ok":true}
+> {"op":"close"}
+"#,
+    )
+}
+
+#[test]
 fn refuses_what_is_no_request(rt: HostRuntime) -> Result<(), Fail> {
     let alloc = rt.alloc();
     let mut sent: Vec<u8> = Vec::new(alloc);
@@ -86,7 +144,10 @@ fn refuses_what_is_no_request(rt: HostRuntime) -> Result<(), Fail> {
         (
             r#"{"op":"x"}
 {"op":"stats"}
-{"op":"close"}
+{"op":"drop_theory","theory":"B"}
+{"op":"replace","theory":"B","at":0}
+{"op":"remove","theory":"B"}
+{"op":"theorems","name":"B"}
 {"op":1,"theory":"B","at":0}
 [{"op":"report","theory":"B","at":0}]
 {"theory":"B","at":0}

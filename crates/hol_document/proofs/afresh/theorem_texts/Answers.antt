@@ -1,0 +1,10 @@
+use Rattle.std.proofs.Common.{◌∙◌, ap, sym, ◌++◌}
+use Rattle.hol_document.specs.Asked.{theorem_texts_of}
+use Rattle.hol_document.proofs.Running.{texts_more}
+use Rattle.hol_document.proofs.afresh.theorem_texts.Goals as goal
+
+pub loop-i-preserved : goal.loop-i-preserved
+loop-i-preserved c =
+    c.in_ok-add_theorem.ensures
+    ∙ (ap (λ ts. ts ++ theorem_texts_of (c.entry_at.result.0.now, c.entry_at.result.1.now)) c.loop-i.invariant
+    ∙ sym (texts_more c.args.state.now.entries c.loop-i.i (c.entry_at.result.0.now, c.entry_at.result.1.now) c.entry_at.ensures))
