@@ -11,8 +11,8 @@ use hol_types::{Name, Ty};
 use std::alloc::{AllocError, Global};
 use std::test::Fail;
 
-// `bool` and functions.
-fn arities(alloc: Global) -> Result<Vec<(Name, usize)>, AllocError> {
+/// `bool` and functions.
+pub(crate) fn arities(alloc: Global) -> Result<Vec<(Name, usize)>, AllocError> {
     let mut list = Vec::new(alloc);
     for (name, arity) in [("bool", 0), ("fun", 2)] {
         list.push((Name::new(alloc, name)?, arity))?;
@@ -40,12 +40,14 @@ fn shown_type(alloc: Global, text: &str) -> Result<String, Fail> {
     }
 }
 
-fn constants(alloc: Global) -> Result<Vec<(Name, Ty)>, Fail> {
+/// Constants with their generic types.
+pub(crate) fn constants(alloc: Global) -> Result<Vec<(Name, Ty)>, Fail> {
     let generics = [
         ("=", "A->A->bool"),
         ("T", "bool"),
         ("/\\", "bool->bool->bool"),
         ("!", "(A->bool)->bool"),
+        ("c", "B->A->B->bool"),
     ];
     let mut list = Vec::new(alloc);
     for (name, text) in generics {
@@ -55,7 +57,8 @@ fn constants(alloc: Global) -> Result<Vec<(Name, Ty)>, Fail> {
     Ok(list)
 }
 
-fn written(alloc: Global, text: &str) -> Result<PreTerm, Fail> {
+/// The term that the text is.
+pub(crate) fn written(alloc: Global, text: &str) -> Result<PreTerm, Fail> {
     let (words, end) = scan(alloc, text)?;
     let (term, _rest) = read_term(alloc, &words, end)?;
     Ok(term)
@@ -121,6 +124,20 @@ fn terms_are_read(rt: HostRuntime) -> Result<(), Fail> {
         ("!x:A. f x = y", "bool, f:A->?0, y:?0"),
         ("\\x. x x", "untypable"),
         ("x x", "untypable"),
+        ("c", "?0->?1->?0->bool"),
+        ("c = c", "bool"),
+        ("f c c", "?4, f:(?0->?1->?0->bool)->(?2->?3->?2->bool)->?4"),
+        (
+            "f c (c x)",
+            "?4, f:(?0->?1->?0->bool)->(?2->?3->bool)->?4, x:?3",
+        ),
+        ("c c", "?2->(?0->?1->?0->bool)->bool"),
+        ("c c c = T", "untypable"),
+        (
+            "c (f c c)",
+            "?1->?0->bool, f:(?2->?3->?2->bool)->(?4->?5->?4->bool)->?0",
+        ),
+        ("c f = f", "untypable"),
         ("(x:A) = (y:B)", "untypable"),
         ("(x:bool bool) = y y", "type constructor's arity"),
     ];

@@ -11,6 +11,10 @@ mod notation_spelling;
 #[cfg(test)]
 mod notation_texts_tests;
 #[cfg(test)]
+mod plain_typing;
+#[cfg(test)]
 mod print_fixtures;
 #[cfg(test)]
 mod print_tests;
+#[cfg(test)]
+mod small_terms_tests;
