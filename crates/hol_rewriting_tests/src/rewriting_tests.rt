@@ -78,7 +78,7 @@ const TO_THE_END: [(&str, &str, u32, &str); 12] = [
 
 #[test]
 fn terms_are_rewritten_to_the_end(rt: HostRuntime) -> Result<(), Fail> {
-    for (texts, t, turns, wanted) in TO_THE_END {
+    for &(texts, t, turns, wanted) in &TO_THE_END {
         let found = rewritten(rt.alloc(), texts, t, turns)?;
         assert_eq!(rt; found.as_str(), wanted, "{texts} {t}");
     }
@@ -113,7 +113,7 @@ const ONCE: [(&str, &str, u32, &str); 8] = [
 
 #[test]
 fn topmost_parts_are_rewritten_once(rt: HostRuntime) -> Result<(), Fail> {
-    for (texts, t, turns, wanted) in ONCE {
+    for &(texts, t, turns, wanted) in &ONCE {
         let found = rewritten_once(rt.alloc(), texts, t, turns)?;
         assert_eq!(rt; found.as_str(), wanted, "{texts} {t}");
     }

@@ -37,7 +37,7 @@ const FITTING: [(&str, &str); 8] = [
 #[test]
 fn the_first_rule_fits(rt: HostRuntime) -> Result<(), Fail> {
     let set = rules(rt.alloc(), CLAUSES)?;
-    for (t, wanted) in FITTING {
+    for &(t, wanted) in &FITTING {
         let found = fitting(rt.alloc(), &set, t)?;
         assert_eq!(rt; found.as_str(), wanted, "{t}");
     }
@@ -74,7 +74,7 @@ const ASSUMED: [(&str, &str); 8] = [
 
 #[test]
 fn assumptions_have_rules(rt: HostRuntime) -> Result<(), Fail> {
-    for (p, wanted) in ASSUMED {
+    for &(p, wanted) in &ASSUMED {
         let set = rules(rt.alloc(), p)?;
         let found = all_shown(rt.alloc(), &set)?;
         assert_eq!(rt; found.as_str(), wanted, "{p}");
