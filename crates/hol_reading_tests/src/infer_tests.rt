@@ -112,38 +112,36 @@ fn shown_reading(alloc: Global, text: &str) -> Result<String, Fail> {
     shown(alloc, reading(alloc, text)?)
 }
 
+// Terms with their types and free variables.
+const TERMS: &str = r"x is ?0, x:?0
+\x. x is ?0->?0
+f x = y is bool, f:?1->?0, x:?1, y:?0
+\x. y = T is ?0->bool, y:bool
+\T. y = T is ?0->bool, y:?0
+p <=> q is bool, p:bool, q:bool
+!x:A. f x = y is bool, f:A->?0, y:?0
+\x. x x is untypable
+x x is untypable
+c is ?0->?1->?0->bool
+c = c is bool
+f c c is ?4, f:(?0->?1->?0->bool)->(?2->?3->?2->bool)->?4
+f c (c x) is ?4, f:(?0->?1->?0->bool)->(?2->?3->bool)->?4, x:?3
+c c is ?2->(?0->?1->?0->bool)->bool
+c c c = T is untypable
+c (f c c) is ?1->?0->bool, f:(?2->?3->?2->bool)->(?4->?5->?4->bool)->?0
+c f = f is untypable
+(x:A) = (y:B) is untypable
+(x:bool bool) = y y is type constructor's arity";
+
+fn reads_as(alloc: Global, row: &str) -> Result<bool, Fail> {
+    let (text, wanted) = row.split_once(" is ").ok_or("no row")?;
+    Ok(shown_reading(alloc, text)?.as_str() == wanted)
+}
+
 #[test]
 fn terms_are_read(rt: HostRuntime) -> Result<(), Fail> {
-    let cases = [
-        ("x", "?0, x:?0"),
-        ("\\x. x", "?0->?0"),
-        ("f x = y", "bool, f:?1->?0, x:?1, y:?0"),
-        ("\\x. y = T", "?0->bool, y:bool"),
-        ("\\T. y = T", "?0->bool, y:?0"),
-        ("p <=> q", "bool, p:bool, q:bool"),
-        ("!x:A. f x = y", "bool, f:A->?0, y:?0"),
-        ("\\x. x x", "untypable"),
-        ("x x", "untypable"),
-        ("c", "?0->?1->?0->bool"),
-        ("c = c", "bool"),
-        ("f c c", "?4, f:(?0->?1->?0->bool)->(?2->?3->?2->bool)->?4"),
-        (
-            "f c (c x)",
-            "?4, f:(?0->?1->?0->bool)->(?2->?3->bool)->?4, x:?3",
-        ),
-        ("c c", "?2->(?0->?1->?0->bool)->bool"),
-        ("c c c = T", "untypable"),
-        (
-            "c (f c c)",
-            "?1->?0->bool, f:(?2->?3->?2->bool)->(?4->?5->?4->bool)->?0",
-        ),
-        ("c f = f", "untypable"),
-        ("(x:A) = (y:B)", "untypable"),
-        ("(x:bool bool) = y y", "type constructor's arity"),
-    ];
-    for (text, wanted) in cases {
-        let got = shown_reading(rt.alloc(), text)?;
-        assert_eq!(rt; got.as_str(), wanted, "{text}");
+    for row in TERMS.lines() {
+        assert!(rt; reads_as(rt.alloc(), row)?, "{row}");
     }
     Ok(())
 }

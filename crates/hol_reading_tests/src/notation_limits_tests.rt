@@ -4,22 +4,6 @@ use std::alloc::{AllocError, Global};
 use std::hash::{DefaultHasher, Hash, Hasher};
 use std::test::Fail;
 
-// A part again and again, between a beginning and an end.
-fn repeated(
-    alloc: Global,
-    before: &str,
-    part: &str,
-    count: usize,
-    after: &str,
-) -> Result<String, AllocError> {
-    let mut text = String::from_str(alloc, before)?;
-    for _ in 0..count {
-        text.push_str(part)?;
-    }
-    text.push_str(after)?;
-    Ok(text)
-}
-
 fn refused_at(alloc: Global, text: &str) -> Option<usize> {
     match read_command(alloc, text) {
         Err(SyntaxError::Syntax(place)) => Some(place),
@@ -46,51 +30,77 @@ fn are_equal(alloc: Global, text: &str, other: &str) -> Result<bool, SyntaxError
     Ok(read_command(alloc, text)? == read_command(alloc, other)?)
 }
 
+const COMPARED: &str = r"g N `x` is not g  N `x`
+g N `x` is not g N  `x`
+g N `x` is g N `x `
+g N `x:A` is not g N `x:B`
+g N `!x. x` is not g N `!y. y`
+e A  THEN B is e A THEN B
+e A [L; M] is not e A [L]
+new_type t 1 is not new_type t 2";
+
+// Whether the texts are one command, or are not, as the row says.
+fn is_compared(alloc: Global, row: &str) -> Result<bool, Fail> {
+    if let Some((text, other)) = row.split_once(" is not ") {
+        return Ok(!are_equal(alloc, text, other)?);
+    }
+    let (text, other) = row.split_once(" is ").ok_or("no row")?;
+    Ok(are_equal(alloc, text, other)?)
+}
+
 #[test]
 fn tells_commands_apart(rt: HostRuntime) -> Result<(), Fail> {
-    let cases = [
-        ("g N `x`", "g  N `x`", false),
-        ("g N `x`", "g N  `x`", false),
-        ("g N `x`", "g N `x `", true),
-        ("g N `x:A`", "g N `x:B`", false),
-        ("g N `!x. x`", "g N `!y. y`", false),
-        ("e A  THEN B", "e A THEN B", true),
-        ("e A [L; M]", "e A [L]", false),
-        ("new_type t 1", "new_type t 2", false),
-    ];
-    for (text, other, wanted) in cases {
-        assert_eq!(rt; are_equal(rt.alloc(), text, other)?, wanted, "at {text}");
+    for row in COMPARED.lines() {
+        assert!(rt; is_compared(rt.alloc(), row)?, "{row}");
     }
     Ok(())
 }
 
-// Each text is a beginning, a part so many times, a middle, a closing part as many times, and an end; it has the 4,096 tokens that a text may have, or
-// a few less, or the 200 brackets that may be open.
+// The text and a part again and again.
+fn repeated(text: String, part: &str, count: usize) -> Result<String, AllocError> {
+    let mut text = text;
+    for _ in 0..count {
+        text.push_str(part)?;
+    }
+    Ok(text)
+}
+
+// A number, a beginning, a part so many times, a middle, a closing part as many times, and an end.
+fn text_of(alloc: Global, row: &str) -> Result<String, Fail> {
+    let mut parts = row.split('|');
+    let count = parts.next().unwrap_or("").parse()?;
+    let mut text = String::from_str(alloc, parts.next().unwrap_or(""))?;
+    text = repeated(text, parts.next().unwrap_or(""), count)?;
+    text.push_str(parts.next().unwrap_or(""))?;
+    text = repeated(text, parts.next().unwrap_or(""), count)?;
+    text.push_str(parts.next().unwrap_or(""))?;
+    Ok(text)
+}
+
+// Each text has the 4,096 tokens that a text may have, or a few less, or the 200 brackets that may be open.
+const MANY: &str = r"4091|g N `|~|p||`
+2045|g N `|p = |p||`
+2045|g N `|p <=> |p||`
+1363|g N `|!x. |x||`
+4092|g N `|f |||`
+4089|g N `!|x |. x||`
+200|g N `|(~ !x. p = |x|)|`
+2045|new_constant c `:A|->A|||`
+4090|new_constant c `:A| list|||`
+2047|e A| THEN A|||
+2047|e A| ORELSE A|||
+4094|e A| B|||
+2045|e EVERY [A|; A|||]
+200|e |(REPEAT |A|)|";
+
+fn is_read(alloc: Global, row: &str) -> Result<bool, Fail> {
+    Ok(equals_itself(alloc, text_of(alloc, row)?.as_str())?)
+}
+
 #[test]
 fn reads_texts_of_many_tokens(rt: HostRuntime) -> Result<(), Fail> {
-    let cases = [
-        ("g N `", "~", 4091, "p", "", "`"),
-        ("g N `", "p = ", 2045, "p", "", "`"),
-        ("g N `", "p <=> ", 2045, "p", "", "`"),
-        ("g N `", "!x. ", 1363, "x", "", "`"),
-        ("g N `", "f ", 4092, "", "", "`"),
-        ("g N `!", "x ", 4089, ". x", "", "`"),
-        ("g N `", "(~ !x. p = ", 200, "x", ")", "`"),
-        ("new_constant c `:A", "->A", 2045, "", "", "`"),
-        ("new_constant c `:A", " list", 4090, "", "", "`"),
-        ("e A", " THEN A", 2047, "", "", ""),
-        ("e A", " ORELSE A", 2047, "", "", ""),
-        ("e A", " B", 4094, "", "", ""),
-        ("e EVERY [A", "; A", 2045, "", "", "]"),
-        ("e ", "(REPEAT ", 200, "A", ")", ""),
-    ];
-    for (before, part, count, middle, closing, after) in cases {
-        let open = repeated(rt.alloc(), before, part, count, middle)?;
-        let text = repeated(rt.alloc(), open.as_str(), closing, count, after)?;
-        assert!(rt;
-            equals_itself(rt.alloc(), text.as_str())?,
-            "at {before}{part}"
-        );
+    for row in MANY.lines() {
+        assert!(rt; is_read(rt.alloc(), row)?, "{row}");
     }
     Ok(())
 }
@@ -114,25 +124,28 @@ fn reads_definitions_of_many_parameters(rt: HostRuntime) -> Result<(), Fail> {
     Ok(())
 }
 
+// Texts beyond a limit, each with the place where it is refused.
+const BEYOND: &str = r"201|g N `|(||| @205
+200|e A [|(||| @204
+4096|e| x||| @8192
+4093|e A `|~|x||` @4098";
+
+// Whether the place of the text, if it has one, is the one behind it.
+fn is_refused(alloc: Global, row: &str) -> Result<bool, Fail> {
+    let (text, place) = row.rsplit_once(" @").ok_or("no row")?;
+    let wanted: usize = place.parse()?;
+    Ok(refused_at(alloc, text_of(alloc, text)?.as_str()) == Some(wanted))
+}
+
 #[test]
 fn refuses_beyond_the_limits(rt: HostRuntime) -> Result<(), Fail> {
-    let cases = [
-        ("g N `", "(", 201, "", 205),
-        ("e A [", "(", 200, "", 204),
-        ("e", " x", 4096, "", 8192),
-        ("e A `", "~", 4093, "x`", 4098),
-    ];
-    for (before, part, count, after, place) in cases {
-        let text = repeated(rt.alloc(), before, part, count, after)?;
-        assert_eq!(rt;
-            refused_at(rt.alloc(), text.as_str()),
-            Some(place),
-            "at {before}"
-        );
+    for row in BEYOND.lines() {
+        assert!(rt; is_refused(rt.alloc(), row)?, "{row}");
     }
     Ok(())
 }
 
+// The number of the text's tokens, or 10,000 and the place where it is refused.
 fn lexed(alloc: Global, text: &str) -> Option<usize> {
     match lex(alloc, text) {
         Ok(tokens) => Some(tokens.len()),
@@ -141,20 +154,22 @@ fn lexed(alloc: Global, text: &str) -> Option<usize> {
     }
 }
 
+const LEXED: &str = r"0| g N `x /\ y'`;|||| @8
+0|x # y|||| @10002
+300||(||| @300
+4096||x ||| @4096
+4097||x ||| @18192";
+
+fn is_lexed(alloc: Global, row: &str) -> Result<bool, Fail> {
+    let (text, wanted) = row.rsplit_once(" @").ok_or("no row")?;
+    let wanted: usize = wanted.parse()?;
+    Ok(lexed(alloc, text_of(alloc, text)?.as_str()) == Some(wanted))
+}
+
 #[test]
 fn lexes(rt: HostRuntime) -> Result<(), Fail> {
-    let brackets = repeated(rt.alloc(), "", "(", 300, "")?;
-    let most = repeated(rt.alloc(), "", "x ", 4096, "")?;
-    let more = repeated(rt.alloc(), "", "x ", 4097, "")?;
-    let cases = [
-        (" g N `x /\\ y'`;", 8),
-        ("x # y", 10_002),
-        (brackets.as_str(), 300),
-        (most.as_str(), 4096),
-        (more.as_str(), 10_000 + 8192),
-    ];
-    for (text, wanted) in cases {
-        assert_eq!(rt; lexed(rt.alloc(), text), Some(wanted), "at {text}");
+    for row in LEXED.lines() {
+        assert!(rt; is_lexed(rt.alloc(), row)?, "{row}");
     }
     Ok(())
 }

@@ -4,116 +4,56 @@ use hol_print::{show_goal, show_term, show_type};
 use std::alloc::Global;
 use std::test::Fail;
 
-fn shown_type(alloc: Global, words: &str) -> Result<String, Fail> {
-    Ok(show_type(alloc, &ty(alloc, words)?)?)
+// The words of a type, and as what it is shown, behind what the row is about.
+const TYPES: &str = r"functions are right associative: bool bool bool > > is bool->bool->bool
+a function to the left of an arrow is in parentheses: bool bool > bool > is (bool->bool)->bool
+a function before a constructor is in parentheses: bool bool > list is (bool->bool) list
+two arguments stand in parentheses: bool bool bool > prod is (bool,bool->bool) prod";
+
+// The same of terms.
+const TERMS: &str =
+    r"a left operand of the same infix is in parentheses: p q /\ r /\ is (p /\ q) /\ r
+a right operand of the same infix is not: r p q = = is r <=> p <=> q
+a stronger infix needs no parentheses: p q /\ p q \/ ==> is p /\ q ==> p \/ q
+a negated infix is in parentheses: p q = ~ is ~(p <=> q)
+a negation is in parentheses as an argument alone: p ~ f ~ is ~f (~p)
+an operator alone is in parentheses: p (/\) is (/\) p
+binders of one kind stand together: p q = !q !p is !p q. p <=> q
+binders of two kinds do not: p q = ?!q ?p is ?p. ?!q. p <=> q
+a binder as an operand is in parentheses: p @p p = is (@p. p) <=> p
+a bound variable avoids free names: x \x'' is \x'. x
+a bound variable is shown by its base: x'' \x'' is \x. x
+a bound variable avoids outer ones that occur: x' x /\ \x'' \x' is \x' x''. x' /\ x
+an outer variable that does not occur is no matter: x \x \x' is \x x. x";
+
+// The words of the row and what is wanted of them.
+fn parts(row: &str) -> Option<(&str, &str)> {
+    let (_about, parts) = row.split_once(": ")?;
+    parts.split_once(" is ")
+}
+
+fn shows_type(alloc: Global, row: &str) -> Result<bool, Fail> {
+    let (words, wanted) = parts(row).ok_or("no row")?;
+    Ok(show_type(alloc, &ty(alloc, words)?)?.as_str() == wanted)
+}
+
+fn shows_term(alloc: Global, row: &str) -> Result<bool, Fail> {
+    let (words, wanted) = parts(row).ok_or("no row")?;
+    Ok(show_term(alloc, &term(alloc, words)?)?.as_str() == wanted)
 }
 
 #[test]
 fn types_are_shown(rt: HostRuntime) -> Result<(), Fail> {
-    let cases = [
-        (
-            "functions are right associative",
-            "bool bool bool > >",
-            "bool->bool->bool",
-        ),
-        (
-            "a function to the left of an arrow is in parentheses",
-            "bool bool > bool >",
-            "(bool->bool)->bool",
-        ),
-        (
-            "a function before a constructor is in parentheses",
-            "bool bool > list",
-            "(bool->bool) list",
-        ),
-        (
-            "two arguments stand in parentheses",
-            "bool bool bool > prod",
-            "(bool,bool->bool) prod",
-        ),
-    ];
-    for (what, words, wanted) in cases {
-        let shown = shown_type(rt.alloc(), words)?;
-        assert_eq!(rt; shown.as_str(), wanted, "{what}");
-    }
-    Ok(())
-}
-
-fn shown_term(alloc: Global, words: &str) -> Result<String, Fail> {
-    Ok(show_term(alloc, &term(alloc, words)?)?)
-}
-
-#[test]
-fn operators_are_shown(rt: HostRuntime) -> Result<(), Fail> {
-    let cases = [
-        (
-            "a left operand of the same infix is in parentheses",
-            "p q /\\ r /\\",
-            "(p /\\ q) /\\ r",
-        ),
-        (
-            "a right operand of the same infix is not",
-            "r p q = =",
-            "r <=> p <=> q",
-        ),
-        (
-            "a stronger infix needs no parentheses",
-            "p q /\\ p q \\/ ==>",
-            "p /\\ q ==> p \\/ q",
-        ),
-        ("a negated infix is in parentheses", "p q = ~", "~(p <=> q)"),
-        (
-            "a negation is in parentheses as an argument alone",
-            "p ~ f ~",
-            "~f (~p)",
-        ),
-        ("an operator alone is in parentheses", "p (/\\)", "(/\\) p"),
-    ];
-    for (what, words, wanted) in cases {
-        let shown = shown_term(rt.alloc(), words)?;
-        assert_eq!(rt; shown.as_str(), wanted, "{what}");
+    for row in TYPES.lines() {
+        assert!(rt; shows_type(rt.alloc(), row)?, "{row}");
     }
     Ok(())
 }
 
 #[test]
-fn binders_are_shown(rt: HostRuntime) -> Result<(), Fail> {
-    let cases = [
-        (
-            "binders of one kind stand together",
-            "p q = !q !p",
-            "!p q. p <=> q",
-        ),
-        (
-            "binders of two kinds do not",
-            "p q = ?!q ?p",
-            "?p. ?!q. p <=> q",
-        ),
-        (
-            "a binder as an operand is in parentheses",
-            "p @p p =",
-            "(@p. p) <=> p",
-        ),
-        ("a bound variable avoids free names", "x \\x''", "\\x'. x"),
-        (
-            "a bound variable is shown by its base",
-            "x'' \\x''",
-            "\\x. x",
-        ),
-        (
-            "a bound variable avoids outer ones that occur",
-            "x' x /\\ \\x'' \\x'",
-            "\\x' x''. x' /\\ x",
-        ),
-        (
-            "an outer variable that does not occur is no matter",
-            "x \\x \\x'",
-            "\\x x. x",
-        ),
-    ];
-    for (what, words, wanted) in cases {
-        let shown = shown_term(rt.alloc(), words)?;
-        assert_eq!(rt; shown.as_str(), wanted, "{what}");
+fn terms_are_shown(rt: HostRuntime) -> Result<(), Fail> {
+    for row in TERMS.lines() {
+        assert!(rt; shows_term(rt.alloc(), row)?, "{row}");
     }
     Ok(())
 }
