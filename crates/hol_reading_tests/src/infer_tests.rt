@@ -192,15 +192,22 @@ fn fault(alloc: Global, text: &str) -> Result<Option<ReadingError>, Fail> {
     }
 }
 
+fn fault_of_doublings(alloc: Global, count: usize) -> Result<Option<ReadingError>, Fail> {
+    fault(alloc, doublings(alloc, count)?.as_str())
+}
+
+fn fault_of_nested(alloc: Global, count: usize) -> Result<Option<ReadingError>, Fail> {
+    fault(alloc, nested(alloc, count)?.as_str())
+}
+
 // 400 doublings are seen to be too large at once, and before anything of their size is made.
 #[test]
 fn sizes_are_tested(rt: HostRuntime) -> Result<(), Fail> {
-    let alloc = rt.alloc();
-    let small = doublings(alloc, 7)?;
-    assert_eq!(rt; fault(alloc, small.as_str())?, None);
-    let large = doublings(alloc, 400)?;
-    assert_eq!(rt; fault(alloc, large.as_str())?, Some(ReadingError::TooLarge));
-    let deep = nested(alloc, 300)?;
-    assert_eq!(rt; fault(alloc, deep.as_str())?, None);
+    assert_eq!(rt; fault_of_doublings(rt.alloc(), 7)?, None);
+    assert_eq!(rt;
+        fault_of_doublings(rt.alloc(), 400)?,
+        Some(ReadingError::TooLarge)
+    );
+    assert_eq!(rt; fault_of_nested(rt.alloc(), 300)?, None);
     Ok(())
 }

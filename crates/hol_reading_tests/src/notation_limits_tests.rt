@@ -1,5 +1,5 @@
 //! Texts at the limits on tokens and brackets: each is read, copied, compared, hashed and dropped, in the call stack of a program's main thread.
-use hol_notation::{SyntaxError, lex, read_command};
+use hol_notation::{Command, SyntaxError, lex, read_command};
 use std::alloc::{AllocError, Global};
 use std::hash::{DefaultHasher, Hash, Hasher};
 use std::test::Fail;
@@ -17,13 +17,19 @@ fn hash_of<T: Hash>(value: &T) -> u64 {
     state.finish()
 }
 
-// Whether the command that the text is equals its copy, and the same command read again, and is hashed as they are.
+fn equals_copy(alloc: Global, command: &Command) -> Result<bool, AllocError> {
+    Ok(*command == command.copy(alloc)?)
+}
+
+fn equals_reading(alloc: Global, command: &Command, text: &str) -> Result<bool, SyntaxError> {
+    let again = read_command(alloc, text)?;
+    Ok(command.same(&again) && hash_of(command) == hash_of(&again))
+}
+
+// Whether the command that the text is equals its copy, and the same command read again, and is hashed as it is.
 fn equals_itself(alloc: Global, text: &str) -> Result<bool, SyntaxError> {
     let command = read_command(alloc, text)?;
-    let copied = command.copy(alloc)?;
-    let again = read_command(alloc, text)?;
-    let is_hashed_alike = hash_of(&command) == hash_of(&again);
-    Ok(command == copied && command.same(&again) && is_hashed_alike)
+    Ok(equals_copy(alloc, &command)? && equals_reading(alloc, &command, text)?)
 }
 
 fn are_equal(alloc: Global, text: &str, other: &str) -> Result<bool, SyntaxError> {

@@ -18,17 +18,21 @@ pub fn ty(alloc: Global, words: &str) -> Result<Ty, Fail> {
 fn made_type(alloc: Global, stack: &mut Vec<Ty>, word: &str) -> Result<Ty, Fail> {
     match word {
         "bool" => Ok(Ty::app(alloc, &Name::new(alloc, word)?, &[])?),
-        "list" => {
-            let argument = stack.pop().ok_or("no argument")?;
-            Ok(Ty::app(alloc, &Name::new(alloc, word)?, &[argument])?)
-        }
-        _ => {
-            let last = stack.pop().ok_or("no last type")?;
-            let before = stack.pop().ok_or("no type before")?;
-            let name = if word == ">" { "fun" } else { word };
-            Ok(Ty::app(alloc, &Name::new(alloc, name)?, &[before, last])?)
-        }
+        "list" => of_one(alloc, stack, word),
+        ">" => of_two(alloc, stack, "fun"),
+        _ => of_two(alloc, stack, word),
     }
+}
+
+fn of_one(alloc: Global, stack: &mut Vec<Ty>, name: &str) -> Result<Ty, Fail> {
+    let argument = stack.pop().ok_or("no argument")?;
+    Ok(Ty::app(alloc, &Name::new(alloc, name)?, &[argument])?)
+}
+
+fn of_two(alloc: Global, stack: &mut Vec<Ty>, name: &str) -> Result<Ty, Fail> {
+    let last = stack.pop().ok_or("no last type")?;
+    let before = stack.pop().ok_or("no type before")?;
+    Ok(Ty::app(alloc, &Name::new(alloc, name)?, &[before, last])?)
 }
 
 /// The term that is written so, all of type bool: `/\`, `\/`, `==>` and `=` stand between the last two, `~` and `f` before the last,
@@ -64,20 +68,39 @@ fn applied(alloc: Global, name: &str, words: &str, stack: &mut Vec<Term>) -> Res
     Ok(Term::comb(alloc, &function, &argument)?)
 }
 
-// A binder over the last term, or a variable.
-fn bound(alloc: Global, stack: &mut Vec<Term>, word: &str) -> Result<Term, Fail> {
-    for binder in ["!", "?!", "?", "@", "\\"] {
-        if let Some(name) = word.strip_prefix(binder) {
-            let body = stack.pop().ok_or("no body")?;
-            let lambda = Term::abstraction(alloc, &variable(alloc, name)?, &body)?;
-            if binder == "\\" {
-                return Ok(lambda);
-            }
-            stack.push(lambda)?;
-            return applied(alloc, binder, "bool bool > bool >", stack);
+const BINDERS: [&str; 5] = ["!", "?!", "?", "@", "\\"];
+
+// The binder that the word begins with, and the name behind it.
+fn binder_of(word: &str) -> Option<(&'static str, &str)> {
+    for binder in &BINDERS {
+        if let Some(name) = word.strip_prefix(*binder) {
+            return Some((binder, name));
         }
     }
-    Ok(Term::var(alloc, &variable(alloc, word)?)?)
+    None
+}
+
+// A binder over the last term, or a variable.
+fn bound(alloc: Global, stack: &mut Vec<Term>, word: &str) -> Result<Term, Fail> {
+    match binder_of(word) {
+        Some((binder, name)) => over(alloc, stack, binder, name),
+        None => Ok(Term::var(alloc, &variable(alloc, word)?)?),
+    }
+}
+
+// The binder of the variable of this name over the last term.
+fn over(alloc: Global, stack: &mut Vec<Term>, binder: &str, name: &str) -> Result<Term, Fail> {
+    let lambda = abstracted(alloc, stack, name)?;
+    if binder == "\\" {
+        return Ok(lambda);
+    }
+    stack.push(lambda)?;
+    applied(alloc, binder, "bool bool > bool >", stack)
+}
+
+fn abstracted(alloc: Global, stack: &mut Vec<Term>, name: &str) -> Result<Term, Fail> {
+    let body = stack.pop().ok_or("no body")?;
+    Ok(Term::abstraction(alloc, &variable(alloc, name)?, &body)?)
 }
 
 // The variable of this name and type bool.

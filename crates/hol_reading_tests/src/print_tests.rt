@@ -1,6 +1,6 @@
 //! The texts of types, terms and goals, as they are wanted.
 use crate::print_fixtures::{term, ty};
-use hol_print::{show_goal, show_term, show_type};
+use hol_print::{ShownGoal, show_goal, show_term, show_type};
 use std::alloc::Global;
 use std::test::Fail;
 
@@ -62,17 +62,23 @@ fn terms_are_shown(rt: HostRuntime) -> Result<(), Fail> {
 fn shown_goal(alloc: Global, assumption: &str, conclusion: &str) -> Result<String, Fail> {
     let asl = [term(alloc, assumption)?];
     let shown = show_goal(alloc, &asl, &term(alloc, conclusion)?)?;
+    texts_of(alloc, &shown)
+}
+
+fn texts_of(alloc: Global, shown: &ShownGoal) -> Result<String, Fail> {
     let mut text = String::from_str(alloc, shown.goal.as_str())?;
-    for part in &shown.asl {
-        text.push_str("; ")?;
-        text.push_str(part.as_str())?;
-    }
+    add_all(&mut text, "; ", &shown.asl)?;
     text.push_str(" |")?;
-    for part in &shown.free {
-        text.push_str(" ")?;
+    add_all(&mut text, " ", &shown.free)?;
+    Ok(text)
+}
+
+fn add_all(text: &mut String, before: &str, parts: &[String]) -> Result<(), Fail> {
+    for part in parts {
+        text.push_str(before)?;
         text.push_str(part.as_str())?;
     }
-    Ok(text)
+    Ok(())
 }
 
 #[test]
