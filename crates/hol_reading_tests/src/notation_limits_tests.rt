@@ -26,10 +26,14 @@ fn equals_reading(alloc: Global, command: &Command, text: &str) -> Result<bool, 
     Ok(command.same(&again) && hash_of(command) == hash_of(&again))
 }
 
+fn equals_both(alloc: Global, command: &Command, text: &str) -> Result<bool, SyntaxError> {
+    Ok(equals_copy(alloc, command)? && equals_reading(alloc, command, text)?)
+}
+
 // Whether the command that the text is equals its copy, and the same command read again, and is hashed as it is.
 fn equals_itself(alloc: Global, text: &str) -> Result<bool, SyntaxError> {
     let command = read_command(alloc, text)?;
-    Ok(equals_copy(alloc, &command)? && equals_reading(alloc, &command, text)?)
+    equals_both(alloc, &command, text)
 }
 
 fn are_equal(alloc: Global, text: &str, other: &str) -> Result<bool, SyntaxError> {
