@@ -181,8 +181,12 @@ impl Graph {
     }
 
     /// Solves the equations, and gives the parts of a generic type slots where it meets a type that is known otherwise. Equal generic types
-    /// are one without them: so a constant whose instances are only equated with each other costs no slots for its parts. Each such meeting
-    /// costs a walk over the generic type, and two slots, or slots for all its parts where its arguments have a type variable in common.
+    /// are one without them: so a constant whose instances are only equated with each other costs no slots for its parts, and where it was
+    /// counted no walk over its type.
+    ///
+    /// Where its type was counted and its variables are distinct, such a meeting costs two slots: so the time is near linear in the term,
+    /// with the type of each of its constants once. Else it costs a walk over the type, and slots for all its parts where its arguments have
+    /// a type variable in common.
     ///
     /// Answers `Untypable` only where no types met the graph and the equations.
     pub fn settle(&mut self, alloc: Global) -> Result<(), Fault>

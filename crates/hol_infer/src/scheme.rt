@@ -1,13 +1,15 @@
 //! Generic types, which know whether a type variable stands in them twice.
-ghost use Rattle.std.specs.Prelude.{◌≡◌, ◌++◌, IfOk, OnOk, IsTrue, ◌↔◌};
+ghost use Rattle.std.specs.Prelude.{◌≡◌, ◌++◌, IfOk, OnOk, IsTrue, ◌↔◌, true};
 ghost use Rattle.hol_types.specs.Names.{type_names};
 ghost use Rattle.hol_infer.specs.declared.scheme.Variables.TheVariants.{Distinct};
 ghost use Rattle.hol_infer.specs.Linear.{IsLinear, AreDistinct};
 
+use hol_mark::Mark;
 use hol_types::{Name, Ty, TyNode};
 use std::alloc::{AllocError, Global};
 use std::collections::BTreeSet;
 use std::marker::Model;
+use std::rc::Rc;
 
 /// What is known of how often the type variables stand in a type.
 #[derive(Clone, Copy, Debug, PartialEq, Eq)]
@@ -20,15 +22,16 @@ pub enum Variables {
     Repeated,
 }
 
-/// A generic type. Its copies share its nodes.
+/// A generic type. Its copies share its nodes, and its mark once its variables are counted.
 #[derive(Drop)]
 pub struct Scheme {
     ty: Ty,
     variables: Variables,
+    mark: Option<Rc<Mark>>,
 }
 
 impl Model for Scheme {
-    ghost use Rattle.std.specs.Prelude.{◌≡◌};
+    ghost use Rattle.std.specs.Prelude.{◌≡◌, IfSome};
     ghost use Rattle.hol_types.specs.Tree.{TypeTree};
     ghost use Rattle.hol_types.specs.Code.{coded_type};
     ghost use Rattle.hol_infer.specs.declared.scheme.Variables.TheVariants.{Distinct};
@@ -40,7 +43,7 @@ impl Model for Scheme {
 
     ghost view = { λ a. a.ty };
 
-    ghost invariant = { λ a. a.variables ≡ Distinct → IsLinear a.ty };
+    ghost invariant = { λ a. (a.variables ≡ Distinct → IsLinear a.ty) × IfSome a.mark (λ mark. mark.value ≡ coded_type.code a.ty) };
 }
 
 impl Scheme {
@@ -52,15 +55,18 @@ impl Scheme {
         Ok(Scheme {
             ty: ty.copy()?,
             variables,
+            mark: None,
         })
     }
 
-    /// Finds out whether its variables are distinct, unless that is known, in time near linear in the type.
+    /// Finds out whether its variables are distinct, unless that is known, in time near linear in the type, and gives it a mark.
     pub fn count(&mut self, alloc: Global) -> Result<(), AllocError>
         ensures { OnOk result (self.new ≡ self.old) }
     {
         match self.variables {
             Variables::Unknown => {
+                let mark = Mark::about(&self.ty);
+                self.mark = Some(Rc::new(alloc, mark)?);
                 self.variables = variables_of(alloc, &self.ty)?;
                 Ok(())
             }
@@ -87,16 +93,36 @@ impl Scheme {
     pub fn copy(&self) -> Result<Scheme, AllocError>
         ensures { IfOk result (λ s. s ≡ self.now) }
     {
+        let mark = match &self.mark {
+            Some(mark) => Some(mark.clone()?),
+            None => None,
+        };
         Ok(Scheme {
             ty: self.ty.copy()?,
             variables: self.variables,
+            mark,
         })
     }
 
-    /// Whether the two are equal types.
+    // Whether the two have one mark, as copies of one that was counted have. No clause says that copies are found to have one.
+    fn has_mark_of(&self, other: &Scheme) -> bool
+        ensures { result ≡ true → self.now ≡ other.now }
+    {
+        match (&self.mark, &other.mark) {
+            (Some(mine), Some(its)) => mine.same(its),
+            (Some(_), None) => false,
+            (None, Some(_)) => false,
+            (None, None) => false,
+        }
+    }
+
+    /// Whether the two are equal types: at once for copies of one that was counted, and else by a comparison.
     pub fn same(&self, other: &Scheme) -> bool
         ensures { IsTrue result ↔ (self.now ≡ other.now) }
     {
+        if self.has_mark_of(other) {
+            return true;
+        }
         self.ty.same(&other.ty)
     }
 }
