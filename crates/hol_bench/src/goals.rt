@@ -75,6 +75,7 @@ fn once(alloc: Global, tac: &str, args: &TacArgs, goal: &Goal) -> Result<u32, Fa
         Ok(_tried) => Ok(goal.size()),
         Err(TacFault::Refused(_left)) => Ok(0),
         Err(TacFault::TurnLimit) => Ok(0),
+        Err(TacFault::TooLarge) => Ok(0),
         Err(TacFault::Memory) => Err(Failure::Refused),
     }
 }

@@ -134,6 +134,7 @@ fn equated(alloc: Global, args: &TacArgs, goal: &Goal) -> Result<Tried, TacFault
         Ok(tried) => Ok(tried),
         Err(TacFault::Refused(_left)) => refl_tac(alloc, args, goal, 0),
         Err(TacFault::TurnLimit) => Err(TacFault::TurnLimit),
+        Err(TacFault::TooLarge) => Err(TacFault::TooLarge),
         Err(TacFault::Memory) => Err(TacFault::Memory),
     }
 }

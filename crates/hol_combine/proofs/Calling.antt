@@ -8,7 +8,7 @@ use Rattle.hol_kernel.proofs.HypothesisLists.{hyps_total, hyps_same}
 use Rattle.hol_kernel.proofs.Members.{in_union_right}
 use Rattle.hol_goal.specs.Achieves.{assumed}
 use Rattle.hol_goal.specs.Goal.{GoalValue}
-use Rattle.hol_goal.specs.Answer.{UsedValue, AnswerResult, AnswerValue, Left, Unfit, OutOfTurns}
+use Rattle.hol_goal.specs.Answer.{UsedValue, AnswerResult, AnswerValue, Left, Unfit, OutOfTurns, TooLarge}
 use Rattle.hol_goal.specs.Arguments.{TacArgsValue}
 use Rattle.hol_goal.specs.declared.tac_code.TacCode.{TacCode}
 use Rattle.hol_just.specs.Tac.{Meaning, tac}
@@ -17,7 +17,7 @@ use Rattle.hol_just.specs.Answering.{args_hyps, suits, IsResult, IsAnsweredBy, I
 use Rattle.hol_just.specs.declared.tried.Step.{Step}
 use Rattle.hol_just.specs.declared.tried.Tried.{Tried}
 use Rattle.hol_just.specs.declared.tried.TacFault.TheVariants as fault
-use Rattle.hol_combine.specs.Runs.{RunValue, Refuses, DoesNotFit, Stops, TurnLimit, answer_of, small, run_meaning, meaning_at, are_assumed}
+use Rattle.hol_combine.specs.Runs.{RunValue, Refuses, DoesNotFit, Stops, TurnLimit, LargeGoal, answer_of, small, run_meaning, meaning_at, are_assumed}
 use Rattle.hol_combine.specs.RunView.{IsRun, IsValidRun}
 use Rattle.hol_combine.specs.Going.{LeavesAtMost}
 use Rattle.hol_combine.specs.Called.{IsCalled}
@@ -38,6 +38,7 @@ result_left : (name : List ℕ) (answer : AnswerResult) (used : UsedValue) (trie
 result_left name (Left goals) used tried a = λ i. small (sym a.0 i) (sym a.1 i)
 result_left name Unfit used tried a = absurd a
 result_left name OutOfTurns used tried a = absurd a
+result_left name TooLarge used tried a = absurd a
 
 pub answered_left : (meaning : Option Meaning) (name : List ℕ) (args : TacArgsValue) (goal : GoalValue) (turns : ℕ) (tried : Tried) → IsAnsweredBy meaning args goal turns (Ok tried) → run_meaning meaning name args goal turns ≡ small tried.step.goals.items tried.left
 answered_left None name args goal turns tried a = absurd a
@@ -50,6 +51,7 @@ result_unfit : (name : List ℕ) (answer : AnswerResult) (used : UsedValue) (lef
 result_unfit name (Left goals) used left a = absurd a
 result_unfit name Unfit used left a = λ i. Refuses (DoesNotFit name) (sym a i)
 result_unfit name OutOfTurns used left a = absurd a
+result_unfit name TooLarge used left a = absurd a
 
 pub answered_unfit : (meaning : Option Meaning) (name : List ℕ) (args : TacArgsValue) (goal : GoalValue) (turns left : ℕ) → IsAnsweredBy meaning args goal turns (Err (fault.Refused left)) → run_meaning meaning name args goal turns ≡ Refuses (DoesNotFit name) left
 answered_unfit None name args goal turns left a = absurd a
@@ -62,6 +64,7 @@ result_stops : (name : List ℕ) (answer : AnswerResult) (used : UsedValue) → 
 result_stops name (Left goals) used a = absurd a
 result_stops name Unfit used a = absurd a
 result_stops name OutOfTurns used a = refl
+result_stops name TooLarge used a = absurd a
 
 pub answered_stops : (meaning : Option Meaning) (name : List ℕ) (args : TacArgsValue) (goal : GoalValue) (turns : ℕ) → IsAnsweredBy meaning args goal turns (Err fault.TurnLimit) → run_meaning meaning name args goal turns ≡ Stops TurnLimit
 answered_stops None name args goal turns a = absurd a
@@ -69,11 +72,25 @@ answered_stops (Some f) name args goal turns a =
     let answer : AnswerValue = f args goal (record { turns_left = turns }) in
     result_stops name answer.result answer.used a
 
+-- a term is too large
+result_large : (name : List ℕ) (answer : AnswerResult) (used : UsedValue) → IsResult answer used (Err fault.TooLarge) → answer_of name answer used.turns_left ≡ Stops LargeGoal
+result_large name (Left goals) used a = absurd a
+result_large name Unfit used a = absurd a
+result_large name OutOfTurns used a = absurd a
+result_large name TooLarge used a = refl
+
+pub answered_large : (meaning : Option Meaning) (name : List ℕ) (args : TacArgsValue) (goal : GoalValue) (turns : ℕ) → IsAnsweredBy meaning args goal turns (Err fault.TooLarge) → run_meaning meaning name args goal turns ≡ Stops LargeGoal
+answered_large None name args goal turns a = absurd a
+answered_large (Some f) name args goal turns a =
+    let answer : AnswerValue = f args goal (record { turns_left = turns }) in
+    result_large name answer.result answer.used a
+
 -- no more turns are left
 tried_falls : (answer : AnswerResult) (used : UsedValue) (tried : Tried) (turns : ℕ) → used.turns_left ≤ turns → IsResult answer used (Ok tried) → tried.left ≤ turns
 tried_falls (Left goals) used tried turns h a = omega (arith, h, a.1)
 tried_falls Unfit used tried turns h a = absurd a
 tried_falls OutOfTurns used tried turns h a = absurd a
+tried_falls TooLarge used tried turns h a = absurd a
 
 pub left_falls : (meaning : Option Meaning) (args : TacArgsValue) (goal : GoalValue) (turns : ℕ) (tried : Tried) → MeaningFalls meaning → IsAnsweredBy meaning args goal turns (Ok tried) → tried.left ≤ turns
 left_falls None args goal turns tried h a = absurd a
@@ -85,6 +102,7 @@ unfit_falls : (answer : AnswerResult) (used : UsedValue) (left turns : ℕ) → 
 unfit_falls (Left goals) used left turns h a = absurd a
 unfit_falls Unfit used left turns h a = omega (arith, h, a)
 unfit_falls OutOfTurns used left turns h a = absurd a
+unfit_falls TooLarge used left turns h a = absurd a
 
 pub refused_falls : (meaning : Option Meaning) (args : TacArgsValue) (goal : GoalValue) (turns left : ℕ) → MeaningFalls meaning → IsAnsweredBy meaning args goal turns (Err (fault.Refused left)) → left ≤ turns
 refused_falls None args goal turns left h a = absurd a

@@ -3,7 +3,7 @@ use Rattle.std.specs.Prelude.{◌≡◌, ◌≤◌, ℕ, zero, suc, Bool, true, 
 use Rattle.std.proofs.Common.{arith}
 use Rattle.hol_terms.specs.Nameless.{Nameless}
 use Rattle.hol_goal.specs.Goal.{GoalValue}
-use Rattle.hol_goal.specs.Answer.{UsedValue, AnswerResult, AnswerValue, Left, Unfit, OutOfTurns}
+use Rattle.hol_goal.specs.Answer.{UsedValue, AnswerResult, AnswerValue, Left, Unfit, OutOfTurns, TooLarge}
 use Rattle.hol_goal.specs.Arguments.{TacArgsValue}
 use Rattle.hol_goal.specs.declared.tac_code.TacCode.{TacCode}
 use Rattle.hol_goal.specs.declared.tac_code.TacCode.TheVariants.{AllTac, NoTac, ReflTac, AcceptTac, ConjTac, Disj1Tac, Disj2Tac, EqTac, DischTac, GenTac, XGenTac, ExistsTac, SpecTac, MpTac, AssumeTac, ContrTac, ChooseTac, XChooseTac, DisjCasesTac, Subst1Tac, ApTermTac, ApThmTac, MkCombTac, UndischTac, StripAssumeTac, StripTac, MatchMpTac, BetaTac, RewriteTac, OnceRewriteTac, AsmRewriteTac, OnceAsmRewriteTac, PureRewriteTac}
@@ -11,6 +11,7 @@ use Rattle.hol_just.specs.Leaving.{concluding}
 use Rattle.hol_just.specs.Strip.{antecedent}
 use Rattle.hol_just.specs.Tac.{Meaning, tac}
 use Rattle.hol_just.proofs.Pieces.{strip_assume_falls, strip_tac_falls}
+use Rattle.hol_just.proofs.Reducing.{beta_falls}
 use Rattle.hol_combine.specs.ExprValue.{CallValue, TheoremTacValue, ExprValue, ExprValues, Call, Then, ThenL, OrElse, Try, Repeat, Every, First, Replicate, Changed, DischThen, PopAssum, FirstAssum, SubgoalThen, no_exprs, more_exprs}
 use Rattle.hol_combine.specs.Runs.{RunValue, Leaves, Refuses, Stops, before_goals, then_on, otherwise, each, unchanged, has_large, answer_of, run_meaning, meaning_at, are_assumed, call_paid, run_call, handed, hand, disch_then, pop_assum, first_assum, subgoal_then, is_just, changed, replicate, as_many, count, run, run_every, run_first, run_each}
 use Rattle.hol_combine.proofs.Falling.{IsWithin, Falls, within_more, within_before, within_then, within_otherwise, each_falls, repeated_falls}
@@ -53,7 +54,7 @@ tac_falls UndischTac = λ args goal turns. omega arith
 tac_falls StripAssumeTac = strip_assume_falls
 tac_falls StripTac = strip_tac_falls
 tac_falls MatchMpTac = tt
-tac_falls BetaTac = tt
+tac_falls BetaTac = beta_falls
 tac_falls RewriteTac = tt
 tac_falls OnceRewriteTac = tt
 tac_falls AsmRewriteTac = tt
@@ -69,6 +70,7 @@ answer_falls : (name : List ℕ) (result : AnswerResult) (left turns : ℕ) → 
 answer_falls name (Left goals) left turns h = within_cond turns (has_large goals) (Stops _) (Leaves goals left) tt h
 answer_falls name Unfit left turns h = h
 answer_falls name OutOfTurns left turns h = tt
+answer_falls name TooLarge left turns h = tt
 
 meaning_falls : (meaning : Option Meaning) (name : List ℕ) (args : TacArgsValue) (goal : GoalValue) (turns : ℕ) → MeaningFalls meaning → IsWithin turns (run_meaning meaning name args goal turns)
 meaning_falls None name args goal turns h = omega arith

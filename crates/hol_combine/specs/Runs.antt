@@ -7,7 +7,7 @@ use Rattle.hol_terms.specs.Nameless.{Nameless}
 use Rattle.hol_terms.specs.Alpha.{alpha_eq}
 use Rattle.hol_goal.specs.Goal.{GoalValue, goal_size}
 use Rattle.hol_goal.specs.Achieves.{assumed}
-use Rattle.hol_goal.specs.Answer.{UsedValue, AnswerResult, AnswerValue, Left, Unfit, OutOfTurns}
+use Rattle.hol_goal.specs.Answer.{UsedValue, AnswerResult, AnswerValue, Left, Unfit, OutOfTurns, TooLarge}
 use Rattle.hol_kernel.specs.Given.{assumed as assume}
 use Rattle.hol_goal.specs.Arguments.{TacArgsValue, Theorem, TermAndTheorem}
 use Rattle.hol_goal.specs.declared.tac_code.TacCode.{TacCode}
@@ -22,7 +22,7 @@ pub data RefusalValue : Type 0 where
   DoesNotFit : List ℕ → RefusalValue
   LacksHyps : List ℕ → RefusalValue
 
--- why a run is stopped, whatever stands around it: no turn is left to go on with, or a goal is too large
+-- why a run is stopped, whatever stands around it: no turn is left to go on with, or a goal, or a term on the way to one, is too large
 pub data StopValue : Type 0 where
   TurnLimit : StopValue
   LargeGoal : StopValue
@@ -80,6 +80,7 @@ abbrev pub answer_of : List ℕ → AnswerResult → ℕ → RunValue
 answer_of name (Left goals) turns = small goals turns
 answer_of name Unfit turns = Refuses (DoesNotFit name) turns
 answer_of name OutOfTurns turns = Stops TurnLimit
+answer_of name TooLarge turns = Stops LargeGoal
 
 -- a function on goals by its meaning
 abbrev pub run_meaning : Option Meaning → List ℕ → TacArgsValue → GoalValue → ℕ → RunValue

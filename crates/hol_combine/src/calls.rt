@@ -72,6 +72,7 @@ pub(crate) fn call_paid<T: Tacs>(
             Err(RunError::Refused(Refusal::DoesNotFit(name), left))
         }
         Err(TacFault::TurnLimit) => Err(RunError::TurnLimit),
+        Err(TacFault::TooLarge) => Err(RunError::LargeGoal),
         Err(TacFault::Memory) => Err(RunError::Memory),
     }
 }

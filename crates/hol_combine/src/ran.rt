@@ -35,7 +35,7 @@ pub enum RunError {
     /// No turn was left to go on with.
     #[error("no turn is left")]
     TurnLimit,
-    /// A goal that a function left has over 20,000 nodes.
+    /// A goal that a function left, or a term on the way to one, has over 20,000 nodes.
     #[error("a goal is too large")]
     LargeGoal,
     /// Memory is short.

@@ -1,7 +1,7 @@
 //! Runs of expressions.
 ghost use Rattle.std.specs.Prelude.{◌≡◌, ◌≤◌, IfOk, length, true, [], ◌∷◌};
 ghost use Rattle.hol_registry.specs.RegistryView.{table};
-ghost use Rattle.hol_combine.specs.ExprValue.{exprs, or_else_all};
+ghost use Rattle.hol_combine.specs.ExprValue.{Changed, OrElse, Then, ThenL, Try, exprs, or_else_all, then_all};
 ghost use Rattle.hol_combine.specs.Runs.{each, repeated, replicate, run, run_every};
 ghost use Rattle.hol_combine.specs.More.{run_more, run_list};
 ghost use Rattle.hol_combine.specs.Suits.{are_indices, are_indices_of, suits_expr, suits_exprs};
@@ -53,32 +53,13 @@ fn run_expr<T: Tacs>(
     match expr.node() {
         ExprNode::Call(call) => run_call(alloc, call, goal, tacs, turns),
         ExprNode::Then(first, second, more) => {
-            let ran = run_expr(alloc, first, goal, tacs, turns)?;
-            let next = run_each(alloc, slice::from_ref(second), ran, tacs)?;
-            run_more(alloc, more, next, tacs)
+            run_then(alloc, first, second, more, goal, tacs, turns)
         }
-        ExprNode::ThenL(first, parts) => {
-            let ran = run_expr(alloc, first, goal, tacs, turns)?;
-            run_list(alloc, parts, ran, tacs)
-        }
+        ExprNode::ThenL(first, parts) => run_then_list(alloc, first, parts, goal, tacs, turns),
         ExprNode::OrElse(first, second, more) => {
-            match run_expr(alloc, first, goal, tacs, turns) {
-                Ok(ran) => Ok(ran),
-                Err(RunError::Refused(_, left)) => {
-                    run_alternatives(alloc, second, more, goal, tacs, left)
-                }
-                Err(RunError::TurnLimit) => Err(RunError::TurnLimit),
-                Err(RunError::LargeGoal) => Err(RunError::LargeGoal),
-                Err(RunError::Memory) => Err(RunError::Memory),
-            }
+            run_or_else(alloc, first, second, more, goal, tacs, turns)
         }
-        ExprNode::Try(part) => match run_expr(alloc, part, goal, tacs, turns) {
-            Ok(ran) => Ok(ran),
-            Err(RunError::Refused(_, left)) => Ok(unchanged(alloc, goal, left)?),
-            Err(RunError::TurnLimit) => Err(RunError::TurnLimit),
-            Err(RunError::LargeGoal) => Err(RunError::LargeGoal),
-            Err(RunError::Memory) => Err(RunError::Memory),
-        },
+        ExprNode::Try(part) => run_try(alloc, part, goal, tacs, turns),
         ExprNode::Repeat(part) => repeat(alloc, part, unchanged(alloc, goal, turns)?, tacs),
         ExprNode::Every(parts) => run_every(alloc, parts, goal, tacs, turns),
         ExprNode::First(parts) => match parts.as_slice() {
@@ -88,15 +69,128 @@ fn run_expr<T: Tacs>(
         ExprNode::Replicate(times, part) => {
             replicate(alloc, *times, part, unchanged(alloc, goal, turns)?, tacs)
         }
-        ExprNode::Changed(part) => {
-            let ran = run_expr(alloc, part, goal, tacs, turns)?;
-            if is_just(goal, &ran.step.goals) {
-                return Err(refused(alloc, "CHANGED_TAC", ran.left));
-            }
-            Ok(ran)
-        }
+        ExprNode::Changed(part) => run_changed(alloc, part, goal, tacs, turns),
         ExprNode::Hand(how, tac) => run_handing(alloc, how, tac, goal, tacs, turns),
     }
+}
+
+// THEN: the first expression, and the others one after the other, each on all the goals that the one before it left.
+#[cycle(run)]
+fn run_then<T: Tacs>(
+    alloc: Global,
+    first: &Expr,
+    second: &Expr,
+    more: &[Expr],
+    goal: &Goal,
+    tacs: &T,
+    turns: u32,
+) -> Result<Ran, RunError>
+    requires first { are_indices (length (T.Tacs.table_of tacs.now)) first.now ≡ true }
+    requires second { are_indices (length (T.Tacs.table_of tacs.now)) second.now ≡ true }
+    requires more { are_indices_of (length (T.Tacs.table_of tacs.now)) (exprs more.now) ≡ true }
+    requires turns { turns ≤ 100000 }
+    ensures answer { IsRun (run (T.Tacs.table_of tacs.now) (then_all (Then first.now second.now) more.now) goal.now turns) result }
+    ensures valid { IfOk result (IsValidRun (suits_expr (then_all (Then first.now second.now) more.now)) (goal.now ∷ [])) }
+    ensures left { LeavesAtMost turns result }
+{
+    let ran = run_expr(alloc, first, goal, tacs, turns)?;
+    let next = run_each(alloc, slice::from_ref(second), ran, tacs)?;
+    run_more(alloc, more, next, tacs)
+}
+
+// THENL: the first expression, and each of the others on the goal of its place.
+#[cycle(run)]
+fn run_then_list<T: Tacs>(
+    alloc: Global,
+    first: &Expr,
+    parts: &[Expr],
+    goal: &Goal,
+    tacs: &T,
+    turns: u32,
+) -> Result<Ran, RunError>
+    requires first { are_indices (length (T.Tacs.table_of tacs.now)) first.now ≡ true }
+    requires parts { are_indices_of (length (T.Tacs.table_of tacs.now)) (exprs parts.now) ≡ true }
+    requires turns { turns ≤ 100000 }
+    ensures answer { IsRun (run (T.Tacs.table_of tacs.now) (ThenL first.now (exprs parts.now)) goal.now turns) result }
+    ensures valid { IfOk result (IsValidRun (suits_expr (ThenL first.now (exprs parts.now))) (goal.now ∷ [])) }
+    ensures left { LeavesAtMost turns result }
+{
+    let ran = run_expr(alloc, first, goal, tacs, turns)?;
+    run_list(alloc, parts, ran, tacs)
+}
+
+// ORELSE: the first expression, or where it is refused the others.
+#[cycle(run)]
+fn run_or_else<T: Tacs>(
+    alloc: Global,
+    first: &Expr,
+    second: &Expr,
+    more: &[Expr],
+    goal: &Goal,
+    tacs: &T,
+    turns: u32,
+) -> Result<Ran, RunError>
+    requires first { are_indices (length (T.Tacs.table_of tacs.now)) first.now ≡ true }
+    requires second { are_indices (length (T.Tacs.table_of tacs.now)) second.now ≡ true }
+    requires more { are_indices_of (length (T.Tacs.table_of tacs.now)) (exprs more.now) ≡ true }
+    requires turns { turns ≤ 100000 }
+    ensures answer { IsRun (run (T.Tacs.table_of tacs.now) (OrElse first.now (or_else_all second.now more.now)) goal.now turns) result }
+    ensures valid { IfOk result (IsValidRun (suits_expr (OrElse first.now (or_else_all second.now more.now))) (goal.now ∷ [])) }
+    ensures left { LeavesAtMost turns result }
+{
+    match run_expr(alloc, first, goal, tacs, turns) {
+        Ok(ran) => Ok(ran),
+        Err(RunError::Refused(_, left)) => run_alternatives(alloc, second, more, goal, tacs, left),
+        Err(RunError::TurnLimit) => Err(RunError::TurnLimit),
+        Err(RunError::LargeGoal) => Err(RunError::LargeGoal),
+        Err(RunError::Memory) => Err(RunError::Memory),
+    }
+}
+
+// TRY: the expression, or where it is refused the goal as it is.
+#[cycle(run)]
+fn run_try<T: Tacs>(
+    alloc: Global,
+    part: &Expr,
+    goal: &Goal,
+    tacs: &T,
+    turns: u32,
+) -> Result<Ran, RunError>
+    requires indices { are_indices (length (T.Tacs.table_of tacs.now)) part.now ≡ true }
+    requires turns { turns ≤ 100000 }
+    ensures answer { IsRun (run (T.Tacs.table_of tacs.now) (Try part.now) goal.now turns) result }
+    ensures valid { IfOk result (IsValidRun (suits_expr (Try part.now)) (goal.now ∷ [])) }
+    ensures left { LeavesAtMost turns result }
+{
+    match run_expr(alloc, part, goal, tacs, turns) {
+        Ok(ran) => Ok(ran),
+        Err(RunError::Refused(_, left)) => Ok(unchanged(alloc, goal, left)?),
+        Err(RunError::TurnLimit) => Err(RunError::TurnLimit),
+        Err(RunError::LargeGoal) => Err(RunError::LargeGoal),
+        Err(RunError::Memory) => Err(RunError::Memory),
+    }
+}
+
+// CHANGED_TAC: the expression, refused where it leaves the goal as it is.
+#[cycle(run)]
+fn run_changed<T: Tacs>(
+    alloc: Global,
+    part: &Expr,
+    goal: &Goal,
+    tacs: &T,
+    turns: u32,
+) -> Result<Ran, RunError>
+    requires indices { are_indices (length (T.Tacs.table_of tacs.now)) part.now ≡ true }
+    requires turns { turns ≤ 100000 }
+    ensures answer { IsRun (run (T.Tacs.table_of tacs.now) (Changed part.now) goal.now turns) result }
+    ensures valid { IfOk result (IsValidRun (suits_expr (Changed part.now)) (goal.now ∷ [])) }
+    ensures left { LeavesAtMost turns result }
+{
+    let ran = run_expr(alloc, part, goal, tacs, turns)?;
+    if is_just(goal, &ran.step.goals) {
+        return Err(refused(alloc, "CHANGED_TAC", ran.left));
+    }
+    Ok(ran)
 }
 
 // The expressions one after the other, each on all the goals that the one before it left.
@@ -177,13 +271,7 @@ fn run_alternatives<T: Tacs>(
     let [next, rest @ ..] = more else {
         return run_expr(alloc, first, goal, tacs, turns);
     };
-    match run_expr(alloc, first, goal, tacs, turns) {
-        Ok(ran) => Ok(ran),
-        Err(RunError::Refused(_, left)) => run_alternatives(alloc, next, rest, goal, tacs, left),
-        Err(RunError::TurnLimit) => Err(RunError::TurnLimit),
-        Err(RunError::LargeGoal) => Err(RunError::LargeGoal),
-        Err(RunError::Memory) => Err(RunError::Memory),
-    }
+    run_or_else(alloc, first, next, rest, goal, tacs, turns)
 }
 
 // Each of the expressions on the goal of its place.

@@ -1,60 +1,17 @@
 -- Each entry that stands was made by one of the rows that lead there.
-use Rattle.std.proofs.Common.{◌≡◌, ℕ, ◌==◌, List, [], ◌∷◌, ◌++◌, Bool, true, false, cond, refl, ap, sym, ◌∙◌, subst, append_assoc, arith}
+use Rattle.std.proofs.Common.{◌≡◌, ℕ, List, [], ◌∷◌, ◌++◌, refl, ap, sym, ◌∙◌, subst, append_assoc, arith}
 use Rattle.std.specs.Prelude.{None}
 use Rattle.std.specs.List.{All, Contains}
-use Rattle.std.proofs.lemmas.Bool.{and_parts}
 use Rattle.std.proofs.lemmas.Grind.{common_steps}
-use Rattle.std.proofs.lemmas.List.Elements.{All-nil, All-cons, All-head, All-tail, All-weaker, All-contains_itself}
-use Rattle.std.proofs.lemmas.Slice.Eq.{bytes_eq-Decides}
-use Rattle.indexmap.specs.IndexMap.{insert_entry, insert_all}
-use Rattle.hol_exec.specs.declared.key.Kind.{Kind}
-use Rattle.hol_exec.specs.declared.key.Kind.TheVariants as kind
-use Rattle.hol_exec.specs.Key.{KeyValue, kind_rank, key_eq}
-use Rattle.hol_exec.specs.Entry.{EntryValue, Entries}
+use Rattle.std.proofs.lemmas.List.Elements.{All-nil, All-append, All-weaker, All-contains_itself}
+use Rattle.hol_theory.specs.Key.{KeyValue}
+use Rattle.hol_theory.specs.Entry.{EntryValue, Entries}
 use Rattle.hol_exec.specs.OutcomeValue.{OutcomeValue, Opens, Leaves, Undoes, Rotates, Makes, Refuses, after}
 use Rattle.hol_exec.specs.Setup.{SetupValue}
 use Rattle.hol_exec.specs.StateValue.{StateValue, EndedTheory, start}
 use Rattle.hol_document.specs.Afresh.{Row, AreRows}
 use Rattle.hol_document.specs.Shown.{goal_after, open_goal, FinishesBy, IsMadeIn}
 use Rattle.hol_document.proofs.Goals.{goal_of, goal_next, open_goal_more, row_finishes}
-
--- ---- keys
-
-kind_same : (a b : Kind) → (kind_rank a == kind_rank b) ≡ true → a ≡ b
-kind_same kind.Type kind.Type e = refl
-kind_same kind.Type kind.Constant e = absurd (cc)
-kind_same kind.Type kind.Theorem e = absurd (cc)
-kind_same kind.Constant kind.Type e = absurd (cc)
-kind_same kind.Constant kind.Constant e = refl
-kind_same kind.Constant kind.Theorem e = absurd (cc)
-kind_same kind.Theorem kind.Type e = absurd (cc)
-kind_same kind.Theorem kind.Constant e = absurd (cc)
-kind_same kind.Theorem kind.Theorem e = refl
-
-key_same : (a b : KeyValue) → key_eq a b ≡ true → a ≡ b
-key_same a b e =
-    let parts = and_parts (kind_rank a.kind == kind_rank b.kind) _ e in
-    let kinds : a.kind ≡ b.kind = kind_same a.kind b.kind parts.0 in
-    let names : a.name ≡ b.name = (bytes_eq-Decides a.name b.name).0 parts.1 in
-    λ i. record { kind = kinds i; name = names i }
-
--- ---- what is inserted into entries
-
-abbrev Fact : Type 1
-Fact = KeyValue × EntryValue → Type 0
-
-inserted_at : (P : Fact) (e : KeyValue × EntryValue) (es es' : Entries) (k : KeyValue) (v : EntryValue) (t : Bool)
-    → key_eq k e.0 ≡ t → All P (e ∷ es) → P (k, v) → All P es' → All P (cond t ((e.0, v) ∷ es) (e ∷ es'))
-inserted_at P e es es' k v true q h p rest = All-cons P (e.0, v) es (subst (λ key. P (key, v)) (key_same k e.0 q) p) (All-tail P e es h)
-inserted_at P e es es' k v false q h p rest = All-cons P e es' (All-head P e es h) rest
-
-inserted : (P : Fact) (es : Entries) (k : KeyValue) (v : EntryValue) → All P es → P (k, v) → All P (insert_entry key_eq es k v)
-inserted P [] k v h p = All-cons P (k, v) [] p (All-nil P)
-inserted P (e ∷ es) k v h p = inserted_at P e es (insert_entry key_eq es k v) k v (key_eq k e.0) refl h p (inserted P es k v (All-tail P e es h) p)
-
-all_inserted : (P : Fact) (es more : Entries) → All P es → All P more → All P (insert_all key_eq es more)
-all_inserted P es [] h k = h
-all_inserted P es (e ∷ more) h k = all_inserted P (insert_entry key_eq es e.0 e.1) more (inserted P es e.0 e.1 h (All-head P e more k)) (All-tail P e more k)
 
 -- ---- one row more
 
@@ -77,7 +34,7 @@ next_made before row s (Leaves goal goals basis) e h f = All-weaker (IsMadeIn be
 next_made before row s Undoes e h f = All-weaker (IsMadeIn before) (IsMadeIn (before ++ row ∷ [])) (made_more before row) s.entries h
 next_made before row s (Rotates times) e h f = All-weaker (IsMadeIn before) (IsMadeIn (before ++ row ∷ [])) (made_more before row) s.entries h
 next_made before row s (Makes entries) e h f =
-    all_inserted (IsMadeIn (before ++ row ∷ [])) s.entries entries (All-weaker (IsMadeIn before) (IsMadeIn (before ++ row ∷ [])) (made_more before row) s.entries h)
+    All-append (IsMadeIn (before ++ row ∷ [])) s.entries entries (All-weaker (IsMadeIn before) (IsMadeIn (before ++ row ∷ [])) (made_more before row) s.entries h)
     (All-weaker (Contains entries) (IsMadeIn (before ++ row ∷ [])) (λ entry among. record {
       before = before;
       row = row;

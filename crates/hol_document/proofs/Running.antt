@@ -9,8 +9,9 @@ use Rattle.hol_exec.specs.At.{IsOutcome, IsOutcomeAt}
 use Rattle.hol_exec.specs.OutcomeValue.{OutcomeValue, after, MakesTheorems}
 use Rattle.hol_exec.specs.Parsed.{ParsedValue, IsParsed}
 use Rattle.hol_exec.specs.ReadsValue.{reads_at}
-use Rattle.hol_exec.specs.Key.{KeyValue, theorem_key}
-use Rattle.hol_exec.specs.Entry.{EntryValue, Entries, entry_at, EachIsEntry}
+use Rattle.hol_theory.specs.Key.{KeyValue, theorem_key}
+use Rattle.hol_theory.specs.Entry.{EntryValue, Entries, entry_at}
+use Rattle.hol_exec.specs.Entry.{EachIsPlain}
 use Rattle.hol_exec.specs.ReportValue.{ReportValue}
 use Rattle.hol_exec.specs.ReportOf.{report_of}
 use Rattle.hol_exec.specs.StateValue.{StateValue, EndedTheory, start}
@@ -120,7 +121,7 @@ report_is docs i at theory front ends lines heads line s s' outcome report h the
 -- the answer from the last state of a theory
 pub basis_is : (docs : Documents) (i : ℕ) (name : List ℕ) (key : KeyValue) (theory : TheoryText) (front : List TheoryText) (ends : List EndedTheory) (lines : List (List ℕ)) (s : StateValue) (found : Option EntryValue) (answer : Option (List (List ℕ)))
     → i < length docs.theories → theory ≡ get_or docs.theories i theory → front ≡ take i docs.theories → lines ≡ theory.commands
-    → EndSo docs.setup front ends → LeadTo docs.setup ends lines s → EachIsEntry s.entries
+    → EndSo docs.setup front ends → LeadTo docs.setup ends lines s → EachIsPlain s.entries
     → key ≡ theorem_key name → found ≡ entry_at key s.entries → BasisTexts found answer → IsProvedBasis docs i name answer
 basis_is docs i name key theory front ends lines s found answer h theory_is front_is lines_are (runs, are, same) (rows, leads) proved key_is found_is texts =
     let commands : commands_at docs i ≡ lines = ap (λ (t : TheoryText). t.commands) (theory_found docs.theories i theory h theory_is) ∙ sym lines_are in
@@ -139,7 +140,7 @@ basis_is docs i name key theory front ends lines s found answer h theory_is fron
 -- the theorems of the last state of a theory
 pub theorems_are : (docs : Documents) (i : ℕ) (theory : TheoryText) (front : List TheoryText) (ends : List EndedTheory) (lines : List (List ℕ)) (s : StateValue) (texts : List (List ℕ))
     → i < length docs.theories → theory ≡ get_or docs.theories i theory → front ≡ take i docs.theories → lines ≡ theory.commands
-    → EndSo docs.setup front ends → LeadTo docs.setup ends lines s → EachIsEntry s.entries → texts ≡ theorem_texts s.entries → AreProvedTheorems docs i texts
+    → EndSo docs.setup front ends → LeadTo docs.setup ends lines s → EachIsPlain s.entries → texts ≡ theorem_texts s.entries → AreProvedTheorems docs i texts
 theorems_are docs i theory front ends lines s texts h theory_is front_is lines_are (runs, are, same) (rows, leads) proved says =
     let commands : commands_at docs i ≡ lines = ap (λ (t : TheoryText). t.commands) (theory_found docs.theories i theory h theory_is) ∙ sym lines_are in
     record {

@@ -1,8 +1,8 @@
 -- What is answered to a question about the documents: what running them afresh says.
 -- Source: this project.
 use Rattle.std.specs.Prelude.{◌≡◌, ℕ, List, [], ◌∷◌, ◌++◌, ◌≤◌, ◌<◌, ⊤, length, map, take, Option, Some, None, Result, Ok, Err, slice_index_or}
-use Rattle.hol_exec.specs.Key.{KeyValue, theorem_key}
-use Rattle.hol_exec.specs.Entry.{EntryValue, ATheorem, Entries, entry_at}
+use Rattle.hol_theory.specs.Key.{KeyValue, theorem_key}
+use Rattle.hol_theory.specs.Entry.{EntryValue, AType, AConstant, ATheorem, Entries, entry_at}
 use Rattle.hol_exec.specs.OutcomeValue.{after}
 use Rattle.hol_exec.specs.ReportValue.{ReportValue}
 use Rattle.hol_exec.specs.ReportOf.{report_of, entry_text}
@@ -52,6 +52,8 @@ Reported docs name at answer = ReportedIn docs (find_theory name docs.theories) 
 abbrev pub BasisTexts : Option EntryValue → Option (List (List ℕ)) → Type 0
 BasisTexts None None = Unit {0}
 BasisTexts None (Some texts) = ⊥
+BasisTexts (Some (AType arity item basis)) answer = answer ≡ None
+BasisTexts (Some (AConstant ty item basis)) answer = answer ≡ None
 BasisTexts (Some (ATheorem th)) None = ⊥
 BasisTexts (Some (ATheorem th)) (Some texts) = AreItemTexts th.basis texts
 
@@ -75,6 +77,8 @@ BasisOf docs theory name answer = BasisIn docs (find_theory theory docs.theories
 
 -- the text of an entry that is a theorem
 abbrev pub theorem_texts_of : KeyValue × EntryValue → List (List ℕ)
+theorem_texts_of (key, AType arity item basis) = []
+theorem_texts_of (key, AConstant ty item basis) = []
 theorem_texts_of (key, ATheorem th) = entry_text (key, ATheorem th) ∷ []
 
 abbrev pub theorem_texts : Entries → List (List ℕ)

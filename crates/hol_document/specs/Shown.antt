@@ -7,8 +7,9 @@ use Rattle.hol_terms.specs.Nameless.{Nameless}
 use Rattle.hol_kernel.specs.Sequent.{no_hyps}
 use Rattle.hol_kernel.specs.Theorem.{Theorem}
 use Rattle.hol_exec.specs.Parsed.{ParsedValue, Local, Direct, Goal, Apply, Qed}
-use Rattle.hol_exec.specs.Key.{KeyValue, theorem_key}
-use Rattle.hol_exec.specs.Entry.{EntryValue, ATheorem, Entries, EachIsEntry}
+use Rattle.hol_theory.specs.Key.{KeyValue, theorem_key}
+use Rattle.hol_theory.specs.Entry.{EntryValue, AType, AConstant, ATheorem, Entries}
+use Rattle.hol_exec.specs.Entry.{EachIsPlain}
 use Rattle.hol_exec.specs.OutcomeValue.{OutcomeValue, Opens, Leaves, Undoes, Rotates, Makes, Refuses, MakesTheorems}
 use Rattle.hol_exec.specs.ReportValue.{ReportValue}
 use Rattle.hol_document.specs.Documents.{Documents, find_theory}
@@ -39,6 +40,8 @@ pub record IsFinished (rows : List Row) (key : KeyValue) (th : Theorem) : Type 0
   pub without_hypotheses : th.sequent.hyps ≡ no_hyps
 
 abbrev pub IsFinishedEntry : List Row → KeyValue × EntryValue → Type 0
+IsFinishedEntry rows (key, AType arity item basis) = ⊥
+IsFinishedEntry rows (key, AConstant ty item basis) = ⊥
 IsFinishedEntry rows (key, ATheorem th) = IsFinished rows key th
 
 abbrev pub EachFinished : List Row → Entries → Type 0
@@ -89,13 +92,13 @@ pub record IsProvedReport (docs : Documents) (i at : ℕ) (report : ReportValue)
 -- It is the answer from a state, every theorem of which has a derivation over its basis, which is legal, and was made by one of the rows.
 pub record IsProvedBasis (docs : Documents) (i : ℕ) (name : List ℕ) (answer : Option (List (List ℕ))) : Type 0 where
   pub is : IsBasis docs i name answer
-  pub proved : EachIsEntry is.state.entries
+  pub proved : EachIsPlain is.state.entries
   pub made : All (IsMadeIn is.rows) is.state.entries
 
 -- The same of an answer that lists the theorems of a state.
 pub record AreProvedTheorems (docs : Documents) (i : ℕ) (texts : List (List ℕ)) : Type 0 where
   pub are : AreTheorems docs i texts
-  pub proved : EachIsEntry are.state.entries
+  pub proved : EachIsPlain are.state.entries
   pub made : All (IsMadeIn are.rows) are.state.entries
 
 abbrev pub ShowsProvedIn : Documents → Option ℕ → ℕ → ReportValue → Type 0

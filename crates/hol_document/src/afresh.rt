@@ -15,9 +15,9 @@ use crate::items::item_texts;
 use crate::line::Line;
 use crate::theory::Theory;
 use hol_exec::{
-    Entry, EntryNode, Key, Kind, Outcome, Parsed, Reads, Report, Setup, State, apply, direct,
-    entry_text, report_of, run_local,
+    Outcome, Parsed, Reads, Report, Setup, State, apply, direct, entry_text, report_of, run_local,
 };
+use hol_theory::{Env, Key, Kind, Value, ValueNode};
 use std::alloc::{AllocError, Global};
 
 // The outcome of a text at a state.
@@ -120,17 +120,18 @@ pub(crate) fn basis(
     state.promise();
     let key = Key::new(alloc, Kind::Theorem, name)?;
     match state.entry(&key) {
-        Some(entry) => Ok(Some(basis_texts(alloc, entry)?)),
+        Some(entry) => basis_texts(alloc, entry),
         None => Ok(None),
     }
 }
 
-// The texts of the items of an entry's basis.
-fn basis_texts(alloc: Global, entry: &Entry) -> Result<Vec<String>, AllocError>
-    ensures { IfOk result (λ texts. BasisTexts (Some entry.now) (Some (map string_bytes texts.items))) }
+// The texts of the items of a theorem's basis.
+fn basis_texts(alloc: Global, entry: &Value) -> Result<Option<Vec<String>>, AllocError>
+    ensures { IfOk result (λ texts. BasisTexts (Some entry.now) (option_map (λ ts. map string_bytes ts.items) texts)) }
 {
     match entry.node() {
-        EntryNode::Theorem(theorem) => item_texts(alloc, theorem.basis()),
+        ValueNode::Type { .. } | ValueNode::Constant { .. } => Ok(None),
+        ValueNode::Theorem(theorem) => Ok(Some(item_texts(alloc, theorem.basis())?)),
     }
 }
 
@@ -147,16 +148,16 @@ pub(crate) fn theorems(
     let earlier = ends(alloc, setup, &theories[..i])?;
     let state = state_after(alloc, setup, &earlier, theories[i].lines())?;
     state.promise();
-    theorem_texts(alloc, &state)
+    theorem_texts(alloc, state.env())
 }
 
-// The texts of the theorems that stand in the state, in standing order.
-fn theorem_texts(alloc: Global, state: &State) -> Result<Vec<String>, AllocError>
-    ensures { IfOk result (λ texts. map string_bytes texts.items ≡ theorem_texts state.now.entries) }
+// The texts of the theorems among the entries, in standing order.
+fn theorem_texts(alloc: Global, env: &Env) -> Result<Vec<String>, AllocError>
+    ensures { IfOk result (λ texts. map string_bytes texts.items ≡ theorem_texts env.now) }
 {
-    let mut texts = Vec::with_capacity(alloc, state.len())?;
-    for i in 0..state.len() {
-        let (key, entry) = state.entry_at(i);
+    let mut texts = Vec::with_capacity(alloc, env.len())?;
+    for i in 0..env.len() {
+        let (key, entry) = env.entry(i);
         add_theorem(alloc, &mut texts, key, entry)?;
     }
     Ok(texts)
@@ -167,12 +168,13 @@ fn add_theorem(
     alloc: Global,
     texts: &mut Vec<String>,
     key: &Key,
-    entry: &Entry,
+    entry: &Value,
 ) -> Result<(), AllocError>
     ensures { OnOk result (map string_bytes texts.new.items ≡ map string_bytes texts.old.items ++ theorem_texts_of (key.now, entry.now)) }
 {
     match entry.node() {
-        EntryNode::Theorem(_) => texts.push(entry_text(alloc, key, entry)?)?,
+        ValueNode::Type { .. } | ValueNode::Constant { .. } => {}
+        ValueNode::Theorem(_) => texts.push(entry_text(alloc, key, entry)?)?,
     }
     Ok(())
 }

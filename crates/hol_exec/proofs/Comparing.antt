@@ -2,9 +2,6 @@
 use Rattle.std.specs.Prelude.{◌≡◌, ◌↔◌, ◌<◌, ℕ, Bool, true, false, IsTrue, List, [], ◌∷◌, map, length, get_or}
 use Rattle.std.proofs.Common.{ap, sym, ◌∙◌, refl, zero, suc, arith}
 use Rattle.std.proofs.lemmas.List.{get_or_default}
-use Rattle.std.specs.FinSet as set
-use Rattle.std.specs.List.Sorted.{IsStrictlySortedBy}
-use Rattle.hol_terms.specs.Named.{Named}
 use Rattle.hol_kernel.specs.Item.{Item}
 use Rattle.hol_exec.specs.ReadsValue.{ReadsValue}
 use Rattle.hol_exec.specs.SameReads.{same_reads, same_reads_are}
@@ -12,19 +9,9 @@ use Rattle.hol_exec.specs.declared.parsed.LocalCommand.{LocalCommand}
 use Rattle.hol_exec.specs.ParsedView.{local_text}
 use Rattle.hol_exec.specs.SameCommand.{same_texts_are, same_command}
 use Rattle.hol_kernel.specs.Items.{Items, item_set, in_order}
-use Rattle.hol_subst.specs.AlphaOrder.{nameless_cmp}
-use Rattle.hol_kernel.specs.Sequent.{Hyps, hyp_of, hyps_of}
-use Rattle.hol_kernel.proofs.HypothesisLists.{hyps_total, hyps_same}
-use Rattle.hol_kernel.proofs.Ordered.{sorted_is}
 
 pub same_bases : (a b : Items) (xs ys : List Item) (r : Bool) → xs ≡ in_order a → item_set xs ≡ a → ys ≡ in_order b → item_set ys ≡ b → IsTrue r ↔ (xs ≡ ys) → IsTrue r ↔ (a ≡ b)
 same_bases a b xs ys r p q s t h = ((λ e. sym q ∙ ap item_set (h.0 e) ∙ t), (λ e. h.1 (p ∙ ap in_order e ∙ sym s)))
-
-pub same_hypotheses : (a b : Hyps) (xs ys : List Named) (r : Bool) → hyps_of xs ≡ a → IsStrictlySortedBy nameless_cmp (map hyp_of xs) → hyps_of ys ≡ b → IsStrictlySortedBy nameless_cmp (map hyp_of ys) → IsTrue r ↔ (map hyp_of xs ≡ map hyp_of ys) → IsTrue r ↔ (a ≡ b)
-same_hypotheses a b xs ys r p q s t h = (
-  (λ e. sym p ∙ ap set.from_list (h.0 e) ∙ s),
-  (λ e. h.1 (sorted_is hyps_total hyps_same (map hyp_of xs) b q (p ∙ e) ∙ sym (sorted_is hyps_total hyps_same (map hyp_of ys) b t s))),
-)
 
 -- ---- lists, one by one
 

@@ -4,7 +4,7 @@ pub mod Suited
 pub mod Steps
 pub mod Outcomes
 pub mod Histories
-pub mod Entries
+pub mod Free
 pub mod Rows
 pub mod Plain
 pub mod Resolving

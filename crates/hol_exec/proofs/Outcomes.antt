@@ -1,6 +1,6 @@
 -- What the outcomes that a state may get say of it: a step runs on the first goal.
 use Rattle.std.proofs.Common.{◌≡◌, ℕ, List, [], ◌∷◌, refl, ap, subst, Bool, true, false, cond, decimal, nat_eq}
-use Rattle.std.specs.Prelude.{Option, Some, None, IfSome}
+use Rattle.std.specs.Prelude.{Option, Some, None, IfSome, is_some}
 use Rattle.hol_terms.specs.Nameless.{Nameless, nameless_type}
 use Rattle.hol_notation_terms.specs.Text.{QuotationText}
 use Rattle.hol_notation_tactics.specs.Text.{TacText}
@@ -10,9 +10,11 @@ use Rattle.hol_kernel.specs.Typing.{is_type_at}
 use Rattle.hol_goal.specs.Goal.{GoalValue}
 use Rattle.hol_just.specs.declared.reason.Move.{Move}
 use Rattle.hol_stack.specs.StackValue.{StepValue}
-use Rattle.hol_exec.specs.Key.{KeyValue}
+use Rattle.hol_theory.specs.Adding.{first_clash}
+use Rattle.hol_theory.specs.Entry.{Entries}
+use Rattle.hol_theory.specs.Key.{KeyValue}
 use Rattle.hol_exec.specs.Setup.{SetupValue}
-use Rattle.hol_exec.specs.Parsed.{LocalText, Goal, Apply, Qed, DirectText, Unread, Back, Rotate, Oops, ParsedValue, Local, Direct}
+use Rattle.hol_exec.specs.Parsed.{LocalText, Goal, Apply, Qed, DirectText, Unread, Back, Rotate, Oops, Import, ParsedValue, Local, Direct}
 use Rattle.hol_resolve.specs.Reading.{ReadingValue, WrongArity, NoTyping, LargeReading, ReadsAs}
 use Rattle.hol_exec.specs.StateValue.{ProofValue, StateValue, EndedTheory}
 use Rattle.hol_exec.specs.ReadsValue.{ReadsValue, ClosingValue, reads_of, AreReads, first_goal}
@@ -28,7 +30,7 @@ use Rattle.hol_combine.specs.Runs.{RefusalValue, DoesNotFit, LacksHyps, StopValu
 use Rattle.hol_combine.specs.Runs as runs
 use Rattle.hol_exec.specs.Expr.{ResolutionValue, Resolved, Unresolved}
 use Rattle.hol_exec.specs.declared.refusal.RefusalKind.TheVariants as refusal
-use Rattle.hol_exec.specs.At.{undoes_to, undoes, rotates_goals, rotates, drops, direct, IsOutcome, IsOutcomeAt}
+use Rattle.hol_exec.specs.At.{undoes_to, undoes, rotates_goals, rotates, drops, imports, imports_theory, imports_from, entries_named, direct, IsOutcome, IsOutcomeAt}
 use Rattle.hol_exec.specs.Valid.{IsLeft, IsValidChange, CanStep}
 use Rattle.hol_exec.proofs.Steps.{steps}
 
@@ -110,11 +112,27 @@ module _ (goal : GoalValue) (goals : List GoalValue) (basis : Items) where
   dropping_none None e = absurd (cc)
   dropping_none (Some p) e = absurd (cc)
 
+  importing_none : (name : List ℕ) (s : StateValue) (earlier : List EndedTheory) → Leaves goal goals basis ≡ imports name s earlier → ⊥
+  importing_none name s earlier e = by (is_some s.proof) e
+    where
+      clash : (theory : Entries) (o : Option KeyValue) → Leaves goal goals basis ≡ imports_from s.entries theory o → ⊥
+      clash theory None e = absurd (cc)
+      clash theory (Some key) e = absurd (cc)
+
+      found : (o : Option Entries) → Leaves goal goals basis ≡ imports_theory name s.entries o → ⊥
+      found None e = absurd (cc)
+      found (Some theory) e = clash theory (first_clash s.entries theory) e
+
+      by : (b : Bool) → Leaves goal goals basis ≡ cond b (Refuses refusal.InProof []) (imports_theory name s.entries (entries_named name earlier)) → ⊥
+      by true e = absurd (cc)
+      by false e = found (entries_named name earlier) e
+
   direct_none : (command : DirectText) (s : StateValue) (earlier : List EndedTheory) → Leaves goal goals basis ≡ direct command s earlier → ⊥
   direct_none (Unread place) s earlier e = absurd (cc)
   direct_none Back s earlier e = undoing_none s.proof e
   direct_none (Rotate times) s earlier e = rotating_none times s.proof e
   direct_none Oops s earlier e = dropping_none s.proof e
+  direct_none (Import name) s earlier e = importing_none name s earlier e
 
   outcome_first : (setup : SetupValue) (earlier : List EndedTheory) (s : StateValue) (value : ParsedValue) (reads : Option ReadsValue) →
       AreReads value s reads → IsOutcome setup earlier s value reads (Leaves goal goals basis) → first_goal s.proof ≡ Some goal
@@ -143,5 +161,5 @@ makes_theorems change o e h = subst MakesTheorems e (by change h)
     by (changes.Leaves goal step basis) h = tt
     by changes.Undoes h = tt
     by (changes.Rotates times) h = tt
-    by (changes.Makes entries) h = h
+    by (changes.Makes entries) h = h.0
     by (changes.Refuses kind arg) h = tt

@@ -19,8 +19,9 @@ use Rattle.hol_notation_terms.specs.Text.{TermText}
 use Rattle.hol_infer.specs.Resolving.{arity_of, generic_type_of}
 use Rattle.hol_infer.specs.Standing.{stands, all_stand, TermStands, AreStanding, types_count as count}
 use Rattle.hol_infer.proofs.StandingLaws.{reading_stands}
-use Rattle.hol_exec.specs.Entry.{ATheorem}
+use Rattle.hol_theory.specs.Entry.{AType, AConstant, ATheorem}
 use Rattle.hol_exec.specs.ReadsValue.{Values}
+use Rattle.hol_exec.specs.Valid.{ArePlain}
 use Rattle.hol_resolve.specs.Lookups.{LookupsValue}
 use Rattle.hol_resolve.specs.Over.{AreOver}
 use Rattle.hol_resolve.specs.Readings.{ReadingsValue, AreRead}
@@ -118,18 +119,22 @@ known (lam a s b) h = λ i. (bytes_eq-Decides (base_of a) a).1 h.0 i && ((sym (t
 
 -- ---- no entry adds to what stands
 
-no_constants : (cited : Values) → cited_constants cited ≡ []
-no_constants [] = refl
-no_constants ((key, None) ∷ more) = no_constants more
-no_constants ((key, Some (ATheorem th)) ∷ more) = no_constants more
+no_constants : (cited : Values) → ArePlain cited → cited_constants cited ≡ []
+no_constants [] plain = refl
+no_constants ((key, None) ∷ more) plain = no_constants more plain
+no_constants ((key, Some (AType arity item basis)) ∷ more) plain = absurd plain
+no_constants ((key, Some (AConstant ty item basis)) ∷ more) plain = absurd plain
+no_constants ((key, Some (ATheorem th)) ∷ more) plain = no_constants more plain.1
 
-no_type_entries : (cited : Values) → cited_types cited ≡ []
-no_type_entries [] = refl
-no_type_entries ((key, None) ∷ more) = no_type_entries more
-no_type_entries ((key, Some (ATheorem th)) ∷ more) = no_type_entries more
+no_type_entries : (cited : Values) → ArePlain cited → cited_types cited ≡ []
+no_type_entries [] plain = refl
+no_type_entries ((key, None) ∷ more) plain = no_type_entries more plain
+no_type_entries ((key, Some (AType arity item basis)) ∷ more) plain = absurd plain
+no_type_entries ((key, Some (AConstant ty item basis)) ∷ more) plain = absurd plain
+no_type_entries ((key, Some (ATheorem th)) ∷ more) plain = no_type_entries more plain.1
 
-same_lookups : (cited : Values) → lookups_of cited ≡ lookups_of []
-same_lookups cited = λ i. record { constants = prelude_constants ++ no_constants cited i; types = prelude_types ++ no_type_entries cited i }
+same_lookups : (cited : Values) → ArePlain cited → lookups_of cited ≡ lookups_of []
+same_lookups cited plain = λ i. record { constants = prelude_constants ++ no_constants cited plain i; types = prelude_types ++ no_type_entries cited plain i }
 
 known_reading : (over : LookupsValue) (t : TermText) (p : Nameless) → over ≡ lookups_of [] → IsTermReadAs over t (ReadsAs p) → is_known no_items p ≡ true
 known_reading over t p e h = by (rw e at h)
@@ -137,16 +142,18 @@ known_reading over t p e h = by (rw e at h)
     by : IsTermReadAs (lookups_of []) t (ReadsAs p) → is_known no_items p ≡ true
     by g = known p (reading_stands takes has prelude_types prelude_constants t p prelude_stands g.0 g.1)
 
-pub reading_known : (cited : Values) (t : TermText) (p : Nameless) → IsTermReadAs (lookups_of cited) t (ReadsAs p) → is_known no_items p ≡ true
-reading_known cited t p h = known_reading (lookups_of cited) t p (same_lookups cited) h
+pub reading_known : (cited : Values) (t : TermText) (p : Nameless) → ArePlain cited → IsTermReadAs (lookups_of cited) t (ReadsAs p) → is_known no_items p ≡ true
+reading_known cited t p plain h = known_reading (lookups_of cited) t p (same_lookups cited plain) h
 
 -- what the quotations of a command read as stands over no items
-pub readings_over : (cited : Values) (over : LookupsValue) (quoted : List AnyQuotation) (own : Result ReadingsValue Refusal) (readings : ReadingsValue) → over ≡ lookups_of cited → AreRead over quoted own → own ≡ Ok readings → AreOver no_items readings
-readings_over cited over quoted own readings e h f =
+pub readings_over : (cited : Values) (over : LookupsValue) (quoted : List AnyQuotation) (own : Result ReadingsValue Refusal) (readings : ReadingsValue) → ArePlain cited → over ≡ lookups_of cited → AreRead over quoted own → own ≡ Ok readings → AreOver no_items readings
+readings_over cited over quoted own readings plain e h f =
     readings_are_over no_items (lookups_of []) quoted readings prelude_stands
-    (subst (λ (w : LookupsValue). AreRead w quoted (Ok readings)) (e ∙ same_lookups cited) (subst (λ (r : Result ReadingsValue Refusal). AreRead over quoted r) f h))
+    (subst (λ (w : LookupsValue). AreRead w quoted (Ok readings)) (e ∙ same_lookups cited plain) (subst (λ (r : Result ReadingsValue Refusal). AreRead over quoted r) f h))
 
-pub no_basis : (cited : Values) (p : Nameless) → reading_basis cited p ≡ no_items
-no_basis [] p = refl
-no_basis ((key, None) ∷ more) p = union_none_left total only (reading_basis more p) ∙ no_basis more p
-no_basis ((key, Some (ATheorem th)) ∷ more) p = union_none_left total only (reading_basis more p) ∙ no_basis more p
+pub no_basis : (cited : Values) (p : Nameless) → ArePlain cited → reading_basis cited p ≡ no_items
+no_basis [] p plain = refl
+no_basis ((key, None) ∷ more) p plain = union_none_left total only (reading_basis more p) ∙ no_basis more p plain
+no_basis ((key, Some (AType arity item basis)) ∷ more) p plain = absurd plain
+no_basis ((key, Some (AConstant ty item basis)) ∷ more) p plain = absurd plain
+no_basis ((key, Some (ATheorem th)) ∷ more) p plain = union_none_left total only (reading_basis more p) ∙ no_basis more p plain.1

@@ -1,10 +1,13 @@
 -- The outcome of what a text is, at a state, from what it reads of that.
-use Rattle.std.specs.Prelude.{◌≡◌, ℕ, List, [], ◌∷◌, Option, Some, None, decimal}
+use Rattle.std.specs.Prelude.{◌≡◌, ℕ, List, [], ◌∷◌, cond, bytes_eq, Option, Some, None, is_some, decimal}
 use Rattle.hol_goal.specs.Goal.{GoalValue}
 use Rattle.hol_stack.specs.StackValue.{StepValue}
+use Rattle.hol_theory.specs.Adding.{first_clash, missing}
+use Rattle.hol_theory.specs.Entry.{Entries}
+use Rattle.hol_theory.specs.Key.{KeyValue, key_text}
 use Rattle.hol_exec.specs.declared.refusal.RefusalKind.TheVariants as refusal
 use Rattle.hol_exec.specs.Setup.{SetupValue}
-use Rattle.hol_exec.specs.Parsed.{DirectText, Unread, Back, Rotate, Oops, ParsedValue, Local, Direct}
+use Rattle.hol_exec.specs.Parsed.{DirectText, Unread, Back, Rotate, Oops, Import, ParsedValue, Local, Direct}
 use Rattle.hol_exec.specs.StateValue.{ProofValue, StateValue, EndedTheory}
 use Rattle.hol_exec.specs.ReadsValue.{ReadsValue, AreReads}
 use Rattle.hol_exec.specs.OutcomeValue.{OutcomeValue, Undoes, Rotates, Makes, Refuses}
@@ -36,12 +39,32 @@ abbrev pub drops : Option ProofValue → OutcomeValue
 drops None = Refuses refusal.NoProofOpen []
 drops (Some p) = Makes []
 
+-- ---- `import`: in a proof; unknown theory; import clash
+
+-- the last entries of the theory of that name
+abbrev pub entries_named : List ℕ → List EndedTheory → Option Entries
+entries_named name [] = None
+entries_named name (theory ∷ more) = cond (bytes_eq theory.name name) (Some theory.entries) (entries_named name more)
+
+-- those under whose keys nothing stands are made, in their order
+abbrev pub imports_from : Entries → Entries → Option KeyValue → OutcomeValue
+imports_from entries theory None = Makes (missing entries theory)
+imports_from entries theory (Some key) = Refuses refusal.ImportClash (key_text key)
+
+abbrev pub imports_theory : List ℕ → Entries → Option Entries → OutcomeValue
+imports_theory name entries None = Refuses refusal.UnknownTheory name
+imports_theory name entries (Some theory) = imports_from entries theory (first_clash entries theory)
+
+abbrev pub imports : List ℕ → StateValue → List EndedTheory → OutcomeValue
+imports name s earlier = cond (is_some s.proof) (Refuses refusal.InProof []) (imports_theory name s.entries (entries_named name earlier))
+
 -- ---- the outcome of what is answered directly, from the state and from the theories that stand earlier
 abbrev pub direct : DirectText → StateValue → List EndedTheory → OutcomeValue
 direct (Unread place) s earlier = Refuses refusal.Syntax (decimal place)
 direct Back s earlier = undoes s.proof
 direct (Rotate times) s earlier = rotates times s.proof
 direct Oops s earlier = drops s.proof
+direct (Import name) s earlier = imports name s earlier
 
 -- the outcome of what a text is, from its reads: what is answered directly has none
 abbrev pub IsOutcome : SetupValue → List EndedTheory → StateValue → ParsedValue → Option ReadsValue → OutcomeValue → Type 0

@@ -1,4 +1,4 @@
--- How the logic stores keys, entries, proofs, states, reads and outcomes.
+-- How the logic stores proofs, states, reads and outcomes.
 use Rattle.std.specs.Prelude.{◌≡◌, ◌⊎◌, ◌==◌, ℕ, List, Option, Bool, if◌then◌else◌, refl}
 use Rattle.std.proofs.Common.{inl, inr}
 use Rattle.std.specs.Coded.{Coded, code_by, coded×, coded⊎, coded_ℕ, coded_bool, coded_list, coded_option}
@@ -7,51 +7,17 @@ use Rattle.hol_types.specs.Code.{coded_name}
 use Rattle.hol_terms.specs.Nameless.{Nameless}
 use Rattle.hol_terms.specs.Code.{coded_nameless}
 use Rattle.hol_kernel.specs.Items.{Items, items_code}
-use Rattle.hol_kernel.specs.Theorem.{Theorem, theorem_code}
 use Rattle.hol_goal.specs.Goal.{GoalValue, goal_code}
 use Rattle.hol_stack.specs.StackValue.{StepValue}
 use Rattle.hol_stack.specs.Codes.{step_code}
-use Rattle.hol_exec.specs.declared.key.Kind.{Kind}
-use Rattle.hol_exec.specs.declared.key.Kind.TheVariants as key_kind
 use Rattle.hol_exec.specs.declared.refusal.RefusalKind.{RefusalKind}
-use Rattle.hol_exec.specs.declared.refusal.RefusalKind.TheVariants.{Syntax, InProof, NoProofOpen, UnknownTheorem, UnknownTac, Untypable, NotBool, Arity, NameTaken, TooLarge, BadRule, HypsNotAssumed, NoGoalOpen, Refused, TurnLimit, GoalsRemain, NothingToUndo}
-use Rattle.hol_exec.specs.Key.{KeyValue, kind_rank}
-use Rattle.hol_exec.specs.Entry.{EntryValue, ATheorem, Entries}
+use Rattle.hol_exec.specs.declared.refusal.RefusalKind.TheVariants.{Syntax, InProof, NoProofOpen, UnknownTheory, UnknownTheorem, UnknownTac, Untypable, NotBool, Arity, NameTaken, TooLarge, BadRule, HypsNotAssumed, NoGoalOpen, Refused, TurnLimit, GoalsRemain, NothingToUndo, ImportClash}
+use Rattle.hol_theory.specs.Entry.{Entries}
+use Rattle.hol_theory.specs.Codes.{coded_key, coded_entry, coded_entries}
 use Rattle.hol_exec.specs.StateValue.{ProofValue, StateValue}
 use Rattle.hol_exec.specs.ReadsValue.{ClosingValue, Values, ReadsValue}
 use Rattle.hol_exec.specs.OutcomeValue.{OutcomeValue, Opens, Leaves, Undoes, Rotates, Makes, Refuses}
 use Rattle.hol_exec.specs.Refusal.{kind_number}
-
--- ---- keys
-
-abbrev kind_at : ℕ → Kind
-kind_at n = if n == 0 then key_kind.Type else if n == 1 then key_kind.Constant else key_kind.Theorem
-
-pub kind_back : (k : Kind) → kind_at (kind_rank k) ≡ k
-kind_back key_kind.Type = refl
-kind_back key_kind.Constant = refl
-kind_back key_kind.Theorem = refl
-
-abbrev pub coded_key : Coded KeyValue
-coded_key =
-    code_by (Kind × List ℕ) (coded× (code_by ℕ coded_ℕ kind_rank kind_at kind_back) coded_name)
-    (λ k. (k.kind, k.name))
-    (λ p. record { kind = p.0; name = p.1 })
-    (λ _. refl)
-
--- ---- entries
-
-abbrev theorem_in : EntryValue → Theorem
-theorem_in (ATheorem th) = th
-
-pub entry_back : (e : EntryValue) → ATheorem (theorem_in e) ≡ e
-entry_back (ATheorem th) = refl
-
-abbrev pub coded_entry : Coded EntryValue
-coded_entry = code_by Theorem theorem_code theorem_in ATheorem entry_back
-
-abbrev pub coded_entries : Coded Entries
-coded_entries = coded_list (coded× coded_key coded_entry)
 
 -- ---- states
 
@@ -94,15 +60,16 @@ coded_reads =
 
 abbrev refusal_at : ℕ → RefusalKind
 refusal_at n =
-    if n == 1 then Syntax else if n == 2 then InProof else if n == 3 then NoProofOpen else if n == 5 then UnknownTheorem else if n == 6 then UnknownTac
+    if n == 1 then Syntax else if n == 2 then InProof else if n == 3 then NoProofOpen else if n == 4 then UnknownTheory else if n == 5 then UnknownTheorem else if n == 6 then UnknownTac
     else if n == 7 then Untypable else if n == 8 then NotBool else if n == 9 then Arity else if n == 10 then NameTaken else if n == 13 then TooLarge else if n == 14 then BadRule else if n == 15 then HypsNotAssumed
     else if n == 16 then NoGoalOpen else if n == 17 then Refused else if n == 18 then TurnLimit
-    else if n == 19 then GoalsRemain else NothingToUndo
+    else if n == 19 then GoalsRemain else if n == 20 then NothingToUndo else ImportClash
 
 pub refusal_back : (k : RefusalKind) → refusal_at (kind_number k) ≡ k
 refusal_back Syntax = refl
 refusal_back InProof = refl
 refusal_back NoProofOpen = refl
+refusal_back UnknownTheory = refl
 refusal_back UnknownTheorem = refl
 refusal_back UnknownTac = refl
 refusal_back Untypable = refl
@@ -117,6 +84,7 @@ refusal_back Refused = refl
 refusal_back TurnLimit = refl
 refusal_back GoalsRemain = refl
 refusal_back NothingToUndo = refl
+refusal_back ImportClash = refl
 
 abbrev Cases : Type 0
 Cases = (List ℕ × (Nameless × Items)) ⊎ ((GoalValue × (List GoalValue × Items)) ⊎ ((Unit {0} ⊎ ℕ) ⊎ (Entries ⊎ (RefusalKind × List ℕ))))

@@ -1,6 +1,5 @@
-pub mod Key
 pub mod Entry
-pub mod EntryView
+pub mod Occurring
 pub mod Setup
 pub mod SetupView
 pub mod Parsed

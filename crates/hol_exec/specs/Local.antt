@@ -15,8 +15,8 @@ use Rattle.hol_combine.specs.ExprValue.{ExprValue}
 use Rattle.hol_combine.specs.Runs.{RefusalValue, DoesNotFit, LacksHyps, StopValue, TurnLimit, LargeGoal, RunValue, run}
 use Rattle.hol_combine.specs.Runs as runs
 use Rattle.hol_exec.specs.declared.refusal.RefusalKind.TheVariants as refusal
-use Rattle.hol_exec.specs.Key.{KeyValue, theorem_key, key_text}
-use Rattle.hol_exec.specs.Entry.{ATheorem}
+use Rattle.hol_theory.specs.Key.{KeyValue, theorem_key, key_text}
+use Rattle.hol_theory.specs.Entry.{ATheorem}
 use Rattle.hol_exec.specs.Setup.{SetupValue}
 use Rattle.hol_exec.specs.Parsed.{LocalText, Goal, Apply, Qed}
 use Rattle.hol_exec.specs.ReadsValue.{ReadsValue, ClosingValue}

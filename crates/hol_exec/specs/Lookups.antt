@@ -1,23 +1,28 @@
 -- The constants and types that stand for a command's readings: those of the prelude, and those of the entries that it cites.
 -- Source: this project.
-use Rattle.std.specs.Prelude.{ℕ, List, [], ◌∷◌, ◌++◌, Option, Some, None}
+use Rattle.std.specs.Prelude.{ℕ, List, [], ◌∷◌, ◌++◌, cond, Option, Some, None}
 use Rattle.std.specs.FinSet as set
 use Rattle.hol_types.specs.Tree.{TypeTree}
 use Rattle.hol_terms.specs.Nameless.{Nameless}
 use Rattle.hol_kernel.specs.Items.{Items, no_items}
 use Rattle.hol_formulas.specs.Constants.{prelude_types, prelude_constants}
 use Rattle.hol_resolve.specs.Lookups.{LookupsValue}
-use Rattle.hol_exec.specs.Key.{KeyValue}
-use Rattle.hol_exec.specs.Entry.{EntryValue, ATheorem}
+use Rattle.hol_theory.specs.Key.{KeyValue}
+use Rattle.hol_theory.specs.Entry.{EntryValue, AType, AConstant, ATheorem}
+use Rattle.hol_exec.specs.Occurring.{type_occurs_in, constant_occurs}
 use Rattle.hol_exec.specs.ReadsValue.{Values}
 
 -- what stands under a key is this for readings: a theorem is no constant and no type
 abbrev pub value_constants : KeyValue → Option EntryValue → List (List ℕ × TypeTree)
 value_constants key None = []
+value_constants key (Some (AType arity item basis)) = []
+value_constants key (Some (AConstant ty item basis)) = (key.name, ty) ∷ []
 value_constants key (Some (ATheorem th)) = []
 
 abbrev pub value_types : KeyValue → Option EntryValue → List (List ℕ × ℕ)
 value_types key None = []
+value_types key (Some (AType arity item basis)) = (key.name, arity) ∷ []
+value_types key (Some (AConstant ty item basis)) = []
 value_types key (Some (ATheorem th)) = []
 
 abbrev pub cited_constants : Values → List (List ℕ × TypeTree)
@@ -34,6 +39,8 @@ lookups_of cited = record { constants = prelude_constants ++ cited_constants cit
 -- what stands under a key gives its basis to a reading where its constant or type occurs in it; a theorem does not
 abbrev pub value_basis : KeyValue → Option EntryValue → Nameless → Items
 value_basis key None p = no_items
+value_basis key (Some (AType arity item basis)) p = cond (type_occurs_in key.name p) basis no_items
+value_basis key (Some (AConstant ty item basis)) p = cond (constant_occurs key.name p) basis no_items
 value_basis key (Some (ATheorem th)) p = no_items
 
 -- the basis of a reading: the union of what the cited entries give it

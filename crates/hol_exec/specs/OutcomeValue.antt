@@ -2,14 +2,13 @@
 -- Source: HOL Light's goal stacks (tactics.ml), and the scheme of goals and subgoals of Edinburgh LCF (LNCS 78).
 use Rattle.std.specs.Prelude.{ℕ, List, [], ◌∷◌, ◌++◌, Option, Some, None, drop}
 use Rattle.std.specs.FinSet as set
-use Rattle.indexmap.specs.IndexMap.{insert_all}
 use Rattle.hol_terms.specs.Nameless.{Nameless}
 use Rattle.hol_kernel.specs.Items.{Items}
 use Rattle.hol_goal.specs.Goal.{GoalValue}
 use Rattle.hol_stack.specs.StackValue.{StepValue, turned}
 use Rattle.hol_exec.specs.declared.refusal.RefusalKind.{RefusalKind}
-use Rattle.hol_exec.specs.Key.{key_eq}
-use Rattle.hol_exec.specs.Entry.{Entries, EachIsEntry}
+use Rattle.hol_theory.specs.Entry.{Entries}
+use Rattle.hol_exec.specs.Entry.{EachIsPlain}
 use Rattle.hol_exec.specs.StateValue.{ProofValue, StateValue}
 
 pub data OutcomeValue : Type 0 where
@@ -43,6 +42,7 @@ stepped goals basis p = record {
   earlier = p.newest ∷ p.earlier;
 }
 
+-- (no such outcome comes without an open proof: `IsOutcomeAt`; `None` makes `after` total)
 abbrev pub stepped_in : List GoalValue → Items → Option ProofValue → Option ProofValue
 stepped_in goals basis None = None
 stepped_in goals basis (Some p) = Some (stepped goals basis p)
@@ -75,14 +75,14 @@ after s (Opens name statement basis) = record { entries = s.entries; proof = Som
 after s (Leaves goal goals basis) = record { entries = s.entries; proof = stepped_in goals basis s.proof }
 after s Undoes = record { entries = s.entries; proof = undone_in s.proof }
 after s (Rotates times) = record { entries = s.entries; proof = rotated_in times s.proof }
-after s (Makes entries) = record { entries = insert_all key_eq s.entries entries; proof = None }
+after s (Makes entries) = record { entries = s.entries ++ entries; proof = None }
 after s (Refuses kind arg) = s
 
--- each theorem that is made has a derivation over its basis, which is legal
+-- each entry that is made is a theorem that has a derivation over its basis, which is legal and, as long as no command makes items, empty
 abbrev pub MakesTheorems : OutcomeValue → Type 0
 MakesTheorems (Opens name statement basis) = Unit {0}
 MakesTheorems (Leaves goal goals basis) = Unit {0}
 MakesTheorems Undoes = Unit {0}
 MakesTheorems (Rotates times) = Unit {0}
-MakesTheorems (Makes entries) = EachIsEntry entries
+MakesTheorems (Makes entries) = EachIsPlain entries
 MakesTheorems (Refuses kind arg) = Unit {0}

@@ -6,7 +6,7 @@ use Rattle.hol_notation_tokens.specs.Token.{skip}
 use Rattle.hol_notation_terms.specs.Text.{QuotationText}
 use Rattle.hol_notation_tactics.specs.Leading as tactics
 use Rattle.hol_notation_tactics.specs.Text.{TacText}
-use Rattle.hol_notation_commands.specs.Text.{CommandText, Goal as AGoal, Apply as AnApply, Back as ABack, Rotate as ARotate, Qed as AQed, Oops as AnOops, Import, NewType, NewConstant, NewAxiom, NewDefinition, NewBasicTypeDefinition}
+use Rattle.hol_notation_commands.specs.Text.{CommandText, Goal as AGoal, Apply as AnApply, Back as ABack, Rotate as ARotate, Qed as AQed, Oops as AnOops, Import as AnImport, NewType, NewConstant, NewAxiom, NewDefinition, NewBasicTypeDefinition}
 use Rattle.hol_notation_commands.specs.Reading.{IsCommandText, IsBreak}
 
 -- the commands whose outcomes are functions of what they read
@@ -21,12 +21,13 @@ leading_name (Goal name quotation) = name
 leading_name (Apply tactic) = tactics.leading_name tactic
 leading_name Qed = []
 
--- what is answered directly: a text that is refused at a place, and the commands on the open proof's history
+-- what is answered directly: a text that is refused at a place, the commands on the open proof's history, and imports
 pub data DirectText : Type 0 where
   Unread : ℕ → DirectText
   Back : DirectText
   Rotate : ℕ → DirectText
   Oops : DirectText
+  Import : List ℕ → DirectText
 
 pub data ParsedValue : Type 0 where
   Local : LocalText → ParsedValue
@@ -48,7 +49,7 @@ parsed text ABack = Direct Back
 parsed text (ARotate n) = Direct (Rotate n)
 parsed text AQed = Local Qed
 parsed text AnOops = Direct Oops
-parsed text (Import name) = idle text
+parsed text (AnImport name) = Direct (Import name)
 parsed text (NewType name arity) = idle text
 parsed text (NewConstant name quotation) = idle text
 parsed text (NewAxiom name quotation) = idle text

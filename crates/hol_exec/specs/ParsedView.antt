@@ -6,7 +6,7 @@ use Rattle.hol_exec.specs.declared.parsed.DirectCommand.{DirectCommand}
 use Rattle.hol_exec.specs.declared.parsed.DirectCommand.TheVariants as direct
 use Rattle.hol_exec.specs.declared.parsed.Parsed.{Parsed}
 use Rattle.hol_exec.specs.declared.parsed.Parsed.TheVariants as code
-use Rattle.hol_exec.specs.Parsed.{LocalText, Goal, Apply, Qed, DirectText, Unread, Back, Rotate, Oops, ParsedValue, Local, Direct}
+use Rattle.hol_exec.specs.Parsed.{LocalText, Goal, Apply, Qed, DirectText, Unread, Back, Rotate, Oops, Import, ParsedValue, Local, Direct}
 
 abbrev pub local_text : LocalCommand → LocalText
 local_text (local.Goal name quotation) = Goal (string_bytes name) quotation
@@ -18,6 +18,7 @@ direct_text (direct.Unread place) = Unread place
 direct_text direct.Back = Back
 direct_text (direct.Rotate times) = Rotate times
 direct_text direct.Oops = Oops
+direct_text (direct.Import name) = Import (string_bytes name)
 
 abbrev pub parsed_value : Parsed → ParsedValue
 parsed_value (code.Local command) = Local (local_text command)

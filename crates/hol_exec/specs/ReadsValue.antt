@@ -4,8 +4,8 @@ use Rattle.std.specs.Prelude.{◌≡◌, ℕ, List, [], ◌∷◌, Bool, length,
 use Rattle.hol_terms.specs.Nameless.{Nameless}
 use Rattle.hol_kernel.specs.Items.{Items}
 use Rattle.hol_goal.specs.Goal.{GoalValue}
-use Rattle.hol_exec.specs.Key.{KeyValue}
-use Rattle.hol_exec.specs.Entry.{Entries, EntryValue, entry_at}
+use Rattle.hol_theory.specs.Key.{KeyValue}
+use Rattle.hol_theory.specs.Entry.{Entries, EntryValue, entry_at}
 use Rattle.hol_exec.specs.StateValue.{ProofValue, StateValue, open_goals}
 use Rattle.hol_exec.specs.Parsed.{LocalText, Goal, Apply, Qed, ParsedValue, Local, Direct}
 use Rattle.hol_exec.specs.Keys.{cited_keys, made_keys}

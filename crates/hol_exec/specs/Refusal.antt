@@ -2,12 +2,13 @@
 -- Source: this project.
 use Rattle.std.specs.Prelude.{ℕ, List, codes}
 use Rattle.hol_exec.specs.declared.refusal.RefusalKind.{RefusalKind}
-use Rattle.hol_exec.specs.declared.refusal.RefusalKind.TheVariants.{Syntax, InProof, NoProofOpen, UnknownTheorem, UnknownTac, Untypable, NotBool, Arity, NameTaken, TooLarge, BadRule, HypsNotAssumed, NoGoalOpen, Refused, TurnLimit, GoalsRemain, NothingToUndo}
+use Rattle.hol_exec.specs.declared.refusal.RefusalKind.TheVariants.{Syntax, InProof, NoProofOpen, UnknownTheory, UnknownTheorem, UnknownTac, Untypable, NotBool, Arity, NameTaken, TooLarge, BadRule, HypsNotAssumed, NoGoalOpen, Refused, TurnLimit, GoalsRemain, NothingToUndo, ImportClash}
 
 abbrev pub kind_number : RefusalKind → ℕ
 kind_number Syntax = 1
 kind_number InProof = 2
 kind_number NoProofOpen = 3
+kind_number UnknownTheory = 4
 kind_number UnknownTheorem = 5
 kind_number UnknownTac = 6
 kind_number Untypable = 7
@@ -22,11 +23,13 @@ kind_number Refused = 17
 kind_number TurnLimit = 18
 kind_number GoalsRemain = 19
 kind_number NothingToUndo = 20
+kind_number ImportClash = 21
 
 abbrev pub kind_text : RefusalKind → List ℕ
 kind_text Syntax = codes "syntax"
 kind_text InProof = codes "in a proof"
 kind_text NoProofOpen = codes "no proof open"
+kind_text UnknownTheory = codes "unknown theory"
 kind_text UnknownTheorem = codes "unknown theorem"
 kind_text UnknownTac = codes "unknown TAC or wrong arguments"
 kind_text Untypable = codes "untypable"
@@ -41,3 +44,4 @@ kind_text Refused = codes "refused"
 kind_text TurnLimit = codes "turn limit"
 kind_text GoalsRemain = codes "goals remain"
 kind_text NothingToUndo = codes "nothing to undo"
+kind_text ImportClash = codes "import clash"

@@ -1,13 +1,14 @@
 -- The report on a command: what it made, why it was refused, or all goals that are open after it.
-use Rattle.std.specs.Prelude.{ℕ, List, ◌++◌, codes, map}
+use Rattle.std.specs.Prelude.{ℕ, List, ◌++◌, codes, decimal, map}
 use Rattle.hol_terms.specs.Nameless.{Nameless}
 use Rattle.hol_goal.specs.Goal.{GoalValue}
-use Rattle.hol_exec.specs.Key.{KeyValue}
-use Rattle.hol_exec.specs.Entry.{EntryValue, ATheorem}
+use Rattle.hol_theory.specs.Key.{KeyValue}
+use Rattle.hol_theory.specs.Entry.{EntryValue, AType, AConstant, ATheorem}
 use Rattle.hol_exec.specs.StateValue.{StateValue, open_goals}
 use Rattle.hol_exec.specs.OutcomeValue.{OutcomeValue, Opens, Leaves, Undoes, Rotates, Makes, Refuses}
 use Rattle.hol_exec.specs.ReportValue.{ShownGoalText, ReportValue, ShowsGoals, HasMade, WasRefused}
 use Rattle.hol_print.specs.ShowTerm.{show}
+use Rattle.hol_print.specs.ShowType.{show_type}
 use Rattle.hol_print.specs.ShowGoal.{show_goal}
 
 -- a goal's texts
@@ -22,8 +23,10 @@ shown_goal goal = let shown = show_goal goal.assumptions goal.conclusion in reco
 abbrev pub theorem_text : Nameless → List ℕ
 theorem_text p = codes "|- " ++ show p
 
--- an entry as clients see it: `thm N |- p`
+-- an entry as clients see it: `type N/k`, `const N:ty` or `thm N |- p`
 abbrev pub entry_text_at : KeyValue → EntryValue → List ℕ
+entry_text_at key (AType arity item basis) = codes "type " ++ key.name ++ codes "/" ++ decimal arity
+entry_text_at key (AConstant ty item basis) = codes "const " ++ key.name ++ codes ":" ++ show_type ty
 entry_text_at key (ATheorem th) = codes "thm " ++ key.name ++ codes " " ++ theorem_text th.sequent.concl
 
 abbrev pub entry_text : KeyValue × EntryValue → List ℕ

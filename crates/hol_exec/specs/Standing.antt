@@ -4,10 +4,10 @@ use Rattle.std.specs.Prelude.{◌||◌, ◌++◌, ℕ, List, [], ◌∷◌, Bool
 use Rattle.std.specs.List.{list_any}
 use Rattle.hol_formulas.specs.Constants.{prelude_types, prelude_constants}
 use Rattle.hol_prelude.specs.Statements.{prelude_statements}
-use Rattle.hol_exec.specs.declared.key.Kind.{Kind}
-use Rattle.hol_exec.specs.declared.key.Kind.TheVariants as key_kind
-use Rattle.hol_exec.specs.Key.{KeyValue, key_eq}
-use Rattle.hol_exec.specs.Entry.{EntryValue}
+use Rattle.hol_theory.specs.declared.key.Kind.{Kind}
+use Rattle.hol_theory.specs.declared.key.Kind.TheVariants as key_kind
+use Rattle.hol_theory.specs.Key.{KeyValue, key_eq}
+use Rattle.hol_theory.specs.Entry.{EntryValue}
 use Rattle.hol_exec.specs.ReadsValue.{Values}
 
 -- the name is that of a type, a constant or a theorem of the prelude

@@ -4,7 +4,7 @@ use Rattle.std.specs.Prelude.{ℕ, List, [], Option, Some, None}
 use Rattle.hol_terms.specs.Nameless.{Nameless}
 use Rattle.hol_goal.specs.Goal.{GoalValue}
 use Rattle.hol_stack.specs.StackValue.{StepValue}
-use Rattle.hol_exec.specs.Entry.{Entries}
+use Rattle.hol_theory.specs.Entry.{Entries}
 
 -- an open proof: the name and the statement of the `g` that opened it, and its history, the newest element apart from the
 -- earlier ones, of which the newest comes first

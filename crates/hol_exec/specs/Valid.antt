@@ -1,7 +1,9 @@
 -- What only private clauses speak of: what the program keeps of an outcome beside its value, and when a proof can take a step.
 -- Source of validity: LNCS 78: from theorems that achieve the goals left, a theorem is had that achieves the goal.
-use Rattle.std.specs.Prelude.{◌≡◌, ℕ, List, [], ◌∷◌, length, true, Some, None}
+use Rattle.std.specs.Prelude.{◌≡◌, ℕ, List, [], ◌∷◌, length, true, Option, Some, None}
 use Rattle.std.specs.FinSet as set
+use Rattle.std.specs.List.{IsDistinct}
+use Rattle.std.specs.Map.{keys_of}
 use Rattle.hol_terms.specs.Nameless.{Nameless, nameless}
 use Rattle.hol_kernel.specs.Items.{Items, no_items}
 use Rattle.hol_kernel.specs.Extends.{Agree}
@@ -21,9 +23,16 @@ use Rattle.hol_exec.specs.declared.resolution.Resolution.TheVariants as resoluti
 use Rattle.hol_exec.specs.declared.outcome.Change.{Change}
 use Rattle.hol_exec.specs.declared.outcome.Change.TheVariants.{Opens, Leaves, Undoes, Rotates, Makes, Refuses}
 use Rattle.hol_exec.specs.Setup.{SetupValue}
-use Rattle.hol_exec.specs.Entry.{ATheorem, EachIsEntry}
+use Rattle.hol_theory.specs.Key.{key_eq, theorem_key}
+use Rattle.hol_theory.specs.Entry.{AType, AConstant, ATheorem, Entries, entry_at}
+use Rattle.hol_exec.specs.Entry.{EachIsPlain}
 use Rattle.hol_exec.specs.ReadsValue.{Values}
 use Rattle.hol_exec.specs.StateValue.{ProofValue}
+
+-- under the name of the open proof no theorem stands
+abbrev pub IsFreeFor : Entries → Option ProofValue → Type 0
+IsFreeFor entries None = Unit {0}
+IsFreeFor entries (Some p) = entry_at (theorem_key p.name) entries ≡ None
 
 -- a well typed term of type bool
 abbrev pub IsStatement : Items → Nameless → Type 0
@@ -43,10 +52,12 @@ abbrev pub IsRunnableIf : SetupValue → Resolution → Type 0
 IsRunnableIf setup (resolution.Resolved e basis) = IsRunnable setup e basis
 IsRunnableIf setup (resolution.Unresolved kind arg) = Unit {0}
 
--- no value that is cited rests on items
+-- each value that is cited is a theorem that rests on no items
 abbrev pub ArePlain : Values → Type 0
 ArePlain [] = Unit {0}
 ArePlain ((key, None) ∷ more) = ArePlain more
+ArePlain ((key, Some (AType arity item basis)) ∷ more) = ⊥
+ArePlain ((key, Some (AConstant ty item basis)) ∷ more) = ⊥
 ArePlain ((key, Some (ATheorem th)) ∷ more) = (th.basis ≡ no_items) × ArePlain more
 
 -- no element of a proof's history rests on items
@@ -59,13 +70,13 @@ pub record IsLeft (basis : Items) (moves : List Move) (goal : GoalValue) (left :
   pub plain : basis ≡ no_items
   pub valid : IsValid (set.is_subset basis) no_hyps moves (goal ∷ []) left
 
--- An opened statement is well typed, over no items; goals that are left are so by the justification that is kept beside them; what is made are entries.
+-- An opened statement is well typed, over no items; goals that are left are so by the justification that is kept beside them; what is made are entries, no two of which have one key.
 abbrev pub IsValidChange : Change → Type 0
 IsValidChange (Opens name statement basis) = IsStatement basis (nameless [] statement) × (basis ≡ no_items)
 IsValidChange (Leaves goal step basis) = IsLeft basis step.just goal step.goals.items
 IsValidChange Undoes = Unit {0}
 IsValidChange (Rotates times) = Unit {0}
-IsValidChange (Makes entries) = EachIsEntry entries.items
+IsValidChange (Makes entries) = EachIsPlain entries.items × IsDistinct key_eq (keys_of entries.items)
 IsValidChange (Refuses kind arg) = Unit {0}
 
 -- The proof can take the step: its basis agrees with what was resolved, and the moves are valid from its first goal.

@@ -2,10 +2,9 @@
 ghost use Rattle.std.specs.Prelude.{◌≡◌, ◌++◌, IfOk, OnOk, MatchOption, None, Some};
 ghost use Rattle.hol_exec.specs.Resolved.{prelude_theorem_at, theorem_at, named_theorem, cited_theorems};
 
-use crate::entry::{Entry, EntryNode};
-use crate::key::{Key, Kind};
 use crate::setup::Setup;
 use hol_kernel::Thm;
+use hol_theory::{Key, Kind, Value, ValueNode};
 use hol_types::Name;
 use std::alloc::{AllocError, Global};
 
@@ -16,7 +15,7 @@ pub(crate) type Cited = Vec<(Name, Thm)>;
 pub(crate) fn cited_theorems(
     alloc: Global,
     setup: &Setup,
-    values: &[(Key, Option<Entry>)],
+    values: &[(Key, Option<Value>)],
 ) -> Result<Cited, AllocError>
     ensures { IfOk result (λ theorems. theorems.items ≡ cited_theorems values.now) }
 {
@@ -32,7 +31,7 @@ fn add_theorem(
     alloc: Global,
     setup: &Setup,
     theorems: &mut Cited,
-    value: &(Key, Option<Entry>),
+    value: &(Key, Option<Value>),
 ) -> Result<(), AllocError>
     ensures { OnOk result (theorems.new.items ≡ theorems.old.items ++ named_theorem value.now.0.name (theorem_at value.now.0 value.now.1)) }
 {
@@ -46,12 +45,13 @@ fn add_theorem(
 }
 
 // What stands under the key, or the prelude's theorem of its name.
-fn theorem_at<'a>(setup: &'a Setup, value: &'a (Key, Option<Entry>)) -> Option<&'a Thm>
+fn theorem_at<'a>(setup: &'a Setup, value: &'a (Key, Option<Value>)) -> Option<&'a Thm>
     ensures { MatchOption result (theorem_at value.now.0 value.now.1 ≡ None) (λ th. theorem_at value.now.0 value.now.1 ≡ Some th.now) }
 {
     match &value.1 {
         Some(entry) => match entry.node() {
-            EntryNode::Theorem(theorem) => Some(theorem),
+            ValueNode::Type { .. } | ValueNode::Constant { .. } => None,
+            ValueNode::Theorem(theorem) => Some(theorem),
         },
         None => prelude_theorem_at(setup, &value.0),
     }

@@ -1,8 +1,9 @@
 //! What is answered directly.
-ghost use Rattle.std.specs.Prelude.{◌≡◌, IfOk, map};
+ghost use Rattle.std.specs.Prelude.{◌≡◌, IfOk, MatchOption, None, Some, map};
 ghost use Rattle.hol_exec.specs.StateValue.{EndedTheory};
 ghost use Rattle.hol_exec.specs.ParsedView.{direct_text};
-ghost use Rattle.hol_exec.specs.At.{direct, undoes, rotates, drops};
+ghost use Rattle.hol_exec.specs.At.{direct, undoes, rotates, drops, imports, imports_from, entries_named};
+ghost use Rattle.hol_theory.specs.Adding.{first_clash};
 
 use crate::outcome::Outcome;
 use crate::parsed::DirectCommand;
@@ -30,15 +31,16 @@ pub fn direct<T: Ended>(
     alloc: Global,
     command: &DirectCommand,
     state: &State,
-    _earlier: &[T],
+    earlier: &[T],
 ) -> Result<Outcome, AllocError>
-    ensures { IfOk result (λ outcome. outcome ≡ direct (direct_text command.now) state.now (map T.ended _earlier.now)) }
+    ensures { IfOk result (λ outcome. outcome ≡ direct (direct_text command.now) state.now (map T.ended earlier.now)) }
 {
     match command {
         DirectCommand::Unread(place) => refused_at(alloc, RefusalKind::Syntax, *place),
         DirectCommand::Back => Ok(undoes(alloc, state)),
         DirectCommand::Rotate(times) => Ok(rotates(alloc, state, *times)),
         DirectCommand::Oops => Ok(drops(alloc, state)),
+        DirectCommand::Import(name) => imports(alloc, name.as_str(), state, earlier),
     }
 }
 
@@ -70,6 +72,7 @@ fn rotates(alloc: Global, state: &State, times: usize) -> Outcome
 }
 
 // `oops`: no proof open.
+#[tactic(auto, using(crate::proofs::Free::none_distinct))]
 fn drops(alloc: Global, state: &State) -> Outcome
     ensures { result ≡ drops state.now.proof }
 {
@@ -77,4 +80,49 @@ fn drops(alloc: Global, state: &State) -> Outcome
         Some(_) => Outcome::makes(Vec::new(alloc)),
         None => refused(alloc, RefusalKind::NoProofOpen),
     }
+}
+
+// `import`: in a proof; unknown theory; import clash.
+fn imports<T: Ended>(
+    alloc: Global,
+    name: &str,
+    state: &State,
+    earlier: &[T],
+) -> Result<Outcome, AllocError>
+    ensures { IfOk result (λ outcome. outcome ≡ imports name.now state.now (map T.ended earlier.now)) }
+{
+    if state.proof().is_some() {
+        return Ok(refused(alloc, RefusalKind::InProof));
+    }
+    match theory_named(earlier, name) {
+        Some(theory) => imports_from(alloc, state, theory),
+        None => {
+            let name = String::from_str(alloc, name)?;
+            Ok(Outcome::refuses(RefusalKind::UnknownTheory, name))
+        }
+    }
+}
+
+// The last state of the earlier theory of that name.
+fn theory_named<'a, T: Ended>(earlier: &'a [T], name: &str) -> Option<&'a State>
+    ensures { MatchOption result (entries_named name.now (map T.ended earlier.now) ≡ None) (λ state. entries_named name.now (map T.ended earlier.now) ≡ Some state.now.entries) }
+{
+    for theory in earlier {
+        if theory.name() == name {
+            return Some(theory.state());
+        }
+    }
+    None
+}
+
+// An import of the entries of a theory's last state.
+#[tactic(auto, using(crate::proofs::Plain::plain_missing, crate::proofs::Free::missing_distinct))]
+fn imports_from(alloc: Global, state: &State, theory: &State) -> Result<Outcome, AllocError>
+    ensures { IfOk result (λ outcome. outcome ≡ imports_from state.now.entries theory.now.entries (first_clash state.now.entries theory.now.entries)) }
+{
+    theory.promise();
+    if let Some(key) = state.env().first_clash(theory.env()) {
+        return Ok(Outcome::refuses(RefusalKind::ImportClash, key.text(alloc)?));
+    }
+    Ok(Outcome::makes(state.env().missing(theory.env())?))
 }

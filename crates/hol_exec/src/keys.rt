@@ -4,12 +4,12 @@ ghost use Rattle.hol_notation_tactics.specs.Text.{tac_texts};
 ghost use Rattle.hol_exec.specs.ParsedView.{local_text};
 ghost use Rattle.hol_exec.specs.Keys.{keys_of_type, keys_of_types, keys_of_annotation, keys_of_term, keys_of_pairs, keys_of_theorem, keys_of_theorems, keys_of_argument, keys_of_arguments, keys_of_call, keys_of_tactic, keys_of_tactics, cited_keys, made_keys};
 
-use crate::key::{Key, Kind};
 use crate::parsed::LocalCommand;
 use hol_notation_tactics::{
     TacArg, TacArgNode, TacCall, TacExpr, TacExprNode, ThmExpr, ThmExprNode, TypePair,
 };
 use hol_notation_terms::{PreTerm, PreTermNode, PreType, PreTypeNode};
+use hol_theory::{Key, Kind};
 use std::alloc::{AllocError, Global};
 
 // The nesting of what is written is bounded by its tokens, of which there are 4,096 at most: no deeper do these go.

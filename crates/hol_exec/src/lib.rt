@@ -11,7 +11,6 @@ mod entry;
 mod expressions;
 mod formulas;
 mod goals;
-mod key;
 mod keys;
 mod laws;
 mod lookups;
@@ -36,8 +35,6 @@ mod tac;
 mod unresolved;
 
 pub use direct_outcome::{Ended, direct};
-pub use entry::{Entry, EntryNode};
-pub use key::{Key, Kind};
 pub use laws::{one_outcome, one_text};
 pub use next::apply;
 pub use outcome::Outcome;

@@ -14,6 +14,7 @@ pub fn apply(alloc: Global, state: &mut State, outcome: &Outcome) -> Result<(), 
     ensures ok { OnOk result (state.new ≡ after state.old outcome.now) }
     ensures err { OnErr result (state.new ≡ state.old) }
 {
+    state.promise();
     match outcome.change() {
         Change::Opens(name, statement, basis) => {
             let proof = Proof::begin(alloc, name.as_str(), statement, basis)?;
@@ -26,7 +27,7 @@ pub fn apply(alloc: Global, state: &mut State, outcome: &Outcome) -> Result<(), 
             Ok(())
         }
         Change::Rotates(times) => state.rotate(alloc, *times),
-        Change::Makes(entries) => state.make(alloc, entries),
+        Change::Makes(entries) => state.make(entries),
         Change::Refuses(_, _) => Ok(()),
     }
 }

@@ -1,21 +1,24 @@
 //! What a command does to a state.
 ghost use Rattle.std.specs.Prelude.{◌≡◌, ◌↔◌, IsTrue, IfOk, string_bytes, []};
 ghost use Rattle.hol_terms.specs.Nameless.{nameless};
+ghost use Rattle.std.specs.List.{IsDistinct};
+ghost use Rattle.std.specs.Map.{keys_of};
 ghost use Rattle.hol_kernel.specs.Items.{no_items};
-ghost use Rattle.hol_exec.specs.Entry.{EachIsEntry};
+ghost use Rattle.hol_theory.specs.Key.{key_eq};
+ghost use Rattle.hol_exec.specs.Entry.{EachIsPlain};
 ghost use Rattle.hol_exec.specs.OutcomeValue.{OutcomeValue, Opens, Leaves, Undoes, Rotates, Makes, Refuses, MakesTheorems};
 ghost use Rattle.hol_exec.specs.OutcomeView.{outcome_of};
 ghost use Rattle.hol_exec.specs.Valid.{IsStatement, IsLeft, IsValidChange};
 
-use crate::entry::{Entry, Made, copies};
+use crate::entry::copies;
 use crate::goals::step_copy;
-use crate::key::Key;
 use crate::refusal::RefusalKind;
 use crate::same::{Same, same_basis, same_each};
 use hol_goal::Goal;
 use hol_just::Step;
 use hol_kernel::Basis;
 use hol_terms::Term;
+use hol_theory::Entries;
 use std::alloc::{AllocError, Global};
 use std::marker::Model;
 
@@ -37,7 +40,7 @@ pub(crate) enum Change {
     /// Puts the first goal last, so many times.
     Rotates(usize),
     /// Makes these entries, if any, after which no proof is open.
-    Makes(Vec<(Key, Entry)>),
+    Makes(Entries),
     /// The command is refused; the text is what the refusal speaks of, or empty.
     Refuses(RefusalKind, String),
 }
@@ -77,8 +80,9 @@ impl Outcome {
         }
     }
 
-    pub(crate) fn makes(entries: Made) -> Outcome
-        requires { EachIsEntry entries.items }
+    pub(crate) fn makes(entries: Entries) -> Outcome
+        requires plain { EachIsPlain entries.items }
+        requires keys { IsDistinct key_eq (keys_of entries.items) }
         ensures { result ≡ Makes entries.items }
     {
         Outcome {

@@ -112,7 +112,7 @@ impl Hash for LocalCommand {
 }
 
 /// What is answered directly.
-#[derive(Clone, Copy)]
+#[derive(Drop)]
 pub enum DirectCommand {
     /// A text that is refused as `syntax` at the byte where it is no command any more, or at its first word where it is a command that
     /// isn't run.
@@ -123,6 +123,8 @@ pub enum DirectCommand {
     Rotate(usize),
     /// `oops`: drops the proof.
     Oops,
+    /// `import NAME`: makes the entries of an earlier theory that don't stand.
+    Import(String),
 }
 
 /// What a text is to the engine.
@@ -159,8 +161,11 @@ fn classified(alloc: Global, text: &str, command: &Command) -> Result<Parsed, Al
         CommandNode::Back => Ok(Parsed::Direct(DirectCommand::Back)),
         CommandNode::Rotate(times) => Ok(Parsed::Direct(DirectCommand::Rotate(*times))),
         CommandNode::Oops => Ok(Parsed::Direct(DirectCommand::Oops)),
-        CommandNode::Import(_)
-        | CommandNode::NewType { name: _, arity: _ }
+        CommandNode::Import(name) => Ok(Parsed::Direct(DirectCommand::Import(String::from_str(
+            alloc,
+            name.as_str(),
+        )?))),
+        CommandNode::NewType { name: _, arity: _ }
         | CommandNode::NewConstant {
             name: _,
             quotation: _,

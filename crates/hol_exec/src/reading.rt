@@ -6,6 +6,7 @@ ghost use Rattle.hol_kernel.specs.Typing.{is_type_at};
 ghost use Rattle.hol_exec.specs.Lookups.{lookups_of};
 ghost use Rattle.hol_resolve.specs.Reading.{IsTermReadAs};
 ghost use Rattle.hol_resolve.specs.ReadingView.{reading_value};
+ghost use Rattle.hol_exec.specs.Valid.{ArePlain};
 
 use crate::lookups::lookups_of;
 use crate::reads::Reads;
@@ -23,7 +24,8 @@ pub(crate) fn read_cited(
     written: &PreTerm,
     reads: &Reads,
 ) -> Result<Reading, AllocError>
-    ensures { IfOk result (λ reading. IsTermReadAs (lookups_of reads.now.cited) written.now (reading_value reading)) }
+    ensures reads { IfOk result (λ reading. IsTermReadAs (lookups_of reads.now.cited) written.now (reading_value reading)) }
+    ensures plain { ArePlain reads.now.cited }
 {
     let lookups = lookups_of(alloc, setup, reads.cited())?;
     read_term(alloc, written, &lookups)

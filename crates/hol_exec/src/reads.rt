@@ -1,8 +1,8 @@
 //! What a command reads of a state.
 ghost use Rattle.std.specs.Prelude.{◌≡◌, ◌↔◌, [], IsTrue, IfOk, map, option_copied};
 ghost use Rattle.std.specs.List.{list_any};
-ghost use Rattle.hol_exec.specs.Entry.{entry_at};
-ghost use Rattle.hol_exec.specs.Key.{key_eq};
+ghost use Rattle.hol_theory.specs.Entry.{entry_at};
+ghost use Rattle.hol_theory.specs.Key.{key_eq};
 ghost use Rattle.hol_exec.specs.Standing.{first_taken, first_unknown};
 ghost use Rattle.hol_exec.specs.ParsedView.{local_text};
 ghost use Rattle.hol_exec.specs.SameReads.{same_reads};
@@ -10,14 +10,13 @@ ghost use Rattle.hol_exec.specs.Valid.{ArePlain};
 ghost use Rattle.hol_exec.specs.ReadsValue.{ReadsValue, values_of, goal_for, closing_for, reads_of};
 
 use crate::closing::Closing;
-use crate::entry::Entry;
-use crate::key::Key;
 use crate::keys::{cited_keys, made_keys};
 use crate::parsed::LocalCommand;
 use crate::same::{same_each, same_options};
 use crate::standing::{is_standing, is_unknown};
 use crate::state::State;
 use hol_goal::Goal;
+use hol_theory::{Key, Value};
 use std::alloc::{AllocError, Global};
 use std::hash::{Hash, Hasher};
 use std::marker::Model;
@@ -25,8 +24,8 @@ use std::marker::Model;
 /// What a command reads of a state: with the command it determines the outcome.
 #[derive(Drop)]
 pub struct Reads {
-    cited: Vec<(Key, Option<Entry>)>,
-    made: Vec<(Key, Option<Entry>)>,
+    cited: Vec<(Key, Option<Value>)>,
+    made: Vec<(Key, Option<Value>)>,
     in_proof: bool,
     goal: Option<Goal>,
     closing: Option<Closing>,
@@ -102,7 +101,7 @@ impl Reads {
     }
 
     /// The values of the keys that the command cites.
-    pub(crate) fn cited(&self) -> &[(Key, Option<Entry>)]
+    pub(crate) fn cited(&self) -> &[(Key, Option<Value>)]
         ensures value { result.now ≡ self.now.cited }
         ensures plain { ArePlain result.now }
     {
@@ -197,7 +196,7 @@ impl Reads {
 }
 
 // Whether the key is one of those of the values.
-fn has_key(values: &[(Key, Option<Entry>)], key: &Key) -> bool
+fn has_key(values: &[(Key, Option<Value>)], key: &Key) -> bool
     ensures { result ≡ list_any (key_eq key.now) (map (λ value. value.0) values.now) }
 {
     for value in values {
@@ -213,7 +212,7 @@ fn values_of(
     alloc: Global,
     keys: Vec<Key>,
     state: &State,
-) -> Result<Vec<(Key, Option<Entry>)>, AllocError>
+) -> Result<Vec<(Key, Option<Value>)>, AllocError>
     ensures { IfOk result (λ values. values.items ≡ values_of state.now.entries keys.items) }
 {
     let mut values = Vec::with_capacity(alloc, keys.len())?;
@@ -223,7 +222,7 @@ fn values_of(
     Ok(values)
 }
 
-fn value_of(alloc: Global, key: &Key, state: &State) -> Result<(Key, Option<Entry>), AllocError>
+fn value_of(alloc: Global, key: &Key, state: &State) -> Result<(Key, Option<Value>), AllocError>
     ensures { IfOk result (λ value. value ≡ (key.now, entry_at key.now state.now.entries)) }
 {
     let entry = match state.entry(key) {
@@ -233,7 +232,7 @@ fn value_of(alloc: Global, key: &Key, state: &State) -> Result<(Key, Option<Entr
     Ok((key.copy(alloc)?, entry))
 }
 
-fn entry_copy(entry: &Option<Entry>) -> Result<Option<Entry>, AllocError>
+fn entry_copy(entry: &Option<Value>) -> Result<Option<Value>, AllocError>
     ensures { IfOk result (λ copied. copied ≡ entry.now) }
 {
     match entry {
@@ -244,8 +243,8 @@ fn entry_copy(entry: &Option<Entry>) -> Result<Option<Entry>, AllocError>
 
 fn value_copies(
     alloc: Global,
-    values: &[(Key, Option<Entry>)],
-) -> Result<Vec<(Key, Option<Entry>)>, AllocError>
+    values: &[(Key, Option<Value>)],
+) -> Result<Vec<(Key, Option<Value>)>, AllocError>
     ensures { IfOk result (λ copied. copied.items ≡ values.now) }
 {
     let mut copied = Vec::with_capacity(alloc, values.len())?;

@@ -3,13 +3,15 @@
 /// The kinds of refusals of commands. Each has a number and a text that clients see.
 #[derive(Clone, Copy, Debug, PartialEq, Eq)]
 pub enum RefusalKind {
-    /// The text is no command.
+    /// The text is no command, or one that isn't run yet.
     Syntax,
     /// The command opens a proof while one is open.
     InProof,
     /// The command needs an open proof.
     NoProofOpen,
-    /// A theorem that is cited has no entry.
+    /// No theory of that name stands earlier.
+    UnknownTheory,
+    /// A theorem that is cited neither stands nor is the prelude's.
     UnknownTheorem,
     /// No TAC of that name is known, or its arguments are not of its kind.
     UnknownTac,
@@ -37,6 +39,8 @@ pub enum RefusalKind {
     GoalsRemain,
     /// The proof's history has its first element alone.
     NothingToUndo,
+    /// Something else stands under a key of the theory that is imported.
+    ImportClash,
 }
 
 impl RefusalKind {
@@ -51,6 +55,7 @@ impl RefusalKind {
             RefusalKind::Syntax => 1,
             RefusalKind::InProof => 2,
             RefusalKind::NoProofOpen => 3,
+            RefusalKind::UnknownTheory => 4,
             RefusalKind::UnknownTheorem => 5,
             RefusalKind::UnknownTac => 6,
             RefusalKind::Untypable => 7,
@@ -65,6 +70,7 @@ impl RefusalKind {
             RefusalKind::TurnLimit => 18,
             RefusalKind::GoalsRemain => 19,
             RefusalKind::NothingToUndo => 20,
+            RefusalKind::ImportClash => 21,
         }
     }
 
@@ -76,6 +82,7 @@ impl RefusalKind {
             RefusalKind::Syntax => "syntax",
             RefusalKind::InProof => "in a proof",
             RefusalKind::NoProofOpen => "no proof open",
+            RefusalKind::UnknownTheory => "unknown theory",
             RefusalKind::UnknownTheorem => "unknown theorem",
             RefusalKind::UnknownTac => "unknown TAC or wrong arguments",
             RefusalKind::Untypable => "untypable",
@@ -90,6 +97,7 @@ impl RefusalKind {
             RefusalKind::TurnLimit => "turn limit",
             RefusalKind::GoalsRemain => "goals remain",
             RefusalKind::NothingToUndo => "nothing to undo",
+            RefusalKind::ImportClash => "import clash",
         }
     }
 }

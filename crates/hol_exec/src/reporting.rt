@@ -1,15 +1,14 @@
 //! The report on a command.
-ghost use Rattle.std.specs.Prelude.{◌≡◌, IfOk, map, string_bytes};
+ghost use Rattle.std.specs.Prelude.{◌≡◌, ◌++◌, IfOk, map, string_bytes};
 ghost use Rattle.hol_exec.specs.ReportOf.{report_of, entry_text, shown_goal};
 ghost use Rattle.hol_exec.specs.ReportView.{report_value, shown_goal_text};
 
-use crate::entry::{Entry, EntryNode};
-use crate::key::Key;
 use crate::outcome::{Change, Outcome};
 use crate::report::{Report, ShownGoal};
 use crate::state::State;
 use hol_goal::Goal;
-use hol_print::{show_goal, show_term};
+use hol_print::{show_goal, show_term, show_type};
+use hol_theory::{Key, Value, ValueNode};
 use std::alloc::{AllocError, Global};
 
 /// The report on an outcome, the state being that after it.
@@ -49,23 +48,44 @@ fn shown_goal(alloc: Global, goal: &Goal) -> Result<ShownGoal, AllocError>
     })
 }
 
-/// An entry as clients see it: `thm N |- p`.
-pub fn entry_text(alloc: Global, key: &Key, entry: &Entry) -> Result<String, AllocError>
+/// An entry as clients see it: `type N/k`, `const N:ty` or `thm N |- p`.
+pub fn entry_text(alloc: Global, key: &Key, entry: &Value) -> Result<String, AllocError>
     ensures { IfOk result (λ text. string_bytes text ≡ entry_text (key.now, entry.now)) }
 {
     match entry.node() {
-        EntryNode::Theorem(theorem) => {
-            let mut text = String::from_str(alloc, "thm ")?;
-            text.push_str(key.name())?;
-            text.push_str(" |- ")?;
+        ValueNode::Type { arity, .. } => {
+            let arity = arity.to_string(alloc)?;
+            shown_entry(alloc, "type ", key.name(), "/", arity.as_str())
+        }
+        ValueNode::Constant { ty, .. } => {
+            let ty = show_type(alloc, ty)?;
+            shown_entry(alloc, "const ", key.name(), ":", ty.as_str())
+        }
+        ValueNode::Theorem(theorem) => {
             let conclusion = show_term(alloc, theorem.concl())?;
-            text.push_str(conclusion.as_str())?;
-            Ok(text)
+            shown_entry(alloc, "thm ", key.name(), " |- ", conclusion.as_str())
         }
     }
 }
 
-fn entry_texts(alloc: Global, entries: &[(Key, Entry)]) -> Result<Vec<String>, AllocError>
+// The texts, one after the other.
+fn shown_entry(
+    alloc: Global,
+    kind: &str,
+    name: &str,
+    between: &str,
+    value: &str,
+) -> Result<String, AllocError>
+    ensures { IfOk result (λ text. string_bytes text ≡ kind.now ++ name.now ++ between.now ++ value.now) }
+{
+    let mut text = String::from_str(alloc, kind)?;
+    text.push_str(name)?;
+    text.push_str(between)?;
+    text.push_str(value)?;
+    Ok(text)
+}
+
+fn entry_texts(alloc: Global, entries: &[(Key, Value)]) -> Result<Vec<String>, AllocError>
     ensures { IfOk result (λ texts. map string_bytes texts.items ≡ map entry_text entries.now) }
 {
     let mut texts = Vec::with_capacity(alloc, entries.len())?;

@@ -9,11 +9,9 @@ ghost use Rattle.hol_exec.specs.Local.{IsLocalOutcome, IsOpening, IsApplying, op
 ghost use Rattle.hol_exec.specs.Lookups.{reading_basis};
 ghost use Rattle.hol_exec.specs.Standing.{first_taken};
 ghost use Rattle.hol_exec.specs.OutcomeValue.{Refuses};
-ghost use Rattle.hol_exec.specs.Valid.{IsStatement, IsRunnable};
+ghost use Rattle.hol_exec.specs.Valid.{ArePlain, IsStatement, IsRunnable};
 
 use crate::closing::Closing;
-use crate::entry::Entry;
-use crate::key::{Key, Kind};
 use crate::outcome::Outcome;
 use crate::parsed::LocalCommand;
 use crate::reading::{is_statement, read_cited};
@@ -27,6 +25,7 @@ use hol_notation_tactics::TacExpr;
 use hol_notation_terms::Quotation;
 use hol_resolve::Reading;
 use hol_terms::Term;
+use hol_theory::{Key, Kind, Value};
 use std::alloc::{AllocError, Global};
 
 /// The outcome of a command: it is determined by the set-up, the command and what it reads.
@@ -95,7 +94,8 @@ fn open_term(
     term: Term,
     reads: &Reads,
 ) -> Result<Outcome, AllocError>
-    requires { is_known no_items (nameless [] term) ≡ true }
+    requires known { is_known no_items (nameless [] term) ≡ true }
+    requires plain { ArePlain reads.now.cited }
     ensures { IfOk result (λ outcome. outcome ≡ opens_term name.now place reads.now (nameless [] term)) }
 {
     if !is_statement(&term) {
@@ -112,7 +112,8 @@ fn open_statement(
     statement: Term,
     reads: &Reads,
 ) -> Result<Outcome, AllocError>
-    requires { IsStatement no_items (nameless [] statement) }
+    requires statement { IsStatement no_items (nameless [] statement) }
+    requires plain { ArePlain reads.now.cited }
     ensures { IfOk result (λ outcome. outcome ≡ opens name.now (nameless [] statement) (reading_basis reads.now.cited (nameless [] statement)) (first_taken [] reads.now.made)) }
 {
     if let Some(key) = reads.first_taken() {
@@ -189,6 +190,6 @@ fn finished(alloc: Global, closing: &Closing) -> Result<Outcome, AllocError>
     theorem.promise();
     let key = Key::new(alloc, Kind::Theorem, closing.name())?;
     let mut entries = Vec::new(alloc);
-    entries.push((key, Entry::theorem(theorem)))?;
+    entries.push((key, Value::theorem(theorem)))?;
     Ok(Outcome::makes(entries))
 }

@@ -2,8 +2,7 @@
 ghost use Rattle.std.specs.Prelude.{◌≡◌};
 ghost use Rattle.hol_exec.specs.Standing.{in_prelude, is_standing, is_unknown};
 
-use crate::entry::Entry;
-use crate::key::{Key, Kind};
+use hol_theory::{Key, Kind, Value};
 
 // Whether the name is one of the prelude's of this kind.
 fn in_prelude(kind: Kind, name: &str) -> bool
@@ -61,7 +60,7 @@ fn is_prelude_theorem(name: &str) -> bool
 }
 
 /// Whether something stands under the key, which has this value.
-pub(crate) fn is_standing(key: &Key, value: &Option<Entry>) -> bool
+pub(crate) fn is_standing(key: &Key, value: &Option<Value>) -> bool
     ensures { result ≡ is_standing key.now value.now }
 {
     value.is_some() || in_prelude(key.kind(), key.name())

@@ -1,44 +1,45 @@
 //! The state of a theory while it is run.
-ghost use Rattle.std.specs.Prelude.{◌≡◌, ◌≢◌, ◌<◌, ◌≤◌, ◌+◌, OnOk, OnErr, IfSome, Some, None, [], length, slice_get, option_copied};
-ghost use Rattle.indexmap.specs.IndexMap.{insert_entry, insert_all, spare, IsUnique};
+ghost use Rattle.std.specs.Prelude.{◌≡◌, ◌≢◌, ◌++◌, OnOk, OnErr, IfSome, Some, None, [], option_copied};
+ghost use Rattle.std.specs.List.{IsDistinct};
+ghost use Rattle.std.specs.Map.{keys_of};
 ghost use Rattle.hol_kernel.specs.Items.{no_items};
-ghost use Rattle.hol_exec.specs.Key.{key_eq};
-ghost use Rattle.hol_exec.specs.Entry.{entry_at, EachIsEntry};
+ghost use Rattle.hol_theory.specs.Adding.{AreNew};
+ghost use Rattle.hol_theory.specs.Entry.{entry_at};
+ghost use Rattle.hol_theory.specs.Key.{key_eq, theorem_key};
+ghost use Rattle.hol_theory.specs.Theory.{IsTheory};
+ghost use Rattle.hol_exec.specs.Entry.{EachIsPlain};
 ghost use Rattle.hol_exec.specs.StateValue.{StateValue, start, open_goals};
 ghost use Rattle.hol_exec.specs.OutcomeValue.{stepped_in, undone_in, rotated_in};
-ghost use Rattle.hol_exec.specs.Valid.{CanStep};
+ghost use Rattle.hol_exec.specs.Valid.{CanStep, IsFreeFor};
 
-use crate::entry::{Entry, Made, copies};
-use crate::key::Key;
 use crate::proof::Proof;
 use hol_goal::Goal;
 use hol_just::Step;
 use hol_kernel::Basis;
-use indexmap::IndexMap;
+use hol_theory::{Env, Key, Value};
 use std::alloc::{AllocError, Global};
 use std::marker::Model;
 
-/// The state of a theory while it is run: its entries in order, each under its key, and at most one open proof.
+/// The state of a theory while it is run: its entries, and at most one open proof, under whose name no theorem stands.
 #[derive(Drop)]
 pub struct State {
-    entries: IndexMap<Key, Entry>,
+    env: Env,
     proof: Option<Proof>,
 }
 
 impl Model for State {
-    ghost use Rattle.indexmap.specs.IndexMap.{IsUnique};
-    ghost use Rattle.hol_exec.specs.Key.{key_eq};
-    ghost use Rattle.hol_exec.specs.Entry.{EachIsEntry};
+    ghost use Rattle.hol_exec.specs.Entry.{EachIsPlain};
     ghost use Rattle.hol_exec.specs.StateValue.{StateValue};
     ghost use Rattle.hol_exec.specs.Codes.{coded_state};
+    ghost use Rattle.hol_exec.specs.Valid.{IsFreeFor};
 
     ghost Value = { StateValue };
 
     ghost coded = { coded_state };
 
-    ghost view = { λ s. record { entries = s.entries.entries; proof = s.proof } };
+    ghost view = { λ s. record { entries = s.env; proof = s.proof } };
 
-    ghost invariant = { λ s. IsUnique key_eq s.entries × EachIsEntry s.entries.entries };
+    ghost invariant = { λ s. EachIsPlain s.env × IsFreeFor s.env s.proof };
 }
 
 impl State {
@@ -47,34 +48,23 @@ impl State {
         ensures { result ≡ start }
     {
         State {
-            entries: IndexMap::new(alloc),
+            env: Env::new(alloc),
             proof: None,
         }
     }
 
+    /// Its entries.
+    pub fn env(&self) -> &Env
+        ensures { result.now ≡ self.now.entries }
+    {
+        &self.env
+    }
+
     /// What stands under the key.
-    pub fn entry(&self, key: &Key) -> Option<&Entry>
+    pub fn entry(&self, key: &Key) -> Option<&Value>
         ensures { option_copied result ≡ entry_at key.now self.now.entries }
     {
-        self.entries.get(key)
-    }
-
-    /// The number of its entries.
-    pub fn len(&self) -> usize
-        ensures { result ≡ length self.now.entries }
-    {
-        self.entries.len()
-    }
-
-    /// An entry by its place in standing order, from 0.
-    pub fn entry_at(&self, index: usize) -> (&Key, &Entry)
-        requires { index < length self.now.entries }
-        ensures { slice_get self.now.entries index ≡ Some (result.0.now, result.1.now) }
-    {
-        match self.entries.get_index(index) {
-            Some(entry) => entry,
-            None => unreachable!(),
-        }
+        self.env.get(key)
     }
 
     /// The open proof.
@@ -94,15 +84,20 @@ impl State {
         }
     }
 
-    /// Each of its entries is a theorem under a theorem's key, without hypotheses, that has a derivation over its basis, which is legal.
+    /// Its entries are a theory, and no two of them have one key; each of them is a theorem under a theorem's key, without hypotheses, that has a derivation over its basis, which is
+    /// legal and, as long as no command makes items, empty; and under the name of the open proof no theorem stands.
     pub fn promise(&self)
-        ensures { EachIsEntry self.now.entries }
+        ensures theory { IsTheory self.now.entries }
+        ensures keys { IsDistinct key_eq (keys_of self.now.entries) }
+        ensures plain { EachIsPlain self.now.entries }
+        ensures free { IsFreeFor self.now.entries self.now.proof }
     {
-        let _ = &self.entries;
+        self.env.promise();
     }
 
     /// Opens the proof, in the place of one that is open.
     pub(crate) fn begin(&mut self, proof: Proof)
+        requires { entry_at (theorem_key proof.name) self.old.entries ≡ None }
         ensures { self.new ≡ record { entries = self.old.entries; proof = Some proof } }
     {
         self.proof = Some(proof);
@@ -127,6 +122,7 @@ impl State {
     }
 
     /// Drops the newest element of the open proof's history, if there is one before it.
+    #[tactic(auto, using(crate::proofs::Free::free_undone))]
     pub(crate) fn back(&mut self)
         ensures { self.new ≡ record { entries = self.old.entries; proof = undone_in self.old.proof } }
     {
@@ -148,40 +144,15 @@ impl State {
     }
 
     /// Makes the entries and drops the proof.
-    pub(crate) fn make(&mut self, alloc: Global, entries: &[(Key, Entry)]) -> Result<(), AllocError>
-        requires { EachIsEntry entries.now }
-        ensures ok { OnOk result (self.new ≡ record { entries = insert_all key_eq self.old.entries entries.now; proof = None }) }
+    #[tactic(auto, using(crate::proofs::Plain::plain_joined))]
+    pub(crate) fn make(&mut self, entries: &[(Key, Value)]) -> Result<(), AllocError>
+        requires new { AreNew self.old.entries entries.now }
+        requires plain { EachIsPlain entries.now }
+        ensures ok { OnOk result (self.new ≡ record { entries = self.old.entries ++ entries.now; proof = None }) }
         ensures err { OnErr result (self.new ≡ self.old) }
     {
-        let made = copies(alloc, entries)?;
-        insert_each(&mut self.entries, made)?;
+        self.env.add_all(entries)?;
         self.proof = None;
         Ok(())
-    }
-}
-
-// Inserts the entries in their order: all of them, or none.
-fn insert_each(entries: &mut IndexMap<Key, Entry>, made: Made) -> Result<(), AllocError>
-    ensures ok { OnOk result (entries.new.entries ≡ insert_all key_eq entries.old.entries made.items) }
-    ensures err { OnErr result (entries.new.entries ≡ entries.old.entries) }
-    ensures unique { IsUnique key_eq entries.old → IsUnique key_eq entries.new }
-{
-    entries.reserve(made.len())?;
-    for (key, entry) in made {
-        insert_one(entries, key, entry);
-    }
-    Ok(())
-}
-
-// Inserts an entry where there is room for one.
-fn insert_one(entries: &mut IndexMap<Key, Entry>, key: Key, entry: Entry)
-    requires { 0 < spare entries.old }
-    ensures entries { entries.new.entries ≡ insert_entry key_eq entries.old.entries key entry }
-    ensures room { spare entries.old ≤ spare entries.new + 1 }
-    ensures unique { IsUnique key_eq entries.new }
-{
-    match entries.insert(key, entry) {
-        Ok(_) => {}
-        Err(_) => unreachable!(),
     }
 }

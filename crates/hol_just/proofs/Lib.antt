@@ -13,6 +13,9 @@ pub mod QuantifierRules
 pub mod Replacing
 pub mod EliminationRules
 pub mod EliminationMoves
+pub mod Reducing
+pub mod ConversionMoves
+pub mod Expanding
 pub mod ByTheorems
 pub mod Handed
 pub mod Proposition

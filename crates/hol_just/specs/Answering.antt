@@ -6,7 +6,7 @@ use Rattle.hol_kernel.specs.Items.{Items}
 use Rattle.hol_kernel.specs.Given.{Given, given_sequent}
 use Rattle.hol_kernel.specs.Sequent.{Hyps, no_hyps}
 use Rattle.hol_goal.specs.Goal.{GoalValue}
-use Rattle.hol_goal.specs.Answer.{UsedValue, AnswerResult, Left, Unfit, OutOfTurns, AnswerValue}
+use Rattle.hol_goal.specs.Answer.{UsedValue, AnswerResult, Left, Unfit, OutOfTurns, TooLarge, AnswerValue}
 use Rattle.hol_goal.specs.Achieves.{AreAllowed}
 use Rattle.hol_goal.specs.Arguments.{TacArgsValue, Nothing, Term, Pair, Theorem, TermAndTheorem, Theorems}
 use Rattle.hol_goal.specs.declared.tac_code.TacCode.{TacCode}
@@ -16,24 +16,32 @@ use Rattle.hol_just.specs.Tac.{Meaning, tac}
 use Rattle.hol_just.specs.declared.tried.Step.{Step}
 use Rattle.hol_just.specs.declared.tried.Tried.{Tried}
 use Rattle.hol_just.specs.declared.tried.TacFault.{TacFault}
-use Rattle.hol_just.specs.declared.tried.TacFault.TheVariants.{Refused, TurnLimit, Memory}
+use Rattle.hol_just.specs.declared.tried.TacFault.TheVariants as fault
 
 -- ---- the answer
 
 -- The answer is the one that is right. Want of memory may come in its place.
 abbrev pub IsResult : AnswerResult → UsedValue → Result Tried TacFault → Type 0
 IsResult (Left goals) used (Ok tried) = (tried.step.goals.items ≡ goals) × (tried.left ≡ used.turns_left)
-IsResult (Left goals) used (Err (Refused left)) = ⊥
-IsResult (Left goals) used (Err TurnLimit) = ⊥
-IsResult (Left goals) used (Err Memory) = Unit {0}
+IsResult (Left goals) used (Err (fault.Refused left)) = ⊥
+IsResult (Left goals) used (Err fault.TurnLimit) = ⊥
+IsResult (Left goals) used (Err fault.TooLarge) = ⊥
+IsResult (Left goals) used (Err fault.Memory) = Unit {0}
 IsResult Unfit used (Ok tried) = ⊥
-IsResult Unfit used (Err (Refused left)) = left ≡ used.turns_left
-IsResult Unfit used (Err TurnLimit) = ⊥
-IsResult Unfit used (Err Memory) = Unit {0}
+IsResult Unfit used (Err (fault.Refused left)) = left ≡ used.turns_left
+IsResult Unfit used (Err fault.TurnLimit) = ⊥
+IsResult Unfit used (Err fault.TooLarge) = ⊥
+IsResult Unfit used (Err fault.Memory) = Unit {0}
 IsResult OutOfTurns used (Ok tried) = ⊥
-IsResult OutOfTurns used (Err (Refused left)) = ⊥
-IsResult OutOfTurns used (Err TurnLimit) = used.turns_left ≡ 0
-IsResult OutOfTurns used (Err Memory) = Unit {0}
+IsResult OutOfTurns used (Err (fault.Refused left)) = ⊥
+IsResult OutOfTurns used (Err fault.TurnLimit) = used.turns_left ≡ 0
+IsResult OutOfTurns used (Err fault.TooLarge) = ⊥
+IsResult OutOfTurns used (Err fault.Memory) = Unit {0}
+IsResult TooLarge used (Ok tried) = ⊥
+IsResult TooLarge used (Err (fault.Refused left)) = ⊥
+IsResult TooLarge used (Err fault.TurnLimit) = ⊥
+IsResult TooLarge used (Err fault.TooLarge) = Unit {0}
+IsResult TooLarge used (Err fault.Memory) = Unit {0}
 
 abbrev pub IsAnswered : AnswerValue → Result Tried TacFault → Type 0
 IsAnswered answer result = IsResult answer.result answer.used result

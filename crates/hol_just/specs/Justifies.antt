@@ -10,7 +10,7 @@ use Rattle.hol_subst.specs.Closing.{open_with}
 use Rattle.hol_subst.specs.Variant.{is_free_in}
 use Rattle.hol_terms.specs.Alpha.{strip}
 use Rattle.hol_formulas.specs.Equation.{bool_type, equation, Sides, dest_eq}
-use Rattle.hol_formulas.specs.Formula.{Abstraction, falsity, conjunction, disjunction, implication, negation, universal, existential}
+use Rattle.hol_formulas.specs.Formula.{Abstraction, truth, falsity, conjunction, disjunction, implication, negation, universal, existential}
 use Rattle.hol_kernel.specs.Items.{Items}
 use Rattle.hol_kernel.specs.Sequent.{Hyps}
 use Rattle.hol_kernel.specs.Typing.{is_typed, has_type}
@@ -18,6 +18,8 @@ use Rattle.hol_kernel.specs.Given.{Given, proved, assumed, given_sequent}
 use Rattle.hol_goal.specs.Goal.{GoalValue}
 use Rattle.hol_goal.specs.Achieves.{AreAllowed}
 use Rattle.hol_bool.specs.Rules.{over_variable}
+use Rattle.hol_conv.specs.Beta.{beta_turn}
+use Rattle.hol_conv.specs.Turns.{finished, all_turns}
 use Rattle.hol_just.specs.Valid.{IsValid}
 use Rattle.hol_just.specs.Replacing.{replace_each}
 use Rattle.hol_just.specs.declared.reason.Move.{Move}
@@ -206,6 +208,18 @@ LeavesConjuncts th moves =
 -- p from F
 abbrev pub LeavesFalsity : Nameless → List Move → Type 0
 LeavesFalsity p moves = (extra : Hyps) (assumptions : List Nameless) → IsValid always extra moves (goal_at assumptions p ∷ []) (goal_at assumptions falsity ∷ [])
+
+-- T
+abbrev pub ClosesTruth : List Move → Type 0
+ClosesTruth moves = (extra : Hyps) (assumptions : List Nameless) → IsValid always extra moves (goal_at assumptions truth ∷ []) []
+
+-- ---- conversions
+
+-- BETA_TAC leaves u of t, where u is what beta reduction makes of t in so many turns.
+abbrev pub LeavesReduced : Nameless → ℕ → List Move → Type 0
+LeavesReduced t turns moves =
+    (extra : Hyps) (assumptions : List Nameless) (u : Nameless) (left : ℕ) → all_turns beta_turn turns t ≡ finished u left →
+    IsValid always extra moves (goal_at assumptions t ∷ []) (goal_at assumptions u ∷ [])
 
 -- ---- quantifiers
 

@@ -12,5 +12,6 @@ pub mod EquationTacs
 pub mod ConnectiveTacs
 pub mod QuantifierTacs
 pub mod Strip
+pub mod ConversionTacs
 pub mod Tac
 pub mod Answering

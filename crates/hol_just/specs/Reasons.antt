@@ -1,17 +1,20 @@
 -- What each reason makes of sequents, by the functions of the rules.
-use Rattle.std.specs.Prelude.{[], Option, Some}
-use Rattle.std.specs.Option.{option_map}
+use Rattle.std.specs.Prelude.{ℕ, [], Option, Some, None}
+use Rattle.std.specs.Option.{option_map, option_and_then}
 use Rattle.hol_terms.specs.Nameless.{Nameless, nameless}
 use Rattle.hol_kernel.specs.Items.{Items}
-use Rattle.hol_kernel.specs.Sequent.{Sequent}
+use Rattle.hol_kernel.specs.Sequent.{Sequent, no_hyps, sequent_of}
+use Rattle.hol_kernel.specs.Theorem.{Theorem}
 use Rattle.hol_kernel.specs.Given as premise
-use Rattle.hol_kernel.specs.Rules.{refl_of, mk_comb_of, deduct_antisym_of}
+use Rattle.hol_kernel.specs.Rules.{refl_of, mk_comb_of, eq_mp_of, deduct_antisym_of}
+use Rattle.hol_formulas.specs.Formula.{truth}
 use Rattle.hol_terms.specs.Named.{Named}
 use Rattle.hol_equal.specs.Rules.{sym_of, subst_of, prove_hyp_of}
 use Rattle.hol_bool.specs.Rules.{conj_of, conjunct1_of, conjunct2_of, disj1_of, disj2_of, disj_cases_of, disch_of, undisch_of, not_intro_of, mp_of, contr_of, gen_of, spec_of, exists_of, choose_of}
+use Rattle.hol_conv.specs.Equations.{beta_conversion}
 use Rattle.hol_just.specs.Inference.{Inference, from_none, from_one, from_two, from_three}
 use Rattle.hol_just.specs.declared.reason.Reason.{Reason}
-use Rattle.hol_just.specs.declared.reason.Reason.TheVariants.{Reflexivity, Premise, Combination, Antisymmetry, Conjunction, LeftDisjunct, RightDisjunct, Discharge, Undischarge, Negation, ModusPonens, Contradiction, Generalization, Existence, LeftConjunct, RightConjunct, Cases, Cut, Symmetry, Replacement, Specialization, Choice}
+use Rattle.hol_just.specs.declared.reason.Reason.TheVariants.{Reflexivity, Premise, Combination, Antisymmetry, Conjunction, LeftDisjunct, RightDisjunct, Discharge, Undischarge, Negation, ModusPonens, Contradiction, Generalization, Existence, LeftConjunct, RightConjunct, Cases, Cut, Symmetry, Replacement, Specialization, Choice, Truth, Reduction}
 
 -- the sequent of a premise over a basis
 abbrev pub premise_of : Items → premise.Given → Option Sequent
@@ -37,6 +40,19 @@ cut a b = Some (prove_hyp_of a b)
 abbrev pub replaced : Items → Named → Nameless → Sequent → Sequent → Option Sequent
 replaced basis v m a b = subst_of basis a v m b
 
+-- T
+abbrev pub true_sequent : Option Sequent
+true_sequent = Some (sequent_of no_hyps truth)
+
+-- t, from u, by a theorem t = u
+abbrev pub expanded_by : Option Theorem → Sequent → Option Sequent
+expanded_by None a = None
+expanded_by (Some th) a = option_and_then (λ s. eq_mp_of s a) (sym_of th.sequent)
+
+-- t, from what beta reduction makes of it in so many turns
+abbrev pub expanded : Items → Nameless → ℕ → Sequent → Option Sequent
+expanded basis t turns a = expanded_by (beta_conversion basis turns t) a
+
 -- the rule of a reason
 abbrev pub inference : Items → Reason → Inference
 inference basis (Reflexivity t) = from_none (refl_of basis (nameless [] t))
@@ -61,6 +77,8 @@ inference basis Symmetry = from_one sym_of
 inference basis (Replacement v m) = from_two (replaced basis v (nameless [] m))
 inference basis (Specialization t) = from_one (spec_of basis (nameless [] t))
 inference basis (Choice v) = from_two (choose_of v)
+inference basis Truth = from_none true_sequent
+inference basis (Reduction t turns) = from_one (expanded basis (nameless [] t) turns)
 
 -- what a reason asks of the basis: that it contains the bases of the theorems that the reason holds
 abbrev pub Fits : Items → Reason → Type 0
@@ -86,3 +104,5 @@ Fits basis Symmetry = Unit {0}
 Fits basis (Replacement v m) = Unit {0}
 Fits basis (Specialization t) = Unit {0}
 Fits basis (Choice v) = Unit {0}
+Fits basis Truth = Unit {0}
+Fits basis (Reduction t turns) = Unit {0}

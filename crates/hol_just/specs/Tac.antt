@@ -9,14 +9,15 @@ use Rattle.hol_just.specs.Leaving.{with_nothing, with_term, with_pair, with_theo
 use Rattle.hol_just.specs.EquationTacs.{refl_tac, eq_tac, subst1_tac, ap_term_tac, ap_thm_tac, mk_comb_tac}
 use Rattle.hol_just.specs.ConnectiveTacs.{accept_tac, conj_tac, disj1_tac, disj2_tac, disch_tac, undisch_tac, mp_tac, assume_tac, contr_tac, disj_cases_tac}
 use Rattle.hol_just.specs.Strip.{strip_assume_tac, strip_tac, stripped}
+use Rattle.hol_just.specs.ConversionTacs.{beta_tac, converted}
 use Rattle.hol_just.specs.QuantifierTacs.{gen_tac, x_gen_tac, exists_tac, spec_tac, choose_tac, x_choose_tac}
 
 -- what a function answers, from its arguments, the goal, and what the run may still use
 abbrev pub Meaning : Type 0
 Meaning = TacArgsValue → GoalValue → UsedValue → AnswerValue
 
--- The meaning of each code; a code without an entry has none here. A function doesn't fit a goal either where its arguments are of another kind. Only the two that
--- strip use turns.
+-- The meaning of each code; a code without an entry has none here. A function doesn't fit a goal either where its arguments are of another kind. Only those that
+-- strip and those that convert use turns.
 abbrev pub tac : TacCode → Option Meaning
 tac AllTac = Some (λ args goal used. answered (with_nothing args (Some (goal ∷ []))) used)
 tac NoTac = Some (λ args goal used. answered None used)
@@ -45,7 +46,7 @@ tac UndischTac = Some (λ args goal used. answered (with_term args (λ t. undisc
 tac StripAssumeTac = Some (λ args goal used. stripped (with_theorem args (λ th. strip_assume_tac th goal used.turns_left)) used)
 tac StripTac = Some (λ args goal used. stripped (with_nothing args (strip_tac goal used.turns_left)) used)
 tac MatchMpTac = None
-tac BetaTac = None
+tac BetaTac = Some (λ args goal used. converted (with_nothing args (beta_tac goal used.turns_left)) goal used)
 tac RewriteTac = None
 tac OnceRewriteTac = None
 tac AsmRewriteTac = None

@@ -5,6 +5,8 @@
 
 mod bool_steps;
 mod by_theorems;
+mod conversion_steps;
+mod conversions;
 mod cursor;
 mod elimination_steps;
 mod equal_steps;

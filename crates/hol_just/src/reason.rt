@@ -53,6 +53,10 @@ pub enum Reason {
     Specialization(Term),
     /// Leaves `?x. p`, and `q` from `p` at the term, a variable: `q` (CHOOSE).
     Choice(Term),
+    /// Leaves no goal: `T` (TRUTH).
+    Truth,
+    /// Leaves what beta reduction makes of the term in so many turns: the term (EQ_MP, by SYM of the conversion's equation).
+    Reduction(Term, u32),
 }
 
 /// The goal at this place, counted from 0, was taken out of the list of open goals, and those that the reason leaves stand there.
@@ -92,6 +96,8 @@ impl Reason {
             Reason::Replacement(v, m) => replacement(v, m),
             Reason::Specialization(t) => Ok(Reason::Specialization(t.copy()?)),
             Reason::Choice(v) => Ok(Reason::Choice(v.copy()?)),
+            Reason::Truth => Ok(Reason::Truth),
+            Reason::Reduction(t, turns) => Ok(Reason::Reduction(t.copy()?, *turns)),
         }
     }
 }

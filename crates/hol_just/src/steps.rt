@@ -11,6 +11,7 @@ use crate::bool_steps::{
     conjunction, contradiction, discharge, existence, generalization, left_disjunct, modus_ponens,
     negation, right_disjunct, undischarge,
 };
+use crate::conversion_steps::{reduction, true_formula};
 use crate::cursor::Cursor;
 use crate::elimination_steps::{cases, choice, left_conjunct, right_conjunct, specialization};
 use crate::equal_steps::{cut, replacement, symmetry};
@@ -57,6 +58,8 @@ pub(crate) fn infer(
         Reason::Replacement(v, m) => replacement(alloc, v, m, thms),
         Reason::Specialization(t) => specialization(alloc, t, thms),
         Reason::Choice(v) => choice(alloc, v, thms),
+        Reason::Truth => true_formula(alloc, thms),
+        Reason::Reduction(t, turns) => reduction(alloc, t, *turns, thms),
     }
 }
 

@@ -31,6 +31,8 @@ pub enum TacFault {
     Refused(u32),
     /// A turn was to be paid, and none was left.
     TurnLimit,
+    /// A turn made a term of over 20,000 nodes.
+    TooLarge,
     /// Memory is short.
     Memory,
 }

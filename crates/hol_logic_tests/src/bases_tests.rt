@@ -70,19 +70,21 @@ fn steps_are_taken_or_refused(rt: HostRuntime) -> Result<(), Fail> {
     Ok(())
 }
 
+// Which theorem, and what it is.
+const THEOREMS: [(&str, &str); 5] = [
+    ("definition", "|- (c:A->A) = (\\x. x)"),
+    ("axiom", "|- p:bool"),
+    ("no axiom", "Refused(AxiomOf)"),
+    ("abs_rep", "|- abs ((rep:one->bool->bool) a) = a:one"),
+    (
+        "rep_abs",
+        "|- (\\x:bool. x) = r <=> (rep:one->bool->bool) (abs r) = r",
+    ),
+];
+
 #[test]
 fn theorems_of_definitions_and_axioms(rt: HostRuntime) -> Result<(), Fail> {
-    let rows = [
-        ("definition", "|- (c:A->A) = (\\x. x)"),
-        ("axiom", "|- p:bool"),
-        ("no axiom", "Refused(AxiomOf)"),
-        ("abs_rep", "|- abs ((rep:one->bool->bool) a) = a:one"),
-        (
-            "rep_abs",
-            "|- (\\x:bool. x) = r <=> (rep:one->bool->bool) (abs r) = r",
-        ),
-    ];
-    for (which, wanted) in rows {
+    for &(which, wanted) in &THEOREMS {
         let found = found(rt.alloc(), theorem(rt.alloc(), which)?, wanted)?;
         assert_eq!(rt; found.as_str(), wanted, "{which}");
     }
@@ -217,24 +219,26 @@ fn stands(alloc: Global, step: Step<'_>, text: &str) -> Result<bool, Fail> {
     Ok(basis.is_typed(alloc, &term(alloc, text)?)?)
 }
 
+// Terms, and whether each stands over the basis of a constant `c` of any type.
+const TERMS: [(&str, bool); 13] = [
+    ("x:foo", false),
+    ("c:bool", true),
+    ("(~):bool->bool", true),
+    ("(=):bool->bool->bool", true),
+    ("(/\\):bool->bool->bool", true),
+    ("(\\/):bool->bool->bool", true),
+    ("(==>):bool->bool->bool", true),
+    ("(@):(bool->bool)->bool", true),
+    ("(!):(bool->bool)->bool", true),
+    ("(?):(bool->bool)->bool", true),
+    ("(?!):(bool->bool)->bool", true),
+    ("ONE_ONE:(bool->bool)->bool", true),
+    ("ONTO:(bool->bool)->bool", true),
+];
+
 #[test]
 fn terms_stand(rt: HostRuntime) -> Result<(), Fail> {
-    let rows = [
-        ("x:foo", false),
-        ("c:bool", true),
-        ("(~):bool->bool", true),
-        ("(=):bool->bool->bool", true),
-        ("(/\\):bool->bool->bool", true),
-        ("(\\/):bool->bool->bool", true),
-        ("(==>):bool->bool->bool", true),
-        ("(@):(bool->bool)->bool", true),
-        ("(!):(bool->bool)->bool", true),
-        ("(?):(bool->bool)->bool", true),
-        ("(?!):(bool->bool)->bool", true),
-        ("ONE_ONE:(bool->bool)->bool", true),
-        ("ONTO:(bool->bool)->bool", true),
-    ];
-    for (text, wanted) in rows {
+    for &(text, wanted) in &TERMS {
         let found = stands(rt.alloc(), Step::Constant("c", "A"), text)?;
         assert_eq!(rt; found, wanted, "{text}");
     }

@@ -38,18 +38,20 @@ fn is_joined(sign: &str, t: &Term) -> bool {
     }
 }
 
+// A sign, and what it makes of `T` and `F`.
+const CONNECTIVES: [(&str, &str); 4] = [
+    ("/\\", "T /\\ F"),
+    ("\\/", "T \\/ F"),
+    ("==>", "T ==> F"),
+    ("<=>", "T <=> F"),
+];
+
 #[test]
 fn connectives_are_made_and_taken_apart(rt: HostRuntime) -> Result<(), Fail> {
-    let rows = [
-        ("/\\", "T /\\ F"),
-        ("\\/", "T \\/ F"),
-        ("==>", "T ==> F"),
-        ("<=>", "T <=> F"),
-    ];
-    for (sign, text) in rows {
+    for &(sign, text) in &CONNECTIVES {
         let written = term(rt.alloc(), text)?;
         assert!(rt; joined(rt.alloc(), sign)?.same(&written), "{text}");
-        for (other, _text) in rows {
+        for &(other, _text) in &CONNECTIVES {
             assert_eq!(rt;
                 is_joined(other, &written),
                 other == sign,

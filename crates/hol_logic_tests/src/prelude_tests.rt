@@ -54,7 +54,7 @@ const STATEMENTS: [&str; 21] = [
 #[test]
 fn theorems_are_stated(rt: HostRuntime) -> Result<(), Fail> {
     let prelude = prelude(rt.alloc())?;
-    for command in STATEMENTS {
+    for command in &STATEMENTS {
         assert!(rt; is_stated(rt.alloc(), &prelude, command)?, "{command}");
     }
     assert!(rt; prelude.get("T").is_none());

@@ -259,7 +259,7 @@ const POSTULATES: [(Postulate, &str); 14] = [
 
 #[test]
 fn definitions_and_axioms_of_the_prelude(rt: HostRuntime) -> Result<(), Fail> {
-    for (which, wanted) in POSTULATES {
+    for &(which, wanted) in &POSTULATES {
         let th = Thm::prelude(rt.alloc(), which)?;
         let found = found(rt.alloc(), Ok(th), wanted)?;
         assert_eq!(rt; found.as_str(), wanted);
@@ -311,14 +311,16 @@ fn given(alloc: Global, text: &str) -> Result<Made<Thm>, Fail> {
     }
 }
 
+// A term, and its assumption or why there is none.
+const GIVEN: [(&str, &str); 3] = [
+    ("p:bool", "p:bool |- p:bool"),
+    ("x:ind", "Refused(Assume)"),
+    ("x:foo = x", "Refused(Assume)"),
+];
+
 #[test]
 fn terms_are_given(rt: HostRuntime) -> Result<(), Fail> {
-    let rows = [
-        ("p:bool", "p:bool |- p:bool"),
-        ("x:ind", "Refused(Assume)"),
-        ("x:foo = x", "Refused(Assume)"),
-    ];
-    for (text, wanted) in rows {
+    for &(text, wanted) in &GIVEN {
         let found = found(rt.alloc(), given(rt.alloc(), text)?, wanted)?;
         assert_eq!(rt; found.as_str(), wanted, "{text}");
     }

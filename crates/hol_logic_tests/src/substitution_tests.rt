@@ -15,25 +15,27 @@ fn compared(alloc: Global, s: &str, t: &str) -> Result<(Ordering, bool), Fail> {
     Ok((alpha_order(&s, &t), aconv(&s, &t)))
 }
 
+// What comes before what.
+const ORDERED: [(&str, &str, &str); 6] = [
+    ("constants before bound variables", "\\x:A. c:A", "\\x:A. x"),
+    ("bound variables before free ones", "\\x:A. x", "\\x:A. a:A"),
+    ("free variables before applications", "z:A", "(\\x:A. x) z"),
+    (
+        "applications before abstractions",
+        "(\\x:A. x) z",
+        "\\x:A. x",
+    ),
+    ("names by their bytes", "a':A", "b:A"),
+    (
+        "a bound variable, where the names agree",
+        "\\y:A. y",
+        "\\x:A. y:A",
+    ),
+];
+
 #[test]
 fn kinds_come_in_order(rt: HostRuntime) -> Result<(), Fail> {
-    let rows = [
-        ("constants before bound variables", "\\x:A. c:A", "\\x:A. x"),
-        ("bound variables before free ones", "\\x:A. x", "\\x:A. a:A"),
-        ("free variables before applications", "z:A", "(\\x:A. x) z"),
-        (
-            "applications before abstractions",
-            "(\\x:A. x) z",
-            "\\x:A. x",
-        ),
-        ("names by their bytes", "a':A", "b:A"),
-        (
-            "a bound variable, where the names agree",
-            "\\y:A. y",
-            "\\x:A. y:A",
-        ),
-    ];
-    for (what, s, t) in rows {
+    for &(what, s, t) in &ORDERED {
         assert_eq!(rt;
             compared(rt.alloc(), s, t)?,
             (Ordering::Less, false),
@@ -115,7 +117,7 @@ fn is_instance(alloc: Global, instance: &Term, v: &str, body: &str) -> Result<bo
 
 #[test]
 fn instances_rename_what_would_capture(rt: HostRuntime) -> Result<(), Fail> {
-    for (what, names, v, body, new, wanted) in CAPTURES {
+    for &(what, names, v, body, new, wanted) in &CAPTURES {
         let found = instance(rt.alloc(), names, v, body)?;
         assert!(rt; is_instance(rt.alloc(), &found, new, wanted)?, "{what}");
     }
@@ -170,19 +172,21 @@ fn is_replaced(alloc: Global, t: &str, new: &str, wanted: &str) -> Result<bool, 
     Ok(is_identical(&found, &term(alloc, wanted)?))
 }
 
+// What it is, the term, what is put for `y`, and what that makes.
+const REPLACED: [(&str, &str, &str, &str); 3] = [
+    ("x is captured", "\\x:A. y:A", "x:A", "\\x':A. x:A"),
+    ("nothing is captured", "\\x:A. y:A", "z:A", "\\x:A. z:A"),
+    (
+        "the renamed variable is captured",
+        "\\x:A. \\x':A. (f:A->A->A) x y",
+        "x:A",
+        "\\x':A. \\x'':A. (f:A->A->A) x' x",
+    ),
+];
+
 #[test]
 fn substitution_renames_what_would_capture(rt: HostRuntime) -> Result<(), Fail> {
-    let rows = [
-        ("x is captured", "\\x:A. y:A", "x:A", "\\x':A. x:A"),
-        ("nothing is captured", "\\x:A. y:A", "z:A", "\\x:A. z:A"),
-        (
-            "the renamed variable is captured",
-            "\\x:A. \\x':A. (f:A->A->A) x y",
-            "x:A",
-            "\\x':A. \\x'':A. (f:A->A->A) x' x",
-        ),
-    ];
-    for (what, t, new, wanted) in rows {
+    for &(what, t, new, wanted) in &REPLACED {
         assert!(rt; is_replaced(rt.alloc(), t, new, wanted)?, "{what}");
     }
     Ok(())

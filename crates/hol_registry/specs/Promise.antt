@@ -2,29 +2,37 @@
 use Rattle.std.specs.Prelude.{ℕ, List, [], ◌∷◌, Option, Some, None, Result, Ok, Err, IfOk}
 use Rattle.std.specs.Coded.{Coded-set, coded_ℕ, coded_list, Unit-prop, ×_prop, Π_prop}
 use Rattle.hol_goal.specs.Goal.{GoalValue, goal_code}
-use Rattle.hol_goal.specs.Answer.{UsedValue, AnswerResult, Left, Unfit, OutOfTurns}
+use Rattle.hol_goal.specs.Answer.{UsedValue, AnswerResult, Left, Unfit, OutOfTurns, TooLarge}
 use Rattle.hol_goal.specs.Arguments.{TacArgsValue}
 use Rattle.hol_goal.specs.declared.tac_code.TacCode.{TacCode}
 use Rattle.hol_just.specs.Tac.{Meaning, tac}
 use Rattle.hol_just.specs.Answering.{IsResult, IsAnsweredBy, AnswersCode, IsJustified, suits}
 use Rattle.hol_just.specs.declared.tried.Tried.{Tried}
 use Rattle.hol_just.specs.declared.tried.TacFault.{TacFault}
-use Rattle.hol_just.specs.declared.tried.TacFault.TheVariants.{Refused, TurnLimit, Memory}
+use Rattle.hol_just.specs.declared.tried.TacFault.TheVariants as fault
 use Rattle.hol_just.proofs.Proposition.{valid_prop}
 
 result_prop : (answer : AnswerResult) (used : UsedValue) (result : Result Tried TacFault) → IsProp (IsResult answer used result)
 result_prop (Left goals) used (Ok tried) = ×_prop (Coded-set (coded_list goal_code) _ _) (Coded-set coded_ℕ _ _)
-result_prop (Left goals) used (Err (Refused left)) = hlevel
-result_prop (Left goals) used (Err TurnLimit) = hlevel
-result_prop (Left goals) used (Err Memory) = Unit-prop
+result_prop (Left goals) used (Err (fault.Refused left)) = hlevel
+result_prop (Left goals) used (Err fault.TurnLimit) = hlevel
+result_prop (Left goals) used (Err fault.TooLarge) = hlevel
+result_prop (Left goals) used (Err fault.Memory) = Unit-prop
 result_prop Unfit used (Ok tried) = hlevel
-result_prop Unfit used (Err (Refused left)) = Coded-set coded_ℕ _ _
-result_prop Unfit used (Err TurnLimit) = hlevel
-result_prop Unfit used (Err Memory) = Unit-prop
+result_prop Unfit used (Err (fault.Refused left)) = Coded-set coded_ℕ _ _
+result_prop Unfit used (Err fault.TurnLimit) = hlevel
+result_prop Unfit used (Err fault.TooLarge) = hlevel
+result_prop Unfit used (Err fault.Memory) = Unit-prop
 result_prop OutOfTurns used (Ok tried) = hlevel
-result_prop OutOfTurns used (Err (Refused left)) = hlevel
-result_prop OutOfTurns used (Err TurnLimit) = Coded-set coded_ℕ _ _
-result_prop OutOfTurns used (Err Memory) = Unit-prop
+result_prop OutOfTurns used (Err (fault.Refused left)) = hlevel
+result_prop OutOfTurns used (Err fault.TurnLimit) = Coded-set coded_ℕ _ _
+result_prop OutOfTurns used (Err fault.TooLarge) = hlevel
+result_prop OutOfTurns used (Err fault.Memory) = Unit-prop
+result_prop TooLarge used (Ok tried) = hlevel
+result_prop TooLarge used (Err (fault.Refused left)) = hlevel
+result_prop TooLarge used (Err fault.TurnLimit) = hlevel
+result_prop TooLarge used (Err fault.TooLarge) = Unit-prop
+result_prop TooLarge used (Err fault.Memory) = Unit-prop
 
 answered_prop : (meaning : Option Meaning) (args : TacArgsValue) (goal : GoalValue) (turns : ℕ) (result : Result Tried TacFault) → IsProp (IsAnsweredBy meaning args goal turns result)
 answered_prop None args goal turns result = hlevel

@@ -52,6 +52,7 @@ fn answer(alloc: Global, registry: &Registry, name: &str) -> Result<String, Fail
         }
         Err(TacFault::Refused(left)) => Ok(format!(in alloc; "{index}: refused, {left} turns")?),
         Err(TacFault::TurnLimit) => Err("no turn left".into()),
+        Err(TacFault::TooLarge) => Err("a term is too large".into()),
         Err(TacFault::Memory) => Err("no memory".into()),
     }
 }

@@ -19,7 +19,7 @@ use hol_registry::{Entry, Registry, RegistryError};
 use std::alloc::{AllocError, Global};
 
 // The functions on goals that the program knows.
-const CODES: [TacCode; 26] = [
+const CODES: [TacCode; 27] = [
     TacCode::AllTac,
     TacCode::NoTac,
     TacCode::ReflTac,
@@ -46,6 +46,7 @@ const CODES: [TacCode; 26] = [
     TacCode::UndischTac,
     TacCode::StripTac,
     TacCode::StripAssumeTac,
+    TacCode::BetaTac,
 ];
 
 /// Serves the reader's lines over documents without theories, run by the functions that the program knows, each under the name of its code,

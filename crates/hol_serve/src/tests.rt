@@ -2,6 +2,7 @@
 
 mod arguments;
 mod commands;
+mod conversions;
 mod copies;
 mod endings;
 mod faults;

@@ -13,3 +13,4 @@ pub mod WaitingLaws
 pub mod NewBy
 pub mod UnderWay
 pub mod Assuming
+pub mod Converted

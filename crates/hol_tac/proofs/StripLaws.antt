@@ -33,7 +33,7 @@ use Rattle.hol_just.specs.declared.reason.Move.{Move}
 use Rattle.hol_just.specs.declared.tried.Step.{Step}
 use Rattle.hol_just.specs.declared.tried.Tried.{Tried}
 use Rattle.hol_just.specs.declared.tried.TacFault.{TacFault}
-use Rattle.hol_just.specs.declared.tried.TacFault.TheVariants.{Refused, TurnLimit, Memory}
+use Rattle.hol_just.specs.declared.tried.TacFault.TheVariants.{Refused, TurnLimit, TooLarge, Memory}
 use Rattle.hol_just.proofs.QuantifierRules.{allowed_fresh}
 use Rattle.hol_tac.specs.Fresh.{AreAlike, AreApart}
 use Rattle.hol_tac.specs.Parts.{with_pieces}
@@ -47,6 +47,7 @@ answers_by : (s : Stripped) (used : UsedValue) (r : Result Tried TacFault) → I
 answers_by s used (Ok tried) h = subst (λ (t : Stripped). IsAnswered (stripped (Some t) used) (Ok tried)) (sym h) (refl, refl)
 answers_by s used (Err (Refused left)) h = absurd h
 answers_by s used (Err TurnLimit) h = subst (λ (t : Stripped). IsAnswered (stripped (Some t) used) (Err TurnLimit)) (sym h) refl
+answers_by s used (Err TooLarge) h = absurd h
 answers_by (Leaves goals turns) used (Err Memory) h = tt
 answers_by RunsOut used (Err Memory) h = tt
 

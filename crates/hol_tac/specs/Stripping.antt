@@ -10,7 +10,7 @@ use Rattle.hol_just.specs.declared.reason.Move.{Move}
 use Rattle.hol_just.specs.declared.tried.Step.{Step}
 use Rattle.hol_just.specs.declared.tried.Tried.{Tried}
 use Rattle.hol_just.specs.declared.tried.TacFault.{TacFault}
-use Rattle.hol_just.specs.declared.tried.TacFault.TheVariants.{Refused, TurnLimit, Memory}
+use Rattle.hol_just.specs.declared.tried.TacFault.TheVariants.{Refused, TurnLimit, TooLarge, Memory}
 use Rattle.hol_tac.specs.Fresh.{AreApart}
 use Rattle.hol_tac.specs.Parts.{with_pieces}
 
@@ -19,6 +19,7 @@ abbrev pub IsStripped : Stripped → Result Tried TacFault → Type 0
 IsStripped s (Ok tried) = s ≡ Leaves tried.step.goals.items tried.left
 IsStripped s (Err (Refused left)) = ⊥
 IsStripped s (Err TurnLimit) = s ≡ RunsOut
+IsStripped s (Err TooLarge) = ⊥
 IsStripped s (Err Memory) = Unit {0}
 
 -- moves that led to the goal with its pieces go on, in the step, to the goals that are left

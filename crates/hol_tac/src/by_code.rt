@@ -11,6 +11,7 @@ use crate::connectives::{
     accept_tac, assume_tac, conj_tac, contr_tac, disch_tac, disj_cases_tac, disj1_tac, disj2_tac,
     mp_tac,
 };
+use crate::converting::beta_tac;
 use crate::equations::{eq_tac, refl_tac};
 use crate::quantifiers::{exists_tac, gen_tac, x_gen_tac};
 use crate::stripping::{strip_assume_tac, strip_tac};
@@ -58,8 +59,8 @@ pub fn tac(
         TacCode::SpecTac => Some(spec_tac(alloc, args, goal, turns)),
         TacCode::StripAssumeTac => Some(strip_assume_tac(alloc, args, goal, turns)),
         TacCode::StripTac => Some(strip_tac(alloc, args, goal, turns)),
+        TacCode::BetaTac => Some(beta_tac(alloc, args, goal, turns)),
         TacCode::MatchMpTac
-        | TacCode::BetaTac
         | TacCode::RewriteTac
         | TacCode::OnceRewriteTac
         | TacCode::AsmRewriteTac

@@ -8,6 +8,7 @@ mod assumptions;
 mod by_code;
 mod choosing;
 mod connectives;
+mod converting;
 mod equations;
 mod pieces;
 mod progress;
@@ -27,6 +28,7 @@ pub use connectives::{
     accept_tac, assume_tac, conj_tac, contr_tac, disch_tac, disj_cases_tac, disj1_tac, disj2_tac,
     mp_tac,
 };
+pub use converting::beta_tac;
 pub use equations::{eq_tac, refl_tac};
 pub use quantifiers::{exists_tac, gen_tac, x_gen_tac};
 pub use stripping::{strip_assume_tac, strip_tac};

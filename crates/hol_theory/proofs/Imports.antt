@@ -56,7 +56,7 @@ module _ (es : Entries) where
   none_is None e = refl
   none_is (Some v) e = absurd (cc)
 
-  missing_among : (theory : Entries) (f : KeyValue × EntryValue) → Among f (missing es theory) → Among f theory × (entry_at f.0 es ≡ None)
+  pub missing_among : (theory : Entries) (f : KeyValue × EntryValue) → Among f (missing es theory) → Among f theory × (entry_at f.0 es ≡ None)
   missing_among [] f i = absurd i
   missing_among (e ∷ theory) f i = by (is_none (entry_at e.0 es)) refl i (missing_among theory f)
     where

@@ -76,7 +76,7 @@ fn refuses_in_the_order_of_numbers(rt: HostRuntime) -> Result<(), Fail> {
         "",
         r#"
 > qedx
-> import M
+> new_type M 1
 > new_type t 0
 > new_constant c `:bool`
 > new_axiom N `T`
@@ -84,7 +84,7 @@ fn refuses_in_the_order_of_numbers(rt: HostRuntime) -> Result<(), Fail> {
 < {"arg":"0","ok":true,"refusal":1,"text":"syntax"}
 >  new_definition D `c = T`
 < {"arg":"1","ok":true,"refusal":1,"text":"syntax"}
->   import M
+>   new_type M 1
 > e THEN
 < {"arg":"2","ok":true,"refusal":1,"text":"syntax"}
 > g N `p /\\ `

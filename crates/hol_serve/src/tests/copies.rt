@@ -4,11 +4,11 @@ ghost use Rattle.std.specs.Prelude.{◌≤◌};
 use crate::tests::support::{insert_all, setup_of_one};
 use hol_document::Docs;
 use hol_exec::{
-    Key, Kind, LocalCommand, Outcome, Parsed, Reads, Report, Setup, ShownGoal, State, apply, parse,
-    run_local,
+    LocalCommand, Outcome, Parsed, Reads, Report, Setup, ShownGoal, State, apply, parse, run_local,
 };
 use hol_goal::{Goal, TacArgs, TacCode};
 use hol_tac::refl_tac;
+use hol_theory::{Key, Kind};
 use std::alloc::Global;
 use std::fmt::Write;
 use std::hash::{DefaultHasher, Hash, Hasher};

@@ -136,6 +136,73 @@ fn edits_theories(rt: HostRuntime) -> Result<(), Fail> {
 }
 
 #[test]
+fn imports_theorems(rt: HostRuntime) -> Result<(), Fail> {
+    expect_session(
+        &rt,
+        r#"
+> {"op":"new_theory","name":"A","at":0}
+< {"ok":true}
+> {"op":"insert","theory":"A","at":0,"text":"import B"}
+< {"ok":true}
+> {"op":"new_theory","name":"B","at":1}
+< {"ok":true}
+> {"op":"insert","theory":"B","at":0,"text":"g M `T = T`"}
+< {"ok":true}
+> {"op":"insert","theory":"B","at":1,"text":"e REFL_TAC"}
+< {"ok":true}
+> {"op":"insert","theory":"B","at":2,"text":"qed"}
+< {"ok":true}
+> {"op":"report","theory":"A","at":0}
+< {"arg":"B","ok":true,"refusal":4,"text":"unknown theory"}
+> {"op":"new_theory","name":"C","at":2}
+< {"ok":true}
+> {"op":"insert","theory":"C","at":0,"text":"import B"}
+< {"ok":true}
+> {"op":"insert","theory":"C","at":1,"text":"import B"}
+< {"ok":true}
+> {"op":"report","theory":"C","at":0}
+< {"made":["thm M |- T <=> T"],"ok":true}
+> {"op":"report","theory":"C","at":1}
+< {"made":[],"ok":true}
+> {"op":"insert","theory":"C","at":2,"text":"g N `T = T`"}
+< {"ok":true}
+> {"op":"insert","theory":"C","at":3,"text":"import B"}
+< {"ok":true}
+> {"op":"insert","theory":"C","at":4,"text":"e ACCEPT_TAC M"}
+< {"ok":true}
+> {"op":"insert","theory":"C","at":5,"text":"qed"}
+< {"ok":true}
+> {"op":"report","theory":"C","at":3}
+< {"arg":"","ok":true,"refusal":2,"text":"in a proof"}
+> {"op":"theorems","theory":"C"}
+< {"ok":true,"theorems":["thm M |- T <=> T","thm N |- T <=> T"]}
+> {"op":"basis","theory":"C","name":"M"}
+< {"items":[],"ok":true}
+> {"op":"replace","theory":"B","at":0,"text":"g N `!x:A. x = x`"}
+< {"ok":true}
+> {"op":"replace","theory":"B","at":1,"text":"e GEN_TAC THEN REFL_TAC"}
+< {"ok":true}
+> {"op":"insert","theory":"C","at":6,"text":"import B"}
+< {"ok":true}
+> {"op":"report","theory":"C","at":4}
+< {"arg":"","ok":true,"refusal":3,"text":"no proof open"}
+> {"op":"replace","theory":"C","at":0,"text":"oops"}
+< {"ok":true}
+> {"op":"replace","theory":"C","at":1,"text":"oops"}
+< {"ok":true}
+> {"op":"replace","theory":"C","at":4,"text":"e REFL_TAC"}
+< {"ok":true}
+> {"op":"report","theory":"C","at":6}
+< {"arg":"thm:N","ok":true,"refusal":21,"text":"import clash"}
+> {"op":"drop_theory","name":"B"}
+< {"ok":true}
+> {"op":"report","theory":"C","at":6}
+< {"arg":"B","ok":true,"refusal":4,"text":"unknown theory"}
+"#,
+    )
+}
+
+#[test]
 fn refuses_what_is_no_request(rt: HostRuntime) -> Result<(), Fail> {
     let alloc = rt.alloc();
     let mut sent: Vec<u8> = Vec::new(alloc);

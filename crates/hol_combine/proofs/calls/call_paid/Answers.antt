@@ -4,7 +4,7 @@ use Rattle.hol_goal.specs.ArgumentsView.{args_value}
 use Rattle.hol_just.specs.Answering.{IsAnsweredBy}
 use Rattle.hol_combine.specs.Runs.{Refuses, DoesNotFit, meaning_at}
 use Rattle.hol_combine.specs.RunView.{IsRun}
-use Rattle.hol_combine.proofs.Calling.{by_meaning, answered_left, answered_unfit, answered_stops, left_falls, refused_falls, at_most_more, small_justified}
+use Rattle.hol_combine.proofs.Calling.{by_meaning, answered_left, answered_unfit, answered_stops, answered_large, left_falls, refused_falls, at_most_more, small_justified}
 use Rattle.hol_combine.proofs.Turns.{at_falls}
 use Rattle.hol_combine.proofs.calls.call_paid.Goals as goal
 
@@ -51,3 +51,10 @@ returns-in-Err-TurnLimit-clause-answer g c =
     let index = c.args.call.now.index in
     let args = args_value c.args.call.now.args in
     answered_stops (meaning_at table index) (string_bytes c.args.call.now.name) args c.args.goal.now c.args.turns (subst (λ e. IsAnsweredBy (meaning_at table index) args c.args.goal.now c.args.turns (Err e)) c.in-Err-TurnLimit.field-0-is (by_meaning table index args c.args.goal.now c.args.turns _ c.requires.index c.in-Err-TurnLimit.ensures.answer))
+
+pub returns-in-Err-TooLarge-clause-answer : goal.returns-in-Err-TooLarge-clause-answer
+returns-in-Err-TooLarge-clause-answer g c =
+    let table = g.T.Tacs.table_of c.args.tacs.now in
+    let index = c.args.call.now.index in
+    let args = args_value c.args.call.now.args in
+    answered_large (meaning_at table index) (string_bytes c.args.call.now.name) args c.args.goal.now c.args.turns (subst (λ e. IsAnsweredBy (meaning_at table index) args c.args.goal.now c.args.turns (Err e)) c.in-Err-TooLarge.field-0-is (by_meaning table index args c.args.goal.now c.args.turns _ c.requires.index c.in-Err-TooLarge.ensures.answer))

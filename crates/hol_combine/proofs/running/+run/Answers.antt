@@ -6,13 +6,13 @@ use Rattle.hol_combine.specs.ExprView.{expr_of_node}
 use Rattle.hol_combine.specs.Runs.{Leaves, TurnLimit, LargeGoal, each, repeated, replicate, run, run_every, run_each}
 use Rattle.hol_combine.specs.More.{run_more, run_list}
 use Rattle.hol_combine.specs.Suits.{all_calls, all_calls_of, suits_expr, suits_exprs}
-use Rattle.hol_combine.specs.RunView.{refusal_value, IsError, IsRun}
+use Rattle.hol_combine.specs.RunView.{refusal_value, IsError, IsRun, IsValidRun}
 use Rattle.hol_combine.specs.Going.{GoesOnFrom, copies}
 use Rattle.hol_combine.specs.Work.{work_value}
 use Rattle.hol_combine.proofs.After.{each_unchanged}
 use Rattle.hol_combine.proofs.Turns.{run_falls}
 use Rattle.hol_combine.proofs.Counted.{counted}
-use Rattle.hol_combine.proofs.Lists.{each_every_one, in_or_else, of_one, has_nodes, nodes_in_then, nodes_in_or_else, drop_item, item_passes, item_nodes, nothing_left, no_goals, split, only_one}
+use Rattle.hol_combine.proofs.Lists.{each_every_one, in_or_else, of_one, one_of, has_nodes, nodes_in_then, nodes_in_or_else, drop_item, item_passes, item_nodes, nothing_left, no_goals, split, only_one}
 use Rattle.hol_combine.proofs.Arms.{kept_run, then_tests, then_first, then_second_of, then_rest, then_valid, then_list_valid, item_valid, item_goes_on, split_tests, every_only, every_rest, every_valid, first_runs, first_valid, repeat_valid}
 use Rattle.hol_combine.proofs.Progress.{ends_at}
 use Rattle.hol_combine.proofs.Loops.{ends_valid, goes_to_end, next_left, each_finishes, repeat_again, repeat_keeps, repeat_stops, count_starts, count_finishes, count_goes_again, list_finishes, list_fails_at, list_as_many, list_refused, refusal_is, more_fails_at, more_goes_on, popped, rounds_start, rounds_finish, rounds_again, parts_waiting, refused_left}
@@ -96,15 +96,6 @@ pub replicate-returns-clause-valid : goal.replicate-returns-clause-valid
 replicate-returns-clause-valid g t c =
     ends_valid (suits_expr c.args.part.now) c.args.ran _ (counted (run (g.T.Tacs.table_of c.args.tacs.now) c.args.part.now) (reverse c.rounds.rounds.items)) (work_value c.rounds.work) (work_value c.next.new.self) c.end.result c.in_default.ensures (λ l. refl) c.end.ensures.goals c.end.ensures.just c.rounds.invariant.progress
 
--- src/running.rt:190:44
-pub run_alternatives-run_alternatives-requires : goal.run_alternatives-run_alternatives-requires
-run_alternatives-run_alternatives-requires g t c κs within =
-    let is : c.args.more.now ≡ c.next-item.result ∷ take (length c.args.more.now - 1) (drop 1 c.args.more.now) = split c.args.more.now c.next-item.result (omega (arith, c.in-len1-up.len_at_least)) c.next-item.is in
-    let tests = split_tests (λ call. nat_lt call.index (length (g.T.Tacs.table_of c.args.tacs.now))) c.args.more.now (take (length c.args.more.now - 1) (drop 1 c.args.more.now)) c.next-item.result is c.requires.more in (
-      omega (arith, has_nodes c.args.first.now, ap (λ ts. exprs_nodes (exprs ts)) is, c.decreases),
-      (within, (tests.0, (tests.1, omega (arith, c.requires.turns, refused_left c.args.turns c.in-Err-Refused.field-0 c.in-Err-Refused.field-0-0 c.in-Err-Refused.left c.in-Err-Refused.field-0-is c.in-Err-Refused.ensures.left)))),
-    )
-
 -- src/running.rt:136:5
 pub run_each-goals-preserved : goal.run_each-goals-preserved
 run_each-goals-preserved g t c =
@@ -146,127 +137,40 @@ run_every-returns-in_ok-ran-in-len1-up-clause-valid g t c =
     let is : c.args.parts.now ≡ c.first-item.result ∷ take (length c.args.parts.now - 1) (drop 1 c.args.parts.now) = split c.args.parts.now c.first-item.result (omega (arith, c.in-len1-up.len_at_least)) c.first-item.is in
     every_valid c.args.parts.now rest c.first-item.result (c.args.goal.now ∷ []) c.in_ok-ran-in-len1-up.ran c.run_each.result is c.in_ok-ran-in-len1-up.ensures.valid c.run_each.ensures.valid
 
--- src/running.rt:55:23
-pub run_expr-run_expr-requires : goal.run_expr-run_expr-requires
-run_expr-run_expr-requires g t c κs within =
-    let is : c.args.expr.now ≡ then_all (Then c.in-Then.first c.in-Then.second) c.in-Then.more.items = sym c.node.ensures ∙ ap expr_of_node c.in-Then.is in
-    let nodes : expr_nodes c.args.expr.now ≡ expr_nodes (then_all (Then c.in-Then.first c.in-Then.second) c.in-Then.more.items) = ap expr_nodes is in
-    let parts : 1 + expr_nodes c.in-Then.first + expr_nodes c.in-Then.second + exprs_nodes (exprs c.in-Then.more.items) ≤ expr_nodes (then_all (Then c.in-Then.first c.in-Then.second) c.in-Then.more.items) = nodes_in_then (Then c.in-Then.first c.in-Then.second) c.in-Then.more.items in
-    (omega (arith, nodes, parts, c.decreases), (within, ((then_tests (λ call. nat_lt call.index (length (g.T.Tacs.table_of c.args.tacs.now))) c.args.expr.now c.in-Then.first c.in-Then.second c.in-Then.more.items is c.requires.indices).0, c.requires.turns)))
-
--- src/running.rt:55:23
-pub run_expr-returns-in_err-ran-in-Then-clause-answer :
-    goal.run_expr-returns-in_err-ran-in-Then-clause-answer
-run_expr-returns-in_err-ran-in-Then-clause-answer g t c =
-    let is : c.args.expr.now ≡ then_all (Then c.in-Then.first c.in-Then.second) c.in-Then.more.items = sym c.node.ensures ∙ ap expr_of_node c.in-Then.is in
-    let p = err_from_is_err_and c.from_residual.result c.from_residual.ensures.1 in
-    rw (p.1, p.2) (then_first (g.T.Tacs.table_of c.args.tacs.now) c.args.expr.now c.in-Then.first c.in-Then.second c.in-Then.more.items c.args.goal.now c.args.turns _ is c.in_err-ran-in-Then.ensures.answer)
-
--- src/running.rt:56:24
-pub run_expr-run_each-requires : goal.run_expr-run_each-requires
-run_expr-run_each-requires g t c κs within =
-    let is : c.args.expr.now ≡ then_all (Then c.in-Then.first c.in-Then.second) c.in-Then.more.items = sym c.node.ensures ∙ ap expr_of_node c.in-Then.is in
-    let nodes : expr_nodes c.args.expr.now ≡ expr_nodes (then_all (Then c.in-Then.first c.in-Then.second) c.in-Then.more.items) = ap expr_nodes is in
-    let parts : 1 + expr_nodes c.in-Then.first + expr_nodes c.in-Then.second + exprs_nodes (exprs c.in-Then.more.items) ≤ expr_nodes (then_all (Then c.in-Then.first c.in-Then.second) c.in-Then.more.items) = nodes_in_then (Then c.in-Then.first c.in-Then.second) c.in-Then.more.items in
-    let one : c.from_ref.result.now ≡ c.in-Then.second ∷ [] = search rules in (
-      omega (arith, nodes, parts, ap (λ ts. exprs_nodes (exprs ts)) one, c.decreases),
-      (within, (subst (λ (ts : List ExprValue). all_calls_of (λ call. nat_lt call.index (length (g.T.Tacs.table_of c.args.tacs.now))) (exprs ts) ≡ true) (sym one) (then_tests (λ call. nat_lt call.index (length (g.T.Tacs.table_of c.args.tacs.now))) c.args.expr.now c.in-Then.first c.in-Then.second c.in-Then.more.items is c.requires.indices).1, omega (arith, c.requires.turns, c.in_ok-ran-in-Then.ensures.left))),
-    )
-
--- src/running.rt:56:24
-pub run_expr-returns-in_err-next-in-Then-clause-answer :
-    goal.run_expr-returns-in_err-next-in-Then-clause-answer
-run_expr-returns-in_err-next-in-Then-clause-answer g t c =
-    let is : c.args.expr.now ≡ then_all (Then c.in-Then.first c.in-Then.second) c.in-Then.more.items = sym c.node.ensures ∙ ap expr_of_node c.in-Then.is in
-    let one : c.from_ref.result.now ≡ c.in-Then.second ∷ [] = search rules in
-    let p = err_from_is_err_and c.from_residual-in_err-next-in-Then.result c.from_residual-in_err-next-in-Then.ensures.1 in
-    rw (p.1, p.2) (then_second_of (g.T.Tacs.table_of c.args.tacs.now) c.args.expr.now c.in-Then.first c.in-Then.second c.in-Then.more.items c.from_ref.result.now c.args.goal.now c.args.turns c.in_ok-ran-in-Then.ran _ is one c.in_ok-ran-in-Then.ensures.answer c.in_err-next-in-Then.ensures.answer)
-
--- src/running.rt:57:13
-pub run_expr-run_more-requires : goal.run_expr-run_more-requires
-run_expr-run_more-requires g t c κs within =
-    let is : c.args.expr.now ≡ then_all (Then c.in-Then.first c.in-Then.second) c.in-Then.more.items = sym c.node.ensures ∙ ap expr_of_node c.in-Then.is in
-    let nodes : expr_nodes c.args.expr.now ≡ expr_nodes (then_all (Then c.in-Then.first c.in-Then.second) c.in-Then.more.items) = ap expr_nodes is in
-    let parts : 1 + expr_nodes c.in-Then.first + expr_nodes c.in-Then.second + exprs_nodes (exprs c.in-Then.more.items) ≤ expr_nodes (then_all (Then c.in-Then.first c.in-Then.second) c.in-Then.more.items) = nodes_in_then (Then c.in-Then.first c.in-Then.second) c.in-Then.more.items in
-    let more : c.deref.result.now ≡ c.in-Then.more.items = search rules in (
-      omega (arith, nodes, parts, ap (λ ts. exprs_nodes (exprs ts)) more, c.decreases),
-      (within, (subst (λ (ts : List ExprValue). all_calls_of (λ call. nat_lt call.index (length (g.T.Tacs.table_of c.args.tacs.now))) (exprs ts) ≡ true) (sym more) (then_tests (λ call. nat_lt call.index (length (g.T.Tacs.table_of c.args.tacs.now))) c.args.expr.now c.in-Then.first c.in-Then.second c.in-Then.more.items is c.requires.indices).2, omega (arith, c.requires.turns, c.in_ok-ran-in-Then.ensures.left, c.in_ok-next-in-Then.ensures.left))),
-    )
-
 -- src/running.rt:51:1
-pub run_expr-returns-in-Then-clause-answer : goal.run_expr-returns-in-Then-clause-answer
-run_expr-returns-in-Then-clause-answer g t c =
-    let is : c.args.expr.now ≡ then_all (Then c.in-Then.first c.in-Then.second) c.in-Then.more.items = sym c.node.ensures ∙ ap expr_of_node c.in-Then.is in
-    let one : c.from_ref.result.now ≡ c.in-Then.second ∷ [] = search rules in
-    let more : c.deref.result.now ≡ c.in-Then.more.items = search rules in
-    then_rest (g.T.Tacs.table_of c.args.tacs.now) c.args.expr.now c.in-Then.first c.in-Then.second c.in-Then.more.items c.args.goal.now c.args.turns c.in_ok-ran-in-Then.ran c.in_ok-next-in-Then.next c.run_more.result is c.in_ok-ran-in-Then.ensures.answer
-    (subst (λ (ts : List ExprValue). each (run_every (g.T.Tacs.table_of c.args.tacs.now) (exprs ts)) c.in_ok-ran-in-Then.ran.step.goals.items c.in_ok-ran-in-Then.ran.left ≡ Leaves c.in_ok-next-in-Then.next.step.goals.items c.in_ok-next-in-Then.next.left) one c.in_ok-next-in-Then.ensures.answer)
-    (subst (λ (ts : List ExprValue). IsRun (run_more (g.T.Tacs.table_of c.args.tacs.now) (exprs ts) c.in_ok-next-in-Then.next.step.goals.items c.in_ok-next-in-Then.next.left) c.run_more.result) more c.run_more.ensures.answer)
-
--- src/running.rt:51:1
-pub run_expr-returns-in-Then-clause-valid : goal.run_expr-returns-in-Then-clause-valid
-run_expr-returns-in-Then-clause-valid g t c =
-    let is : c.args.expr.now ≡ then_all (Then c.in-Then.first c.in-Then.second) c.in-Then.more.items = sym c.node.ensures ∙ ap expr_of_node c.in-Then.is in
-    let one : c.from_ref.result.now ≡ c.in-Then.second ∷ [] = search rules in
-    let more : c.deref.result.now ≡ c.in-Then.more.items = search rules in
-    then_valid c.args.expr.now c.in-Then.first c.in-Then.second c.in-Then.more.items c.args.goal.now c.in_ok-ran-in-Then.ran c.in_ok-next-in-Then.next c.run_more.result is c.in_ok-ran-in-Then.ensures.valid
-    (subst (λ (ts : List ExprValue). GoesOnFrom (suits_exprs (exprs ts)) c.in_ok-ran-in-Then.ran c.in_ok-next-in-Then.next) one c.in_ok-next-in-Then.ensures.valid)
-    (subst (λ (ts : List ExprValue). IfOk c.run_more.result (GoesOnFrom (suits_exprs (exprs ts)) c.in_ok-next-in-Then.next)) more c.run_more.ensures.valid)
-
--- src/running.rt:51:1
-pub run_expr-returns-in-ThenL-clause-valid : goal.run_expr-returns-in-ThenL-clause-valid
-run_expr-returns-in-ThenL-clause-valid g t c =
-    let is : c.args.expr.now ≡ ThenL c.in-ThenL.first (exprs c.in-ThenL.parts.items) = sym c.node.ensures ∙ ap expr_of_node c.in-ThenL.is in
-    let parts : c.deref-in-ThenL.result.now ≡ c.in-ThenL.parts.items = search rules in
-    then_list_valid c.args.expr.now c.in-ThenL.first (exprs c.in-ThenL.parts.items) (c.args.goal.now ∷ []) c.in_ok-ran-in-ThenL.ran c.run_list.result is c.in_ok-ran-in-ThenL.ensures.valid
-    (subst (λ (ts : List ExprValue). IfOk c.run_list.result (GoesOnFrom (suits_exprs (exprs ts)) c.in_ok-ran-in-ThenL.ran)) parts c.run_list.ensures.valid)
-
--- src/running.rt:67:21
-pub run_expr-run_alternatives-requires : goal.run_expr-run_alternatives-requires
-run_expr-run_alternatives-requires g t c κs within =
-    let is : c.args.expr.now ≡ OrElse c.in-OrElse.first (or_else_all c.in-OrElse.second c.in-OrElse.more.items) = sym c.node.ensures ∙ ap expr_of_node c.in-OrElse.is in
-    let more : c.deref-in-Err-Refused.result.now ≡ c.in-OrElse.more.items = search rules in
-    let nodes : expr_nodes c.args.expr.now ≡ 1 + expr_nodes c.in-OrElse.first + expr_nodes (or_else_all c.in-OrElse.second c.in-OrElse.more.items) = ap expr_nodes is in
-    let whole = and_parts (all_calls (λ call. nat_lt call.index (length (g.T.Tacs.table_of c.args.tacs.now))) c.in-OrElse.first) (all_calls (λ call. nat_lt call.index (length (g.T.Tacs.table_of c.args.tacs.now))) (or_else_all c.in-OrElse.second c.in-OrElse.more.items)) (subst (λ (e : ExprValue). all_calls (λ call. nat_lt call.index (length (g.T.Tacs.table_of c.args.tacs.now))) e ≡ true) is c.requires.indices) in
-    let tests = in_or_else (λ call. nat_lt call.index (length (g.T.Tacs.table_of c.args.tacs.now))) c.in-OrElse.second c.in-OrElse.more.items whole.1 in (
-      omega (arith, nodes, nodes_in_or_else c.in-OrElse.second c.in-OrElse.more.items, ap (λ ts. exprs_nodes (exprs ts)) more, c.decreases),
-      (within, (tests.0, (subst (λ (ts : List ExprValue). all_calls_of (λ call. nat_lt call.index (length (g.T.Tacs.table_of c.args.tacs.now))) (exprs ts) ≡ true) (sym more) tests.1, omega (arith, c.requires.turns, refused_left c.args.turns c.in-Err-Refused.field-0 c.in-Err-Refused.field-0-0 c.in-Err-Refused.left c.in-Err-Refused.field-0-is c.in-Err-Refused.ensures.left)))),
-    )
-
--- src/running.rt:51:1
-pub run_expr-returns-in-Repeat-clause-valid : goal.run_expr-returns-in-Repeat-clause-valid
-run_expr-returns-in-Repeat-clause-valid g t c =
+pub run_expr-returns-in_ok-unchanged-in-Repeat-clause-valid : goal.run_expr-returns-in_ok-unchanged-in-Repeat-clause-valid
+run_expr-returns-in_ok-unchanged-in-Repeat-clause-valid g t c =
     let is : c.args.expr.now ≡ Repeat c.in-Repeat.part = sym c.node.ensures ∙ ap expr_of_node c.in-Repeat.is in
     repeat_valid c.args.expr.now c.in-Repeat.part c.args.goal.now c.args.turns c.in_ok-unchanged-in-Repeat.field-0 c.repeat.result (λ test h. subst (λ (e : ExprValue). all_calls test e ≡ true) is h) c.in_ok-unchanged-in-Repeat.ensures c.repeat.ensures.valid
 
 -- src/running.rt:51:1
-pub run_expr-returns-in-First-clause-answer : goal.run_expr-returns-in-First-clause-answer
-run_expr-returns-in-First-clause-answer g t c =
+pub run_expr-returns-in-len1-up-clause-answer : goal.run_expr-returns-in-len1-up-clause-answer
+run_expr-returns-in-len1-up-clause-answer g t c =
     let is : c.args.expr.now ≡ First (exprs c.in-First.parts.items) = sym c.node.ensures ∙ ap expr_of_node c.in-First.is in
     let same : c.as_slice.result.now ≡ c.in-First.parts.items = search rules in
     let rest = take (length c.as_slice.result.now - 1) (drop 1 c.as_slice.result.now) in
     let parts : c.in-First.parts.items ≡ c.first-item.result ∷ take (length c.as_slice.result.now - 1) (drop 1 c.as_slice.result.now) = sym same ∙ split c.as_slice.result.now c.first-item.result (omega (arith, c.in-len1-up.len_at_least)) c.first-item.is in
-    first_runs (g.T.Tacs.table_of c.args.tacs.now) c.args.expr.now c.in-First.parts.items rest c.first-item.result c.args.goal.now c.args.turns c.run_alternatives-in-len1-up.result is parts c.run_alternatives-in-len1-up.ensures.answer
+    first_runs (g.T.Tacs.table_of c.args.tacs.now) c.args.expr.now c.in-First.parts.items rest c.first-item.result c.args.goal.now c.args.turns c.run_alternatives.result is parts c.run_alternatives.ensures.answer
 
 -- src/running.rt:51:1
-pub run_expr-returns-in-First-clause-valid : goal.run_expr-returns-in-First-clause-valid
-run_expr-returns-in-First-clause-valid g t c =
+pub run_expr-returns-in-len1-up-clause-valid : goal.run_expr-returns-in-len1-up-clause-valid
+run_expr-returns-in-len1-up-clause-valid g t c =
     let is : c.args.expr.now ≡ First (exprs c.in-First.parts.items) = sym c.node.ensures ∙ ap expr_of_node c.in-First.is in
     let same : c.as_slice.result.now ≡ c.in-First.parts.items = search rules in
     let rest = take (length c.as_slice.result.now - 1) (drop 1 c.as_slice.result.now) in
     let parts : c.in-First.parts.items ≡ c.first-item.result ∷ take (length c.as_slice.result.now - 1) (drop 1 c.as_slice.result.now) = sym same ∙ split c.as_slice.result.now c.first-item.result (omega (arith, c.in-len1-up.len_at_least)) c.first-item.is in
-    first_valid c.args.expr.now c.in-First.parts.items rest c.first-item.result (c.args.goal.now ∷ []) c.run_alternatives-in-len1-up.result is parts c.run_alternatives-in-len1-up.ensures.valid
+    first_valid c.args.expr.now c.in-First.parts.items rest c.first-item.result (c.args.goal.now ∷ []) c.run_alternatives.result is parts c.run_alternatives.ensures.valid
 
 -- src/running.rt:51:1
-pub run_expr-returns-in-Replicate-clause-answer : goal.run_expr-returns-in-Replicate-clause-answer
-run_expr-returns-in-Replicate-clause-answer g t c =
+pub run_expr-returns-in_ok-unchanged-in-Replicate-clause-answer : goal.run_expr-returns-in_ok-unchanged-in-Replicate-clause-answer
+run_expr-returns-in_ok-unchanged-in-Replicate-clause-answer g t c =
     let is : c.args.expr.now ≡ Replicate c.in-Replicate.times c.in-Replicate.part = sym c.node.ensures ∙ ap expr_of_node c.in-Replicate.is in
     kept_run (replicate (run (g.T.Tacs.table_of c.args.tacs.now) c.in-Replicate.part) c.in-Replicate.times) (run (g.T.Tacs.table_of c.args.tacs.now) c.args.expr.now c.args.goal.now c.args.turns) c.args.goal.now c.args.turns c.in_ok-unchanged-in-Replicate.field-0 c.replicate.result c.in_ok-unchanged-in-Replicate.ensures
     (ap (λ e. run (g.T.Tacs.table_of c.args.tacs.now) e c.args.goal.now c.args.turns) is) c.replicate.ensures.answer
 
 -- src/running.rt:51:1
-pub run_expr-returns-in-Replicate-clause-valid : goal.run_expr-returns-in-Replicate-clause-valid
-run_expr-returns-in-Replicate-clause-valid g t c =
+pub run_expr-returns-in_ok-unchanged-in-Replicate-clause-valid : goal.run_expr-returns-in_ok-unchanged-in-Replicate-clause-valid
+run_expr-returns-in_ok-unchanged-in-Replicate-clause-valid g t c =
     let is : c.args.expr.now ≡ Replicate c.in-Replicate.times c.in-Replicate.part = sym c.node.ensures ∙ ap expr_of_node c.in-Replicate.is in
     repeat_valid c.args.expr.now c.in-Replicate.part c.args.goal.now c.args.turns c.in_ok-unchanged-in-Replicate.field-0 c.replicate.result (λ test h. subst (λ (e : ExprValue). all_calls test e ≡ true) is h) c.in_ok-unchanged-in-Replicate.ensures c.replicate.ensures.valid
 
@@ -345,3 +249,104 @@ run_more-loop-part-preserved g t c =
       valid = item_goes_on c.args.more.now c.from_ref.result.now c.loop-part.part-index c.part-item.result c.args.ran c.loop-part.ran c.in_ok-ran.ran c.loop-part-test.true c.part-item.is one c.loop-part.invariant.valid c.in_ok-ran.ensures.valid;
       left = omega (arith, c.loop-part.invariant.left, c.in_ok-ran.ensures.left);
     }
+
+-- src/running.rt
+pub run_expr-run_then-requires : goal.run_expr-run_then-requires
+run_expr-run_then-requires g t c κs within =
+    let is : c.args.expr.now ≡ then_all (Then c.in-Then.first c.in-Then.second) c.in-Then.more.items = sym c.node.ensures ∙ ap expr_of_node c.in-Then.is in
+    let nodes : expr_nodes c.args.expr.now ≡ expr_nodes (then_all (Then c.in-Then.first c.in-Then.second) c.in-Then.more.items) = ap expr_nodes is in
+    let parts : 1 + expr_nodes c.in-Then.first + expr_nodes c.in-Then.second + exprs_nodes (exprs c.in-Then.more.items) ≤ expr_nodes (then_all (Then c.in-Then.first c.in-Then.second) c.in-Then.more.items) = nodes_in_then (Then c.in-Then.first c.in-Then.second) c.in-Then.more.items in
+    let more : c.deref.result.now ≡ c.in-Then.more.items = search rules in
+    let tests = then_tests (λ call. nat_lt call.index (length (g.T.Tacs.table_of c.args.tacs.now))) c.args.expr.now c.in-Then.first c.in-Then.second c.in-Then.more.items is c.requires.indices in (
+      omega (arith, nodes, parts, ap (λ ts. exprs_nodes (exprs ts)) more, c.decreases),
+      (within, (tests.0, (one_of (λ call. nat_lt call.index (length (g.T.Tacs.table_of c.args.tacs.now))) c.in-Then.second tests.1, (subst (λ (ts : List ExprValue). all_calls_of (λ call. nat_lt call.index (length (g.T.Tacs.table_of c.args.tacs.now))) (exprs ts) ≡ true) (sym more) tests.2, c.requires.turns)))),
+    )
+
+-- src/running.rt
+pub run_expr-returns-in-Then-clause-answer : goal.run_expr-returns-in-Then-clause-answer
+run_expr-returns-in-Then-clause-answer g t c =
+    let more : c.deref.result.now ≡ c.in-Then.more.items = search rules in
+    let whole : then_all (Then c.in-Then.first c.in-Then.second) c.deref.result.now ≡ c.args.expr.now = ap (then_all (Then c.in-Then.first c.in-Then.second)) more ∙ sym (ap expr_of_node c.in-Then.is) ∙ c.node.ensures in
+    subst (λ (e : ExprValue). IsRun (run (g.T.Tacs.table_of c.args.tacs.now) e c.args.goal.now c.args.turns) c.run_then.result) whole c.run_then.ensures.answer
+
+-- src/running.rt
+pub run_expr-returns-in-Then-clause-valid : goal.run_expr-returns-in-Then-clause-valid
+run_expr-returns-in-Then-clause-valid g t c =
+    let more : c.deref.result.now ≡ c.in-Then.more.items = search rules in
+    let whole : then_all (Then c.in-Then.first c.in-Then.second) c.deref.result.now ≡ c.args.expr.now = ap (then_all (Then c.in-Then.first c.in-Then.second)) more ∙ sym (ap expr_of_node c.in-Then.is) ∙ c.node.ensures in
+    subst (λ (e : ExprValue). IfOk c.run_then.result (IsValidRun (suits_expr e) (c.args.goal.now ∷ []))) whole c.run_then.ensures.valid
+
+-- src/running.rt
+pub run_expr-run_or_else-requires : goal.run_expr-run_or_else-requires
+run_expr-run_or_else-requires g t c κs within =
+    let is : c.args.expr.now ≡ OrElse c.in-OrElse.first (or_else_all c.in-OrElse.second c.in-OrElse.more.items) = sym c.node.ensures ∙ ap expr_of_node c.in-OrElse.is in
+    let more : c.deref-in-OrElse.result.now ≡ c.in-OrElse.more.items = search rules in
+    let nodes : expr_nodes c.args.expr.now ≡ 1 + expr_nodes c.in-OrElse.first + expr_nodes (or_else_all c.in-OrElse.second c.in-OrElse.more.items) = ap expr_nodes is in
+    let whole = and_parts (all_calls (λ call. nat_lt call.index (length (g.T.Tacs.table_of c.args.tacs.now))) c.in-OrElse.first) (all_calls (λ call. nat_lt call.index (length (g.T.Tacs.table_of c.args.tacs.now))) (or_else_all c.in-OrElse.second c.in-OrElse.more.items)) (subst (λ (e : ExprValue). all_calls (λ call. nat_lt call.index (length (g.T.Tacs.table_of c.args.tacs.now))) e ≡ true) is c.requires.indices) in
+    let tests = in_or_else (λ call. nat_lt call.index (length (g.T.Tacs.table_of c.args.tacs.now))) c.in-OrElse.second c.in-OrElse.more.items whole.1 in (
+      omega (arith, nodes, nodes_in_or_else c.in-OrElse.second c.in-OrElse.more.items, ap (λ ts. exprs_nodes (exprs ts)) more, c.decreases),
+      (within, (whole.0, (tests.0, (subst (λ (ts : List ExprValue). all_calls_of (λ call. nat_lt call.index (length (g.T.Tacs.table_of c.args.tacs.now))) (exprs ts) ≡ true) (sym more) tests.1, c.requires.turns)))),
+    )
+
+-- src/running.rt
+pub run_alternatives-run_or_else-requires : goal.run_alternatives-run_or_else-requires
+run_alternatives-run_or_else-requires g t c κs within =
+    let is : c.args.more.now ≡ c.next-item.result ∷ take (length c.args.more.now - 1) (drop 1 c.args.more.now) = split c.args.more.now c.next-item.result (omega (arith, c.in-len1-up.len_at_least)) c.next-item.is in
+    let tests = split_tests (λ call. nat_lt call.index (length (g.T.Tacs.table_of c.args.tacs.now))) c.args.more.now (take (length c.args.more.now - 1) (drop 1 c.args.more.now)) c.next-item.result is c.requires.more in (
+      omega (arith, ap (λ ts. exprs_nodes (exprs ts)) is, c.decreases),
+      (within, (c.requires.first, (tests.0, (tests.1, c.requires.turns)))),
+    )
+
+-- src/running.rt
+pub run_or_else-run_alternatives-requires : goal.run_or_else-run_alternatives-requires
+run_or_else-run_alternatives-requires g t c κs within = (
+  omega (arith, has_nodes c.args.first.now, c.decreases),
+  (within, (c.requires.second, (c.requires.more, omega (arith, c.requires.turns, refused_left c.args.turns c.in-Err-Refused.field-0 c.in-Err-Refused.field-0-0 c.in-Err-Refused.left c.in-Err-Refused.field-0-is c.in-Err-Refused.ensures.left)))),
+)
+
+-- src/running.rt
+pub run_then-returns-in_err-ran-clause-answer : goal.run_then-returns-in_err-ran-clause-answer
+run_then-returns-in_err-ran-clause-answer g t c =
+    let p = err_from_is_err_and c.from_residual.result c.from_residual.ensures.1 in
+    rw (p.1, p.2) (then_first (g.T.Tacs.table_of c.args.tacs.now) (then_all (Then c.args.first.now c.args.second.now) c.args.more.now) c.args.first.now c.args.second.now c.args.more.now c.args.goal.now c.args.turns _ refl c.in_err-ran.ensures.answer)
+
+-- src/running.rt
+pub run_then-run_each-requires : goal.run_then-run_each-requires
+run_then-run_each-requires g t c κs within =
+    let one : c.from_ref.result.now ≡ c.args.second.now ∷ [] = search rules in (
+      omega (arith, ap (λ ts. exprs_nodes (exprs ts)) one, c.decreases),
+      (within, (subst (λ (ts : List ExprValue). all_calls_of (λ call. nat_lt call.index (length (g.T.Tacs.table_of c.args.tacs.now))) (exprs ts) ≡ true) (sym one) (of_one (λ call. nat_lt call.index (length (g.T.Tacs.table_of c.args.tacs.now))) c.args.second.now c.requires.second), omega (arith, c.requires.turns, c.in_ok-ran.ensures.left))),
+    )
+
+-- src/running.rt
+pub run_then-returns-in_err-next-clause-answer : goal.run_then-returns-in_err-next-clause-answer
+run_then-returns-in_err-next-clause-answer g t c =
+    let one : c.from_ref.result.now ≡ c.args.second.now ∷ [] = search rules in
+    let p = err_from_is_err_and c.from_residual-in_err-next.result c.from_residual-in_err-next.ensures.1 in
+    rw (p.1, p.2) (then_second_of (g.T.Tacs.table_of c.args.tacs.now) (then_all (Then c.args.first.now c.args.second.now) c.args.more.now) c.args.first.now c.args.second.now c.args.more.now c.from_ref.result.now c.args.goal.now c.args.turns c.in_ok-ran.ran _ refl one c.in_ok-ran.ensures.answer c.in_err-next.ensures.answer)
+
+-- src/running.rt
+pub run_then-run_more-requires : goal.run_then-run_more-requires
+run_then-run_more-requires g t c κs within =
+    (omega (arith, has_nodes c.args.first.now, c.decreases), (within, (c.requires.more, omega (arith, c.requires.turns, c.in_ok-ran.ensures.left, c.in_ok-next.ensures.left))))
+
+-- src/running.rt
+pub run_then-returns-clause-answer : goal.run_then-returns-clause-answer
+run_then-returns-clause-answer g t c =
+    let one : c.from_ref.result.now ≡ c.args.second.now ∷ [] = search rules in
+    then_rest (g.T.Tacs.table_of c.args.tacs.now) (then_all (Then c.args.first.now c.args.second.now) c.args.more.now) c.args.first.now c.args.second.now c.args.more.now c.args.goal.now c.args.turns c.in_ok-ran.ran c.in_ok-next.next c.run_more.result refl c.in_ok-ran.ensures.answer
+    (subst (λ (ts : List ExprValue). each (run_every (g.T.Tacs.table_of c.args.tacs.now) (exprs ts)) c.in_ok-ran.ran.step.goals.items c.in_ok-ran.ran.left ≡ Leaves c.in_ok-next.next.step.goals.items c.in_ok-next.next.left) one c.in_ok-next.ensures.answer)
+    c.run_more.ensures.answer
+
+-- src/running.rt
+pub run_then-returns-clause-valid : goal.run_then-returns-clause-valid
+run_then-returns-clause-valid g t c =
+    let one : c.from_ref.result.now ≡ c.args.second.now ∷ [] = search rules in
+    then_valid (then_all (Then c.args.first.now c.args.second.now) c.args.more.now) c.args.first.now c.args.second.now c.args.more.now c.args.goal.now c.in_ok-ran.ran c.in_ok-next.next c.run_more.result refl c.in_ok-ran.ensures.valid
+    (subst (λ (ts : List ExprValue). GoesOnFrom (suits_exprs (exprs ts)) c.in_ok-ran.ran c.in_ok-next.next) one c.in_ok-next.ensures.valid)
+    c.run_more.ensures.valid
+
+-- src/running.rt
+pub run_then_list-returns-clause-valid : goal.run_then_list-returns-clause-valid
+run_then_list-returns-clause-valid g t c =
+    then_list_valid (ThenL c.args.first.now (exprs c.args.parts.now)) c.args.first.now (exprs c.args.parts.now) (c.args.goal.now ∷ []) c.in_ok-ran.ran c.run_list.result refl c.in_ok-ran.ensures.valid c.run_list.ensures.valid

@@ -21,8 +21,23 @@ decreases-run_each g l = 4 * exprs_nodes (exprs l.parts.now) + 2
 abbrev pub decreases-run_every : goal.decreases-run_every
 decreases-run_every g l = 4 * exprs_nodes (exprs l.parts.now) + 1
 
+abbrev pub decreases-run_then : goal.decreases-run_then
+decreases-run_then g l = 4 * (expr_nodes l.first.now + expr_nodes l.second.now + exprs_nodes (exprs l.more.now)) + 3
+
+abbrev pub decreases-run_then_list : goal.decreases-run_then_list
+decreases-run_then_list g l = 4 * (expr_nodes l.first.now + exprs_nodes (exprs l.parts.now)) + 3
+
+abbrev pub decreases-run_or_else : goal.decreases-run_or_else
+decreases-run_or_else g l = 4 * (expr_nodes l.first.now + expr_nodes l.second.now + exprs_nodes (exprs l.more.now)) + 1
+
+abbrev pub decreases-run_try : goal.decreases-run_try
+decreases-run_try g l = 4 * expr_nodes l.part.now + 1
+
+abbrev pub decreases-run_changed : goal.decreases-run_changed
+decreases-run_changed g l = 4 * expr_nodes l.part.now + 1
+
 abbrev pub decreases-run_alternatives : goal.decreases-run_alternatives
-decreases-run_alternatives g l = 4 * (expr_nodes l.first.now + exprs_nodes (exprs l.more.now)) + 1
+decreases-run_alternatives g l = 4 * (expr_nodes l.first.now + exprs_nodes (exprs l.more.now)) + 2
 
 abbrev pub decreases-run_list : goal.decreases-run_list
 decreases-run_list g l = 4 * exprs_nodes (exprs l.parts.now) + 1

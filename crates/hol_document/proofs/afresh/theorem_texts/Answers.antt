@@ -6,5 +6,5 @@ use Rattle.hol_document.proofs.afresh.theorem_texts.Goals as goal
 pub loop-i-preserved : goal.loop-i-preserved
 loop-i-preserved c =
     c.in_ok-add_theorem.ensures
-    ∙ (ap (λ ts. ts ++ theorem_texts_of (c.entry_at.result.0.now, c.entry_at.result.1.now)) c.loop-i.invariant
-    ∙ sym (texts_more c.args.state.now.entries c.loop-i.i (c.entry_at.result.0.now, c.entry_at.result.1.now) c.entry_at.ensures))
+    ∙ (ap (λ ts. ts ++ theorem_texts_of (c.entry.result.0.now, c.entry.result.1.now)) c.loop-i.invariant
+    ∙ sym (texts_more c.args.env.now c.loop-i.i (c.entry.result.0.now, c.entry.result.1.now) c.entry.ensures))

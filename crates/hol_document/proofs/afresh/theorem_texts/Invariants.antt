@@ -3,4 +3,4 @@ use Rattle.hol_document.specs.Asked.{theorem_texts}
 use Rattle.hol_document.proofs.afresh.theorem_texts.Given as goal
 
 abbrev pub invariant-loop-i : goal.invariant-loop-i
-invariant-loop-i l = map (λ (t : String Global). string_bytes t) l.texts.items ≡ theorem_texts (take l.i l.state.entries)
+invariant-loop-i l = map (λ (t : String Global). string_bytes t) l.texts.items ≡ theorem_texts (take l.i l.env)

@@ -1,6 +1,6 @@
 use Rattle.std.proofs.Common.{◌≡◌, drop, map}
 use Rattle.std.specs.List.{list_any}
-use Rattle.hol_exec.specs.Key.{key_eq}
+use Rattle.hol_theory.specs.Key.{key_eq}
 use Rattle.hol_exec.proofs.reads.has_key.Given as goal
 
 abbrev pub invariant-loop-value : goal.invariant-loop-value

@@ -11,7 +11,7 @@ use Rattle.hol_exec.proofs.resolution.resolve_fitting.Goals as goal
 
 pub resolve_read-requires : goal.resolve_read-requires
 resolve_read-requires g c =
-    readings_over c.cited.result.now _ _ _ (readings_value c.in-Ok.readings) c.in_ok-lookups.ensures c.in_ok-readings.ensures (ap readings_result c.in-Ok.is)
+    readings_over c.cited.result.now _ _ _ (readings_value c.in-Ok.readings) c.cited.ensures.plain c.in_ok-lookups.ensures c.in_ok-readings.ensures (ap readings_result c.in-Ok.is)
 
 pub returns-in-Ok-clause-value : goal.returns-in-Ok-clause-value
 returns-in-Ok-clause-value g c =

@@ -1,10 +1,5 @@
-use Rattle.std.proofs.Common.{sym, subst}
-use Rattle.hol_exec.specs.Entry.{EachIsEntry}
-use Rattle.hol_exec.proofs.Entries.{each_inserted}
+use Rattle.hol_exec.proofs.Plain.{plain_follow}
 use Rattle.hol_exec.proofs.state.State.make.Goals as goal
 
-pub invariant_of-self-2 : goal.invariant_of-self-2
-invariant_of-self-2 c = (
-  c.insert_each.ensures.unique c.self.invariant.0,
-  rw c.in_ok-insert_each.ensures.ok (each_inserted _ _ c.self.invariant.1 (subst EachIsEntry (sym c.in_ok-made.ensures) c.requires)),
-)
+pub add_all-requires-clause-follow : goal.add_all-requires-clause-follow
+add_all-requires-clause-follow c = plain_follow _ _ c.requires.plain

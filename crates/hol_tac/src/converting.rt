@@ -1,0 +1,76 @@
+//! The functions that convert the conclusion.
+ghost use Rattle.std.specs.Prelude.{◌≡◌, ◌∷◌, Bool, IfOk, Some, []};
+ghost use Rattle.hol_terms.specs.Named.{named_type};
+ghost use Rattle.hol_terms.specs.Nameless.{nameless};
+ghost use Rattle.hol_formulas.specs.Equation.{bool_type};
+ghost use Rattle.hol_kernel.specs.Items.{Items};
+ghost use Rattle.hol_kernel.specs.Sequent.{Hyps};
+ghost use Rattle.hol_conv.specs.Beta.{beta_turn};
+ghost use Rattle.hol_conv.specs.Turns.{finished, all_turns};
+ghost use Rattle.hol_goal.specs.Arguments.{Nothing};
+ghost use Rattle.hol_goal.specs.ArgumentsView.{args_value};
+ghost use Rattle.hol_goal.specs.declared.tac_code.TacCode.TheVariants as code;
+ghost use Rattle.hol_just.specs.Leaving.{concluding};
+ghost use Rattle.hol_just.specs.ConversionTacs.{left_with};
+ghost use Rattle.hol_just.specs.Valid.{IsValid};
+ghost use Rattle.hol_just.specs.Answering.{AnswersCode, IsJustified};
+
+use crate::steps::{closing, leaving_one};
+use hol_conv::{ConvError, Rewritten, beta_all};
+use hol_formulas::is_truth;
+use hol_goal::{Goal, TacArgs};
+use hol_just::{Just, Step, TacFault, Tried};
+use hol_terms::Term;
+use std::alloc::{AllocError, Global};
+
+/// BETA_TAC reduces the redexes of the conclusion, a turn each. Where it becomes `T` the goal is closed.
+pub fn beta_tac(alloc: Global, args: &TacArgs, goal: &Goal, turns: u32) -> Result<Tried, TacFault>
+    ensures answer { AnswersCode code.BetaTac (args_value args.now) goal.now turns result }
+    ensures valid { IfOk result (λ tried. IsJustified (args_value args.now) goal.now tried.step) }
+{
+    let TacArgs::Nothing = args else {
+        return Err(TacFault::Refused(turns));
+    };
+    match beta_all(alloc, goal.conclusion(), turns) {
+        Ok(reduced) => Ok(reduced_to(alloc, goal, turns, reduced)?),
+        Err(ConvError::Limit) => Err(TacFault::TurnLimit),
+        Err(ConvError::TooLarge) => Err(TacFault::TooLarge),
+        Err(ConvError::Memory) => Err(TacFault::Memory),
+    }
+}
+
+// What is left of the goal, where beta reduction makes this of the conclusion.
+fn reduced_to(
+    alloc: Global,
+    goal: &Goal,
+    turns: u32,
+    reduced: Rewritten,
+) -> Result<Tried, AllocError>
+    requires { all_turns beta_turn turns goal.now.conclusion ≡ finished (nameless [] reduced.term) reduced.left }
+    ensures goals { IfOk result (λ tried. tried.step.goals.items ≡ left_with goal.now (nameless [] reduced.term)) }
+    ensures left { IfOk result (λ tried. tried.left ≡ reduced.left) }
+    ensures valid { IfOk result (λ tried. IsJustified Nothing goal.now tried.step) }
+{
+    let just = Just::beta_tac(alloc, goal.conclusion(), turns)?;
+    let step = converted_step(alloc, goal, &reduced.term, just)?;
+    Ok(Tried {
+        step,
+        left: reduced.left,
+    })
+}
+
+// The step to the goal with this conclusion, to which the moves lead. Where that is `T` the goal is closed.
+fn converted_step(alloc: Global, goal: &Goal, u: &Term, before: Just) -> Result<Step, AllocError>
+    requires { named_type u.now ≡ Some bool_type }
+    ensures goals { IfOk result (λ step. step.goals.items ≡ left_with goal.now (nameless [] u.now)) }
+    ensures just { IfOk result (λ step. (suits : Items → Bool) (extra : Hyps) → IsValid suits extra before (goal.now ∷ []) (concluding goal.now (nameless [] u.now) ∷ []) → IsValid suits extra step.just (goal.now ∷ []) (left_with goal.now (nameless [] u.now))) }
+{
+    let mut just = before;
+    if is_truth(u) {
+        let closes = Just::truth(alloc)?;
+        just.then_at(0, &closes)?;
+        return Ok(closing(alloc, just));
+    }
+    let left = goal.with_conclusion(alloc, u)?;
+    leaving_one(alloc, left, just)
+}
