@@ -8,6 +8,7 @@ PATH is the built program, crates/hol_infer_bench/out/hol_infer_bench. Each job 
   itself     c of the type A0->..->A1999->bool, applied to itself 4,080 times
   argument   the same c as each of 4,080 arguments of a variable
   applied    c of the type A0->..->A1999->bool, applied to one variable in each of 1,000 arguments of a variable
+  repeated   the same with c of the type A0->..->A1999->A0, in which a variable stands twice
   chained    c of a type with 1,709 arrows, nested 190 deep, in 600 equations with one variable
   doubling   330 variables, of which each is a function of functions of the one before, so that types double
   zigzag     1,000 variables equated with each other, counted from both ends in turn
@@ -27,8 +28,8 @@ import subprocess
 from goals import doubling, zigzag
 
 
-def arrows(count):
-    return "->".join("A%d" % k for k in range(count)) + "->bool"
+def arrows(count, end="bool"):
+    return "->".join("A%d" % k for k in range(count)) + "->" + end
 
 
 def nested(count, depth):
@@ -50,11 +51,12 @@ JOBS = {
     "itself": lambda n: (arrows(2000 * n // 4080), " ".join(["c"] * n)),
     "argument": lambda n: (arrows(2000 * n // 4080), "f" + " c" * n),
     "applied": lambda n: (arrows(2000 * n // 1000), "f" + " (c x)" * n),
+    "repeated": lambda n: (arrows(2000 * n // 1000, "A0"), "f" + " (c x)" * n),
     "chained": lambda n: (nested(1710 * n // 600, 190), " /\\ ".join(["x = c"] * n)),
     "doubling": lambda n: ("bool", doubling(n)),
     "zigzag": lambda n: ("bool", equated(n)),
 }
-SIZES = {"itself": 4080, "argument": 4080, "applied": 1000, "chained": 600, "doubling": 330, "zigzag": 1000}
+SIZES = {"itself": 4080, "argument": 4080, "applied": 1000, "repeated": 1000, "chained": 600, "doubling": 330, "zigzag": 1000}
 
 
 def run(program, words, seconds):

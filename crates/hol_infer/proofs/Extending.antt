@@ -12,11 +12,11 @@ use Rattle.hol_infer.specs.Raw.{RawTree}
 use Rattle.hol_infer.specs.Typing.{IsTyping, IsOpen}
 use Rattle.hol_infer.specs.SlotTree.{SlotTree, SlotBound, SlotConstant, SlotFree, SlotApply, SlotAbstraction, typed, AreSlotsIn}
 use Rattle.hol_infer.specs.declared.cell.Cell.{Cell}
-use Rattle.hol_infer.specs.declared.cell.Cell.TheVariants.{Unknown, Link, Rigid, App, Generic}
+use Rattle.hol_infer.specs.declared.cell.Cell.TheVariants.{Unknown, Link, Rigid, App, Generic, Part}
 use Rattle.hol_infer.specs.declared.generate.Graph.{Graph}
-use Rattle.hol_infer.specs.Graph.{CellHolds, IsExpandedCell}
-use Rattle.hol_infer.specs.Generate.{Solves, slots, IsWellFormed, Agree, IsNewCell, IsFresh, IsFunction, BuildsType, BuildsTypes, IsPlace, HasNoPlace, pairs_from, Grows}
-use Rattle.hol_infer.proofs.Growing.{solves_agree, map_agree}
+use Rattle.hol_infer.specs.Graph.{pairs_from, bound_names, CellHolds, IsExpandedCell}
+use Rattle.hol_infer.specs.Generate.{Solves, slots, IsWellFormed, Agree, IsNewCell, IsFresh, IsFunction, BuildsType, BuildsTypes, IsPlace, HasNoPlace, Grows}
+use Rattle.hol_infer.proofs.Growing.{solves_agree, map_agree, bound_agree}
 use Rattle.std.proofs.lemmas.List.{map-append, append-nil, append_assoc}
 
 pub agree_trans : (n m : ℕ) (a b c : ℕ → TypeTree) → n ≤ m → Agree n a b → Agree m b c → Agree n a c
@@ -73,6 +73,7 @@ cell_holds_new n types types' t Unknown a in' h = tt
 cell_holds_new n types types' t (Link j) a in' h = h ∙ a.agree j in'
 cell_holds_new n types types' t (Rigid x) a in' h = h
 cell_holds_new n types types' t (Generic ty) a in' h = h
+cell_holds_new n types types' t (Part part) a in' h = bound_agree n part.base (bound_names part) types types' part.ty t a in'.row_in h
 cell_holds_new n types types' t (App c parts) a in' h = parts_agree n types types' c parts.items t (map_agree n types types' parts.items a in') h
 
 -- a solution and a type for the new slot give a solution

@@ -1,5 +1,5 @@
 -- The shapes of a solved graph make the most general typing.
-use Rattle.std.proofs.Common.{◌≡◌, ℕ, ◌<◌, [], List, length, refl, ◌∙◌, ap, arith, Option, Some, None}
+use Rattle.std.proofs.Common.{◌≡◌, ℕ, [], List, length, refl, ◌∙◌, ap, arith, Option, Some, None}
 use Rattle.std.proofs.lemmas.List.Elements.{All-nil}
 use Rattle.hol_types.specs.Tree.{TypeTree, TyVar}
 use Rattle.hol_terms.specs.Nameless.{Nameless, free, fixed, app, lam, base_of}
@@ -8,23 +8,15 @@ use Rattle.hol_infer.specs.Typing.{HasNoTyping}
 use Rattle.hol_infer.specs.Shape.{ShapeTree}
 use Rattle.hol_infer.specs.SlotTree.{SlotTree, SlotBound, SlotConstant, SlotFree, SlotApply, SlotAbstraction, typed}
 use Rattle.hol_infer.specs.declared.cell.Cell.TheVariants.{Unknown}
-use Rattle.hol_infer.specs.declared.cell.Equation.{Equation}
 use Rattle.hol_infer.specs.declared.generate.Graph.{Graph}
 use Rattle.hol_infer.specs.Graph.{Respects, EquationHolds, IsSolution}
-use Rattle.hol_infer.specs.Generate.{Solves, slots, slot_of, IsWellFormed, IsFresh, Generates}
+use Rattle.hol_infer.specs.Generate.{Solves, slots, slot_of, IsFresh, Generates}
 use Rattle.hol_infer.specs.Expanding.{Refines}
 use Rattle.hol_infer.specs.Found.{types_at, AreGeneral}
 use Rattle.hol_infer.specs.Solved.{IsGraphOf, IsSolvedBy, IsGeneralTyping}
 use Rattle.hol_infer.proofs.Extending.{agree_trans, term_agree, are_slots_in_more}
 
 -- ---- the graph of a whole term
-
-pub empty_formed : (g : Graph) → g.cells.items ≡ [] → g.pending.items ≡ [] → g.names.items ≡ [] → IsWellFormed g
-empty_formed g p q r = record {
-  cells_in = record { cell_in = λ i. rw p tt };
-  pending_in = rw (p, q) (All-nil (λ (e : Equation). (e.left < 0) × (e.right < 0)));
-  names_in = λ a s e. (let f : None ≡ Some s = rw r at e in absurd (cc));
-}
 
 empty_solves : (g : Graph) (type_of : List ℕ → TypeTree) (types : ℕ → TypeTree) → g.cells.items ≡ [] → g.pending.items ≡ [] → g.names.items ≡ [] → Solves g type_of types
 empty_solves g type_of types p q r = record {

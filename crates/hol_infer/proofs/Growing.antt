@@ -1,19 +1,21 @@
 -- A graph that grows.
-use Rattle.std.proofs.Common.{◌≡◌, ℕ, ◌+◌, ◌<◌, ◌≤◌, ◌⊎◌, inl, inr, List, [], ◌∷◌, ◌++◌, length, map, get_or, refl, sym, ◌∙◌, subst, arith, length-append}
+use Rattle.std.proofs.Common.{◌≡◌, ℕ, ◌+◌, ◌<◌, ◌≤◌, ◌⊎◌, inl, inr, List, [], ◌∷◌, ◌++◌, length, map, get_or, refl, sym, ◌∙◌, ap, subst, arith, length-append}
 use Rattle.std.specs.Prelude.{◌↔◌}
 use Rattle.std.specs.List.{All}
 use Rattle.std.proofs.lemmas.Bool.{cases_eq, cases_lt}
 use Rattle.std.proofs.lemmas.List.{get_or_append_left, get_or_past}
-use Rattle.std.proofs.lemmas.List.Elements.{All-push, All-head, All-tail, All-weaker}
+use Rattle.std.proofs.lemmas.List.Elements.{All-head, All-tail, All-weaker}
 use Rattle.std.proofs.Math.Seq.{get_or-append_seam}
 use Rattle.hol_types.specs.Tree.{TypeTree, TyApp, type_list}
+use Rattle.hol_types.specs.Subst.{type_subst}
 use Rattle.hol_infer.specs.Typing.{IsGenericInstance}
 use Rattle.hol_infer.specs.declared.cell.Cell.{Cell}
-use Rattle.hol_infer.specs.declared.cell.Cell.TheVariants.{Unknown, Link, Rigid, App, Generic}
+use Rattle.hol_infer.specs.declared.cell.Cell.TheVariants.{Unknown, Link, Rigid, App, Generic, Part}
 use Rattle.hol_infer.specs.declared.cell.Equation.{Equation}
+use Rattle.hol_infer.specs.declared.cell.GenericPart.{GenericPart}
 use Rattle.hol_infer.specs.declared.generate.Graph.{Graph}
-use Rattle.hol_infer.specs.Graph.{CellHolds, cell_at, Respects, EquationHolds, IsSolution, IsCellIn, IsGraph, AreIn}
-use Rattle.hol_infer.specs.Generate.{Agree, IsNewCell, Solves, slots, IsWellFormed, IsFresh}
+use Rattle.hol_infer.specs.Graph.{pairs_from, IsBoundInstance, bound_names, IsPartIn, CellHolds, cell_at, Respects, IsSolution, IsCellIn, IsGraph, AreIn}
+use Rattle.hol_infer.specs.Generate.{Agree, IsNewCell, Solves, slots, IsWellFormed}
 
 -- of a list with one more at its end
 pub all_last : (P : Equation → Type 0) (xs : List Equation) (x : Equation) → All P (xs ++ x ∷ []) → All P xs × P x
@@ -35,12 +37,16 @@ past_cell cells i le = get_or_past cells i Unknown le
 below_more : (n : ℕ) (parts : List ℕ) → All (λ p. p < n) parts → All (λ p. p < n + 1) parts
 below_more n parts h = All-weaker (λ (p : ℕ). p < n) (λ (p : ℕ). p < n + 1) (λ x l. omega arith) parts h
 
+is_part_in_more : (n : ℕ) (part : GenericPart) → IsPartIn n part → IsPartIn (n + 1) part
+is_part_in_more n part h = record { row_in = (let r = h.row_in in omega (arith, r)); linear = h.linear; distinct = h.distinct; applied = h.applied }
+
 is_cell_in_new : (n : ℕ) (cell : Cell) → IsNewCell n cell → IsCellIn (n + 1) n cell
 is_cell_in_new n Unknown h = tt
 is_cell_in_new n (Link j) h = h
 is_cell_in_new n (Rigid a) h = h
 is_cell_in_new n (App c parts) h = below_more n parts.items h
 is_cell_in_new n (Generic ty) h = h
+is_cell_in_new n (Part part) h = is_part_in_more n part h
 
 is_cell_in_more : (n i : ℕ) (cell : Cell) → IsCellIn n i cell → IsCellIn (n + 1) i cell
 is_cell_in_more n i Unknown h = tt
@@ -48,6 +54,7 @@ is_cell_in_more n i (Link j) h = h
 is_cell_in_more n i (Rigid a) h = h
 is_cell_in_more n i (App c parts) h = below_more n parts.items h
 is_cell_in_more n i (Generic ty) h = h
+is_cell_in_more n i (Part part) h = is_part_in_more n part h
 
 -- a slot is an old one, the new one, or none
 by_slot : (n i : ℕ) → (i < n) ⊎ ((i ≡ n) ⊎ (n + 1 ≤ i))
@@ -101,43 +108,8 @@ push_cell_solves cells pending cell types = (
   λ (s, h). record { respects = (respects_push cells cell types).1 (s.respects, h); equations = s.equations },
 )
 
-pub push_equation_solves : (cells : List Cell) (pending : List Equation) (e : Equation) (types : ℕ → TypeTree) →
-    IsSolution cells (pending ++ e ∷ []) types ↔ (IsSolution cells pending types × EquationHolds types e)
-push_equation_solves cells pending e types = (
-  λ s. let parts = all_last (EquationHolds types) pending e s.equations in (record { respects = s.respects; equations = parts.0 }, parts.1),
-  λ (s, h). record { respects = s.respects; equations = All-push (EquationHolds types) pending e s.equations h },
-)
-
 pub are_in_push_cell : (cells : List Cell) (pending : List Equation) (cell : Cell) → AreIn cells pending → AreIn (cells ++ cell ∷ []) pending
 are_in_push_cell cells pending cell h k d lt = let w = h k d lt in let e = pushed_length cells cell in (omega (arith, e, w.0), omega (arith, e, w.1))
-
--- a graph with a slot more
-pub fresh_of : (g h : Graph) (slot : ℕ) (cell : Cell) → IsWellFormed g → IsNewCell (slots g) cell → slot ≡ slots g →
-    h.cells.items ≡ g.cells.items ++ cell ∷ [] → h.pending.items ≡ g.pending.items → h.names.items ≡ g.names.items → IsFresh g h slot cell
-fresh_of g h slot cell w new at cells pending names =
-    let len : slots h ≡ slots g + 1 = subst (λ (xs : List Cell). length xs ≡ slots g + 1) (sym cells) (pushed_length g.cells.items cell) in
-    record {
-      slot_is = at;
-      slots_are = len;
-      cells_are = cells;
-      pending_are = pending;
-      names_are = names;
-      well_formed = record {
-        cells_in = subst (λ (xs : List Cell). IsGraph xs) (sym cells) (is_graph_push g.cells.items cell w.cells_in new);
-        pending_in = rw (cells, pending) (are_in_push_cell g.cells.items g.pending.items cell w.pending_in);
-        names_in = λ a s e. (let l = w.names_in a s (rw names at e) in omega (arith, l, len));
-      };
-      solves = λ type_of types. (
-        λ s.
-            let parts = (push_cell_solves g.cells.items g.pending.items cell types).0 (rw (cells, pending) at s.solution) in
-            (record { solution = parts.0; names = λ a k e. s.names a k (rw names e) }, subst (λ (k : ℕ). CellHolds types (types k) cell) (sym at) parts.1),
-        λ (s, holds).
-            record {
-              solution = rw (cells, pending) ((push_cell_solves g.cells.items g.pending.items cell types).1 (s.solution, subst (λ (k : ℕ). CellHolds types (types k) cell) at holds));
-              names = λ a k e. s.names a k (rw names at e);
-            },
-      );
-    }
 
 -- types that agree on the slots solve the same
 parts_agree : (n : ℕ) (types types' : ℕ → TypeTree) (parts : List ℕ) → Agree n types types' → All (λ p. p < n) parts → map types parts ≡ map types' parts
@@ -153,11 +125,28 @@ map_agree n types types' env a h = parts_agree n types types' env a h
 app_ap : (c : List ℕ) (ss ts : List TypeTree) → ss ≡ ts → TyApp c (type_list ss) ≡ TyApp c (type_list ts)
 app_ap c ss ts e = cc
 
+pair_same : (s t : TypeTree) (a : List ℕ) (ps qs : List (TypeTree × List ℕ)) → s ≡ t → ps ≡ qs → (s, a) ∷ ps ≡ (t, a) ∷ qs
+pair_same s t a ps qs p q = λ i. (p i, a) ∷ q i
+
+-- and so do those that stand for names
+pub pairs_agree : (n base : ℕ) (names : List (List ℕ)) (types types' : ℕ → TypeTree) → Agree n types types' → base + length names ≤ n → pairs_from types base names ≡ pairs_from types' base names
+pairs_agree n base [] types types' a le = refl
+pairs_agree n base (b ∷ names) types types' a le =
+    pair_same (types base) (types' base) b (pairs_from types (base + 1) names) (pairs_from types' (base + 1) names)
+    (a.agree base (omega (arith, le))) (pairs_agree n (base + 1) names types types' a (omega (arith, le)))
+
+pub bound_agree : (n base : ℕ) (names : List (List ℕ)) (types types' : ℕ → TypeTree) (ty t : TypeTree) → Agree n types types' → base + length names ≤ n → IsBoundInstance types names base ty t → IsBoundInstance types' names base ty t
+bound_agree n base names types types' ty t a le (pairs, e) =
+    (pairs, e ∙ ap (λ (env : List (TypeTree × List ℕ)). type_subst (env ++ pairs) ty) (pairs_agree n base names types types' a le))
+
 cell_holds_agree : (n i : ℕ) (types types' : ℕ → TypeTree) (cell : Cell) → Agree n types types' → i < n → IsCellIn n i cell → CellHolds types (types i) cell → CellHolds types' (types' i) cell
 cell_holds_agree n i types types' Unknown a lt in' h = tt
 cell_holds_agree n i types types' (Link j) a lt in' h = sym (a.agree i lt) ∙ h ∙ a.agree j (omega arith)
 cell_holds_agree n i types types' (Rigid x) a lt in' h = sym (a.agree i lt) ∙ h
 cell_holds_agree n i types types' (Generic ty) a lt in' h = subst (IsGenericInstance ty) (a.agree i lt) h
+cell_holds_agree n i types types' (Part part) a lt in' h =
+    subst (IsBoundInstance types' (bound_names part) part.base part.ty) (a.agree i lt)
+    (bound_agree n part.base (bound_names part) types types' part.ty (types i) a in'.row_in h)
 cell_holds_agree n i types types' (App c parts) a lt in' h =
     sym (a.agree i lt) ∙ h ∙ app_ap c (map types parts.items) (map types' parts.items) (parts_agree n types types' parts.items a in')
 

@@ -5,7 +5,8 @@ use Rattle.std.proofs.lemmas.Slice.Eq.{bytes_eq-Decides}
 use Rattle.hol_types.specs.Tree.{TypeTree, TypeList, TyVar, TyApp, no_types, more_types}
 use Rattle.hol_types.specs.Subst.{type_subst, types_subst, type_lookup, type_for}
 use Rattle.hol_types.specs.Names.{is_among, type_names, types_names}
-use Rattle.hol_infer.specs.Generate.{Agree, pairs_from, IsPlace, HasNoPlace, IsRigidBut, AreRigidBut}
+use Rattle.hol_infer.specs.Graph.{pairs_from}
+use Rattle.hol_infer.specs.Generate.{Agree, IsPlace, HasNoPlace, IsRigidBut, AreRigidBut}
 
 -- nothing is put for the type variables of an annotation
 mutual

@@ -12,6 +12,8 @@ pub mod Slots
 pub mod Opening
 pub mod Linear
 pub mod Splitting
+pub mod Bound
+pub mod Parts
 pub mod Generating
 pub mod General
 pub mod Naming

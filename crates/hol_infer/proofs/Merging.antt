@@ -6,7 +6,7 @@ use Rattle.std.proofs.lemmas.Bool.{cases_eq}
 use Rattle.std.proofs.lemmas.List.{get_or_default}
 use Rattle.hol_types.specs.Tree.{TypeTree}
 use Rattle.hol_infer.specs.declared.cell.Cell.{Cell}
-use Rattle.hol_infer.specs.declared.cell.Cell.TheVariants.{Unknown, Link, Rigid, App, Generic}
+use Rattle.hol_infer.specs.declared.cell.Cell.TheVariants.{Unknown, Link, Rigid, App, Generic, Part}
 use Rattle.hol_infer.specs.declared.cell.Equation.{Equation}
 use Rattle.hol_infer.specs.Graph.{CellHolds, cell_at, Respects, EquationHolds, SameSolutions, HasNoSolution, IsCellIn, IsGraph, AreBelow, AreIn, IsRootCell, cell_weight, work_left, IsJoined, HaveNoType, generic_weight, generics, AreJoinable}
 
@@ -49,6 +49,7 @@ root_anywhere n i j (Link k) r h = absurd r
 root_anywhere n i j (Rigid a) r h = h
 root_anywhere n i j (App c parts) r h = h
 root_anywhere n i j (Generic ty) r h = h
+root_anywhere n i j (Part part) r h = h
 
 pub is_graph_set : (cells : List Cell) (at : ℕ) (cell : Cell) → at < length cells → IsGraph cells → IsCellIn (length cells) at cell → IsGraph (set cells at cell)
 is_graph_set cells at cell h g new = record {
@@ -67,11 +68,6 @@ module _ (cells : List Cell) (low high : ℕ) (order : low < high) (high_in : hi
 
   pub linked_graph : IsGraph cells → IsGraph (set cells high (Link low))
   linked_graph g = is_graph_set cells high (Link low) high_in g order
-
-  pub taken_graph : IsGraph cells → IsRootCell (cell_at cells high) → IsGraph (set (set cells high (Link low)) low (cell_at cells high))
-  taken_graph g r =
-      is_graph_set (set cells high (Link low)) low (cell_at cells high) (rw length-set low_in) (linked_graph g)
-      (rw length-set (root_anywhere (length cells) high low (cell_at cells high) r (g.cell_in high)))
 
   -- the lower root knows nothing: it takes the cell of the higher one
   pub taken_solutions : (pending : List Equation) → cell_at cells low ≡ Unknown → SameSolutions (set (set cells high (Link low)) low (cell_at cells high)) pending cells (record { left = low; right = high } ∷ pending)
@@ -170,9 +166,6 @@ no_type_at cells i j x y p q h = subst (λ (u : Cell). HaveNoType u (cell_at cel
 
 pub linked_below : (cells : List Cell) (low high : ℕ) (cell : Cell) (before after : List Equation) → IsGraph cells → IsJoined (cell_at cells low) (cell_at cells high) before after → AreIn cells before → AreIn (set cells high cell) after
 linked_below cells low high cell before after g j h = subst (λ (n : ℕ). AreBelow n after) (sym (length-set cells high cell)) (j.are_in (length cells) low high (g.cell_in low) (g.cell_in high) h)
-
-pub joinable_at : (cells : List Cell) (i j : ℕ) (x y : Cell) → cell_at cells i ≡ x → cell_at cells j ≡ y → AreJoinable x y → AreJoinable (cell_at cells i) (cell_at cells j)
-joinable_at cells i j x y p q h = subst (λ (u : Cell). AreJoinable u (cell_at cells j)) (sym p) (subst (λ (v : Cell). AreJoinable x v) (sym q) h)
 
 pub joinable_of : (cells : List Cell) (i j : ℕ) (x y : Cell) → cell_at cells i ≡ x → cell_at cells j ≡ y → AreJoinable (cell_at cells i) (cell_at cells j) → AreJoinable x y
 joinable_of cells i j x y p q h = subst (λ (v : Cell). AreJoinable x v) q (subst (λ (u : Cell). AreJoinable u (cell_at cells j)) p h)

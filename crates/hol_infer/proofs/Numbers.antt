@@ -1,28 +1,29 @@
 -- Numbers for the type variables of generic types whose parts have no slots.
-use Rattle.std.proofs.Common.{◌≡◌, ℕ, ◌+◌, ◌*◌, ◌/◌, ◌%◌, ◌<◌, ◌≤◌, inl, inr, List, [], ◌∷◌, ◌++◌, length, get_or, take, drop, refl, sym, ◌∙◌, ap, arith, cond, Bool, true, false, bytes_eq}
+use Rattle.std.proofs.Common.{◌≡◌, ℕ, ◌+◌, ◌*◌, ◌/◌, ◌%◌, ◌<◌, ◌≤◌, inl, inr, List, [], ◌∷◌, ◌++◌, length, get_or, take, drop, refl, sym, ◌∙◌, ap, arith, cond, Bool, true, false, bytes_eq, Some}
+use Rattle.std.specs.Prelude.{unwrap_or}
 use Rattle.std.specs.declared.cmp.Ordering.{Ordering}
 use Rattle.std.specs.declared.cmp.Ordering.TheVariants.{Less, Equal, Greater}
 use Rattle.std.proofs.lemmas.Bool.{cases_lt}
-use Rattle.std.proofs.lemmas.List.{get_or_past, take_more, length-take-le}
+use Rattle.std.proofs.lemmas.List.{get_or_past, take_more, length-take-le, append_assoc}
 use Rattle.std.proofs.lemmas.Nat.{div-mul-add, mod-mul-add}
 use Rattle.std.proofs.lemmas.Slice.Eq.{bytes_eq-Decides}
 use Rattle.std.proofs.Math.Nat.{mul-le-mul_right}
 use Rattle.hol_types.specs.Tree.{TypeTree, TypeList, TyVar, TyApp, no_types, more_types, type_list, type_size, types_size}
 use Rattle.hol_types.specs.Order.{name_cmp}
 use Rattle.hol_types.specs.Names.{is_among, type_names, types_names, placed_name, insert_name, insert_names, tyvars}
-use Rattle.hol_types.specs.Subst.{type_subst, types_subst, type_for}
+use Rattle.hol_types.specs.Subst.{type_subst, types_subst, type_lookup, type_for}
 use Rattle.hol_types.proofs.Names.{tyvars_among}
 use Rattle.hol_types.proofs.Steps.{next_of}
 use Rattle.hol_infer.specs.Shape.{fill, fills, shape_size, shapes_size, shape_holes, shapes_holes, place_among, instance_shape, instance_shapes}
 use Rattle.hol_infer.specs.Holes.{add_holes}
 use Rattle.hol_infer.specs.declared.cell.Cell.{Cell}
-use Rattle.hol_infer.specs.declared.cell.Cell.TheVariants.{Unknown, Link, Rigid, App, Generic}
+use Rattle.hol_infer.specs.declared.cell.Cell.TheVariants.{Unknown, Link, Rigid, App, Generic, Part}
 use Rattle.hol_infer.specs.declared.numbering.Numbering.{Numbering}
-use Rattle.hol_infer.specs.Graph.{CellHolds, cell_at, Respects, IsGraph}
-use Rattle.hol_infer.specs.Generate.{Agree, pairs_from}
+use Rattle.hol_infer.specs.Graph.{pairs_from, bound_names, CellHolds, cell_at, Respects, IsGraph, IsCellIn}
+use Rattle.hol_infer.specs.Generate.{Agree}
 use Rattle.hol_infer.specs.Numbering.{base_at, limit_of, IsCounted, IsNumbering, IsNumberedAt, IsNumbered}
 use Rattle.hol_infer.specs.Found.{HasRigidNames, HaveRigidNames, AreHolesBelow, AllHolesBelow}
-use Rattle.hol_infer.proofs.Growing.{respects_agree}
+use Rattle.hol_infer.proofs.Growing.{respects_agree, pairs_agree}
 use Rattle.hol_infer.proofs.Holes.{add_holes_append}
 use Rattle.hol_infer.proofs.Instances.{turned, among_front, among_back, put_from, put_from_agree, put_from_at, named_types, subst_same}
 
@@ -87,6 +88,7 @@ counted_more n m (Link j) le h = tt
 counted_more n m (Rigid a) le h = tt
 counted_more n m (App c parts) le h = tt
 counted_more n m (Generic ty) le h = omega (arith, le, h)
+counted_more n m (Part part) le h = omega (arith, le, h)
 
 -- ---- the shape of an instance
 
@@ -113,7 +115,7 @@ place_most (b ∷ names) a = by (bytes_eq b a) (place_most names a)
 pub among_after : (a b : List ℕ) (names : List (List ℕ)) → bytes_eq b a ≡ false → is_among (b ∷ names) a ≡ true → is_among names a ≡ true
 among_after a b names e h = let g : bytes_eq a b ≡ false = turned a b e in rw g at h
 
-place_below : (names : List (List ℕ)) (a : List ℕ) → is_among names a ≡ true → place_among names a < length names
+pub place_below : (names : List (List ℕ)) (a : List ℕ) → is_among names a ≡ true → place_among names a < length names
 place_below [] a h = absurd (cc)
 place_below (b ∷ names) a h = by (bytes_eq b a) refl (place_below names a)
   where
@@ -121,7 +123,7 @@ place_below (b ∷ names) a h = by (bytes_eq b a) refl (place_below names a)
     by true e r = omega arith
     by false e r = let l = r (among_after a b names e h) in omega (arith, l)
 
-place_for : (at : ℕ → TypeTree) (base : ℕ) (names : List (List ℕ)) (a : List ℕ) → is_among names a ≡ true → at (base + place_among names a) ≡ type_for (pairs_from at base names) a
+pub place_for : (at : ℕ → TypeTree) (base : ℕ) (names : List (List ℕ)) (a : List ℕ) → is_among names a ≡ true → at (base + place_among names a) ≡ type_for (pairs_from at base names) a
 place_for at base [] a h = absurd (cc)
 place_for at base (b ∷ names) a h = by (bytes_eq b a) refl (place_for at (base + 1) names a)
   where
@@ -131,19 +133,19 @@ place_for at base (b ∷ names) a h = by (bytes_eq b a) refl (place_for at (base
     by false e r = rw e (ap at (omega arith) ∙ r (among_after a b names e h))
 
 -- each variable of the type is one of the names
-abbrev Covers : List (List ℕ) → List (List ℕ) → Type 0
+abbrev pub Covers : List (List ℕ) → List (List ℕ) → Type 0
 Covers names some = (a : List ℕ) → is_among some a ≡ true → is_among names a ≡ true
 
-covers_all : (ty : TypeTree) → Covers (tyvars ty) (type_names ty)
+pub covers_all : (ty : TypeTree) → Covers (tyvars ty) (type_names ty)
 covers_all ty a h = tyvars_among ty a ∙ h
 
-covers_front : (names xs ys : List (List ℕ)) → Covers names (xs ++ ys) → Covers names xs
+pub covers_front : (names xs ys : List (List ℕ)) → Covers names (xs ++ ys) → Covers names xs
 covers_front names xs ys h a e = h a (among_front a xs ys e)
 
-covers_back : (names xs ys : List (List ℕ)) → Covers names (xs ++ ys) → Covers names ys
+pub covers_back : (names xs ys : List (List ℕ)) → Covers names (xs ++ ys) → Covers names ys
 covers_back names xs ys h a e = h a (among_back a xs ys e)
 
-covers_self : (names : List (List ℕ)) (a : List ℕ) → Covers names (a ∷ []) → is_among names a ≡ true
+pub covers_self : (names : List (List ℕ)) (a : List ℕ) → Covers names (a ∷ []) → is_among names a ≡ true
 covers_self names a h = h a (rw ((bytes_eq-Decides a a).1 refl) refl)
 
 mutual
@@ -197,16 +199,25 @@ appended : (pairs ps : List (TypeTree × List ℕ)) (t u : TypeTree) (a b : List
 appended pairs ps t u a b p q r = λ i. p i ++ (q i, r i) ∷ []
 
 -- one turn of the loop over the names
-pub pairs_next : (at : ℕ → TypeTree) (base : ℕ) (names : List (List ℕ)) (pairs after : List (TypeTree × List ℕ)) (i : ℕ) (t : TypeTree) (a b : List ℕ) → i < length names → get_or names i [] ≡ a →
-    pairs ≡ pairs_from at base (take i names) → t ≡ at (base + i) → b ≡ a → after ≡ pairs ++ (t, b) ∷ [] → after ≡ pairs_from at base (take (i + 1) names)
-pairs_next at base names pairs after i t a b lt e p q r s =
+pub pairs_next : (at : ℕ → TypeTree) (base : ℕ) (names : List (List ℕ)) (first pairs after : List (TypeTree × List ℕ)) (i : ℕ) (t : TypeTree) (a b : List ℕ) → i < length names → get_or names i [] ≡ a →
+    pairs ≡ first ++ pairs_from at base (take i names) → t ≡ at (base + i) → b ≡ a → after ≡ pairs ++ (t, b) ∷ [] → after ≡ first ++ pairs_from at base (take (i + 1) names)
+pairs_next at base names first pairs after i t a b lt e p q r s =
     let more : take (i + 1) names ≡ take i names ++ a ∷ [] = take_more names i [] lt ∙ ap (λ (x : List ℕ). take i names ++ x ∷ []) e in
     let len : length (take i names) ≡ i = length-take-le i names (omega (arith, lt)) in
     let whole : pairs_from at base (take (i + 1) names) ≡ pairs_from at base (take i names) ++ (at (base + i), a) ∷ [] =
     ap (pairs_from at base) more ∙ pairs_last at base (take i names) a ∙ ap (λ (n : ℕ). pairs_from at base (take i names) ++ (at (base + n), a) ∷ []) len in
-    s ∙ appended pairs (pairs_from at base (take i names)) t (at (base + i)) a b p q r ∙ sym whole
+    s ∙ appended pairs (first ++ pairs_from at base (take i names)) t (at (base + i)) a b p q r ∙ append_assoc first (pairs_from at base (take i names)) ((at (base + i), a) ∷ []) ∙ sym (ap (λ (ps : List (TypeTree × List ℕ)). first ++ ps) whole)
 
 -- ---- types for the numbers
+
+-- pairs that put the same do so after others
+before_same : (env σ τ : List (TypeTree × List ℕ)) (a : List ℕ) → type_for σ a ≡ type_for τ a → type_for (env ++ σ) a ≡ type_for (env ++ τ) a
+before_same [] σ τ a h = h
+before_same (p ∷ env) σ τ a h = by (bytes_eq p.1 a) (before_same env σ τ a h)
+  where
+    by : (t : Bool) → type_for (env ++ σ) a ≡ type_for (env ++ τ) a → unwrap_or (cond t (Some p.0) (type_lookup (env ++ σ) a)) (TyVar a) ≡ unwrap_or (cond t (Some p.0) (type_lookup (env ++ τ) a)) (TyVar a)
+    by true r = refl
+    by false r = r
 
 -- the type of a variable of a slot of type t
 abbrev variable_type : (types : ℕ → TypeTree) (t : TypeTree) (cell : Cell) → CellHolds types t cell → ℕ → TypeTree
@@ -215,14 +226,26 @@ variable_type types t (Link j) h k = t
 variable_type types t (Rigid a) h k = t
 variable_type types t (App c parts) h k = t
 variable_type types t (Generic ty) (pairs, e) k = type_for pairs (get_or (tyvars ty) k [])
+variable_type types t (Part part) (pairs, e) k = type_for pairs (get_or (tyvars part.ty) k [])
 
-numbered_cell : (types types' : ℕ → TypeTree) (row base : ℕ) (t t' : TypeTree) (cell : Cell) (holds : CellHolds types t cell) → t ≡ t' → IsCounted row cell →
+-- where the slots of some names stand before
+env_same : (types types' : ℕ → TypeTree) (n base : ℕ) (names : List (List ℕ)) (σ τ : List (TypeTree × List ℕ)) (ty : TypeTree) → Agree n types types' → base + length names ≤ n →
+    ((a : List ℕ) → is_among (type_names ty) a ≡ true → type_for σ a ≡ type_for τ a) → type_subst (pairs_from types base names ++ σ) ty ≡ type_subst (pairs_from types' base names ++ τ) ty
+env_same types types' n base names σ τ ty agree le h =
+    ap (λ (env : List (TypeTree × List ℕ)). type_subst (env ++ σ) ty) (pairs_agree n base names types types' agree le)
+    ∙ subst_same (pairs_from types' base names ++ σ) (pairs_from types' base names ++ τ) ty (λ a m. before_same (pairs_from types' base names) σ τ a (h a m))
+
+numbered_cell : (types types' : ℕ → TypeTree) (n row base : ℕ) (i : ℕ) (t t' : TypeTree) (cell : Cell) (holds : CellHolds types t cell) → Agree n types types' → IsCellIn n i cell → t ≡ t' → IsCounted row cell →
     ((k : ℕ) → k < row → types' (base + k) ≡ variable_type types t cell holds k) → IsNumberedAt types' base t' cell
-numbered_cell types types' row base t t' Unknown holds same counted h = tt
-numbered_cell types types' row base t t' (Link j) holds same counted h = tt
-numbered_cell types types' row base t t' (Rigid a) holds same counted h = tt
-numbered_cell types types' row base t t' (App c parts) holds same counted h = tt
-numbered_cell types types' row base t t' (Generic ty) (pairs, e) same counted h =
+numbered_cell types types' n row base i t t' Unknown holds agree in' same counted h = tt
+numbered_cell types types' n row base i t t' (Link j) holds agree in' same counted h = tt
+numbered_cell types types' n row base i t t' (Rigid a) holds agree in' same counted h = tt
+numbered_cell types types' n row base i t t' (App c parts) holds agree in' same counted h = tt
+numbered_cell types types' n row base i t t' (Part part) (pairs, e) agree in' same counted h =
+    sym same ∙ e
+    ∙ env_same types types' n part.base (bound_names part) pairs (pairs_from types' base (tyvars part.ty)) part.ty agree in'.row_in
+    (λ a m. sym (named_types pairs types' base (tyvars part.ty) a (λ k lt. h k (omega (arith, lt, counted))) (covers_all part.ty a m)))
+numbered_cell types types' n row base i t t' (Generic ty) (pairs, e) agree in' same counted h =
     sym same ∙ e
     ∙ sym (subst_same (pairs_from types' base (tyvars ty)) pairs ty
     (λ a m. named_types pairs types' base (tyvars ty) a (λ k lt. h k (omega (arith, lt, counted))) (covers_all ty a m)))
@@ -249,7 +272,7 @@ numbered cells numbering types graph is r =
       respects_agree cells types types' graph agree r,
       record {
         cell = λ i. elim (cases_lt i n) [
-          | inl lt ↦ numbered_cell types types' row (base_at numbering i) (types i) (types' i) (cell_at cells i) (r.cell i) (agree.agree i lt) (is.counted i) (in_row i)
+          | inl lt ↦ numbered_cell types types' n row (base_at numbering i) i (types i) (types' i) (cell_at cells i) (r.cell i) agree (graph.cell_in i) (agree.agree i lt) (is.counted i) (in_row i)
           | inr ge ↦ rw (get_or_past cells i Unknown ge) tt
         ];
       },

@@ -11,10 +11,10 @@ use Rattle.hol_types.specs.Names.{is_among, type_names}
 use Rattle.hol_types.specs.Subst.{type_subst, type_for}
 use Rattle.hol_infer.specs.Typing.{IsGenericInstance}
 use Rattle.hol_infer.specs.declared.cell.Cell.{Cell}
-use Rattle.hol_infer.specs.declared.cell.Cell.TheVariants.{Unknown, Link, Rigid, App, Generic}
+use Rattle.hol_infer.specs.declared.cell.Cell.TheVariants.{Unknown, Link, Rigid, App, Generic, Part}
 use Rattle.hol_infer.specs.declared.generate.Graph.{Graph}
-use Rattle.hol_infer.specs.Graph.{CellHolds, cell_at, Respects, IsGraph, IsCellIn, AreIn, IsExpandedCell, IsGenericCell, generic_weight, generics, SameSolutions}
-use Rattle.hol_infer.specs.Generate.{Solves, slots, IsWellFormed, Agree, AddsUnknown, BuildsTypes, pairs_from}
+use Rattle.hol_infer.specs.Graph.{pairs_from, CellHolds, cell_at, Respects, IsGraph, IsCellIn, AreIn, IsExpandedCell, generic_weight, generics, SameSolutions}
+use Rattle.hol_infer.specs.Generate.{Solves, slots, IsWellFormed, Agree, AddsUnknown, BuildsTypes}
 use Rattle.hol_infer.specs.Expanding.{Refines, BuildsInstance, Expands}
 use Rattle.hol_infer.proofs.Growing.{solves_agree}
 use Rattle.hol_infer.proofs.Extending.{agree_trans, agree_refl, grows_trans, subst_list}
@@ -67,8 +67,9 @@ expanded_counts (Link j) h = refl
 expanded_counts (Rigid a) h = refl
 expanded_counts (App d parts) h = refl
 expanded_counts (Generic ty) h = absurd h
+expanded_counts (Part part) h = absurd h
 
-weights_none : (cells : List Cell) → All IsExpandedCell cells → generics cells ≡ 0
+pub weights_none : (cells : List Cell) → All IsExpandedCell cells → generics cells ≡ 0
 weights_none [] all = refl
 weights_none (c ∷ cells) all =
     let r = weights_none cells (All-tail IsExpandedCell c cells all) in
@@ -78,10 +79,10 @@ weights_none (c ∷ cells) all =
 
 -- ---- the cell of an instance
 
-variable_for : (t : TypeTree) (a : List ℕ) → type_subst ((t, a) ∷ []) (TyVar a) ≡ t
+pub variable_for : (t : TypeTree) (a : List ℕ) → type_subst ((t, a) ∷ []) (TyVar a) ≡ t
 variable_for t a = rw ((bytes_eq-Decides a a).1 refl) refl
 
-pub builds_variable : (g : Graph) (ty : TypeTree) (a : List ℕ) → TyVar a ≡ ty → IsWellFormed g → BuildsInstance g g Unknown ty
+pub builds_variable : (g : Graph) (ty : TypeTree) (a : List ℕ) → TyVar a ≡ ty → IsWellFormed g → BuildsInstance g g Unknown (Generic ty)
 builds_variable g ty a e w = record {
   well_formed = w;
   extra = [];
@@ -100,7 +101,7 @@ app_ap c ss ts e = cc
 pub builds_constructed : (g g1 h : Graph) (c : List ℕ) (args : List TypeTree) (names : List (List ℕ)) (base : ℕ) (parts : List ℕ) (cell : Cell) → IsWellFormed g →
     ((a : List ℕ) → is_among (type_names (TyApp c (type_list args))) a ≡ true → is_among names a ≡ true) → base ≡ slots g → AddsUnknown g g1 (length names) → BuildsTypes g1 h names base parts args →
     ((types : ℕ → TypeTree) (t : TypeTree) → CellHolds types t cell ↔ (t ≡ TyApp c (type_list (map types parts)))) → ((i : ℕ) → IsCellIn (slots h) i cell) → IsExpandedCell cell →
-    BuildsInstance g h cell (TyApp c (type_list args))
+    BuildsInstance g h cell (Generic (TyApp c (type_list args)))
 builds_constructed g g1 h c args names base parts cell w covers base_is adds builds is in' plain = record {
   well_formed = builds.well_formed;
   extra = (grows_trans g g1 h adds.grows builds.grows).extra;
@@ -134,12 +135,12 @@ builds_constructed g g1 h c args names base parts cell w covers base_is adds bui
       (x.0, agree2, x.2, (is x.0 t).1 t_parts);
 }
 
-pub builds_same : (g h : Graph) (cell : Cell) (s t : TypeTree) → s ≡ t → BuildsInstance g h cell s → BuildsInstance g h cell t
-builds_same g h cell s t e b = subst (λ (u : TypeTree). BuildsInstance g h cell u) e b
+pub builds_same : (g h : Graph) (cell : Cell) (s t : TypeTree) → s ≡ t → BuildsInstance g h cell (Generic s) → BuildsInstance g h cell (Generic t)
+builds_same g h cell s t e b = subst (λ (u : TypeTree). BuildsInstance g h cell (Generic u)) e b
 
 -- ---- a slot whose generic type's parts get slots
 
-slots_opened : (g g0 : Graph) (slot : ℕ) → g0.cells.items ≡ set g.cells.items slot Unknown → slots g0 ≡ slots g
+pub slots_opened : (g g0 : Graph) (slot : ℕ) → g0.cells.items ≡ set g.cells.items slot Unknown → slots g0 ≡ slots g
 slots_opened g g0 slot cells0 = ap length cells0 ∙ length-set g.cells.items slot Unknown
 
 -- the slot without its cell
@@ -152,9 +153,9 @@ opened g g0 slot w slot_in cells0 pending0 names0 =
       names_in = λ a s e. (let l = w.names_in a s (rw names0 at e) in omega (arith, l, len));
     }
 
-module _ (g g0 g1 h : Graph) (slot : ℕ) (ty : TypeTree) (cell : Cell) (w : IsWellFormed g) (slot_in : slot < slots g) (generic : cell_at g.cells.items slot ≡ Generic ty)
+module _ (g g0 g1 h : Graph) (slot : ℕ) (old cell : Cell) (w : IsWellFormed g) (slot_in : slot < slots g) (generic : cell_at g.cells.items slot ≡ old)
     (cells0 : g0.cells.items ≡ set g.cells.items slot Unknown) (pending0 : g0.pending.items ≡ g.pending.items) (names0 : g0.names.items ≡ g.names.items)
-    (builds : BuildsInstance g0 g1 cell ty)
+    (builds : BuildsInstance g0 g1 cell old)
     (cells1 : h.cells.items ≡ set g1.cells.items slot cell) (pending1 : h.pending.items ≡ g1.pending.items) (names1 : h.names.items ≡ g1.names.items) where
   slots0 : slots g0 ≡ slots g
   slots0 = slots_opened g g0 slot cells0
@@ -188,7 +189,7 @@ module _ (g g0 g1 h : Graph) (slot : ℕ) (ty : TypeTree) (cell : Cell) (w : IsW
         names = λ a k e. s.names a k (rw names1 e);
       } in
       let x = builds.sound type_of types s1 in
-      let instance : IsGenericInstance ty (types slot) = x.1 (types slot) (holds_set g1.cells.items slot cell types in1 r) in
+      let instance : CellHolds types (types slot) old = x.1 (types slot) (holds_set g1.cells.items slot cell types in1 r) in
       let r0 : Respects (set g.cells.items slot Unknown) types = subst (λ (xs : List Cell). Respects xs types) cells0 x.0.solution.respects in
       record {
         solution = record { respects = respects_unset g.cells.items slot Unknown types r0 (rw generic instance); equations = rw pending0 at x.0.solution.equations };
@@ -202,7 +203,7 @@ module _ (g g0 g1 h : Graph) (slot : ℕ) (ty : TypeTree) (cell : Cell) (w : IsW
         solution = record { respects = subst (λ (xs : List Cell). Respects xs types) (sym cells0) r0; equations = rw pending0 s.solution.equations };
         names = λ a k e. s.names a k (rw names0 at e);
       } in
-      let instance : IsGenericInstance ty (types slot) = rw generic at (s.solution.respects.cell slot) in
+      let instance : CellHolds types (types slot) old = rw generic at (s.solution.respects.cell slot) in
       let x = builds.complete type_of types (types slot) s0 instance in
       let agree : Agree (slots g) types x.0 = record { agree = λ i lt. x.1.agree i (omega (arith, lt, slots0)) } in
       let holds : CellHolds x.0 (x.0 slot) cell = subst (λ (u : TypeTree). CellHolds x.0 u cell) (agree.agree slot slot_in) x.3 in
@@ -225,20 +226,6 @@ module _ (g g0 g1 h : Graph) (slot : ℕ) (ty : TypeTree) (cell : Cell) (w : IsW
         let e = builds.smaller in
         let f : generics g0.cells.items ≡ generics (set g.cells.items slot Unknown) = ap generics cells0 in
         let k = sum_by-set generic_weight g.cells.items slot Unknown Unknown slot_in in
-        let l : generic_weight (cell_at g.cells.items slot) ≡ type_size ty = ap generic_weight generic in
+        let l : generic_weight (cell_at g.cells.items slot) ≡ generic_weight old = ap generic_weight generic in
         omega (arith, a, b, d, e, f, k, l);
   }
-
--- a slot with no generic type stays
-pub expands_none : (g : Graph) (slot : ℕ) → IsWellFormed g → IsExpandedCell (cell_at g.cells.items slot) → Expands g g slot
-expands_none g slot w plain = record {
-  refines = refines_refl g w;
-  fewer = λ at. absurd (apart (cell_at g.cells.items slot) plain at.1);
-}
-  where
-    apart : (c : Cell) → IsExpandedCell c → IsGenericCell c → ⊥
-    apart Unknown e h = h
-    apart (Link j) e h = h
-    apart (Rigid a) e h = h
-    apart (App d parts) e h = h
-    apart (Generic ty) e h = e

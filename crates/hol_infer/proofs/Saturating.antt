@@ -1,21 +1,23 @@
 -- Finding the shapes of the slots.
-use Rattle.std.proofs.Common.{◌≡◌, ℕ, zero, suc, ◌+◌, ◌*◌, ◌<◌, ◌≤◌, inl, inr, List, [], ◌∷◌, length, map, set, refl, sym, ◌∙◌, ap, subst, arith, Bool, true, false, get_or-set_same, get_or-set_other, Option, Some, None}
+use Rattle.std.proofs.Common.{◌≡◌, ℕ, zero, suc, ◌+◌, ◌*◌, ◌<◌, ◌≤◌, inl, inr, List, [], ◌∷◌, ◌++◌, length, map, set, get_or, refl, sym, ◌∙◌, ap, subst, arith, Bool, true, false, get_or-set_same, get_or-set_other, Option, Some, None}
 use Rattle.std.specs.List.{All, Contains}
 use Rattle.std.proofs.lemmas.Bool.{cases_eq, cases_lt}
 use Rattle.std.proofs.lemmas.List.{get_or_past}
 use Rattle.std.proofs.lemmas.List.Elements.{All-head, All-tail, All-contains}
 use Rattle.std.proofs.Math.Nat.{mul-le-mul_right}
-use Rattle.std.proofs.lemmas.List.Sums.{sum_by-set}
-use Rattle.hol_types.specs.Tree.{TypeTree, TypeList, TyApp, more_types, type_list, type_size, types_size}
-use Rattle.hol_types.specs.Names.{tyvars}
-use Rattle.hol_infer.specs.Shape.{ShapeTree, Hole, shape_list, fill, fills}
+use Rattle.hol_types.specs.Tree.{TypeTree, TypeList, TyVar, TyApp, more_types, type_list, type_size, types_size}
+use Rattle.hol_types.specs.Names.{tyvars, type_names, is_among}
+use Rattle.hol_types.specs.Subst.{type_subst}
+use Rattle.hol_infer.specs.Shape.{ShapeTree, Hole, shape_list, fill, fills, part_shape}
 use Rattle.hol_infer.specs.declared.cell.Cell.{Cell}
-use Rattle.hol_infer.specs.declared.cell.Cell.TheVariants.{Unknown, Link, Rigid, App, Generic}
+use Rattle.hol_infer.specs.declared.cell.Cell.TheVariants.{Unknown, Link, Rigid, App, Generic, Part}
 use Rattle.hol_infer.specs.declared.numbering.Numbering.{Numbering}
-use Rattle.hol_infer.specs.Graph.{cell_at, Respects, CellHolds, IsGraph, IsCellIn}
-use Rattle.hol_infer.specs.Generate.{pairs_from}
+use Rattle.hol_infer.specs.declared.cell.GenericPart.{GenericPart}
+use Rattle.hol_infer.specs.Graph.{pairs_from, part_pairs, bound_names, IsApplied, cell_at, Respects, CellHolds, IsGraph, IsCellIn}
+use Rattle.hol_infer.specs.Linear.{AreDistinct}
 use Rattle.hol_infer.specs.Numbering.{base_at, limit_of, IsCounted, IsNumbering, IsNumberedAt, IsNumbered}
-use Rattle.hol_infer.specs.Found.{found_at, ArePartsFound, BuiltFrom, IsBlocked, HasRigidNames, HaveRigidNames, AreHolesBelow, AllHolesBelow, IsBuilt, IsStuckAt, IsStuck, none_weight, missing, shape_at, types_at, AreGeneral}
+use Rattle.hol_infer.specs.Found.{found_at, ArePartsFound, BuiltFrom, IsBlocked, HasRigidNames, HaveRigidNames, AreHolesBelow, AllHolesBelow, IsBuilt, IsStuckAt, IsStuck, missing, shape_at, types_at, AreGeneral}
+use Rattle.hol_infer.proofs.Parts.{row_more, row_holds, bound_filled, part_rigid, AreShapes, shapes_from, part_below, row_smaller}
 use Rattle.hol_infer.proofs.Numbers.{filled, instance_rigid, instance_below, instance_fits, numbered}
 
 -- a sweep that has come to slot n
@@ -58,6 +60,9 @@ built_from_more numbering found at i s t Unknown none b = b
 built_from_more numbering found at i s t (Link j) none b = keeps found at j s t none b
 built_from_more numbering found at i s t (Rigid a) none b = b
 built_from_more numbering found at i s t (Generic ty) none b = b
+built_from_more numbering found at i s t (Part part) none (bound, (row, e), f) =
+    let more = row_more found (set found at (Some t)) part.ty (λ k u some. keeps found at k u t none some) part.base (bound_names part) row in
+    (bound, (more.0, e ∙ more.1), f)
 built_from_more numbering found at i s t (App c parts) none (shapes, p, e) = (shapes, parts_keep found at t parts.items shapes none p, e)
 
 -- the types of parts are instances of their shapes
@@ -75,6 +80,10 @@ built_from_general : (cells : List Cell) (numbering : Numbering) (found : List (
 built_from_general cells numbering found i s Unknown types b r m holds numbers e = sym (ap (fill types) e)
 built_from_general cells numbering found i s (Link j) types b r m holds numbers e = holds ∙ b.general types r m j s e
 built_from_general cells numbering found i s (Rigid a) types b r m holds numbers e = holds ∙ sym (ap (fill types) e)
+built_from_general cells numbering found i s (Part part) types b r m holds numbers (bound, (row, e), f) =
+    let rows = row_holds types types found part.ty part.base (bound_names part) row (λ k u lo hi some. b.general types r m k u some) in
+    numbers ∙ sym (bound_filled types types found part.ty part.base (bound_names part) (base_at numbering i) rows)
+    ∙ sym (ap (λ (ps : List (ShapeTree × List ℕ)). fill types (part_shape ps (base_at numbering i) (tyvars part.ty) part.ty)) e) ∙ sym (ap (fill types) f)
 built_from_general cells numbering found i s (Generic ty) types b r m holds numbers e = numbers ∙ sym (filled types (base_at numbering i) ty) ∙ sym (ap (fill types) e)
 built_from_general cells numbering found i s (App c parts) types b r m holds numbers (shapes, p, e) =
     holds ∙ ap (TyApp c) (parts_general cells numbering found types b r m parts.items shapes p) ∙ sym (ap (fill types) e)
@@ -91,6 +100,10 @@ built_from_rigid : (cells : List Cell) (numbering : Numbering) (found : List (Op
 built_from_rigid cells numbering found n i s Unknown b in' e = subst HasRigidNames (sym e) tt
 built_from_rigid cells numbering found n i s (Link j) b in' e = b.rigid j s e
 built_from_rigid cells numbering found n i s (Rigid a) b in' e = subst HasRigidNames (sym e) in'
+built_from_rigid cells numbering found n i s (Part part) b in' (bound, (row, e), f) =
+    subst HasRigidNames (sym f)
+    (part_rigid bound (base_at numbering i) (tyvars part.ty) part.ty
+    (subst (AreShapes HasRigidNames) (sym e) (shapes_from HasRigidNames found part.ty b.rigid part.base (bound_names part) row)))
 built_from_rigid cells numbering found n i s (Generic ty) b in' e = subst HasRigidNames (sym e) (instance_rigid (base_at numbering i) (tyvars ty) ty)
 built_from_rigid cells numbering found n i s (App c parts) b in' (shapes, p, e) = subst HasRigidNames (sym e) (parts_rigid cells numbering found b parts.items shapes p)
 
@@ -106,6 +119,10 @@ built_from_below : (cells : List Cell) (numbering : Numbering) (found : List (Op
 built_from_below cells numbering found i s Unknown lt counted b e = subst (AreHolesBelow (limit_of numbering)) (sym e) (omega (arith, lt))
 built_from_below cells numbering found i s (Link j) lt counted b e = b.below j s e
 built_from_below cells numbering found i s (Rigid a) lt counted b e = subst (AreHolesBelow (limit_of numbering)) (sym e) tt
+built_from_below cells numbering found i s (Part part) lt counted b (bound, (row, e), f) =
+    subst (AreHolesBelow (limit_of numbering)) (sym f)
+    (part_below (limit_of numbering) (base_at numbering i) bound part.ty (instance_fits numbering i (length (tyvars part.ty)) lt counted)
+    (subst (AreShapes (AreHolesBelow (limit_of numbering))) (sym e) (shapes_from (AreHolesBelow (limit_of numbering)) found part.ty b.below part.base (bound_names part) row)))
 built_from_below cells numbering found i s (Generic ty) lt counted b e = subst (AreHolesBelow (limit_of numbering)) (sym e) (instance_below (limit_of numbering) (base_at numbering i) ty (instance_fits numbering i (length (tyvars ty)) lt counted))
 built_from_below cells numbering found i s (App c parts) lt counted b (shapes, p, e) = subst (AreHolesBelow (limit_of numbering)) (sym e) (parts_below cells numbering found b parts.items shapes p)
 
@@ -136,12 +153,6 @@ is_built_more cells numbering found at t lt len none graph is b new =
       ];
     }
 
-pub missing_less : (found : List (Option ShapeTree)) (at : ℕ) (t : ShapeTree) → at < length found → found_at found at ≡ None → missing (set found at (Some t)) < missing found
-missing_less found at t lt none =
-    let a = sum_by-set none_weight found at (Some t) None lt in
-    let g : none_weight (found_at found at) ≡ 1 = ap none_weight none in
-    omega (arith, a, g)
-
 smaller : (s t n i j : ℕ) → s + 1 ≤ t → j < n → s * (n + 1) + j < t * (n + 1) + i
 smaller s t n i j h l = let e : (s + 1) * (n + 1) ≤ t * (n + 1) = mul-le-mul_right (n + 1) h in omega arith
 
@@ -156,10 +167,24 @@ module _ (cells : List Cell) (found : List (Option ShapeTree)) (graph : IsGraph 
   abbrev weight : ℕ → ℕ
   weight i = type_size (types i) * (length cells + 1) + i
 
+  part_smaller : (part : GenericPart) (t : TypeTree) (pairs : List (TypeTree × List ℕ)) (k : ℕ) → IsApplied part.ty → AreDistinct (bound_names part) → k < length (bound_names part) → is_among (type_names part.ty) (get_or (bound_names part) k []) ≡ true →
+      t ≡ type_subst (part_pairs types part ++ pairs) part.ty → type_size (types (part.base + k)) + 1 ≤ type_size t
+  part_smaller part t pairs k applied distinct k_in stands e = by part.ty applied stands e
+    where
+      by : (ty : TypeTree) → IsApplied ty → is_among (type_names ty) (get_or (bound_names part) k []) ≡ true → t ≡ type_subst (part_pairs types part ++ pairs) ty → type_size (types (part.base + k)) + 1 ≤ type_size t
+      by (TyVar a) applied' m f = absurd applied'
+      by (TyApp c ts) applied' m f = row_smaller types pairs part.base (bound_names part) c ts t k distinct k_in m f
+
   blocked_falls : (fuel i : ℕ) (cell : Cell) →
       ((j : ℕ) → j < length cells → weight j < fuel → found_at found j ≡ None → ⊥) →
       i < length cells → weight i < suc fuel → IsCellIn (length cells) i cell → CellHolds types (types i) cell → IsBlocked found cell → ⊥
   blocked_falls fuel i (Generic ty) below lt less in' holds blocked = blocked
+  blocked_falls fuel i (Part part) below lt less in' (pairs, e) (k, k_in, stands, none) =
+      let p = part_smaller part (types i) pairs k in'.applied in'.distinct k_in stands e in
+      let row = in'.row_in in
+      let j_in : part.base + k < length cells = omega (arith, k_in, row) in
+      let w : weight (part.base + k) < weight i = smaller (type_size (types (part.base + k))) (type_size (types i)) (length cells) i (part.base + k) p j_in in
+      below (part.base + k) j_in (omega arith) none
   blocked_falls fuel i Unknown below lt less in' holds blocked = blocked
   blocked_falls fuel i (Link j) below lt less in' holds blocked =
       let e : weight j ≡ type_size (types i) * (length cells + 1) + j = ap (λ (t : TypeTree). type_size t * (length cells + 1) + j) (sym holds) in
@@ -179,15 +204,6 @@ module _ (cells : List Cell) (found : List (Option ShapeTree)) (graph : IsGraph 
   pub stuck_untypable : (i : ℕ) → i < length cells → found_at found i ≡ None → ⊥
   stuck_untypable i lt none = none_below (weight i + 1) i lt (omega arith) none
 
--- before anything is found
-pub is_built_none : (cells : List Cell) (numbering : Numbering) (found : List (Option ShapeTree)) → ((i : ℕ) → found_at found i ≡ None) → IsBuilt cells numbering found
-is_built_none cells numbering found none = record {
-  built = λ i t p. (let w : found_at found i ≡ None = none i in absurd (none_some t (sym w ∙ p)));
-  general = λ types r m i t p. (let w : found_at found i ≡ None = none i in absurd (none_some t (sym w ∙ p)));
-  rigid = λ i t p. (let w : found_at found i ≡ None = none i in absurd (none_some t (sym w ∙ p)));
-  below = λ i t p. (let w : found_at found i ≡ None = none i in absurd (none_some t (sym w ∙ p)));
-}
-
 -- all shapes are found
 module _ (cells : List Cell) (numbering : Numbering) (found : List (Option ShapeTree)) (ss : List ShapeTree) (graph : IsGraph cells) (is : IsNumbering cells numbering) (b : IsBuilt cells numbering found) (len : length ss ≡ length cells) (all : (i : ℕ) → i < length cells → found_at found i ≡ Some (shape_at ss i)) where
   parts_hold : (at : ℕ → TypeTree) (parts : List ℕ) (shapes : List ShapeTree) → All (λ p. p < length cells) parts → ArePartsFound found parts shapes → fills at (shape_list shapes) ≡ type_list (map (types_at ss at) parts)
@@ -204,6 +220,14 @@ module _ (cells : List Cell) (numbering : Numbering) (found : List (Option Shape
   cell_holds at i Unknown lt in' e = tt
   cell_holds at i (Link j) lt in' e = ap (fill at) (some_same (shape_at ss i) (shape_at ss j) (sym e ∙ all j (omega arith)))
   cell_holds at i (Rigid a) lt in' e = ap (fill at) e
+  cell_holds at i (Part part) lt in' (bound, (row, e), f) =
+      let fits = in'.row_in in
+      let rows = row_holds (types_at ss at) at found part.ty part.base (bound_names part) row
+      (λ k u lo hi some. ap (fill at) (some_same (shape_at ss k) u (sym (all k (omega (arith, hi, fits))) ∙ some))) in (
+        pairs_from at (base_at numbering i) (tyvars part.ty),
+        ap (fill at) f ∙ ap (λ (ps : List (ShapeTree × List ℕ)). fill at (part_shape ps (base_at numbering i) (tyvars part.ty) part.ty)) e
+            ∙ bound_filled (types_at ss at) at found part.ty part.base (bound_names part) (base_at numbering i) rows,
+      )
   cell_holds at i (Generic ty) lt in' e = (pairs_from at (base_at numbering i) (tyvars ty), ap (fill at) e ∙ filled at (base_at numbering i) ty)
   cell_holds at i (App c parts) lt in' (shapes, p, e) = ap (fill at) e ∙ ap (TyApp c) (parts_hold at parts.items shapes in' p)
 

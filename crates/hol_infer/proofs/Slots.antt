@@ -84,15 +84,6 @@ slot_found xs a c s k P old new e = by (slot_of xs c) refl
     by None f = let q = slot_new xs a c s k f e in subst (λ (j : ℕ). P c j) q.1 (subst (λ (n : List ℕ). P n s) q.0 new)
     by (Some j) f = let q : Some j ≡ Some k = sym (slot_before xs ((a, s) ∷ []) c j f) ∙ e in let i : j ≡ k = cc in subst (λ (n : ℕ). P c n) i (old c j f)
 
-pub finds_name_old : (g : Graph) (a : List ℕ) (slot : ℕ) → IsWellFormed g → slot_of g.names.items a ≡ Some slot → FindsName g g a slot
-finds_name_old g a slot w e = record {
-  well_formed = w;
-  more = omega arith;
-  slot_in = w.names_in a slot e;
-  sound = λ type_of types s. (s, s.names a slot e);
-  complete = λ type_of types s. (types, record { agree = λ i lt. refl }, s);
-}
-
 pub finds_name_new : (g g1 h : Graph) (a : List ℕ) (slot : ℕ) → IsWellFormed g → slot_of g.names.items a ≡ None → IsFresh g g1 slot Unknown →
     h.cells.items ≡ g1.cells.items → h.pending.items ≡ g1.pending.items → h.names.items ≡ g1.names.items ++ (a, slot) ∷ [] → FindsName g h a slot
 finds_name_new g g1 h a slot w none fresh cells pending names =

@@ -7,9 +7,6 @@ use Rattle.hol_infer.specs.declared.cell.Equation.{Equation}
 use Rattle.hol_infer.specs.Graph.{Respects, EquationHolds, IsSolution, SameSolutions, HasNoSolution}
 use Rattle.hol_infer.proofs.Growing.{all_last}
 
-pub same_solutions_refl : (cells : List Cell) (pending : List Equation) → SameSolutions cells pending cells pending
-same_solutions_refl cells pending types = (λ s. s, λ s. s)
-
 pub same_solutions_trans : (a b c : List Cell) (p q r : List Equation) → SameSolutions a p b q → SameSolutions b q c r → SameSolutions a p c r
 same_solutions_trans a b c p q r h g types = (λ s. (g types).0 ((h types).0 s), λ s. (h types).1 ((g types).1 s))
 

@@ -68,11 +68,11 @@ apart_all t (b ∷ names) h a e = by (bytes_eq b a) refl (apart_all t names (λ 
 -- ---- pairs for all
 
 -- the names with what the pairs put for them, before other pairs
-abbrev restricted : List (TypeTree × List ℕ) → List (List ℕ) → List (TypeTree × List ℕ) → List (TypeTree × List ℕ)
+abbrev pub restricted : List (TypeTree × List ℕ) → List (List ℕ) → List (TypeTree × List ℕ) → List (TypeTree × List ℕ)
 restricted pairs [] rest = rest
 restricted pairs (b ∷ names) rest = (type_for pairs b, b) ∷ restricted pairs names rest
 
-restricted_in : (pairs rest : List (TypeTree × List ℕ)) (names : List (List ℕ)) (a : List ℕ) → is_among names a ≡ true → type_for (restricted pairs names rest) a ≡ type_for pairs a
+pub restricted_in : (pairs rest : List (TypeTree × List ℕ)) (names : List (List ℕ)) (a : List ℕ) → is_among names a ≡ true → type_for (restricted pairs names rest) a ≡ type_for pairs a
 restricted_in pairs rest [] a h = absurd (cc)
 restricted_in pairs rest (b ∷ names) a h = by (bytes_eq b a) refl (restricted_in pairs rest names a)
   where
@@ -80,18 +80,18 @@ restricted_in pairs rest (b ∷ names) a h = by (bytes_eq b a) refl (restricted_
     by true e r = rw e (ap (type_for pairs) ((bytes_eq-Decides b a).0 e))
     by false e r = rw e (r (among_after a b names e h))
 
-restricted_out : (pairs rest : List (TypeTree × List ℕ)) (names : List (List ℕ)) (a : List ℕ) → is_among names a ≡ false → type_for (restricted pairs names rest) a ≡ type_for rest a
+pub restricted_out : (pairs rest : List (TypeTree × List ℕ)) (names : List (List ℕ)) (a : List ℕ) → is_among names a ≡ false → type_for (restricted pairs names rest) a ≡ type_for rest a
 restricted_out pairs rest [] a h = refl
 restricted_out pairs rest (b ∷ names) a h =
     let both = both_false (bytes_eq a b) (is_among names a) h in
     let other : bytes_eq b a ≡ false = turned b a both.0 in
     rw other (restricted_out pairs rest names a both.1)
 
-not_both : (p q : Bool) → (p ≡ true → q ≡ false) → q ≡ true → p ≡ false
+pub not_both : (p q : Bool) → (p ≡ true → q ≡ false) → q ≡ true → p ≡ false
 not_both true q h e = let z : true ≡ false = sym e ∙ h refl in absurd (cc)
 not_both false q h e = refl
 
-more_same : (t t' : TypeTree) (ts ts' : TypeList) → t ≡ t' → ts ≡ ts' → more_types t ts ≡ more_types t' ts'
+pub more_same : (t t' : TypeTree) (ts ts' : TypeList) → t ≡ t' → ts ≡ ts' → more_types t ts ≡ more_types t' ts'
 more_same t t' ts ts' p q = cc
 
 -- types that are instances each by itself are so by the same pairs
@@ -115,14 +115,14 @@ instances_push [] (s ∷ ts) g t is h = absurd is
 instances_push (f ∷ tys) [] g t is h = absurd is
 instances_push (f ∷ tys) (s ∷ ts) g t is h = (is.0, instances_push tys ts g t is.1 h)
 
-sizes_push : (tys : List TypeTree) (g : TypeTree) → types_size (type_list (tys ++ g ∷ [])) ≡ types_size (type_list tys) + type_size g
+pub sizes_push : (tys : List TypeTree) (g : TypeTree) → types_size (type_list (tys ++ g ∷ [])) ≡ types_size (type_list tys) + type_size g
 sizes_push [] g = omega arith
 sizes_push (t ∷ tys) g = let r = sizes_push tys g in omega (arith, r)
 
-append_same : (xs xs' ys ys' : List TypeTree) → xs ≡ xs' → ys ≡ ys' → xs ++ ys ≡ xs' ++ ys'
+pub append_same : (xs xs' ys ys' : List TypeTree) → xs ≡ xs' → ys ≡ ys' → xs ++ ys ≡ xs' ++ ys'
 append_same xs xs' ys ys' p q = cc
 
-one_same : (s t : TypeTree) → s ≡ t → s ∷ [] ≡ t ∷ []
+pub one_same : (s t : TypeTree) → s ≡ t → s ∷ [] ≡ t ∷ []
 one_same s t p = cc
 
 pub parts_none : (g : Graph) → IsWellFormed g → BuildsParts g g [] []
@@ -190,12 +190,12 @@ parts_step g g1 h parts parts' tys i part ty ty' lt e p n b fresh =
 pub parts_all : (g h : Graph) (parts : List ℕ) (tys : List TypeTree) (i : ℕ) → length tys ≤ i → BuildsParts g h parts (take i tys) → BuildsParts g h parts tys
 parts_all g h parts tys i le b = subst (λ (ts : List TypeTree). BuildsParts g h parts ts) (take_all i tys le) b
 
-app_ap : (c : List ℕ) (ss ts : List TypeTree) → ss ≡ ts → TyApp c (type_list ss) ≡ TyApp c (type_list ts)
+pub app_ap : (c : List ℕ) (ss ts : List TypeTree) → ss ≡ ts → TyApp c (type_list ss) ≡ TyApp c (type_list ts)
 app_ap c ss ts e = cc
 
 pub builds_split : (g h : Graph) (c : List ℕ) (parts : List ℕ) (tys : List TypeTree) (cell : Cell) → ArePairwiseApart tys → BuildsParts g h parts tys →
     ((types : ℕ → TypeTree) (t : TypeTree) → CellHolds types t cell ↔ (t ≡ TyApp c (type_list (map types parts)))) → ((i : ℕ) → IsCellIn (slots h) i cell) → generic_weight cell ≡ 0 →
-    BuildsInstance g h cell (TyApp c (type_list tys))
+    BuildsInstance g h cell (Generic (TyApp c (type_list tys)))
 builds_split g h c parts tys cell apart b is in' plain = record {
   well_formed = b.well_formed;
   extra = b.extra;

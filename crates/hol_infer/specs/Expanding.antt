@@ -6,7 +6,7 @@ use Rattle.hol_types.specs.Subst.{type_subst}
 use Rattle.hol_infer.specs.Typing.{IsGenericInstance}
 use Rattle.hol_infer.specs.declared.cell.Cell.{Cell}
 use Rattle.hol_infer.specs.declared.generate.Graph.{Graph}
-use Rattle.hol_infer.specs.Graph.{CellHolds, IsCellIn, IsGenericAt, generic_weight, generics}
+use Rattle.hol_infer.specs.Graph.{pairs_from, CellHolds, IsCellIn, IsGenericAt, IsBoundInstance, generic_weight, generics}
 use Rattle.hol_infer.specs.Generate.{Solves, slots, IsWellFormed, Agree}
 
 -- h has the solutions of g, with types for slots more
@@ -36,8 +36,41 @@ pub record BuildsParts (g h : Graph) (parts : List ℕ) (tys : List TypeTree) : 
   pub complete : (type_of : List ℕ → TypeTree) (types : ℕ → TypeTree) (pairs : List (TypeTree × List ℕ)) → Solves g type_of types →
       (types' : ℕ → TypeTree) × Agree (slots g) types types' × Solves h type_of types' × (map types' parts ≡ map (type_subst pairs) tys)
 
--- h is g with slots for the parts of an instance of the generic type, which has this cell
-pub record BuildsInstance (g h : Graph) (cell : Cell) (ty : TypeTree) : Type 0 where
+-- h is g with a slot for a type that is a part of an instance in which the slots from `base` on stand for the names
+pub record BuildsBound (g h : Graph) (names : List (List ℕ)) (base slot : ℕ) (ty : TypeTree) : Type 0 where
+  pub well_formed : IsWellFormed h
+  pub extra : List Cell
+  pub cells_are : h.cells.items ≡ g.cells.items ++ extra
+  pub pending_are : h.pending.items ≡ g.pending.items
+  pub names_are : h.names.items ≡ g.names.items
+  pub slot_in : slot < slots h
+  pub sizes : generics extra ≤ type_size ty
+  pub sound : (type_of : List ℕ → TypeTree) (types : ℕ → TypeTree) → Solves h type_of types → Solves g type_of types × IsBoundInstance types names base ty (types slot)
+  pub complete : (type_of : List ℕ → TypeTree) (types : ℕ → TypeTree) (pairs : List (TypeTree × List ℕ)) → Solves g type_of types →
+      (types' : ℕ → TypeTree) × Agree (slots g) types types' × Solves h type_of types' × (types' slot ≡ type_subst (pairs_from types base names ++ pairs) ty)
+
+-- the types are such parts of the generic ones, each by itself
+abbrev pub AreBoundInstances : (ℕ → TypeTree) → List (List ℕ) → ℕ → List TypeTree → List TypeTree → Type 0
+AreBoundInstances types names base [] [] = Unit {0}
+AreBoundInstances types names base [] (t ∷ ts) = ⊥
+AreBoundInstances types names base (g ∷ generics) [] = ⊥
+AreBoundInstances types names base (g ∷ generics) (t ∷ ts) = IsBoundInstance types names base g t × AreBoundInstances types names base generics ts
+
+-- the same for several types
+pub record BuildsAllBound (g h : Graph) (names : List (List ℕ)) (base : ℕ) (parts : List ℕ) (tys : List TypeTree) : Type 0 where
+  pub well_formed : IsWellFormed h
+  pub extra : List Cell
+  pub cells_are : h.cells.items ≡ g.cells.items ++ extra
+  pub pending_are : h.pending.items ≡ g.pending.items
+  pub names_are : h.names.items ≡ g.names.items
+  pub parts_in : All (λ p. p < slots h) parts
+  pub sizes : generics extra ≤ types_size (type_list tys)
+  pub sound : (type_of : List ℕ → TypeTree) (types : ℕ → TypeTree) → Solves h type_of types → Solves g type_of types × AreBoundInstances types names base tys (map types parts)
+  pub complete : (type_of : List ℕ → TypeTree) (types : ℕ → TypeTree) (pairs : List (TypeTree × List ℕ)) → Solves g type_of types →
+      (types' : ℕ → TypeTree) × Agree (slots g) types types' × Solves h type_of types' × (map types' parts ≡ map (type_subst (pairs_from types base names ++ pairs)) tys)
+
+-- h is g with slots for the parts of an instance of a generic type, whose slot had the cell `old`; now it has this cell
+pub record BuildsInstance (g h : Graph) (cell old : Cell) : Type 0 where
   pub well_formed : IsWellFormed h
   pub extra : List Cell
   pub cells_are : h.cells.items ≡ g.cells.items ++ extra
@@ -45,9 +78,9 @@ pub record BuildsInstance (g h : Graph) (cell : Cell) (ty : TypeTree) : Type 0 w
   pub names_are : h.names.items ≡ g.names.items
   pub cell_in : (i : ℕ) → IsCellIn (slots h) i cell
   -- what is still generic is smaller than the type
-  pub smaller : generics extra + generic_weight cell < type_size ty
-  pub sound : (type_of : List ℕ → TypeTree) (types : ℕ → TypeTree) → Solves h type_of types → Solves g type_of types × ((t : TypeTree) → CellHolds types t cell → IsGenericInstance ty t)
-  pub complete : (type_of : List ℕ → TypeTree) (types : ℕ → TypeTree) (t : TypeTree) → Solves g type_of types → IsGenericInstance ty t →
+  pub smaller : generics extra + generic_weight cell < generic_weight old
+  pub sound : (type_of : List ℕ → TypeTree) (types : ℕ → TypeTree) → Solves h type_of types → Solves g type_of types × ((t : TypeTree) → CellHolds types t cell → CellHolds types t old)
+  pub complete : (type_of : List ℕ → TypeTree) (types : ℕ → TypeTree) (t : TypeTree) → Solves g type_of types → CellHolds types t old →
       (types' : ℕ → TypeTree) × Agree (slots g) types types' × Solves h type_of types' × CellHolds types' t cell
 
 -- h is g where the parts of the slot's generic type have slots, if it has one

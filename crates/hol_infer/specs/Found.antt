@@ -1,14 +1,15 @@
 -- The shapes of slots that are found so far. Only private contracts and proofs cite this.
-use Rattle.std.specs.Prelude.{◌≡◌, ℕ, ◌<◌, ◌^◌, List, length, get_or, map, Option, Some, None, Bool, true, false}
+use Rattle.std.specs.Prelude.{◌≡◌, ℕ, ◌+◌, ◌<◌, ◌^◌, List, [], ◌∷◌, ◌++◌, length, get_or, map, cond, Option, Some, None, Bool, true, false}
 use Rattle.std.specs.List.{sum_by, Contains}
 use Rattle.hol_types.specs.Tree.{TypeTree}
-use Rattle.hol_types.specs.Names.{tyvars}
+use Rattle.hol_types.specs.Names.{tyvars, type_names, is_among}
 use Rattle.hol_infer.specs.Typing.{IsOpen}
-use Rattle.hol_infer.specs.Shape.{ShapeTree, ShapeList, Hole, Fixed, Built, no_shapes, more_shapes, shape_list, fill, instance_shape}
+use Rattle.hol_infer.specs.Shape.{ShapeTree, ShapeList, Hole, Fixed, Built, no_shapes, more_shapes, shape_list, fill, instance_shape, part_shape}
 use Rattle.hol_infer.specs.declared.cell.Cell.{Cell}
-use Rattle.hol_infer.specs.declared.cell.Cell.TheVariants.{Unknown, Link, Rigid, App, Generic}
+use Rattle.hol_infer.specs.declared.cell.Cell.TheVariants.{Unknown, Link, Rigid, App, Generic, Part}
+use Rattle.hol_infer.specs.declared.cell.GenericPart.{GenericPart}
 use Rattle.hol_infer.specs.declared.numbering.Numbering.{Numbering}
-use Rattle.hol_infer.specs.Graph.{cell_at, Respects}
+use Rattle.hol_infer.specs.Graph.{cell_at, Respects, bound_names}
 use Rattle.hol_infer.specs.Generate.{Agree}
 use Rattle.hol_infer.specs.Numbering.{base_at, limit_of, IsNumbered}
 
@@ -23,6 +24,35 @@ ArePartsFound found parts shapes = map (found_at found) parts ≡ map Some shape
 abbrev pub IsPartMissing : List (Option ShapeTree) → List ℕ → Type 0
 IsPartMissing found parts = (j : ℕ) × Contains parts j × (found_at found j ≡ None)
 
+-- the shape that is found
+abbrev pub shape_found : Option ShapeTree → ShapeTree
+shape_found None = Hole 0
+shape_found (Some s) = s
+
+-- the names that stand in the type, each with the shape that is found for its slot, of those from `base` on
+abbrev pub bound_from : List (Option ShapeTree) → TypeTree → ℕ → List (List ℕ) → List (ShapeTree × List ℕ)
+bound_from found ty base [] = []
+bound_from found ty base (a ∷ names) = cond (is_among (type_names ty) a) ((shape_found (found_at found base), a) ∷ bound_from found ty (base + 1) names) (bound_from found ty (base + 1) names)
+
+-- the slot of each of the names that stands in the type has a shape
+abbrev pub AreRowFound : List (Option ShapeTree) → TypeTree → ℕ → List (List ℕ) → Type 0
+AreRowFound found ty base [] = Unit {0}
+AreRowFound found ty base (a ∷ names) = (is_among (type_names ty) a ≡ true → (s : ShapeTree) × (found_at found base ≡ Some s)) × AreRowFound found ty (base + 1) names
+
+-- the shapes of the slots of a part's variables are found, and are these
+abbrev pub AreBoundFound : List (Option ShapeTree) → GenericPart → List (ShapeTree × List ℕ) → Type 0
+AreBoundFound found part bound = AreRowFound found part.ty part.base (bound_names part) × (bound ≡ bound_from found part.ty part.base (bound_names part))
+
+-- the slot of a variable that stands in the part has no shape yet
+abbrev pub IsBoundMissing : List (Option ShapeTree) → GenericPart → Type 0
+IsBoundMissing found part =
+    (k : ℕ) × (k < length (bound_names part)) × (is_among (type_names part.ty) (get_or (bound_names part) k []) ≡ true) × (found_at found (part.base + k) ≡ None)
+
+-- the shape of one name's slot is put at the end where the name stands in the part; or it is missing
+abbrev pub AddsBound : Bool → List (Option ShapeTree) → GenericPart → ℕ → List ℕ → List (ShapeTree × List ℕ) → List (ShapeTree × List ℕ) → Type 0
+AddsBound true found part k a before after = AreRowFound found part.ty (part.base + k) (a ∷ []) × (after ≡ before ++ bound_from found part.ty (part.base + k) (a ∷ []))
+AddsBound false found part k a before after = (is_among (type_names part.ty) a ≡ true) × (found_at found (part.base + k) ≡ None)
+
 -- s is what the cell of slot i makes of the shapes of its parts
 abbrev pub BuiltFrom : Numbering → List (Option ShapeTree) → ℕ → ShapeTree → Cell → Type 0
 BuiltFrom numbering found i s Unknown = s ≡ Hole i
@@ -30,6 +60,7 @@ BuiltFrom numbering found i s (Link j) = found_at found j ≡ Some s
 BuiltFrom numbering found i s (Rigid a) = s ≡ Fixed a
 BuiltFrom numbering found i s (App c parts) = (shapes : List ShapeTree) × ArePartsFound found parts.items shapes × (s ≡ Built c (shape_list shapes))
 BuiltFrom numbering found i s (Generic ty) = s ≡ instance_shape (base_at numbering i) (tyvars ty) ty
+BuiltFrom numbering found i s (Part part) = (bound : List (ShapeTree × List ℕ)) × AreBoundFound found part bound × (s ≡ part_shape bound (base_at numbering i) (tyvars part.ty) part.ty)
 
 -- a part of the cell has no shape yet
 abbrev pub IsBlocked : List (Option ShapeTree) → Cell → Type 0
@@ -38,6 +69,7 @@ IsBlocked found (Link j) = found_at found j ≡ None
 IsBlocked found (Rigid a) = ⊥
 IsBlocked found (App c parts) = IsPartMissing found parts.items
 IsBlocked found (Generic ty) = ⊥
+IsBlocked found (Part part) = IsBoundMissing found part
 
 -- the type variables of annotations in the shape are no open ones
 abbrev mutual

@@ -11,9 +11,9 @@ use Rattle.hol_infer.specs.Typing.{IsOpen, IsTyping, IsGenericInstance, Meets}
 use Rattle.hol_infer.specs.SlotTree.{SlotTree, typed, AreSlotsIn}
 use Rattle.hol_infer.specs.Scoped.{IsScoped, IsSlotScoped}
 use Rattle.hol_infer.specs.declared.cell.Cell.{Cell}
-use Rattle.hol_infer.specs.declared.cell.Cell.TheVariants.{Unknown, Link, Rigid, App, Generic}
+use Rattle.hol_infer.specs.declared.cell.Cell.TheVariants.{Unknown, Link, Rigid, App, Generic, Part}
 use Rattle.hol_infer.specs.declared.generate.Graph.{Graph}
-use Rattle.hol_infer.specs.Graph.{IsSolution, CellHolds, IsGraph, AreIn, IsExpandedCell}
+use Rattle.hol_infer.specs.Graph.{pairs_from, IsSolution, CellHolds, IsGraph, AreIn, IsExpandedCell, IsPartIn}
 
 -- the slot of a free name
 abbrev pub slot_of : List (List ℕ × ℕ) → List ℕ → Option ℕ
@@ -45,6 +45,7 @@ IsNewCell n (Link j) = j < n
 IsNewCell n (Rigid a) = IsOpen a → ⊥
 IsNewCell n (App c parts) = All (λ p. p < n) parts.items
 IsNewCell n (Generic ty) = Unit {0}
+IsNewCell n (Part part) = IsPartIn n part
 
 -- h has the slots of g, slots more that have no generic types, and the equations of g
 pub record Grows (g h : Graph) : Type 0 where
@@ -89,11 +90,6 @@ pub record AddsUnknown (g h : Graph) (n : ℕ) : Type 0 where
   pub names_are : h.names.items ≡ g.names.items
   pub grows : Grows g h
   pub solves : (type_of : List ℕ → TypeTree) (types : ℕ → TypeTree) → Solves h type_of types ↔ Solves g type_of types
-
--- the types from slot `base` on stand for the names
-abbrev pub pairs_from : (ℕ → TypeTree) → ℕ → List (List ℕ) → List (TypeTree × List ℕ)
-pairs_from types base [] = []
-pairs_from types base (a ∷ names) = (types base, a) ∷ pairs_from types (base + 1) names
 
 -- a is the i-th of the names, and none of them
 pub record IsPlace (names : List (List ℕ)) (a : List ℕ) (i : ℕ) : Type 0 where

@@ -1,13 +1,32 @@
 -- What a graph of slots, and equations between slots, say of the types of the slots. Only private contracts and proofs cite this.
-use Rattle.std.specs.Prelude.{◌≡◌, ℕ, ◌+◌, ◌<◌, ◌↔◌, List, [], ◌∷◌, length, get_or, map}
+use Rattle.std.specs.Prelude.{◌≡◌, ℕ, ◌+◌, ◌<◌, ◌≤◌, ◌↔◌, List, [], ◌∷◌, ◌++◌, length, get_or, map}
 use Rattle.std.specs.List.{All, sum_by}
 use Rattle.hol_types.specs.Tree.{TypeTree, TyVar, TyApp, type_list, type_size}
+use Rattle.hol_types.specs.Subst.{type_subst}
 use Rattle.hol_infer.specs.declared.cell.Cell.{Cell}
-use Rattle.hol_infer.specs.declared.cell.Cell.TheVariants.{Unknown, Link, Rigid, App, Generic}
+use Rattle.hol_infer.specs.declared.cell.Cell.TheVariants.{Unknown, Link, Rigid, App, Generic, Part}
 use Rattle.hol_infer.specs.declared.cell.Equation.{Equation}
+use Rattle.hol_infer.specs.declared.cell.GenericPart.{GenericPart}
 use Rattle.hol_infer.specs.declared.graph.Side.{Side}
 use Rattle.hol_infer.specs.declared.graph.Side.TheVariants.{Low, High}
 use Rattle.hol_infer.specs.Typing.{IsOpen, IsGenericInstance}
+use Rattle.hol_infer.specs.Linear.{AreDistinct, IsLinearBut}
+
+-- the types from slot `base` on stand for the names
+abbrev pub pairs_from : (ℕ → TypeTree) → ℕ → List (List ℕ) → List (TypeTree × List ℕ)
+pairs_from types base [] = []
+pairs_from types base (a ∷ names) = (types base, a) ∷ pairs_from types (base + 1) names
+
+-- some types for the variables that are none of the names give the type, where the slots from `base` on stand for the names
+abbrev pub IsBoundInstance : (ℕ → TypeTree) → List (List ℕ) → ℕ → TypeTree → TypeTree → Type 0
+IsBoundInstance types names base ty t = (pairs : List (TypeTree × List ℕ)) × (t ≡ type_subst (pairs_from types base names ++ pairs) ty)
+
+-- the variables of a part that have slots
+abbrev pub bound_names : GenericPart → List (List ℕ)
+bound_names part = part.names.value.items
+
+abbrev pub part_pairs : (ℕ → TypeTree) → GenericPart → List (TypeTree × List ℕ)
+part_pairs types part = pairs_from types part.base (bound_names part)
 
 -- the slot of type t meets its cell
 abbrev pub CellHolds : (ℕ → TypeTree) → TypeTree → Cell → Type 0
@@ -16,6 +35,7 @@ CellHolds types t (Link j) = t ≡ types j
 CellHolds types t (Rigid a) = t ≡ TyVar a
 CellHolds types t (App c parts) = t ≡ TyApp c (type_list (map types parts.items))
 CellHolds types t (Generic ty) = IsGenericInstance ty t
+CellHolds types t (Part part) = IsBoundInstance types (bound_names part) part.base part.ty t
 
 -- the cell of a slot; none beyond the graph
 abbrev pub cell_at : List Cell → ℕ → Cell
@@ -41,6 +61,18 @@ SameSolutions cells pending cells' pending' = (types : ℕ → TypeTree) → IsS
 abbrev pub HasNoSolution : List Cell → List Equation → Type 0
 HasNoSolution cells pending = (types : ℕ → TypeTree) → IsSolution cells pending types → ⊥
 
+-- the type is no variable
+abbrev pub IsApplied : TypeTree → Type 0
+IsApplied (TyVar a) = ⊥
+IsApplied (TyApp c ts) = Unit {0}
+
+-- a part whose variables with slots have them among n, each one; no other variable stands in it twice
+pub record IsPartIn (n : ℕ) (part : GenericPart) : Type 0 where
+  pub row_in : part.base + length (bound_names part) ≤ n
+  pub linear : IsLinearBut (bound_names part) part.ty
+  pub distinct : AreDistinct (bound_names part)
+  pub applied : IsApplied part.ty
+
 -- a cell of slot i in a graph of n slots: a link goes down, and an annotation's type variable is no open one
 abbrev pub IsCellIn : ℕ → ℕ → Cell → Type 0
 IsCellIn n i Unknown = Unit {0}
@@ -48,6 +80,7 @@ IsCellIn n i (Link j) = j < i
 IsCellIn n i (Rigid a) = IsOpen a → ⊥
 IsCellIn n i (App c parts) = All (λ p. p < n) parts.items
 IsCellIn n i (Generic ty) = Unit {0}
+IsCellIn n i (Part part) = IsPartIn n part
 
 pub record IsGraph (cells : List Cell) : Type 0 where
   pub cell_in : (i : ℕ) → IsCellIn (length cells) i (cell_at cells i)
@@ -66,6 +99,7 @@ IsRootCell (Link j) = ⊥
 IsRootCell (Rigid a) = Unit {0}
 IsRootCell (App c parts) = Unit {0}
 IsRootCell (Generic ty) = Unit {0}
+IsRootCell (Part part) = Unit {0}
 
 -- a slot of which something is known
 abbrev pub IsKnownCell : Cell → Type 0
@@ -74,6 +108,7 @@ IsKnownCell (Link j) = ⊥
 IsKnownCell (Rigid a) = Unit {0}
 IsKnownCell (App c parts) = Unit {0}
 IsKnownCell (Generic ty) = Unit {0}
+IsKnownCell (Part part) = Unit {0}
 
 -- what is left to do: each merge of two roots lowers it
 abbrev pub cell_weight : Cell → ℕ
@@ -82,6 +117,7 @@ cell_weight (Link j) = 0
 cell_weight (Rigid a) = 1
 cell_weight (App c parts) = 1 + length parts.items
 cell_weight (Generic ty) = 1
+cell_weight (Part part) = 1
 
 abbrev pub work_left : List Cell → List Equation → ℕ
 work_left cells pending = sum_by cell_weight cells + length pending
@@ -111,6 +147,7 @@ IsGenericCell (Link j) = ⊥
 IsGenericCell (Rigid a) = ⊥
 IsGenericCell (App c parts) = ⊥
 IsGenericCell (Generic ty) = Unit {0}
+IsGenericCell (Part part) = Unit {0}
 
 -- and no such cell
 abbrev pub IsExpandedCell : Cell → Type 0
@@ -119,6 +156,7 @@ IsExpandedCell (Link j) = Unit {0}
 IsExpandedCell (Rigid a) = Unit {0}
 IsExpandedCell (App c parts) = Unit {0}
 IsExpandedCell (Generic ty) = ⊥
+IsExpandedCell (Part part) = ⊥
 
 abbrev pub generic_weight : Cell → ℕ
 generic_weight Unknown = 0
@@ -126,6 +164,7 @@ generic_weight (Link j) = 0
 generic_weight (Rigid a) = 0
 generic_weight (App c parts) = 0
 generic_weight (Generic ty) = type_size ty
+generic_weight (Part part) = type_size part.ty
 
 -- how many nodes they have
 abbrev pub generics : List Cell → ℕ
@@ -138,6 +177,16 @@ MeetsGeneric ty (Link j) = Unit {0}
 MeetsGeneric ty (Rigid a) = ⊥
 MeetsGeneric ty (App c parts) = ⊥
 MeetsGeneric ty (Generic other) = ty ≡ other
+MeetsGeneric ty (Part part) = ⊥
+
+-- nothing is known of a slot of this cell
+abbrev pub IsUnknownCell : Cell → Type 0
+IsUnknownCell Unknown = Unit {0}
+IsUnknownCell (Link j) = Unit {0}
+IsUnknownCell (Rigid a) = ⊥
+IsUnknownCell (App c parts) = ⊥
+IsUnknownCell (Generic ty) = ⊥
+IsUnknownCell (Part part) = ⊥
 
 -- The cells of two slots may be joined: a generic type is met by the same one, or by nothing known.
 abbrev pub AreJoinable : Cell → Cell → Type 0
@@ -146,6 +195,7 @@ AreJoinable (Link j) high = Unit {0}
 AreJoinable (Rigid a) high = IsExpandedCell high
 AreJoinable (App c parts) high = IsExpandedCell high
 AreJoinable (Generic ty) high = MeetsGeneric ty high
+AreJoinable (Part part) high = IsUnknownCell high
 
 -- which of two slots must get slots for the parts of its generic type
 abbrev pub IsGenericSide : Side → Cell → Cell → Type 0

@@ -1,7 +1,9 @@
 -- The order in which open slots occur, and the type variables that they become. Only private contracts and proofs cite this.
-use Rattle.std.specs.Prelude.{ℕ, ◌+◌, List, [], ◌∷◌, ◌++◌, cond, ◌==◌, Bool, false, ◌||◌}
+use Rattle.std.specs.Prelude.{◌≡◌, ℕ, ◌+◌, List, [], ◌∷◌, ◌++◌, cond, ◌==◌, Bool, false, ◌||◌}
 use Rattle.hol_types.specs.Tree.{TypeTree, TyVar}
 use Rattle.hol_infer.specs.Typing.{open_name}
+use Rattle.std.specs.Global.{Vec}
+use Rattle.hol_infer.specs.Shape.{ShapeTree, shape_holes}
 
 abbrev pub is_hole_among : List ℕ → ℕ → Bool
 is_hole_among [] k = false
@@ -14,6 +16,13 @@ add_hole order k = cond (is_hole_among order k) order (order ++ k ∷ [])
 abbrev pub add_holes : List ℕ → List ℕ → List ℕ
 add_holes order [] = order
 add_holes order (k ∷ ks) = add_holes (add_hole order k) ks
+
+-- the open slots of each of the shapes, each once
+abbrev pub AreHolesOf : List (Vec ℕ × List ℕ) → List (ShapeTree × List ℕ) → Type 0
+AreHolesOf [] [] = Unit {0}
+AreHolesOf [] (p ∷ shapes) = ⊥
+AreHolesOf (q ∷ bound) [] = ⊥
+AreHolesOf (q ∷ bound) (p ∷ shapes) = (q.0.items ≡ add_holes [] (shape_holes p.0)) × (q.1 ≡ p.1) × AreHolesOf bound shapes
 
 -- the place of a slot in the order
 abbrev pub hole_index : List ℕ → ℕ → ℕ

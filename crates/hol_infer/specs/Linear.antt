@@ -11,9 +11,21 @@ AreDistinct (a ∷ names) = (is_among names a ≡ false) × AreDistinct names
 abbrev pub IsLinear : TypeTree → Type 0
 IsLinear ty = AreDistinct (type_names ty)
 
+-- no name but these stands twice
+abbrev pub AreDistinctBut : List (List ℕ) → List (List ℕ) → Type 0
+AreDistinctBut but [] = Unit {0}
+AreDistinctBut but (a ∷ names) = (is_among but a ≡ false → is_among names a ≡ false) × AreDistinctBut but names
+
+abbrev pub IsLinearBut : List (List ℕ) → TypeTree → Type 0
+IsLinearBut but ty = AreDistinctBut but (type_names ty)
+
 abbrev pub AreLinear : List TypeTree → Type 0
 AreLinear [] = Unit {0}
 AreLinear (t ∷ ts) = IsLinear t × AreLinear ts
+
+abbrev pub AreLinearBut : List (List ℕ) → List TypeTree → Type 0
+AreLinearBut but [] = Unit {0}
+AreLinearBut but (t ∷ ts) = IsLinearBut but t × AreLinearBut but ts
 
 -- no name is among both
 abbrev pub AreApart : List (List ℕ) → List (List ℕ) → Type 0
@@ -23,3 +35,12 @@ AreApart names others = (a : List ℕ) → is_among names a ≡ true → is_amon
 abbrev pub ArePairwiseApart : List TypeTree → Type 0
 ArePairwiseApart [] = Unit {0}
 ArePairwiseApart (t ∷ ts) = AreApart (type_names t) (types_names (type_list ts)) × ArePairwiseApart ts
+
+-- no name but these is among both
+abbrev pub AreApartBut : List (List ℕ) → List (List ℕ) → List (List ℕ) → Type 0
+AreApartBut but names others = (a : List ℕ) → is_among but a ≡ false → is_among names a ≡ true → is_among others a ≡ false
+
+-- no two of the types have another type variable than these in common
+abbrev pub ArePairwiseApartBut : List (List ℕ) → List TypeTree → Type 0
+ArePairwiseApartBut but [] = Unit {0}
+ArePairwiseApartBut but (t ∷ ts) = AreApartBut but (type_names t) (types_names (type_list ts)) × ArePairwiseApartBut but ts

@@ -1,5 +1,5 @@
 -- Types as inference finds them: over slots, which stand for types that are still open. Only private contracts and proofs cite this.
-use Rattle.std.specs.Prelude.{ℕ, ◌+◌, List, [], ◌∷◌, ◌++◌, cond, bytes_eq}
+use Rattle.std.specs.Prelude.{◌≡◌, ℕ, ◌+◌, ◌<◌, List, [], ◌∷◌, ◌++◌, cond, bytes_eq, Option, Some, None, unwrap_or}
 use Rattle.hol_types.specs.Tree.{TypeTree, TypeList, TyVar, TyApp, no_types, more_types}
 
 mutual
@@ -64,3 +64,33 @@ abbrev mutual
   pub instance_shapes : ℕ → List (List ℕ) → TypeList → ShapeList
   instance_shapes base names no_types = no_shapes
   instance_shapes base names (more_types t ts) = more_shapes (instance_shape base names t) (instance_shapes base names ts)
+
+-- the shape that is put for the name a
+abbrev pub shape_lookup : List (ShapeTree × List ℕ) → List ℕ → Option ShapeTree
+shape_lookup [] a = None
+shape_lookup (p ∷ bound) a = cond (bytes_eq p.1 a) (Some p.0) (shape_lookup bound a)
+
+-- the same of a type in which shapes are put for some of its variables
+abbrev mutual
+  pub part_shape : List (ShapeTree × List ℕ) → ℕ → List (List ℕ) → TypeTree → ShapeTree
+  part_shape bound base names (TyVar a) = unwrap_or (shape_lookup bound a) (Hole (base + place_among names a))
+  part_shape bound base names (TyApp c ts) = Built c (part_shapes bound base names ts)
+
+  pub part_shapes : List (ShapeTree × List ℕ) → ℕ → List (List ℕ) → TypeList → ShapeList
+  part_shapes bound base names no_types = no_shapes
+  part_shapes bound base names (more_types t ts) = more_shapes (part_shape bound base names t) (part_shapes bound base names ts)
+
+-- each of the shapes has fewer than n nodes
+abbrev pub AreWithin : ℕ → List (ShapeTree × List ℕ) → Type 0
+AreWithin n [] = Unit {0}
+AreWithin n (p ∷ bound) = (shape_size p.0 < n) × AreWithin n bound
+
+-- each of the shapes has one node
+abbrev pub AreSingle : List (ShapeTree × List ℕ) → Type 0
+AreSingle [] = Unit {0}
+AreSingle (p ∷ bound) = (shape_size p.0 ≡ 1) × AreSingle bound
+
+-- the types of the shapes that are put for names
+abbrev pub fill_pairs : (ℕ → TypeTree) → List (ShapeTree × List ℕ) → List (TypeTree × List ℕ)
+fill_pairs at [] = []
+fill_pairs at (p ∷ bound) = (fill at p.0, p.1) ∷ fill_pairs at bound

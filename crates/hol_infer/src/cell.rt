@@ -1,6 +1,7 @@
 //! What is known of slots, and equations between them.
 use crate::scheme::Scheme;
-use hol_types::Name;
+use hol_types::{Name, Ty};
+use std::rc::Rc;
 
 /// What is known of the type of a slot.
 #[derive(Drop)]
@@ -15,6 +16,20 @@ pub enum Cell {
     App(Name, Vec<usize>),
     /// It is an instance of this generic type. Its parts get slots where it must be one with what is known otherwise.
     Generic(Scheme),
+    /// It is this part of an instance of a generic type in which type variables stand twice.
+    Part(GenericPart),
+}
+
+/// A part of an instance of a generic type. The parts of one instance have the slots of its variables in common, and no slots of their own
+/// for what they are made of.
+#[derive(Drop)]
+pub struct GenericPart {
+    /// The part, as it stands in the generic type. It is no type variable.
+    pub ty: Ty,
+    /// The type variables that stand in the generic type twice: those from `base` on are their slots, in this order.
+    pub names: Rc<Vec<Name>>,
+    /// The slot of the first of the names.
+    pub base: usize,
 }
 
 /// Two slots that must have one type.

@@ -1,21 +1,22 @@
 //! Slots for the parts of generic types, where unification meets them.
 ghost use Rattle.std.specs.Prelude.{◌≡◌, ◌+◌, ◌<◌, ◌≤◌, [], length, set, IfOk, IfErr, OnOk, MatchOption, IsTrue};
-ghost use Rattle.hol_types.specs.Tree.{TyApp, type_list};
+ghost use Rattle.hol_types.specs.Tree.{TyVar, TyApp, type_list};
 ghost use Rattle.hol_types.specs.Names.{is_among, type_names};
-ghost use Rattle.hol_infer.specs.declared.cell.Cell.TheVariants.{Generic};
-ghost use Rattle.hol_infer.specs.Graph.{cell_at, HasNoSolution, IsExpandedCell, IsGenericAt, generics};
+ghost use Rattle.hol_infer.specs.declared.cell.Cell.TheVariants.{Unknown, Generic, Part};
+ghost use Rattle.hol_infer.specs.Graph.{cell_at, HasNoSolution, IsGenericAt, IsPartIn, generics};
 ghost use Rattle.hol_infer.specs.Generate.{slots, IsWellFormed, AreRigidBut, BuildsTypes};
 ghost use Rattle.hol_infer.specs.declared.scheme.Variables.TheVariants.{Distinct};
-ghost use Rattle.hol_infer.specs.Linear.{AreLinear, AreApart, ArePairwiseApart};
-ghost use Rattle.hol_infer.specs.Expanding.{Refines, BuildsParts, BuildsInstance, Expands};
+ghost use Rattle.hol_infer.specs.Linear.{AreLinear, AreApart, ArePairwiseApart, AreDistinct, IsLinearBut, AreLinearBut, ArePairwiseApartBut};
+ghost use Rattle.hol_infer.specs.Expanding.{Refines, BuildsParts, BuildsBound, BuildsAllBound, BuildsInstance, Expands};
 
-use crate::cell::Cell;
+use crate::cell::{Cell, GenericPart};
 use crate::fault::Fault;
-use crate::generate::Graph;
+use crate::generate::{Graph, place};
 use crate::graph::unify;
 use crate::scheme::{Scheme, Variables};
 use hol_types::{Name, Ty, TyNode};
 use std::alloc::{AllocError, Global};
+use std::rc::Rc;
 
 impl Graph {
     // Slots for types, in which the slots from `base` on stand for the names.
@@ -50,7 +51,7 @@ impl Graph {
     ) -> Result<Cell, AllocError>
         requires well_formed { IsWellFormed self.old }
         requires parts { TyApp name.now (type_list args.now) ≡ generic.now }
-        ensures { IfOk result (λ cell. BuildsInstance self.old self.new cell generic.now) }
+        ensures { IfOk result (λ cell. BuildsInstance self.old self.new cell (Generic generic.now)) }
     {
         let names = generic.tyvars(alloc)?;
         let base = self.unknowns(names.len())?;
@@ -89,10 +90,111 @@ impl Graph {
         requires well_formed { IsWellFormed self.old }
         requires apart { ArePairwiseApart args.now }
         requires linear { variables ≡ Distinct → AreLinear args.now }
-        ensures { IfOk result (λ cell. BuildsInstance self.old self.new cell (TyApp name.now (type_list args.now))) }
+        ensures { IfOk result (λ cell. BuildsInstance self.old self.new cell (Generic (TyApp name.now (type_list args.now)))) }
     {
         let parts = self.generic_slots(alloc, args, variables)?;
         Ok(Cell::App(name.copy()?, parts))
+    }
+
+    // The slot of a type variable of a part, which is that at its place from `base` on where it is one of the names.
+    #[tactic(auto, using(crate::proofs::Bound::bound_place))]
+    fn bound_variable(
+        &mut self,
+        names: &[Name],
+        base: usize,
+        name: &Name,
+    ) -> Result<usize, AllocError>
+        requires well_formed { IsWellFormed self.old }
+        requires row_in { base + length names.now ≤ slots self.old }
+        ensures { IfOk result (λ slot. BuildsBound self.old self.new names.now base slot (TyVar name.now)) }
+    {
+        match place(names, name) {
+            Some(at) => Ok(base + at),
+            None => self.fresh(Cell::Unknown),
+        }
+    }
+
+    // A slot for a type that is a part of an instance in which the slots from `base` on stand for the names.
+    fn bound_slot(
+        &mut self,
+        names: &Rc<Vec<Name>>,
+        base: usize,
+        ty: &Ty,
+    ) -> Result<usize, AllocError>
+        requires well_formed { IsWellFormed self.old }
+        requires row_in { base + length names.now.value.items ≤ slots self.old }
+        requires linear { IsLinearBut names.now.value.items ty.now }
+        requires distinct { AreDistinct names.now.value.items }
+        ensures { IfOk result (λ slot. BuildsBound self.old self.new names.now.value.items base slot ty.now) }
+    {
+        match ty.node() {
+            TyNode::Var(name) => self.bound_variable(names, base, name),
+            TyNode::App(_, _) => {
+                let part = GenericPart {
+                    ty: ty.copy()?,
+                    names: names.clone()?,
+                    base,
+                };
+                self.fresh(Cell::Part(part))
+            }
+        }
+    }
+
+    // Slots for types that are parts of an instance in which the slots from `base` on stand for the names.
+    #[tactic(auto, using(crate::proofs::Bound::all_bound_none))]
+    fn bound_slots(
+        &mut self,
+        alloc: Global,
+        names: &Rc<Vec<Name>>,
+        base: usize,
+        types: &[Ty],
+    ) -> Result<Vec<usize>, AllocError>
+        requires well_formed { IsWellFormed self.old }
+        requires row_in { base + length names.now.value.items ≤ slots self.old }
+        requires linear { AreLinearBut names.now.value.items types.now }
+        requires distinct { AreDistinct names.now.value.items }
+        ensures { IfOk result (λ parts. BuildsAllBound self.old self.new names.now.value.items base parts.items types.now) }
+    {
+        let mut parts = Vec::with_capacity(alloc, types.len())?;
+        for ty in types {
+            let part = self.bound_slot(names, base, ty)?;
+            parts.push(part)?;
+        }
+        Ok(parts)
+    }
+
+    // The cell of a type with this constructor, where no variables but the names stand twice among its arguments: these have slots in
+    // common, and the arguments' parts get none yet.
+    fn tied(
+        &mut self,
+        alloc: Global,
+        name: &Name,
+        args: &[Ty],
+        names: &Rc<Vec<Name>>,
+    ) -> Result<Cell, AllocError>
+        requires well_formed { IsWellFormed self.old }
+        requires linear { IsLinearBut names.now.value.items (TyApp name.now (type_list args.now)) }
+        requires distinct { AreDistinct names.now.value.items }
+        ensures { IfOk result (λ cell. BuildsInstance self.old self.new cell (Generic (TyApp name.now (type_list args.now)))) }
+    {
+        let base = self.unknowns(names.len())?;
+        let parts = self.bound_slots(alloc, names, base, args)?;
+        Ok(Cell::App(name.copy()?, parts))
+    }
+
+    // The cell of a part of an instance, with slots for its own parts.
+    fn part_instance(&mut self, alloc: Global, part: &GenericPart) -> Result<Cell, AllocError>
+        requires well_formed { IsWellFormed self.old }
+        requires part_in { IsPartIn (slots self.old) part.now }
+        ensures { IfOk result (λ cell. BuildsInstance self.old self.new cell (Part part.now)) }
+    {
+        match part.ty.node() {
+            TyNode::Var(_) => Ok(Cell::Unknown),
+            TyNode::App(name, args) => {
+                let parts = self.bound_slots(alloc, &part.names, part.base, args)?;
+                Ok(Cell::App(name.copy()?, parts))
+            }
+        }
     }
 
     // The cell of an instance of a type with this constructor, with slots for its arguments.
@@ -105,11 +207,14 @@ impl Graph {
     ) -> Result<Cell, AllocError>
         requires well_formed { IsWellFormed self.old }
         requires parts { TyApp name.now (type_list args.now) ≡ generic.now }
-        ensures { IfOk result (λ cell. BuildsInstance self.old self.new cell generic.now) }
+        ensures { IfOk result (λ cell. BuildsInstance self.old self.new cell (Generic generic.now)) }
     {
         let variables = generic.variables();
         if variables == Variables::Distinct {
             return self.split(alloc, name, args, variables);
+        }
+        if let Some(names) = generic.repeated() {
+            return self.tied(alloc, name, args, names);
         }
         if are_two_apart(alloc, args)? {
             return self.split(alloc, name, args, Variables::Unknown);
@@ -120,7 +225,7 @@ impl Graph {
     // The cell of an instance of the generic type, with slots for its parts.
     fn instance(&mut self, alloc: Global, generic: &Scheme) -> Result<Cell, AllocError>
         requires { IsWellFormed self.old }
-        ensures { IfOk result (λ cell. BuildsInstance self.old self.new cell generic.now) }
+        ensures { IfOk result (λ cell. BuildsInstance self.old self.new cell (Generic generic.now)) }
     {
         match generic.ty().node() {
             TyNode::Var(_) => Ok(Cell::Unknown),
@@ -138,31 +243,38 @@ impl Graph {
         self.cells[slot] = cell;
     }
 
-    // Gives the parts of the slot's generic type slots.
-    fn open(&mut self, alloc: Global, slot: usize, generic: &Scheme) -> Result<(), AllocError>
-        requires well_formed { IsWellFormed self.old }
-        requires slot_in { slot < slots self.old }
-        requires generic { cell_at self.old.cells.items slot ≡ Generic generic.now }
-        ensures { OnOk result (Expands self.old self.new slot) }
+    // Takes the slot's cell away.
+    fn take(&mut self, slot: usize) -> Cell
+        requires { slot < slots self.old }
+        ensures cell { result ≡ cell_at self.old.cells.items slot }
+        ensures cells { self.new.cells.items ≡ set self.old.cells.items slot Unknown }
+        ensures pending { self.new.pending.items ≡ self.old.pending.items }
+        ensures names { self.new.names.items ≡ self.old.names.items }
     {
-        self.put(slot, Cell::Unknown);
-        let cell = self.instance(alloc, generic)?;
-        self.put(slot, cell);
-        Ok(())
+        std::mem::replace(&mut self.cells[slot], Cell::Unknown)
     }
 
-    // Gives the parts of the slot's generic type slots, where it has one.
+    // Gives the parts of the slot's generic type slots.
     fn expand(&mut self, alloc: Global, slot: usize) -> Result<(), AllocError>
         requires well_formed { IsWellFormed self.old }
-        requires slot_in { slot < slots self.old }
+        requires generic { IsGenericAt self.old.cells.items slot }
         ensures { OnOk result (Expands self.old self.new slot) }
     {
-        match generic_at(&self.cells, slot) {
-            Some(generic) => {
-                let own_type = generic.copy()?;
-                self.open(alloc, slot, &own_type)
+        match self.take(slot) {
+            Cell::Generic(generic) => {
+                let cell = self.instance(alloc, &generic)?;
+                self.put(slot, cell);
+                Ok(())
             }
-            None => Ok(()),
+            Cell::Part(part) => {
+                let cell = self.part_instance(alloc, &part)?;
+                self.put(slot, cell);
+                Ok(())
+            }
+            Cell::Unknown => Ok(()),
+            Cell::Link(_) => Ok(()),
+            Cell::Rigid(_) => Ok(()),
+            Cell::App(_, _) => Ok(()),
         }
     }
 
@@ -181,12 +293,13 @@ impl Graph {
     }
 
     /// Solves the equations, and gives the parts of a generic type slots where it meets a type that is known otherwise. Equal generic types
-    /// are one without them: so a constant whose instances are only equated with each other costs no slots for its parts, and where it was
-    /// counted no walk over its type.
+    /// are one without them: so a constant whose instances are only equated with each other costs no slots for its parts, and each such
+    /// equation a comparison of two equal types.
     ///
-    /// Where its type was counted and its variables are distinct, such a meeting costs two slots: so the time is near linear in the term,
-    /// with the type of each of its constants once. Else it costs a walk over the type, and slots for all its parts where its arguments have
-    /// a type variable in common.
+    /// An instance costs two slots for each of its parts that meets a type, and no walk. Where type variables stand twice in a constant's
+    /// large type, an instance that meets a type costs slots for these variables too, which its parts have in common: so the time is near
+    /// linear in the term, with the type once, as long as few do. A type of at most 64 nodes costs slots for all of it where its arguments
+    /// have a variable in common.
     ///
     /// Answers `Untypable` only where no types met the graph and the equations.
     pub fn settle(&mut self, alloc: Global) -> Result<(), Fault>
@@ -202,9 +315,9 @@ impl Graph {
     }
 }
 
-// Whether the type variable occurs in the type.
+/// Whether the type variable occurs in the type.
 #[tactic(auto, using(crate::proofs::Splitting::among_step, crate::proofs::Splitting::filtered))]
-fn has_variable(ty: &Ty, name: &Name) -> bool
+pub(crate) fn has_variable(ty: &Ty, name: &Name) -> bool
     ensures { result ≡ is_among (type_names ty.now) name.now }
 {
     if !ty.may_have_var(name) {
@@ -244,20 +357,5 @@ fn are_two_apart(alloc: Global, types: &[Ty]) -> Result<bool, AllocError>
     match types {
         [first, second] => are_apart(alloc, first, second),
         _ => Ok(false),
-    }
-}
-
-// The generic type of a slot, if its cell is one.
-#[tactic(auto, using(crate::proofs::Merging::read_cell))]
-fn generic_at(cells: &[Cell], slot: usize) -> Option<&Scheme>
-    requires { slot < length cells.now }
-    ensures { MatchOption result (IsExpandedCell (cell_at cells.now slot)) (λ ty. cell_at cells.now slot ≡ Generic ty.now) }
-{
-    match &cells[slot] {
-        Cell::Generic(ty) => Some(ty),
-        Cell::Unknown => None,
-        Cell::Link(_) => None,
-        Cell::Rigid(_) => None,
-        Cell::App(_, _) => None,
     }
 }

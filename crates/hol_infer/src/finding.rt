@@ -2,16 +2,20 @@
 ghost use Rattle.std.specs.Prelude.{◌≡◌, ℕ, ◌+◌, ◌<◌, ◌≤◌, ◌^◌, length, IfOk, IfErr, OnOk, MatchOption, None};
 ghost use Rattle.std.specs.List.{All};
 ghost use Rattle.hol_types.specs.Tree.{TypeTree};
-ghost use Rattle.hol_infer.specs.Graph.{Respects, IsGraph, IsCellIn};
+ghost use Rattle.hol_infer.specs.Graph.{Respects, IsGraph, IsCellIn, IsPartIn, bound_names};
+ghost use Rattle.hol_infer.specs.declared.cell.Cell.TheVariants.{Part};
+ghost use Rattle.hol_types.specs.Names.{tyvars};
 ghost use Rattle.hol_infer.specs.declared.numbering.Numbering.{Numbering};
 ghost use Rattle.hol_infer.specs.Numbering.{IsNumbering, IsCounted, limit_of};
-ghost use Rattle.hol_infer.specs.Found.{found_at, ArePartsFound, IsPartMissing, BuiltFrom, IsBlocked, IsBuilt, IsStuck, missing, StepGives, SweepGives, AreGeneral};
+ghost use Rattle.hol_infer.specs.Found.{found_at, ArePartsFound, IsPartMissing, AreBoundFound, IsBoundMissing, AddsBound, BuiltFrom, IsBlocked, IsBuilt, IsStuck, missing, StepGives, SweepGives, AreGeneral};
 
-use crate::cell::Cell;
+use crate::cell::{Cell, GenericPart};
+use crate::expanding::has_variable;
 use crate::fault::Fault;
 use crate::numbering::{Numbering, numbering_of};
 use crate::order::parts_first;
 use crate::shape::Shape;
+use hol_types::Name;
 use std::alloc::{AllocError, Global};
 
 // The shapes of the parts, where each is found.
@@ -31,6 +35,70 @@ fn parts_found(
         }
     }
     Ok(Some(shapes))
+}
+
+// Puts the shape of the variable's slot at the end, where the variable stands in the part. Says whether that shape is found.
+fn add_bound(
+    found: &[Option<Shape>],
+    part: &GenericPart,
+    at: usize,
+    name: &Name,
+    bound: &mut Vec<(Shape, Name)>,
+) -> Result<bool, AllocError>
+    requires row_in { part.now.base + at < length found.now }
+    ensures { IfOk result (λ b. AddsBound b found.now part.now at name.now bound.old.items bound.new.items) }
+{
+    if !has_variable(&part.ty, name) {
+        return Ok(true);
+    }
+    match &found[part.base + at] {
+        Some(shape) => {
+            bound.push((shape.copy()?, name.copy()?))?;
+            Ok(true)
+        }
+        None => Ok(false),
+    }
+}
+
+// The shapes of the slots of those variables that stand in the part, where each is found.
+fn bound_found(
+    alloc: Global,
+    found: &[Option<Shape>],
+    part: &GenericPart,
+) -> Result<Option<Vec<(Shape, Name)>>, AllocError>
+    requires row_in { part.now.base + length (bound_names part.now) ≤ length found.now }
+    ensures { IfOk result (λ o. MatchOption o (IsBoundMissing found.now part.now) (λ bound. AreBoundFound found.now part.now bound.items)) }
+{
+    let mut bound = Vec::new(alloc);
+    for (at, name) in part.names.iter().enumerate() {
+        if !add_bound(found, part, at, name, &mut bound)? {
+            return Ok(None);
+        }
+    }
+    Ok(Some(bound))
+}
+
+// The shape of a part of an instance, where the shapes of its variables' slots are found.
+fn part_shape_of(
+    alloc: Global,
+    numbering: Numbering,
+    found: &[Option<Shape>],
+    slot: usize,
+    part: &GenericPart,
+) -> Result<Option<Shape>, AllocError>
+    requires numbered { slot < numbering.slots }
+    requires part_in { IsPartIn (length found.now) part.now }
+    requires fits { limit_of numbering < 2 ^ 64 }
+    requires counted { length (tyvars part.now.ty) ≤ numbering.row }
+    ensures { IfOk result (λ o. MatchOption o (IsBoundMissing found.now part.now) (λ shape. BuiltFrom numbering found.now slot shape (Part part.now))) }
+{
+    match bound_found(alloc, found, part)? {
+        Some(bound) => {
+            let shape = Shape::part(alloc, &part.ty, bound, numbering.base(slot))?;
+            Ok(Some(shape))
+        }
+        None => Ok(None),
+    }
 }
 
 // The shape of a slot with this cell, where the shapes of the cell's parts are found.
@@ -64,6 +132,7 @@ fn shape_of_cell(
             let shape = Shape::instance(alloc, generic.ty(), numbering.base(slot))?;
             Ok(Some(shape))
         }
+        Cell::Part(part) => part_shape_of(alloc, numbering, found, slot, part),
     }
 }
 
@@ -196,7 +265,7 @@ fn none_found(alloc: Global, count: usize) -> Result<Vec<Option<Shape>>, AllocEr
 ///
 /// Answers `Untypable` only where no types meet the graph. Its time is linear in the graph: with each slot after its parts, one pass finds
 /// all that can be found, and one sweep sees that nothing is left. A generic type whose parts have no slots has its shape at once, however
-/// large it is.
+/// large it is. A part of an instance whose variables have slots costs a walk for each of these, up to where it first stands.
 pub fn shapes_of(alloc: Global, cells: &[Cell]) -> Result<Vec<Shape>, Fault>
     requires graph { IsGraph cells.now }
     ensures general { IfOk result (λ v. AreGeneral cells.now v.items) }

@@ -315,8 +315,8 @@ impl Graph {
     }
 }
 
-// The place of a name among the names.
-fn place(names: &[Name], name: &Name) -> Option<usize>
+/// The place of a name among the names.
+pub(crate) fn place(names: &[Name], name: &Name) -> Option<usize>
     ensures { MatchOption result (HasNoPlace names.now name.now) (λ i. IsPlace names.now name.now i) }
 {
     for (i, other) in names.iter().enumerate() {

@@ -6,6 +6,7 @@ ghost use Rattle.hol_infer.specs.Graph.{cell_at, Respects, SameSolutions, HasNoS
 
 use crate::cell::{Cell, Equation};
 use crate::fault::Fault;
+use hol_types::Name;
 use std::alloc::AllocError;
 
 // The slot at the end of a slot's links.
@@ -41,6 +42,29 @@ fn push_parts(
     Ok(())
 }
 
+// Answers `Untypable` unless the names are one.
+fn one_name(a: &Name, b: &Name) -> Result<(), Fault>
+    ensures same { OnOk result (a.now ≡ b.now) }
+    ensures other { IfErr result (λ e. a.now ≡ b.now → ⊥) }
+{
+    if a.same(b) {
+        return Ok(());
+    }
+    Err(Fault::Untypable)
+}
+
+// Puts the equations between the parts of two types of one constructor at the end. Answers `Untypable` where one has more parts.
+fn join_parts(lefts: &[usize], rights: &[usize], pending: &mut Vec<Equation>) -> Result<(), Fault>
+    ensures equations { OnOk result ((length lefts.now ≡ length rights.now) × (pending.new.items ≡ pending.old.items ++ part_equations lefts.now rights.now)) }
+    ensures untypable { IfErr result (λ e. e ≡ Fault.Untypable → length lefts.now ≡ length rights.now → ⊥) }
+{
+    if lefts.len() != rights.len() {
+        return Err(Fault::Untypable);
+    }
+    push_parts(pending, lefts, rights)?;
+    Ok(())
+}
+
 // Puts the equations at the end that hold where a type that meets the first cell meets the second.
 fn join(low: &Cell, high: &Cell, pending: &mut Vec<Equation>) -> Result<(), Fault>
     requires low_known { IsKnownCell low.now }
@@ -54,21 +78,11 @@ fn join(low: &Cell, high: &Cell, pending: &mut Vec<Equation>) -> Result<(), Faul
         (Cell::App(_, _), Cell::Unknown) => Ok(()),
         (Cell::Generic(_), Cell::Unknown) => Ok(()),
         (Cell::Generic(_), Cell::Generic(_)) => Ok(()),
-        (Cell::Rigid(a), Cell::Rigid(b)) => {
-            if !a.same(b) {
-                return Err(Fault::Untypable);
-            }
-            Ok(())
-        }
+        (Cell::Part(_), Cell::Unknown) => Ok(()),
+        (Cell::Rigid(a), Cell::Rigid(b)) => one_name(a, b),
         (Cell::App(c, lefts), Cell::App(d, rights)) => {
-            if !c.same(d) {
-                return Err(Fault::Untypable);
-            }
-            if lefts.len() != rights.len() {
-                return Err(Fault::Untypable);
-            }
-            push_parts(pending, lefts, rights)?;
-            Ok(())
+            one_name(c, d)?;
+            join_parts(lefts, rights, pending)
         }
         (Cell::Rigid(_), Cell::App(_, _)) => Err(Fault::Untypable),
         (Cell::App(_, _), Cell::Rigid(_)) => Err(Fault::Untypable),
@@ -79,6 +93,13 @@ fn join(low: &Cell, high: &Cell, pending: &mut Vec<Equation>) -> Result<(), Faul
         (Cell::Unknown, _) => Err(Fault::Untypable),
         (Cell::Link(_), _) => Err(Fault::Untypable),
         (_, Cell::Link(_)) => Err(Fault::Untypable),
+        (Cell::Rigid(_), Cell::Part(_)) => Err(Fault::Untypable),
+        (Cell::App(_, _), Cell::Part(_)) => Err(Fault::Untypable),
+        (Cell::Generic(_), Cell::Part(_)) => Err(Fault::Untypable),
+        (Cell::Part(_), Cell::Rigid(_)) => Err(Fault::Untypable),
+        (Cell::Part(_), Cell::App(_, _)) => Err(Fault::Untypable),
+        (Cell::Part(_), Cell::Generic(_)) => Err(Fault::Untypable),
+        (Cell::Part(_), Cell::Part(_)) => Err(Fault::Untypable),
     }
 }
 
@@ -143,20 +164,13 @@ fn waiting(low: &Cell, high: &Cell) -> Option<Side>
             }
             Some(Side::Low)
         }
-        (Cell::Generic(_), Cell::Rigid(_)) => Some(Side::Low),
-        (Cell::Generic(_), Cell::App(_, _)) => Some(Side::Low),
-        (Cell::Generic(_), Cell::Unknown) => None,
-        (Cell::Generic(_), Cell::Link(_)) => None,
-        (Cell::Rigid(_), Cell::Generic(_)) => Some(Side::High),
-        (Cell::App(_, _), Cell::Generic(_)) => Some(Side::High),
-        (Cell::Rigid(_), Cell::Unknown) => None,
-        (Cell::Rigid(_), Cell::Link(_)) => None,
-        (Cell::Rigid(_), Cell::Rigid(_)) => None,
-        (Cell::Rigid(_), Cell::App(_, _)) => None,
-        (Cell::App(_, _), Cell::Unknown) => None,
-        (Cell::App(_, _), Cell::Link(_)) => None,
-        (Cell::App(_, _), Cell::Rigid(_)) => None,
-        (Cell::App(_, _), Cell::App(_, _)) => None,
+        (Cell::Generic(_), Cell::Rigid(_) | Cell::App(_, _) | Cell::Part(_)) => Some(Side::Low),
+        (Cell::Part(_), Cell::Rigid(_) | Cell::App(_, _)) => Some(Side::Low),
+        (Cell::Part(_), Cell::Generic(_) | Cell::Part(_)) => Some(Side::Low),
+        (Cell::Rigid(_) | Cell::App(_, _), Cell::Generic(_) | Cell::Part(_)) => Some(Side::High),
+        (Cell::Generic(_) | Cell::Part(_), Cell::Unknown | Cell::Link(_)) => None,
+        (Cell::Rigid(_) | Cell::App(_, _), Cell::Unknown | Cell::Link(_)) => None,
+        (Cell::Rigid(_) | Cell::App(_, _), Cell::Rigid(_) | Cell::App(_, _)) => None,
         (Cell::Unknown, _) => None,
         (Cell::Link(_), _) => None,
     }

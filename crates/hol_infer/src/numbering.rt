@@ -53,6 +53,7 @@ fn needed(alloc: Global, cell: &Cell) -> Result<usize, AllocError>
         Cell::Rigid(_) => Ok(0),
         Cell::App(_, _) => Ok(0),
         Cell::Generic(generic) => variables(alloc, generic.ty()),
+        Cell::Part(part) => variables(alloc, &part.ty),
     }
 }
 

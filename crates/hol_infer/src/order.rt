@@ -35,10 +35,19 @@ fn visits_count(cells: &[Cell]) -> usize {
             Cell::Link(_) => 3,
             Cell::App(_, parts) => parts.len().saturating_add(2),
             Cell::Generic(_) => 2,
+            Cell::Part(part) => part.names.len().saturating_add(2),
         };
         count = count.saturating_add(visits);
     }
     count
+}
+
+// Plans the visits to so many slots from `base` on.
+fn enter_row(visits: &mut Vec<Visit>, base: usize, count: usize) -> Result<(), AllocError> {
+    for place in 0..count {
+        visits.push(Visit::Enter(base.saturating_add(place)))?;
+    }
+    Ok(())
 }
 
 // Plans the visits to the parts of a slot and back to it, if it wasn't seen yet.
@@ -68,6 +77,7 @@ fn enter(
         Some(Cell::Unknown) => {}
         Some(Cell::Rigid(_)) => {}
         Some(Cell::Generic(_)) => {}
+        Some(Cell::Part(part)) => enter_row(visits, part.base, part.names.len())?,
         None => {}
     }
     Ok(())

@@ -1,8 +1,8 @@
 //! Generic types, which know whether a type variable stands in them twice.
-ghost use Rattle.std.specs.Prelude.{◌≡◌, ◌++◌, IfOk, OnOk, IsTrue, ◌↔◌, true};
-ghost use Rattle.hol_types.specs.Names.{type_names};
+ghost use Rattle.std.specs.Prelude.{◌≡◌, ◌++◌, ◌∷◌, [], IfOk, IfSome, OnOk, IsTrue, ◌↔◌, cond, true};
+ghost use Rattle.hol_types.specs.Names.{type_names, is_among};
 ghost use Rattle.hol_infer.specs.declared.scheme.Variables.TheVariants.{Distinct};
-ghost use Rattle.hol_infer.specs.Linear.{IsLinear, AreDistinct};
+ghost use Rattle.hol_infer.specs.Linear.{IsLinear, IsLinearBut, AreDistinct, AreDistinctBut};
 
 use hol_mark::Mark;
 use hol_types::{Name, Ty, TyNode};
@@ -18,7 +18,7 @@ pub enum Variables {
     Unknown,
     /// Each stands once.
     Distinct,
-    /// One stands twice.
+    /// One stands twice. The generic type keeps which ones do.
     Repeated,
 }
 
@@ -27,6 +27,7 @@ pub enum Variables {
 pub struct Scheme {
     ty: Ty,
     variables: Variables,
+    repeated: Option<Rc<Vec<Name>>>,
     mark: Option<Rc<Mark>>,
 }
 
@@ -35,7 +36,7 @@ impl Model for Scheme {
     ghost use Rattle.hol_types.specs.Tree.{TypeTree};
     ghost use Rattle.hol_types.specs.Code.{coded_type};
     ghost use Rattle.hol_infer.specs.declared.scheme.Variables.TheVariants.{Distinct};
-    ghost use Rattle.hol_infer.specs.Linear.{IsLinear};
+    ghost use Rattle.hol_infer.specs.Linear.{IsLinear, IsLinearBut, AreDistinct};
 
     ghost Value = { TypeTree };
 
@@ -43,7 +44,7 @@ impl Model for Scheme {
 
     ghost view = { λ a. a.ty };
 
-    ghost invariant = { λ a. (a.variables ≡ Distinct → IsLinear a.ty) × IfSome a.mark (λ mark. mark.value ≡ coded_type.code a.ty) };
+    ghost invariant = { λ a. (a.variables ≡ Distinct → IsLinear a.ty) × IfSome a.repeated (λ names. IsLinearBut names.value.items a.ty × AreDistinct names.value.items) × IfSome a.mark (λ mark. mark.value ≡ coded_type.code a.ty) };
 }
 
 impl Scheme {
@@ -55,6 +56,7 @@ impl Scheme {
         Ok(Scheme {
             ty: ty.copy()?,
             variables,
+            repeated: None,
             mark: None,
         })
     }
@@ -65,9 +67,14 @@ impl Scheme {
     {
         match self.variables {
             Variables::Unknown => {
-                let mark = Mark::about(&self.ty);
-                self.mark = Some(Rc::new(alloc, mark)?);
-                self.variables = variables_of(alloc, &self.ty)?;
+                let names = repeated_in(alloc, &self.ty)?;
+                self.mark = Some(Rc::new(alloc, Mark::about(&self.ty))?);
+                if names.is_empty() {
+                    self.variables = Variables::Distinct;
+                } else {
+                    self.variables = Variables::Repeated;
+                    self.repeated = Some(Rc::new(alloc, names)?);
+                }
                 Ok(())
             }
             Variables::Distinct => Ok(()),
@@ -89,10 +96,21 @@ impl Scheme {
         self.variables
     }
 
+    /// The variables that stand in it twice, where they are known and there are some.
+    pub fn repeated(&self) -> Option<&Rc<Vec<Name>>>
+        ensures { IfSome result (λ names. IsLinearBut names.now.value.items self.now × AreDistinct names.now.value.items) }
+    {
+        self.repeated.as_ref()
+    }
+
     /// The same generic type.
     pub fn copy(&self) -> Result<Scheme, AllocError>
         ensures { IfOk result (λ s. s ≡ self.now) }
     {
+        let repeated = match &self.repeated {
+            Some(names) => Some(names.clone()?),
+            None => None,
+        };
         let mark = match &self.mark {
             Some(mark) => Some(mark.clone()?),
             None => None,
@@ -100,6 +118,7 @@ impl Scheme {
         Ok(Scheme {
             ty: self.ty.copy()?,
             variables: self.variables,
+            repeated,
             mark,
         })
     }
@@ -146,27 +165,59 @@ fn add_occurrences(ty: &Ty, names: &mut Vec<Name>) -> Result<(), AllocError>
     }
 }
 
-// Whether no name stands twice among the names.
-fn are_distinct(alloc: Global, names: &[Name]) -> Result<bool, AllocError>
-    ensures { IfOk result (λ distinct. IsTrue distinct → AreDistinct names.now) }
+// Whether the name is among the names.
+fn is_among(names: &[Name], name: &Name) -> bool
+    ensures { result ≡ is_among names.now name.now }
 {
-    let mut seen = BTreeSet::new(alloc);
-    for name in names {
-        if !seen.insert(name.as_str())? {
-            return Ok(false);
+    for other in names {
+        if name.same(other) {
+            return true;
         }
     }
-    Ok(true)
+    false
 }
 
-// How often the type variables stand in the type.
-fn variables_of(alloc: Global, ty: &Ty) -> Result<Variables, AllocError>
-    ensures { IfOk result (λ variables. variables ≡ Distinct → IsLinear ty.now) }
+// Puts the name at the end, unless it is there.
+fn add_once(names: &mut Vec<Name>, name: &Name) -> Result<(), AllocError>
+    ensures { OnOk result (names.new.items ≡ cond (is_among names.old.items name.now) names.old.items (names.old.items ++ name.now ∷ [])) }
+{
+    if is_among(names, name) {
+        return Ok(());
+    }
+    names.push(name.copy()?)?;
+    Ok(())
+}
+
+// Puts the name at the end, unless it is new or there.
+fn add_seen(twice: &mut Vec<Name>, name: &Name, is_new: bool) -> Result<(), AllocError>
+    ensures { OnOk result (twice.new.items ≡ cond is_new twice.old.items (cond (is_among twice.old.items name.now) twice.old.items (twice.old.items ++ name.now ∷ []))) }
+{
+    if is_new {
+        return Ok(());
+    }
+    add_once(twice, name)
+}
+
+// The names that stand twice among the names, each once.
+fn repeated(alloc: Global, names: &[Name]) -> Result<Vec<Name>, AllocError>
+    ensures distinct { IfOk result (λ twice. AreDistinct twice.items) }
+    ensures others { IfOk result (λ twice. AreDistinctBut twice.items names.now) }
+{
+    let mut seen = BTreeSet::new(alloc);
+    let mut twice = Vec::new(alloc);
+    for name in names {
+        let is_new = seen.insert(name.as_str())?;
+        add_seen(&mut twice, name, is_new)?;
+    }
+    Ok(twice)
+}
+
+// The type variables that stand in the type twice, each once.
+fn repeated_in(alloc: Global, ty: &Ty) -> Result<Vec<Name>, AllocError>
+    ensures distinct { IfOk result (λ twice. AreDistinct twice.items) }
+    ensures others { IfOk result (λ twice. IsLinearBut twice.items ty.now) }
 {
     let mut names = Vec::new(alloc);
     add_occurrences(ty, &mut names)?;
-    if are_distinct(alloc, &names)? {
-        return Ok(Variables::Distinct);
-    }
-    Ok(Variables::Repeated)
+    repeated(alloc, &names)
 }

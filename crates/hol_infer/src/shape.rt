@@ -1,10 +1,11 @@
 //! Types as inference finds them, over slots that are still open.
-ghost use Rattle.std.specs.Prelude.{◌≡◌, ◌+◌, ◌<◌, ◌≤◌, ◌^◌, length, IfOk, OnOk, min};
+ghost use Rattle.std.specs.Prelude.{◌≡◌, ℕ, List, ◌+◌, ◌++◌, ◌<◌, ◌≤◌, ◌^◌, length, IfOk, OnOk, IsTrue, min};
+ghost use Rattle.hol_types.specs.Tree.{TyVar};
 ghost use Rattle.hol_types.specs.Names.{tyvars};
-ghost use Rattle.hol_infer.specs.Shape.{Hole, Fixed, Built, shape_list, shape_size, shapes_size, fill, shape_holes, place_among, instance_shape};
+ghost use Rattle.hol_infer.specs.Shape.{ShapeTree, Hole, Fixed, Built, shape_list, shape_size, shapes_size, fill, shape_holes, place_among, instance_shape, part_shape, AreWithin, AreSingle};
 ghost use Rattle.hol_infer.specs.Typing.{open_name};
-ghost use Rattle.hol_infer.specs.Holes.{is_hole_among, add_hole, add_holes, hole_index, open_type};
-ghost use Rattle.hol_infer.specs.Generate.{pairs_from};
+ghost use Rattle.hol_infer.specs.Holes.{is_hole_among, add_hole, add_holes, hole_index, open_type, AreHolesOf};
+ghost use Rattle.hol_infer.specs.Graph.{pairs_from};
 ghost use Rattle.hol_infer.specs.ShapeView.{shape_of};
 
 use hol_types::{Name, Ty, TyNode};
@@ -35,6 +36,8 @@ pub enum ShapeNode {
     App(Name, Vec<Shape>),
     /// The generic type, whose type variables are the open slots from this number on, in order of their names.
     Instance(Ty, usize),
+    /// The same, where for some of its type variables these shapes are put.
+    Part(Ty, Vec<(Shape, Name)>, usize),
 }
 
 impl Model for Shape {
@@ -56,7 +59,7 @@ impl Model for Shape {
 
     ghost use Rattle.hol_infer.specs.ShapeFalls.{deep_le_size};
 
-    ghost size_decreases = { λ a h. deep_le_size a.node.value };
+    ghost size_decreases = { λ a h. deep_le_size a.node.value h.1 };
 }
 
 impl Shape {
@@ -103,6 +106,25 @@ impl Shape {
         })
     }
 
+    /// The generic type, where for some of its type variables these shapes are put, and the others are the open slots from `base` on, in
+    /// order of all their names. It takes a walk only where one of the shapes has more than one node.
+    pub fn part(
+        alloc: Global,
+        generic: &Ty,
+        bound: Vec<(Shape, Name)>,
+        base: usize,
+    ) -> Result<Shape, AllocError>
+        requires numbers { base + length (tyvars generic.now) < 2 ^ 64 }
+        requires within { AreWithin (shape_size (part_shape bound.items base (tyvars generic.now) generic.now)) bound.items }
+        ensures { IfOk result (λ s. s ≡ part_shape bound.items base (tyvars generic.now) generic.now) }
+    {
+        let size = part_size(generic, &bound);
+        Ok(Shape {
+            size,
+            node: Rc::new(alloc, ShapeNode::Part(generic.copy()?, bound, base))?,
+        })
+    }
+
     /// The same shape, sharing its nodes.
     pub fn copy(&self) -> Result<Shape, AllocError>
         ensures { IfOk result (λ s. s ≡ self.now) }
@@ -138,6 +160,16 @@ impl Shape {
                 let names = generic.tyvars(alloc)?;
                 add_type_holes(&names, *base, generic, order)
             }
+            ShapeNode::Part(generic, bound, base) => {
+                let mut holes = Vec::with_capacity(alloc, bound.len())?;
+                for pair in bound {
+                    let mut own = Vec::new(alloc);
+                    pair.0.add_holes(alloc, &mut own)?;
+                    holes.push((own, pair.1.copy()?))?;
+                }
+                let names = generic.tyvars(alloc)?;
+                add_part_holes(&holes, &names, *base, generic, order)
+            }
         }
     }
 
@@ -158,7 +190,17 @@ impl Shape {
             }
             ShapeNode::Instance(generic, base) => {
                 let names = generic.tyvars(alloc)?;
-                let pairs = open_pairs(alloc, order, &names, *base)?;
+                let mut pairs = Vec::with_capacity(alloc, names.len())?;
+                add_open_pairs(alloc, order, &names, *base, &mut pairs)?;
+                generic.subst(alloc, &pairs)
+            }
+            ShapeNode::Part(generic, bound, base) => {
+                let mut pairs = Vec::with_capacity(alloc, bound.len())?;
+                for pair in bound {
+                    pairs.push((pair.0.ty(alloc, order)?, pair.1.copy()?))?;
+                }
+                let names = generic.tyvars(alloc)?;
+                add_open_pairs(alloc, order, &names, *base, &mut pairs)?;
                 generic.subst(alloc, &pairs)
             }
         }
@@ -201,22 +243,75 @@ fn add_type_holes(
     }
 }
 
-// The names, each with the type of its open slot: these are those from `base` on.
-fn open_pairs(
+// Puts the open slots of the type at the end of the list as they occur, each unless it is there. Some of its type variables have a list of
+// theirs.
+fn add_part_holes(
+    bound: &[(Vec<usize>, Name)],
+    names: &[Name],
+    base: usize,
+    ty: &Ty,
+    order: &mut Vec<usize>,
+) -> Result<(), AllocError>
+    requires { base + length names.now < 2 ^ 64 }
+    ensures { OnOk result ((shapes : List (ShapeTree × List ℕ)) → AreHolesOf bound.now shapes → order.new.items ≡ add_holes order.old.items (shape_holes (part_shape shapes base names.now ty.now))) }
+{
+    match ty.node() {
+        TyNode::Var(name) => add_variable_holes(bound, names, base, name, order),
+        TyNode::App(_, args) => {
+            for arg in args {
+                add_part_holes(bound, names, base, arg, order)?;
+            }
+            Ok(())
+        }
+    }
+}
+
+// The same of a type variable.
+fn add_variable_holes(
+    bound: &[(Vec<usize>, Name)],
+    names: &[Name],
+    base: usize,
+    name: &Name,
+    order: &mut Vec<usize>,
+) -> Result<(), AllocError>
+    requires { base + length names.now < 2 ^ 64 }
+    ensures { OnOk result ((shapes : List (ShapeTree × List ℕ)) → AreHolesOf bound.now shapes → order.new.items ≡ add_holes order.old.items (shape_holes (part_shape shapes base names.now (TyVar name.now)))) }
+{
+    for pair in bound {
+        if pair.1.same(name) {
+            return add_all_holes(order, &pair.0);
+        }
+    }
+    add_hole(order, base + place_among(names, name))
+}
+
+// Puts the slots at the end, each unless it is there.
+#[tactic(auto, using(crate::proofs::Holes::hole_step))]
+fn add_all_holes(order: &mut Vec<usize>, holes: &[usize]) -> Result<(), AllocError>
+    ensures { OnOk result (order.new.items ≡ add_holes order.old.items holes.now) }
+{
+    for hole in holes {
+        add_hole(order, *hole)?;
+    }
+    Ok(())
+}
+
+// Puts the names at the end, each with the type of its open slot: these are those from `base` on.
+fn add_open_pairs(
     alloc: Global,
     order: &[usize],
     names: &[Name],
     base: usize,
-) -> Result<Vec<(Ty, Name)>, AllocError>
+    pairs: &mut Vec<(Ty, Name)>,
+) -> Result<(), AllocError>
     requires { base + length names.now < 2 ^ 64 }
-    ensures { IfOk result (λ pairs. pairs.items ≡ pairs_from (open_type order.now) base names.now) }
+    ensures { OnOk result (pairs.new.items ≡ pairs.old.items ++ pairs_from (open_type order.now) base names.now) }
 {
-    let mut pairs = Vec::with_capacity(alloc, names.len())?;
     for (i, name) in names.iter().enumerate() {
         let ty = open_ty(alloc, order, base + i)?;
         pairs.push((ty, name.copy()?))?;
     }
-    Ok(pairs)
+    Ok(())
 }
 
 // Whether the slot is in the order.
@@ -279,4 +374,58 @@ fn size_with(parts: &[Shape]) -> u32
         size = (size + part.size()).min(TOO_LARGE);
     }
     size
+}
+
+// Whether each of the shapes has one node.
+#[tactic(auto, using(crate::proofs::Parts::single_step, crate::proofs::Parts::single_all))]
+fn are_single(bound: &[(Shape, Name)]) -> bool
+    ensures { IsTrue result → AreSingle bound.now }
+{
+    for pair in bound {
+        if pair.0.size() != 1 {
+            return false;
+        }
+    }
+    true
+}
+
+// The number of nodes of what is put for a type variable, or 20,001 where there are more.
+#[tactic(auto, using(crate::proofs::Parts::lookup_next))]
+fn variable_size(name: &Name, bound: &[(Shape, Name)]) -> u32
+    ensures small { result ≤ 20001 }
+    ensures size { (base : ℕ) (names : List (List ℕ)) → result ≡ min (shape_size (part_shape bound.now base names (TyVar name.now))) 20001 }
+{
+    for pair in bound {
+        if pair.1.same(name) {
+            return pair.0.size();
+        }
+    }
+    1
+}
+
+// The number of nodes of a generic type where shapes are put for some of its variables, or 20,001 where there are more, by a walk.
+fn walked_size(ty: &Ty, bound: &[(Shape, Name)]) -> u32
+    ensures small { result ≤ 20001 }
+    ensures size { (base : ℕ) (names : List (List ℕ)) → result ≡ min (shape_size (part_shape bound.now base names ty.now)) 20001 }
+{
+    match ty.node() {
+        TyNode::Var(name) => variable_size(name, bound),
+        TyNode::App(_, args) => {
+            let mut size: u32 = 1;
+            for arg in args {
+                size = (size + walked_size(arg, bound)).min(TOO_LARGE);
+            }
+            size
+        }
+    }
+}
+
+// The same, with a walk only where one of the shapes has more than one node.
+fn part_size(ty: &Ty, bound: &[(Shape, Name)]) -> u32
+    ensures { (base : ℕ) (names : List (List ℕ)) → result ≡ min (shape_size (part_shape bound.now base names ty.now)) 20001 }
+{
+    if are_single(bound) {
+        return ty.size();
+    }
+    walked_size(ty, bound)
 }

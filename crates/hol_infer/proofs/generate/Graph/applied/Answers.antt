@@ -1,6 +1,7 @@
-use Rattle.std.proofs.Common.{◌≡◌, rules}
+use Rattle.std.proofs.Common.{◌≡◌, sym, subst, rules}
 use Rattle.hol_infer.specs.declared.scheme.Variables.TheVariants.{Distinct}
 use Rattle.hol_infer.proofs.Linear.{apart_args, linear_args, linear_whole}
+use Rattle.hol_infer.specs.Linear.{IsLinearBut}
 use Rattle.hol_infer.proofs.generate.Graph.applied.Goals as goal
 
 pub split-requires-clause-apart : goal.split-requires-clause-apart
@@ -10,3 +11,6 @@ split-requires-clause-apart c =
 
 pub split-requires-clause-linear : goal.split-requires-clause-linear
 split-requires-clause-linear c = λ distinct. linear_args c.args.args.now (linear_whole c.args.name.now c.args.args.now c.args.generic.now c.requires.parts (c.variables-variables.ensures distinct))
+
+pub tied-requires-clause-linear : goal.tied-requires-clause-linear
+tied-requires-clause-linear c = subst (IsLinearBut c.in-Some.names.now.value.items) (sym c.requires.parts) c.in-Some.ensures.0

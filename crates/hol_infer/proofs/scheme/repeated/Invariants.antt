@@ -3,11 +3,12 @@ use Rattle.std.specs.Ordering.{nat_cmp}
 use Rattle.std.specs.Cmp.Lexicographic.{slice_cmp}
 use Rattle.std.specs.BTreeSet.{contains_by}
 use Rattle.hol_types.specs.Names.{is_among}
-use Rattle.hol_infer.specs.Linear.{AreDistinct}
-use Rattle.hol_infer.proofs.scheme.are_distinct.Given as goal
+use Rattle.hol_infer.specs.Linear.{AreDistinct, AreDistinctBut}
+use Rattle.hol_infer.proofs.scheme.repeated.Given as goal
 
 abbrev pub invariant-loop-name : goal.invariant-loop-name
 invariant-loop-name l = record {
-  distinct : AreDistinct (take l.name-index l.names);
+  distinct : AreDistinct l.twice.items;
+  others : AreDistinctBut l.twice.items (take l.name-index l.names);
   seen : (q : List ℕ) → contains_by (λ k. slice_cmp nat_cmp q k.now) l.seen ≡ is_among (take l.name-index l.names) q;
 }
