@@ -9,7 +9,7 @@ use Rattle.hol_goal.specs.Goal.{GoalValue}
 use Rattle.hol_stack.specs.StackValue.{StepValue}
 use Rattle.hol_exec.specs.Local.{finished, finishes}
 use Rattle.hol_exec.specs.OutcomeValue.{OutcomeValue, Opens, Leaves, Undoes, Rotates, Makes, Refuses, stepped_in, without_newest, undone_in, rotated_in, after}
-use Rattle.hol_exec.specs.Parsed.{ParsedValue, Local, Direct, Goal, Apply, Qed}
+use Rattle.hol_exec.specs.Parsed.{ParsedValue, Local, Direct, Goal, Apply, Qed, Make}
 use Rattle.hol_exec.specs.ReadsValue.{ReadsValue, ClosingValue, closing_of, reads_of, AreReads}
 use Rattle.hol_exec.specs.Setup.{SetupValue}
 use Rattle.hol_exec.specs.StateValue.{ProofValue, StateValue, EndedTheory, start}
@@ -65,6 +65,7 @@ row_finishes setup earlier before s (Local Qed) (Some reads) outcome are h k =
     let same : reads ≡ reads_of Qed s = cc in
     let is : outcome ≡ finishes (closing_of s.proof) = rw same at h in
     rw is (qed_finishes before s.proof k)
+row_finishes setup earlier before s (Local (Make making)) reads outcome are h k = tt
 row_finishes setup earlier before s (Direct command) reads outcome are h k = tt
 
 -- the state that rows lead to has their open goal

@@ -1,5 +1,5 @@
 -- Running one text more, or one theory more.
-use Rattle.std.proofs.Common.{◌≡◌, ℕ, ◌+◌, ◌<◌, List, [], ◌∷◌, ◌++◌, map, take, length, get_or, refl, sym, ◌∙◌, ap, add-one, append_assoc, arith}
+use Rattle.std.proofs.Common.{◌≡◌, ℕ, ◌+◌, ◌<◌, List, [], ◌∷◌, ◌++◌, map, take, length, get_or, refl, sym, ◌∙◌, ap, subst, add-one, append_assoc, arith}
 use Rattle.std.specs.Prelude.{zero, suc, Result, Ok, Err, IfOk, Option, Some, slice_index_or, slice_get, string_bytes}
 use Rattle.std.proofs.lemmas.List.{get_or_default, append-nil}
 use Rattle.std.proofs.Math.Seq.{take-suc, take-length}
@@ -11,10 +11,10 @@ use Rattle.hol_exec.specs.Parsed.{ParsedValue, IsParsed}
 use Rattle.hol_exec.specs.ReadsValue.{reads_at}
 use Rattle.hol_theory.specs.Key.{KeyValue, theorem_key}
 use Rattle.hol_theory.specs.Entry.{EntryValue, Entries, entry_at}
-use Rattle.hol_exec.specs.Entry.{EachIsPlain}
+use Rattle.hol_theory.specs.Theory.{IsTheory}
 use Rattle.hol_exec.specs.ReportValue.{ReportValue}
 use Rattle.hol_exec.specs.ReportOf.{report_of}
-use Rattle.hol_exec.specs.StateValue.{StateValue, EndedTheory, start}
+use Rattle.hol_exec.specs.StateValue.{StateValue, EndedTheory, AreTheories, start}
 use Rattle.hol_document.specs.declared.end.End.{End}
 use Rattle.hol_document.specs.Asked.{commands_at, BasisTexts, theorem_texts_of, theorem_texts}
 use Rattle.hol_document.specs.Documents.{TheoryText, Documents, no_theory}
@@ -32,9 +32,9 @@ row_of setup earlier s text value outcome parsed gets =
     (record { value = value; reads = reads_at value s; outcome = outcome }, record { parsed = parsed; read = refl; gets = gets }, refl)
 
 pub outcome_at : (setup : SetupValue) (earlier : List EndedTheory) (s : StateValue) (text : List ℕ) (outcome : OutcomeValue)
-    → HasOutcome setup earlier s text outcome → IsOutcomeAt s outcome
-outcome_at setup earlier s text outcome (row, is, same) =
-    record { setup = setup; earlier = earlier; value = row.value; reads = row.reads; read = is.read; gets = rw same at is.gets }
+    → HasOutcome setup earlier s text outcome → AreTheories earlier → IsOutcomeAt s outcome
+outcome_at setup earlier s text outcome (row, is, same) theories =
+    record { setup = setup; earlier = earlier; theories = theories; value = row.value; reads = row.reads; read = is.read; gets = rw same at is.gets }
 
 rows_more : (setup : SetupValue) (earlier : List EndedTheory) (s mid : StateValue) (texts : List (List ℕ)) (text : List ℕ) (rows : List Row) (row : Row)
     → AreRows setup earlier s texts rows mid → IsRow setup earlier mid text row → AreRows setup earlier s (texts ++ text ∷ []) (rows ++ row ∷ []) (after mid row.outcome)
@@ -98,8 +98,8 @@ pub report_is : (docs : Documents) (i at : ℕ) (theory : TheoryText) (front : L
     → i < length docs.theories → theory ≡ get_or docs.theories i theory → front ≡ take i docs.theories
     → lines ≡ theory.commands → at < length (commands_at docs i) → line ≡ get_or lines at line → heads ≡ take at lines
     → EndSo docs.setup front ends → LeadTo docs.setup ends heads s → HasOutcome docs.setup ends s line outcome
-    → s' ≡ after s outcome → MakesTheorems outcome → report ≡ report_of outcome s' → IsProvedReport docs i at report
-report_is docs i at theory front ends lines heads line s s' outcome report h theory_is front_is lines_are within line_is heads_are (runs, are, same) (rows, leads) (row, one, own) next makes says =
+    → s' ≡ after s outcome → IsTheory s'.entries → MakesTheorems outcome → report ≡ report_of outcome s' → IsProvedReport docs i at report
+report_is docs i at theory front ends lines heads line s s' outcome report h theory_is front_is lines_are within line_is heads_are (runs, are, same) (rows, leads) (row, one, own) next stand makes says =
     let commands : commands_at docs i ≡ lines = ap (λ (t : TheoryText). t.commands) (theory_found docs.theories i theory h theory_is) ∙ sym lines_are in
     let k : at < length lines = rw commands at within in
     let text : slice_index_or (commands_at docs i) at [] ≡ line = ap (λ (texts : List (List ℕ)). slice_index_or texts at []) commands ∙ (get_or_default lines at [] line k ∙ sym line_is) in
@@ -114,6 +114,7 @@ report_is docs i at theory front ends lines heads line s s' outcome report h the
         here = rw (text, ← same) one;
         says = says ∙ (ap (report_of outcome) next ∙ ap (λ o. report_of o (after s o)) (sym own));
       };
+      stands = subst (λ (t : StateValue). IsTheory t.entries) (next ∙ ap (λ (o : OutcomeValue). after s o) (sym own)) stand;
       proved = rw own makes;
       finished = next_finishes docs.setup ends heads rows s line row leads one;
     }
@@ -121,7 +122,7 @@ report_is docs i at theory front ends lines heads line s s' outcome report h the
 -- the answer from the last state of a theory
 pub basis_is : (docs : Documents) (i : ℕ) (name : List ℕ) (key : KeyValue) (theory : TheoryText) (front : List TheoryText) (ends : List EndedTheory) (lines : List (List ℕ)) (s : StateValue) (found : Option EntryValue) (answer : Option (List (List ℕ)))
     → i < length docs.theories → theory ≡ get_or docs.theories i theory → front ≡ take i docs.theories → lines ≡ theory.commands
-    → EndSo docs.setup front ends → LeadTo docs.setup ends lines s → EachIsPlain s.entries
+    → EndSo docs.setup front ends → LeadTo docs.setup ends lines s → IsTheory s.entries
     → key ≡ theorem_key name → found ≡ entry_at key s.entries → BasisTexts found answer → IsProvedBasis docs i name answer
 basis_is docs i name key theory front ends lines s found answer h theory_is front_is lines_are (runs, are, same) (rows, leads) proved key_is found_is texts =
     let commands : commands_at docs i ≡ lines = ap (λ (t : TheoryText). t.commands) (theory_found docs.theories i theory h theory_is) ∙ sym lines_are in
@@ -140,7 +141,7 @@ basis_is docs i name key theory front ends lines s found answer h theory_is fron
 -- the theorems of the last state of a theory
 pub theorems_are : (docs : Documents) (i : ℕ) (theory : TheoryText) (front : List TheoryText) (ends : List EndedTheory) (lines : List (List ℕ)) (s : StateValue) (texts : List (List ℕ))
     → i < length docs.theories → theory ≡ get_or docs.theories i theory → front ≡ take i docs.theories → lines ≡ theory.commands
-    → EndSo docs.setup front ends → LeadTo docs.setup ends lines s → EachIsPlain s.entries → texts ≡ theorem_texts s.entries → AreProvedTheorems docs i texts
+    → EndSo docs.setup front ends → LeadTo docs.setup ends lines s → IsTheory s.entries → texts ≡ theorem_texts s.entries → AreProvedTheorems docs i texts
 theorems_are docs i theory front ends lines s texts h theory_is front_is lines_are (runs, are, same) (rows, leads) proved says =
     let commands : commands_at docs i ≡ lines = ap (λ (t : TheoryText). t.commands) (theory_found docs.theories i theory h theory_is) ∙ sym lines_are in
     record {

@@ -1,16 +1,16 @@
--- What is true of the theorems that documents show: each is that of a `Thm`, so has a derivation over its basis, which is legal; and what a
--- `qed` made is the goal of the last accepted `g`, without hypotheses.
+-- What is true of the theorems that documents show: each is that of a `Thm`, so has a derivation over its basis, which is legal; in a theory the items of the entries,
+-- in standing order, are a legal list, and each entry rests on those that stand up to it; and what a `qed` made is the goal of the last accepted `g`, without hypotheses.
 -- Source: LCF's and HOL Light's promise of type thm, said of what is shown.
 use Rattle.std.specs.Prelude.{◌≡◌, ◌<◌, ℕ, List, [], ◌∷◌, ◌++◌, length, Option, Some, None}
 use Rattle.std.specs.List.{All, Contains}
 use Rattle.hol_terms.specs.Nameless.{Nameless}
 use Rattle.hol_kernel.specs.Sequent.{no_hyps}
 use Rattle.hol_kernel.specs.Theorem.{Theorem}
-use Rattle.hol_exec.specs.Parsed.{ParsedValue, Local, Direct, Goal, Apply, Qed}
+use Rattle.hol_exec.specs.Parsed.{ParsedValue, Local, Direct, Goal, Apply, Qed, Make}
 use Rattle.hol_theory.specs.Key.{KeyValue, theorem_key}
 use Rattle.hol_theory.specs.Entry.{EntryValue, AType, AConstant, ATheorem, Entries}
-use Rattle.hol_exec.specs.Entry.{EachIsPlain}
-use Rattle.hol_exec.specs.OutcomeValue.{OutcomeValue, Opens, Leaves, Undoes, Rotates, Makes, Refuses, MakesTheorems}
+use Rattle.hol_theory.specs.Theory.{IsTheory}
+use Rattle.hol_exec.specs.OutcomeValue.{OutcomeValue, Opens, Leaves, Undoes, Rotates, Makes, Refuses, MakesTheorems, after}
 use Rattle.hol_exec.specs.ReportValue.{ReportValue}
 use Rattle.hol_document.specs.Documents.{Documents, find_theory}
 use Rattle.hol_document.specs.Afresh.{Row}
@@ -62,6 +62,7 @@ abbrev pub FinishesBy : List Row → ParsedValue → OutcomeValue → Type 0
 FinishesBy rows (Local (Goal name quotation)) outcome = Unit {0}
 FinishesBy rows (Local (Apply call)) outcome = Unit {0}
 FinishesBy rows (Local Qed) outcome = MakesFinished rows outcome
+FinishesBy rows (Local (Make making)) outcome = Unit {0}
 FinishesBy rows (Direct command) outcome = Unit {0}
 
 -- each of the rows that is a `qed` made the theorem of the last `g` that the rows before it accepted
@@ -82,23 +83,25 @@ pub record IsMadeIn (rows : List Row) (entry : KeyValue × EntryValue) : Type 0 
 
 -- ---- what is shown
 
--- It is the report on an outcome, and every theorem which that makes has a derivation over its basis, which is legal; where the command is a
--- `qed`, it is the theorem of the last `g` that was accepted before it.
+-- It is the report on an outcome; the entries of the state after it are a theory; every theorem which it makes has a derivation over its basis, which is legal; and where the
+-- command is a `qed`, it is the theorem of the last `g` that was accepted before it.
 pub record IsProvedReport (docs : Documents) (i at : ℕ) (report : ReportValue) : Type 0 where
   pub is : IsReport docs i at report
+  pub stands : IsTheory (after is.state is.row.outcome).entries
   pub proved : MakesTheorems is.row.outcome
   pub finished : FinishesBy is.rows is.row.value is.row.outcome
 
--- It is the answer from a state, every theorem of which has a derivation over its basis, which is legal, and was made by one of the rows.
+-- It is the answer from a state whose entries are a theory: each theorem has a derivation over its basis, which is legal and has items that stand up to it alone; and each
+-- entry was made by one of the rows.
 pub record IsProvedBasis (docs : Documents) (i : ℕ) (name : List ℕ) (answer : Option (List (List ℕ))) : Type 0 where
   pub is : IsBasis docs i name answer
-  pub proved : EachIsPlain is.state.entries
+  pub proved : IsTheory is.state.entries
   pub made : All (IsMadeIn is.rows) is.state.entries
 
 -- The same of an answer that lists the theorems of a state.
 pub record AreProvedTheorems (docs : Documents) (i : ℕ) (texts : List (List ℕ)) : Type 0 where
   pub are : AreTheorems docs i texts
-  pub proved : EachIsPlain are.state.entries
+  pub proved : IsTheory are.state.entries
   pub made : All (IsMadeIn are.rows) are.state.entries
 
 abbrev pub ShowsProvedIn : Documents → Option ℕ → ℕ → ReportValue → Type 0

@@ -15,7 +15,8 @@ use crate::items::item_texts;
 use crate::line::Line;
 use crate::theory::Theory;
 use hol_exec::{
-    Outcome, Parsed, Reads, Report, Setup, State, apply, direct, entry_text, report_of, run_local,
+    Outcome, Parsed, Reads, Report, Setup, State, apply, direct, entry_text, promise_each,
+    report_of, run_local,
 };
 use hol_theory::{Env, Key, Kind, Value, ValueNode};
 use std::alloc::{AllocError, Global};
@@ -51,6 +52,7 @@ fn run(
     ensures state { IfOk result (λ outcome. state.new ≡ after state.old outcome) }
 {
     let outcome = outcome_of(alloc, setup, earlier, line, state)?;
+    promise_each(earlier);
     apply(alloc, state, &outcome)?;
     Ok(outcome)
 }
@@ -101,6 +103,7 @@ pub(crate) fn report(
     let mut state = state_after(alloc, setup, &earlier, &lines[..at])?;
     let outcome = run(alloc, setup, &earlier, &lines[at], &mut state)?;
     outcome.promise();
+    state.promise();
     report_of(alloc, &outcome, &state)
 }
 

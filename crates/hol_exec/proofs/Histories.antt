@@ -1,11 +1,10 @@
 -- The commands on an open proof's history: what undoing and rotating come to, from what the code found.
-use Rattle.std.specs.Prelude.{◌≡◌, ◌≢◌, ℕ, List, [], ◌∷◌, length, Option, Some, None, IfSome, refl}
+use Rattle.std.specs.Prelude.{◌≡◌, ◌≢◌, List, [], ◌∷◌, length, Option, Some, refl}
 use Rattle.std.proofs.Common.{sym, ◌∙◌, ap}
 use Rattle.hol_stack.specs.StackValue.{StepValue}
-use Rattle.hol_goal.specs.Goal.{GoalValue}
 use Rattle.hol_exec.specs.declared.refusal.RefusalKind.TheVariants as refusal
 use Rattle.hol_exec.specs.StateValue.{ProofValue}
-use Rattle.hol_exec.specs.OutcomeValue.{OutcomeValue, Undoes, Rotates, Refuses}
+use Rattle.hol_exec.specs.OutcomeValue.{OutcomeValue, Undoes, Refuses}
 use Rattle.hol_exec.specs.At.{undoes_to, undoes}
 
 none_earlier : (steps : List StepValue) → length steps ≡ 0 → undoes_to steps ≡ Refuses refusal.NothingToUndo []

@@ -14,16 +14,29 @@ use Rattle.hol_theory.specs.Adding.{first_clash}
 use Rattle.hol_theory.specs.Entry.{Entries}
 use Rattle.hol_theory.specs.Key.{KeyValue}
 use Rattle.hol_exec.specs.Setup.{SetupValue}
-use Rattle.hol_exec.specs.Parsed.{LocalText, Goal, Apply, Qed, DirectText, Unread, Back, Rotate, Oops, Import, ParsedValue, Local, Direct}
+use Rattle.hol_exec.specs.Parsed.{MakingText, NewType, NewConstant, NewAxiom, NewDefinition, NewBasicTypeDefinition, LocalText, Goal, Apply, Qed, Make, DirectText, Unread, Back, Rotate, Oops, Import, ParsedValue, Local, Direct}
 use Rattle.hol_resolve.specs.Reading.{ReadingValue, WrongArity, NoTyping, LargeReading, ReadsAs}
 use Rattle.hol_exec.specs.StateValue.{ProofValue, StateValue, EndedTheory}
 use Rattle.hol_exec.specs.ReadsValue.{ReadsValue, ClosingValue, reads_of, AreReads, first_goal}
-use Rattle.hol_exec.specs.OutcomeValue.{OutcomeValue, Opens, Leaves, Undoes, Rotates, Makes, Refuses, MakesTheorems}
+use Rattle.hol_exec.specs.OutcomeValue.{OutcomeValue, Leaves, Makes, Refuses, MakesTheorems}
 use Rattle.hol_exec.specs.OutcomeView.{outcome_of}
 use Rattle.hol_exec.specs.declared.outcome.Change.{Change}
 use Rattle.hol_exec.specs.declared.outcome.Change.TheVariants as changes
 use Rattle.hol_exec.specs.Local.{opens, opens_read, IsOpening, refused_outcome, stopped_outcome, run_outcome, applied, resolved_outcome, IsApplying, finishes, IsLocalOutcome}
-use Rattle.hol_exec.specs.Lookups.{reading_basis}
+use Rattle.hol_exec.specs.Resolved.{cited_theorem, resolved_basis}
+use Rattle.hol_exec.specs.Lookups.{lookups_of}
+use Rattle.hol_exec.specs.Defining.{first_free, first_unreflected}
+use Rattle.hol_equal.specs.Applied.{rand}
+use Rattle.hol_exec.specs.Making.{UnlessTaken, taken, MakesOne, MakesConstantOf, StatesAxiom, MakesAxiomOf, MakesDefined, UnlessOpen, MakesDefinitionOf, UnlessFree, MakesTypeBy, MakesTypeOf, MakesTypeFrom, IsMade, IsMaking, formula_basis}
+use Rattle.hol_theory.specs.Entry.{EntryValue}
+use Rattle.hol_kernel.specs.Theorem.{Theorem}
+use Rattle.hol_formulas.specs.Equation.{dest_comb}
+use Rattle.hol_types.specs.Tree.{TypeTree}
+use Rattle.hol_resolve.specs.Reading.{type_reading}
+use Rattle.hol_resolve.specs.Readings.{ATerm}
+use Rattle.hol_notation_terms.specs.Text.{DefinitionText}
+use Rattle.hol_notation_commands.specs.Text.{TypeDefinitionText}
+use Rattle.hol_theory.proofs.Theories.{items_agree}
 use Rattle.hol_exec.specs.Standing.{first_taken}
 use Rattle.hol_combine.specs.ExprValue.{ExprValue}
 use Rattle.hol_combine.specs.Runs.{RefusalValue, DoesNotFit, LacksHyps, StopValue, TurnLimit, LargeGoal, RunValue, run}
@@ -32,6 +45,9 @@ use Rattle.hol_exec.specs.Expr.{ResolutionValue, Resolved, Unresolved}
 use Rattle.hol_exec.specs.declared.refusal.RefusalKind.TheVariants as refusal
 use Rattle.hol_exec.specs.At.{undoes_to, undoes, rotates_goals, rotates, drops, imports, imports_theory, imports_from, entries_named, direct, IsOutcome, IsOutcomeAt}
 use Rattle.hol_exec.specs.Valid.{IsLeft, IsValidChange, CanStep}
+use Rattle.hol_theory.specs.Theory.{items_in}
+use Rattle.hol_exec.proofs.Entries.{newest_within}
+use Rattle.hol_exec.proofs.Free.{IsKept, leaves_within}
 use Rattle.hol_exec.proofs.Steps.{steps}
 
 module _ (goal : GoalValue) (goals : List GoalValue) (basis : Items) where
@@ -43,7 +59,7 @@ module _ (goal : GoalValue) (goals : List GoalValue) (basis : Items) where
       stated p b None e = absurd (cc)
       stated p b (Some key) e = absurd (cc)
 
-      typed : (p : Nameless) (is_bool : Bool) → Leaves goal goals basis ≡ cond is_bool (opens name p (reading_basis reads.cited p) (first_taken [] reads.made)) (Refuses refusal.NotBool (decimal q.place)) → ⊥
+      typed : (p : Nameless) (is_bool : Bool) → Leaves goal goals basis ≡ cond is_bool (opens name p (resolved_basis reads.cited ((q.place, ATerm p) ∷ [])) (first_taken [] reads.made)) (Refuses refusal.NotBool (decimal q.place)) → ⊥
       typed p true e = stated p _ (first_taken [] reads.made) e
       typed p false e = absurd (cc)
 
@@ -86,10 +102,78 @@ module _ (goal : GoalValue) (goals : List GoalValue) (basis : Items) where
   applying_first false setup tactic reads h = absurd (cc)
   applying_first true setup tactic reads h = resolved_first setup reads.goal h.0 h.2
 
+  -- what makes types, constants, axioms and definitions takes no step
+  abbrev Leaving : OutcomeValue
+  Leaving = Leaves goal goals basis
+
+  untaken_none : (o : Option KeyValue) (Made : OutcomeValue → Type 0) → UnlessTaken o Made Leaving → (Made Leaving → ⊥) → ⊥
+  untaken_none None Made h f = f h
+  untaken_none (Some key) Made h f = absurd (cc)
+
+  one_none : (Is : KeyValue × EntryValue → Type 0) → MakesOne Is Leaving → ⊥
+  one_none Is h = let e : Leaves goal goals basis ≡ Makes (h.0 ∷ []) = h.2 in absurd (cc)
+
+  constant_none : (name : List ℕ) (place : ℕ) (reads : ReadsValue) (r : ReadingValue TypeTree) → MakesConstantOf name place reads r Leaving → ⊥
+  constant_none name place reads WrongArity h = absurd (cc)
+  constant_none name place reads NoTyping h = absurd (cc)
+  constant_none name place reads LargeReading h = absurd (cc)
+  constant_none name place reads (ReadsAs a) h = untaken_none (taken reads) _ h (one_none _)
+
+  axiom_none : (name : List ℕ) (place : ℕ) (reads : ReadsValue) (r : ReadingValue Nameless) → MakesAxiomOf name place reads r Leaving → ⊥
+  axiom_none name place reads WrongArity h = absurd (cc)
+  axiom_none name place reads NoTyping h = absurd (cc)
+  axiom_none name place reads LargeReading h = absurd (cc)
+  axiom_none name place reads (ReadsAs p) h = by (is_type_at (nameless_type [] p) bool_type) h
+    where
+      by : (b : Bool) → StatesAxiom name place reads p b Leaving → ⊥
+      by true h = untaken_none (taken reads) _ h (one_none _)
+      by false h = absurd (cc)
+
+  open_none : (o u : Option (List ℕ)) (Made : OutcomeValue → Type 0) → UnlessOpen o u Made Leaving → (Made Leaving → ⊥) → ⊥
+  open_none (Some x) u Made h f = absurd (cc)
+  open_none None (Some a) Made h f = absurd (cc)
+  open_none None None Made h f = f h
+
+  defined_none : (basis' : Items) (name : List ℕ) (d : DefinitionText) (r : Nameless) → MakesDefined basis' name d r Leaving → ⊥
+  defined_none basis' name d r h = let e : Leaves goal goals basis ≡ Makes _ = h.makes in absurd (cc)
+
+  definition_none : (name : List ℕ) (d : DefinitionText) (reads : ReadsValue) (r : ReadingValue Nameless) → MakesDefinitionOf name d reads r Leaving → ⊥
+  definition_none name d reads WrongArity h = absurd (cc)
+  definition_none name d reads NoTyping h = absurd (cc)
+  definition_none name d reads LargeReading h = absurd (cc)
+  definition_none name d reads (ReadsAs p) h =
+      untaken_none (taken reads) (UnlessOpen (first_free (rand p)) (first_unreflected (rand p)) (MakesDefined (formula_basis reads d.place p) name d (rand p))) h
+      (λ m. open_none (first_free (rand p)) (first_unreflected (rand p)) (MakesDefined (formula_basis reads d.place p) name d (rand p)) m (defined_none (formula_basis reads d.place p) name d (rand p)))
+
+  type_of_none : (d : TypeDefinitionText) (member : Theorem) (o : Option (Nameless × Nameless)) → MakesTypeOf d member o Leaving → ⊥
+  type_of_none d member None h = absurd (cc)
+  type_of_none d member (Some parts) h = by (first_free parts.0) h
+    where
+      by : (o : Option (List ℕ)) → UnlessFree o (MakesTypeBy d member) Leaving → ⊥
+      by None h = let e : Leaves goal goals basis ≡ Makes h.0 = h.2 in absurd (cc)
+      by (Some x) h = absurd (cc)
+
+  type_none : (d : TypeDefinitionText) (reads : ReadsValue) (o : Option Theorem) → MakesTypeFrom d reads o Leaving → ⊥
+  type_none d reads None h = absurd (cc)
+  type_none d reads (Some member) h =
+      untaken_none (taken reads) (MakesTypeOf d member (dest_comb member.sequent.concl)) h (type_of_none d member (dest_comb member.sequent.concl))
+
+  made_none : (making : MakingText) (reads : ReadsValue) → IsMade making reads Leaving → ⊥
+  made_none (NewType name arity) reads h = untaken_none (taken reads) _ h (one_none _)
+  made_none (NewConstant name q) reads h = constant_none name q.place reads (type_reading (lookups_of reads.cited) q.ty) h
+  made_none (NewAxiom name q) reads h = axiom_none name q.place reads h.0 h.2
+  made_none (NewDefinition name d) reads h = definition_none name d reads h.0 h.2
+  made_none (NewBasicTypeDefinition d) reads h = type_none d reads (cited_theorem reads.cited) h
+
+  making_none : (in_proof : Bool) (making : MakingText) (reads : ReadsValue) → IsMaking in_proof making reads Leaving → ⊥
+  making_none true making reads h = absurd (cc)
+  making_none false making reads h = made_none making reads h
+
   local_first : (setup : SetupValue) (command : LocalText) (s : StateValue) → IsLocalOutcome setup command (reads_of command s) (Leaves goal goals basis) → first_goal s.proof ≡ Some goal
   local_first setup (Goal name q) s h = absurd (opening_none _ name q _ h)
   local_first setup (Apply tactic) s h = applying_first _ setup tactic (reads_of (Apply tactic) s) h
   local_first setup Qed s h = absurd (finish_none (reads_of Qed s).closing h)
+  local_first setup (Make making) s h = absurd (making_none _ making (reads_of (Make making) s) h)
 
   -- nothing that is answered directly takes a step
   undoing_none : (o : Option ProofValue) → Leaves goal goals basis ≡ undoes o → ⊥
@@ -141,15 +225,17 @@ module _ (goal : GoalValue) (goals : List GoalValue) (basis : Items) where
   outcome_first setup earlier s (Direct command) None are h = absurd (direct_none command s earlier h)
   outcome_first setup earlier s (Direct command) (Some reads) are h = absurd h
 
-pub can_step : (s : StateValue) (outcome : OutcomeValue) → IsOutcomeAt s outcome → (goal : GoalValue) (goals : List GoalValue) (basis : Items) (moves : List Move) → outcome ≡ Leaves goal goals basis → IsLeft basis moves goal goals → IfSome s.proof (CanStep basis moves goals)
-can_step s outcome h goal goals basis moves e left = by s.proof refl
+pub can_step : (s : StateValue) (outcome : OutcomeValue) → IsKept s → IsOutcomeAt s outcome → (goal : GoalValue) (goals : List GoalValue) (basis : Items) (moves : List Move) → outcome ≡ Leaves goal goals basis → IsLeft basis moves goal goals → IfSome s.proof (CanStep basis moves goals)
+can_step s outcome kept h goal goals basis moves e left = by s.proof refl
   where
     first : first_goal s.proof ≡ Some goal
     first = outcome_first goal goals basis h.setup h.earlier s h.value h.reads h.read (rw e at h.gets)
 
     by : (o : Option ProofValue) → s.proof ≡ o → IfSome o (CanStep basis moves goals)
     by None z = tt
-    by (Some p) z = steps basis moves goal goals left p (rw z at first)
+    by (Some p) z =
+        let own = newest_within (items_in s.entries) p.newest p.earlier (rw z at kept.2) in
+        steps basis moves goal goals left p (items_agree s.entries p.newest.basis basis kept.0 own (leaves_within s outcome kept h goal goals basis e)) (rw z at first)
 
 -- ---- what is made
 

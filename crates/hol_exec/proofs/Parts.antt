@@ -3,7 +3,7 @@ use Rattle.std.specs.Prelude.{◌≡◌, ◌<◌, ◌≤◌, ◌+◌, ℕ, zero,
 use Rattle.std.specs.List.{remove}
 use Rattle.std.proofs.Common.{ap, sym, ◌∙◌, arith, drop, subst}
 use Rattle.hol_terms.specs.Nameless.{Nameless}
-use Rattle.hol_notation_tactics.specs.Text.{TacText, TacTexts, no_tacs, more_tacs, tac_texts}
+use Rattle.hol_notation_tactics.specs.Text.{TacText, more_tacs, tac_texts}
 use Rattle.hol_combine.specs.declared.expr.ExprNode.{ExprNode}
 use Rattle.hol_combine.specs.ExprValue.{TheoremTacValue, ExprValue, ExprValues, Then, OrElse, SubgoalThen, no_exprs, more_exprs, exprs, then_all, or_else_all}
 use Rattle.hol_exec.specs.declared.unresolved.Unresolved.{Unresolved as Fault}

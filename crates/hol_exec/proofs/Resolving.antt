@@ -1,19 +1,18 @@
 -- What is written, resolved, from the steps of resolving.
-use Rattle.std.specs.Prelude.{◌≡◌, ℕ, List, Option, Some, None, Result, Ok, Err, IfOk, string_bytes, refl}
+use Rattle.std.specs.Prelude.{◌≡◌, ℕ, List, Some, None, Result, Ok, Err, IfOk, string_bytes}
 use Rattle.std.proofs.Common.{ap, sym, ◌∙◌, subst}
-use Rattle.hol_kernel.specs.Items.{Items, no_items}
+use Rattle.hol_kernel.specs.Items.{Items}
 use Rattle.hol_notation_tactics.specs.Text.{TacText}
 use Rattle.hol_resolve.specs.declared.quotations.AnyQuotation.{AnyQuotation}
 use Rattle.hol_resolve.specs.declared.refusal.Refusal.{Refusal}
 use Rattle.hol_resolve.specs.Lookups.{LookupsValue}
 use Rattle.hol_resolve.specs.Quotations.{quotations_of}
 use Rattle.hol_resolve.specs.Readings.{ReadingsValue, AreRead}
-use Rattle.hol_exec.specs.declared.refusal.RefusalKind.{RefusalKind}
 use Rattle.hol_exec.specs.declared.refusal.RefusalKind.TheVariants as refusal
 use Rattle.hol_exec.specs.Setup.{SetupValue}
 use Rattle.hol_exec.specs.Lookups.{lookups_of}
 use Rattle.hol_exec.specs.ReadsValue.{Values}
-use Rattle.hol_exec.specs.Resolved.{cited_theorems}
+use Rattle.hol_exec.specs.Resolved.{cited_theorems, occurs_in, resolved_basis}
 use Rattle.hol_exec.specs.Standing.{first_unknown}
 use Rattle.hol_combine.specs.ExprValue.{ExprValue}
 use Rattle.hol_exec.specs.Expr.{RefusedValue, ResolutionValue, Resolved, Unresolved, calls_of, first_unfit, resolved_expr, refused_resolution, resolution_of, resolved_formulas, resolved_read, IsResolvedFitting, IsResolution}
@@ -21,11 +20,11 @@ use Rattle.hol_exec.specs.ExprView.{resolution_value, IsRefusal, IsFault, IsUnre
 use Rattle.hol_exec.specs.declared.resolution.Resolution.{Resolution}
 use Rattle.hol_exec.specs.declared.unresolved.Unresolved.{Unresolved as Fault}
 use Rattle.hol_exec.specs.declared.unresolved.Unresolved.TheVariants as fault
-use Rattle.hol_exec.specs.Valid.{ArePlain}
+use Rattle.hol_exec.specs.Valid.{AreOfTheory}
 use Rattle.std.proofs.lemmas.Result.{IfOk-from_err}
 use Rattle.hol_resolve.specs.Forward.{CitedValue}
 use Rattle.hol_resolve.specs.Over.{AreWithin}
-use Rattle.hol_exec.proofs.Plain.{resolved_plain, cited_within}
+use Rattle.hol_exec.proofs.ReadOver.{resolved_cited, theorems_within}
 use Rattle.hol_exec.proofs.Runs.{if_ok}
 
 module _ (setup : SetupValue) (cited : Values) where
@@ -46,24 +45,24 @@ module _ (setup : SetupValue) (cited : Values) where
   past_readings tactic over quoted own read r e f h same is =
       (read, subst (λ (w : Result ReadingsValue Refusal). AreRead (lookups_of cited) (quotations_of tactic) w) same (rw (e, f) at h), is)
 
-  -- ---- past the formulas. Nothing that is cited rests on items.
+  -- ---- past the formulas
 
-  module _ (tactic : TacText) (readings : ReadingsValue) (plain : ArePlain cited) where
+  module _ (tactic : TacText) (readings : ReadingsValue) where
     abbrev on : Items → ResolutionValue
     on basis = resolution_of basis (resolved_expr (record { table = setup.table; cited = cited; readings = readings; basis = basis }) tactic)
 
-    on_none : on no_items ≡ resolved_formulas setup tactic cited readings None
-    on_none = ap on (sym (resolved_plain cited readings plain))
+    pub formulas_found : (basis : Items) (e : ExprValue) → basis ≡ resolved_basis cited readings → resolved_expr (record { table = setup.table; cited = cited; readings = readings; basis = basis }) tactic ≡ Ok e →
+        Resolved e basis ≡ resolved_formulas setup tactic cited readings None
+    formulas_found basis e is found = sym (ap (resolution_of basis) found) ∙ ap on is
 
-    pub formulas_found : (basis : Items) (e : ExprValue) → basis ≡ no_items → resolved_expr (record { table = setup.table; cited = cited; readings = readings; basis = basis }) tactic ≡ Ok e → Resolved e basis ≡ resolved_formulas setup tactic cited readings None
-    formulas_found basis e none found = sym (ap (resolution_of basis) found) ∙ ap on none ∙ on_none
+    pub formulas_refused : (basis : Items) (refused : RefusedValue) → basis ≡ resolved_basis cited readings → resolved_expr (record { table = setup.table; cited = cited; readings = readings; basis = basis }) tactic ≡ Err refused →
+        refused_resolution refused ≡ resolved_formulas setup tactic cited readings None
+    formulas_refused basis refused is found = sym (ap (resolution_of basis) found) ∙ ap on is
 
-    pub formulas_refused : (basis : Items) (refused : RefusedValue) → basis ≡ no_items → resolved_expr (record { table = setup.table; cited = cited; readings = readings; basis = basis }) tactic ≡ Err refused → refused_resolution refused ≡ resolved_formulas setup tactic cited readings None
-    formulas_refused basis refused none found = sym (ap (resolution_of basis) found) ∙ ap on none ∙ on_none
-
--- what is resolved by, where the basis has no items
-pub is_context : (cited : Values) (basis : Items) (theorems : CitedValue) → ArePlain cited → basis ≡ no_items → theorems ≡ cited_theorems cited → AreWithin basis theorems
-is_context cited basis theorems plain e f = rw (e, f) (cited_within cited plain)
+-- what is resolved by
+pub is_context : (cited made : Values) (readings : ReadingsValue) (basis : Items) (theorems : CitedValue) → AreOfTheory cited made → basis ≡ resolved_basis cited readings → theorems ≡ cited_theorems cited → AreWithin basis theorems
+is_context cited made readings basis theorems h e f =
+    rw (e, f) (theorems_within (λ c. occurs_in c readings) (resolved_basis cited readings) cited (resolved_cited readings cited made h))
 
 -- ---- refusals
 

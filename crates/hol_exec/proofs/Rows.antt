@@ -1,10 +1,10 @@
 -- The row of a table that a name stands in.
-use Rattle.std.specs.Prelude.{◌≡◌, ◌<◌, ℕ, List, [], ◌∷◌, length, slice_get, Option, Some, None, refl, suc, zero}
+use Rattle.std.specs.Prelude.{◌≡◌, ◌<◌, ℕ, List, [], ◌∷◌, length, slice_get, Option, Some, None, suc, zero}
 use Rattle.std.specs.Option.{option_map, option_and_then}
 use Rattle.std.proofs.Common.{ap, sym, ◌∙◌, arith}
 use Rattle.hol_goal.specs.declared.tac_code.TacCode.{TacCode}
 use Rattle.hol_registry.specs.Table.{index_of}
-use Rattle.hol_exec.specs.Tac.{CalledValue, Registered, at_row, registered}
+use Rattle.hol_exec.specs.Tac.{Registered, at_row, registered}
 
 abbrev Row : Type 0
 Row = List ℕ × TacCode

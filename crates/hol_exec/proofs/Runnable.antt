@@ -1,9 +1,8 @@
 -- What is resolved can be run: its calls are of registered functions, and the basis suits what they are given.
-use Rattle.std.specs.Prelude.{◌≡◌, ◌<◌, ℕ, Bool, true, false, cond, ◌&&◌, nat_lt, List, [], length, IsTrue, decimal, Option, Some, None, is_some, Result, Ok, Err, refl}
-use Rattle.std.proofs.Common.{ap, sym, ◌∙◌, arith, subst}
+use Rattle.std.specs.Prelude.{◌≡◌, ◌<◌, ℕ, Bool, true, false, cond, nat_lt, [], length, decimal, Option, Some, None, is_some, Result, Ok, Err, refl}
+use Rattle.std.proofs.Common.{ap, ◌∙◌, subst}
 use Rattle.std.proofs.lemmas.Bool.{and_from, lt-ltb}
 use Rattle.hol_terms.specs.Nameless.{Nameless, nameless_type}
-use Rattle.hol_types.specs.Tree.{TypeTree}
 use Rattle.hol_formulas.specs.Equation.{bool_type}
 use Rattle.hol_kernel.specs.Items.{Items}
 use Rattle.hol_kernel.specs.Given.{assumed as assume}
@@ -28,7 +27,6 @@ use Rattle.hol_exec.specs.declared.tac.CallRole.{CallRole}
 use Rattle.hol_exec.specs.declared.tac.CallRole.TheVariants.{Whole, TheoremTactic}
 use Rattle.hol_exec.specs.declared.refusal.RefusalKind.TheVariants as refusal
 use Rattle.hol_exec.specs.Resolved.{cited_theorems}
-use Rattle.hol_exec.specs.Setup.{SetupValue}
 use Rattle.hol_exec.specs.Expr.{RefusedValue, ContextValue, mapped, both, named_result, term_before, kind_before, formula, given, resolved_call, resolved_theorem_tac, resolved_whole, resolved_handing, resolved_expr, resolved_exprs}
 use Rattle.hol_exec.specs.Tac.{CalledValue, Registered, kind_of, fits, named, fitting, registered, called}
 use Rattle.hol_exec.specs.Valid.{IsRunnableExpr}

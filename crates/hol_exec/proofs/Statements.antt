@@ -1,5 +1,5 @@
 -- What elaboration says of a term, and what a statement is.
-use Rattle.std.specs.Prelude.{◌≡◌, ℕ, Bool, true, List, [], Option, Some, None}
+use Rattle.std.specs.Prelude.{◌≡◌, Bool, true, [], Option, Some, None}
 use Rattle.std.proofs.Common.{ap, sym, ◌∙◌, subst}
 use Rattle.hol_types.specs.Tree.{TypeTree}
 use Rattle.hol_types.proofs.OrderLaws.{type_cmp_decides}
@@ -7,9 +7,9 @@ use Rattle.hol_terms.specs.Named.{Named, named_type}
 use Rattle.hol_terms.specs.Nameless.{Nameless, nameless, nameless_type}
 use Rattle.hol_terms.proofs.Typing.{type_outside}
 use Rattle.hol_formulas.specs.Equation.{bool_type}
-use Rattle.hol_kernel.specs.Items.{Items, no_items}
-use Rattle.hol_kernel.specs.Typing.{is_type_at, is_known}
-use Rattle.hol_kernel.proofs.Variables.{typed_known, known_typed}
+use Rattle.hol_kernel.specs.Items.{Items}
+use Rattle.hol_kernel.specs.Typing.{is_type_at}
+use Rattle.hol_kernel.proofs.Variables.{known_typed}
 use Rattle.hol_goal.specs.Goal.{GoalValue}
 use Rattle.hol_goal.specs.Achieves.{IsTyped}
 use Rattle.hol_exec.specs.Valid.{IsStatement}
@@ -18,10 +18,7 @@ of_bool : (o : Option TypeTree) → is_type_at o bool_type ≡ true → o ≡ So
 of_bool None e = absurd (cc)
 of_bool (Some a) e = ap Some ((type_cmp_decides a bool_type).0 e)
 
-pub statement_typed : (p : Nameless) (b : Bool) → is_known no_items p ≡ true → b ≡ true → b ≡ is_type_at (nameless_type [] p) bool_type → IsStatement no_items p
-statement_typed p b known e f = typed_known no_items p bool_type known (of_bool (nameless_type [] p) (sym f ∙ e))
-
--- the same of a copy of a term
+-- what is tested of a term is so of a copy of it
 pub formula_typed : (t own : Named) (b : Bool) → b ≡ true → b ≡ is_type_at (nameless_type [] (nameless [] t)) bool_type → own ≡ t → named_type own ≡ Some bool_type
 formula_typed t own b e f same = ap named_type same ∙ sym (type_outside t) ∙ of_bool (nameless_type [] (nameless [] t)) (sym f ∙ e)
 

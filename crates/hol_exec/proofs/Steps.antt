@@ -1,13 +1,10 @@
 -- What is left of a goal, and when a proof can take that step.
 use Rattle.std.specs.Prelude.{◌≡◌, true, List, [], ◌∷◌, length, refl, Some}
 use Rattle.std.specs.FinSet as set
-use Rattle.std.proofs.Common.{ap, sym, ◌∙◌, subst}
-use Rattle.hol_kernel.specs.Items.{Items, no_items}
+use Rattle.std.proofs.Common.{sym, subst}
+use Rattle.hol_kernel.specs.Items.{Items}
 use Rattle.hol_kernel.specs.Extends.{Agree}
 use Rattle.hol_kernel.specs.Sequent.{no_hyps}
-use Rattle.hol_kernel.proofs.HypothesisLists.{hyps_total, hyps_same}
-use Rattle.hol_kernel.proofs.ItemOrder.{total, only}
-use Rattle.hol_kernel.proofs.Members.{not_in_empty}
 use Rattle.hol_kernel.proofs.Subsets.{subset_trans, subset_right}
 use Rattle.hol_goal.specs.Goal.{GoalValue}
 use Rattle.hol_combine.specs.ExprValue.{ExprValue}
@@ -25,13 +22,10 @@ use Rattle.hol_exec.specs.Valid.{IsLeft, CanStep}
 -- ---- what a run left
 
 -- an expression that a basis suits is suited by each that contains it
-pub left_by : (basis : Items) (e : ExprValue) (first goal : GoalValue) (step : Step) → basis ≡ no_items → suits_expr e basis ≡ true → goal ≡ first → IsValid (suits_expr e) no_hyps step.just (first ∷ []) step.goals.items → IsLeft basis step.just goal step.goals.items
-left_by basis e first goal step plain suited same h = record {
-  plain = plain;
-  valid =
-      subst (λ (g : GoalValue). IsValid (set.is_subset basis) no_hyps step.just (g ∷ []) step.goals.items) (sym same)
-      (valid_under (suits_expr e) (set.is_subset basis) no_hyps step.just (first ∷ []) step.goals.items (λ more k. suits_larger e basis more k suited) h);
-}
+pub left_by : (basis : Items) (e : ExprValue) (first goal : GoalValue) (step : Step) → suits_expr e basis ≡ true → goal ≡ first → IsValid (suits_expr e) no_hyps step.just (first ∷ []) step.goals.items → IsLeft basis step.just goal step.goals.items
+left_by basis e first goal step suited same h =
+    subst (λ (g : GoalValue). IsValid (set.is_subset basis) no_hyps step.just (g ∷ []) step.goals.items) (sym same)
+    (valid_under (suits_expr e) (set.is_subset basis) no_hyps step.just (first ∷ []) step.goals.items (λ more k. suits_larger e basis more k suited) h)
 
 -- equal values are left so too
 pub left_same : (basis own : Items) (moves kept : List Move) (goal first : GoalValue) (left goals : List GoalValue) → own ≡ basis → kept ≡ moves → first ≡ goal → goals ≡ left → IsLeft basis moves goal left → IsLeft own kept first goals
@@ -47,9 +41,6 @@ same_step basis moves kept left goals standing e f h =
 
 -- ---- the step of a proof
 
-agree_none : (a b : Items) → b ≡ no_items → Agree a b
-agree_none a b e x y k in_a in_b key_x key_y = absurd (not_in_empty total only y (ap (λ (s : Items). set.contains s y) (sym e) ∙ in_b))
-
 module _ (basis : Items) (moves : List Move) (goal : GoalValue) (left : List GoalValue) (h : IsLeft basis moves goal left) where
   from_first : (own : Items) (goals : List GoalValue) → first_of goals ≡ Some goal → IsStep (set.union own basis) moves left goals
   from_first own [] e = absurd (cc)
@@ -57,10 +48,10 @@ module _ (basis : Items) (moves : List Move) (goal : GoalValue) (left : List Goa
       let same : g ≡ goal = cc in
       subst (λ (x : GoalValue). IsValid (set.is_subset (set.union own basis)) no_hyps moves (x ∷ []) left) (sym same)
       (valid_under (set.is_subset basis) (set.is_subset (set.union own basis)) no_hyps moves (goal ∷ []) left
-      (λ more k. subset_trans basis (set.union own basis) more (subset_right own basis) k) h.valid)
+      (λ more k. subset_trans basis (set.union own basis) more (subset_right own basis) k) h)
 
-  pub steps : (p : ProofValue) → first_of p.newest.goals ≡ Some goal → CanStep basis moves left p
-  steps p first = record { joins = agree_none p.newest.basis basis h.plain; step = from_first p.newest.basis p.newest.goals first }
+  pub steps : (p : ProofValue) → Agree p.newest.basis basis → first_of p.newest.goals ≡ Some goal → CanStep basis moves left p
+  steps p agree first = record { joins = agree; step = from_first p.newest.basis p.newest.goals first }
 
 -- ---- the end of a proof
 

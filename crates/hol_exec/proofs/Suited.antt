@@ -1,15 +1,13 @@
 -- What a basis suits, each basis that contains it suits.
-use Rattle.std.specs.Prelude.{◌≡◌, ◌&&◌, true, false, List, [], ◌∷◌, is_some, cond, Bool, Option, Some, None, refl}
+use Rattle.std.specs.Prelude.{◌≡◌, true, false, List, [], ◌∷◌, is_some, cond, Bool, None, refl}
 use Rattle.std.specs.List.{list_all}
-use Rattle.std.specs.FinSet as set
 use Rattle.std.proofs.Common.{◌∙◌}
 use Rattle.std.proofs.lemmas.Bool.{and_parts, and_from}
-use Rattle.hol_types.specs.Tree.{TypeTree}
 use Rattle.hol_terms.specs.Nameless.{Nameless, nameless_type}
 use Rattle.hol_formulas.specs.Equation.{bool_type}
 use Rattle.hol_kernel.specs.Items.{Items, IsSubset}
 use Rattle.hol_kernel.specs.Given.{Given, proved, assumed}
-use Rattle.hol_kernel.specs.Typing.{is_typed, is_known, type_over}
+use Rattle.hol_kernel.specs.Typing.{is_typed, is_known}
 use Rattle.hol_kernel.proofs.Subsets.{within_of_subset, subset_trans}
 use Rattle.hol_kernel.proofs.Weaken.{is_known_more, has_type_more}
 use Rattle.hol_goal.specs.Arguments.{TacArgsValue, Nothing, Term, Pair, Theorem, TermAndTheorem, Theorems}

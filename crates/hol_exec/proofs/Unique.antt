@@ -1,24 +1,20 @@
 -- A text is one thing, and has one outcome at a state.
 use Rattle.std.specs.Prelude.{◌≡◌, ℕ, List, [], ◌∷◌, Bool, true, false, Option, Some, None, Result, refl}
-use Rattle.std.proofs.Common.{ap, sym, ◌∙◌, subst, inl, inr}
-use Rattle.hol_notation_terms.specs.Text.{TermText, QuotationText}
+use Rattle.std.proofs.Common.{ap, sym, ◌∙◌, inl, inr}
+use Rattle.hol_notation_terms.specs.Text.{QuotationText}
 use Rattle.hol_notation_tactics.specs.Text.{TacText}
 use Rattle.hol_notation_commands.specs.Reading.{Reads, Breaks}
 use Rattle.hol_notation_commands.proofs.OneReading.{one-reading as one_command}
-use Rattle.hol_infer.specs.Raw.{RawTree}
-use Rattle.hol_infer.specs.Resolving.{raw_of, term_has_arities}
-use Rattle.hol_infer.proofs.Unique.{one_reading as one_term, reading_typable, reading_not_large, large_typable}
 use Rattle.hol_exec.specs.Setup.{SetupValue}
-use Rattle.hol_exec.specs.Parsed.{LocalText, Goal, Apply, Qed, ParsedValue, Local, Direct, Unread, IsParsed, parsed}
-use Rattle.hol_terms.specs.Nameless.{Nameless}
+use Rattle.hol_exec.specs.Parsed.{LocalText, Goal, Apply, Qed, Make, ParsedValue, Local, Direct, Unread, IsParsed, parsed}
 use Rattle.hol_resolve.specs.Lookups.{LookupsValue}
+use Rattle.hol_resolve.specs.Reading.{ReadingValue}
 use Rattle.hol_resolve.specs.Quotations.{quotations_of}
 use Rattle.hol_resolve.specs.Readings.{QuotedValue, ATerm, ReadingsValue, Attempts, reading_map, IsQuotedAs, AreAttempts, read_all, AreRead}
 use Rattle.hol_resolve.specs.declared.quotations.AnyQuotation.{AnyQuotation}
 use Rattle.hol_resolve.specs.declared.quotations.AnyQuotation.TheVariants as quoted
 use Rattle.hol_resolve.specs.declared.refusal.Refusal.{Refusal}
 use Rattle.hol_exec.specs.Lookups.{lookups_of}
-use Rattle.hol_resolve.specs.Reading.{ReadingValue, WrongArity, NoTyping, LargeReading, ReadsAs, IsReadAs, IsTermReadAs}
 use Rattle.hol_exec.specs.StateValue.{StateValue, EndedTheory}
 use Rattle.hol_exec.specs.ReadsValue.{ReadsValue, Values}
 use Rattle.hol_exec.specs.declared.refusal.RefusalKind.{RefusalKind}
@@ -26,6 +22,8 @@ use Rattle.hol_exec.specs.Expr.{ResolutionValue, named_refusals, first_refusal, 
 use Rattle.hol_exec.specs.OutcomeValue.{OutcomeValue}
 use Rattle.hol_exec.specs.Local.{opens_read, IsOpening, resolved_outcome, IsApplying, IsLocalOutcome}
 use Rattle.hol_exec.specs.At.{IsOutcome}
+use Rattle.hol_exec.proofs.Readings.{one_reading}
+use Rattle.hol_exec.proofs.UniqueMade.{one_making}
 
 -- ---- texts
 
@@ -33,39 +31,13 @@ pub one_text : (text : List ℕ) (a b : ParsedValue) → IsParsed text a → IsP
 one_text text a b (inl p) (inl q) =
     let e : Reads p.command ≡ Reads q.command = one_command text (Reads p.command) (Reads q.command) p.written q.written in
     let same : p.command ≡ q.command = cc in
-    p.is ∙ ap (parsed text) same ∙ sym q.is
+    p.is ∙ ap parsed same ∙ sym q.is
 one_text text a b (inl p) (inr q) = let e : Reads p.command ≡ Breaks q.place = one_command text (Reads p.command) (Breaks q.place) p.written q.breaks in absurd (cc)
 one_text text a b (inr p) (inl q) = let e : Breaks p.place ≡ Reads q.command = one_command text (Breaks p.place) (Reads q.command) p.breaks q.written in absurd (cc)
 one_text text a b (inr p) (inr q) =
     let e : Breaks p.place ≡ Breaks q.place = one_command text (Breaks p.place) (Breaks q.place) p.breaks q.breaks in
     let same : p.place ≡ q.place = cc in
     p.is ∙ ap (λ place. Direct (Unread place)) same ∙ sym q.is
-
--- ---- readings
-
-both_ways : (b : Bool) → b ≡ true → b ≡ false → ⊥
-both_ways b p q = let e : true ≡ false = sym p ∙ q in absurd (cc)
-
-pub one_read : (arities : Bool) (raw : RawTree) (a b : ReadingValue Nameless) → IsReadAs arities raw a → IsReadAs arities raw b → a ≡ b
-one_read arities raw WrongArity WrongArity p q = refl
-one_read arities raw WrongArity NoTyping p q = absurd (both_ways _ q.0 p)
-one_read arities raw WrongArity LargeReading p q = absurd (both_ways _ q.0 p)
-one_read arities raw WrongArity (ReadsAs t) p q = absurd (both_ways _ q.0 p)
-one_read arities raw NoTyping WrongArity p q = absurd (both_ways _ p.0 q)
-one_read arities raw NoTyping NoTyping p q = refl
-one_read arities raw NoTyping LargeReading p q = absurd (large_typable raw p.1 q.1)
-one_read arities raw NoTyping (ReadsAs t) p q = absurd (reading_typable raw t q.1 p.1)
-one_read arities raw LargeReading WrongArity p q = absurd (both_ways _ p.0 q)
-one_read arities raw LargeReading NoTyping p q = absurd (large_typable raw q.1 p.1)
-one_read arities raw LargeReading LargeReading p q = refl
-one_read arities raw LargeReading (ReadsAs t) p q = absurd (reading_not_large raw t q.1 q.2 p.1)
-one_read arities raw (ReadsAs s) WrongArity p q = absurd (both_ways _ p.0 q)
-one_read arities raw (ReadsAs s) NoTyping p q = absurd (reading_typable raw s p.1 q.1)
-one_read arities raw (ReadsAs s) LargeReading p q = absurd (reading_not_large raw s p.1 p.2 q.1)
-one_read arities raw (ReadsAs s) (ReadsAs t) p q = ap ReadsAs (one_term raw s t p.1 q.1)
-
-pub one_reading : (over : LookupsValue) (t : TermText) (a b : ReadingValue Nameless) → IsTermReadAs over t a → IsTermReadAs over t b → a ≡ b
-one_reading over t a b p q = one_read (term_has_arities over.types t) (raw_of over.types over.constants [] t) a b p q
 
 -- ---- what is quoted
 
@@ -115,6 +87,7 @@ pub one_local : (setup : SetupValue) (command : LocalText) (reads : ReadsValue) 
 one_local setup (Goal name quotation) reads a b p q = one_opening reads.in_proof name quotation reads a b p q
 one_local setup (Apply tactic) reads a b p q = one_applying reads.in_proof setup tactic reads a b p q
 one_local setup Qed reads a b p q = p ∙ sym q
+one_local setup (Make making) reads a b p q = one_making reads.in_proof making reads a b p q
 
 pub one_outcome : (setup : SetupValue) (earlier : List EndedTheory) (s : StateValue) (value : ParsedValue) (reads : Option ReadsValue) (a b : OutcomeValue) →
     IsOutcome setup earlier s value reads a → IsOutcome setup earlier s value reads b → a ≡ b

@@ -8,7 +8,7 @@ use Rattle.hol_theory.specs.Key.{KeyValue, key_text}
 use Rattle.hol_exec.specs.declared.refusal.RefusalKind.TheVariants as refusal
 use Rattle.hol_exec.specs.Setup.{SetupValue}
 use Rattle.hol_exec.specs.Parsed.{DirectText, Unread, Back, Rotate, Oops, Import, ParsedValue, Local, Direct}
-use Rattle.hol_exec.specs.StateValue.{ProofValue, StateValue, EndedTheory}
+use Rattle.hol_exec.specs.StateValue.{ProofValue, StateValue, EndedTheory, AreTheories}
 use Rattle.hol_exec.specs.ReadsValue.{ReadsValue, AreReads}
 use Rattle.hol_exec.specs.OutcomeValue.{OutcomeValue, Undoes, Rotates, Makes, Refuses}
 use Rattle.hol_exec.specs.Local.{IsLocalOutcome}
@@ -73,10 +73,11 @@ IsOutcome setup earlier s (Local command) (Some reads) outcome = IsLocalOutcome 
 IsOutcome setup earlier s (Direct command) None outcome = outcome ≡ direct command s earlier
 IsOutcome setup earlier s (Direct command) (Some reads) outcome = ⊥
 
--- an outcome that the state may get
+-- an outcome that the state may get, where what stands earlier are theories
 pub record IsOutcomeAt (s : StateValue) (outcome : OutcomeValue) : Type 0 where
   pub setup : SetupValue
   pub earlier : List EndedTheory
+  pub theories : AreTheories earlier
   pub value : ParsedValue
   pub reads : Option ReadsValue
   pub read : AreReads value s reads

@@ -11,7 +11,7 @@ use Rattle.hol_goal.specs.Goal.{GoalValue, goal_code}
 use Rattle.hol_stack.specs.StackValue.{StepValue}
 use Rattle.hol_stack.specs.Codes.{step_code}
 use Rattle.hol_exec.specs.declared.refusal.RefusalKind.{RefusalKind}
-use Rattle.hol_exec.specs.declared.refusal.RefusalKind.TheVariants.{Syntax, InProof, NoProofOpen, UnknownTheory, UnknownTheorem, UnknownTac, Untypable, NotBool, Arity, NameTaken, TooLarge, BadRule, HypsNotAssumed, NoGoalOpen, Refused, TurnLimit, GoalsRemain, NothingToUndo, ImportClash}
+use Rattle.hol_exec.specs.declared.refusal.RefusalKind.TheVariants.{Syntax, InProof, NoProofOpen, UnknownTheory, UnknownTheorem, UnknownTac, Untypable, NotBool, Arity, NameTaken, NotClosed, NotReflected, TooLarge, BadRule, HypsNotAssumed, NoGoalOpen, Refused, TurnLimit, GoalsRemain, NothingToUndo, ImportClash}
 use Rattle.hol_theory.specs.Entry.{Entries}
 use Rattle.hol_theory.specs.Codes.{coded_key, coded_entry, coded_entries}
 use Rattle.hol_exec.specs.StateValue.{ProofValue, StateValue}
@@ -61,7 +61,7 @@ coded_reads =
 abbrev refusal_at : ℕ → RefusalKind
 refusal_at n =
     if n == 1 then Syntax else if n == 2 then InProof else if n == 3 then NoProofOpen else if n == 4 then UnknownTheory else if n == 5 then UnknownTheorem else if n == 6 then UnknownTac
-    else if n == 7 then Untypable else if n == 8 then NotBool else if n == 9 then Arity else if n == 10 then NameTaken else if n == 13 then TooLarge else if n == 14 then BadRule else if n == 15 then HypsNotAssumed
+    else if n == 7 then Untypable else if n == 8 then NotBool else if n == 9 then Arity else if n == 10 then NameTaken else if n == 11 then NotClosed else if n == 12 then NotReflected else if n == 13 then TooLarge else if n == 14 then BadRule else if n == 15 then HypsNotAssumed
     else if n == 16 then NoGoalOpen else if n == 17 then Refused else if n == 18 then TurnLimit
     else if n == 19 then GoalsRemain else if n == 20 then NothingToUndo else ImportClash
 
@@ -76,6 +76,8 @@ refusal_back Untypable = refl
 refusal_back NotBool = refl
 refusal_back Arity = refl
 refusal_back NameTaken = refl
+refusal_back NotClosed = refl
+refusal_back NotReflected = refl
 refusal_back TooLarge = refl
 refusal_back BadRule = refl
 refusal_back HypsNotAssumed = refl

@@ -1,5 +1,5 @@
 -- What the code's resolutions stand for, and when an expression is resolved to one.
-use Rattle.std.specs.Prelude.{◌≡◌, ℕ, List, ◌∷◌, ◌++◌, Result, Ok, Err, IfOk, IsErr, string_bytes}
+use Rattle.std.specs.Prelude.{◌≡◌, List, ◌∷◌, ◌++◌, Result, Ok, Err, IfOk, IsErr, string_bytes}
 use Rattle.std.specs.Global.{Vec}
 use Rattle.hol_goal.specs.Arguments.{TacArgsValue}
 use Rattle.hol_goal.specs.ArgumentsView.{args_value}

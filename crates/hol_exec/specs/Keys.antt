@@ -1,10 +1,10 @@
 -- The keys that a command's outcome may depend on, in text order: those that it cites, and those that it makes.
 -- Source: this project.
 use Rattle.std.specs.Prelude.{List, [], ◌∷◌, ◌++◌, Option, Some, None}
-use Rattle.hol_notation_terms.specs.Text.{TypeText, TypeTexts, Ident, Arrow, Apply as Applying, no_types, more_types, TermText, Named, Constant, Applied, Abstraction, Typed}
+use Rattle.hol_notation_terms.specs.Text.{VariableText, DefinitionText, TypeText, TypeTexts, Ident, Arrow, Apply as Applying, no_types, more_types, TermText, Named, Constant, Applied, Abstraction, Typed}
 use Rattle.hol_notation_tactics.specs.Text.{TypePairText, ThmText, Cited, Assume, Refl, Spec, Sym, Conjunct1, Conjunct2, Mp, InstType, ArgumentText, Term, Theorem, Pair, Theorems, CallText, TacText, TacTexts, Call, Then, ThenL, OrElse, Repeat, Try, Changed, Every, First, Replicate, DischThen, PopAssum, FirstAssum, SubgoalThen, no_tacs, more_tacs}
 use Rattle.hol_theory.specs.Key.{KeyValue, type_key, constant_key, theorem_key}
-use Rattle.hol_exec.specs.Parsed.{LocalText, Goal, Apply, Qed}
+use Rattle.hol_exec.specs.Parsed.{MakingText, NewType, NewConstant, NewAxiom, NewDefinition, NewBasicTypeDefinition, LocalText, Goal, Apply, Qed, Make}
 
 -- `type:` of each identifier in a type
 abbrev mutual
@@ -85,13 +85,37 @@ abbrev mutual
   keys_of_tactics no_tacs = []
   keys_of_tactics (more_tacs t ts) = keys_of_tactic t ++ keys_of_tactics ts
 
+abbrev pub keys_of_parameters : List VariableText → List KeyValue
+keys_of_parameters [] = []
+keys_of_parameters (v ∷ parameters) = constant_key v.name ∷ keys_of_annotation v.annotation ++ keys_of_parameters parameters
+
+-- the constant that a definition defines is a key that it makes
+abbrev pub keys_of_definition : DefinitionText → List KeyValue
+keys_of_definition d = keys_of_parameters d.parameters ++ keys_of_annotation d.right.annotation ++ keys_of_term d.right.term
+
+abbrev pub cited_by_making : MakingText → List KeyValue
+cited_by_making (NewType name arity) = []
+cited_by_making (NewConstant name quotation) = keys_of_type quotation.ty
+cited_by_making (NewAxiom name quotation) = keys_of_term quotation.term
+cited_by_making (NewDefinition name definition) = keys_of_definition definition
+cited_by_making (NewBasicTypeDefinition definition) = theorem_key definition.theorem ∷ []
+
 abbrev pub cited_keys : LocalText → List KeyValue
 cited_keys (Goal name quotation) = keys_of_term quotation.term
 cited_keys (Apply tactic) = keys_of_tactic tactic
 cited_keys Qed = []
+cited_keys (Make making) = cited_by_making making
+
+abbrev pub made_by_making : MakingText → List KeyValue
+made_by_making (NewType name arity) = type_key name ∷ []
+made_by_making (NewConstant name quotation) = constant_key name ∷ []
+made_by_making (NewAxiom name quotation) = theorem_key name ∷ []
+made_by_making (NewDefinition name definition) = theorem_key name ∷ constant_key definition.name ∷ []
+made_by_making (NewBasicTypeDefinition d) = type_key d.ty ∷ constant_key d.abs ∷ constant_key d.rep ∷ theorem_key d.abs_rep ∷ theorem_key d.rep_abs ∷ []
 
 -- `qed` makes the key that its `g` tested
 abbrev pub made_keys : LocalText → List KeyValue
 made_keys (Goal name quotation) = theorem_key name ∷ []
 made_keys (Apply tactic) = []
 made_keys Qed = []
+made_keys (Make making) = made_by_making making

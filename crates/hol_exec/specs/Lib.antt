@@ -1,4 +1,3 @@
-pub mod Entry
 pub mod Occurring
 pub mod Setup
 pub mod SetupView
@@ -18,6 +17,8 @@ pub mod ContextView
 pub mod Refusal
 pub mod OutcomeValue
 pub mod OutcomeView
+pub mod Defining
+pub mod Making
 pub mod Local
 pub mod At
 pub mod Valid

@@ -1,6 +1,6 @@
 -- The outcome of a command from what it reads, with its refusals in their order: of one number the whole command is tested, from left to
 -- right, before the next one is; and what is resolved comes before what is run.
--- Source: this project; `g` and `e` are after HOL Light's tactics.ml.
+-- Source: this project; `g` and `e` are after HOL Light's tactics.ml. What makes types, constants, axioms and definitions is apart (Making).
 use Rattle.std.specs.Prelude.{◌≡◌, ℕ, List, [], ◌∷◌, Bool, true, false, cond, decimal, nat_eq, Option, Some, None}
 use Rattle.hol_terms.specs.Nameless.{Nameless, nameless_type}
 use Rattle.hol_formulas.specs.Equation.{bool_type}
@@ -18,13 +18,16 @@ use Rattle.hol_exec.specs.declared.refusal.RefusalKind.TheVariants as refusal
 use Rattle.hol_theory.specs.Key.{KeyValue, theorem_key, key_text}
 use Rattle.hol_theory.specs.Entry.{ATheorem}
 use Rattle.hol_exec.specs.Setup.{SetupValue}
-use Rattle.hol_exec.specs.Parsed.{LocalText, Goal, Apply, Qed}
+use Rattle.hol_exec.specs.Parsed.{LocalText, Goal, Apply, Qed, Make}
 use Rattle.hol_exec.specs.ReadsValue.{ReadsValue, ClosingValue}
-use Rattle.hol_exec.specs.Lookups.{lookups_of, reading_basis}
+use Rattle.hol_exec.specs.Lookups.{lookups_of}
+use Rattle.hol_exec.specs.Resolved.{resolved_basis}
+use Rattle.hol_resolve.specs.Readings.{ATerm}
 use Rattle.hol_resolve.specs.Reading.{ReadingValue, WrongArity, NoTyping, LargeReading, ReadsAs, IsTermReadAs}
 use Rattle.hol_exec.specs.Standing.{first_taken}
 use Rattle.hol_exec.specs.Expr.{ResolutionValue, Resolved, Unresolved, IsResolution}
 use Rattle.hol_exec.specs.OutcomeValue.{OutcomeValue, Opens, Leaves, Makes, Refuses}
+use Rattle.hol_exec.specs.Making.{IsMaking}
 
 -- ---- `g`: in a proof; arity; untypable; too large; not bool; name taken
 
@@ -35,7 +38,7 @@ opens name statement basis (Some key) = Refuses refusal.NameTaken (key_text key)
 -- a term that leaves its type open, as `x` does, is of another type than bool
 abbrev pub opens_term : List ℕ → ℕ → ReadsValue → Nameless → OutcomeValue
 opens_term name place reads p =
-    cond (is_type_at (nameless_type [] p) bool_type) (opens name p (reading_basis reads.cited p) (first_taken [] reads.made)) (Refuses refusal.NotBool (decimal place))
+    cond (is_type_at (nameless_type [] p) bool_type) (opens name p (resolved_basis reads.cited ((place, ATerm p) ∷ [])) (first_taken [] reads.made)) (Refuses refusal.NotBool (decimal place))
 
 abbrev pub opens_read : List ℕ → ℕ → ReadsValue → ReadingValue Nameless → OutcomeValue
 opens_read name place reads WrongArity = Refuses refusal.Arity (decimal place)
@@ -95,3 +98,4 @@ abbrev pub IsLocalOutcome : SetupValue → LocalText → ReadsValue → OutcomeV
 IsLocalOutcome setup (Goal name quotation) reads outcome = IsOpening reads.in_proof name quotation reads outcome
 IsLocalOutcome setup (Apply tactic) reads outcome = IsApplying reads.in_proof setup tactic reads outcome
 IsLocalOutcome setup Qed reads outcome = outcome ≡ finishes reads.closing
+IsLocalOutcome setup (Make making) reads outcome = IsMaking reads.in_proof making reads outcome

@@ -1,15 +1,11 @@
 -- The constants and types that stand for a command's readings: those of the prelude, and those of the entries that it cites.
 -- Source: this project.
-use Rattle.std.specs.Prelude.{ℕ, List, [], ◌∷◌, ◌++◌, cond, Option, Some, None}
-use Rattle.std.specs.FinSet as set
+use Rattle.std.specs.Prelude.{ℕ, List, [], ◌∷◌, ◌++◌, Option, Some, None}
 use Rattle.hol_types.specs.Tree.{TypeTree}
-use Rattle.hol_terms.specs.Nameless.{Nameless}
-use Rattle.hol_kernel.specs.Items.{Items, no_items}
 use Rattle.hol_formulas.specs.Constants.{prelude_types, prelude_constants}
 use Rattle.hol_resolve.specs.Lookups.{LookupsValue}
 use Rattle.hol_theory.specs.Key.{KeyValue}
 use Rattle.hol_theory.specs.Entry.{EntryValue, AType, AConstant, ATheorem}
-use Rattle.hol_exec.specs.Occurring.{type_occurs_in, constant_occurs}
 use Rattle.hol_exec.specs.ReadsValue.{Values}
 
 -- what stands under a key is this for readings: a theorem is no constant and no type
@@ -35,15 +31,3 @@ cited_types ((key, value) ∷ more) = value_types key value ++ cited_types more
 
 abbrev pub lookups_of : Values → LookupsValue
 lookups_of cited = record { constants = prelude_constants ++ cited_constants cited; types = prelude_types ++ cited_types cited }
-
--- what stands under a key gives its basis to a reading where its constant or type occurs in it; a theorem does not
-abbrev pub value_basis : KeyValue → Option EntryValue → Nameless → Items
-value_basis key None p = no_items
-value_basis key (Some (AType arity item basis)) p = cond (type_occurs_in key.name p) basis no_items
-value_basis key (Some (AConstant ty item basis)) p = cond (constant_occurs key.name p) basis no_items
-value_basis key (Some (ATheorem th)) p = no_items
-
--- the basis of a reading: the union of what the cited entries give it
-abbrev pub reading_basis : Values → Nameless → Items
-reading_basis [] p = no_items
-reading_basis ((key, value) ∷ more) p = set.union (value_basis key value p) (reading_basis more p)

@@ -7,8 +7,7 @@ use Rattle.hol_kernel.specs.Items.{Items}
 use Rattle.hol_goal.specs.Goal.{GoalValue}
 use Rattle.hol_stack.specs.StackValue.{StepValue, turned}
 use Rattle.hol_exec.specs.declared.refusal.RefusalKind.{RefusalKind}
-use Rattle.hol_theory.specs.Entry.{Entries}
-use Rattle.hol_exec.specs.Entry.{EachIsPlain}
+use Rattle.hol_theory.specs.Entry.{Entries, EachIsEntry}
 use Rattle.hol_exec.specs.StateValue.{ProofValue, StateValue}
 
 pub data OutcomeValue : Type 0 where
@@ -78,11 +77,11 @@ after s (Rotates times) = record { entries = s.entries; proof = rotated_in times
 after s (Makes entries) = record { entries = s.entries ++ entries; proof = None }
 after s (Refuses kind arg) = s
 
--- each entry that is made is a theorem that has a derivation over its basis, which is legal and, as long as no command makes items, empty
+-- each theorem that is made has no hypotheses and a derivation over its basis, which is legal; and each type and constant is made by an item of its basis
 abbrev pub MakesTheorems : OutcomeValue → Type 0
 MakesTheorems (Opens name statement basis) = Unit {0}
 MakesTheorems (Leaves goal goals basis) = Unit {0}
 MakesTheorems Undoes = Unit {0}
 MakesTheorems (Rotates times) = Unit {0}
-MakesTheorems (Makes entries) = EachIsPlain entries
+MakesTheorems (Makes entries) = EachIsEntry entries
 MakesTheorems (Refuses kind arg) = Unit {0}

@@ -1,13 +1,14 @@
 -- What a command reads of a state: its outcome is a function of the command and of this alone.
 -- Source: this project.
 use Rattle.std.specs.Prelude.{◌≡◌, ℕ, List, [], ◌∷◌, Bool, length, map, Option, Some, None, is_some}
+use Rattle.std.specs.Map.{keys_of}
 use Rattle.hol_terms.specs.Nameless.{Nameless}
 use Rattle.hol_kernel.specs.Items.{Items}
 use Rattle.hol_goal.specs.Goal.{GoalValue}
 use Rattle.hol_theory.specs.Key.{KeyValue}
 use Rattle.hol_theory.specs.Entry.{Entries, EntryValue, entry_at}
 use Rattle.hol_exec.specs.StateValue.{ProofValue, StateValue, open_goals}
-use Rattle.hol_exec.specs.Parsed.{LocalText, Goal, Apply, Qed, ParsedValue, Local, Direct}
+use Rattle.hol_exec.specs.Parsed.{LocalText, Goal, Apply, Qed, Make, ParsedValue, Local, Direct}
 use Rattle.hol_exec.specs.Keys.{cited_keys, made_keys}
 
 -- what `qed` reads of the open proof
@@ -48,11 +49,13 @@ abbrev pub goal_for : LocalText → Option ProofValue → Option GoalValue
 goal_for (Goal name quotation) proof = None
 goal_for (Apply tactic) proof = first_goal proof
 goal_for Qed proof = None
+goal_for (Make making) proof = None
 
 abbrev pub closing_for : LocalText → Option ProofValue → Option ClosingValue
 closing_for (Goal name quotation) proof = None
 closing_for (Apply tactic) proof = None
 closing_for Qed proof = closing_of proof
+closing_for (Make making) proof = None
 
 abbrev pub reads_of : LocalText → StateValue → ReadsValue
 reads_of command s = record {
@@ -62,6 +65,11 @@ reads_of command s = record {
   goal = goal_for command s.proof;
   closing = closing_for command s.proof;
 }
+
+-- the keys of what is read are those that the command cites and makes
+pub record AreKeyed (command : LocalText) (reads : ReadsValue) : Type 0 where
+  pub cited : keys_of reads.cited ≡ cited_keys command
+  pub made : keys_of reads.made ≡ made_keys command
 
 -- what is read by what a text is: nothing where it is answered directly
 abbrev pub reads_at : ParsedValue → StateValue → Option ReadsValue

@@ -2,7 +2,7 @@
 -- Source: this project.
 use Rattle.std.specs.Prelude.{ℕ, List, codes}
 use Rattle.hol_exec.specs.declared.refusal.RefusalKind.{RefusalKind}
-use Rattle.hol_exec.specs.declared.refusal.RefusalKind.TheVariants.{Syntax, InProof, NoProofOpen, UnknownTheory, UnknownTheorem, UnknownTac, Untypable, NotBool, Arity, NameTaken, TooLarge, BadRule, HypsNotAssumed, NoGoalOpen, Refused, TurnLimit, GoalsRemain, NothingToUndo, ImportClash}
+use Rattle.hol_exec.specs.declared.refusal.RefusalKind.TheVariants.{Syntax, InProof, NoProofOpen, UnknownTheory, UnknownTheorem, UnknownTac, Untypable, NotBool, Arity, NameTaken, NotClosed, NotReflected, TooLarge, BadRule, HypsNotAssumed, NoGoalOpen, Refused, TurnLimit, GoalsRemain, NothingToUndo, ImportClash}
 
 abbrev pub kind_number : RefusalKind → ℕ
 kind_number Syntax = 1
@@ -15,6 +15,8 @@ kind_number Untypable = 7
 kind_number NotBool = 8
 kind_number Arity = 9
 kind_number NameTaken = 10
+kind_number NotClosed = 11
+kind_number NotReflected = 12
 kind_number TooLarge = 13
 kind_number BadRule = 14
 kind_number HypsNotAssumed = 15
@@ -36,6 +38,8 @@ kind_text Untypable = codes "untypable"
 kind_text NotBool = codes "not bool"
 kind_text Arity = codes "type constructor's arity"
 kind_text NameTaken = codes "name taken"
+kind_text NotClosed = codes "not closed"
+kind_text NotReflected = codes "type variables not reflected"
 kind_text TooLarge = codes "too large"
 kind_text BadRule = codes "bad rule"
 kind_text HypsNotAssumed = codes "hypotheses not among assumptions"

@@ -1,8 +1,8 @@
 -- What a command's expression is resolved with: the theorems that it cites, and the basis of all that is resolved.
 -- Source: this project.
-use Rattle.std.specs.Prelude.{ℕ, List, [], ◌∷◌, ◌++◌, cond, Option, Some, None}
+use Rattle.std.specs.Prelude.{ℕ, List, [], ◌∷◌, ◌++◌, Bool, false, cond, Option, Some, None}
+use Rattle.std.specs.List.{list_any}
 use Rattle.std.specs.FinSet as set
-use Rattle.hol_types.specs.Tree.{TypeTree}
 use Rattle.hol_kernel.specs.Items.{Items, no_items}
 use Rattle.hol_kernel.specs.Theorem.{Theorem}
 use Rattle.hol_prelude.specs.Statements.{prelude_theorem}
@@ -13,9 +13,8 @@ use Rattle.hol_theory.specs.declared.key.Kind.{Kind}
 use Rattle.hol_theory.specs.declared.key.Kind.TheVariants as key_kind
 use Rattle.hol_theory.specs.Key.{KeyValue}
 use Rattle.hol_theory.specs.Entry.{EntryValue, AType, AConstant, ATheorem}
-use Rattle.hol_exec.specs.Occurring.{type_occurs}
+use Rattle.hol_exec.specs.Occurring.{constant_occurs}
 use Rattle.hol_exec.specs.ReadsValue.{Values}
-use Rattle.hol_exec.specs.Lookups.{reading_basis}
 
 -- ---- theorems that are cited: what stands under the key, else the prelude's theorem of the name
 
@@ -38,31 +37,33 @@ abbrev pub cited_theorems : Values → CitedValue
 cited_theorems [] = []
 cited_theorems ((key, value) ∷ more) = named_theorem key.name (theorem_at key value) ++ cited_theorems more
 
+-- the theorem that a command cites which cites nothing else
+abbrev pub cited_theorem : Values → Option Theorem
+cited_theorem [] = None
+cited_theorem ((key, value) ∷ more) = theorem_at key value
+
 -- ---- bases
 
-abbrev pub theorems_basis : CitedValue → Items
-theorems_basis [] = no_items
-theorems_basis (c ∷ cited) = set.union c.1.basis (theorems_basis cited)
+abbrev pub occurs_in_quoted : List ℕ → QuotedValue → Bool
+occurs_in_quoted name (ATerm p) = constant_occurs name p
+occurs_in_quoted name (quoting.AType a) = false
 
--- what stands under a key gives its basis to a type that is read where its constructor occurs in that; a theorem does not
-abbrev pub value_type_basis : KeyValue → Option EntryValue → TypeTree → Items
-value_type_basis key None a = no_items
-value_type_basis key (Some (AType arity item basis)) a = cond (type_occurs key.name a) basis no_items
-value_type_basis key (Some (AConstant ty item basis)) a = no_items
-value_type_basis key (Some (ATheorem th)) a = no_items
+-- a constant of the name occurs in a reading
+abbrev pub occurs_in : List ℕ → ReadingsValue → Bool
+occurs_in name readings = list_any (λ r. occurs_in_quoted name r.1) readings
 
-abbrev pub type_basis : Values → TypeTree → Items
-type_basis [] a = no_items
-type_basis ((key, value) ∷ more) a = set.union (value_type_basis key value a) (type_basis more a)
+-- What stands under a key that is cited adds its basis: a theorem; a type, since a constructor that is written stands for itself; a constant only where it
+-- occurs in a reading, since its name may be that of a bound variable.
+abbrev pub with_value : ReadingsValue → Items → KeyValue → Option EntryValue → Items
+with_value readings items key None = items
+with_value readings items key (Some (AType arity item basis)) = set.union items basis
+with_value readings items key (Some (AConstant ty item basis)) = cond (occurs_in key.name readings) (set.union items basis) items
+with_value readings items key (Some (ATheorem th)) = set.union items th.basis
 
-abbrev pub quoted_basis : Values → QuotedValue → Items
-quoted_basis cited (ATerm p) = reading_basis cited p
-quoted_basis cited (quoting.AType a) = type_basis cited a
+abbrev pub with_values : ReadingsValue → Items → Values → Items
+with_values readings items [] = items
+with_values readings items ((key, value) ∷ more) = with_values readings (with_value readings items key value) more
 
-abbrev pub readings_basis : Values → ReadingsValue → Items
-readings_basis cited [] = no_items
-readings_basis cited (r ∷ readings) = set.union (quoted_basis cited r.1) (readings_basis cited readings)
-
--- the union of the bases of the theorems that are cited, and of the constants and types that occur in the readings
+-- the union of the bases of all that a command resolves: of the theorems that it cites, and of the constants and types in its readings
 abbrev pub resolved_basis : Values → ReadingsValue → Items
-resolved_basis cited readings = set.union (theorems_basis (cited_theorems cited)) (readings_basis cited readings)
+resolved_basis cited readings = with_values readings no_items cited

@@ -1,10 +1,11 @@
 -- The state of a theory while it is run: its entries, and the open proof, if there is one.
 -- Source: HOL Light's goal stacks (tactics.ml); entries are this project's.
-use Rattle.std.specs.Prelude.{ℕ, List, [], Option, Some, None}
+use Rattle.std.specs.Prelude.{ℕ, List, [], ◌∷◌, Option, Some, None}
 use Rattle.hol_terms.specs.Nameless.{Nameless}
 use Rattle.hol_goal.specs.Goal.{GoalValue}
 use Rattle.hol_stack.specs.StackValue.{StepValue}
 use Rattle.hol_theory.specs.Entry.{Entries}
+use Rattle.hol_theory.specs.Theory.{IsTheory}
 
 -- an open proof: the name and the statement of the `g` that opened it, and its history, the newest element apart from the
 -- earlier ones, of which the newest comes first
@@ -31,3 +32,8 @@ open_goals (Some p) = p.newest.goals
 pub record EndedTheory : Type 0 where
   pub name : List ℕ
   pub entries : Entries
+
+-- each of them is a theory
+abbrev pub AreTheories : List EndedTheory → Type 0
+AreTheories [] = Unit {0}
+AreTheories (theory ∷ more) = IsTheory theory.entries × AreTheories more

@@ -1,7 +1,7 @@
 -- Calls of functions on goals, as they are written: what a name calls, and whether arguments are of its kind. What each function leaves of a goal is said by
 -- its code, in hol_just.
-use Rattle.std.specs.Prelude.{◌≡◌, ℕ, List, [], ◌∷◌, Bool, true, false, cond, slice_get, Option, Some, None}
-use Rattle.std.specs.Option.{option_map, option_and_then}
+use Rattle.std.specs.Prelude.{ℕ, List, [], ◌∷◌, Bool, true, false, cond, slice_get, Option, Some, None}
+use Rattle.std.specs.Option.{option_and_then}
 use Rattle.hol_notation_tactics.specs.Text.{ArgumentText, Term, Theorem, Pair, Theorems, CallText}
 use Rattle.hol_goal.specs.Arguments.{arguments_of}
 use Rattle.hol_goal.specs.declared.tac_args.ArgumentKind.{ArgumentKind}

@@ -44,8 +44,8 @@ fn add_theorem(
     }
 }
 
-// What stands under the key, or the prelude's theorem of its name.
-fn theorem_at<'a>(setup: &'a Setup, value: &'a (Key, Option<Value>)) -> Option<&'a Thm>
+/// What stands under the key, or the prelude's theorem of its name.
+pub(crate) fn theorem_at<'a>(setup: &'a Setup, value: &'a (Key, Option<Value>)) -> Option<&'a Thm>
     ensures { MatchOption result (theorem_at value.now.0 value.now.1 ≡ None) (λ th. theorem_at value.now.0 value.now.1 ≡ Some th.now) }
 {
     match &value.1 {

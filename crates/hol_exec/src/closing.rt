@@ -1,7 +1,6 @@
 //! What the end of a proof reads of it.
 ghost use Rattle.std.specs.Prelude.{◌≡◌, [], IfOk, Some};
 ghost use Rattle.hol_terms.specs.Nameless.{nameless};
-ghost use Rattle.hol_kernel.specs.Items.{no_items};
 ghost use Rattle.hol_kernel.specs.Sequent.{no_hyps};
 ghost use Rattle.hol_kernel.specs.Theorem.{theorem_over};
 ghost use Rattle.hol_exec.specs.ReadsValue.{ClosingValue, closing_of};
@@ -22,8 +21,7 @@ pub(crate) struct Closing {
 }
 
 impl Model for Closing {
-    ghost use Rattle.std.specs.Prelude.{◌≡◌, string_bytes, length};
-    ghost use Rattle.hol_kernel.specs.Items.{no_items};
+    ghost use Rattle.std.specs.Prelude.{string_bytes, length};
     ghost use Rattle.hol_exec.specs.ReadsValue.{ClosingValue};
     ghost use Rattle.hol_exec.specs.Codes.{coded_closing};
 
@@ -32,8 +30,6 @@ impl Model for Closing {
     ghost coded = { coded_closing };
 
     ghost view = { λ c. record { name = string_bytes c.name; statement = c.stack.goal.conclusion; basis = c.stack.newest.basis; open_goals = length c.stack.newest.goals } };
-
-    ghost invariant = { λ c. c.stack.newest.basis ≡ no_items };
 }
 
 impl Same for Closing {
@@ -72,8 +68,7 @@ impl Closing {
 
     /// The proof's basis.
     pub(crate) fn basis(&self) -> &Basis
-        ensures value { result.now ≡ self.now.basis }
-        ensures plain { result.now ≡ no_items }
+        ensures { result.now ≡ self.now.basis }
     {
         self.stack.basis()
     }
@@ -99,8 +94,7 @@ impl Closing {
     #[tactic(auto, using(crate::proofs::Steps::none_open))]
     pub(crate) fn theorem(&self, alloc: Global) -> Result<Thm, AllocError>
         requires { self.now.open_goals ≡ 0 }
-        ensures value { IfOk result (λ th. th ≡ theorem_over self.now.basis no_hyps self.now.statement) }
-        ensures plain { self.now.basis ≡ no_items }
+        ensures { IfOk result (λ th. th ≡ theorem_over self.now.basis no_hyps self.now.statement) }
     {
         match self.stack.finish(alloc) {
             Ok(theorem) => Ok(theorem),

@@ -1,6 +1,6 @@
 //! What is answered directly.
 ghost use Rattle.std.specs.Prelude.{◌≡◌, IfOk, MatchOption, None, Some, map};
-ghost use Rattle.hol_exec.specs.StateValue.{EndedTheory};
+ghost use Rattle.hol_exec.specs.StateValue.{EndedTheory, AreTheories};
 ghost use Rattle.hol_exec.specs.ParsedView.{direct_text};
 ghost use Rattle.hol_exec.specs.At.{direct, undoes, rotates, drops, imports, imports_from, entries_named};
 ghost use Rattle.hol_theory.specs.Adding.{first_clash};
@@ -8,7 +8,7 @@ ghost use Rattle.hol_theory.specs.Adding.{first_clash};
 use crate::outcome::Outcome;
 use crate::parsed::DirectCommand;
 use crate::refusal::RefusalKind;
-use crate::run::{refused, refused_at};
+use crate::refused::{refused, refused_at};
 use crate::state::State;
 use std::alloc::{AllocError, Global};
 
@@ -24,6 +24,15 @@ pub trait Ended {
     /// Its last state.
     fn state(&self) -> &State
         ensures { result.now.entries ≡ (ended self.now).entries };
+}
+
+/// What the theories that stand earlier promise: each is a theory.
+pub fn promise_each<T: Ended>(earlier: &[T])
+    ensures { AreTheories (map T.ended earlier.now) }
+{
+    for theory in earlier {
+        theory.state().promise();
+    }
 }
 
 /// The outcome of what is answered directly, from the state and from the theories that stand earlier.
@@ -116,7 +125,7 @@ fn theory_named<'a, T: Ended>(earlier: &'a [T], name: &str) -> Option<&'a State>
 }
 
 // An import of the entries of a theory's last state.
-#[tactic(auto, using(crate::proofs::Plain::plain_missing, crate::proofs::Free::missing_distinct))]
+#[tactic(auto, using(crate::proofs::Entries::missing_made, crate::proofs::Free::missing_distinct))]
 fn imports_from(alloc: Global, state: &State, theory: &State) -> Result<Outcome, AllocError>
     ensures { IfOk result (λ outcome. outcome ≡ imports_from state.now.entries theory.now.entries (first_clash state.now.entries theory.now.entries)) }
 {

@@ -2,7 +2,6 @@
 ghost use Rattle.std.specs.Prelude.{◌≡◌, IfOk, Ok, Err, Some, option_copied, []};
 ghost use Rattle.std.specs.Option.{option_map};
 ghost use Rattle.hol_terms.specs.Nameless.{nameless};
-ghost use Rattle.hol_kernel.specs.Items.{no_items};
 ghost use Rattle.hol_goal.specs.ArgumentsView.{args_value};
 ghost use Rattle.hol_combine.specs.ExprValue.{exprs};
 ghost use Rattle.hol_combine.specs.ExprView.{call_value, theorem_tac_value, expr_of_node};

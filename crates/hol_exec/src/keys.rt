@@ -1,14 +1,17 @@
 //! The keys that a command cites and makes.
-ghost use Rattle.std.specs.Prelude.{◌≡◌, ◌++◌, IfOk, OnOk, map};
+ghost use Rattle.std.specs.Prelude.{◌≡◌, ◌++◌, ◌∷◌, [], IfOk, OnOk, map};
 ghost use Rattle.hol_notation_tactics.specs.Text.{tac_texts};
-ghost use Rattle.hol_exec.specs.ParsedView.{local_text};
-ghost use Rattle.hol_exec.specs.Keys.{keys_of_type, keys_of_types, keys_of_annotation, keys_of_term, keys_of_pairs, keys_of_theorem, keys_of_theorems, keys_of_argument, keys_of_arguments, keys_of_call, keys_of_tactic, keys_of_tactics, cited_keys, made_keys};
+ghost use Rattle.hol_exec.specs.Parsed.{NewBasicTypeDefinition};
+ghost use Rattle.hol_exec.specs.ParsedView.{local_text, making_text};
+ghost use Rattle.hol_exec.specs.Keys.{keys_of_type, keys_of_types, keys_of_annotation, keys_of_term, keys_of_pairs, keys_of_theorem, keys_of_theorems, keys_of_argument, keys_of_arguments, keys_of_call, keys_of_tactic, keys_of_tactics, keys_of_parameters, keys_of_definition, cited_by_making, made_by_making, cited_keys, made_keys};
 
+use crate::making::Making;
 use crate::parsed::LocalCommand;
+use hol_notation_commands::TypeDefinition;
 use hol_notation_tactics::{
     TacArg, TacArgNode, TacCall, TacExpr, TacExprNode, ThmExpr, ThmExprNode, TypePair,
 };
-use hol_notation_terms::{PreTerm, PreTermNode, PreType, PreTypeNode};
+use hol_notation_terms::{Definition, PreTerm, PreTermNode, PreType, PreTypeNode, PreVariable};
 use hol_theory::{Key, Kind};
 use std::alloc::{AllocError, Global};
 
@@ -184,6 +187,95 @@ fn add_tactics(alloc: Global, keys: &mut Vec<Key>, tactics: &[TacExpr]) -> Resul
     Ok(())
 }
 
+fn add_parameters(
+    alloc: Global,
+    keys: &mut Vec<Key>,
+    parameters: &[PreVariable],
+) -> Result<(), AllocError>
+    ensures { OnOk result (keys.new.items ≡ keys.old.items ++ keys_of_parameters parameters.now) }
+{
+    for variable in parameters {
+        keys.push(Key::new(alloc, Kind::Constant, variable.name.as_str())?)?;
+        add_annotation(alloc, keys, &variable.annotation)?;
+    }
+    Ok(())
+}
+
+fn add_definition(
+    alloc: Global,
+    keys: &mut Vec<Key>,
+    definition: &Definition,
+) -> Result<(), AllocError>
+    ensures { OnOk result (keys.new.items ≡ keys.old.items ++ keys_of_definition definition.now) }
+{
+    add_parameters(alloc, keys, &definition.parameters)?;
+    add_annotation(alloc, keys, &definition.right.annotation)?;
+    add_term(alloc, keys, &definition.right.term)
+}
+
+fn cited_by_making(alloc: Global, making: &Making) -> Result<Vec<Key>, AllocError>
+    ensures { IfOk result (λ keys. keys.items ≡ cited_by_making (making_text making.now)) }
+{
+    let mut keys = Vec::new(alloc);
+    match making {
+        Making::Type { name: _, arity: _ } => {}
+        Making::Constant { name: _, quotation } => add_type(alloc, &mut keys, &quotation.ty)?,
+        Making::Axiom { name: _, quotation } => add_term(alloc, &mut keys, &quotation.term)?,
+        Making::Definition {
+            name: _,
+            definition,
+        } => add_definition(alloc, &mut keys, definition)?,
+        Making::BasicTypeDefinition(definition) => {
+            add_key(alloc, &mut keys, Kind::Theorem, definition.theorem.as_str())?;
+        }
+    }
+    Ok(keys)
+}
+
+fn add_key(alloc: Global, keys: &mut Vec<Key>, kind: Kind, name: &str) -> Result<(), AllocError>
+    ensures { OnOk result (keys.new.items ≡ keys.old.items ++ record { kind = kind; name = name.now } ∷ []) }
+{
+    Ok(keys.push(Key::new(alloc, kind, name)?)?)
+}
+
+fn made_by_making(alloc: Global, making: &Making) -> Result<Vec<Key>, AllocError>
+    ensures { IfOk result (λ keys. keys.items ≡ made_by_making (making_text making.now)) }
+{
+    let mut keys = Vec::new(alloc);
+    match making {
+        Making::Type { name, arity: _ } => {
+            add_key(alloc, &mut keys, Kind::Type, name.as_str())?;
+        }
+        Making::Constant { name, quotation: _ } => {
+            add_key(alloc, &mut keys, Kind::Constant, name.as_str())?;
+        }
+        Making::Axiom { name, quotation: _ } => {
+            add_key(alloc, &mut keys, Kind::Theorem, name.as_str())?;
+        }
+        Making::Definition { name, definition } => {
+            add_key(alloc, &mut keys, Kind::Theorem, name.as_str())?;
+            add_key(alloc, &mut keys, Kind::Constant, definition.name.as_str())?;
+        }
+        Making::BasicTypeDefinition(definition) => add_names(alloc, &mut keys, definition)?,
+    }
+    Ok(keys)
+}
+
+// The keys of a type definition: a type, two constants, two theorems.
+fn add_names(
+    alloc: Global,
+    keys: &mut Vec<Key>,
+    definition: &TypeDefinition,
+) -> Result<(), AllocError>
+    ensures { OnOk result (keys.new.items ≡ keys.old.items ++ made_by_making (NewBasicTypeDefinition definition.now)) }
+{
+    add_key(alloc, keys, Kind::Type, definition.ty.as_str())?;
+    add_key(alloc, keys, Kind::Constant, definition.abs.as_str())?;
+    add_key(alloc, keys, Kind::Constant, definition.rep.as_str())?;
+    add_key(alloc, keys, Kind::Theorem, definition.abs_rep.as_str())?;
+    add_key(alloc, keys, Kind::Theorem, definition.rep_abs.as_str())
+}
+
 /// The keys that the command cites, in text order.
 pub(crate) fn cited_keys(alloc: Global, command: &LocalCommand) -> Result<Vec<Key>, AllocError>
     ensures { IfOk result (λ keys. keys.items ≡ cited_keys (local_text command.now)) }
@@ -200,6 +292,7 @@ pub(crate) fn cited_keys(alloc: Global, command: &LocalCommand) -> Result<Vec<Ke
             Ok(keys)
         }
         LocalCommand::Qed => Ok(Vec::new(alloc)),
+        LocalCommand::Make(making) => cited_by_making(alloc, making),
     }
 }
 
@@ -207,12 +300,13 @@ pub(crate) fn cited_keys(alloc: Global, command: &LocalCommand) -> Result<Vec<Ke
 pub(crate) fn made_keys(alloc: Global, command: &LocalCommand) -> Result<Vec<Key>, AllocError>
     ensures { IfOk result (λ keys. keys.items ≡ made_keys (local_text command.now)) }
 {
-    let mut keys = Vec::new(alloc);
     match command {
         LocalCommand::Goal { name, quotation: _ } => {
-            keys.push(Key::new(alloc, Kind::Theorem, name.as_str())?)?;
+            let mut keys = Vec::new(alloc);
+            add_key(alloc, &mut keys, Kind::Theorem, name.as_str())?;
+            Ok(keys)
         }
-        LocalCommand::Apply(_) | LocalCommand::Qed => {}
+        LocalCommand::Apply(_) | LocalCommand::Qed => Ok(Vec::new(alloc)),
+        LocalCommand::Make(making) => made_by_making(alloc, making),
     }
-    Ok(keys)
 }

@@ -3,9 +3,11 @@
 //! A call that answers a `Result` answers its memory error where memory is short, and nowhere else.
 #![tactic(auto)]
 
+mod basis;
 mod calls;
 mod cited;
 mod closing;
+mod defining;
 mod direct_outcome;
 mod entry;
 mod expressions;
@@ -14,14 +16,18 @@ mod goals;
 mod keys;
 mod laws;
 mod lookups;
+mod made;
+mod making;
 mod names;
 mod next;
+mod occurring;
 mod outcome;
 mod parsed;
 mod proof;
 mod reading;
 mod reads;
 mod refusal;
+mod refused;
 mod registered;
 mod report;
 mod reporting;
@@ -34,8 +40,9 @@ mod state;
 mod tac;
 mod unresolved;
 
-pub use direct_outcome::{Ended, direct};
+pub use direct_outcome::{Ended, direct, promise_each};
 pub use laws::{one_outcome, one_text};
+pub use making::Making;
 pub use next::apply;
 pub use outcome::Outcome;
 pub use parsed::{DirectCommand, LocalCommand, Parsed, parse};

@@ -3,9 +3,8 @@ ghost use Rattle.std.specs.Prelude.{◌≡◌, ◌↔◌, IsTrue, IfOk, string_b
 ghost use Rattle.hol_terms.specs.Nameless.{nameless};
 ghost use Rattle.std.specs.List.{IsDistinct};
 ghost use Rattle.std.specs.Map.{keys_of};
-ghost use Rattle.hol_kernel.specs.Items.{no_items};
 ghost use Rattle.hol_theory.specs.Key.{key_eq};
-ghost use Rattle.hol_exec.specs.Entry.{EachIsPlain};
+ghost use Rattle.hol_theory.specs.Entry.{EachIsEntry};
 ghost use Rattle.hol_exec.specs.OutcomeValue.{OutcomeValue, Opens, Leaves, Undoes, Rotates, Makes, Refuses, MakesTheorems};
 ghost use Rattle.hol_exec.specs.OutcomeView.{outcome_of};
 ghost use Rattle.hol_exec.specs.Valid.{IsStatement, IsLeft, IsValidChange};
@@ -62,8 +61,7 @@ impl Model for Outcome {
 
 impl Outcome {
     pub(crate) fn opens(name: String, statement: Term, basis: Basis) -> Outcome
-        requires statement { IsStatement basis (nameless [] statement) }
-        requires plain { basis ≡ no_items }
+        requires { IsStatement basis (nameless [] statement) }
         ensures { result ≡ Opens (string_bytes name) (nameless [] statement) basis }
     {
         Outcome {
@@ -81,7 +79,7 @@ impl Outcome {
     }
 
     pub(crate) fn makes(entries: Entries) -> Outcome
-        requires plain { EachIsPlain entries.items }
+        requires entries { EachIsEntry entries.items }
         requires keys { IsDistinct key_eq (keys_of entries.items) }
         ensures { result ≡ Makes entries.items }
     {
@@ -121,7 +119,8 @@ impl Outcome {
         &self.change
     }
 
-    /// What it makes are theorems under theorems' keys, without hypotheses, that have derivations over their bases, which are legal.
+    /// What it makes are entries: theorems without hypotheses that have derivations over their bases, which are legal, and types and constants that items of their
+    /// bases make.
     #[tactic(auto, using(crate::proofs::Outcomes::makes_theorems))]
     pub fn promise(&self)
         ensures { MakesTheorems self.now }
@@ -194,8 +193,7 @@ fn opening_copy(
     statement: &Term,
     basis: &Basis,
 ) -> Result<Outcome, AllocError>
-    requires statement { IsStatement basis.now (nameless [] statement.now) }
-    requires plain { basis.now ≡ no_items }
+    requires { IsStatement basis.now (nameless [] statement.now) }
     ensures { IfOk result (λ o. o ≡ Opens name.now (nameless [] statement.now) basis.now) }
 {
     let name = String::from_str(alloc, name)?;

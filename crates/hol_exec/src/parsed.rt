@@ -1,12 +1,14 @@
 //! What a text is to the engine.
 ghost use Rattle.std.specs.Prelude.{◌≡◌, ◌↔◌, IfOk, IsTrue};
-ghost use Rattle.hol_exec.specs.Parsed.{IsParsed, leading_name, parsed, idle};
-ghost use Rattle.hol_exec.specs.ParsedView.{local_text, direct_text, parsed_value};
+ghost use Rattle.hol_notation_commands.specs.Reading.{IsCommandText};
+ghost use Rattle.hol_exec.specs.Parsed.{IsParsed, leading_name, parsed, Local, Make};
+ghost use Rattle.hol_exec.specs.ParsedView.{making_text, local_text, direct_text, parsed_value};
 
+use crate::making::Making;
 use hol_notation_commands::{Command, CommandNode, read_command};
 use hol_notation_tactics::TacExpr;
 use hol_notation_terms::Quotation;
-use hol_notation_tokens::{SyntaxError, skip};
+use hol_notation_tokens::SyntaxError;
 use std::alloc::{AllocError, Global};
 use std::hash::{Hash, Hasher};
 
@@ -24,6 +26,8 @@ pub enum LocalCommand {
     Apply(TacExpr),
     /// `qed`: ends the proof.
     Qed,
+    /// A command that makes a type, a constant, an axiom or a definition.
+    Make(Making),
 }
 
 impl LocalCommand {
@@ -38,6 +42,7 @@ impl LocalCommand {
             }),
             LocalCommand::Apply(tactic) => Ok(LocalCommand::Apply(tactic.copy()?)),
             LocalCommand::Qed => Ok(LocalCommand::Qed),
+            LocalCommand::Make(making) => Ok(LocalCommand::Make(making.copy(alloc)?)),
         }
     }
 
@@ -63,6 +68,12 @@ impl LocalCommand {
                 tactic.same(other_tactic)
             }
             LocalCommand::Qed => matches!(other, LocalCommand::Qed),
+            LocalCommand::Make(making) => {
+                let LocalCommand::Make(other_making) = other else {
+                    return false;
+                };
+                making.same(other_making)
+            }
         }
     }
 
@@ -74,6 +85,7 @@ impl LocalCommand {
             LocalCommand::Goal { name, quotation: _ } => name.as_str(),
             LocalCommand::Apply(tactic) => tactic.leading_name(),
             LocalCommand::Qed => "",
+            LocalCommand::Make(making) => making.name(),
         }
     }
 }
@@ -114,8 +126,7 @@ impl Hash for LocalCommand {
 /// What is answered directly.
 #[derive(Drop)]
 pub enum DirectCommand {
-    /// A text that is refused as `syntax` at the byte where it is no command any more, or at its first word where it is a command that
-    /// isn't run.
+    /// A text that is refused as `syntax` at the byte where it is no command any more.
     Unread(usize),
     /// `b`: undoes the newest `e` or `r` that stands.
     Back,
@@ -141,15 +152,16 @@ pub fn parse(alloc: Global, text: &str) -> Result<Parsed, AllocError>
     ensures { IfOk result (λ value. IsParsed text.now (parsed_value value)) }
 {
     match read_command(alloc, text) {
-        Ok(command) => classified(alloc, text, &command),
+        Ok(command) => classified(alloc, &command),
         Err(SyntaxError::Syntax(place)) => Ok(Parsed::Direct(DirectCommand::Unread(place))),
         Err(SyntaxError::Memory) => Err(AllocError),
     }
 }
 
-// The command, as it is written in the text.
-fn classified(alloc: Global, text: &str, command: &Command) -> Result<Parsed, AllocError>
-    ensures { IfOk result (λ value. parsed_value value ≡ parsed text.now command.now) }
+// What a command is to the engine.
+fn classified(alloc: Global, command: &Command) -> Result<Parsed, AllocError>
+    requires { (text : _) × IsCommandText text command.now }
+    ensures { IfOk result (λ value. parsed_value value ≡ parsed command.now) }
 {
     match command.node() {
         CommandNode::Goal { name, quotation } => Ok(Parsed::Local(LocalCommand::Goal {
@@ -165,26 +177,30 @@ fn classified(alloc: Global, text: &str, command: &Command) -> Result<Parsed, Al
             alloc,
             name.as_str(),
         )?))),
-        CommandNode::NewType { name: _, arity: _ }
-        | CommandNode::NewConstant {
-            name: _,
-            quotation: _,
+        CommandNode::NewType { name, arity } => made(Making::Type {
+            name: String::from_str(alloc, name.as_str())?,
+            arity: *arity as u32,
+        }),
+        CommandNode::NewConstant { name, quotation } => made(Making::Constant {
+            name: String::from_str(alloc, name.as_str())?,
+            quotation: quotation.copy()?,
+        }),
+        CommandNode::NewAxiom { name, quotation } => made(Making::Axiom {
+            name: String::from_str(alloc, name.as_str())?,
+            quotation: quotation.copy()?,
+        }),
+        CommandNode::NewDefinition { name, definition } => made(Making::Definition {
+            name: String::from_str(alloc, name.as_str())?,
+            definition: definition.copy(alloc)?,
+        }),
+        CommandNode::NewBasicTypeDefinition(definition) => {
+            made(Making::BasicTypeDefinition(definition.copy(alloc)?))
         }
-        | CommandNode::NewAxiom {
-            name: _,
-            quotation: _,
-        }
-        | CommandNode::NewDefinition {
-            name: _,
-            definition: _,
-        }
-        | CommandNode::NewBasicTypeDefinition(_) => Ok(idle(text)),
     }
 }
 
-// A command that isn't run.
-fn idle(text: &str) -> Parsed
-    ensures { parsed_value result ≡ idle text.now }
+fn made(making: Making) -> Result<Parsed, AllocError>
+    ensures { IfOk result (λ value. parsed_value value ≡ Local (Make (making_text making))) }
 {
-    Parsed::Direct(DirectCommand::Unread(skip(text.as_bytes(), 0)))
+    Ok(Parsed::Local(LocalCommand::Make(making)))
 }

@@ -3,7 +3,6 @@ ghost use Rattle.std.specs.Prelude.{◌≡◌, ◌≢◌, [], OnOk, OnErr, IfOk,
 ghost use Rattle.hol_terms.specs.Named.{named_type};
 ghost use Rattle.hol_terms.specs.Nameless.{nameless};
 ghost use Rattle.hol_formulas.specs.Equation.{bool_type};
-ghost use Rattle.hol_kernel.specs.Items.{no_items};
 ghost use Rattle.hol_exec.specs.OutcomeValue.{opened, stepped, without_newest, rotated};
 ghost use Rattle.hol_exec.specs.Valid.{IsStatement, CanStep};
 
@@ -27,28 +26,24 @@ impl Model for Proof {
     ghost use Rattle.std.specs.Prelude.{string_bytes};
     ghost use Rattle.hol_exec.specs.StateValue.{ProofValue};
     ghost use Rattle.hol_exec.specs.Codes.{coded_proof};
-    ghost use Rattle.hol_exec.specs.Valid.{IsPlainHistory};
 
     ghost Value = { ProofValue };
 
     ghost coded = { coded_proof };
 
     ghost view = { λ p. record { name = string_bytes p.name; statement = p.stack.goal.conclusion; newest = p.stack.newest; earlier = p.stack.earlier } };
-
-    ghost invariant = { λ p. IsPlainHistory p.stack.newest p.stack.earlier };
 }
 
 impl Proof {
     /// A proof of a statement, which is its one open goal.
-    #[tactic(auto, using(crate::proofs::Statements::formula_of, crate::proofs::Statements::goal_typed, crate::proofs::Statements::goal_plain, crate::proofs::Plain::plain_begun))]
+    #[tactic(auto, using(crate::proofs::Statements::formula_of, crate::proofs::Statements::goal_typed, crate::proofs::Statements::goal_plain))]
     pub(crate) fn begin(
         alloc: Global,
         name: &str,
         statement: &Term,
         basis: &Basis,
     ) -> Result<Proof, AllocError>
-        requires statement { IsStatement basis.now (nameless [] statement.now) }
-        requires plain { basis.now ≡ no_items }
+        requires { IsStatement basis.now (nameless [] statement.now) }
         ensures { IfOk result (λ p. p ≡ opened name.now (nameless [] statement.now) basis.now) }
     {
         let name = String::from_str(alloc, name)?;
@@ -65,11 +60,9 @@ impl Proof {
     }
 
     /// The stack.
-    #[tactic(auto, using(crate::proofs::Plain::plain_newest))]
     pub(crate) fn stack(&self) -> &Stack
         ensures goal { result.now.goal.conclusion ≡ self.now.statement }
         ensures newest { result.now.newest ≡ self.now.newest }
-        ensures plain { result.now.newest.basis ≡ no_items }
     {
         &self.stack
     }
@@ -82,15 +75,14 @@ impl Proof {
     }
 
     /// The goals that the step left stand in the place of the first goal, in a new element of the history; the basis is joined with what was resolved.
-    #[tactic(auto, using(crate::proofs::Steps::same_step, crate::proofs::Plain::plain_followed))]
+    #[tactic(auto, using(crate::proofs::Steps::same_step))]
     pub(crate) fn step(
         &mut self,
         alloc: Global,
         step: &Step,
         basis: &Basis,
     ) -> Result<(), AllocError>
-        requires step { CanStep basis.now step.now.just step.now.goals.items self.old }
-        requires plain { basis.now ≡ no_items }
+        requires { CanStep basis.now step.now.just step.now.goals.items self.old }
         ensures ok { OnOk result (self.new ≡ stepped step.now.goals.items basis.now self.old) }
         ensures err { OnErr result (self.new ≡ self.old) }
     {
@@ -106,7 +98,6 @@ impl Proof {
     }
 
     /// The newest element of the history is dropped, if there is one before it.
-    #[tactic(auto, using(crate::proofs::Plain::plain_undone))]
     pub(crate) fn back(&mut self)
         ensures { self.new ≡ without_newest self.old self.old.earlier }
     {
@@ -114,7 +105,6 @@ impl Proof {
     }
 
     /// The first goal is put last, so many times, in a new element of the history.
-    #[tactic(auto, using(crate::proofs::Plain::plain_rotated))]
     pub(crate) fn rotate(&mut self, alloc: Global, times: usize) -> Result<(), AllocError>
         requires { self.old.newest.goals ≢ [] }
         ensures ok { OnOk result (self.new ≡ rotated times self.old) }

@@ -6,8 +6,8 @@ ghost use Rattle.hol_theory.specs.Key.{key_eq};
 ghost use Rattle.hol_exec.specs.Standing.{first_taken, first_unknown};
 ghost use Rattle.hol_exec.specs.ParsedView.{local_text};
 ghost use Rattle.hol_exec.specs.SameReads.{same_reads};
-ghost use Rattle.hol_exec.specs.Valid.{ArePlain};
-ghost use Rattle.hol_exec.specs.ReadsValue.{ReadsValue, values_of, goal_for, closing_for, reads_of};
+ghost use Rattle.hol_exec.specs.Valid.{AreOfTheory};
+ghost use Rattle.hol_exec.specs.ReadsValue.{ReadsValue, AreKeyed, values_of, goal_for, closing_for, reads_of};
 
 use crate::closing::Closing;
 use crate::keys::{cited_keys, made_keys};
@@ -34,7 +34,7 @@ pub struct Reads {
 impl Model for Reads {
     ghost use Rattle.hol_exec.specs.ReadsValue.{ReadsValue};
     ghost use Rattle.hol_exec.specs.Codes.{coded_reads};
-    ghost use Rattle.hol_exec.specs.Valid.{ArePlain};
+    ghost use Rattle.hol_exec.specs.Valid.{AreOfTheory};
 
     ghost Value = { ReadsValue };
 
@@ -42,7 +42,7 @@ impl Model for Reads {
 
     ghost view = { λ r. record { cited = r.cited.items; made = r.made.items; in_proof = r.in_proof; goal = r.goal; closing = r.closing } };
 
-    ghost invariant = { λ r. ArePlain r.cited.items };
+    ghost invariant = { λ r. AreOfTheory r.cited.items r.made.items };
 }
 
 impl PartialEq for Reads {
@@ -81,9 +81,10 @@ impl Hash for Reads {
 
 impl Reads {
     /// What the command reads of the state.
-    #[tactic(auto, using(crate::proofs::Plain::values_plain))]
+    #[tactic(auto, using(crate::proofs::CitedBases::reads_stand, crate::proofs::CitedBases::keyed))]
     pub fn of(alloc: Global, command: &LocalCommand, state: &State) -> Result<Reads, AllocError>
-        ensures { IfOk result (λ r. r ≡ reads_of (local_text command.now) state.now) }
+        ensures reads { IfOk result (λ r. r ≡ reads_of (local_text command.now) state.now) }
+        ensures keys { IfOk result (AreKeyed (local_text command.now)) }
     {
         state.promise();
         let cited = values_of(alloc, cited_keys(alloc, command)?, state)?;
@@ -100,10 +101,17 @@ impl Reads {
         })
     }
 
-    /// The values of the keys that the command cites.
+    /// With what it cites and makes, it is of some theory.
+    pub(crate) fn promise(&self)
+        ensures { AreOfTheory self.now.cited self.now.made }
+    {
+        let _ = &self.cited;
+    }
+
+    /// The values of the keys that the command cites: with those that it makes they are what stands in some theory.
     pub(crate) fn cited(&self) -> &[(Key, Option<Value>)]
         ensures value { result.now ≡ self.now.cited }
-        ensures plain { ArePlain result.now }
+        ensures theory { AreOfTheory self.now.cited self.now.made }
     {
         self.cited.as_slice()
     }
@@ -122,7 +130,8 @@ impl Reads {
 
     /// The first key that the command makes under which something stands, or which it makes twice.
     pub(crate) fn first_taken(&self) -> Option<&Key>
-        ensures { option_copied result ≡ first_taken [] self.now.made }
+        ensures key { option_copied result ≡ first_taken [] self.now.made }
+        ensures theory { AreOfTheory self.now.cited self.now.made }
     {
         for (i, value) in self.made.iter().enumerate() {
             if is_standing(&value.0, &value.1) || has_key(&self.made[..i], &value.0) {
@@ -174,6 +183,7 @@ impl Reads {
     }
 
     /// Equal reads.
+    #[tactic(auto, using(crate::proofs::CitedBases::same_stand))]
     pub fn copy(&self, alloc: Global) -> Result<Reads, AllocError>
         ensures { IfOk result (λ r. r ≡ self.now) }
     {
@@ -270,7 +280,8 @@ fn goal_for(
             name: _,
             quotation: _,
         }
-        | LocalCommand::Qed => Ok(None),
+        | LocalCommand::Qed
+        | LocalCommand::Make(_) => Ok(None),
     }
 }
 
@@ -290,6 +301,7 @@ fn closing_for(
             name: _,
             quotation: _,
         }
-        | LocalCommand::Apply(_) => Ok(None),
+        | LocalCommand::Apply(_)
+        | LocalCommand::Make(_) => Ok(None),
     }
 }

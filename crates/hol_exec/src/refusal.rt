@@ -5,7 +5,7 @@
 pub enum RefusalKind {
     /// The text is no command, or one that isn't run yet.
     Syntax,
-    /// The command opens a proof while one is open.
+    /// The command opens a proof, imports or makes something while a proof is open.
     InProof,
     /// The command needs an open proof.
     NoProofOpen,
@@ -23,9 +23,13 @@ pub enum RefusalKind {
     Arity,
     /// The name of what the command makes stands already, or is made twice.
     NameTaken,
+    /// A variable is free in the right side of a definition, or in the predicate of a type definition.
+    NotClosed,
+    /// A type variable of a definition's right side is none of its type.
+    NotReflected,
     /// A term that is read, a theorem that a rule gives, or a goal that is left has over 20,000 nodes.
     TooLarge,
-    /// A rule by which a theorem is written doesn't apply.
+    /// A rule by which a theorem is written doesn't apply, or a type definition's theorem is no application.
     BadRule,
     /// A theorem given to a TAC has hypotheses that are no assumptions of the goal.
     HypsNotAssumed,
@@ -62,6 +66,8 @@ impl RefusalKind {
             RefusalKind::NotBool => 8,
             RefusalKind::Arity => 9,
             RefusalKind::NameTaken => 10,
+            RefusalKind::NotClosed => 11,
+            RefusalKind::NotReflected => 12,
             RefusalKind::TooLarge => 13,
             RefusalKind::BadRule => 14,
             RefusalKind::HypsNotAssumed => 15,
@@ -89,6 +95,8 @@ impl RefusalKind {
             RefusalKind::NotBool => "not bool",
             RefusalKind::Arity => "type constructor's arity",
             RefusalKind::NameTaken => "name taken",
+            RefusalKind::NotClosed => "not closed",
+            RefusalKind::NotReflected => "type variables not reflected",
             RefusalKind::TooLarge => "too large",
             RefusalKind::BadRule => "bad rule",
             RefusalKind::HypsNotAssumed => "hypotheses not among assumptions",

@@ -1,6 +1,6 @@
 //! Expressions of functions on goals: what is written, resolved.
 ghost use Rattle.std.specs.Prelude.{◌≡◌, IfOk, None};
-ghost use Rattle.hol_kernel.specs.Items.{no_items};
+ghost use Rattle.hol_exec.specs.Resolved.{resolved_basis};
 ghost use Rattle.hol_resolve.specs.Over.{AreOver};
 ghost use Rattle.hol_resolve.specs.ReadingView.{readings_value};
 ghost use Rattle.hol_exec.specs.Setup.{SetupValue};
@@ -9,6 +9,7 @@ ghost use Rattle.hol_exec.specs.Expr.{formulas_of, first_not_bool, resolved_form
 ghost use Rattle.hol_exec.specs.ExprView.{resolution_value, IsUnresolved};
 ghost use Rattle.hol_exec.specs.Valid.{IsRunnableIf};
 
+use crate::basis::resolved_basis;
 use crate::calls::{calls_of, first_unfit};
 use crate::cited::cited_theorems;
 use crate::expressions::{Context, refused_by, resolve_expr};
@@ -82,7 +83,7 @@ fn resolve_read(
     reads: &Reads,
     readings: &Readings,
 ) -> Result<Resolution, AllocError>
-    requires { AreOver no_items (readings_value readings.now) }
+    requires { AreOver (resolved_basis reads.now.cited (readings_value readings.now)) (readings_value readings.now) }
     ensures value { IfOk result (λ r. resolution_value r ≡ resolved_formulas (setup_value setup.now) tactic.now reads.now.cited (readings_value readings.now) (first_not_bool (readings_value readings.now) (formulas_of tactic.now))) }
     ensures runnable { IfOk result (IsRunnableIf (setup_value setup.now)) }
 {
@@ -93,7 +94,7 @@ fn resolve_read(
     }
 }
 
-// Resolves what is written, all of whose formulas are of type `bool`. Nothing that it resolves rests on items.
+// Resolves what is written, all of whose formulas are of type `bool`.
 fn resolve_formulas(
     alloc: Global,
     setup: &Setup,
@@ -101,12 +102,12 @@ fn resolve_formulas(
     reads: &Reads,
     readings: &Readings,
 ) -> Result<Resolution, AllocError>
-    requires { AreOver no_items (readings_value readings.now) }
+    requires { AreOver (resolved_basis reads.now.cited (readings_value readings.now)) (readings_value readings.now) }
     ensures value { IfOk result (λ r. resolution_value r ≡ resolved_formulas (setup_value setup.now) tactic.now reads.now.cited (readings_value readings.now) None) }
     ensures runnable { IfOk result (IsRunnableIf (setup_value setup.now)) }
 {
     let theorems = cited_theorems(alloc, setup, reads.cited())?;
-    let basis = Basis::empty(alloc)?;
+    let basis = resolved_basis(alloc, reads, readings.list())?;
     let context = Context {
         reads,
         theorems: &theorems,

@@ -1,40 +1,46 @@
 //! The outcome of a command from what it reads.
-ghost use Rattle.std.specs.Prelude.{◌≡◌, IfOk, decimal, [], true};
+ghost use Rattle.std.specs.Prelude.{◌≡◌, IfOk, [], ◌∷◌, true};
 ghost use Rattle.hol_terms.specs.Nameless.{nameless};
-ghost use Rattle.hol_kernel.specs.Items.{no_items};
-ghost use Rattle.hol_kernel.specs.Typing.{is_known};
+ghost use Rattle.hol_resolve.specs.Reading.{ReadsAs, IsTermReadAs};
+ghost use Rattle.hol_resolve.specs.Readings.{ATerm};
+ghost use Rattle.hol_notation_terms.specs.Text.{TermText};
 ghost use Rattle.hol_exec.specs.ParsedView.{local_text};
+ghost use Rattle.hol_exec.specs.ReadsValue.{AreKeyed};
 ghost use Rattle.hol_exec.specs.SetupView.{setup_value};
 ghost use Rattle.hol_exec.specs.Local.{IsLocalOutcome, IsOpening, IsApplying, opens, opens_term, applied, finishes, finished};
-ghost use Rattle.hol_exec.specs.Lookups.{reading_basis};
+ghost use Rattle.hol_exec.specs.Lookups.{lookups_of};
+ghost use Rattle.hol_exec.specs.Resolved.{resolved_basis};
 ghost use Rattle.hol_exec.specs.Standing.{first_taken};
-ghost use Rattle.hol_exec.specs.OutcomeValue.{Refuses};
-ghost use Rattle.hol_exec.specs.Valid.{ArePlain, IsStatement, IsRunnable};
+ghost use Rattle.hol_exec.specs.Valid.{IsStatement, IsRunnableExpr};
 
+use crate::basis::resolved_basis;
 use crate::closing::Closing;
+use crate::made::making;
 use crate::outcome::Outcome;
 use crate::parsed::LocalCommand;
-use crate::reading::{is_statement, read_cited};
+use crate::reading::{is_statement, of_quotation, read_cited};
 use crate::reads::Reads;
 use crate::refusal::RefusalKind;
+use crate::refused::{name_taken, refused, refused_at, refused_name};
 use crate::resolution::{Resolution, resolve};
 use crate::setup::Setup;
 use hol_combine::{Expr, Refusal, RunError, run};
 use hol_kernel::Basis;
 use hol_notation_tactics::TacExpr;
 use hol_notation_terms::Quotation;
-use hol_resolve::Reading;
+use hol_resolve::{Quoted, Reading};
 use hol_terms::Term;
 use hol_theory::{Key, Kind, Value};
 use std::alloc::{AllocError, Global};
 
-/// The outcome of a command: it is determined by the set-up, the command and what it reads.
+/// The outcome of a command, from what it reads of a state: it is determined by the set-up, the command and this.
 pub fn run_local(
     alloc: Global,
     setup: &Setup,
     command: &LocalCommand,
     reads: &Reads,
 ) -> Result<Outcome, AllocError>
+    requires { AreKeyed (local_text command.now) reads.now }
     ensures { IfOk result (λ outcome. IsLocalOutcome (setup_value setup.now) (local_text command.now) reads.now outcome) }
 {
     match command {
@@ -43,25 +49,8 @@ pub fn run_local(
         }
         LocalCommand::Apply(tactic) => apply_tactic(alloc, setup, tactic, reads),
         LocalCommand::Qed => finish(alloc, reads),
+        LocalCommand::Make(command) => making(alloc, setup, command, reads),
     }
-}
-
-/// A refusal that speaks of nothing.
-pub(crate) fn refused(alloc: Global, kind: RefusalKind) -> Outcome
-    ensures { result ≡ Refuses kind [] }
-{
-    Outcome::refuses(kind, String::new(alloc))
-}
-
-/// A refusal that speaks of a place.
-pub(crate) fn refused_at(
-    alloc: Global,
-    kind: RefusalKind,
-    place: usize,
-) -> Result<Outcome, AllocError>
-    ensures { IfOk result (λ outcome. outcome ≡ Refuses kind (decimal place)) }
-{
-    Ok(Outcome::refuses(kind, place.to_string(alloc)?))
 }
 
 // `g`: in a proof; arity; untypable; too large; then what is read.
@@ -86,7 +75,6 @@ fn open_goal(
 }
 
 // A goal that reads as a term: not bool; name taken.
-#[tactic(auto, using(crate::proofs::Statements::statement_typed))]
 fn open_term(
     alloc: Global,
     name: &str,
@@ -94,33 +82,34 @@ fn open_term(
     term: Term,
     reads: &Reads,
 ) -> Result<Outcome, AllocError>
-    requires known { is_known no_items (nameless [] term) ≡ true }
-    requires plain { ArePlain reads.now.cited }
+    requires { (t : TermText) × IsTermReadAs (lookups_of reads.now.cited) t (ReadsAs (nameless [] term)) }
     ensures { IfOk result (λ outcome. outcome ≡ opens_term name.now place reads.now (nameless [] term)) }
 {
+    reads.promise();
     if !is_statement(&term) {
         return refused_at(alloc, RefusalKind::NotBool, place);
     }
-    open_statement(alloc, name, term, reads)
+    open_statement(alloc, name, place, term, reads)
 }
 
-// A goal that reads as a statement: name taken. Nothing that it resolves rests on items.
-#[tactic(auto, using(crate::proofs::PreludeStands::no_basis))]
+// A goal that reads as a statement: name taken.
 fn open_statement(
     alloc: Global,
     name: &str,
+    place: usize,
     statement: Term,
     reads: &Reads,
 ) -> Result<Outcome, AllocError>
-    requires statement { IsStatement no_items (nameless [] statement) }
-    requires plain { ArePlain reads.now.cited }
-    ensures { IfOk result (λ outcome. outcome ≡ opens name.now (nameless [] statement) (reading_basis reads.now.cited (nameless [] statement)) (first_taken [] reads.now.made)) }
+    requires { IsStatement (resolved_basis reads.now.cited ((place, ATerm (nameless [] statement)) ∷ [])) (nameless [] statement) }
+    ensures { IfOk result (λ outcome. outcome ≡ opens name.now (nameless [] statement) (resolved_basis reads.now.cited ((place, ATerm (nameless [] statement)) ∷ [])) (first_taken [] reads.now.made)) }
 {
     if let Some(key) = reads.first_taken() {
-        return Ok(Outcome::refuses(RefusalKind::NameTaken, key.text(alloc)?));
+        return name_taken(alloc, key);
     }
     let name = String::from_str(alloc, name)?;
-    Ok(Outcome::opens(name, statement, Basis::empty(alloc)?))
+    let readings = of_quotation(alloc, place, Quoted::Term(statement.copy()?))?;
+    let basis = resolved_basis(alloc, reads, &readings)?;
+    Ok(Outcome::opens(name, statement, basis))
 }
 
 // `e`: no proof open; then what resolving refuses; then the run.
@@ -149,7 +138,7 @@ fn applied(
     expr: &Expr,
     basis: Basis,
 ) -> Result<Outcome, AllocError>
-    requires { IsRunnable (setup_value setup.now) expr.now basis }
+    requires { IsRunnableExpr (setup_value setup.now).table basis expr.now }
     ensures { IfOk result (λ outcome. outcome ≡ applied (setup_value setup.now) reads.now.goal expr.now basis) }
 {
     let Some(goal) = reads.goal() else {

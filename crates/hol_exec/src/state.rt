@@ -2,15 +2,14 @@
 ghost use Rattle.std.specs.Prelude.{◌≡◌, ◌≢◌, ◌++◌, OnOk, OnErr, IfSome, Some, None, [], option_copied};
 ghost use Rattle.std.specs.List.{IsDistinct};
 ghost use Rattle.std.specs.Map.{keys_of};
-ghost use Rattle.hol_kernel.specs.Items.{no_items};
-ghost use Rattle.hol_theory.specs.Adding.{AreNew};
+ghost use Rattle.hol_kernel.specs.Items.{IsSubset};
+ghost use Rattle.hol_theory.specs.Adding.{AreNew, CanFollow};
 ghost use Rattle.hol_theory.specs.Entry.{entry_at};
 ghost use Rattle.hol_theory.specs.Key.{key_eq, theorem_key};
-ghost use Rattle.hol_theory.specs.Theory.{IsTheory};
-ghost use Rattle.hol_exec.specs.Entry.{EachIsPlain};
+ghost use Rattle.hol_theory.specs.Theory.{items_in, IsTheory};
 ghost use Rattle.hol_exec.specs.StateValue.{StateValue, start, open_goals};
 ghost use Rattle.hol_exec.specs.OutcomeValue.{stepped_in, undone_in, rotated_in};
-ghost use Rattle.hol_exec.specs.Valid.{CanStep, IsFreeFor};
+ghost use Rattle.hol_exec.specs.Valid.{CanStep, IsFreeFor, IsProofWithin};
 
 use crate::proof::Proof;
 use hol_goal::Goal;
@@ -20,7 +19,7 @@ use hol_theory::{Env, Key, Value};
 use std::alloc::{AllocError, Global};
 use std::marker::Model;
 
-/// The state of a theory while it is run: its entries, and at most one open proof, under whose name no theorem stands.
+/// The state of a theory while it is run: its entries, and at most one open proof, under whose name no theorem stands, and which rests on items of the entries.
 #[derive(Drop)]
 pub struct State {
     env: Env,
@@ -28,10 +27,9 @@ pub struct State {
 }
 
 impl Model for State {
-    ghost use Rattle.hol_exec.specs.Entry.{EachIsPlain};
     ghost use Rattle.hol_exec.specs.StateValue.{StateValue};
     ghost use Rattle.hol_exec.specs.Codes.{coded_state};
-    ghost use Rattle.hol_exec.specs.Valid.{IsFreeFor};
+    ghost use Rattle.hol_exec.specs.Valid.{IsFreeFor, IsProofWithin};
 
     ghost Value = { StateValue };
 
@@ -39,7 +37,7 @@ impl Model for State {
 
     ghost view = { λ s. record { entries = s.env; proof = s.proof } };
 
-    ghost invariant = { λ s. EachIsPlain s.env × IsFreeFor s.env s.proof };
+    ghost invariant = { λ s. IsFreeFor s.env s.proof × IsProofWithin s.env s.proof };
 }
 
 impl State {
@@ -84,26 +82,27 @@ impl State {
         }
     }
 
-    /// Its entries are a theory, and no two of them have one key; each of them is a theorem under a theorem's key, without hypotheses, that has a derivation over its basis, which is
-    /// legal and, as long as no command makes items, empty; and under the name of the open proof no theorem stands.
+    /// Its entries are a theory, and no two of them have one key; under the name of the open proof no theorem stands, and it rests on items of the entries.
     pub fn promise(&self)
         ensures theory { IsTheory self.now.entries }
         ensures keys { IsDistinct key_eq (keys_of self.now.entries) }
-        ensures plain { EachIsPlain self.now.entries }
         ensures free { IsFreeFor self.now.entries self.now.proof }
+        ensures within { IsProofWithin self.now.entries self.now.proof }
     {
         self.env.promise();
     }
 
     /// Opens the proof, in the place of one that is open.
     pub(crate) fn begin(&mut self, proof: Proof)
-        requires { entry_at (theorem_key proof.name) self.old.entries ≡ None }
+        requires free { entry_at (theorem_key proof.name) self.old.entries ≡ None }
+        requires within { IsProofWithin self.old.entries (Some proof) }
         ensures { self.new ≡ record { entries = self.old.entries; proof = Some proof } }
     {
         self.proof = Some(proof);
     }
 
     /// The goals that the step left stand in the place of the open proof's first goal.
+    #[tactic(auto, using(crate::proofs::Entries::step_within))]
     pub(crate) fn step(
         &mut self,
         alloc: Global,
@@ -111,7 +110,7 @@ impl State {
         basis: &Basis,
     ) -> Result<(), AllocError>
         requires step { IfSome self.old.proof (CanStep basis.now step.now.just step.now.goals.items) }
-        requires plain { basis.now ≡ no_items }
+        requires within { IsSubset basis.now (items_in self.old.entries) }
         ensures ok { OnOk result (self.new ≡ record { entries = self.old.entries; proof = stepped_in step.now.goals.items basis.now self.old.proof }) }
         ensures err { OnErr result (self.new ≡ self.old) }
     {
@@ -122,7 +121,7 @@ impl State {
     }
 
     /// Drops the newest element of the open proof's history, if there is one before it.
-    #[tactic(auto, using(crate::proofs::Free::free_undone))]
+    #[tactic(auto, using(crate::proofs::Free::free_undone, crate::proofs::Entries::back_within))]
     pub(crate) fn back(&mut self)
         ensures { self.new ≡ record { entries = self.old.entries; proof = undone_in self.old.proof } }
     {
@@ -132,6 +131,7 @@ impl State {
     }
 
     /// Puts the open proof's first goal last, so many times.
+    #[tactic(auto, using(crate::proofs::Entries::rotate_within))]
     pub(crate) fn rotate(&mut self, alloc: Global, times: usize) -> Result<(), AllocError>
         requires { IfSome self.old.proof (λ p. p.newest.goals ≢ []) }
         ensures ok { OnOk result (self.new ≡ record { entries = self.old.entries; proof = rotated_in times self.old.proof }) }
@@ -144,10 +144,9 @@ impl State {
     }
 
     /// Makes the entries and drops the proof.
-    #[tactic(auto, using(crate::proofs::Plain::plain_joined))]
     pub(crate) fn make(&mut self, entries: &[(Key, Value)]) -> Result<(), AllocError>
         requires new { AreNew self.old.entries entries.now }
-        requires plain { EachIsPlain entries.now }
+        requires follow { CanFollow self.old.entries entries.now }
         ensures ok { OnOk result (self.new ≡ record { entries = self.old.entries ++ entries.now; proof = None }) }
         ensures err { OnErr result (self.new ≡ self.old) }
     {

@@ -11,4 +11,4 @@ use Rattle.hol_exec.specs.At.{IsOutcomeAt}
 
 pub local_outcome_applies : (setup : SetupValue) (command : LocalText) (s : StateValue) (reads : ReadsValue) (o : OutcomeValue) → reads ≡ reads_of command s → IsLocalOutcome setup command reads o → IsOutcomeAt s o
 local_outcome_applies setup command s reads o e h =
-    record { setup = setup; earlier = []; value = Local command; reads = Some reads; read = ap Some e; gets = h }
+    record { setup = setup; earlier = []; theories = tt; value = Local command; reads = Some reads; read = ap Some e; gets = h }

@@ -1,14 +1,9 @@
-//! Sessions over texts, and over readers and writers that fail. Expected replies come from docs/PROTOCOL.md, RFC 8259 and HOL Light.
+//! A session over a text, readers and writers that fail, how the program ends, and copies. Other sessions are run over the built program (tests/sessions).
 
-mod arguments;
-mod commands;
-mod conversions;
 mod copies;
 mod endings;
 mod faults;
-mod histories;
 mod readers;
 mod registries;
 mod sessions;
 mod support;
-mod tacticals;

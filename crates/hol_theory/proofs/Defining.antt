@@ -16,10 +16,6 @@ use Rattle.hol_kernel.specs.Legal.{IsLegalSet, IsSound}
 use Rattle.hol_kernel.specs.Signature.{ItemKey, type_key, constant_key, has_key, term_tyvars, new_type, item_types, item_constants, bijections, constant_of}
 use Rattle.hol_kernel.specs.Theorem.{Theorem, IsTheorem}
 use Rattle.hol_kernel.specs.Extends.{IsDefine, IsTypeDefine}
-use Rattle.hol_kernel.specs.Gives.{FailsBy, in_kernel}
-use Rattle.hol_kernel.specs.declared.error.KernelError.{KernelError}
-use Rattle.hol_kernel.specs.declared.error.KernelError.TheVariants.{Refused, Clash, Memory}
-use Rattle.hol_kernel.specs.declared.error.Rule.{Rule}
 use Rattle.hol_kernel.specs.Typing.{HasType, is_known}
 use Rattle.hol_kernel.proofs.Clashes.{key_is}
 use Rattle.hol_kernel.proofs.Clashes.{key_itself as own_key}
@@ -30,12 +26,12 @@ use Rattle.hol_kernel.proofs.Members.{Among, not_in_empty, in_insert_cases, or_l
 use Rattle.hol_kernel.proofs.Subsets.{within_of_subset, subset_of_within}
 use Rattle.hol_theory.specs.declared.key.Kind.TheVariants as key_kind
 use Rattle.hol_theory.specs.Key as keys
-use Rattle.hol_theory.specs.Key.{KeyValue, key_eq}
+use Rattle.hol_theory.specs.Key.{KeyValue}
 use Rattle.hol_theory.specs.Entry.{EntryValue, AConstant, ATheorem, Entries, IsEntry, EachIsEntry, IsTheoremEntry, item_at, entry_at, entry_basis, own_item}
 use Rattle.hol_theory.specs.Theory.{with_item, items_of, items_in, RestsOn, entry_key, IsNamedIn}
 use Rattle.hol_theory.specs.Adding.{CanFollow}
 use Rattle.hol_theory.specs.Making.{type_entry, constant_entry, item_entries, IsNewDefinition, IsNewTypeDefinition, EachWithin}
-use Rattle.hol_theory.proofs.Declaring.{larger_holds, larger_within, item_found, found_is, keyed}
+use Rattle.hol_theory.proofs.Declaring.{larger_holds, larger_within, item_found}
 use Rattle.hol_theory.proofs.Items.{with_old, with_own, after_cases, own_in_basis}
 use Rattle.hol_theory.proofs.Keys.{key_itself}
 
@@ -269,71 +265,64 @@ type_follows es made basis name abs rep first second member within d each =
 
 -- ---- what the program makes
 
--- a refusal of one call is right for another that answers only where the first one does
-pub fails_too : {T U : Type 0} (why : Rule) (Is : T → Type 0) (Makes : U → Type 0) (e : KernelError) → ((u : U) → Makes u → (t : T) × Is t) →
-    FailsBy why ((t : T) → Is t → ⊥) (in_kernel e) → FailsBy why ((u : U) → Makes u → ⊥) (in_kernel e)
-fails_too why Is Makes (Refused r) has f = (f.0, λ u h. (let w = has u h in f.1 w.0 w.1))
-fails_too why Is Makes (Clash n) has f = f
-fails_too why Is Makes Memory has f = tt
+definition_item : (basis larger : Items) (name : List ℕ) (r : Nameless) (th : Theorem) → IsDefine basis name r larger th → item_at (constant_key name) larger ≡ Some (defined_constant name r)
+definition_item basis larger name r th d = item_found basis larger (defined_constant name r) (constant_key name) d.new d.larger (own_name (constant_key name))
 
 pub definition_found : (basis larger : Items) (name : List ℕ) (r : Nameless) (th : Theorem) → IsDefine basis name r larger th → is_some (item_at (constant_key name) larger) ≡ true
-definition_found basis larger name r th d = ap is_some (item_found basis larger (defined_constant name r) (constant_key name) d.new d.larger (own_name (constant_key name)))
+definition_found basis larger name r th d = ap is_some (definition_item basis larger name r th d)
 
-pub definition_made : (basis larger : Items) (name : List ℕ) (r : Nameless) (th : Theorem) (item : Item) (entries : Entries) → IsDefine basis name r larger th → item_at (constant_key name) larger ≡ Some item →
-    entries ≡ item_entries item larger → IsNewDefinition basis name r entries th
-definition_made basis larger name r th item entries d found e =
-    let x : Item = defined_constant name r in
-    let on : th.basis ≡ larger = ap (λ (t : Theorem). t.basis) d.gives in
-    let it : item ≡ x = found_is (constant_key name) basis larger x item d.new d.larger (own_name (constant_key name)) found in
-    record {
-      defined = subst (λ (b : Items). IsDefine basis name r b th) (sym on) d;
-      entries_are = e ∙ ap (λ (y : Item). item_entries y larger) it ∙ ap (item_entries x) (sym on);
-    }
+module _ (basis larger : Items) (name : List ℕ) (r : Nameless) (th : Theorem) (d : IsDefine basis name r larger th) (entries : Entries)
+    (made : (x : Item) → item_at (constant_key name) larger ≡ Some x → entries ≡ item_entries x larger) where
+  are_defined : entries ≡ item_entries (defined_constant name r) larger
+  are_defined = made (defined_constant name r) (definition_item basis larger name r th d)
 
-pub definition_entries : (basis larger : Items) (name : List ℕ) (r : Nameless) (th : Theorem) (item : Item) (entries : Entries) → IsDefine basis name r larger th → item_at (constant_key name) larger ≡ Some item →
-    entries ≡ item_entries item larger → IsLegalSet th.basis → EachIsEntry entries
-definition_entries basis larger name r th item entries d found e legal =
-    let x : Item = defined_constant name r in
-    let on : th.basis ≡ larger = ap (λ (t : Theorem). t.basis) d.gives in
-    let it : item ≡ x = found_is (constant_key name) basis larger x item d.new d.larger (own_name (constant_key name)) found in
-    subst EachIsEntry (sym (e ∙ ap (λ (y : Item). item_entries y larger) it)) (each_made x larger (subst IsLegalSet on legal) (larger_holds basis larger x d.larger))
+  on : th.basis ≡ larger
+  on = ap (λ (t : Theorem). t.basis) d.gives
 
-type_named : (name abs rep : List ℕ) (p : Nameless) → has_key (defined_type name abs rep p) (type_key name) ≡ true
-type_named name abs rep p = or_left _ _ (own_key (type_key name))
+  pub definition_made : IsNewDefinition basis name r entries th
+  definition_made = record {
+    defined = subst (λ (b : Items). IsDefine basis name r b th) (sym on) d;
+    entries_are = are_defined ∙ ap (item_entries (defined_constant name r)) (sym on);
+  }
 
-pub type_found : (basis larger : Items) (name abs rep : List ℕ) (member first second : Theorem) → IsTypeDefine basis name abs rep member larger first second → is_some (item_at (type_key name) larger) ≡ true
-type_found basis larger name abs rep member first second d =
-    ap is_some (item_found basis larger (defined_type name abs rep d.predicate) (type_key name) d.new d.larger (type_named name abs rep d.predicate))
+  pub definition_entries : IsLegalSet th.basis → EachIsEntry entries
+  definition_entries legal =
+      subst EachIsEntry (sym are_defined) (each_made (defined_constant name r) larger (subst IsLegalSet on legal) (larger_holds basis larger (defined_constant name r) d.larger))
 
-module _ (basis larger : Items) (name abs rep one two : List ℕ) (member first second : Theorem) (d : IsTypeDefine basis name abs rep member larger first second) (item : Item) (found : item_at (type_key name) larger ≡ Some item)
-    (made once twice : Entries) (key other : KeyValue) (value further : EntryValue) (text words : List ℕ)
-    (made_is : made ≡ item_entries item larger) (once_is : once ≡ made ++ (key, value) ∷ []) (twice_is : twice ≡ once ++ (other, further) ∷ [])
-    (key_of : key ≡ record { kind = key_kind.Theorem; name = text }) (text_is : text ≡ one) (value_is : value ≡ ATheorem first)
-    (other_is : other ≡ record { kind = key_kind.Theorem; name = words }) (words_are : words ≡ two) (further_is : further ≡ ATheorem second) where
+-- a theorem under its name
+pub theorem_added : (es more : Entries) (key : KeyValue) (value : EntryValue) (name : List ℕ) (th : Theorem) → more ≡ es ++ (key, value) ∷ [] → key ≡ keys.theorem_key name → value ≡ ATheorem th → more ≡ es ++ (keys.theorem_key name, ATheorem th) ∷ []
+theorem_added es more key value name th e own is = e ∙ (λ i. es ++ (own i, is i) ∷ [])
+
+-- and one after the other
+pub theorems_added : (es once twice : Entries) (first second : KeyValue × EntryValue) → once ≡ es ++ first ∷ [] → twice ≡ once ++ second ∷ [] → twice ≡ es ++ first ∷ second ∷ []
+theorems_added es once twice first second e f = f ∙ ap (λ (l : Entries). l ++ second ∷ []) e ∙ append_assoc es (first ∷ []) (second ∷ [])
+
+module _ (basis larger : Items) (name abs rep : List ℕ) (member first second : Theorem) (d : IsTypeDefine basis name abs rep member larger first second) where
   abbrev defined : Item
   defined = defined_type name abs rep d.predicate
 
-  abbrev theorems : Entries
-  theorems = (keys.theorem_key one, ATheorem first) ∷ (keys.theorem_key two, ATheorem second) ∷ []
+  type_item : item_at (type_key name) larger ≡ Some defined
+  type_item = item_found basis larger defined (type_key name) d.new d.larger (or_left _ _ (own_key (type_key name)))
 
-  are : twice ≡ item_entries defined larger ++ theorems
-  are =
-      let it : item ≡ defined = found_is (type_key name) basis larger defined item d.new d.larger (type_named name abs rep d.predicate) found in
-      let first_key : key ≡ keys.theorem_key one = keyed key_kind.Theorem key one text key_of text_is in
-      let second_key : other ≡ keys.theorem_key two = keyed key_kind.Theorem other two words other_is words_are in
-      twice_is
-      ∙ ap (λ (es : Entries). es ++ (other, further) ∷ []) (once_is ∙ ap (λ (es : Entries). es ++ (key, value) ∷ []) (made_is ∙ ap (λ (y : Item). item_entries y larger) it))
-      ∙ append_assoc (item_entries defined larger) ((key, value) ∷ []) ((other, further) ∷ [])
-      ∙ (λ i. item_entries defined larger ++ (first_key i, value_is i) ∷ (second_key i, further_is i) ∷ [])
+  pub type_found : is_some (item_at (type_key name) larger) ≡ true
+  type_found = ap is_some type_item
 
-  pub type_definition_made : IsNewTypeDefinition basis name abs rep one two member twice
-  type_definition_made = record { larger = larger; abs_rep = first; rep_abs = second; defined = d; entries_are = are }
+  module _ (one two : List ℕ) (entries : Entries)
+      (made : (x : Item) → item_at (type_key name) larger ≡ Some x → entries ≡ item_entries x larger ++ (keys.theorem_key one, ATheorem first) ∷ (keys.theorem_key two, ATheorem second) ∷ []) where
+    abbrev theorems : Entries
+    theorems = (keys.theorem_key one, ATheorem first) ∷ (keys.theorem_key two, ATheorem second) ∷ []
 
-  pub type_definition_entries : IsTheorem first → IsTheorem second → EachIsEntry twice
-  type_definition_entries is also =
-      let on : first.basis ≡ larger = ap (λ (t : Theorem). t.basis) d.gives_first in
-      subst EachIsEntry (sym are)
-      (each_joined (item_entries defined larger) theorems (each_made defined larger (subst IsLegalSet on is.legal) (larger_holds basis larger defined d.larger)) (
-        record { theorem = is; under = refl; without_hypotheses = ap (λ (t : Theorem). t.sequent.hyps) d.gives_first },
-        (record { theorem = also; under = refl; without_hypotheses = ap (λ (t : Theorem). t.sequent.hyps) d.gives_second }, tt),
-      ))
+    are : entries ≡ item_entries defined larger ++ theorems
+    are = made defined type_item
+
+    pub type_definition_made : IsNewTypeDefinition basis name abs rep one two member entries
+    type_definition_made = record { larger = larger; abs_rep = first; rep_abs = second; defined = d; entries_are = are }
+
+    pub type_definition_entries : IsTheorem first → IsTheorem second → EachIsEntry entries
+    type_definition_entries is also =
+        let on : first.basis ≡ larger = ap (λ (t : Theorem). t.basis) d.gives_first in
+        subst EachIsEntry (sym are)
+        (each_joined (item_entries defined larger) theorems (each_made defined larger (subst IsLegalSet on is.legal) (larger_holds basis larger defined d.larger)) (
+          record { theorem = is; under = refl; without_hypotheses = ap (λ (t : Theorem). t.sequent.hyps) d.gives_first },
+          (record { theorem = also; under = refl; without_hypotheses = ap (λ (t : Theorem). t.sequent.hyps) d.gives_second }, tt),
+        ))

@@ -1,18 +1,22 @@
 //! The entries of what is declared and defined over a basis.
-ghost use Rattle.std.specs.Prelude.{◌≡◌, ◌++◌, true, is_some, IfOk, OnOk, Some, [], map, option_copied};
+ghost use Rattle.std.specs.Prelude.{◌≡◌, ◌++◌, ◌∷◌, true, is_some, IfOk, IfErr, OnOk, Some, [], map, option_copied};
 ghost use Rattle.hol_terms.specs.Nameless.{nameless};
 ghost use Rattle.hol_kernel.specs.Clashing.{key_at};
-ghost use Rattle.hol_kernel.specs.Gives.{GivesSome, in_kernel};
-ghost use Rattle.hol_kernel.specs.Items.{IsSubset};
-ghost use Rattle.hol_kernel.specs.Signature.{item_types, item_constants};
-ghost use Rattle.hol_kernel.specs.Theorem.{IsTheorem};
+ghost use Rattle.hol_kernel.specs.Extends.{IsDefine, IsTypeDefine};
+ghost use Rattle.hol_kernel.specs.Gives.{GivesSome, FailsBy, in_kernel};
+ghost use Rattle.hol_kernel.specs.Item.{Item as ItemValue};
+ghost use Rattle.hol_kernel.specs.Items.{Items, IsSubset};
+ghost use Rattle.hol_kernel.specs.Signature.{type_key, item_types, item_constants};
+ghost use Rattle.hol_kernel.specs.Theorem.{Theorem};
+ghost use Rattle.hol_kernel.specs.declared.type_definition.TypeDefinition.{TypeDefinition};
 ghost use Rattle.hol_kernel.specs.declared.error.Rule.TheVariants as rule;
-ghost use Rattle.hol_theory.specs.Entry.{EachIsEntry, item_at};
+ghost use Rattle.hol_theory.specs.Entry.{ATheorem, EachIsEntry, item_at};
+ghost use Rattle.hol_theory.specs.Key.{theorem_key};
 ghost use Rattle.hol_theory.specs.Making.{type_entry, constant_entry, item_entries, IsNewType, IsNewConstant, IsNewAxiom, IsNewDefinition, IsNewTypeDefinition};
 
 use crate::key::{Key, Kind};
 use crate::value::Value;
-use hol_kernel::{Basis, Item, ItemKind, KernelError, Thm};
+use hol_kernel::{Basis, Item, ItemKind, KernelError, Thm, TypeDefinition};
 use hol_terms::Term;
 use hol_types::{Name, Ty};
 use std::alloc::{AllocError, Global};
@@ -51,6 +55,20 @@ pub fn item_entries(alloc: Global, item: &Item, basis: &Basis) -> Result<Entries
     add_types(alloc, &mut entries, item, basis)?;
     add_constants(alloc, &mut entries, item, basis)?;
     Ok(entries)
+}
+
+// What the item of the name makes, which the basis has.
+fn made_entries(
+    alloc: Global,
+    basis: &Basis,
+    kind: ItemKind,
+    name: &Name,
+) -> Result<Entries, AllocError>
+    requires { is_some (item_at (key_at kind name.now) basis.now) ≡ true }
+    ensures { (x : ItemValue) → item_at (key_at kind name.now) basis.now ≡ Some x → IfOk result (λ entries. entries.items ≡ item_entries x basis.now) }
+{
+    let item = own_item(basis, kind, name)?;
+    item_entries(alloc, &item, basis)
 }
 
 // Adds the item's type constructors as entries.
@@ -149,13 +167,13 @@ pub fn new_definition(
     name: &Name,
     right: &Term,
 ) -> Result<(Entries, Thm), KernelError>
-    ensures made { GivesSome in_kernel rule.Define (λ made. IsNewDefinition basis.now name.now (nameless [] right.now) made.0.items made.1) result }
+    ensures made { IfOk result (λ made. IsNewDefinition basis.now name.now (nameless [] right.now) made.0.items made.1) }
     ensures entries { IfOk result (λ made. EachIsEntry made.0.items) }
+    ensures refused { IfErr result (λ e. FailsBy rule.Define ((made : Items × Theorem) → IsDefine basis.now name.now (nameless [] right.now) made.0 made.1 → ⊥) (in_kernel e)) }
 {
     let (larger, th) = basis.define(alloc, name, right)?;
     th.promise();
-    let item = own_item(&larger, ItemKind::Constant, name)?;
-    let entries = item_entries(alloc, &item, &larger)?;
+    let entries = made_entries(alloc, &larger, ItemKind::Constant, name)?;
     Ok((entries, th))
 }
 
@@ -169,9 +187,9 @@ pub struct DefinedNames<'a> {
     /// The constant from the new type.
     pub rep: &'a Name,
     /// The theorem `|- abs (rep a) = a`.
-    pub abs_rep: &'a Name,
+    pub abs_rep: &'a str,
     /// The theorem `|- P r = (rep (abs r) = r)`.
-    pub rep_abs: &'a Name,
+    pub rep_abs: &'a str,
 }
 
 /// The entries of a type constructor whose values stand for those that a predicate `P` has, by a theorem `|- P x` over the basis (fusion.ml,
@@ -186,17 +204,40 @@ pub fn new_type_definition(
     member: &Thm,
 ) -> Result<Entries, KernelError>
     requires within { IsSubset member.now.basis basis.now }
-    ensures made { GivesSome in_kernel rule.TypeDefine (λ entries. IsNewTypeDefinition basis.now names.now.name.now names.now.abs.now names.now.rep.now names.now.abs_rep.now names.now.rep_abs.now member.now entries.items) result }
+    ensures made { IfOk result (λ entries. IsNewTypeDefinition basis.now names.now.name.now names.now.abs.now names.now.rep.now names.now.abs_rep.now names.now.rep_abs.now member.now entries.items) }
     ensures entries { IfOk result (λ entries. EachIsEntry entries.items) }
+    ensures refused { IfErr result (λ e. FailsBy rule.TypeDefine ((made : TypeDefinition) → IsTypeDefine basis.now names.now.name.now names.now.abs.now names.now.rep.now member.now made.basis made.abs_rep made.rep_abs → ⊥) (in_kernel e)) }
 {
     let made = basis.type_define(alloc, names.name, names.abs, names.rep, member)?;
     made.abs_rep.promise();
     made.rep_abs.promise();
-    let item = own_item(&made.basis, ItemKind::Type, names.name)?;
-    let mut entries = item_entries(alloc, &item, &made.basis)?;
-    let first = Key::new(alloc, Kind::Theorem, names.abs_rep.as_str())?;
-    entries.push((first, Value::theorem(made.abs_rep)))?;
-    let second = Key::new(alloc, Kind::Theorem, names.rep_abs.as_str())?;
-    entries.push((second, Value::theorem(made.rep_abs)))?;
+    Ok(definition_entries(alloc, names, made)?)
+}
+
+// The entries of what was defined, whose type constructor the larger basis has: those of its item, and its theorems under their names.
+fn definition_entries(
+    alloc: Global,
+    names: &DefinedNames<'_>,
+    made: TypeDefinition,
+) -> Result<Entries, AllocError>
+    requires { is_some (item_at (type_key names.now.name.now) made.basis) ≡ true }
+    ensures { (x : ItemValue) → item_at (type_key names.now.name.now) made.basis ≡ Some x → IfOk result (λ entries. entries.items ≡ item_entries x made.basis ++ (theorem_key names.now.abs_rep.now, ATheorem made.abs_rep) ∷ (theorem_key names.now.rep_abs.now, ATheorem made.rep_abs) ∷ []) }
+{
+    let entries = made_entries(alloc, &made.basis, ItemKind::Type, names.name)?;
+    let entries = with_theorem(alloc, entries, names.abs_rep, made.abs_rep)?;
+    with_theorem(alloc, entries, names.rep_abs, made.rep_abs)
+}
+
+// The entries, with a theorem under its name.
+fn with_theorem(
+    alloc: Global,
+    mut entries: Entries,
+    name: &str,
+    theorem: Thm,
+) -> Result<Entries, AllocError>
+    ensures { IfOk result (λ more. more.items ≡ entries.items ++ (theorem_key name.now, ATheorem theorem) ∷ []) }
+{
+    let key = Key::new(alloc, Kind::Theorem, name)?;
+    entries.push((key, Value::theorem(theorem)))?;
     Ok(entries)
 }

@@ -18,6 +18,15 @@ use std::test::Fail;
 // What a proof of `x = x` is.
 const PROOF: [&str; 3] = ["g REFL1 `x:A = x`", "e REFL_TAC", "qed"];
 
+// What makes a type, a constant, an axiom and definitions.
+const MAKING: [&str; 5] = [
+    "new_type t 0",
+    "new_constant c `:t`",
+    "new_axiom N `c = c`",
+    "new_definition D `d (x:A) = c`",
+    "new_basic_type_definition u abs rep N1 N2 N",
+];
+
 // A command that was carried out, what it read and its outcome.
 #[derive(Drop)]
 struct Step {
@@ -95,7 +104,10 @@ fn copies_of_steps_and_keys_are_the_same(rt: HostRuntime) -> Result<(), Fail> {
     for text in ["qed", PROOF[0], PROOF[1], PROOF[2]] {
         assert!(rt; is_copied(alloc, &setup, text, &mut state)?);
     }
-    assert!(rt; stands(alloc, &state, "REFL1")?);
+    for text in MAKING {
+        assert!(rt; is_copied(alloc, &setup, text, &mut state)?);
+    }
+    assert!(rt; stands(alloc, &state, "REFL1")? && stands(alloc, &state, "N2")?);
     Ok(())
 }
 

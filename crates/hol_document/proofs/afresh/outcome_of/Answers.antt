@@ -7,7 +7,7 @@ use Rattle.hol_document.proofs.afresh.outcome_of.Goals as goal
 pub returns-in_ok-reads-in-Local : goal.returns-in_ok-reads-in-Local
 returns-in_ok-reads-in-Local g c =
     rows_of _ _ _ c.args.line.now (parsed_value c.parsed.result.now) (Local (local_text c.in-Local.command)) c.run_local.result
-    c.parsed.ensures (ap parsed_value c.in-Local.is) (rw c.in_ok-reads-in-Local.ensures at c.run_local.ensures)
+    c.parsed.ensures (ap parsed_value c.in-Local.is) (rw c.in_ok-reads-in-Local.ensures.reads at c.run_local.ensures)
 
 pub returns-in-Direct : goal.returns-in-Direct
 returns-in-Direct g c =

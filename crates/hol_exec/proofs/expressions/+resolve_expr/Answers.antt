@@ -1,11 +1,9 @@
 use Rattle.std.proofs.Common.{rules, ◌≡◌, ◌++◌, ◌∷◌, [], List, drop, ap, sym, ◌∙◌, subst, arith, length, ◌<◌}
 use Rattle.hol_combine.specs.ExprValue.{ExprValue}
-use Rattle.hol_notation_tactics.specs.Text.{TacText, Then, SubgoalThen, tac_nodes}
+use Rattle.hol_notation_tactics.specs.Text.{TacText, Then, tac_nodes}
 use Rattle.hol_notation_tactics.specs.TacView.{tac_of_node}
 use Rattle.hol_notation_tactics.proofs.SameTactics.{nodes_at}
-use Rattle.hol_resolve.specs.Readings.{term_at}
-use Rattle.hol_resolve.specs.ReadingView.{readings_value}
-use Rattle.hol_exec.specs.Expr.{both, formula, resolved_handing, resolved_expr}
+use Rattle.hol_exec.specs.Expr.{both, resolved_handing, resolved_expr}
 use Rattle.hol_combine.specs.ExprValue as expr
 use Rattle.hol_exec.specs.ContextView.{context_value}
 use Rattle.hol_exec.specs.ExprView.{IsChain, IsNodeFound}

@@ -6,6 +6,6 @@ use Rattle.hol_resolve.specs.ReadingView.{reading_value}
 use Rattle.hol_exec.proofs.Runs.{if_ok}
 use Rattle.hol_exec.proofs.reading.read_cited.Goals as goal
 
-pub returns-clause-reads : goal.returns-clause-reads
-returns-clause-reads g c =
+pub returns : goal.returns
+returns g c =
     if_ok c.read_term.result _ _ (λ reading h. subst (λ (over : LookupsValue). IsTermReadAs over c.args.written.now (reading_value reading)) (c.in_ok-lookups.ensures ∙ ap lookups_of c.cited.ensures.value) h) c.read_term.ensures

@@ -4,14 +4,14 @@ use Rattle.hol_exec.specs.Expr.{refused_by}
 use Rattle.hol_exec.specs.ExprView.{resolution_value}
 use Rattle.hol_exec.specs.Lookups.{lookups_of}
 use Rattle.hol_exec.specs.SetupView.{setup_value}
-use Rattle.hol_exec.proofs.PreludeStands.{readings_over}
+use Rattle.hol_exec.proofs.ReadOver.{readings_over}
 use Rattle.hol_exec.proofs.Resolving.{past_readings, refusal_ends}
 use Rattle.hol_exec.proofs.Runs.{if_ok}
 use Rattle.hol_exec.proofs.resolution.resolve_fitting.Goals as goal
 
 pub resolve_read-requires : goal.resolve_read-requires
 resolve_read-requires g c =
-    readings_over c.cited.result.now _ _ _ (readings_value c.in-Ok.readings) c.cited.ensures.plain c.in_ok-lookups.ensures c.in_ok-readings.ensures (ap readings_result c.in-Ok.is)
+    readings_over c.args.reads.now.cited c.args.reads.now.made _ _ _ (readings_value c.in-Ok.readings) c.cited.ensures.theory (c.in_ok-lookups.ensures ∙ ap lookups_of c.cited.ensures.value) c.in_ok-readings.ensures (ap readings_result c.in-Ok.is)
 
 pub returns-in-Ok-clause-value : goal.returns-in-Ok-clause-value
 returns-in-Ok-clause-value g c =

@@ -1,0 +1,85 @@
+-- What the entries of a theory say: on what each rests, what an import brings, and on what an open proof rests.
+use Rattle.std.specs.Prelude.{◌≡◌, ℕ, Bool, true, false, cond, List, [], ◌∷◌, Some, is_none, Result, Ok, Err, OnOk, OnErr, refl}
+use Rattle.std.proofs.Common.{sym, subst, inl, inr}
+use Rattle.hol_kernel.specs.Item.{Item}
+use Rattle.hol_kernel.specs.Items.{Items, item_set, IsSubset}
+use Rattle.hol_kernel.proofs.Members.{Among}
+use Rattle.hol_kernel.proofs.Subsets.{within_of_subset, subset_of_within, union_subset}
+use Rattle.hol_goal.specs.Goal.{GoalValue}
+use Rattle.hol_stack.specs.StackValue.{StepValue}
+use Rattle.hol_theory.specs.Key.{KeyValue}
+use Rattle.hol_theory.specs.Entry.{EntryValue, Entries, IsEntry, EachIsEntry, entry_at, entry_basis, own_item}
+use Rattle.hol_theory.specs.Theory.{with_item, items_after, items_in, RestsOn, IsTheory}
+use Rattle.hol_theory.specs.Adding.{missing}
+use Rattle.hol_theory.proofs.Entries.{found}
+use Rattle.hol_theory.proofs.Items.{after_old}
+use Rattle.hol_exec.specs.StateValue.{ProofValue}
+use Rattle.hol_exec.specs.OutcomeValue.{stepped, without_newest, rotated}
+use Rattle.hol_exec.specs.Valid.{IsHistoryWithin, IsProofWithin}
+
+-- ---- entries that stand
+
+rests_among : (items : List Item) (es : Entries) (e : KeyValue × EntryValue) → RestsOn items es → Among e es → IsSubset (entry_basis e.1) (item_set (items_after items es))
+rests_among items [] e h i = absurd i
+rests_among items (f ∷ es) e h (inl is) =
+    let next : List Item = with_item items (own_item f.0 f.1) in
+    subst (λ (g : KeyValue × EntryValue). IsSubset (entry_basis g.1) (item_set (items_after next es))) (sym is)
+    (subset_of_within (entry_basis f.1) (item_set (items_after next es)) (λ x k. after_old next es x (within_of_subset (entry_basis f.1) (item_set next) h.0 x k)))
+rests_among items (f ∷ es) e h (inr i) = rests_among (with_item items (own_item f.0 f.1)) es e h.1 i
+
+-- an entry rests on items of the theory
+pub entry_within : (es : Entries) (key : KeyValue) (v : EntryValue) → IsTheory es → entry_at key es ≡ Some v → IsSubset (entry_basis v) (items_in es)
+entry_within es key v t e = rests_among [] es (key, v) t.rests (found key es v e)
+
+each_among : (es : Entries) (e : KeyValue × EntryValue) → EachIsEntry es → Among e es → IsEntry e.0 e.1
+each_among [] e h i = absurd i
+each_among (f ∷ es) e h (inl is) = subst (λ (g : KeyValue × EntryValue). IsEntry g.0 g.1) (sym is) h.0
+each_among (f ∷ es) e h (inr i) = each_among es e h.1 i
+
+pub entry_is : (es : Entries) (key : KeyValue) (v : EntryValue) → IsTheory es → entry_at key es ≡ Some v → IsEntry key v
+entry_is es key v t e = each_among es (key, v) t.each (found key es v e)
+
+-- ---- what an import brings
+
+pub missing_entries : (es theory : Entries) → EachIsEntry theory → EachIsEntry (missing es theory)
+missing_entries es [] h = tt
+missing_entries es (e ∷ theory) h = by (is_none (entry_at e.0 es)) (missing_entries es theory h.1)
+  where
+    by : (b : Bool) → EachIsEntry (missing es theory) → EachIsEntry (cond b (e ∷ missing es theory) (missing es theory))
+    by true rest = (h.0, rest)
+    by false rest = rest
+
+pub missing_made : (es theory : Entries) → IsTheory theory → EachIsEntry (missing es theory)
+missing_made es theory t = missing_entries es theory t.each
+
+-- ---- on what an open proof rests
+
+pub newest_within : (items : Items) (newest : StepValue) (earlier : List StepValue) → IsHistoryWithin items newest earlier → IsSubset newest.basis items
+newest_within items newest [] h = h
+newest_within items newest (step ∷ earlier) h = h.0
+
+pub begun_within : (es : Entries) (p : ProofValue) → p.earlier ≡ [] → IsSubset p.newest.basis (items_in es) → IsProofWithin es (Some p)
+begun_within es p none h = subst (λ (steps : List StepValue). IsHistoryWithin (items_in es) p.newest steps) (sym none) h
+
+pub stepped_within : (es : Entries) (goals : List GoalValue) (basis : Items) (p : ProofValue) → IsProofWithin es (Some p) → IsSubset basis (items_in es) → IsProofWithin es (Some (stepped goals basis p))
+stepped_within es goals basis p h within = (union_subset p.newest.basis basis (items_in es) (newest_within (items_in es) p.newest p.earlier h) within, h)
+
+pub rotated_within : (es : Entries) (times : ℕ) (p : ProofValue) → IsProofWithin es (Some p) → IsProofWithin es (Some (rotated times p))
+rotated_within es times p h = (newest_within (items_in es) p.newest p.earlier h, h)
+
+-- the same after a call that may want memory, and then changes nothing
+pub step_within : {T E : Type 0} (es : Entries) (goals : List GoalValue) (basis : Items) (p q : ProofValue) (result : Result T E) → OnOk result (q ≡ stepped goals basis p) → OnErr result (q ≡ p) → IsProofWithin es (Some p) → IsSubset basis (items_in es) →
+    IsProofWithin es (Some q)
+step_within es goals basis p q (Ok x) ok err h within = subst (λ (r : ProofValue). IsProofWithin es (Some r)) (sym ok) (stepped_within es goals basis p h within)
+step_within es goals basis p q (Err x) ok err h within = subst (λ (r : ProofValue). IsProofWithin es (Some r)) (sym err) h
+
+pub rotate_within : {T E : Type 0} (es : Entries) (times : ℕ) (p q : ProofValue) (result : Result T E) → OnOk result (q ≡ rotated times p) → OnErr result (q ≡ p) → IsProofWithin es (Some p) → IsProofWithin es (Some q)
+rotate_within es times p q (Ok x) ok err h = subst (λ (r : ProofValue). IsProofWithin es (Some r)) (sym ok) (rotated_within es times p h)
+rotate_within es times p q (Err x) ok err h = subst (λ (r : ProofValue). IsProofWithin es (Some r)) (sym err) h
+
+pub undone_within : (es : Entries) (p : ProofValue) (steps : List StepValue) → IsHistoryWithin (items_in es) p.newest steps → p.earlier ≡ steps → IsProofWithin es (Some (without_newest p steps))
+undone_within es p [] h is = begun_within es p is h
+undone_within es p (step ∷ steps) h is = h.1
+
+pub back_within : (es : Entries) (p : ProofValue) → IsProofWithin es (Some p) → IsProofWithin es (Some (without_newest p p.earlier))
+back_within es p h = undone_within es p p.earlier h refl

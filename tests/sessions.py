@@ -1,0 +1,245 @@
+"""Runs the sessions of tests/sessions, and the generated ones below, over the built program, and compares every reply byte for byte.
+
+A file holds sessions. A session begins with a line 'FORM: NAME' and ends with the file or before the next such line:
+
+lines:      '> ' a request, '< ' the reply that is wanted.
+in turn:    '> ' a command, put at the end of a theory; '< ' the report that is wanted on the last one. '--' begins another theory.
+each:       ': ' commands that stand before; '> ' a command that is put after these alone; '< ' the report that is wanted on each
+            command since the last such line.
+
+'turns: N' below the first line runs it with '--turns N'. '#' begins a comment. Expected replies come from docs/PROTOCOL.md, RFC 8259
+and HOL Light."""
+
+import argparse
+import json
+import pathlib
+import re
+import subprocess
+import sys
+
+HERE = pathlib.Path(__file__).resolve().parent
+BUILT = HERE.parent / "crates" / "hol_serve" / "out" / "hol_serve"
+FORMS = ("lines", "in turn", "each")
+OK = '{"ok":true}'
+
+
+def request(op, **more):
+    return json.dumps({"op": op, **more}, ensure_ascii=False)
+
+
+class Session:
+    """A name, the program's words, the bytes to send, and for each line the reply that is wanted, or a pattern of it; "" where there is none."""
+
+    def __init__(self, name, words=()):
+        self.name, self.words, self.sent, self.want = name, list(words), [], []
+
+    def add(self, line, want):
+        self.sent.append(line if isinstance(line, bytes) else line.encode())
+        self.want.append(want)
+
+    def theory(self, name, commands):
+        """Puts a theory of these commands before the others, so that a report on it runs no other."""
+        self.add(request("new_theory", name=name, at=0), OK)
+        for at, command in enumerate(commands):
+            self.add(request("insert", theory=name, at=at, text=command), OK)
+
+    def faults(self, program):
+        ran = subprocess.run([program, *self.words], input=b"\n".join(self.sent) + b"\n", stdout=subprocess.PIPE, timeout=60)
+        replies = ran.stdout.decode().split("\n")
+        found = [] if ran.returncode == 0 else [f"status {ran.returncode}"]
+        wanted = [want for want in self.want if want != ""]
+        if replies.pop() != "" or len(replies) != len(wanted):
+            found.append(f"{len(replies)} replies for {len(wanted)}")
+        sent = [line for line, want in zip(self.sent, self.want) if want != ""]
+        for line, reply, want in zip(sent, replies, wanted):
+            if not (want.match(reply) if isinstance(want, re.Pattern) else want == reply):
+                found.append(f"to   {line[:300].decode(errors='replace')}\n  got  {reply[:600]}\n  want {str(want)[:600]}")
+        return found
+
+
+def of_each(name, words, lines):
+    session, before, commands, number = Session(name, words), [], [], 0
+    for line in lines:
+        kind, rest = line[:2], line[2:]
+        if kind == ": ":
+            before.append(rest)
+        elif kind == "> ":
+            commands.append(rest)
+        elif kind == "< ":
+            for command in commands:
+                if number % 64 == 0 and number:
+                    for at in range(number - 64, number):
+                        session.add(request("drop_theory", name=f"A{at}"), OK)
+                session.theory(f"A{number}", [*before, command])
+                session.add(request("report", theory=f"A{number}", at=len(before)), rest)
+                number += 1
+            commands = []
+    return session
+
+
+def in_turn(name, words, lines):
+    session, number, at = Session(name, words), 0, 0
+    session.theory("A0", [])
+    for line in lines:
+        kind, rest = line[:2], line[2:]
+        if line == "--":
+            number, at = number + 1, 0
+            session.theory(f"A{number}", [])
+        elif kind == "> ":
+            session.add(request("insert", theory=f"A{number}", at=at, text=rest), OK)
+            at += 1
+        elif kind == "< ":
+            session.add(request("report", theory=f"A{number}", at=at - 1), rest)
+    return session
+
+
+def of_lines(name, words, lines):
+    session = Session(name, words)
+    for line in lines:
+        if line.startswith("> "):
+            session.add(line[2:], "")
+        elif line.startswith("< "):
+            session.want[-1] = line[2:]
+    return session
+
+
+def read(file):
+    """The sessions of a file."""
+    found, head, words, lines = [], None, [], []
+
+    def end():
+        if head:
+            make = {"each": of_each, "in turn": in_turn, "lines": of_lines}[head[1]]
+            found.append(make(f"{file.stem}: {head[2]}", words, lines))
+
+    for line in file.read_text().splitlines():
+        start = re.fullmatch(rf"({'|'.join(FORMS)}): (.+)", line)
+        turns = re.fullmatch(r"turns: (\d+)", line)
+        if start:
+            end()
+            head, words, lines = start, [], []
+        elif turns:
+            words = ["--turns", turns[1]]
+        elif line and not line.startswith("#"):
+            if not head or line[:2] not in ("> ", "< ", ": ") and line != "--":
+                sys.exit(f"{file}: no line of a session: {line}")
+            lines.append(line)
+    end()
+    return found
+
+
+def report_on(name, command, want):
+    session = Session(name)
+    session.theory("A", ["g N `p:bool`", command] if command.startswith("e ") else [command])
+    session.add(request("report", theory="A", at=1 if command.startswith("e ") else 0), want)
+    return session
+
+
+def doubling(count):
+    """In each equation a variable is twice in the next one, so its types double."""
+    return "g N `" + r" /\ ".join(rf"x{k} = (\g. g x{k - 1} x{k - 1})" for k in range(1, count + 1)) + "`"
+
+
+SHAPE, NOT_JSON = '{"error":3,"ok":false,"text":"shape"}', '{"error":2,"ok":false,"text":"not JSON"}'
+UNKNOWN, LONG = '{"error":4,"ok":false,"text":"unknown theory"}', '{"error":1,"ok":false,"text":"line too long"}'
+SHAPES = r"""{"op":"x"}
+{"op":"stats"}
+{"op":"drop_theory","theory":"B"}
+{"op":"replace","theory":"B","at":0}
+{"op":"remove","theory":"B"}
+{"op":"theorems","name":"B"}
+{"op":1,"theory":"B","at":0}
+[{"op":"report","theory":"B","at":0}]
+{"theory":"B","at":0}
+{"op":"report","at":0}
+{"op":"report","theory":"B"}
+{"op":"report","theory":0,"at":0}
+{"op":"report","theory":"B","at":"0"}
+{"op":"report","op":"x","theory":"B","at":0}
+{"op":"report","theory":"B","at":18446744073709551616}
+{"op":"report","theory":"B","at":-1}
+{"op":"report","theory":"B","at":-0}
+{"op":"report","theory":"B","at":1.5}
+{"op":"report","theory":"B","at":1.0}
+{"op":"report","theory":"B","at":1e0}
+{"op":"insert","theory":"B","at":0}
+{"op":"new_theory","at":0}
+{"op":"new_theory","name":"A"}
+{"op":"basis","theory":"B"}
+{"op":"basis","name":"N"}
+7"""
+NO_JSON = [b"", b" ", b"\r", b"nul", b'{"op":"report","theory":"B","at":0', b'{"op":"report","theory":"B","at":0} x', b'{"op":"report","theory":"B","at":1e400}']
+NO_JSON += [b'{"op":"report","theory":"B","at":01}', b'{"op":"report","theory":"\\ud800","at":0}', b'{"op":"report","theory":"\t","at":0}', b'{"op":"report","theory":"\xff","at":0}']
+SERVED = r"""{"op":"report","theory":"B","at":18446744073709551615}
+{"op":"x","op":"report","theory":7,"theory":"B","at":-1,"at":0,"other":null}
+ { "at" : 0 , "op" : "report" , "theory" : "B" } """
+
+
+def of_no_requests():
+    session = Session("refuses what is no request")
+    for lines, reply in ((SHAPES.split("\n"), SHAPE), (NO_JSON, NOT_JSON), (SERVED.split("\n"), UNKNOWN)):
+        for line in lines:
+            session.add(line, reply)
+    return session
+
+
+def of_lengths():
+    session, asked = Session("cuts and reads lines"), '{"op":"report","theory":"B","at":0}'
+    for length, reply in ((65_536, UNKNOWN), (65_537, LONG), (200_000, LONG)):
+        session.add(asked.ljust(length), reply)
+    for arrays, reply in ((126, UNKNOWN), (127, NOT_JSON)):
+        session.add('{"op":"report","theory":"B","at":0,"x":' + "[" * arrays + "]" * arrays + "}", reply)
+    session.add(" " * 65_537, LONG)
+    return session
+
+
+def of_limits():
+    session, many = Session("refuses the 65th theory and the 1001st command"), '{"error":8,"ok":false,"text":"too many"}'
+    for number in range(65):
+        session.add(request("new_theory", name=f"T{number}", at=number), OK if number < 64 else many)
+    for number in range(1001):
+        session.add(request("insert", theory="T0", at=0, text="qed"), OK if number < 1000 else many)
+    return session
+
+
+def of_a_long_reply():
+    """60 variables of one type with a long name, which is shown at each of them."""
+    name = "A" * 1_200
+    equations = r" /\ ".join([f"(x0:{name}) = x1"] + [f"x{k - 1} = x{k}" for k in range(2, 60)])
+    free = ",".join(f'"x{k}:{name}"' for k in sorted(range(60), key=lambda k: f"x{k}"))
+    shown = equations.replace(f"(x0:{name})", "x0").replace("\\", "\\\\")
+    return report_on("tells of goals in over 65,536 bytes", f"g N `{equations}`", f'{{"goals":[{{"asl":[],"free":[{free}],"goal":"{shown}"}}],"ok":true}}')
+
+
+def generated():
+    binders = "!" + " ".join(f"x{k}" for k in range(300)) + ". x0"
+    yield report_on("accepts a reading of 18,208 nodes", doubling(8), re.compile(r'{"goals":\[{"asl":\[\],'))
+    yield report_on("refuses a reading over 20,000 nodes", doubling(9), '{"arg":"","ok":true,"refusal":13,"text":"too large"}')
+    yield report_on("reads and shows 300 binders", f"g N `{binders}`", f'{{"goals":[{{"asl":[],"free":[],"goal":"{binders}"}}],"ok":true}}')
+    yield report_on("runs a long chain", "e ALL_TAC" + " THEN ALL_TAC" * 1000, '{"goals":[{"asl":[],"free":["p:bool"],"goal":"p"}],"ok":true}')
+    yield of_a_long_reply()
+    yield of_no_requests()
+    yield of_lengths()
+    yield of_limits()
+
+
+def main():
+    words = argparse.ArgumentParser(description="runs the sessions of tests/sessions over the built program")
+    words.add_argument("--program", default=str(BUILT))
+    words.add_argument("--only", default="", help="sessions whose name has this in it")
+    given = words.parse_args()
+    every = [session for file in sorted((HERE / "sessions").glob("*.txt")) for session in read(file)] + [*generated()]
+    passed = failed = 0
+    for session in every:
+        if given.only not in session.name:
+            continue
+        found = session.faults(given.program)
+        passed, failed = passed + (not found), failed + bool(found)
+        if found:
+            print(f"FAILED {session.name}")
+            print("\n".join(f"  {it}" for it in found))
+    print(f"sessions: {passed} passed, {failed} failed")
+    return 1 if failed or not passed else 0
+
+
+sys.exit(main())
