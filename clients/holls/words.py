@@ -27,6 +27,12 @@ _FIXED = {
     protocol.NOT_REFLECTED: "the type variable %s occurs in the definition and not in the constant's type: annotate the constant",
 }
 
+_TYPE_DEFINITION = "new_basic_type_definition"
+_OF_TYPE_DEFINITIONS = {
+    protocol.NOT_CLOSED: "%s is free in the P of the theorem `P x`: the type's condition has to be closed",
+    protocol.BAD_RULE: "%s takes a theorem `P x` as its last name, and this one is no application",
+}
+
 
 def explain(text: str, refusal: Refusal, opened: Optional[str] = None) -> Told:
     """What a refusal of a command says. `opened` tells of the proof that is open, where one is."""
@@ -43,7 +49,10 @@ def explain(text: str, refusal: Refusal, opened: Optional[str] = None) -> Told:
     elif number == protocol.REFUSED:
         words = _refused(refusal.argument)
     elif number == protocol.NAME_TAKEN:
-        words = "%s stands already: choose another name" % _key(refusal.argument)
+        twice = " or is made twice here" if text.split().count(refusal.argument.split(":")[-1]) > 1 else ""
+        words = "%s stands already%s: choose another name" % (_key(refusal.argument), twice)
+    elif text.startswith(_TYPE_DEFINITION) and number in _OF_TYPE_DEFINITIONS:
+        words = _OF_TYPE_DEFINITIONS[number] % refusal.argument
     else:
         words = _FIXED.get(number, refusal.text + " %s").replace("%s", refusal.argument).strip()
     return start, end, words
@@ -101,6 +110,10 @@ def _unexpected(text: str, place: int, token: Optional[str]) -> Told:
         "`": "; the quotation ends too soon, or a backquote is missing",
         ":": "; a binder's variable with a type before another one stands in parentheses: !(x:A) y. p",
     }
+    if text.startswith("new_type") and token.isdigit():
+        hints[token] = "; a type constructor takes 0 to 16 arguments"
+    if text.startswith("new_definition") and token in ("/\\", "\\/", "==>", "<=>"):
+        hints[token] = "; the right side of a definition's = stands in parentheses, or has <=> before it"
     return place, place + len(token), "no command goes on with `%s` here%s" % (token, hints.get(token, ""))
 
 

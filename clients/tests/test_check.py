@@ -112,8 +112,8 @@ class Checking(unittest.TestCase):
 
 @unittest.skipUnless(BUILT.is_file(), "hol_serve isn't built")
 class Examples(unittest.TestCase):
-    def test_the_examples_check(self):
-        files = sorted(map(str, (ROOT / "examples" / "theories").glob("*.hol")))
+    def test_the_first_examples_check(self):
+        files = [str(ROOT / "examples" / "theories" / (name + ".hol")) for name in ("first", "functions", "tacticals")]
         done = subprocess.run([sys.executable, str(HOLLS), "check", "--server", str(BUILT), "--axioms", *files], capture_output=True, timeout=60)
         self.assertEqual((done.returncode, done.stderr), (0, b""), done.stdout.decode())
 

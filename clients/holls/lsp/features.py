@@ -106,10 +106,17 @@ def _makes(command: Command, name: str) -> bool:
     return name in (names[:5] if command.word == "new_basic_type_definition" else names)
 
 
+def _theorems(command: Command) -> List[str]:
+    """The names of the theorems that a command makes: a type definition's are two."""
+    if command.word == "new_basic_type_definition":
+        return command.text.split()[4:6]
+    return [command.name] if command.word in ("g", "new_axiom", "new_definition") and command.name else []
+
+
 def completions(file: File, place: int) -> List[Dict[str, Any]]:
     """The words that may stand at a place."""
     above = [command for command in file.commands if command.end < place]
-    theorems = [command.name for command in above if command.word in ("g", "new_axiom", "new_definition") and command.name]
+    theorems = [name for command in above for name in _theorems(command)]
     return (
         [{"label": name, "kind": METHOD, "detail": takes or "no arguments"} for name, takes in notation.TACS.items()]
         + [{"label": name, "kind": KEYWORD, "detail": form} for name, form in notation.COMMANDS.items()]

@@ -1,0 +1,36 @@
+"""What the built program says of examples/theories and in the README's session, against what stands there."""
+
+import subprocess
+import sys
+import unittest
+
+from tests.helpers import BUILT, ROOT
+
+sys.path.insert(0, str(ROOT / "examples"))
+
+import replies  # noqa: E402
+
+
+def in_fences(text):
+    """The lines of a page that stand between fences."""
+    return [line for at, block in enumerate(text.split("```\n")) if at % 2 for line in block.splitlines()]
+
+
+@unittest.skipUnless(BUILT.is_file(), "hol_serve isn't built")
+class Replies(unittest.TestCase):
+    def test_each_reply_to_the_theories_is_the_stored_one(self):
+        for name, said in replies.transcripts(str(BUILT)).items():
+            with self.subTest(name):
+                self.assertEqual(said.splitlines(), replies.stored(name).read_text(encoding="utf-8").splitlines())
+
+    def test_the_readmes_session_is_what_the_program_says(self):
+        session = in_fences((ROOT / "README.md").read_text(encoding="utf-8"))
+        requests = (ROOT / "examples" / "session.jsonl").read_text(encoding="utf-8").splitlines()
+        self.assertEqual([line[2:] for line in session if line.startswith("> ")], requests)
+        text = "".join(line + "\n" for line in requests).encode()
+        done = subprocess.run([str(BUILT)], input=text, stdout=subprocess.PIPE, timeout=60, check=True)
+        self.assertEqual(done.stdout.decode().splitlines(), [line for line in session if not line.startswith("> ")])
+
+
+if __name__ == "__main__":
+    unittest.main()
