@@ -1,6 +1,5 @@
 //! The basis of what a command resolves.
 ghost use Rattle.std.specs.Prelude.{◌≡◌, IfOk, IfSome};
-ghost use Rattle.std.specs.FinSet as set;
 ghost use Rattle.hol_kernel.specs.Extends.{Agree};
 ghost use Rattle.hol_resolve.specs.ReadingView.{list_value};
 ghost use Rattle.hol_theory.specs.Entry.{entry_basis};
@@ -10,8 +9,9 @@ ghost use Rattle.hol_exec.specs.Valid.{AreOfTheory};
 
 use crate::occurring::occurs_in;
 use crate::reads::Reads;
-use hol_kernel::{Basis, KernelError};
+use hol_kernel::Basis;
 use hol_resolve::Quoted;
+use hol_stack::joined;
 use hol_theory::{Key, Value, ValueNode};
 use std::alloc::{AllocError, Global};
 
@@ -65,18 +65,5 @@ fn with_value(
             joined(alloc, &basis, own)
         }
         ValueNode::Theorem(theorem) => joined(alloc, &basis, theorem.basis()),
-    }
-}
-
-// The basis of both, which agree.
-fn joined(alloc: Global, left: &Basis, right: &Basis) -> Result<Basis, AllocError>
-    requires { Agree left.now right.now }
-    ensures { IfOk result (λ basis. basis ≡ set.union left.now right.now) }
-{
-    match Basis::join(alloc, left, right) {
-        Ok(basis) => Ok(basis),
-        Err(KernelError::Memory) => Err(AllocError),
-        Err(KernelError::Refused(_)) => unreachable!(),
-        Err(KernelError::Clash(_)) => unreachable!(),
     }
 }

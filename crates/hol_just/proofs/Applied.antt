@@ -67,6 +67,12 @@ pub made_pair :
 made_pair (Ok x) P make given kept other other_kept p same also h = subst P (sym (h ∙ (λ i. make (same i) (also i)))) p
 made_pair (Err e) P make given kept other other_kept p same also h = h
 
+pub made_three :
+    {W X Y Z E : Type 0} (r : Result W E) (P : W → Type 0) (make : X → Y → Z → W) (given kept : X) (other other_kept : Y) (third third_kept : Z) → P (make given other third) → kept ≡ given → other_kept ≡ other →
+    third_kept ≡ third → IfOk r (λ x. x ≡ make kept other_kept third_kept) → IfOk r P
+made_three (Ok x) P make given kept other other_kept third third_kept p same also too h = subst P (sym (h ∙ (λ i. make (same i) (also i) (too i)))) p
+made_three (Err e) P make given kept other other_kept third third_kept p same also too h = h
+
 pub made_plain : {X E : Type 0} (r : Result X E) (P : X → Type 0) (made : X) → P made → IfOk r (λ x. x ≡ made) → IfOk r P
 made_plain (Ok x) P made p h = subst P (sym h) p
 made_plain (Err e) P made p h = h

@@ -41,7 +41,7 @@ reflexivity_closes s extra assumptions a t same =
 
 -- ---- premises
 
-holds_premise : (basis : Items) (th : premise.Given) → holds_given th basis ≡ true → (premise_of basis th ≡ Some (premise.given_sequent th)) × premise.IsOver th basis
+pub holds_premise : (basis : Items) (th : premise.Given) → holds_given th basis ≡ true → (premise_of basis th ≡ Some (premise.given_sequent th)) × premise.IsOver th basis
 holds_premise basis (premise.proved th) h = (refl, h)
 holds_premise basis (premise.assumed p) h = (ap (λ b. option_map (λ th. th.sequent) (over basis (cond b (Some (sequent_of (only_hyp p) p)) None))) h, tt)
 

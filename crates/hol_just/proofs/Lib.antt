@@ -16,6 +16,15 @@ pub mod EliminationMoves
 pub mod Reducing
 pub mod ConversionMoves
 pub mod Expanding
+pub mod MatchAlike
+pub mod MatchStays
+pub mod MatchKnown
+pub mod MatchOpened
+pub mod MatchFixed
+pub mod MatchApplied
+pub mod MatchMoves
+pub mod MatchChain
+pub mod MatchTyped
 pub mod ByTheorems
 pub mod Handed
 pub mod Proposition
@@ -23,3 +32,4 @@ pub mod Givens
 pub mod Joined
 pub mod Pieces
 pub mod Weaker
+pub mod NeverRefused

@@ -67,7 +67,7 @@ some_node (fixed c s) = omega arith
 some_node (app f x) = omega arith
 some_node (lam a s b) = omega arith
 
-opened_nodes : (v : List ℕ × TypeTree) (k : ℕ) (t : Nameless) → nodes (open_with (free v) k t) ≡ nodes t
+pub opened_nodes : (v : List ℕ × TypeTree) (k : ℕ) (t : Nameless) → nodes (open_with (free v) k t) ≡ nodes t
 opened_nodes v k (free w) = refl
 opened_nodes v k (bound i) = by (nat_lt i k) (i == k)
   where

@@ -9,7 +9,7 @@ use Rattle.hol_subst.specs.Closing.{open_with, bind}
 use Rattle.hol_subst.proofs.Typing.{typed_closed, mapped_part}
 use Rattle.hol_subst.proofs.TypeLaws.{open_type}
 use Rattle.hol_formulas.specs.Equation.{bool_type}
-use Rattle.hol_formulas.specs.Formula.{connective_type, negation_type, quantifier_type, conjunction, implication, Abstraction, quantified, universal}
+use Rattle.hol_formulas.specs.Formula.{connective_type, negation_type, quantifier_type, conjunction, implication, Abstraction, quantified, universal, existential}
 use Rattle.hol_kernel.specs.Items.{Items}
 use Rattle.hol_kernel.specs.Typing.{is_type, is_base, is_known, is_typed, HasType}
 use Rattle.hol_kernel.proofs.Stands.{some_is, both, app_parts, known_open}
@@ -100,12 +100,26 @@ forall_stands basis a =
     ap (λ b. b || list_any (makes_constant (codes "!") (quantifier_type a)) (in_order basis))
     (instance_of_subst (quantifier_type (TyVar (codes "A"))) (quantifier_type a) ((a, codes "A") ∷ []) refl)
 
+exists_stands : (basis : Items) (a : TypeTree) → has_constant basis (codes "?") (quantifier_type a) ≡ true
+exists_stands basis a =
+    ap (λ b. b || list_any (makes_constant (codes "?") (quantifier_type a)) (in_order basis))
+    (instance_of_subst (quantifier_type (TyVar (codes "A"))) (quantifier_type a) ((a, codes "A") ∷ []) refl)
+
 quantifier_stands : (basis : Items) (a : TypeTree) → is_type basis a ≡ true → is_type basis (quantifier_type a) ≡ true
 quantifier_stands basis a stands = rw stands refl
 
--- a formula for each value of a variable
-pub universal_typed : (basis : Items) (v : List ℕ × TypeTree) (n : Nameless) → is_type basis v.1 ≡ true → HasType basis n bool_type → HasType basis (universal (over_variable v n)) bool_type
-universal_typed basis v n stands h =
-    applied_typed basis (fun_type v.1 bool_type) bool_type (fixed (codes "!") (quantifier_type v.1)) (bind v n)
-    (typed_known basis (fixed (codes "!") (quantifier_type v.1)) (quantifier_type v.1) (λ i. quantifier_stands basis v.1 stands i && forall_stands basis v.1 i) refl)
+-- a quantifier over a variable in a formula
+quantified_typed :
+    (basis : Items) (c : List ℕ) (v : List ℕ × TypeTree) (n : Nameless) → has_constant basis c (quantifier_type v.1) ≡ true → is_type basis v.1 ≡ true → HasType basis n bool_type →
+    HasType basis (quantified c (over_variable v n)) bool_type
+quantified_typed basis c v n constant stands h =
+    applied_typed basis (fun_type v.1 bool_type) bool_type (fixed c (quantifier_type v.1)) (bind v n)
+    (typed_known basis (fixed c (quantifier_type v.1)) (quantifier_type v.1) (λ i. quantifier_stands basis v.1 stands i && constant i) refl)
     (bound_typed basis v bool_type n stands h)
+
+-- a formula for each value of a variable, and for some value
+pub universal_typed : (basis : Items) (v : List ℕ × TypeTree) (n : Nameless) → is_type basis v.1 ≡ true → HasType basis n bool_type → HasType basis (universal (over_variable v n)) bool_type
+universal_typed basis v n stands h = quantified_typed basis (codes "!") v n (forall_stands basis v.1) stands h
+
+pub existential_typed : (basis : Items) (v : List ℕ × TypeTree) (n : Nameless) → is_type basis v.1 ≡ true → HasType basis n bool_type → HasType basis (existential (over_variable v n)) bool_type
+existential_typed basis v n stands h = quantified_typed basis (codes "?") v n (exists_stands basis v.1) stands h

@@ -1,6 +1,6 @@
 -- From which goals to which the justifications of the functions on goals are valid (HOL Light Reference Manual; LNCS 78). Terms are taken up to bound names where the
 -- functions compare them so; the extra hypotheses are those of theorems that were handed in and are no assumptions.
-use Rattle.std.specs.Prelude.{◌≡◌, ◌⊎◌, ℕ, Bool, true, false, List, [], ◌∷◌, ◌++◌, Some}
+use Rattle.std.specs.Prelude.{◌≡◌, ◌⊎◌, IsTrue, ℕ, Bool, true, false, List, [], ◌∷◌, ◌++◌, Some}
 use Rattle.std.specs.FinSet as set
 use Rattle.hol_types.specs.Tree.{TypeTree}
 use Rattle.hol_types.specs.Fun.{fun_type}
@@ -12,14 +12,19 @@ use Rattle.hol_terms.specs.Alpha.{strip}
 use Rattle.hol_formulas.specs.Equation.{bool_type, equation, Sides, dest_eq}
 use Rattle.hol_formulas.specs.Formula.{Abstraction, truth, falsity, conjunction, disjunction, implication, negation, universal, existential}
 use Rattle.hol_kernel.specs.Items.{Items}
-use Rattle.hol_kernel.specs.Sequent.{Hyps}
-use Rattle.hol_kernel.specs.Typing.{is_typed, has_type}
+use Rattle.hol_kernel.specs.Sequent.{Hyps, sequent_of}
+use Rattle.hol_kernel.specs.Typing.{is_typed, has_type, HasType}
 use Rattle.hol_kernel.specs.Given.{Given, proved, assumed, given_sequent}
 use Rattle.hol_goal.specs.Goal.{GoalValue}
 use Rattle.hol_goal.specs.Achieves.{AreAllowed}
 use Rattle.hol_bool.specs.Rules.{over_variable}
 use Rattle.hol_conv.specs.Beta.{beta_turn}
 use Rattle.hol_conv.specs.Turns.{finished, all_turns}
+use Rattle.hol_match.specs.Instance.{InstanceValue}
+use Rattle.hol_match.specs.Fixed.{stays_of}
+use Rattle.hol_match.specs.Matches.{IsMatch}
+use Rattle.hol_just.specs.Matching.{specialized}
+use Rattle.hol_just.specs.MatchMp.{existentials}
 use Rattle.hol_just.specs.Valid.{IsValid}
 use Rattle.hol_just.specs.Replacing.{replace_each}
 use Rattle.hol_just.specs.declared.reason.Move.{Move}
@@ -221,6 +226,23 @@ LeavesReduced t turns moves =
     (extra : Hyps) (assumptions : List Nameless) (u : Nameless) (left : ℕ) → all_turns beta_turn turns t ≡ finished u left →
     IsValid always extra moves (goal_at assumptions t ∷ []) (goal_at assumptions u ∷ [])
 
+-- ---- instances
+
+-- b is what stands under the outer quantifiers of the theorem, whose variables are these
+abbrev pub StandsUnder : Given → List (List ℕ × TypeTree) → Nameless → Type 0
+StandsUnder th vs b =
+    (basis : Items) → IsTrue (holds_given th basis) → (specialized basis vs (given_sequent th) ≡ Some (sequent_of (given_sequent th).hyps b)) × HasType basis b bool_type
+
+-- there is an instance of b that is t, and leaves what the theorem's hypotheses have
+abbrev pub HasInstance : Given → Nameless → Nameless → Type 0
+HasInstance th b t = (i : InstanceValue) × IsMatch (stays_of (set.items (given_sequent th).hyps)) b t i
+
+-- an instance of what stands under the theorem's outer quantifiers
+abbrev pub ClosesByInstance : Given → List (List ℕ × TypeTree) → Nameless → List Move → Type 0
+ClosesByInstance th vs t moves =
+    (extra : Hyps) (assumptions : List Nameless) (b : Nameless) → StandsUnder th vs b → HasInstance th b t → AreAllowed extra assumptions (given_sequent th).hyps →
+    IsValid (holds_given th) extra moves (goal_at assumptions t ∷ []) []
+
 -- ---- quantifiers
 
 -- GEN_TAC and X_GEN_TAC leave p of `!x. p` at a variable of x's type that is free neither in the goal nor in an extra hypothesis.
@@ -259,3 +281,26 @@ LeavesChosen v th moves =
     (extra : Hyps) (assumptions : List Nameless) (x : Abstraction) (q : Nameless) → (given_sequent th).concl ≡ existential x → v.1 ≡ x.domain → IsNew extra assumptions q v →
     binds (free_occurrences x.body) v ≡ false → AreAllowed extra assumptions (given_sequent th).hyps →
     IsValid (holds_given th) extra moves (goal_at assumptions q ∷ []) (goal_at (open_with (free v) 0 x.body ∷ assumptions) q ∷ [])
+
+-- ---- a premise of an instance
+
+-- each of the variables is new
+abbrev pub AreNew : Hyps → List Nameless → Nameless → List (List ℕ × TypeTree) → Type 0
+AreNew extra assumptions q vs = (v : List ℕ × TypeTree) → binds vs v ≡ true → IsNew extra assumptions q v
+
+-- w, with `?vs. p` as the newest assumption, where `p ==> w` is an instance of what stands under the theorem's outer quantifiers, for new variables
+abbrev pub ClosesByPremise : Given → List (List ℕ × TypeTree) → List (List ℕ × TypeTree) → Nameless → Nameless → List Move → Type 0
+ClosesByPremise th own vs p w moves =
+    (extra : Hyps) (assumptions : List Nameless) (b : Nameless) → StandsUnder th own b → HasInstance th b (implication p w) → AreNew extra assumptions w vs →
+    AreAllowed extra assumptions (given_sequent th).hyps → IsValid (holds_given th) extra moves (goal_at (existentials vs p ∷ assumptions) w ∷ []) []
+
+-- wherever the theorem holds and w is a formula, e is one
+abbrev pub IsFormulaWith : Given → Nameless → Nameless → Type 0
+IsFormulaWith th w e = (basis : Items) → IsTrue (holds_given th basis) → HasType basis w bool_type → HasType basis e bool_type
+
+-- MATCH_MP_TAC leaves `?vs. p` of w, by a theorem of which `p ==> w` is such an instance.
+abbrev pub LeavesPremise : Given → List (List ℕ × TypeTree) → List (List ℕ × TypeTree) → Nameless → Nameless → List Move → Type 0
+LeavesPremise th own vs p w moves =
+    (extra : Hyps) (assumptions : List Nameless) (b : Nameless) → StandsUnder th own b → HasInstance th b (implication p w) → IsFormulaWith th w (existentials vs p) →
+    AreNew extra assumptions w vs → AreAllowed extra assumptions (given_sequent th).hyps →
+    IsValid (holds_given th) extra moves (goal_at assumptions w ∷ []) (goal_at assumptions (existentials vs p) ∷ [])

@@ -1,4 +1,5 @@
 pub mod Inference
+pub mod Matching
 pub mod Reasons
 pub mod Gives
 pub mod Valid
@@ -13,5 +14,6 @@ pub mod ConnectiveTacs
 pub mod QuantifierTacs
 pub mod Strip
 pub mod ConversionTacs
+pub mod MatchMp
 pub mod Tac
 pub mod Answering

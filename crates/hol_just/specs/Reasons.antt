@@ -12,9 +12,10 @@ use Rattle.hol_terms.specs.Named.{Named}
 use Rattle.hol_equal.specs.Rules.{sym_of, subst_of, prove_hyp_of}
 use Rattle.hol_bool.specs.Rules.{conj_of, conjunct1_of, conjunct2_of, disj1_of, disj2_of, disj_cases_of, disch_of, undisch_of, not_intro_of, mp_of, contr_of, gen_of, spec_of, exists_of, choose_of}
 use Rattle.hol_conv.specs.Equations.{beta_conversion}
+use Rattle.hol_just.specs.Matching.{bound_variables, matching}
 use Rattle.hol_just.specs.Inference.{Inference, from_none, from_one, from_two, from_three}
 use Rattle.hol_just.specs.declared.reason.Reason.{Reason}
-use Rattle.hol_just.specs.declared.reason.Reason.TheVariants.{Reflexivity, Premise, Combination, Antisymmetry, Conjunction, LeftDisjunct, RightDisjunct, Discharge, Undischarge, Negation, ModusPonens, Contradiction, Generalization, Existence, LeftConjunct, RightConjunct, Cases, Cut, Symmetry, Replacement, Specialization, Choice, Truth, Reduction}
+use Rattle.hol_just.specs.declared.reason.Reason.TheVariants.{Reflexivity, Premise, Combination, Antisymmetry, Conjunction, LeftDisjunct, RightDisjunct, Discharge, Undischarge, Negation, ModusPonens, Contradiction, Generalization, Existence, LeftConjunct, RightConjunct, Cases, Cut, Symmetry, Replacement, Specialization, Choice, Truth, Reduction, Matching}
 
 -- the sequent of a premise over a basis
 abbrev pub premise_of : Items → premise.Given → Option Sequent
@@ -79,6 +80,7 @@ inference basis (Specialization t) = from_one (spec_of basis (nameless [] t))
 inference basis (Choice v) = from_two (choose_of v)
 inference basis Truth = from_none true_sequent
 inference basis (Reduction t turns) = from_one (expanded basis (nameless [] t) turns)
+inference basis (Matching given formula t) = from_none (option_and_then (matching basis (bound_variables formula) (nameless [] t)) (premise_of basis given))
 
 -- what a reason asks of the basis: that it contains the bases of the theorems that the reason holds
 abbrev pub Fits : Items → Reason → Type 0
@@ -106,3 +108,4 @@ Fits basis (Specialization t) = Unit {0}
 Fits basis (Choice v) = Unit {0}
 Fits basis Truth = Unit {0}
 Fits basis (Reduction t turns) = Unit {0}
+Fits basis (Matching given formula t) = premise.IsOver given basis

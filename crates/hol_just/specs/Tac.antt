@@ -9,6 +9,7 @@ use Rattle.hol_just.specs.Leaving.{with_nothing, with_term, with_pair, with_theo
 use Rattle.hol_just.specs.EquationTacs.{refl_tac, eq_tac, subst1_tac, ap_term_tac, ap_thm_tac, mk_comb_tac}
 use Rattle.hol_just.specs.ConnectiveTacs.{accept_tac, conj_tac, disj1_tac, disj2_tac, disch_tac, undisch_tac, mp_tac, assume_tac, contr_tac, disj_cases_tac}
 use Rattle.hol_just.specs.Strip.{strip_assume_tac, strip_tac, stripped}
+use Rattle.hol_just.specs.MatchMp.{match_mp_tac}
 use Rattle.hol_just.specs.ConversionTacs.{beta_tac, converted}
 use Rattle.hol_just.specs.QuantifierTacs.{gen_tac, x_gen_tac, exists_tac, spec_tac, choose_tac, x_choose_tac}
 
@@ -45,7 +46,7 @@ tac MkCombTac = Some (λ args goal used. answered (with_nothing args (mk_comb_ta
 tac UndischTac = Some (λ args goal used. answered (with_term args (λ t. undisch_tac t goal)) used)
 tac StripAssumeTac = Some (λ args goal used. stripped (with_theorem args (λ th. strip_assume_tac th goal used.turns_left)) used)
 tac StripTac = Some (λ args goal used. stripped (with_nothing args (strip_tac goal used.turns_left)) used)
-tac MatchMpTac = None
+tac MatchMpTac = Some (λ args goal used. answered (with_theorem args (λ th. match_mp_tac th goal)) used)
 tac BetaTac = Some (λ args goal used. converted (with_nothing args (beta_tac goal used.turns_left)) goal used)
 tac RewriteTac = None
 tac OnceRewriteTac = None

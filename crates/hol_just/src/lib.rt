@@ -3,6 +3,7 @@
 //! Calls that answer a `Result` answer its memory error where memory is short, and nowhere else.
 #![tactic(auto)]
 
+mod assuming;
 mod bool_steps;
 mod by_theorems;
 mod conversion_steps;
@@ -13,12 +14,15 @@ mod equal_steps;
 mod just;
 mod justifying;
 mod laws;
+mod matching;
+mod matching_steps;
 mod reason;
 mod refusals;
 mod steps;
 mod tacs;
 mod tried;
 
+pub use assuming::{assumption, given_typed};
 pub use just::Just;
 pub use justifying::justify;
 pub use laws::{

@@ -1,6 +1,6 @@
 //! Reasons and moves.
 ghost use Rattle.std.specs.Prelude.{◌≡◌, IfOk};
-ghost use Rattle.hol_just.specs.declared.reason.Reason.TheVariants.{Existence, Replacement};
+ghost use Rattle.hol_just.specs.declared.reason.Reason.TheVariants.{Existence, Replacement, Matching};
 
 use hol_kernel::Given;
 use hol_terms::Term;
@@ -57,6 +57,9 @@ pub enum Reason {
     Truth,
     /// Leaves what beta reduction makes of the term in so many turns: the term (EQ_MP, by SYM of the conversion's equation).
     Reduction(Term, u32),
+    /// Leaves no goal: the second term, an instance of what stands under the theorem's outer quantifiers, whose variables are called as those of the first, a
+    /// formula that is equal to its conclusion (SPEC, INST_TYPE, INST).
+    Matching(Given, Term, Term),
 }
 
 /// The goal at this place, counted from 0, was taken out of the list of open goals, and those that the reason leaves stand there.
@@ -98,6 +101,7 @@ impl Reason {
             Reason::Choice(v) => Ok(Reason::Choice(v.copy()?)),
             Reason::Truth => Ok(Reason::Truth),
             Reason::Reduction(t, turns) => Ok(Reason::Reduction(t.copy()?, *turns)),
+            Reason::Matching(given, formula, t) => matching(given, formula, t),
         }
     }
 }
@@ -116,6 +120,15 @@ fn replacement(v: &Term, m: &Term) -> Result<Reason, AllocError>
 {
     let variable = v.copy()?;
     Ok(Reason::Replacement(variable, m.copy()?))
+}
+
+// The reason by an instance of an equal theorem.
+fn matching(given: &Given, formula: &Term, t: &Term) -> Result<Reason, AllocError>
+    ensures { IfOk result (λ reason. reason ≡ Matching given.now formula.now t.now) }
+{
+    let th = given.copy()?;
+    let named = formula.copy()?;
+    Ok(Reason::Matching(th, named, t.copy()?))
 }
 
 impl Move {

@@ -15,6 +15,7 @@ use crate::conversion_steps::{reduction, true_formula};
 use crate::cursor::Cursor;
 use crate::elimination_steps::{cases, choice, left_conjunct, right_conjunct, specialization};
 use crate::equal_steps::{cut, replacement, symmetry};
+use crate::matching_steps::matching;
 use crate::reason::Reason;
 use crate::refusals::made_in_kernel;
 use hol_bool::Lemmas;
@@ -60,6 +61,7 @@ pub(crate) fn infer(
         Reason::Choice(v) => choice(alloc, v, thms),
         Reason::Truth => true_formula(alloc, thms),
         Reason::Reduction(t, turns) => reduction(alloc, t, *turns, thms),
+        Reason::Matching(given, formula, t) => matching(alloc, given, formula, t, thms),
     }
 }
 

@@ -19,7 +19,7 @@ use hol_registry::{Entry, Registry, RegistryError};
 use std::alloc::{AllocError, Global};
 
 // The functions on goals that the program knows.
-const CODES: [TacCode; 27] = [
+const CODES: [TacCode; 28] = [
     TacCode::AllTac,
     TacCode::NoTac,
     TacCode::ReflTac,
@@ -47,6 +47,7 @@ const CODES: [TacCode; 27] = [
     TacCode::StripTac,
     TacCode::StripAssumeTac,
     TacCode::BetaTac,
+    TacCode::MatchMpTac,
 ];
 
 /// Serves the reader's lines over documents without theories, run by the functions that the program knows, each under the name of its code,

@@ -3,3 +3,4 @@ pub mod Achieving
 pub mod Histories
 pub mod Elements
 pub mod Exact
+pub mod Within

@@ -3,10 +3,12 @@
 //! Calls that answer a `Result` answer its memory error where memory is short, and nowhere else.
 #![tactic(auto)]
 
+mod basis;
 mod error;
 mod finishing;
 mod stack;
 mod step;
 
+pub use basis::joined;
 pub use error::StackError;
 pub use stack::Stack;

@@ -3,9 +3,10 @@ ghost use Rattle.std.specs.Prelude.{◌≡◌, ◌≤◌, ◌++◌, ◌∷◌, [
 ghost use Rattle.std.specs.FinSet as set;
 ghost use Rattle.hol_kernel.specs.Extends.{Agree};
 
+use crate::basis::joined;
 use hol_goal::Goal;
 use hol_just::Just;
-use hol_kernel::{Basis, KernelError};
+use hol_kernel::Basis;
 use std::alloc::{AllocError, Global};
 use std::marker::Model;
 
@@ -131,19 +132,6 @@ impl Earlier {
             step: self.step.copy(alloc)?,
             change: self.change.copy(alloc)?,
         })
-    }
-}
-
-// The basis of the items of both.
-fn joined(alloc: Global, a: &Basis, b: &Basis) -> Result<Basis, AllocError>
-    requires { Agree a.now b.now }
-    ensures { IfOk result (λ u. u ≡ set.union a.now b.now) }
-{
-    match Basis::join(alloc, a, b) {
-        Ok(basis) => Ok(basis),
-        Err(KernelError::Memory) => Err(AllocError),
-        Err(KernelError::Refused(_)) => unreachable!(),
-        Err(KernelError::Clash(_)) => unreachable!(),
     }
 }
 

@@ -12,5 +12,7 @@ pub mod StripLaws
 pub mod WaitingLaws
 pub mod NewBy
 pub mod UnderWay
-pub mod Assuming
 pub mod Converted
+pub mod Stages
+pub mod Undetermined
+pub mod MatchMpLaws

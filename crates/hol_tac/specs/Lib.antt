@@ -6,3 +6,4 @@ pub mod Fresh
 pub mod Parts
 pub mod Progress
 pub mod Stripping
+pub mod Matching

@@ -13,6 +13,7 @@ use crate::connectives::{
 };
 use crate::converting::beta_tac;
 use crate::equations::{eq_tac, refl_tac};
+use crate::matching::match_mp_tac;
 use crate::quantifiers::{exists_tac, gen_tac, x_gen_tac};
 use crate::stripping::{strip_assume_tac, strip_tac};
 use crate::substituting::{spec_tac, subst1_tac};
@@ -60,8 +61,8 @@ pub fn tac(
         TacCode::StripAssumeTac => Some(strip_assume_tac(alloc, args, goal, turns)),
         TacCode::StripTac => Some(strip_tac(alloc, args, goal, turns)),
         TacCode::BetaTac => Some(beta_tac(alloc, args, goal, turns)),
-        TacCode::MatchMpTac
-        | TacCode::RewriteTac
+        TacCode::MatchMpTac => Some(match_mp_tac(alloc, args, goal, turns)),
+        TacCode::RewriteTac
         | TacCode::OnceRewriteTac
         | TacCode::AsmRewriteTac
         | TacCode::OnceAsmRewriteTac

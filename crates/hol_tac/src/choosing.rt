@@ -74,8 +74,8 @@ fn chosen_variable(
     Variable::new(&name, x.ty())
 }
 
-// Copies of all terms of the goal and the theorem.
-fn all_terms_by(alloc: Global, th: &Given, goal: &Goal) -> Result<Vec<Term>, AllocError>
+/// Copies of all terms of the goal and the theorem.
+pub(crate) fn all_terms_by(alloc: Global, th: &Given, goal: &Goal) -> Result<Vec<Term>, AllocError>
     ensures { IfOk result (λ terms. (a : List ℕ) → is_taken (map (nameless []) terms.items) a ≡ is_taken (terms_by th.now goal.now) a) }
 {
     let mut terms = all_terms(alloc, goal)?;

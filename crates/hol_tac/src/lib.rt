@@ -10,6 +10,8 @@ mod choosing;
 mod connectives;
 mod converting;
 mod equations;
+mod matching;
+mod opening;
 mod pieces;
 mod progress;
 mod quantifiers;
@@ -30,6 +32,7 @@ pub use connectives::{
 };
 pub use converting::beta_tac;
 pub use equations::{eq_tac, refl_tac};
+pub use matching::match_mp_tac;
 pub use quantifiers::{exists_tac, gen_tac, x_gen_tac};
 pub use stripping::{strip_assume_tac, strip_tac};
 pub use substituting::{spec_tac, subst1_tac};

@@ -6,7 +6,6 @@ ghost use Rattle.hol_terms.specs.Nameless.{Nameless, nameless};
 ghost use Rattle.hol_terms.specs.Alpha.{alpha_eq};
 ghost use Rattle.hol_formulas.specs.Equation.{bool_type};
 ghost use Rattle.hol_formulas.specs.Formula.{is_truth, dest_conj, dest_disj, dest_exists};
-ghost use Rattle.hol_kernel.specs.Given.{assumed};
 ghost use Rattle.hol_just.specs.Leaving.{goal_terms};
 ghost use Rattle.hol_just.specs.Strip.{Conjuncts, Disjuncts, Property, Kept, plain_piece, piece};
 ghost use Rattle.hol_tac.specs.Fresh.{AreAlike, IsNewBy, abstraction_of};
@@ -18,8 +17,7 @@ use crate::steps::assume;
 use crate::waiting::Waiting;
 use hol_formulas::{dest_conj, dest_disj, dest_exists, is_falsity, is_truth, occurrence};
 use hol_goal::Goal;
-use hol_just::Just;
-use hol_kernel::{Given, KernelError};
+use hol_just::{Just, assumption};
 use hol_subst::free_name;
 use hol_terms::{Term, Variable, base_name};
 use hol_types::Name;
@@ -207,19 +205,6 @@ fn all_terms(
     terms.push(piece.copy()?)?;
     add_copies(&mut terms, others)?;
     Ok(terms)
-}
-
-// The assumption of the formula.
-fn assumption(p: &Term) -> Result<Given, AllocError>
-    requires { named_type p.now ≡ Some bool_type }
-    ensures { IfOk result (λ th. th ≡ assumed (nameless [] p.now)) }
-{
-    match Given::assumed(p) {
-        Ok(th) => Ok(th),
-        Err(KernelError::Memory) => Err(AllocError),
-        Err(KernelError::Refused(_)) => unreachable!(),
-        Err(KernelError::Clash(_)) => unreachable!(),
-    }
 }
 
 // Nothing is to be stripped any more.

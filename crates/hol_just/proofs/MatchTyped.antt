@@ -1,0 +1,85 @@
+-- What MATCH_MP_TAC leaves is a formula wherever the theorem holds and the conclusion is one.
+use Rattle.std.specs.Prelude.{◌≡◌, ℕ, Bool, true, false, cond, not, ◌&&◌, List, [], ◌∷◌, map, Some, refl}
+use Rattle.std.specs.List.{filter, AllByRecursion}
+use Rattle.std.specs.FinSet as set
+use Rattle.std.proofs.Common.{ap, sym, ◌∙◌, subst}
+use Rattle.hol_types.specs.Tree.{TypeTree}
+use Rattle.hol_terms.specs.Named.{Named}
+use Rattle.hol_terms.specs.Nameless.{Nameless, free, nameless, nameless_type, free_occurrences}
+use Rattle.hol_terms.specs.Scoped.{binds}
+use Rattle.hol_subst.specs.Hypotheses.{Hyps, hyp_of, hyps_of}
+use Rattle.hol_subst.specs.Substitution.{types_inst, variable_inst}
+use Rattle.hol_subst.proofs.HypothesisLists.{hyps_total, hyps_same}
+use Rattle.hol_subst.proofs.Typing.{subst_type}
+use Rattle.hol_subst.proofs.TypesInst.{inst_type}
+use Rattle.hol_formulas.specs.Equation.{bool_type}
+use Rattle.hol_kernel.specs.Items.{Items}
+use Rattle.hol_kernel.specs.Typing.{is_type, is_known, HasType, are_typed_for}
+use Rattle.hol_kernel.proofs.Declared.{has_type_of}
+use Rattle.hol_kernel.proofs.Members.{Among, from_list_among}
+use Rattle.hol_kernel.proofs.Stands.{both, known_inst, known_subst}
+use Rattle.hol_kernel.proofs.Variables.{known_typed, typed_known}
+use Rattle.hol_match.specs.Instance.{InstanceValue, instantiated}
+use Rattle.hol_match.specs.Instance as instance
+use Rattle.hol_match.specs.Fixed.{stays_of}
+use Rattle.hol_match.specs.Matches.{IsWellTyped}
+use Rattle.hol_match.specs.Matching.{matched}
+use Rattle.hol_match.proofs.Holding.{TermsHold, Holds, HoldsIn, hold_after, matched_holds}
+use Rattle.hol_just.specs.MatchMp.{undetermined, existentials}
+use Rattle.hol_just.proofs.MatchKnown.{TermsStand, Stands, occurrence_stands, types_all, found_stands}
+use Rattle.hol_just.proofs.MatchMoves.{stays_hold}
+use Rattle.hol_just.proofs.Typings.{existential_typed}
+
+-- ---- existential quantifiers
+
+pub existentials_typed :
+    (basis : Items) (vs : List (List ℕ × TypeTree)) (p : Nameless) → AllByRecursion (λ v. is_type basis v.1 ≡ true) vs → HasType basis p bool_type → HasType basis (existentials vs p) bool_type
+existentials_typed basis [] p h k = k
+existentials_typed basis (v ∷ vs) p h k = existential_typed basis v (existentials vs p) h.0 (existentials_typed basis vs p h.1 k)
+
+-- ---- the instance
+
+typed_all : (basis : Items) (found ps : List (Nameless × (List ℕ × TypeTree))) → TermsHold found ps → TermsStand basis ps → are_typed_for basis ps ≡ true
+typed_all basis found [] h k = refl
+typed_all basis found (p ∷ ps) h k = λ i. has_type_of basis p.0 p.1.1 (typed_known basis p.0 p.1.1 k.0 h.0.1) i && typed_all basis found ps h.1 k.1 i
+
+module _ (basis : Items) (ps : List Named) (b t : Nameless) (f : InstanceValue) (hyps : (k : Nameless) → set.contains (hyps_of ps) k ≡ true → HasType basis k bool_type) (known : HasType basis t bool_type) (found : matched 0 b (stays_of (map (nameless []) ps)) t ≡ Some (instance.both (stays_of (map (nameless []) ps)) f)) where
+  stands : Stands basis f
+  stands =
+      found_stands basis ps b t f (λ k m. (known_typed basis k bool_type (hyps k (from_list_among hyps_total hyps_same (map hyp_of ps) k m))).0)
+      (known_typed basis t bool_type known).0 found
+
+  typed_pairs : are_typed_for basis f.terms ≡ true
+  typed_pairs =
+      let s = stays_of (map (nameless []) ps) in
+      let h : Holds (instance.both s f) = subst HoldsIn found (matched_holds 0 b s t (stays_hold (map (nameless []) ps))) in
+      typed_all basis (instance.both s f).terms f.terms (hold_after (instance.both s f).terms s.terms f.terms h.1) stands.1
+
+  pub type_at_instance : (v : List ℕ × TypeTree) → is_type basis v.1 ≡ true → is_type basis (variable_inst f.types v).1 ≡ true
+  type_at_instance v h = known_inst basis f.types (types_all basis f.types stands.0) (free v) h
+
+  pub formula_at_instance : (p : Nameless) → IsWellTyped f → HasType basis p bool_type → HasType basis (instantiated f 0 p) bool_type
+  formula_at_instance p typed h =
+      let k = known_typed basis p bool_type h in
+      let typed_types : nameless_type [] (types_inst f.types p) ≡ Some bool_type = inst_type f.types [] p bool_type k.1 in
+      typed_known basis (instantiated f 0 p) bool_type
+      (known_subst basis f.terms typed_pairs 0 (types_inst f.types p) (known_inst basis f.types (types_all basis f.types stands.0) p k.0))
+      (subst_type f.terms [] 0 (types_inst f.types p) typed ∙ typed_types)
+
+  undetermined_stand :
+      (s u : Nameless) (vs : List (List ℕ × TypeTree)) → is_known basis s ≡ true → AllByRecursion (λ v. is_type basis v.1 ≡ true) (map (variable_inst f.types) (undetermined s u vs))
+  undetermined_stand s u [] h = tt
+  undetermined_stand s u (v ∷ vs) h = by (binds (free_occurrences s) v) (not (binds (free_occurrences u) v)) refl (undetermined_stand s u vs h)
+    where
+      by :
+          (c d : Bool) → binds (free_occurrences s) v ≡ c → AllByRecursion (λ v. is_type basis v.1 ≡ true) (map (variable_inst f.types) (undetermined s u vs)) →
+          AllByRecursion (λ v. is_type basis v.1 ≡ true) (map (variable_inst f.types) (cond (c && d) (v ∷ undetermined s u vs) (undetermined s u vs)))
+      by true true e r = (type_at_instance v (occurrence_stands basis s v h e), r)
+      by true false e r = r
+      by false d e r = r
+
+  -- what is left
+  pub premise_typed :
+      (s u : Nameless) (vs : List (List ℕ × TypeTree)) → IsWellTyped f → HasType basis s bool_type → HasType basis (existentials (map (variable_inst f.types) (undetermined s u vs)) (instantiated f 0 s)) bool_type
+  premise_typed s u vs typed h =
+      existentials_typed basis (map (variable_inst f.types) (undetermined s u vs)) (instantiated f 0 s) (undetermined_stand s u vs (known_typed basis s bool_type h).0) (formula_at_instance s typed h)
