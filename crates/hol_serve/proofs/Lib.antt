@@ -1,4 +1,3 @@
-pub mod Applied
 pub mod Registering
 pub mod Known
 pub mod Cutting

@@ -14,8 +14,6 @@ mod replies;
 mod requests;
 mod serving;
 mod settings;
-#[cfg(test)]
-mod tests;
 
 use crate::lines::Watched;
 use crate::program::program;

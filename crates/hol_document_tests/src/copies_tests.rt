@@ -1,7 +1,7 @@
 //! Copies of commands, of what they read, of their outcomes, of keys and of reports.
 ghost use Rattle.std.specs.Prelude.{◌≤◌};
 
-use crate::tests::support::{insert_all, setup_of_one};
+use crate::setups::{insert_all, setup_of_one};
 use hol_document::Docs;
 use hol_exec::{
     LocalCommand, Outcome, Parsed, Reads, Report, Setup, ShownGoal, State, apply, parse, run_local,

@@ -1,7 +1,7 @@
 //! Functions under other names than those of their codes.
 ghost use Rattle.std.specs.Prelude.{◌≤◌};
 
-use crate::tests::support::{insert_all, setup_of_one};
+use crate::setups::{insert_all, setup_of_one};
 use hol_document::Docs;
 use hol_exec::Report;
 use hol_goal::{Goal, TacArgs, TacCode};
