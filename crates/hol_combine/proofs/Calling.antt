@@ -11,16 +11,16 @@ use Rattle.hol_goal.specs.Goal.{GoalValue}
 use Rattle.hol_goal.specs.Answer.{UsedValue, AnswerResult, AnswerValue, Left, Unfit, OutOfTurns, TooLarge}
 use Rattle.hol_goal.specs.Arguments.{TacArgsValue}
 use Rattle.hol_goal.specs.declared.tac_code.TacCode.{TacCode}
-use Rattle.hol_just.specs.Tac.{Meaning, tac}
+use Rattle.hol_just.specs.Tac.{Meaning}
 use Rattle.hol_just.specs.Valid.{IsValid}
-use Rattle.hol_just.specs.Answering.{args_hyps, suits, IsResult, IsAnsweredBy, IsJustified}
+use Rattle.hol_just.specs.Answering.{args_hyps, suits, IsResult, IsJustified}
 use Rattle.hol_just.specs.declared.tried.Step.{Step}
 use Rattle.hol_just.specs.declared.tried.Tried.{Tried}
 use Rattle.hol_just.specs.declared.tried.TacFault.TheVariants as fault
 use Rattle.hol_combine.specs.Runs.{RunValue, Refuses, DoesNotFit, Stops, TurnLimit, LargeGoal, answer_of, small, run_meaning, meaning_at, are_assumed}
 use Rattle.hol_combine.specs.RunView.{IsRun, IsValidRun}
 use Rattle.hol_combine.specs.Going.{LeavesAtMost}
-use Rattle.hol_combine.specs.Called.{IsCalled}
+use Rattle.hol_combine.specs.Called.{IsAnsweredBy, IsCalled}
 use Rattle.hol_combine.specs.declared.ran.Ran.{Ran}
 use Rattle.hol_combine.specs.declared.ran.RunError.{RunError}
 use Rattle.hol_combine.specs.declared.ran.RunError.TheVariants as error

@@ -1,7 +1,8 @@
 -- No run leaves more turns than it had.
-use Rattle.std.specs.Prelude.{◌≡◌, ◌≤◌, ℕ, zero, suc, Bool, true, false, cond, nat_eq, length, List, [], ◌∷◌, Option, Some, None}
+use Rattle.std.specs.Prelude.{◌≡◌, ◌≤◌, ℕ, zero, suc, Bool, true, false, cond, nat_eq, length, map, List, [], ◌∷◌, ◌++◌, Option, Some, None}
 use Rattle.std.proofs.Common.{arith}
 use Rattle.hol_terms.specs.Nameless.{Nameless}
+use Rattle.hol_kernel.specs.Given.{assumed}
 use Rattle.hol_goal.specs.Goal.{GoalValue}
 use Rattle.hol_goal.specs.Answer.{UsedValue, AnswerResult, AnswerValue, Left, Unfit, OutOfTurns, TooLarge}
 use Rattle.hol_goal.specs.Arguments.{TacArgsValue}
@@ -9,9 +10,10 @@ use Rattle.hol_goal.specs.declared.tac_code.TacCode.{TacCode}
 use Rattle.hol_goal.specs.declared.tac_code.TacCode.TheVariants.{AllTac, NoTac, ReflTac, AcceptTac, ConjTac, Disj1Tac, Disj2Tac, EqTac, DischTac, GenTac, XGenTac, ExistsTac, SpecTac, MpTac, AssumeTac, ContrTac, ChooseTac, XChooseTac, DisjCasesTac, Subst1Tac, ApTermTac, ApThmTac, MkCombTac, UndischTac, StripAssumeTac, StripTac, MatchMpTac, BetaTac, RewriteTac, OnceRewriteTac, AsmRewriteTac, OnceAsmRewriteTac, PureRewriteTac}
 use Rattle.hol_just.specs.Leaving.{concluding}
 use Rattle.hol_just.specs.Strip.{antecedent}
+use Rattle.hol_just.specs.ConversionTacs.{basic}
 use Rattle.hol_just.specs.Tac.{Meaning, tac}
 use Rattle.hol_just.proofs.Pieces.{strip_assume_falls, strip_tac_falls}
-use Rattle.hol_just.proofs.Reducing.{beta_falls}
+use Rattle.hol_just.proofs.Converting.{beta_falls, rewrite_falls, once_falls}
 use Rattle.hol_combine.specs.ExprValue.{CallValue, TheoremTacValue, ExprValue, ExprValues, Call, Then, ThenL, OrElse, Try, Repeat, Every, First, Replicate, Changed, DischThen, PopAssum, FirstAssum, SubgoalThen, no_exprs, more_exprs}
 use Rattle.hol_combine.specs.Runs.{RunValue, Leaves, Refuses, Stops, before_goals, then_on, otherwise, each, unchanged, has_large, answer_of, run_meaning, meaning_at, are_assumed, call_paid, run_call, handed, hand, disch_then, pop_assum, first_assum, subgoal_then, is_just, changed, replicate, as_many, count, run, run_every, run_first, run_each}
 use Rattle.hol_combine.proofs.Falling.{IsWithin, Falls, within_more, within_before, within_then, within_otherwise, each_falls, repeated_falls}
@@ -26,7 +28,7 @@ abbrev pub MeaningFalls : Option Meaning → Type 0
 MeaningFalls None = Unit {0}
 MeaningFalls (Some f) = (args : TacArgsValue) (goal : GoalValue) (turns : ℕ) → (f args goal (record { turns_left = turns })).used.turns_left ≤ turns
 
-tac_falls : (code : TacCode) → MeaningFalls (tac code)
+tac_falls : (code : TacCode) → MeaningFalls (Some (tac code))
 tac_falls AllTac = λ args goal turns. omega arith
 tac_falls NoTac = λ args goal turns. omega arith
 tac_falls ReflTac = λ args goal turns. omega arith
@@ -55,11 +57,11 @@ tac_falls StripAssumeTac = strip_assume_falls
 tac_falls StripTac = strip_tac_falls
 tac_falls MatchMpTac = λ args goal turns. omega arith
 tac_falls BetaTac = beta_falls
-tac_falls RewriteTac = tt
-tac_falls OnceRewriteTac = tt
-tac_falls AsmRewriteTac = tt
-tac_falls OnceAsmRewriteTac = tt
-tac_falls PureRewriteTac = tt
+tac_falls RewriteTac = λ args goal turns. rewrite_falls args goal turns (λ ths. ths ++ basic)
+tac_falls OnceRewriteTac = λ args goal turns. once_falls args goal turns (λ ths. ths ++ basic)
+tac_falls AsmRewriteTac = λ args goal turns. rewrite_falls args goal turns (λ ths. ths ++ (map assumed goal.assumptions ++ basic))
+tac_falls OnceAsmRewriteTac = λ args goal turns. once_falls args goal turns (λ ths. ths ++ (map assumed goal.assumptions ++ basic))
+tac_falls PureRewriteTac = λ args goal turns. rewrite_falls args goal turns (λ ths. ths)
 
 pub at_falls : (table : List (List ℕ × TacCode)) (index : ℕ) → MeaningFalls (meaning_at table index)
 at_falls [] index = tt

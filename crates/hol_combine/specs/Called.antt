@@ -1,11 +1,17 @@
 -- What a registered function answers. Only private clauses speak of it.
-use Rattle.std.specs.Prelude.{ℕ, List, Result, slice_get, IfSome}
+use Rattle.std.specs.Prelude.{ℕ, List, Option, Some, None, Result, slice_get, IfSome}
 use Rattle.hol_goal.specs.Goal.{GoalValue}
 use Rattle.hol_goal.specs.Arguments.{TacArgsValue}
 use Rattle.hol_goal.specs.declared.tac_code.TacCode.{TacCode}
-use Rattle.hol_just.specs.Answering.{AnswersCode}
+use Rattle.hol_just.specs.Tac.{Meaning}
+use Rattle.hol_just.specs.Answering.{IsAnswered, AnswersCode}
 use Rattle.hol_just.specs.declared.tried.Tried.{Tried}
 use Rattle.hol_just.specs.declared.tried.TacFault.{TacFault}
+
+-- that of a meaning, where there is one
+abbrev pub IsAnsweredBy : Option Meaning → TacArgsValue → GoalValue → ℕ → Result Tried TacFault → Type 0
+IsAnsweredBy None args goal turns result = ⊥
+IsAnsweredBy (Some f) args goal turns result = IsAnswered (f args goal (record { turns_left = turns })) result
 
 -- that of the code at the index
 abbrev pub IsCalled : List (List ℕ × TacCode) → ℕ → TacArgsValue → GoalValue → ℕ → Result Tried TacFault → Type 0

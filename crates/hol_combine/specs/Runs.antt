@@ -92,7 +92,7 @@ run_meaning (Some f) name args goal turns =
 -- the code at an index of the table of registered functions
 abbrev pub meaning_at : List (List ℕ × TacCode) → ℕ → Option Meaning
 meaning_at [] index = None
-meaning_at (row ∷ rows) zero = tac row.1
+meaning_at (row ∷ rows) zero = Some (tac row.1)
 meaning_at (row ∷ rows) (suc index) = meaning_at rows index
 
 -- each hypothesis of the theorems among the arguments is an assumption, up to bound names

@@ -1,16 +1,17 @@
 //! The registry that the tests run over.
-ghost use Rattle.std.specs.Prelude.{◌≡◌, ◌≤◌, true, is_some, IfOk};
+ghost use Rattle.std.specs.Prelude.{◌≡◌, ◌≤◌, true, IfOk};
 ghost use Rattle.hol_combine.specs.Suits.{are_indices};
 ghost use Rattle.hol_goal.specs.ArgumentsView.{args_value};
 ghost use Rattle.hol_just.specs.Answering.{AnswersCode, IsJustified};
-ghost use Rattle.hol_just.specs.Tac.{tac};
 
 use hol_combine::{Expr, Ran, RunError, run};
 use hol_goal::{Goal, TacArgs, TacCode};
 use hol_just::{TacFault, Tried};
+use hol_prelude::Prelude;
 use hol_registry::{Entry, Registry};
 use hol_tac::tac;
 use std::alloc::Global;
+use std::rc::Rc;
 use std::test::Fail;
 
 // The functions, in order.
@@ -37,30 +38,26 @@ pub(crate) const MP_TAC: usize = 6;
 /// The index of X_CHOOSE_TAC.
 pub(crate) const X_CHOOSE_TAC: usize = 7;
 
-// A code that has a meaning.
-#[derive(Clone, Copy)]
+// A code, and the prelude, from which its function may take the basic rewrites.
+#[derive(Drop)]
 struct Meant {
     code: TacCode,
-    ghost meant: { is_some (tac code) ≡ true },
+    prelude: Rc<Prelude>,
 }
 
 impl Meant {
     // What its function answers.
-    #[tactic(auto, using(crate::proofs::Meanings::has_meaning))]
     fn answer(
-        self,
+        &self,
         alloc: Global,
         args: &TacArgs,
         goal: &Goal,
         turns: u32,
     ) -> Result<Tried, TacFault>
-        ensures answer { AnswersCode self.code (args_value args.now) goal.now turns result }
+        ensures answer { AnswersCode self.now.code (args_value args.now) goal.now turns result }
         ensures valid { IfOk result (λ tried. IsJustified (args_value args.now) goal.now tried.step) }
     {
-        match tac(alloc, self.code, args, goal, turns) {
-            Some(answer) => answer,
-            None => unreachable!(),
-        }
+        tac(alloc, &self.prelude, self.code, args, goal, turns)
     }
 }
 
@@ -74,9 +71,13 @@ pub(crate) fn ran(
     requires indices { are_indices 8 expr.now ≡ true }
     requires turns { turns ≤ 100000 }
 {
+    let prelude = Rc::new(alloc, Prelude::new(alloc)?)?;
     let mut entries = Vec::new(alloc);
     for code in &TACS {
-        let meant = Meant { code: *code };
+        let meant = Meant {
+            code: *code,
+            prelude: prelude.clone()?,
+        };
         let tac = Box::new(
             alloc,
             move |args: &TacArgs, goal: &Goal, turns: u32|

@@ -2,7 +2,6 @@
 use Rattle.std.proofs.Common.{◌≡◌, ℕ, zero, suc, ◌-◌, ◌<◌, ◌≤◌, [], refl, ap, Option, Some, None, true, false, nat_lt, arith}
 use Rattle.hol_terms.specs.Nameless.{Nameless}
 use Rattle.hol_terms.specs.Size.{term_size}
-use Rattle.hol_conv.specs.Beta.{beta_turn}
 use Rattle.hol_conv.specs.declared.redexes.Redexes.{Redexes}
 use Rattle.hol_conv.specs.Redexes.{contraction}
 use Rattle.hol_conv.specs.Turns.{turn, all_turns, finished, limit, too_large}
@@ -26,22 +25,6 @@ turns_more turn (suc n) t u e z h =
     let m : n ≡ suc n - 1 = omega arith in
     rw e (rw q (ap (λ k. all_turns turn k u) m))
 
--- ---- of beta reduction
-pub beta_end : (n : ℕ) (t : Nameless) → beta_turn t ≡ None → all_turns beta_turn n t ≡ finished t n
-beta_end = turns_end beta_turn
-
-pub beta_limit : (n : ℕ) (t u : Nameless) → beta_turn t ≡ Some u → n ≡ 0 → all_turns beta_turn n t ≡ limit
-beta_limit = turns_limit beta_turn
-
-pub beta_large : (n : ℕ) (t u : Nameless) → beta_turn t ≡ Some u → 0 < n → 20000 < term_size [] u → all_turns beta_turn n t ≡ too_large
-beta_large = turns_large beta_turn
-
-pub beta_more : (n : ℕ) (t u : Nameless) → beta_turn t ≡ Some u → 0 < n → term_size [] u ≤ 20000 → all_turns beta_turn n t ≡ all_turns beta_turn (n - 1) u
-beta_more = turns_more beta_turn
-
-pub ruleset turns = (beta_end, beta_limit, beta_large, beta_more)
-
--- ---- of any redexes
 pub all_end : (r : Redexes) (n : ℕ) (t : Nameless) → turn (contraction r) [] t ≡ None → all_turns (turn (contraction r) []) n t ≡ finished t n
 all_end r = turns_end (turn (contraction r) [])
 

@@ -1,7 +1,7 @@
 -- Closing over a variable and beta reduction may change places: a turn under a binder is a turn of the body, whose variable is then bound.
-use Rattle.std.proofs.Common.{◌≡◌, ℕ, ◌+◌, ◌-◌, ◌<◌, ◌≤◌, List, refl, ap, sym, ◌∙◌, Bool, true, false, cond, nat_lt, ◌==◌, Option, Some, None, arith}
+use Rattle.std.proofs.Common.{◌≡◌, ℕ, ◌+◌, ◌-◌, ◌<◌, ◌≤◌, List, refl, ap, sym, ◌∙◌, Bool, true, false, cond, nat_lt, ◌==◌, Some, None, arith}
 use Rattle.std.proofs.lemmas.Bool.Decides.{nat_tests}
-use Rattle.std.specs.Option.{option_map, option_or}
+use Rattle.std.specs.Option.{option_map}
 use Rattle.hol_types.specs.Tree.{TypeTree}
 use Rattle.hol_types.specs.Equal.{variable_eq}
 use Rattle.hol_terms.specs.Nameless.{Nameless, free, bound, fixed, app, lam}
@@ -9,7 +9,7 @@ use Rattle.hol_subst.specs.Shift.{shift}
 use Rattle.hol_subst.specs.Closing.{close, open_with}
 use Rattle.hol_subst.proofs.Closing.{below, not_below, below_is, not_below_is, unequal_test}
 use Rattle.hol_match.proofs.Contracta.{shift_close}
-use Rattle.hol_conv.specs.Beta.{reduct, beta_turn}
+use Rattle.hol_conv.specs.Beta.{reduct}
 
 abbrev Var : Type 0
 Var = List ℕ × TypeTree
@@ -48,7 +48,7 @@ open_closing v x j k (lam a s b) =
     let more : k + j + 1 ≡ k + (j + 1) = omega arith in
     ap (lam a s) (ap (λ z. open_with (close v k x) (j + 1) (close v (z + 1) b)) more ∙ open_closing v x (j + 1) k b ∙ ap (λ z. close v z (open_with x (j + 1) b)) (sym more))
 
--- ---- turns
+-- ---- redexes
 pub reduct_close : (v : List ℕ × TypeTree) (k : ℕ) (f x : Nameless) → reduct (close v k f) (close v k x) ≡ option_map (close v k) (reduct f x)
 reduct_close v k (free w) x = by (variable_eq v w)
   where
@@ -61,27 +61,3 @@ reduct_close v k (app f y) x = refl
 reduct_close v k (lam a s b) x =
     let same : k ≡ k + 0 = omega arith in
     ap Some (ap (λ z. open_with (close v k x) 0 (close v (z + 1) b)) same ∙ open_closing v x 0 k b ∙ ap (λ z. close v z (open_with x 0 b)) (sym same))
-
-parts_close : (c : Nameless → Nameless) (d : Nameless → Nameless) (f x : Nameless) → ((g y : Nameless) → c (app g y) ≡ app (d g) (d y)) → (r o p : Option Nameless) → option_or (option_map c r) (option_or (option_map (λ g. app g (d x)) (option_map d o)) (option_map (λ y. app (d f) y) (option_map d p))) ≡ option_map c (option_or r (option_or (option_map (λ g. app g x) o) (option_map (λ y. app f y) p)))
-parts_close c d f x e (Some u) o p = refl
-parts_close c d f x e None (Some g) p = ap Some (sym (e g x))
-parts_close c d f x e None None (Some y) = ap Some (sym (e f y))
-parts_close c d f x e None None None = refl
-
-body_close : (c : Nameless → Nameless) (d : Nameless → Nameless) (a : List ℕ) (s : TypeTree) → ((b : Nameless) → c (lam a s b) ≡ lam a s (d b)) → (o : Option Nameless) → option_map (λ b. lam a s b) (option_map d o) ≡ option_map c (option_map (λ b. lam a s b) o)
-body_close c d a s e None = refl
-body_close c d a s e (Some b) = ap Some (sym (e b))
-
-pub turn_close : (v : List ℕ × TypeTree) (k : ℕ) (n : Nameless) → beta_turn (close v k n) ≡ option_map (close v k) (beta_turn n)
-turn_close v k (free w) = by (variable_eq v w)
-  where
-    by : (c : Bool) → beta_turn (cond c (bound k) (free w)) ≡ None
-    by true = refl
-    by false = refl
-turn_close v k (bound i) = refl
-turn_close v k (fixed c s) = refl
-turn_close v k (app f x) =
-    (λ i. option_or (reduct_close v k f x i) (option_or (option_map (λ g. app g (close v k x)) (turn_close v k f i)) (option_map (λ y. app (close v k f) y) (turn_close v k x i))))
-    ∙ parts_close (close v k) (close v k) f x (λ g y. refl) (reduct f x) (beta_turn f) (beta_turn x)
-turn_close v k (lam a s b) =
-    ap (option_map (λ d. lam a s d)) (turn_close v (k + 1) b) ∙ body_close (close v k) (close v (k + 1)) a s (λ d. refl) (beta_turn b)

@@ -9,10 +9,10 @@ use Rattle.hol_terms.specs.Nameless.{Nameless, lam, app, nameless, base_of}
 use Rattle.hol_terms.specs.Size.{term_size}
 use Rattle.hol_subst.specs.Closing.{close}
 use Rattle.hol_conv.specs.declared.redexes.Redexes.{Redexes}
-use Rattle.hol_conv.specs.declared.rewritten.Rewritten.{Rewritten}
+use Rattle.hol_conv.specs.declared.ended.Ended.{Ended}
 use Rattle.hol_conv.specs.declared.error.ConvError.{ConvError}
 use Rattle.hol_conv.specs.declared.error.ConvError.TheVariants.{Limit, TooLarge, Memory}
-use Rattle.hol_conv.specs.Outcomes.{Tells}
+use Rattle.hol_conv.specs.Ends.{TellsEnd}
 use Rattle.hol_conv.specs.Redexes.{contraction, IsOutside}
 use Rattle.hol_conv.specs.Turns.{Outcome, finished}
 use Rattle.hol_conv.specs.Once.{and_then, once}
@@ -24,11 +24,11 @@ use Rattle.hol_conv.proofs.Parts.{body_same, domain_same, rebuilt}
 abbrev Var : Type 0
 Var = List ℕ × TypeTree
 
-told : (R : Result Rewritten ConvError) (o p : Outcome) → o ≡ p → Tells R p → Tells R o
-told R o p e h = subst (λ z. Tells R z) (sym e) h
+told : (R : Result Ended ConvError) (o p : Outcome) → o ≡ p → TellsEnd R p → TellsEnd R o
+told R o p e h = subst (λ z. TellsEnd R z) (sym e) h
 
 -- an end that is no result ends what comes after
-stops : (e : ConvError) (go : Nameless → ℕ → Outcome) (p : Outcome) → Tells (Err e) p → Tells (Err e) (and_then go p)
+stops : (e : ConvError) (go : Nameless → ℕ → Outcome) (p : Outcome) → TellsEnd (Err e) p → TellsEnd (Err e) (and_then go p)
 stops Limit go p h = ap (and_then go) h
 stops TooLarge go p h = ap (and_then go) h
 stops Memory go p h = tt
@@ -51,7 +51,7 @@ module _ (r : Redexes) where
   redex_is o left (comb f x) u h = rw h refl
   redex_is o left (abs v b) u h = rw h refl
 
-  pub redex_paid : (R : Result Rewritten ConvError) (o left : ℕ) (t : Named) (u : Nameless) → contraction r [] (nameless [] t) ≡ Some u → Tells R (paid_beside [] o left u) → Tells R (once_beside (contraction r) [] o left (nameless [] t))
+  pub redex_paid : (R : Result Ended ConvError) (o left : ℕ) (t : Named) (u : Nameless) → contraction r [] (nameless [] t) ≡ Some u → TellsEnd R (paid_beside [] o left u) → TellsEnd R (once_beside (contraction r) [] o left (nameless [] t))
   redex_paid R o left t u h = told R (once_beside (contraction r) [] o left (nameless [] t)) (paid_beside [] o left u) (redex_is o left t u h)
 
   inside_is : (o left : ℕ) (t : Named) → contraction r [] (nameless [] t) ≡ None → once_beside (contraction r) [] o left (nameless [] t) ≡ inner_once (contraction r) [] o left (nameless [] t)
@@ -60,14 +60,14 @@ module _ (r : Redexes) where
   inside_is o left (comb f x) h = rw h refl
   inside_is o left (abs v b) h = rw h refl
 
-  pub inside_told : (R : Result Rewritten ConvError) (o left : ℕ) (t : Named) → contraction r [] (nameless [] t) ≡ None → Tells R (inner_once (contraction r) [] o left (nameless [] t)) → Tells R (once_beside (contraction r) [] o left (nameless [] t))
+  pub inside_told : (R : Result Ended ConvError) (o left : ℕ) (t : Named) → contraction r [] (nameless [] t) ≡ None → TellsEnd R (inner_once (contraction r) [] o left (nameless [] t)) → TellsEnd R (once_beside (contraction r) [] o left (nameless [] t))
   inside_told R o left t h = told R (once_beside (contraction r) [] o left (nameless [] t)) (inner_once (contraction r) [] o left (nameless [] t)) (inside_is o left t h)
 
-  pub inside_comb : (R : Result Rewritten ConvError) (o left : ℕ) (f x t : Named) → t ≡ comb f x → contraction r [] (nameless [] t) ≡ None → Tells R (inner_once (contraction r) [] o left (nameless [] (comb f x))) → Tells R (once_beside (contraction r) [] o left (nameless [] t))
-  inside_comb R o left f x t e h k = inside_told R o left t h (subst (λ z. Tells R (inner_once (contraction r) [] o left (nameless [] z))) (sym e) k)
+  pub inside_comb : (R : Result Ended ConvError) (o left : ℕ) (f x t : Named) → t ≡ comb f x → contraction r [] (nameless [] t) ≡ None → TellsEnd R (inner_once (contraction r) [] o left (nameless [] (comb f x))) → TellsEnd R (once_beside (contraction r) [] o left (nameless [] t))
+  inside_comb R o left f x t e h k = inside_told R o left t h (subst (λ z. TellsEnd R (inner_once (contraction r) [] o left (nameless [] z))) (sym e) k)
 
-  pub inside_abs : (R : Result Rewritten ConvError) (o left : ℕ) (v : List ℕ × TypeTree) (b t : Named) → t ≡ abs v b → contraction r [] (nameless [] t) ≡ None → Tells R (inner_once (contraction r) [] o left (nameless [] (abs v b))) → Tells R (once_beside (contraction r) [] o left (nameless [] t))
-  inside_abs R o left v b t e h k = inside_told R o left t h (subst (λ z. Tells R (inner_once (contraction r) [] o left (nameless [] z))) (sym e) k)
+  pub inside_abs : (R : Result Ended ConvError) (o left : ℕ) (v : List ℕ × TypeTree) (b t : Named) → t ≡ abs v b → contraction r [] (nameless [] t) ≡ None → TellsEnd R (inner_once (contraction r) [] o left (nameless [] (abs v b))) → TellsEnd R (once_beside (contraction r) [] o left (nameless [] t))
+  inside_abs R o left v b t e h k = inside_told R o left t h (subst (λ z. TellsEnd R (inner_once (contraction r) [] o left (nameless [] z))) (sym e) k)
 
   pub variable_kept : (o left : ℕ) (v : List ℕ × TypeTree) (t u : Named) → t ≡ var v → u ≡ t → contraction r [] (nameless [] t) ≡ None → once_beside (contraction r) [] o left (nameless [] t) ≡ finished (nameless [] u) left
   variable_kept o left v t u e k h = inside_is o left t h ∙ ap (λ z. inner_once (contraction r) [] o left (nameless [] z)) e ∙ ap (λ z. finished (nameless [] z) left) (sym (k ∙ e))
@@ -84,7 +84,7 @@ module _ (r : Redexes) where
     function_at : once_beside (contraction r) [] (beside o (term_size [] (nameless [] x))) left (nameless [] f) ≡ once_beside (contraction r) [] p left (nameless [] f)
     function_at = ap (λ z. once_beside (contraction r) [] z left (nameless [] f)) (sym (counted o p k (term_size [] (nameless [] x)) size is))
 
-    pub function_stops : (e : ConvError) → Tells (Err e) (once_beside (contraction r) [] p left (nameless [] f)) → Tells (Err e) (inner_once (contraction r) [] o left (nameless [] (comb f x)))
+    pub function_stops : (e : ConvError) → TellsEnd (Err e) (once_beside (contraction r) [] p left (nameless [] f)) → TellsEnd (Err e) (inner_once (contraction r) [] o left (nameless [] (comb f x)))
     function_stops e h = stops e (λ g more. and_then (λ y rest. finished (app g y) rest) (once_beside (contraction r) [] (beside o (term_size [] g)) more (nameless [] x))) (once_beside (contraction r) [] (beside o (term_size [] (nameless [] x))) left (nameless [] f)) (told (Err e) _ _ function_at h)
 
     module _ (q l m : ℕ) (g : Named) (function : once_beside (contraction r) [] p left (nameless [] f) ≡ finished (nameless [] g) m) (other : l ≡ min (term_size [] (nameless [] g)) 20001) (at : q ≡ min (o + (1 + l)) 20001) where
@@ -93,7 +93,7 @@ module _ (r : Redexes) where
           ap (and_then (λ g more. and_then (λ y rest. finished (app g y) rest) (once_beside (contraction r) [] (beside o (term_size [] g)) more (nameless [] x)))) (function_at ∙ function)
           ∙ ap (λ z. and_then (λ y rest. finished (app (nameless [] g) y) rest) (once_beside (contraction r) [] z m (nameless [] x))) (sym (counted o q l (term_size [] (nameless [] g)) other at))
 
-      pub argument_stops : (e : ConvError) → Tells (Err e) (once_beside (contraction r) [] q m (nameless [] x)) → Tells (Err e) (inner_once (contraction r) [] o left (nameless [] (comb f x)))
+      pub argument_stops : (e : ConvError) → TellsEnd (Err e) (once_beside (contraction r) [] q m (nameless [] x)) → TellsEnd (Err e) (inner_once (contraction r) [] o left (nameless [] (comb f x)))
       argument_stops e h = told (Err e) _ _ argument_at (stops e (λ y rest. finished (app (nameless [] g) y) rest) (once_beside (contraction r) [] q m (nameless [] x)) h)
 
       pub parts_end : (n : ℕ) (y u : Named) → once_beside (contraction r) [] q m (nameless [] x) ≡ finished (nameless [] y) n → u ≡ comb g y → inner_once (contraction r) [] o left (nameless [] (comb f x)) ≡ finished (nameless [] u) n
@@ -106,12 +106,12 @@ module _ (r : Redexes) where
         (λ i. once_beside (contraction r) (sym (domain_same v w b c same) i ∷ []) (sym (counted o p k (type_size v.1) size is) i) left (body_same v w b c same i))
         ∙ once_close (contraction r) w (commutes r w out) [] p left (nameless [] c)
 
-    closed_stops : (e : ConvError) (z : Outcome) → Tells (Err e) z → Tells (Err e) (closed_outcome (close w 0) z)
+    closed_stops : (e : ConvError) (z : Outcome) → TellsEnd (Err e) z → TellsEnd (Err e) (closed_outcome (close w 0) z)
     closed_stops Limit z h = ap (closed_outcome (close w 0)) h
     closed_stops TooLarge z h = ap (closed_outcome (close w 0)) h
     closed_stops Memory z h = tt
 
-    pub body_stops : (e : ConvError) → Tells (Err e) (once_beside (contraction r) [] p left (nameless [] c)) → Tells (Err e) (inner_once (contraction r) [] o left (nameless [] (abs v b)))
+    pub body_stops : (e : ConvError) → TellsEnd (Err e) (once_beside (contraction r) [] p left (nameless [] c)) → TellsEnd (Err e) (inner_once (contraction r) [] o left (nameless [] (abs v b)))
     body_stops e h =
         stops e (λ d rest. finished (lam (base_of v.0) v.1 d) rest) (once_beside (contraction r) (v.1 ∷ []) (beside o (type_size v.1)) left (nameless (v ∷ []) b))
         (told (Err e) _ _ body_at (closed_stops e (once_beside (contraction r) [] p left (nameless [] c)) h))
@@ -122,7 +122,7 @@ module _ (r : Redexes) where
         ∙ ap (λ z. finished z n) (rebuilt v w b c d same ∙ ap (nameless []) (sym e))
 
 -- ---- the whole term
-pub told_whole : (contract : Contract) (R : Result Rewritten ConvError) (turns : ℕ) (t : Nameless) → Tells R (once_beside contract [] 0 turns t) → Tells R (once contract [] (λ u. u) turns t)
+pub told_whole : (contract : Contract) (R : Result Ended ConvError) (turns : ℕ) (t : Nameless) → TellsEnd R (once_beside contract [] 0 turns t) → TellsEnd R (once contract [] (λ u. u) turns t)
 told_whole contract R turns t = told R (once contract [] (λ u. u) turns t) (once_beside contract [] 0 turns t) (once_counts contract turns t)
 
 pub ruleset parts = (redex_paid, inside_comb, inside_abs, variable_kept, constant_kept)

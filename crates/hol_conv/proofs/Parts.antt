@@ -80,6 +80,9 @@ fits_in_function f x g h k n = h (sym (kept_in_function f x g (comb g x) refl k)
 pub fits_in_argument : (f x y : Named) → (named_type (comb f x) ≡ None → ⊥) → named_type y ≡ named_type x → named_type (comb f y) ≡ None → ⊥
 fits_in_argument f x y h k n = h (sym (kept_in_argument f x y (comb f y) refl k) ∙ n)
 
+pub fits_itself : (f x t : Named) (s : TypeTree) → t ≡ comb f x → named_type t ≡ Some s → named_type (comb f x) ≡ None → ⊥
+fits_itself f x t s e h n = let no : Some s ≡ None = sym h ∙ ap named_type e ∙ n in absurd (cc)
+
 pub ruleset kept = (kept_in_function, kept_in_argument, fits_in_function, fits_in_argument)
 
 pub kept_abs : (v w : List ℕ × TypeTree) (b c d u : Named) → u ≡ abs w d → w.1 ≡ v.1 → named_type c ≡ named_type b → named_type d ≡ named_type c → named_type u ≡ named_type (abs v b)

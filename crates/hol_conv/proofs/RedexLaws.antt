@@ -7,7 +7,7 @@ use Rattle.hol_terms.specs.Nameless.{Nameless, free, bound, fixed, app, lam, nam
 use Rattle.hol_conv.specs.Beta.{reduct, beta_turn}
 use Rattle.hol_conv.specs.Redexes.{beta_contractum}
 use Rattle.hol_conv.specs.Turns.{turn, all_turns}
-use Rattle.hol_conv.proofs.BetaTurns.{fits_itself}
+use Rattle.hol_conv.proofs.Parts.{fits_itself}
 
 pub beta_comb : (f x t : Named) (o : Option Nameless) → t ≡ comb f x → reduct (nameless [] f) (nameless [] x) ≡ o → beta_contractum (nameless [] t) ≡ o
 beta_comb f x t o e h = ap (λ z. beta_contractum (nameless [] z)) e ∙ h

@@ -1,10 +1,11 @@
 pub mod Beta
 pub mod Turns
 pub mod Outcomes
-pub mod Paths
-pub mod Equations
 pub mod Rewriting
 pub mod Once
 pub mod Redexes
 pub mod Passing
 pub mod Beside
+pub mod Ends
+pub mod Traces
+pub mod Tracing

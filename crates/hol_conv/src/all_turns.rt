@@ -1,13 +1,15 @@
 //! Turns to the end.
-ghost use Rattle.std.specs.Prelude.{[]};
+ghost use Rattle.std.specs.Prelude.{[], IfOk};
 ghost use Rattle.hol_terms.specs.Nameless.{nameless};
 ghost use Rattle.hol_conv.specs.Redexes.{contraction};
 ghost use Rattle.hol_conv.specs.Turns.{turn, all_turns};
-ghost use Rattle.hol_conv.specs.Outcomes.{Tells};
+ghost use Rattle.hol_conv.specs.Ends.{TellsEnd};
+ghost use Rattle.hol_conv.specs.Tracing.{Traces, redex_givens};
 
+use crate::ended::Ended;
 use crate::error::ConvError;
 use crate::redexes::Redexes;
-use crate::rewritten::Rewritten;
+use crate::trace_node::{TraceNode, append};
 use crate::turn::turn;
 use hol_terms::Term;
 use std::alloc::Global;
@@ -15,21 +17,27 @@ use std::alloc::Global;
 /// Replaces the first redex in preorder, under binders too, until there is none. Each costs a turn.
 ///
 /// Answers `Limit` where a redex is there and no turn is left, and `TooLarge` where a turn makes a term of over 20,000 nodes.
-#[tactic(auto, using(crate::proofs::AllTurns::all))]
+#[tactic(auto, using(crate::proofs::AllTurns::all, crate::proofs::Tracing::in_turns))]
 pub(crate) fn all_turns(
     alloc: Global,
     redexes: &Redexes,
     term: &Term,
     turns: u32,
-) -> Result<Rewritten, ConvError>
-    ensures { Tells result (all_turns (turn (contraction redexes.now) []) turns (nameless [] term.now)) }
+) -> Result<Ended, ConvError>
+    ensures tells { TellsEnd result (all_turns (turn (contraction redexes.now) []) turns (nameless [] term.now)) }
+    ensures traces { IfOk result (λ r. Traces (redex_givens redexes.now) r.node.value (nameless [] term.now) (nameless [] r.term)) }
 {
     let mut now = term.copy()?;
     let mut path = Vec::new(alloc);
     let mut left = turns;
+    let mut node = TraceNode::boxed(alloc, TraceNode::Same)?;
     'turns: loop {
         let Some(turned) = turn(alloc, redexes, &now, &path)? else {
-            return Ok(Rewritten { term: now, left });
+            return Ok(Ended {
+                term: now,
+                left,
+                node,
+            });
         };
         if left == 0 {
             return Err(ConvError::Limit);
@@ -38,6 +46,7 @@ pub(crate) fn all_turns(
             return Err(ConvError::TooLarge);
         }
         left -= 1;
+        append(alloc, &mut node, Box::into_inner(turned.node))?;
         now = turned.term;
         path = turned.path;
     }

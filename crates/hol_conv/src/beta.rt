@@ -1,9 +1,9 @@
 //! Beta reduction to the end.
-ghost use Rattle.std.specs.Prelude.{[]};
+ghost use Rattle.std.specs.Prelude.{◌≡◌, [], IfOk};
 ghost use Rattle.hol_terms.specs.Nameless.{nameless};
 ghost use Rattle.hol_conv.specs.Beta.{beta_turn};
 ghost use Rattle.hol_conv.specs.Turns.{all_turns};
-ghost use Rattle.hol_conv.specs.Outcomes.{Tells};
+ghost use Rattle.hol_conv.specs.Outcomes.{Tells, IsTraceOf};
 
 use crate::all_turns::all_turns;
 use crate::error::ConvError;
@@ -18,9 +18,12 @@ use std::alloc::Global;
 ///
 /// What is to the left of a replaced redex is not searched again. The first search goes through the term at each place where its nodes
 /// stand, up to the first redex.
-#[tactic(auto, using(crate::proofs::RedexLaws::beta_turns))]
+#[tactic(auto, using(crate::proofs::RedexLaws::beta_turns, crate::proofs::Tracing::ends, crate::proofs::Tracing::nothing_given))]
 pub fn beta_all(alloc: Global, term: &Term, turns: u32) -> Result<Rewritten, ConvError>
-    ensures { Tells result (all_turns beta_turn turns (nameless [] term.now)) }
+    ensures tells { Tells result (all_turns beta_turn turns (nameless [] term.now)) }
+    ensures traced { IfOk result (λ r. IsTraceOf term.now r) }
+    ensures used { IfOk result (λ r. r.trace.used ≡ []) }
 {
-    all_turns(alloc, &Redexes::Beta, term, turns)
+    let ended = all_turns(alloc, &Redexes::Beta, term, turns)?;
+    Ok(Rewritten::of(alloc, term, ended)?)
 }

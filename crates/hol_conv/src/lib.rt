@@ -5,22 +5,24 @@
 
 mod all_turns;
 mod beta;
-mod conversion;
 mod direction;
-mod equations;
+mod ended;
 mod error;
 pub mod laws;
-mod next;
 mod once_beside;
 mod redexes;
 mod reduct;
 mod rewriting;
 mod rewritten;
+mod trace;
+mod trace_node;
 mod turn;
 mod turned;
 
 pub use beta::beta_all;
-pub use conversion::beta_conversion;
 pub use error::ConvError;
+pub use reduct::body_at;
 pub use rewriting::{once, rewrite};
 pub use rewritten::Rewritten;
+pub use trace::Trace;
+pub use trace_node::TraceNode;

@@ -4,11 +4,13 @@ ghost use Rattle.hol_terms.specs.Named.{comb, abs, named_type};
 ghost use Rattle.hol_terms.specs.Nameless.{nameless};
 ghost use Rattle.hol_conv.specs.Redexes.{contraction};
 ghost use Rattle.hol_conv.specs.Beside.{paid_beside, once_beside, inner_once};
-ghost use Rattle.hol_conv.specs.Outcomes.{Tells};
+ghost use Rattle.hol_conv.specs.Ends.{TellsEnd};
+ghost use Rattle.hol_conv.specs.Tracing.{Traces, redex_givens};
 
+use crate::ended::Ended;
 use crate::error::ConvError;
-use crate::redexes::Redexes;
-use crate::rewritten::Rewritten;
+use crate::redexes::{Contracted, Redexes};
+use crate::trace_node::TraceNode;
 use hol_terms::{Term, TermNode, Variable};
 use std::alloc::Global;
 
@@ -16,53 +18,58 @@ use std::alloc::Global;
 ///
 /// Answers `Limit` where a redex is next and no turn is left, and `TooLarge` where the whole term has over 20,000 nodes after a turn.
 #[cycle(once_beside)]
-#[tactic(auto, using(crate::proofs::OnceParts::parts))]
+#[tactic(auto, using(crate::proofs::OnceParts::parts, crate::proofs::Tracing::part_traces))]
 pub(crate) fn once_beside(
     alloc: Global,
     redexes: &Redexes,
     t: &Term,
     outside: u32,
     left: u32,
-) -> Result<Rewritten, ConvError>
+) -> Result<Ended, ConvError>
     requires counted { outside ≤ 20001 }
-    ensures tells { Tells result (once_beside (contraction redexes.now) [] outside left (nameless [] t.now)) }
+    ensures tells { TellsEnd result (once_beside (contraction redexes.now) [] outside left (nameless [] t.now)) }
     ensures typed { IfOk result (λ r. named_type r.term ≡ named_type t.now) }
+    ensures traces { IfOk result (λ r. Traces (redex_givens redexes.now) r.node.value (nameless [] t.now) (nameless [] r.term)) }
 {
-    if let Some(u) = redexes.contract(alloc, t)? {
-        return paid_beside(u, outside, left);
+    if let Some(redex) = redexes.contract(alloc, t)? {
+        return paid_beside(redex, outside, left);
     }
     let _ty = t.type_of();
     match t.node() {
         TermNode::Comb(f, x) => once_in_parts(alloc, redexes, f, x, outside, left),
         TermNode::Abs(v, b) => once_in_body(alloc, redexes, v, b, outside, left),
-        TermNode::Var(_) | TermNode::Const(_, _) => Ok(Rewritten {
+        TermNode::Var(_) | TermNode::Const(_, _) => Ok(Ended {
             term: t.copy()?,
             left,
+            node: TraceNode::boxed(alloc, TraceNode::Same)?,
         }),
     }
 }
 
 // The turn in which the part becomes this term.
-fn paid_beside(term: Term, outside: u32, left: u32) -> Result<Rewritten, ConvError>
+fn paid_beside(redex: Contracted, outside: u32, left: u32) -> Result<Ended, ConvError>
     requires counted { outside ≤ 20001 }
-    ensures tells { Tells result (paid_beside [] outside left (nameless [] term)) }
-    ensures term { IfOk result (λ r. r.term ≡ term) }
+    ensures tells { TellsEnd result (paid_beside [] outside left (nameless [] redex.term)) }
+    ensures term { IfOk result (λ r. r.term ≡ redex.term) }
+    ensures node { IfOk result (λ r. r.node ≡ redex.node) }
 {
     if left == 0 {
         return Err(ConvError::Limit);
     }
-    if outside + term.size() > 20_000 {
+    if outside + redex.term.size() > 20_000 {
         return Err(ConvError::TooLarge);
     }
-    Ok(Rewritten {
-        term,
+    Ok(Ended {
+        term: redex.term,
         left: left - 1,
+        node: redex.node,
     })
 }
 
 // The same in the function and then in the argument.
+#[inline(never)]
 #[cycle(once_beside)]
-#[tactic(auto, using(crate::proofs::OnceParts::application_parts))]
+#[tactic(auto, using(crate::proofs::OnceParts::application_parts, crate::proofs::Tracing::in_application))]
 fn once_in_parts(
     alloc: Global,
     redexes: &Redexes,
@@ -70,25 +77,29 @@ fn once_in_parts(
     x: &Term,
     outside: u32,
     left: u32,
-) -> Result<Rewritten, ConvError>
+) -> Result<Ended, ConvError>
     requires counted { outside ≤ 20001 }
     requires fits { named_type (comb f.now x.now) ≡ None → ⊥ }
-    ensures tells { Tells result (inner_once (contraction redexes.now) [] outside left (nameless [] (comb f.now x.now))) }
+    ensures tells { TellsEnd result (inner_once (contraction redexes.now) [] outside left (nameless [] (comb f.now x.now))) }
     ensures typed { IfOk result (λ r. named_type r.term ≡ named_type (comb f.now x.now)) }
+    ensures traces { IfOk result (λ r. Traces (redex_givens redexes.now) r.node.value (nameless [] (comb f.now x.now)) (nameless [] r.term)) }
 {
     let function = once_beside(alloc, redexes, f, beside(outside, x.size()), left)?;
     let nodes = beside(outside, function.term.size());
     let argument = once_beside(alloc, redexes, x, nodes, function.left)?;
     let term = Term::application(alloc, &function.term, &argument.term)?;
-    Ok(Rewritten {
+    let node = TraceNode::parts(alloc, function.node, argument.node)?;
+    Ok(Ended {
         term,
         left: argument.left,
+        node,
     })
 }
 
 // The same in the body of the abstraction of `v`.
+#[inline(never)]
 #[cycle(once_beside)]
-#[tactic(auto, using(crate::proofs::OnceParts::body_parts, crate::proofs::Parts::nodes_of_body))]
+#[tactic(auto, using(crate::proofs::OnceParts::body_parts, crate::proofs::Parts::nodes_of_body, crate::proofs::Tracing::in_abstraction))]
 fn once_in_body(
     alloc: Global,
     redexes: &Redexes,
@@ -96,18 +107,21 @@ fn once_in_body(
     b: &Term,
     outside: u32,
     left: u32,
-) -> Result<Rewritten, ConvError>
+) -> Result<Ended, ConvError>
     requires counted { outside ≤ 20001 }
-    ensures tells { Tells result (inner_once (contraction redexes.now) [] outside left (nameless [] (abs v.now b.now))) }
+    ensures tells { TellsEnd result (inner_once (contraction redexes.now) [] outside left (nameless [] (abs v.now b.now))) }
     ensures typed { IfOk result (λ r. named_type r.term ≡ named_type (abs v.now b.now)) }
+    ensures traces { IfOk result (λ r. Traces (redex_givens redexes.now) r.node.value (nameless [] (abs v.now b.now)) (nameless [] r.term)) }
 {
     let inside = redexes.opened(alloc, v, b)?;
     let nodes = beside(outside, v.ty().size());
     let body = once_beside(alloc, redexes, &inside.body, nodes, left)?;
     let term = Term::abstraction(alloc, &inside.variable, &body.term)?;
-    Ok(Rewritten {
+    let node = TraceNode::body(alloc, &inside.variable, body.node)?;
+    Ok(Ended {
         term,
         left: body.left,
+        node,
     })
 }
 

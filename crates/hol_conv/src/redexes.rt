@@ -2,12 +2,23 @@
 ghost use Rattle.std.specs.Prelude.{◌≡◌, [], IfOk, IfSome, MatchOption, Some, None};
 ghost use Rattle.hol_terms.specs.Named.{abs, named_type};
 ghost use Rattle.hol_terms.specs.Nameless.{nameless};
+ghost use Rattle.hol_match.specs.Contracta.{contractum};
+ghost use Rattle.hol_match.specs.SetView.{set_rules, set_givens};
 ghost use Rattle.hol_conv.specs.Redexes.{beta_contractum, contraction, IsOutside};
+ghost use Rattle.hol_conv.specs.Tracing.{Traces, redex_givens};
 
 use crate::reduct::reduct;
+use crate::trace_node::TraceNode;
 use hol_match::{Binder, RuleSet};
 use hol_terms::{Term, TermNode, Variable};
 use std::alloc::{AllocError, Global};
+
+/// What a redex becomes, and how.
+#[derive(Drop)]
+pub(crate) struct Contracted {
+    pub(crate) term: Term,
+    pub(crate) node: Box<TraceNode>,
+}
 
 /// What is replaced in a turn.
 #[derive(Clone, Copy)]
@@ -20,17 +31,20 @@ pub(crate) enum Redexes<'a> {
 
 impl<'a> Redexes<'a> {
     /// What the term becomes, if it is a redex.
-    pub(crate) fn contract(&self, alloc: Global, t: &Term) -> Result<Option<Term>, AllocError>
-        ensures is { IfOk result (λ found. MatchOption found (contraction self.now [] (nameless [] t.now) ≡ None) (λ u. contraction self.now [] (nameless [] t.now) ≡ Some (nameless [] u))) }
-        ensures typed { IfOk result (λ found. IfSome found (λ u. named_type u ≡ named_type t.now)) }
+    #[inline(never)]
+    pub(crate) fn contract(&self, alloc: Global, t: &Term) -> Result<Option<Contracted>, AllocError>
+        ensures is { IfOk result (λ found. MatchOption found (contraction self.now [] (nameless [] t.now) ≡ None) (λ c. contraction self.now [] (nameless [] t.now) ≡ Some (nameless [] c.term))) }
+        ensures typed { IfOk result (λ found. IfSome found (λ c. named_type c.term ≡ named_type t.now)) }
+        ensures traces { IfOk result (λ found. IfSome found (λ c. Traces (redex_givens self.now) c.node.value (nameless [] t.now) (nameless [] c.term))) }
     {
         match self {
-            Redexes::Beta => beta(alloc, t),
-            Redexes::Rules(rules) => rules.contract(alloc, t),
+            Redexes::Beta => beta_contracted(alloc, t),
+            Redexes::Rules(rules) => rule_contracted(alloc, rules, t),
         }
     }
 
     /// The variable and the body of the abstraction of `v`, where the variable may be bound above a redex.
+    #[inline(never)]
     pub(crate) fn opened(
         &self,
         alloc: Global,
@@ -58,6 +72,42 @@ fn kept(v: &Variable, body: &Term) -> Result<Binder, AllocError>
         variable: v.copy()?,
         body: body.copy()?,
     })
+}
+
+// What an application of an abstraction becomes.
+#[tactic(auto, using(crate::proofs::Tracing::redex_traces))]
+fn beta_contracted(alloc: Global, t: &Term) -> Result<Option<Contracted>, AllocError>
+    ensures is { IfOk result (λ found. MatchOption found (beta_contractum (nameless [] t.now) ≡ None) (λ c. beta_contractum (nameless [] t.now) ≡ Some (nameless [] c.term))) }
+    ensures typed { IfOk result (λ found. IfSome found (λ c. named_type c.term ≡ named_type t.now)) }
+    ensures traces { IfOk result (λ found. IfSome found (λ c. Traces [] c.node.value (nameless [] t.now) (nameless [] c.term))) }
+{
+    match beta(alloc, t)? {
+        Some(term) => Ok(Some(Contracted {
+            term,
+            node: TraceNode::boxed(alloc, TraceNode::Beta)?,
+        })),
+        None => Ok(None),
+    }
+}
+
+// What the first rule that matches makes of the term.
+#[tactic(auto, using(crate::proofs::Tracing::rule_traces))]
+fn rule_contracted(
+    alloc: Global,
+    rules: &RuleSet,
+    t: &Term,
+) -> Result<Option<Contracted>, AllocError>
+    ensures is { IfOk result (λ found. MatchOption found (contractum [] (set_rules rules.now.rules.items) (nameless [] t.now) ≡ None) (λ c. contractum [] (set_rules rules.now.rules.items) (nameless [] t.now) ≡ Some (nameless [] c.term))) }
+    ensures typed { IfOk result (λ found. IfSome found (λ c. named_type c.term ≡ named_type t.now)) }
+    ensures traces { IfOk result (λ found. IfSome found (λ c. Traces (set_givens rules.now.rules.items) c.node.value (nameless [] t.now) (nameless [] c.term))) }
+{
+    match rules.contract(alloc, t)? {
+        Some((rule, term)) => Ok(Some(Contracted {
+            term,
+            node: TraceNode::rule(alloc, rule.copy()?)?,
+        })),
+        None => Ok(None),
+    }
 }
 
 // What an application of an abstraction becomes.

@@ -22,9 +22,9 @@ pub(crate) fn reduct(alloc: Global, f: &Term, x: &Term) -> Result<Option<Term>, 
     }
 }
 
-// The body of an abstraction of `v`, with `x` for it.
+/// The body of an abstraction of `v`, with `x` for it.
 #[tactic(auto, using(crate::proofs::Reducts::bodies))]
-fn body_at(alloc: Global, v: &Variable, b: &Term, x: &Term) -> Result<Term, AllocError>
+pub fn body_at(alloc: Global, v: &Variable, b: &Term, x: &Term) -> Result<Term, AllocError>
     requires fits { named_type x.now ≡ Some v.now.1 }
     ensures is { IfOk result (λ u. nameless [] u ≡ open_with (nameless [] x.now) 0 (nameless (v.now ∷ []) b.now)) }
     ensures typed { IfOk result (λ u. named_type u ≡ named_type b.now) }

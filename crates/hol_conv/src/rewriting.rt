@@ -1,11 +1,11 @@
 //! Rewriting by rules.
-ghost use Rattle.std.specs.Prelude.{[]};
+ghost use Rattle.std.specs.Prelude.{[], IfOk};
 ghost use Rattle.hol_terms.specs.Nameless.{nameless};
-ghost use Rattle.hol_match.specs.SetView.{set_rules};
+ghost use Rattle.hol_match.specs.SetView.{set_rules, set_givens, AreGivenIn};
 ghost use Rattle.hol_conv.specs.Turns.{all_turns};
 ghost use Rattle.hol_conv.specs.Rewriting.{rewrite_turn};
 ghost use Rattle.hol_conv.specs.Once.{rewritten_once};
-ghost use Rattle.hol_conv.specs.Outcomes.{Tells};
+ghost use Rattle.hol_conv.specs.Outcomes.{Tells, IsTraceOf};
 
 use crate::all_turns::all_turns;
 use crate::error::ConvError;
@@ -23,15 +23,19 @@ use std::alloc::Global;
 ///
 /// What is to the left of a replaced part is not searched again. The first search goes through the term at each place where its nodes
 /// stand, up to the first part that a rule matches.
+#[tactic(auto, using(crate::proofs::Tracing::ends))]
 pub fn rewrite(
     alloc: Global,
     rules: &RuleSet,
     term: &Term,
     turns: u32,
 ) -> Result<Rewritten, ConvError>
-    ensures { Tells result (all_turns (rewrite_turn (set_rules rules.now.rules.items)) turns (nameless [] term.now)) }
+    ensures tells { Tells result (all_turns (rewrite_turn (set_rules rules.now.rules.items)) turns (nameless [] term.now)) }
+    ensures traced { IfOk result (λ r. IsTraceOf term.now r) }
+    ensures used { IfOk result (λ r. AreGivenIn (set_givens rules.now.rules.items) r.trace.used) }
 {
-    all_turns(alloc, &Redexes::Rules(rules), term, turns)
+    let ended = all_turns(alloc, &Redexes::Rules(rules), term, turns)?;
+    Ok(Rewritten::of(alloc, term, ended)?)
 }
 
 /// Replaces each topmost part that a rule matches by what the first such rule makes of it, under binders too, once: what a part became is
@@ -41,9 +45,12 @@ pub fn rewrite(
 /// after a turn.
 ///
 /// The term is gone through at each place where its nodes stand, and built again.
-#[tactic(auto, using(crate::proofs::OnceParts::whole))]
+#[tactic(auto, using(crate::proofs::OnceParts::whole, crate::proofs::Tracing::ends))]
 pub fn once(alloc: Global, rules: &RuleSet, term: &Term, turns: u32) -> Result<Rewritten, ConvError>
-    ensures { Tells result (rewritten_once (set_rules rules.now.rules.items) turns (nameless [] term.now)) }
+    ensures tells { Tells result (rewritten_once (set_rules rules.now.rules.items) turns (nameless [] term.now)) }
+    ensures traced { IfOk result (λ r. IsTraceOf term.now r) }
+    ensures used { IfOk result (λ r. AreGivenIn (set_givens rules.now.rules.items) r.trace.used) }
 {
-    once_beside(alloc, &Redexes::Rules(rules), term, 0, turns)
+    let ended = once_beside(alloc, &Redexes::Rules(rules), term, 0, turns)?;
+    Ok(Rewritten::of(alloc, term, ended)?)
 }

@@ -5,6 +5,7 @@ ghost use Rattle.hol_terms.specs.Nameless.{nameless};
 ghost use Rattle.hol_conv.specs.Redexes.{contraction};
 ghost use Rattle.hol_conv.specs.Turns.{turn};
 ghost use Rattle.hol_conv.specs.Passing.{inner_turn, IsPassed};
+ghost use Rattle.hol_conv.specs.Tracing.{Traces, redex_givens};
 
 use crate::direction::Direction;
 use crate::redexes::Redexes;
@@ -16,7 +17,7 @@ use std::alloc::{AllocError, Global};
 ///
 /// Each term on the path is tried again; what stands to the left of the path is not searched again.
 #[cycle(turn)]
-#[tactic(auto, using(crate::proofs::Parts::parts, crate::proofs::Parts::nothing_passed, crate::proofs::BetaTurns::fits_itself, crate::proofs::Parts::nodes_of_comb, crate::proofs::Parts::nodes_of_abs))]
+#[tactic(auto, using(crate::proofs::Parts::parts, crate::proofs::Parts::nothing_passed, crate::proofs::Parts::fits_itself, crate::proofs::Parts::nodes_of_comb, crate::proofs::Parts::nodes_of_abs))]
 pub(crate) fn turn(
     alloc: Global,
     redexes: &Redexes,
@@ -27,9 +28,10 @@ pub(crate) fn turn(
     ensures turn { IfOk result (λ found. MatchOption found (turn (contraction redexes.now) [] (nameless [] t.now) ≡ None) (λ r. turn (contraction redexes.now) [] (nameless [] t.now) ≡ Some (nameless [] r.term))) }
     ensures passed { IfOk result (λ found. IfSome found (λ r. IsPassed (contraction redexes.now) [] (reverse r.path.items) (nameless [] r.term))) }
     ensures typed { IfOk result (λ found. IfSome found (λ r. named_type r.term ≡ named_type t.now)) }
+    ensures traces { IfOk result (λ found. IfSome found (λ r. Traces (redex_givens redexes.now) r.node.value (nameless [] t.now) (nameless [] r.term))) }
 {
-    if let Some(u) = redexes.contract(alloc, t)? {
-        return Ok(Some(Turned::whole(alloc, u)));
+    if let Some(redex) = redexes.contract(alloc, t)? {
+        return Ok(Some(Turned::whole(alloc, redex.term, redex.node)));
     }
     let _ty = t.type_of();
     match t.node() {
@@ -40,8 +42,9 @@ pub(crate) fn turn(
 }
 
 // The same in the function and in the argument.
+#[inline(never)]
 #[cycle(turn)]
-#[tactic(auto, using(crate::proofs::Parts::application_parts, crate::proofs::Parts::application_paths, crate::proofs::Parts::kept))]
+#[tactic(auto, using(crate::proofs::Parts::application_parts, crate::proofs::Parts::application_paths, crate::proofs::Parts::kept, crate::proofs::Tracing::in_application))]
 fn turn_in_parts(
     alloc: Global,
     redexes: &Redexes,
@@ -54,6 +57,7 @@ fn turn_in_parts(
     ensures turn { IfOk result (λ found. MatchOption found (inner_turn (contraction redexes.now) [] (nameless [] (comb f.now x.now)) ≡ None) (λ r. inner_turn (contraction redexes.now) [] (nameless [] (comb f.now x.now)) ≡ Some (nameless [] r.term))) }
     ensures passed { IfOk result (λ found. IfSome found (λ r. IsPassed (contraction redexes.now) [] (reverse r.path.items) (nameless [] r.term))) }
     ensures typed { IfOk result (λ found. IfSome found (λ r. named_type r.term ≡ named_type (comb f.now x.now))) }
+    ensures traces { IfOk result (λ found. IfSome found (λ r. Traces (redex_givens redexes.now) r.node.value (nameless [] (comb f.now x.now)) (nameless [] r.term))) }
 {
     let (is_passed, in_function, in_argument) = match path.split_last() {
         Some((Direction::Function, rest)) => (false, rest, &path[..0]),
@@ -72,8 +76,9 @@ fn turn_in_parts(
 }
 
 // The same in the body of the abstraction of `v`.
+#[inline(never)]
 #[cycle(turn)]
-#[tactic(auto, using(crate::proofs::Parts::body_parts, crate::proofs::Parts::body_paths, crate::proofs::Parts::kept_abs, crate::proofs::Parts::nodes_of_body))]
+#[tactic(auto, using(crate::proofs::Parts::body_parts, crate::proofs::Parts::body_paths, crate::proofs::Parts::kept_abs, crate::proofs::Parts::nodes_of_body, crate::proofs::Tracing::in_abstraction))]
 fn turn_in_body(
     alloc: Global,
     redexes: &Redexes,
@@ -85,6 +90,7 @@ fn turn_in_body(
     ensures turn { IfOk result (λ found. MatchOption found (inner_turn (contraction redexes.now) [] (nameless [] (abs v.now b.now)) ≡ None) (λ r. inner_turn (contraction redexes.now) [] (nameless [] (abs v.now b.now)) ≡ Some (nameless [] r.term))) }
     ensures passed { IfOk result (λ found. IfSome found (λ r. IsPassed (contraction redexes.now) [] (reverse r.path.items) (nameless [] r.term))) }
     ensures typed { IfOk result (λ found. IfSome found (λ r. named_type r.term ≡ named_type (abs v.now b.now))) }
+    ensures traces { IfOk result (λ found. IfSome found (λ r. Traces (redex_givens redexes.now) r.node.value (nameless [] (abs v.now b.now)) (nameless [] r.term))) }
 {
     let rest = match path.split_last() {
         Some((Direction::Body, rest)) => rest,

@@ -1,17 +1,18 @@
 -- From what a conversion made of a term, the term: the calls by which the code goes there.
-use Rattle.std.specs.Prelude.{◌≡◌, Option, Some, None, Result, Ok, Err, IfOk, IsSome, refl}
+use Rattle.std.specs.Prelude.{◌≡◌, Bool, true, false, cond, Option, Some, None, Result, Ok, Err, IfOk, IsSome, refl}
 use Rattle.std.specs.Option.{option_map, option_and_then}
 use Rattle.std.proofs.Common.{ap, sym, ◌∙◌, subst}
 use Rattle.hol_kernel.specs.Items.{Items}
-use Rattle.hol_kernel.specs.Sequent.{Sequent}
+use Rattle.hol_kernel.specs.Sequent.{Sequent, sequent_of}
 use Rattle.hol_kernel.specs.Theorem.{Theorem, theorem_on, over}
 use Rattle.hol_kernel.specs.Rules.{eq_mp_of}
 use Rattle.hol_equal.specs.Rules.{sym_of}
 use Rattle.hol_types.specs.Tree.{TypeTree}
-use Rattle.hol_terms.specs.Nameless.{Nameless}
+use Rattle.hol_formulas.specs.Equation.{equation}
 use Rattle.hol_kernel.specs.Typing.{type_over}
-use Rattle.hol_conv.specs.Turns.{Outcome, finished, limit, too_large}
-use Rattle.hol_conv.specs.Equations.{equation_on, ended_equation}
+use Rattle.hol_match.specs.Givens.{all_hold, all_hyps}
+use Rattle.hol_conv.specs.Traces.{TraceValue}
+use Rattle.hol_replay.specs.Replays.{trace_equation}
 use Rattle.hol_just.specs.Reasons.{expanded_by}
 
 pub over_basis : (basis : Items) (o : Option Sequent) (th : Theorem) → over basis o ≡ Some th → th.basis ≡ basis
@@ -22,15 +23,14 @@ pub over_sequent : (basis : Items) (o : Option Sequent) (th : Theorem) → over 
 over_sequent basis None th e = absurd (cc)
 over_sequent basis (Some s) th e = let is : theorem_on basis s ≡ th = cc in ap (λ (r : Theorem). Some r.sequent) is
 
--- a conversion's theorem is over its basis
-pub equation_basis : (basis : Items) (t : Nameless) (o : Outcome) (th : Theorem) → ended_equation basis t o ≡ Some th → th.basis ≡ basis
-equation_basis basis t (finished u left) th e = by (type_over basis t) e
+-- the theorem of a trace is over its basis
+pub equation_basis : (basis : Items) (t : TraceValue) (th : Theorem) → trace_equation basis t ≡ Some th → th.basis ≡ basis
+equation_basis basis t th e = by (all_hold t.used basis) (type_over basis t.old) e
   where
-    by : (p : Option TypeTree) → option_map (λ a. equation_on basis a t u) p ≡ Some th → th.basis ≡ basis
-    by None k = absurd (cc)
-    by (Some a) k = let is : equation_on basis a t u ≡ th = cc in sym (ap (λ (r : Theorem). r.basis) is)
-equation_basis basis t limit th e = absurd (cc)
-equation_basis basis t too_large th e = absurd (cc)
+    by : (b : Bool) (p : Option TypeTree) → cond b (option_map (λ a. theorem_on basis (sequent_of (all_hyps t.used) (equation a t.old t.new))) p) None ≡ Some th → th.basis ≡ basis
+    by false p k = absurd (cc)
+    by true None k = absurd (cc)
+    by true (Some a) k = let is : theorem_on basis (sequent_of (all_hyps t.used) (equation a t.old t.new)) ≡ th = cc in sym (ap (λ (r : Theorem). r.basis) is)
 
 -- an answer that is what another one was
 pub ok_after : {T E F : Type 0} (r : Result T E) (answer : Result T F) (P : T → Type 0) → ((t : T) → answer ≡ Ok t → P t) → IfOk r (λ t. answer ≡ Ok t) → IfOk r P

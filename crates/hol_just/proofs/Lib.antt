@@ -13,7 +13,9 @@ pub mod QuantifierRules
 pub mod Replacing
 pub mod EliminationRules
 pub mod EliminationMoves
-pub mod Reducing
+pub mod Converting
+pub mod MatchAdds
+pub mod TraceTypes
 pub mod ConversionMoves
 pub mod Expanding
 pub mod MatchAlike

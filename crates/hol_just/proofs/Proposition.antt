@@ -12,7 +12,7 @@ use Rattle.hol_goal.specs.Achieves.{Achieves, IsTyped}
 use Rattle.hol_just.specs.Reasons.{Fits}
 use Rattle.hol_just.specs.Valid.{AchieveAll, Answers, FitsAt, IsValid}
 use Rattle.hol_just.specs.declared.reason.Reason.{Reason}
-use Rattle.hol_just.specs.declared.reason.Reason.TheVariants.{Reflexivity, Premise, Combination, Antisymmetry, Conjunction, LeftDisjunct, RightDisjunct, Discharge, Undischarge, Negation, ModusPonens, Contradiction, Generalization, Existence, LeftConjunct, RightConjunct, Cases, Cut, Symmetry, Replacement, Specialization, Choice, Truth, Reduction, Matching}
+use Rattle.hol_just.specs.declared.reason.Reason.TheVariants.{Reflexivity, Premise, Combination, Antisymmetry, Conjunction, LeftDisjunct, RightDisjunct, Discharge, Undischarge, Negation, ModusPonens, Contradiction, Generalization, Existence, LeftConjunct, RightConjunct, Cases, Cut, Symmetry, Replacement, Specialization, Choice, Truth, Conversion, Matching}
 use Rattle.hol_just.specs.declared.reason.Move.{Move}
 
 achieves_prop : (extra : Hyps) (s : Sequent) (g : GoalValue) → IsProp (Achieves extra s g)
@@ -59,7 +59,7 @@ fits_prop basis (Replacement v m) = Unit-prop
 fits_prop basis (Specialization t) = Unit-prop
 fits_prop basis (Choice v) = Unit-prop
 fits_prop basis Truth = Unit-prop
-fits_prop basis (Reduction t turns) = Unit-prop
+fits_prop basis (Conversion t) = Unit-prop
 fits_prop basis (Matching th formula t) = over_prop th basis
 
 fits_at_prop : (basis : Items) (one : Move) → IsProp (FitsAt basis one)

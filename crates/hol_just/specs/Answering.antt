@@ -1,5 +1,5 @@
 -- When what a function on goals answers is right: it is what its code means, and the step is justified.
-use Rattle.std.specs.Prelude.{◌≡◌, ℕ, Bool, true, ◌&&◌, List, [], ◌∷◌, Option, Some, None, Result, Ok, Err}
+use Rattle.std.specs.Prelude.{◌≡◌, ℕ, Bool, true, ◌&&◌, List, [], ◌∷◌, Result, Ok, Err}
 use Rattle.std.specs.List.{list_all}
 use Rattle.std.specs.FinSet as set
 use Rattle.hol_kernel.specs.Items.{Items}
@@ -10,9 +10,10 @@ use Rattle.hol_goal.specs.Answer.{UsedValue, AnswerResult, Left, Unfit, OutOfTur
 use Rattle.hol_goal.specs.Achieves.{AreAllowed}
 use Rattle.hol_goal.specs.Arguments.{TacArgsValue, Nothing, Term, Pair, Theorem, TermAndTheorem, Theorems}
 use Rattle.hol_goal.specs.declared.tac_code.TacCode.{TacCode}
+pub use Rattle.hol_match.specs.Givens.{all_hyps}
 use Rattle.hol_just.specs.Valid.{IsValid}
 use Rattle.hol_just.specs.Justifies.{holds_term, holds_given}
-use Rattle.hol_just.specs.Tac.{Meaning, tac}
+use Rattle.hol_just.specs.Tac.{tac}
 use Rattle.hol_just.specs.declared.tried.Step.{Step}
 use Rattle.hol_just.specs.declared.tried.Tried.{Tried}
 use Rattle.hol_just.specs.declared.tried.TacFault.{TacFault}
@@ -46,21 +47,13 @@ IsResult TooLarge used (Err fault.Memory) = Unit {0}
 abbrev pub IsAnswered : AnswerValue → Result Tried TacFault → Type 0
 IsAnswered answer result = IsResult answer.result answer.used result
 
--- the same by the code, which has a meaning
-abbrev pub IsAnsweredBy : Option Meaning → TacArgsValue → GoalValue → ℕ → Result Tried TacFault → Type 0
-IsAnsweredBy None args goal turns result = ⊥
-IsAnsweredBy (Some f) args goal turns result = IsAnswered (f args goal (record { turns_left = turns })) result
-
+-- the same by the code
 abbrev pub AnswersCode : TacCode → TacArgsValue → GoalValue → ℕ → Result Tried TacFault → Type 0
-AnswersCode code args goal turns result = IsAnsweredBy (tac code) args goal turns result
+AnswersCode code args goal turns result = IsAnswered (tac code args goal (record { turns_left = turns })) result
 
 -- ---- the justification
 
 -- the hypotheses of the theorems among the arguments
-abbrev pub all_hyps : List Given → Hyps
-all_hyps [] = no_hyps
-all_hyps (th ∷ ths) = set.union (given_sequent th).hyps (all_hyps ths)
-
 abbrev pub args_hyps : TacArgsValue → Hyps
 args_hyps Nothing = no_hyps
 args_hyps (Term t) = no_hyps

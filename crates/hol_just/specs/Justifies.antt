@@ -1,6 +1,7 @@
 -- From which goals to which the justifications of the functions on goals are valid (HOL Light Reference Manual; LNCS 78). Terms are taken up to bound names where the
 -- functions compare them so; the extra hypotheses are those of theorems that were handed in and are no assumptions.
 use Rattle.std.specs.Prelude.{◌≡◌, ◌⊎◌, IsTrue, ℕ, Bool, true, false, List, [], ◌∷◌, ◌++◌, Some}
+use Rattle.std.specs.List.{AllByRecursion}
 use Rattle.std.specs.FinSet as set
 use Rattle.hol_types.specs.Tree.{TypeTree}
 use Rattle.hol_types.specs.Fun.{fun_type}
@@ -18,11 +19,12 @@ use Rattle.hol_kernel.specs.Given.{Given, proved, assumed, given_sequent}
 use Rattle.hol_goal.specs.Goal.{GoalValue}
 use Rattle.hol_goal.specs.Achieves.{AreAllowed}
 use Rattle.hol_bool.specs.Rules.{over_variable}
-use Rattle.hol_conv.specs.Beta.{beta_turn}
-use Rattle.hol_conv.specs.Turns.{finished, all_turns}
+pub use Rattle.hol_match.specs.Givens.{holds_given}
+use Rattle.hol_match.specs.Givens.{all_hold, all_hyps}
 use Rattle.hol_match.specs.Instance.{InstanceValue}
 use Rattle.hol_match.specs.Fixed.{stays_of}
 use Rattle.hol_match.specs.Matches.{IsMatch}
+use Rattle.hol_conv.specs.Traces.{TraceValue}
 use Rattle.hol_just.specs.Matching.{specialized}
 use Rattle.hol_just.specs.MatchMp.{existentials}
 use Rattle.hol_just.specs.Valid.{IsValid}
@@ -37,11 +39,6 @@ goal_at assumptions conclusion = record { assumptions = assumptions; conclusion 
 -- every basis suits
 abbrev pub always : Items → Bool
 always basis = true
-
--- the basis contains the theorem's, or the assumed term is well typed over it
-abbrev pub holds_given : Given → Items → Bool
-holds_given (proved th) basis = set.is_subset th.basis basis
-holds_given (assumed p) basis = has_type basis p bool_type
 
 -- the term is well typed over the basis
 abbrev pub holds_term : Nameless → Items → Bool
@@ -220,11 +217,15 @@ ClosesTruth moves = (extra : Hyps) (assumptions : List Nameless) → IsValid alw
 
 -- ---- conversions
 
--- BETA_TAC leaves u of t, where u is what beta reduction makes of t in so many turns.
-abbrev pub LeavesReduced : Nameless → ℕ → List Move → Type 0
-LeavesReduced t turns moves =
-    (extra : Hyps) (assumptions : List Nameless) (u : Nameless) (left : ℕ) → all_turns beta_turn turns t ≡ finished u left →
-    IsValid always extra moves (goal_at assumptions t ∷ []) (goal_at assumptions u ∷ [])
+-- all of them can be read over each basis that suits and over which the assumptions are formulas
+abbrev pub AreHeld : (Items → Bool) → List Nameless → List Given → Type 0
+AreHeld suits assumptions gs = (basis : Items) → IsTrue (suits basis) → AllByRecursion (λ p. HasType basis p bool_type) assumptions → IsTrue (all_hold gs basis)
+
+-- A conversion leaves what the term became, where all that was used for it can be read, and its hypotheses are assumptions or left over.
+abbrev pub LeavesConverted : TraceValue → List Move → Type 0
+LeavesConverted t moves =
+    (suits : Items → Bool) (extra : Hyps) (assumptions : List Nameless) → AreHeld suits assumptions t.used → AreAllowed extra assumptions (all_hyps t.used) →
+    IsValid suits extra moves (goal_at assumptions t.old ∷ []) (goal_at assumptions t.new ∷ [])
 
 -- ---- instances
 

@@ -63,3 +63,11 @@ with_term_and_theorem (Pair s t) f = None
 with_term_and_theorem (Theorem th) f = None
 with_term_and_theorem (TermAndTheorem t th) f = f t th
 with_term_and_theorem (Theorems ths) f = None
+
+abbrev pub with_theorems : {X : Type 0} → TacArgsValue → (List Given → Option X) → Option X
+with_theorems Nothing f = None
+with_theorems (Term t) f = None
+with_theorems (Pair s t) f = None
+with_theorems (Theorem th) f = None
+with_theorems (TermAndTheorem t th) f = None
+with_theorems (Theorems ths) f = f ths

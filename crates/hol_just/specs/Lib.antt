@@ -6,7 +6,7 @@ pub mod Valid
 pub mod Over
 pub mod Made
 pub mod Justifies
-pub mod FreeNames
+pub use Rattle.hol_match.specs.FreeNames
 pub mod Leaving
 pub mod Replacing
 pub mod EquationTacs
@@ -17,3 +17,4 @@ pub mod ConversionTacs
 pub mod MatchMp
 pub mod Tac
 pub mod Answering
+pub mod TraceTypes

@@ -1,5 +1,5 @@
 -- What each reason makes of sequents, by the functions of the rules.
-use Rattle.std.specs.Prelude.{ℕ, [], Option, Some, None}
+use Rattle.std.specs.Prelude.{[], Option, Some, None}
 use Rattle.std.specs.Option.{option_map, option_and_then}
 use Rattle.hol_terms.specs.Nameless.{Nameless, nameless}
 use Rattle.hol_kernel.specs.Items.{Items}
@@ -11,11 +11,12 @@ use Rattle.hol_formulas.specs.Formula.{truth}
 use Rattle.hol_terms.specs.Named.{Named}
 use Rattle.hol_equal.specs.Rules.{sym_of, subst_of, prove_hyp_of}
 use Rattle.hol_bool.specs.Rules.{conj_of, conjunct1_of, conjunct2_of, disj1_of, disj2_of, disj_cases_of, disch_of, undisch_of, not_intro_of, mp_of, contr_of, gen_of, spec_of, exists_of, choose_of}
-use Rattle.hol_conv.specs.Equations.{beta_conversion}
+use Rattle.hol_conv.specs.Traces.{TraceValue}
+use Rattle.hol_replay.specs.Replays.{trace_equation}
 use Rattle.hol_just.specs.Matching.{bound_variables, matching}
 use Rattle.hol_just.specs.Inference.{Inference, from_none, from_one, from_two, from_three}
 use Rattle.hol_just.specs.declared.reason.Reason.{Reason}
-use Rattle.hol_just.specs.declared.reason.Reason.TheVariants.{Reflexivity, Premise, Combination, Antisymmetry, Conjunction, LeftDisjunct, RightDisjunct, Discharge, Undischarge, Negation, ModusPonens, Contradiction, Generalization, Existence, LeftConjunct, RightConjunct, Cases, Cut, Symmetry, Replacement, Specialization, Choice, Truth, Reduction, Matching}
+use Rattle.hol_just.specs.declared.reason.Reason.TheVariants.{Reflexivity, Premise, Combination, Antisymmetry, Conjunction, LeftDisjunct, RightDisjunct, Discharge, Undischarge, Negation, ModusPonens, Contradiction, Generalization, Existence, LeftConjunct, RightConjunct, Cases, Cut, Symmetry, Replacement, Specialization, Choice, Truth, Conversion, Matching}
 
 -- the sequent of a premise over a basis
 abbrev pub premise_of : Items → premise.Given → Option Sequent
@@ -50,9 +51,9 @@ abbrev pub expanded_by : Option Theorem → Sequent → Option Sequent
 expanded_by None a = None
 expanded_by (Some th) a = option_and_then (λ s. eq_mp_of s a) (sym_of th.sequent)
 
--- t, from what beta reduction makes of it in so many turns
-abbrev pub expanded : Items → Nameless → ℕ → Sequent → Option Sequent
-expanded basis t turns a = expanded_by (beta_conversion basis turns t) a
+-- the term that was rewritten, from what it became
+abbrev pub converted_back : Items → TraceValue → Sequent → Option Sequent
+converted_back basis t a = expanded_by (trace_equation basis t) a
 
 -- the rule of a reason
 abbrev pub inference : Items → Reason → Inference
@@ -79,7 +80,7 @@ inference basis (Replacement v m) = from_two (replaced basis v (nameless [] m))
 inference basis (Specialization t) = from_one (spec_of basis (nameless [] t))
 inference basis (Choice v) = from_two (choose_of v)
 inference basis Truth = from_none true_sequent
-inference basis (Reduction t turns) = from_one (expanded basis (nameless [] t) turns)
+inference basis (Conversion t) = from_one (converted_back basis t)
 inference basis (Matching given formula t) = from_none (option_and_then (matching basis (bound_variables formula) (nameless [] t)) (premise_of basis given))
 
 -- what a reason asks of the basis: that it contains the bases of the theorems that the reason holds
@@ -107,5 +108,5 @@ Fits basis (Replacement v m) = Unit {0}
 Fits basis (Specialization t) = Unit {0}
 Fits basis (Choice v) = Unit {0}
 Fits basis Truth = Unit {0}
-Fits basis (Reduction t turns) = Unit {0}
+Fits basis (Conversion t) = Unit {0}
 Fits basis (Matching given formula t) = premise.IsOver given basis

@@ -1,11 +1,12 @@
 //! The justifications of the functions that convert the conclusion.
-ghost use Rattle.std.specs.Prelude.{IfOk, []};
-ghost use Rattle.hol_terms.specs.Nameless.{nameless};
-ghost use Rattle.hol_just.specs.Justifies.{ClosesTruth, LeavesReduced};
+ghost use Rattle.std.specs.Prelude.{◌≡◌, [], IfOk};
+ghost use Rattle.hol_terms.specs.Nameless.{nameless_type};
+ghost use Rattle.hol_just.specs.Justifies.{ClosesTruth, LeavesConverted};
+ghost use Rattle.hol_just.specs.TraceTypes.{KeepsType};
 
 use crate::just::Just;
 use crate::reason::Reason;
-use hol_terms::Term;
+use hol_conv::{Trace, TraceNode};
 use std::alloc::{AllocError, Global};
 
 impl Just {
@@ -16,11 +17,42 @@ impl Just {
         Just::one(alloc, Reason::Truth)
     }
 
-    /// That of BETA_TAC, where this is the conclusion, with so many turns.
-    pub fn beta_tac(alloc: Global, conclusion: &Term, turns: u32) -> Result<Just, AllocError>
-        ensures { IfOk result (λ just. LeavesReduced (nameless [] conclusion.now) turns just) }
+    /// That of a conversion of the conclusion, by its trace.
+    pub fn conversion(alloc: Global, trace: &Trace) -> Result<Just, AllocError>
+        ensures { IfOk result (λ just. LeavesConverted trace.now just) }
     {
-        let whole = conclusion.copy()?;
-        Just::one(alloc, Reason::Reduction(whole, turns))
+        trace.keeps_types();
+        let own = trace.copy()?;
+        Just::one(alloc, Reason::Conversion(own))
+    }
+}
+
+/// What a term became has the term's type.
+pub fn conversion_typed(trace: &Trace)
+    ensures { nameless_type [] trace.now.new ≡ nameless_type [] trace.now.old }
+{
+    let _ty = trace.old().type_of();
+    keeps_type(trace.node());
+}
+
+// What the trace makes of a term of a type has the type: each rule has two sides of one type.
+fn keeps_type(node: &TraceNode)
+    ensures { KeepsType node.now }
+{
+    match node {
+        TraceNode::Same => {}
+        TraceNode::Parts(f, x) => {
+            keeps_type(f);
+            keeps_type(x);
+        }
+        TraceNode::Body(_, b) => keeps_type(b),
+        TraceNode::Rule(rule) => {
+            let _left = rule.left();
+        }
+        TraceNode::Beta => {}
+        TraceNode::Both(_, a, b) => {
+            keeps_type(a);
+            keeps_type(b);
+        }
     }
 }

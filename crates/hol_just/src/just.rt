@@ -22,8 +22,9 @@ impl Model for Just {
     ghost use Rattle.std.specs.Coded.{codes};
     ghost use Rattle.hol_terms.specs.Code.{coded_named};
     ghost use Rattle.hol_kernel.specs.Given.{given_code};
+    ghost use Rattle.hol_conv.specs.Traces.{trace_code};
 
-    ghost coded = { Prim.hlevel (codes, coded_named, given_code) };
+    ghost coded = { Prim.hlevel (codes, coded_named, given_code, trace_code) };
 
     ghost view = { λ j. j.moves.items };
 }

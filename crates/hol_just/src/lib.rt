@@ -23,6 +23,7 @@ mod tacs;
 mod tried;
 
 pub use assuming::{assumption, given_typed};
+pub use conversions::conversion_typed;
 pub use just::Just;
 pub use justifying::justify;
 pub use laws::{

@@ -2,6 +2,7 @@
 ghost use Rattle.std.specs.Prelude.{◌≡◌, IfOk};
 ghost use Rattle.hol_just.specs.declared.reason.Reason.TheVariants.{Existence, Replacement, Matching};
 
+use hol_conv::Trace;
 use hol_kernel::Given;
 use hol_terms::Term;
 use std::alloc::AllocError;
@@ -55,8 +56,8 @@ pub enum Reason {
     Choice(Term),
     /// Leaves no goal: `T` (TRUTH).
     Truth,
-    /// Leaves what beta reduction makes of the term in so many turns: the term (EQ_MP, by SYM of the conversion's equation).
-    Reduction(Term, u32),
+    /// Leaves what a term became: the term (EQ_MP, by SYM of the equation of the trace).
+    Conversion(Trace),
     /// Leaves no goal: the second term, an instance of what stands under the theorem's outer quantifiers, whose variables are called as those of the first, a
     /// formula that is equal to its conclusion (SPEC, INST_TYPE, INST).
     Matching(Given, Term, Term),
@@ -100,7 +101,7 @@ impl Reason {
             Reason::Specialization(t) => Ok(Reason::Specialization(t.copy()?)),
             Reason::Choice(v) => Ok(Reason::Choice(v.copy()?)),
             Reason::Truth => Ok(Reason::Truth),
-            Reason::Reduction(t, turns) => Ok(Reason::Reduction(t.copy()?, *turns)),
+            Reason::Conversion(trace) => Ok(Reason::Conversion(trace.copy()?)),
             Reason::Matching(given, formula, t) => matching(given, formula, t),
         }
     }

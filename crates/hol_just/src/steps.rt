@@ -11,7 +11,7 @@ use crate::bool_steps::{
     conjunction, contradiction, discharge, existence, generalization, left_disjunct, modus_ponens,
     negation, right_disjunct, undischarge,
 };
-use crate::conversion_steps::{reduction, true_formula};
+use crate::conversion_steps::{conversion, true_formula};
 use crate::cursor::Cursor;
 use crate::elimination_steps::{cases, choice, left_conjunct, right_conjunct, specialization};
 use crate::equal_steps::{cut, replacement, symmetry};
@@ -60,7 +60,7 @@ pub(crate) fn infer(
         Reason::Specialization(t) => specialization(alloc, t, thms),
         Reason::Choice(v) => choice(alloc, v, thms),
         Reason::Truth => true_formula(alloc, thms),
-        Reason::Reduction(t, turns) => reduction(alloc, t, *turns, thms),
+        Reason::Conversion(trace) => conversion(alloc, trace, thms),
         Reason::Matching(given, formula, t) => matching(alloc, given, formula, t, thms),
     }
 }

@@ -26,7 +26,7 @@ use Rattle.hol_match.specs.RuleSets.{RuleEntry, IsFit, beside, fit, fit_under, o
 use Rattle.hol_match.specs.Contracta.{contracted, contractum}
 use Rattle.hol_match.specs.Apart.{is_named, IsApart}
 use Rattle.hol_match.specs.declared.set_rule.SetRule.{SetRule}
-use Rattle.hol_match.specs.SetView.{set_rule, set_rules}
+use Rattle.hol_match.specs.SetView.{set_rule, set_rules, set_given, set_givens, IsGivenIn}
 use Rattle.hol_match.proofs.MatchLaws.{strip_type}
 use Rattle.hol_match.proofs.Under.{closed, closed_terms, lookup_closed, matched_closed}
 
@@ -150,7 +150,7 @@ fit_closed r v env t e =
     let s = (set_rule r).stays in
     let l = (set_rule r).rule.left in
     let m : length env + 0 ≡ length env = omega arith in
-    let kept : closed v (length env) s ≡ s = ap (instance_of s.types) (stays_closed v (length env) r.fixed.value.variables.items e) in
+    let kept : closed v (length env) s ≡ s = ap (instance_of s.types) (stays_closed v (length env) r.source.value.fixed.variables.items e) in
     ap (option_map (beside s)) (
     (λ i. matched_under (env ++ v.1 ∷ []) 0 l (sym kept i) (close v (sym m i) t)) ∙ matched_closed v env 0 l s t (closed_under [] r.rule.left))
     ∙ beside_closed v (length env) s (matched_under env 0 l s t)
@@ -186,7 +186,7 @@ first_none i (e ∷ es) t h = by (fit e t) (first_none (i + 1) es t) h
     by (Some a) r g = absurd (cc)
 
 abbrev Contracts : ℕ → List RuleEntry → Nameless → ℕ × InstanceValue → Type 0
-Contracts i es t f = (i ≤ f.0) × ((e : RuleEntry) → slice_get es (f.0 - i) ≡ Some e → contractum [] es t ≡ Some (instantiated f.1 0 e.rule.right))
+Contracts i es t f = (i ≤ f.0) × ((e : RuleEntry) → slice_get es (f.0 - i) ≡ Some e → (contractum [] es t ≡ Some (instantiated f.1 0 e.rule.right)) × (fit e t ≡ Some f.1))
 
 first_some : (i : ℕ) (es : List RuleEntry) (t : Nameless) (f : ℕ × InstanceValue) → first_fit i es t ≡ Some f → Contracts i es t f
 first_some i [] t f h = absurd (cc)
@@ -196,7 +196,7 @@ first_some i (d ∷ es) t f h = by (fit d t) refl (first_some (i + 1) es t f) h
     by None p r g =
         let q = r g in
         let m : f.0 - i ≡ suc (f.0 - (i + 1)) = omega (arith, q.0) in
-        (omega (arith, q.0), λ e k. rw p (q.1 e (sym (ap (slice_get (d ∷ es)) m) ∙ k)))
+        (omega (arith, q.0), λ e k. let w = q.1 e (sym (ap (slice_get (d ∷ es)) m) ∙ k) in (rw p w.0, w.1))
     by (Some a) p r g =
         let same : (i, a) ≡ f = cc in
         let first : i ≡ f.0 = ap (λ (z : ℕ × InstanceValue). z.0) same in
@@ -205,14 +205,17 @@ first_some i (d ∷ es) t f h = by (fit d t) refl (first_some (i + 1) es t f) h
           λ e k.
               let n : Some d ≡ Some e = sym (ap (slice_get (d ∷ es)) m) ∙ k in
               let q : d ≡ e = cc in
-              rw p (λ x. Some (instantiated (same x).1 0 (q x).rule.right)),
+              (rw p (λ x. Some (instantiated (same x).1 0 (q x).rule.right)), sym (ap (λ (z : RuleEntry). fit z t) q) ∙ p ∙ ap (λ (z : ℕ × InstanceValue). Some z.1) same),
         )
+
+got : {A B : Type 0} (f : A → B) (xs : List A) (i : ℕ) (x : A) → slice_get xs i ≡ Some x → slice_get (map f xs) i ≡ Some (f x)
+got f [] i x e = absurd (cc)
+got f (y ∷ ys) zero x e = let q : y ≡ x = cc in ap (λ z. Some (f z)) q
+got f (y ∷ ys) (suc i) x e = got f ys i x e
 
 -- the rule of this number is there
 at_number : (rules : List SetRule) (i : ℕ) (r : SetRule) → slice_get rules i ≡ Some r → slice_get (set_rules rules) i ≡ Some (set_rule r)
-at_number [] i r e = absurd (cc)
-at_number (s ∷ rules) zero r e = let q : s ≡ r = cc in ap (λ x. Some (set_rule x)) q
-at_number (s ∷ rules) (suc i) r e = at_number rules i r e
+at_number rules i r e = got set_rule rules i r e
 
 get_below : (rules : List SetRule) (i : ℕ) (e : RuleEntry) → slice_get (set_rules rules) i ≡ Some e → i < length rules
 get_below [] i e h = absurd (cc)
@@ -226,10 +229,22 @@ rule_there rules t f h = get_below rules f.0 h.entry h.is
 pub found_contracts : (rules : List SetRule) (t : Nameless) (f : ℕ × InstanceValue) (r : SetRule) (u : Nameless) → first_fit 0 (set_rules rules) t ≡ Some f → slice_get rules f.0 ≡ Some r → u ≡ instantiated f.1 0 (set_rule r).rule.right → contractum [] (set_rules rules) t ≡ Some u
 found_contracts rules t f r u h k e =
     let m : f.0 - 0 ≡ f.0 = omega arith in
-    (first_some 0 (set_rules rules) t f h).1 (set_rule r) (ap (slice_get (set_rules rules)) m ∙ at_number rules f.0 r k) ∙ ap Some (sym e)
+    ((first_some 0 (set_rules rules) t f h).1 (set_rule r) (ap (slice_get (set_rules rules)) m ∙ at_number rules f.0 r k)).0 ∙ ap Some (sym e)
+
+-- the rule that is found makes it of the term
+pub found_rule : (rules : List SetRule) (t : Nameless) (f : ℕ × InstanceValue) (r : SetRule) (u : Nameless) → first_fit 0 (set_rules rules) t ≡ Some f → slice_get rules f.0 ≡ Some r → u ≡ instantiated f.1 0 (set_rule r).rule.right → contracted [] (set_rule r) t ≡ Some u
+found_rule rules t f r u h k e =
+    let m : f.0 - 0 ≡ f.0 = omega arith in
+    ap (option_map (λ a. instantiated a 0 (set_rule r).rule.right)) ((first_some 0 (set_rules rules) t f h).1 (set_rule r) (ap (slice_get (set_rules rules)) m ∙ at_number rules f.0 r k)).1 ∙ ap Some (sym e)
+
+given_number : (rules : List SetRule) (i : ℕ) (r : SetRule) → slice_get rules i ≡ Some r → slice_get (set_givens rules) i ≡ Some (set_given r)
+given_number rules i r e = got set_given rules i r e
+
+pub found_given : (rules : List SetRule) (i : ℕ) (r : SetRule) → slice_get rules i ≡ Some r → IsGivenIn (set_givens rules) (set_given r)
+found_given rules i r e = (i, given_number rules i r e)
 
 -- ---- types
-instance_type : (a : InstanceValue) (p : Nameless) (s : TypeTree) → IsWellTyped a → nameless_type [] p ≡ Some s → nameless_type [] (instantiated a 0 p) ≡ Some (type_subst a.types s)
+pub instance_type : (a : InstanceValue) (p : Nameless) (s : TypeTree) → IsWellTyped a → nameless_type [] p ≡ Some s → nameless_type [] (instantiated a 0 p) ≡ Some (type_subst a.types s)
 instance_type a p s w e = subst_type a.terms [] 0 (types_inst a.types p) w ∙ inst_type a.types [] p s e
 
 -- it has the term's type
@@ -242,4 +257,4 @@ found_type rules t u f r h k e =
     ∙ sym (instance_type f.1 h.entry.rule.left h.typed.0 h.matches.typed h.typed.1)
     ∙ sym (strip_type [] (instantiated f.1 0 h.entry.rule.left)) ∙ ap (nameless_type []) h.matches.gives ∙ strip_type [] (nameless [] t) ∙ type_outside t
 
-pub ruleset contracting = (first_none, rule_there, found_contracts, found_type)
+pub ruleset contracting = (first_none, rule_there, found_contracts, found_rule, found_given, found_type)

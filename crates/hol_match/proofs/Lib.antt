@@ -6,8 +6,15 @@ pub mod MatchLaws
 pub mod Holding
 pub mod Staying
 pub mod Opened
+pub mod FreshNames
+pub mod RuleLists
+pub mod OrderedHyps
+pub mod Ways
+pub mod Keeping
 pub mod RuleSets
-pub mod ApartHeads
+pub mod Outlines
 pub mod Under
 pub mod Contracta
 pub mod Apartness
+pub mod Standing
+pub mod Formulas

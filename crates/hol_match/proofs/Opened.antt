@@ -1,5 +1,5 @@
 -- Taking quantifiers and conjunctions apart: what an opened body is, and that parts have fewer nodes.
-use Rattle.std.proofs.Common.{◌≡◌, ℕ, ◌+◌, ◌-◌, ◌<◌, List, [], ◌∷◌, ◌++◌, refl, sym, ap, ◌∙◌, Bool, true, false, cond, nat_lt, ◌==◌, codes, Some, None, unwrap_or, arith}
+use Rattle.std.proofs.Common.{◌≡◌, ℕ, ◌+◌, ◌-◌, ◌<◌, List, [], ◌∷◌, refl, sym, ap, ◌∙◌, subst, Bool, true, false, cond, nat_lt, ◌==◌, codes, Some, None, unwrap_or, arith}
 use Rattle.hol_types.specs.Tree.{TypeTree}
 use Rattle.hol_types.specs.Equal.{variable_eq}
 use Rattle.hol_terms.specs.Named.{Named, named_type}
@@ -16,16 +16,8 @@ use Rattle.hol_subst.proofs.Opening.{open_close_subst}
 use Rattle.hol_formulas.specs.Formula.{Abstraction, is_constant, quantifier_type, connective_type, dest_forall, dest_conj}
 use Rattle.hol_formulas.specs.Making.{mk_forall}
 use Rattle.std.specs.Option.{option_map}
-use Rattle.hol_match.specs.declared.rule.Rule.{Rule}
-use Rattle.hol_match.specs.RuleView.{rule_value, rule_values}
-use Rattle.hol_match.specs.Rules.{IsOpened, generalized}
-
-abbrev pub nodes : Nameless → ℕ
-nodes (free v) = 1
-nodes (bound i) = 1
-nodes (fixed c s) = 1
-nodes (app f x) = 1 + nodes f + nodes x
-nodes (lam a s b) = 1 + nodes b
+use Rattle.hol_match.specs.Rules.{generalized, nodes}
+use Rattle.hol_match.specs.Opening.{IsOpenedAt}
 
 pub nodes_opened : (u : List ℕ × TypeTree) (k : ℕ) (n : Nameless) → nodes (open_with (free u) k n) ≡ nodes n
 nodes_opened u k (free w) = refl
@@ -39,7 +31,7 @@ nodes_opened u k (fixed c s) = refl
 nodes_opened u k (app f x) = λ i. 1 + nodes_opened u k f i + nodes_opened u k x i
 nodes_opened u k (lam a s b) = λ i. 1 + nodes_opened u (k + 1) b i
 
-body_smaller : (p : Nameless) (x : Abstraction) → dest_forall p ≡ Some x → nodes x.body < nodes p
+pub body_smaller : (p : Nameless) (x : Abstraction) → dest_forall p ≡ Some x → nodes x.body < nodes p
 body_smaller (free v) x e = absurd (cc)
 body_smaller (bound i) x e = absurd (cc)
 body_smaller (fixed c s) x e = absurd (cc)
@@ -78,8 +70,8 @@ left_smaller p q e = (parts_smaller p q e).0
 pub right_smaller : (p : Nameless) (q : Nameless × Nameless) → dest_conj p ≡ Some q → nodes q.1 < nodes p
 right_smaller p q e = (parts_smaller p q e).1
 
-pub opened_smaller : (hyps : List Nameless) (p n : Nameless) (x : Abstraction) → dest_forall p ≡ Some x → IsOpened hyps p x n → nodes n < nodes p
-opened_smaller hyps p n x e o = omega (arith, body_smaller p x e, ap nodes o.is, nodes_opened o.variable 0 x.body)
+pub opened_smaller : (hyps : List Nameless) (p n : Nameless) (x : Abstraction) (v : List ℕ × TypeTree) → dest_forall p ≡ Some x → IsOpenedAt hyps p x v n → nodes n < nodes p
+opened_smaller hyps p n x v e o = omega (arith, body_smaller p x e, ap nodes o.is, nodes_opened v 0 x.body)
 
 pub ruleset smaller = (left_smaller, right_smaller, opened_smaller)
 
@@ -101,21 +93,22 @@ renamed_type u v t b e h = sym (type_outside t) ∙ ap (nameless_type []) h ∙ 
         by true q = ap Some (e ∙ ap (λ x. x.1) ((variable_eq_decides v w).0 q))
         by false q = refl
 
-pub opened_same : (hyps : List Nameless) (p : Nameless) (v : List ℕ × TypeTree) (b t : Named) (a : List ℕ) → is_taken (p ∷ hyps) a ≡ false → a ≡ v.0 → t ≡ b → IsOpened hyps p (record { base = base_of v.0; domain = v.1; body = nameless (v ∷ []) b }) (nameless [] t)
-opened_same hyps p v b t a e f g = record {
-  variable = v;
-  typed = refl;
-  unused = ap (is_taken (p ∷ hyps)) (sym f) ∙ e;
-  is = ap (nameless []) g ∙ own_variable v b;
+pub opened_same : (hyps : List Nameless) (p : Nameless) (v u : List ℕ × TypeTree) (b t : Named) (a : List ℕ) → IsFreeName (p ∷ hyps) (base_of v.0) a → a ≡ v.0 → u ≡ v → t ≡ b → IsOpenedAt hyps p (record { base = base_of v.0; domain = v.1; body = nameless (v ∷ []) b }) u (nameless [] t)
+opened_same hyps p v u b t a e f h g = record {
+  typed = ap (λ w. w.1) h;
+  named = subst (λ b. IsFreeName (p ∷ hyps) (base_of v.0) b) (f ∙ ap (λ w. w.0) (sym h)) e;
+  is = ap (nameless []) g ∙ own_variable v b ∙ ap (λ w. open_with (free w) 0 (nameless (v ∷ []) b)) (sym h);
 }
 
-pub opened_renamed : (hyps : List Nameless) (p n : Nameless) (v u : List ℕ × TypeTree) (b : Named) (a : List ℕ) → is_taken (p ∷ hyps) a ≡ false → u ≡ (a, v.1) → n ≡ open_with (free u) 0 (nameless (v ∷ []) b) → IsOpened hyps p (record { base = base_of v.0; domain = v.1; body = nameless (v ∷ []) b }) n
+pub opened_renamed : (hyps : List Nameless) (p n : Nameless) (v u : List ℕ × TypeTree) (b : Named) (a : List ℕ) → IsFreeName (p ∷ hyps) (base_of v.0) a → u ≡ (a, v.1) → n ≡ open_with (free u) 0 (nameless (v ∷ []) b) → IsOpenedAt hyps p (record { base = base_of v.0; domain = v.1; body = nameless (v ∷ []) b }) u n
 opened_renamed hyps p n v u b a e f g = record {
-  variable = u;
   typed = ap (λ w. w.1) f;
-  unused = ap (λ w. is_taken (p ∷ hyps) w.0) f ∙ e;
+  named = subst (λ b. IsFreeName (p ∷ hyps) (base_of v.0) b) (ap (λ w. w.0) (sym f)) e;
   is = g;
 }
+
+pub named_apart : (avoid terms : List Nameless) (b base a : List ℕ) → avoid ≡ terms → b ≡ base → IsFreeName avoid b a → IsFreeName terms base a
+named_apart avoid terms b base a e f h = subst (λ c. IsFreeName terms c a) f (subst (λ ts. IsFreeName ts b a) e h)
 
 pub not_taken : (avoid : List Nameless) (base a : List ℕ) → IsFreeName avoid base a → is_taken avoid a ≡ false
 not_taken avoid base a h = by (is_taken avoid a) refl
@@ -128,14 +121,5 @@ not_taken avoid base a h = by (is_taken avoid a) refl
 
 pub generalized_more : (v : List ℕ × TypeTree) (vs : List (List ℕ × TypeTree)) (b t : Named) → t ≡ mk_forall v b → generalized (v ∷ vs) (nameless [] b) ≡ generalized vs (nameless [] t)
 generalized_more v vs b t e = ap (generalized vs) (sym (ap (nameless []) e ∙ ap (app (fixed (codes "!") (quantifier_type v.1))) (nameless_abs v b)))
-
--- ---- lists of rules
-
-values_more : (rules : List Rule) (r : Rule) → rule_values (rules ++ r ∷ []) ≡ rule_values rules ++ rule_value r ∷ []
-values_more [] r = refl
-values_more (s ∷ rules) r = λ i. rule_value s ∷ values_more rules r i
-
-pub values_added : (rules new : List Rule) (m r : Rule) → new ≡ rules ++ m ∷ [] → rule_value m ≡ rule_value r → rule_values new ≡ rule_values rules ++ rule_value r ∷ []
-values_added rules new m r e f = ap rule_values e ∙ values_more rules m ∙ ap (λ x. rule_values rules ++ x ∷ []) f
 
 pub ruleset opening = (opened_same, opened_renamed)

@@ -1,6 +1,8 @@
 -- Sets of rules: what one theorem adds, and the match of a rule.
 use Rattle.std.proofs.Common.{◌≡◌, ℕ, zero, suc, ◌+◌, ◌<◌, ◌≤◌, List, [], ◌∷◌, ◌++◌, map, length, drop, get_or, slice_get, refl, sym, ap, ◌∙◌, subst, Some, None, arith}
 use Rattle.std.specs.Option.{option_map}
+use Rattle.std.specs.List.{AllByRecursion}
+use Rattle.std.specs.List.Sorted.{IsStrictlySortedBy}
 use Rattle.hol_types.specs.Tree.{TypeTree}
 use Rattle.hol_terms.specs.Named.{Named, named_type}
 use Rattle.hol_terms.proofs.Typing.{type_outside}
@@ -9,24 +11,32 @@ use Rattle.std.proofs.lemmas.List.{drop_all}
 use Rattle.hol_types.proofs.Steps.{next_of}
 use Rattle.hol_kernel.specs.Given.{Given, given_sequent}
 use Rattle.hol_kernel.specs.Sequent.{Sequent}
+use Rattle.hol_match.specs.Listed.{listed}
 use Rattle.hol_match.specs.Instance.{InstanceValue, instance_of, both}
 use Rattle.hol_match.specs.Matching.{matched}
 use Rattle.hol_match.specs.Fixed.{stays_of}
-use Rattle.hol_subst.specs.Hypotheses.{hyps_of}
-use Rattle.hol_match.specs.Rules.{RuleValue, AreRulesOf}
+use Rattle.hol_subst.specs.AlphaOrder.{nameless_cmp}
+use Rattle.hol_subst.specs.Hypotheses.{hyp_of, hyps_of}
+use Rattle.hol_subst.proofs.HypothesisLists.{ordered_one}
+use Rattle.hol_match.specs.Rules.{RuleValue, rules_of}
 use Rattle.hol_match.specs.Fixed.{stays}
 use Rattle.hol_match.specs.Matches.{IsMatch}
-use Rattle.hol_match.specs.RuleSets.{RuleEntry, AreEntries, IsTypedRule, IsFit, entries, beside, fit}
+use Rattle.hol_match.specs.RuleSets.{RuleEntry, rule_entries, IsTypedRule, IsFit, entries, beside, fit}
 use Rattle.hol_match.specs.declared.set_rule.SetRule.{SetRule}
-use Rattle.hol_match.specs.SetView.{set_rule, set_rules, Adds}
+use Rattle.hol_match.specs.SetView.{set_rule, set_rules, set_given, set_givens, AreOf, AreGivenIn, Adds, AddsFrom}
+use Rattle.hol_match.specs.declared.rule.Rule.{Rule}
+use Rattle.hol_match.specs.declared.source.Source.{Source}
+use Rattle.hol_match.specs.Ways.{rule_way, rule_ways}
+use Rattle.hol_match.specs.Sources.{IsFrom}
 use Rattle.hol_match.proofs.Lookups.{append_assoc}
+use Rattle.hol_match.proofs.OrderedHyps.{stays_same, rules_same}
 use Rattle.hol_match.proofs.Staying.{most_general}
 
 after_all : {A : Type 0} (xs ys : List A) → drop (length xs) (xs ++ ys) ≡ ys
 after_all [] ys = refl
 after_all (x ∷ xs) ys = after_all xs ys
 
-beside_both : (s a : InstanceValue) → beside s (both s a) ≡ a
+pub beside_both : (s a : InstanceValue) → beside s (both s a) ≡ a
 beside_both s a = λ i. instance_of (after_all s.types a.types i) (after_all s.terms a.terms i)
 
 pub fit_found : (e : RuleEntry) (t : Nameless) (a : InstanceValue) → matched 0 e.rule.left e.stays t ≡ Some (both e.stays a) → fit e t ≡ Some a
@@ -36,8 +46,8 @@ pub fit_none : (e : RuleEntry) (t : Nameless) → matched 0 e.rule.left e.stays 
 fit_none e t h = ap (option_map (beside e.stays)) h
 
 -- what is found of a rule is a match
-pub fit_match : (r : SetRule) (t : Nameless) (a : InstanceValue) → matched 0 (set_rule r).rule.left (stays r.fixed.value) t ≡ Some (both (stays r.fixed.value) a) → IsMatch (set_rule r).stays (set_rule r).rule.left t a
-fit_match r t a h = (most_general r.fixed.value.names.items r.fixed.value.variables.items (set_rule r).rule.left t a h).fits
+pub fit_match : (r : SetRule) (t : Nameless) (a : InstanceValue) → matched 0 (set_rule r).rule.left (stays r.source.value.fixed) t ≡ Some (both (stays r.source.value.fixed) a) → IsMatch (set_rule r).stays (set_rule r).rule.left t a
+fit_match r t a h = (most_general r.source.value.fixed.names.items r.source.value.fixed.variables.items (set_rule r).rule.left t a h).fits
 
 pub ruleset fitting = (fit_found, fit_none, fit_match)
 
@@ -55,38 +65,62 @@ is_fit rules t i r a l e h m = record { entry = set_rule r; is = entry_at rules 
 
 -- the rules es are there, and those of the rest are all that is missing
 abbrev pub Goes : List Sequent → ℕ → List Sequent → List RuleEntry → Type 0
-Goes all i rest es = (more : List RuleEntry) → AreEntries i rest more → AreEntries 0 all (es ++ more)
+Goes all i rest es = rule_entries 0 all ≡ es ++ rule_entries i rest
 
 pub goes_first : (all : List Given) → Goes (map given_sequent all) 0 (map given_sequent (drop 0 all)) []
-goes_first [] more h = h
-goes_first (g ∷ all) more h = h
+goes_first [] = refl
+goes_first (g ∷ all) = refl
 
 pub goes_next : (thms : List Given) (all : List Sequent) (es new : List RuleEntry) (i : ℕ) (g : Given) → i < length thms → g ≡ get_or thms i g → Goes all i (map given_sequent (drop i thms)) es → Adds i (given_sequent g) es new → Goes all (i + 1) (map given_sequent (drop (i + 1) thms)) new
-goes_next thms all es new i g l e h a = λ more k.
-    let whole : AreEntries i (map given_sequent (g ∷ drop (i + 1) thms)) (a.own ++ more) = (a.own, more, a.are, k, refl) in
-    let moved : AreEntries i (map given_sequent (drop i thms)) (a.own ++ more) = subst (λ ts. AreEntries i (map given_sequent ts) (a.own ++ more)) (sym (next_of thms i g l e)) whole in
-    subst (AreEntries 0 all) (sym (ap (λ xs. xs ++ more) a.is ∙ append_assoc es a.own more)) (h (a.own ++ more) moved)
+goes_next thms all es new i g l e h a =
+    let s = given_sequent g in
+    let rest = rule_entries (i + 1) (map given_sequent (drop (i + 1) thms)) in
+    h ∙ ap (λ ts. es ++ rule_entries i (map given_sequent ts)) (next_of thms i g l e)
+    ∙ sym (append_assoc es (entries i 0 (stays_of (listed s.hyps)) (rules_of (listed s.hyps) s.concl)) rest) ∙ ap (λ xs. xs ++ rest) (sym a)
 
 append_nothing : {A : Type 0} (xs : List A) → xs ++ [] ≡ xs
 append_nothing [] = refl
 append_nothing (x ∷ xs) = λ i. x ∷ append_nothing xs i
 
-pub goes_last : (all : List Sequent) (thms : List Given) (i : ℕ) (es : List RuleEntry) → length thms ≤ i → Goes all i (map given_sequent (drop i thms)) es → AreEntries 0 all es
-goes_last all thms i es l h = subst (AreEntries 0 all) (append_nothing es) (h [] (subst (λ ts. AreEntries i (map given_sequent ts) []) (sym (drop_all i thms l)) refl))
+pub goes_last : (all : List Sequent) (thms : List Given) (i : ℕ) (es : List RuleEntry) → length thms ≤ i → Goes all i (map given_sequent (drop i thms)) es → es ≡ rule_entries 0 all
+goes_last all thms i es l h = sym (h ∙ ap (λ ts. es ++ rule_entries i (map given_sequent ts)) (drop_all i thms l) ∙ append_nothing es)
 
 pub ruleset going = (goes_first, goes_next, goes_last)
 
 -- ---- what one theorem adds
+pub one_ordered : (ps : List Named) (p : Named) → ps ≡ p ∷ [] → IsStrictlySortedBy nameless_cmp (map hyp_of ps)
+one_ordered = ordered_one
 
-pub adds : (i : ℕ) (s : Sequent) (before after : List RuleEntry) (hyps : List Named) (p : Nameless) (rules : List RuleValue) (stay : InstanceValue) → hyps_of hyps ≡ s.hyps → p ≡ s.concl → AreRulesOf (map (λ t. nameless [] t) hyps) p rules → stay ≡ stays_of (map (λ t. nameless [] t) hyps) → after ≡ before ++ entries i 0 stay rules → Adds i s before after
-adds i s before after hyps p rules stay h c r e a = record {
-  own = entries i 0 stay rules;
-  are = record {
-    hyps = hyps;
-    are_hyps = h;
-    rules = rules;
-    are_rules = subst (λ q. AreRulesOf (map (λ t. nameless [] t) hyps) q rules) c r;
-    are_entries = ap (λ st. entries i 0 st rules) e;
-  };
-  is = a;
-}
+pub adds : (i : ℕ) (s : Sequent) (before after : List RuleEntry) (hyps : List Named) (p : Nameless) (rules : List RuleValue) (stay : InstanceValue) → hyps_of hyps ≡ s.hyps → IsStrictlySortedBy nameless_cmp (map hyp_of hyps) → p ≡ s.concl → rules ≡ rules_of (map (λ t. nameless [] t) hyps) p → stay ≡ stays_of (map (λ t. nameless [] t) hyps) → after ≡ before ++ entries i 0 stay rules → Adds i s before after
+adds i s before after hyps p rules stay h o c r e a =
+    let stays_are : stay ≡ stays_of (listed s.hyps) = e ∙ stays_same hyps s.hyps h o in
+    let rules_are : rules ≡ rules_of (listed s.hyps) s.concl = r ∙ rules_same hyps s.hyps p h o ∙ ap (rules_of (listed s.hyps)) c in
+    a ∙ (λ k. before ++ entries i 0 (stays_are k) (rules_are k))
+
+-- ---- what the rules were made of
+
+-- one of the rules
+pub way_at : (s : Source) (rules : List Rule) (i : ℕ) (r : Rule) → AllByRecursion (IsFrom s) (rule_ways rules) → i < length rules → r ≡ get_or rules i r → IsFrom s (rule_way r)
+way_at s [] i r h l e = absurd (omega (arith, l))
+way_at s (x ∷ rules) zero r h l e = subst (λ z. IsFrom s (rule_way z)) (sym e) h.0
+way_at s (x ∷ rules) (suc i) r h l e = way_at s rules i r h.1 (omega (arith, l)) e
+
+pub given_pushed : (all : List Given) (rules new : List SetRule) (r : SetRule) (i : ℕ) (g : Given) (own : RuleValue) (place : ℕ) (stay : InstanceValue) → new ≡ rules ++ r ∷ [] → set_rule r ≡ record { rule = own; theorem = i; place = place; stays = stay } → set_given r ≡ g → slice_get all i ≡ Some g → AreOf all rules → AreOf all new
+given_pushed all rules new r i g own place stay e entry is at h = subst (AreOf all) (sym e) (more rules h)
+  where
+    more : (rs : List SetRule) → AreOf all rs → AreOf all (rs ++ r ∷ [])
+    more [] k = (ap (λ (z : RuleEntry). slice_get all z.theorem) entry ∙ at ∙ ap (λ x. Some x) (sym is), tt)
+    more (x ∷ rs) k = (k.0, more rs k.1)
+
+given_at : (all : List Given) (i : ℕ) (g : Given) → i < length all → g ≡ get_or all i g → slice_get all i ≡ Some g
+given_at [] i g l e = absurd (omega (arith, l))
+given_at (x ∷ all) zero g l e = ap (λ y. Some y) (sym e)
+given_at (x ∷ all) (suc i) g l e = given_at all i g (omega (arith, l)) e
+
+pub given_more : (all : List Given) (i : ℕ) (g : Given) (before after : List SetRule) → i < length all → g ≡ get_or all i g → AddsFrom i g before after → AreOf all before → AreOf all after
+given_more all i g before after l e a h = a all (given_at all i g l e) h
+
+-- each of them is one of those that were given
+pub all_given : (all : List Given) (rules : List SetRule) → AreOf all rules → AreGivenIn all (set_givens rules)
+all_given all [] h = tt
+all_given all (r ∷ rules) h = ((r.theorem, h.0), all_given all rules h.1)

@@ -153,7 +153,7 @@ stay_holds names vs = (own_types_hold [] names, own_terms_hold [] vs)
 abbrev joint : List (List ℕ) → List (List ℕ × TypeTree) → InstanceValue → InstanceValue
 joint names vs a = both (staying names vs) a
 
-joint_holds : (names : List (List ℕ)) (vs : List (List ℕ × TypeTree)) (p t : Nameless) (a : InstanceValue) → matched 0 p (staying names vs) t ≡ Some (joint names vs a) → Holds (joint names vs a)
+pub joint_holds : (names : List (List ℕ)) (vs : List (List ℕ × TypeTree)) (p t : Nameless) (a : InstanceValue) → matched 0 p (staying names vs) t ≡ Some (joint names vs a) → Holds (joint names vs a)
 joint_holds names vs p t a e = subst HoldsIn e (matched_holds 0 p (staying names vs) t (stay_holds names vs))
 
 joint_tells : (names : List (List ℕ)) (vs : List (List ℕ × TypeTree)) (p t : Nameless) (a : InstanceValue) → matched 0 p (staying names vs) t ≡ Some (joint names vs a) → Tells (λ σ. Makes σ 0 p t) (staying names vs) (Some (joint names vs a))
@@ -162,7 +162,7 @@ joint_tells names vs p t a e = subst (Tells (λ σ. Makes σ 0 p t) (staying nam
 types_as : (names : List (List ℕ)) (vs : List (List ℕ × TypeTree)) (a : InstanceValue) → Holds (joint names vs a) → (x : List ℕ) → type_for (joint names vs a).types x ≡ type_for a.types x
 types_as names vs a h x = type_alone names a.types x (types_after (joint names vs a).types (staying names vs).types a.types h.0)
 
-terms_after : (names : List (List ℕ)) (vs : List (List ℕ × TypeTree)) (a : InstanceValue) → Holds (joint names vs a) → TermsHold (joint names vs a).terms a.terms
+pub terms_after : (names : List (List ℕ)) (vs : List (List ℕ × TypeTree)) (a : InstanceValue) → Holds (joint names vs a) → TermsHold (joint names vs a).terms a.terms
 terms_after names vs a h = hold_after (joint names vs a).terms (staying names vs).terms a.terms h.1
 
 terms_as : (names : List (List ℕ)) (vs : List (List ℕ × TypeTree)) (a : InstanceValue) → Holds (joint names vs a) → (x : List ℕ × TypeTree) → term_for (joint names vs a).terms x ≡ term_for a.terms x

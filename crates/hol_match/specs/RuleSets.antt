@@ -1,17 +1,16 @@
 -- The rules of some theorems, each with the number of its theorem and its place among that theorem's rules, and the first one that fits a term.
 -- Source: this project.
-use Rattle.std.specs.Prelude.{◌≡◌, ℕ, ◌+◌, List, [], ◌∷◌, ◌++◌, map, length, drop, Option, Some, None, slice_get}
+use Rattle.std.specs.Prelude.{◌≡◌, ℕ, ◌+◌, List, [], ◌∷◌, ◌++◌, length, drop, Option, Some, None, slice_get}
 use Rattle.std.specs.Option.{option_map}
 use Rattle.hol_types.specs.Tree.{TypeTree}
-use Rattle.hol_terms.specs.Named.{Named}
-use Rattle.hol_terms.specs.Nameless.{Nameless, nameless, nameless_type}
-use Rattle.hol_subst.specs.Hypotheses.{hyps_of}
+use Rattle.hol_terms.specs.Nameless.{Nameless, nameless_type}
 use Rattle.hol_kernel.specs.Sequent.{Sequent}
+use Rattle.hol_match.specs.Listed.{listed}
 use Rattle.hol_match.specs.Instance.{InstanceValue, instance_of}
 use Rattle.hol_match.specs.Fixed.{stays_of}
 use Rattle.hol_match.specs.Matching.{matched_under}
 use Rattle.hol_match.specs.Matches.{IsMatch}
-use Rattle.hol_match.specs.Rules.{RuleValue, AreRulesOf}
+use Rattle.hol_match.specs.Rules.{RuleValue, rules_of}
 
 -- a rule, its theorem's number, its place among that theorem's rules, and what of its left side stays
 pub record RuleEntry : Type 0 where
@@ -29,18 +28,10 @@ abbrev pub entries : ℕ → ℕ → InstanceValue → List RuleValue → List R
 entries i k s [] = []
 entries i k s (r ∷ rules) = record { rule = r; theorem = i; place = k; stays = s } ∷ entries i (k + 1) s rules
 
--- these are the rules of the sequent of number i, its hypotheses being taken in some order
-pub record AreEntriesOf (i : ℕ) (s : Sequent) (es : List RuleEntry) : Type 0 where
-  pub hyps : List Named
-  pub are_hyps : hyps_of hyps ≡ s.hyps
-  pub rules : List RuleValue
-  pub are_rules : AreRulesOf (map (λ t. nameless [] t) hyps) s.concl rules
-  pub are_entries : es ≡ entries i 0 (stays_of (map (λ t. nameless [] t) hyps)) rules
-
--- these are the rules of the sequents, in order, the first sequent having number i
-abbrev pub AreEntries : ℕ → List Sequent → List RuleEntry → Type 0
-AreEntries i [] es = es ≡ []
-AreEntries i (s ∷ sequents) es = (own : List RuleEntry) × (rest : List RuleEntry) × AreEntriesOf i s own × AreEntries (i + 1) sequents rest × (es ≡ own ++ rest)
+-- the rules of the sequents, in order, the first sequent having number i
+abbrev pub rule_entries : ℕ → List Sequent → List RuleEntry
+rule_entries i [] = []
+rule_entries i (s ∷ sequents) = entries i 0 (stays_of (listed s.hyps)) (rules_of (listed s.hyps) s.concl) ++ rule_entries (i + 1) sequents
 
 -- ---- the first rule that fits
 

@@ -1,18 +1,18 @@
 -- The rules of a theorem, by which terms are rewritten.
 -- Source: this project. HOL Light's simp.ml (mk_rewrites) takes a theorem apart in the same way; conditions and orders are left out here.
-use Rattle.std.specs.Prelude.{◌≡◌, ℕ, List, [], ◌∷◌, ◌++◌, Bool, false, cond, not, ◌&&◌, ◌||◌, Option, Some, None, unwrap_or}
+use Rattle.std.specs.Prelude.{ℕ, zero, suc, ◌+◌, List, [], ◌∷◌, ◌++◌, Bool, cond, not, ◌&&◌, ◌||◌, Option, Some, None, unwrap_or}
 use Rattle.std.specs.Option.{option_and_then}
 use Rattle.std.specs.List.{list_all, filter}
 use Rattle.hol_types.specs.Tree.{TypeTree}
 use Rattle.hol_types.specs.Names.{is_among}
-use Rattle.hol_terms.specs.Nameless.{Nameless, free, free_occurrences, base_of}
+use Rattle.hol_terms.specs.Nameless.{Nameless, free, bound, fixed, app, lam, free_occurrences, base_of}
 use Rattle.hol_terms.specs.Scoped.{binds, add_all}
 use Rattle.hol_subst.specs.TermTyvars.{term_tyvars}
 use Rattle.hol_subst.specs.Closing.{close, open_with}
-use Rattle.hol_subst.specs.FreeName.{is_taken}
 use Rattle.hol_formulas.specs.Equation.{Sides, dest_eq}
 use Rattle.hol_formulas.specs.Formula.{Abstraction, truth, falsity, universal, dest_forall, dest_conj, dest_neg}
 use Rattle.hol_match.specs.Fixed.{fixed_names, fixed_variables}
+use Rattle.hol_match.specs.FreeNames.{free_name}
 
 -- the left side is rewritten to the right side
 pub record RuleValue : Type 0 where
@@ -50,19 +50,37 @@ single_rule names variables p = unwrap_or (option_and_then (equation_rule names 
 
 -- ---- all rules
 
--- n is the body of x, which p quantifies over, with its variable called by a name that no free variable or constant of p and the hypotheses has
-pub record IsOpened (hyps : List Nameless) (p : Nameless) (x : Abstraction) (n : Nameless) : Type 0 where
-  pub variable : List ℕ × TypeTree
-  pub typed : variable.1 ≡ x.domain
-  pub unused : is_taken (p ∷ hyps) variable.0 ≡ false
-  pub is : n ≡ open_with (free variable) 0 x.body
+-- the variable of x, called by its base name with the fewest primes that make it the name of no free variable and no constant of the terms
+abbrev pub apart : List Nameless → Abstraction → List ℕ × TypeTree
+apart avoid x = (free_name avoid x.base, x.domain)
 
--- The rules of p beside hypotheses, in order, where all pattern variables of p are bound by its outer quantifiers: these are taken off, and
--- conjunctions give the rules of their parts, both repeatedly.
-pub data HasRules (hyps : List Nameless) : Nameless → List RuleValue → Type 0 where
-  of_body : (p : Nameless) (x : Abstraction) (n : Nameless) (rules : List RuleValue) → dest_forall p ≡ Some x → IsOpened hyps p x n → HasRules hyps n rules → HasRules hyps p rules
-  of_parts : (p : Nameless) (q : Nameless × Nameless) (first second rules : List RuleValue) → dest_conj p ≡ Some q → HasRules hyps q.0 first → HasRules hyps q.1 second → rules ≡ first ++ second → HasRules hyps p rules
-  of_itself : (p : Nameless) (rules : List RuleValue) → dest_forall p ≡ None → dest_conj p ≡ None → rules ≡ single_rule (fixed_names [] hyps) (fixed_variables [] hyps) p ∷ [] → HasRules hyps p rules
+-- the body at it
+abbrev pub body_apart : List Nameless → Abstraction → Nameless
+body_apart avoid x = open_with (free (apart avoid x)) 0 x.body
+
+-- the rules of p beside hypotheses: those of what it quantifies over, or of its parts in order, or its own
+abbrev pub rules_by : (Nameless → List RuleValue) → List Nameless → Nameless → Option Abstraction → Option (Nameless × Nameless) → List RuleValue
+rules_by f hyps p (Some x) parts = f (body_apart (p ∷ hyps) x)
+rules_by f hyps p None (Some q) = f q.0 ++ f q.1
+rules_by f hyps p None None = single_rule (fixed_names [] hyps) (fixed_variables [] hyps) p ∷ []
+
+-- in at most so many steps
+abbrev pub rules_in : ℕ → List Nameless → Nameless → List RuleValue
+rules_in zero hyps p = []
+rules_in (suc n) hyps p = rules_by (λ q. rules_in n hyps q) hyps p (dest_forall p) (dest_conj p)
+
+-- variables, constants, applications and abstractions
+abbrev pub nodes : Nameless → ℕ
+nodes (free v) = 1
+nodes (bound i) = 1
+nodes (fixed c s) = 1
+nodes (app f x) = 1 + nodes f + nodes x
+nodes (lam a s b) = 1 + nodes b
+
+-- The rules of p, where all pattern variables of p are bound by its outer quantifiers: these are taken off, and conjunctions give the
+-- rules of their parts, both repeatedly. No more steps are needed than p has nodes: RuleLaws.antt.
+abbrev pub rules_under : List Nameless → Nameless → List RuleValue
+rules_under hyps p = rules_in (nodes p) hyps p
 
 -- p, generalized over each of the variables in turn
 abbrev pub generalized : List (List ℕ × TypeTree) → Nameless → Nameless
@@ -74,5 +92,5 @@ abbrev pub pattern_variables : List (List ℕ × TypeTree) → Nameless → List
 pattern_variables variables p = filter (λ v. not (binds variables v)) (add_all [] (free_occurrences p))
 
 -- the rules of a theorem are those of its conclusion, generalized over the variables that may be instantiated
-abbrev pub AreRulesOf : List Nameless → Nameless → List RuleValue → Type 0
-AreRulesOf hyps p rules = HasRules hyps (generalized (pattern_variables (fixed_variables [] hyps) p) p) rules
+abbrev pub rules_of : List Nameless → Nameless → List RuleValue
+rules_of hyps p = rules_under hyps (generalized (pattern_variables (fixed_variables [] hyps) p) p)

@@ -47,8 +47,8 @@ pub(crate) fn binder_apart(
     Ok(Binder { variable, body })
 }
 
-// The variable and the body as they are.
-fn kept(v: &Variable, body: &Term) -> Result<Binder, AllocError>
+/// The variable and the body as they are.
+pub(crate) fn kept(v: &Variable, body: &Term) -> Result<Binder, AllocError>
     ensures variable { IfOk result (λ o. o.variable ≡ v.now) }
     ensures body { IfOk result (λ o. o.body ≡ body.now) }
 {

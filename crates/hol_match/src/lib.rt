@@ -5,18 +5,23 @@
 
 mod binder;
 mod fixed;
-mod heads;
 mod instance;
 pub mod laws;
 mod matching;
+mod outline;
 mod rule;
 mod rule_set;
+mod rule_step;
 mod rules;
 mod set_rule;
+mod source;
 mod type_matching;
+mod way;
 
 pub use binder::Binder;
 pub use instance::Instance;
 pub use matching::term_match;
 pub use rule_set::RuleSet;
+pub use rule_step::RuleStep;
 pub use set_rule::SetRule;
+pub use way::{Way, WayNode};

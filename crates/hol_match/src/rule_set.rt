@@ -1,31 +1,36 @@
 //! Sets of rules, and the first one that fits a term.
 ghost use Rattle.std.specs.Prelude.{◌≡◌, ◌<◌, ◌++◌, [], map, length, IfOk, IfSome, OnOk, MatchOption, slice_get, Some, None};
+ghost use Rattle.std.specs.List.{AllByRecursion};
+ghost use Rattle.std.specs.List.Sorted.{IsStrictlySortedBy};
 ghost use Rattle.std.specs.Coded.{Coded-set, coded_list};
 ghost use Rattle.hol_terms.specs.Code.{coded_variable};
 ghost use Rattle.hol_terms.specs.Named.{abs, named_type};
 ghost use Rattle.hol_terms.specs.Nameless.{nameless};
+ghost use Rattle.hol_subst.specs.AlphaOrder.{nameless_cmp};
+ghost use Rattle.hol_subst.specs.Hypotheses.{hyp_of, hyps_of};
 ghost use Rattle.hol_kernel.specs.Given.{given_sequent};
-ghost use Rattle.hol_match.specs.RuleSets.{AreEntries, IsTypedRule, IsFit, entries, fit, first_fit};
-ghost use Rattle.hol_match.specs.Contracta.{contractum};
+ghost use Rattle.hol_match.specs.RuleSets.{rule_entries, IsTypedRule, IsFit, entries, fit, first_fit};
+ghost use Rattle.hol_match.specs.Contracta.{contracted, contractum};
 ghost use Rattle.hol_match.specs.Apart.{IsApart, rule_variables};
-ghost use Rattle.hol_match.specs.Heads.{head_place};
-ghost use Rattle.hol_match.specs.SetView.{set_rule, set_rules, Adds};
+ghost use Rattle.hol_match.specs.SetView.{set_rule, set_rules, set_given, set_givens, IsGivenIn, AreOf, Adds, AddsFrom};
 ghost use Rattle.hol_match.specs.RuleView.{rule_values};
+ghost use Rattle.hol_match.specs.Ways.{rule_ways};
+ghost use Rattle.hol_match.specs.Sources.{IsFrom};
 ghost use Rattle.hol_match.specs.Fixed.{stays};
 ghost use Rattle.hol_match.specs.Matches.{IsMatch};
 
 use crate::binder::{Binder, binder_apart, rule_variables};
-use crate::fixed::Fixed;
-use crate::heads::{head_place, may_match};
 use crate::instance::Instance;
 use crate::matching::match_with;
+use crate::outline::may_match;
 use crate::rule::Rule;
-use crate::rules::rules_of;
 use crate::set_rule::SetRule;
-use hol_kernel::Given;
+use crate::source::Source;
+use hol_kernel::{Given, GivenNode};
 use hol_terms::{Term, Variable};
 use std::alloc::{AllocError, Global};
 use std::rc::Rc;
+use std::slice;
 
 /// The rules of a list of theorems and assumed terms, in order.
 ///
@@ -42,7 +47,8 @@ pub struct RuleSet {
 impl RuleSet {
     /// The rules of the theorems, and of assumed terms `p`, which are read as `{p} |- p`.
     pub fn new(alloc: Global, thms: &[Given]) -> Result<RuleSet, AllocError>
-        ensures { IfOk result (λ set. AreEntries 0 (map given_sequent thms.now) (set_rules set.rules.items)) }
+        ensures rules { IfOk result (λ set. set_rules set.rules.items ≡ rule_entries 0 (map given_sequent thms.now)) }
+        ensures given { IfOk result (λ set. AreOf thms.now set.rules.items) }
     {
         let rules = all_rules(alloc, thms)?;
         let variables = rule_variables(alloc, &rules)?;
@@ -58,14 +64,20 @@ impl RuleSet {
         first_of(alloc, &self.rules, t)
     }
 
-    /// What the first rule that matches the term makes of it: the match of its right side.
+    /// The first rule that matches the term, and what it makes of it: the match of its right side.
     #[tactic(auto, using(crate::proofs::Contracta::contracting))]
-    pub fn contract(&self, alloc: Global, t: &Term) -> Result<Option<Term>, AllocError>
-        ensures is { IfOk result (λ found. MatchOption found (contractum [] (set_rules self.now.rules.items) (nameless [] t.now) ≡ None) (λ u. contractum [] (set_rules self.now.rules.items) (nameless [] t.now) ≡ Some (nameless [] u))) }
-        ensures typed { IfOk result (λ found. IfSome found (λ u. named_type u ≡ named_type t.now)) }
+    pub fn contract(&self, alloc: Global, t: &Term) -> Result<Option<(&SetRule, Term)>, AllocError>
+        ensures is { IfOk result (λ found. MatchOption found (contractum [] (set_rules self.now.rules.items) (nameless [] t.now) ≡ None) (λ c. contractum [] (set_rules self.now.rules.items) (nameless [] t.now) ≡ Some (nameless [] c.1))) }
+        ensures typed { IfOk result (λ found. IfSome found (λ c. named_type c.1 ≡ named_type t.now)) }
+        ensures rule { IfOk result (λ found. IfSome found (λ c. contracted [] (set_rule c.0.now) (nameless [] t.now) ≡ Some (nameless [] c.1))) }
+        ensures given { IfOk result (λ found. IfSome found (λ c. IsGivenIn (set_givens self.now.rules.items) (set_given c.0.now))) }
     {
         match self.find(alloc, t)? {
-            Some((i, found)) => Ok(Some(found.apply(alloc, self.rule(i).right())?)),
+            Some((i, found)) => {
+                let rule = self.rule(i);
+                let term = found.apply(alloc, rule.right())?;
+                Ok(Some((rule, term)))
+            }
             None => Ok(None),
         }
     }
@@ -109,39 +121,33 @@ fn first_of(
     ensures first { IfOk result (λ found. MatchOption found (first_fit 0 (set_rules rules.now) (nameless [] t.now) ≡ None) (λ f. first_fit 0 (set_rules rules.now) (nameless [] t.now) ≡ Some (f.0, f.1))) }
     ensures fits { IfOk result (λ found. IfSome found (λ f. IsFit (set_rules rules.now) (nameless [] t.now) (f.0, f.1))) }
 {
-    let head = head_place(t);
     for (i, rule) in rules.iter().enumerate() {
-        if let Some(found) = match_of(alloc, rule, head, t)? {
+        if let Some(found) = match_of(alloc, rule, t)? {
             return Ok(Some((i, found)));
         }
     }
     Ok(None)
 }
 
-// The match of the rule's left side with a term that begins with a constant of this place, or with none.
+// The match of the rule's left side with the term.
 #[tactic(auto, using(crate::proofs::RuleSets::fitting))]
-fn match_of(
-    alloc: Global,
-    rule: &SetRule,
-    head: Option<usize>,
-    t: &Term,
-) -> Result<Option<Instance>, AllocError>
-    requires { head ≡ head_place (nameless [] t.now) }
+fn match_of(alloc: Global, rule: &SetRule, t: &Term) -> Result<Option<Instance>, AllocError>
     ensures fit { IfOk result (λ found. MatchOption found (fit (set_rule rule.now) (nameless [] t.now) ≡ None) (λ a. fit (set_rule rule.now) (nameless [] t.now) ≡ Some a)) }
     ensures matches { IfOk result (λ found. IfSome found (λ a. IsMatch (set_rule rule.now).stays (set_rule rule.now).rule.left (nameless [] t.now) a)) }
     ensures typed { IsTypedRule (set_rule rule.now).rule }
 {
     let left = rule.left();
-    if !may_match(head_place(left), head) {
+    if !may_match(left, t) {
         return Ok(None);
     }
     match_with(alloc, rule.fixed(), left, t)
 }
 
 // The rules of the theorems.
-#[tactic(auto, using(crate::proofs::RuleSets::going))]
+#[tactic(auto, using(crate::proofs::RuleSets::going, crate::proofs::RuleSets::given_more))]
 fn all_rules(alloc: Global, thms: &[Given]) -> Result<Vec<SetRule>, AllocError>
-    ensures { IfOk result (λ all. AreEntries 0 (map given_sequent thms.now) (set_rules all.items)) }
+    ensures rules { IfOk result (λ all. set_rules all.items ≡ rule_entries 0 (map given_sequent thms.now)) }
+    ensures given { IfOk result (λ all. AreOf thms.now all.items) }
 {
     let mut all = Vec::new(alloc);
     for (i, given) in thms.iter().enumerate() {
@@ -158,27 +164,43 @@ fn add_theorem(
     i: usize,
     given: &Given,
 ) -> Result<(), AllocError>
-    ensures { OnOk result (Adds i (given_sequent given.now) (set_rules all.old.items) (set_rules all.new.items)) }
+    ensures adds { OnOk result (Adds i (given_sequent given.now) (set_rules all.old.items) (set_rules all.new.items)) }
+    ensures given { OnOk result (AddsFrom i given.now all.old.items all.new.items) }
 {
-    let (hyps, p) = (given.hyps(), given.concl());
-    let fixed = Fixed::of(alloc, hyps)?;
-    let rules = rules_of(alloc, hyps, &fixed, p)?;
-    let fixed = Rc::new(alloc, fixed)?;
-    add_rules(all, i, &fixed, &rules)?;
+    let hyps = hypotheses(given);
+    let source = Source::of(alloc, given, hyps)?;
+    let rules = source.rules(alloc, hyps)?;
+    let source = Rc::new(alloc, source)?;
+    add_rules(all, i, &source, &rules)?;
     Ok(())
 }
 
+// The hypotheses, in the order of their set.
+#[tactic(auto, using(crate::proofs::RuleSets::one_ordered))]
+fn hypotheses(given: &Given) -> &[Term]
+    ensures set { hyps_of result.now ≡ (given_sequent given.now).hyps }
+    ensures ordered { IsStrictlySortedBy nameless_cmp (map hyp_of result.now) }
+{
+    match given.node() {
+        GivenNode::Theorem(th) => th.hyps(),
+        GivenNode::Assumed(p) => slice::from_ref(p),
+    }
+}
+
 // Puts the rules at the end, as those of the theorem of number `theorem`.
+#[tactic(auto, using(crate::proofs::RuleSets::way_at, crate::proofs::RuleSets::given_pushed))]
 fn add_rules(
     all: &mut Vec<SetRule>,
     theorem: usize,
-    fixed: &Rc<Fixed>,
+    source: &Rc<Source>,
     rules: &[Rule],
 ) -> Result<(), AllocError>
-    ensures { OnOk result (set_rules all.new.items ≡ set_rules all.old.items ++ entries theorem 0 (stays fixed.now.value) (rule_values rules.now)) }
+    requires { AllByRecursion (IsFrom source.now.value) (rule_ways rules.now) }
+    ensures rules { OnOk result (set_rules all.new.items ≡ set_rules all.old.items ++ entries theorem 0 (stays source.now.value.fixed) (rule_values rules.now)) }
+    ensures given { OnOk result (AddsFrom theorem source.now.value.given all.old.items all.new.items) }
 {
     for (place, rule) in rules.iter().enumerate() {
-        let entry = SetRule::of(rule, theorem, place, fixed)?;
+        let entry = SetRule::of(rule, theorem, place, source)?;
         all.push(entry)?;
     }
     Ok(())

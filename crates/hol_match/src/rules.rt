@@ -1,27 +1,32 @@
 //! The rules of a theorem.
-ghost use Rattle.std.specs.Prelude.{◌≡◌, ◌∷◌, ◌++◌, ◌||◌, [], Some, false, map, not, IfOk, OnOk};
-ghost use Rattle.std.specs.List.{list_all, filter};
+ghost use Rattle.std.specs.Prelude.{◌≡◌, ◌∷◌, ◌++◌, ◌||◌, [], Some, map, not, IfOk, OnOk};
+ghost use Rattle.std.specs.List.{AllByRecursion, list_all, filter};
 ghost use Rattle.hol_types.specs.Names.{is_among};
 ghost use Rattle.hol_terms.specs.Named.{named_type};
 ghost use Rattle.hol_terms.specs.Nameless.{nameless, free, base_of};
 ghost use Rattle.hol_terms.specs.Scoped.{binds};
 ghost use Rattle.hol_subst.specs.Closing.{open_with};
-ghost use Rattle.hol_subst.specs.FreeName.{is_taken};
+ghost use Rattle.hol_subst.specs.FreeName.{IsFreeName};
 ghost use Rattle.hol_formulas.specs.Equation.{bool_type};
 ghost use Rattle.hol_formulas.specs.Formula.{Abstraction};
-ghost use Rattle.hol_match.specs.Rules.{is_given, is_determined, single_rule, IsOpened, HasRules, generalized, pattern_variables, AreRulesOf};
+ghost use Rattle.hol_match.specs.Rules.{is_given, is_determined, single_rule, rules_under, rules_of, generalized, pattern_variables};
 ghost use Rattle.hol_match.specs.RuleView.{rule_value, rule_values};
+ghost use Rattle.hol_match.specs.Ways.{rule_way, rule_ways, IsOnWay};
+ghost use Rattle.hol_match.specs.Opening.{IsOpenedAt, AreOnWay};
 ghost use Rattle.hol_match.specs.Fixed.{AreFixed};
 
+use crate::binder::{Binder, kept};
 use crate::fixed::{Fixed, has_name};
 use crate::rule::Rule;
+use crate::rule_step::RuleStep;
+use crate::way::Way;
 use hol_formulas::{dest_conj, dest_eq, dest_forall, dest_neg, mk_falsity, mk_forall, mk_truth};
 use hol_subst::{free_name, term_tyvars, vsubst_good};
-use hol_terms::{Term, Variable};
+use hol_terms::{Term, Variable, base_name};
 use hol_types::Name;
 use std::alloc::{AllocError, Global};
 
-/// The rules of a theorem with these hypotheses and this conclusion, in order.
+/// The rules of a theorem with these hypotheses and this conclusion, in order. The variables are those that may be instantiated.
 ///
 /// Outer quantifiers are taken off, and conjunctions give the rules of their parts, both repeatedly. A part `l = r` rewrites `l` to `r`,
 /// if `l` has each variable and type variable of `r` that is not of the hypotheses. `~p` rewrites `p` to `F`, and all else rewrites to
@@ -30,19 +35,26 @@ pub(crate) fn rules_of(
     alloc: Global,
     hyps: &[Term],
     fixed: &Fixed,
+    variables: &[Variable],
     p: &Term,
 ) -> Result<Vec<Rule>, AllocError>
     requires typed { named_type p.now ≡ Some bool_type }
     requires fixed { AreFixed (map (λ t. nameless [] t) hyps.now) fixed.now }
-    ensures { IfOk result (λ rules. AreRulesOf (map (λ t. nameless [] t) hyps.now) (nameless [] p.now) (rule_values rules.items)) }
+    requires variables { variables.now ≡ pattern_variables fixed.now.variables.items (nameless [] p.now) }
+    ensures are { IfOk result (λ rules. rule_values rules.items ≡ rules_of (map (λ t. nameless [] t) hyps.now) (nameless [] p.now)) }
+    ensures ways { IfOk result (λ rules. AllByRecursion (IsOnWay fixed.now.names.items fixed.now.variables.items (generalized variables.now (nameless [] p.now))) (rule_ways rules.items)) }
 {
-    let variables = pattern_variables(alloc, fixed, p)?;
-    let whole = generalized(alloc, &variables, p)?;
-    rules_in(alloc, hyps, fixed, &whole)
+    let whole = generalized(alloc, variables, p)?;
+    let way = Way::start(alloc)?;
+    rules_in(alloc, hyps, fixed, &whole, &way)
 }
 
-// The free variables of the conclusion that are not fixed.
-fn pattern_variables(alloc: Global, fixed: &Fixed, p: &Term) -> Result<Vec<Variable>, AllocError>
+/// The free variables of the conclusion that are not fixed.
+pub(crate) fn pattern_variables(
+    alloc: Global,
+    fixed: &Fixed,
+    p: &Term,
+) -> Result<Vec<Variable>, AllocError>
     ensures { IfOk result (λ vs. vs.items ≡ pattern_variables fixed.now.variables.items (nameless [] p.now)) }
 {
     let all = p.frees(alloc)?;
@@ -77,29 +89,39 @@ fn generalized(alloc: Global, variables: &[Variable], p: &Term) -> Result<Term, 
     Ok(whole)
 }
 
-// The rules of a formula whose outer quantifiers bind its pattern variables.
+// The rules of a formula whose outer quantifiers bind its pattern variables. The way led to it.
 #[tactic(auto, using(crate::proofs::Opened::smaller))]
-fn rules_in(alloc: Global, hyps: &[Term], fixed: &Fixed, p: &Term) -> Result<Vec<Rule>, AllocError>
+fn rules_in(
+    alloc: Global,
+    hyps: &[Term],
+    fixed: &Fixed,
+    p: &Term,
+    way: &Way,
+) -> Result<Vec<Rule>, AllocError>
     requires typed { named_type p.now ≡ Some bool_type }
     requires fixed { AreFixed (map (λ t. nameless [] t) hyps.now) fixed.now }
-    ensures { IfOk result (λ rules. HasRules (map (λ t. nameless [] t) hyps.now) (nameless [] p.now) (rule_values rules.items)) }
+    ensures are { IfOk result (λ rules. rule_values rules.items ≡ rules_under (map (λ t. nameless [] t) hyps.now) (nameless [] p.now)) }
+    ensures ways { IfOk result (λ rules. AreOnWay fixed.now.names.items fixed.now.variables.items way.now (nameless [] p.now) (rule_ways rules.items)) }
 {
     if let Some((v, body)) = dest_forall(p) {
-        let opened = opened(alloc, hyps, p, v, body)?;
-        return rules_in(alloc, hyps, fixed, &opened);
+        let inside = opened(alloc, hyps, p, v, body)?;
+        let further = way.then(alloc, RuleStep::At(inside.variable))?;
+        return rules_in(alloc, hyps, fixed, &inside.body, &further);
     }
     if let Some((q, r)) = dest_conj(p) {
-        let first = rules_in(alloc, hyps, fixed, q)?;
-        let second = rules_in(alloc, hyps, fixed, r)?;
+        let left = way.then(alloc, RuleStep::First)?;
+        let first = rules_in(alloc, hyps, fixed, q, &left)?;
+        let right = way.then(alloc, RuleStep::Second)?;
+        let second = rules_in(alloc, hyps, fixed, r, &right)?;
         return joined(first, &second);
     }
-    let rule = single_rule(alloc, fixed, p)?;
+    let rule = single_rule(alloc, fixed, p, way)?;
     alone(alloc, rule)
 }
 
 // The rules of both.
 fn joined(first: Vec<Rule>, second: &[Rule]) -> Result<Vec<Rule>, AllocError>
-    ensures { IfOk result (λ rules. rule_values rules.items ≡ rule_values first.items ++ rule_values second.now) }
+    ensures { IfOk result (λ rules. rule_ways rules.items ≡ rule_ways first.items ++ rule_ways second.now) }
 {
     let mut rules = first;
     add_rules(&mut rules, second)?;
@@ -108,7 +130,7 @@ fn joined(first: Vec<Rule>, second: &[Rule]) -> Result<Vec<Rule>, AllocError>
 
 // Puts copies of the rules at the end.
 fn add_rules(rules: &mut Vec<Rule>, more: &[Rule]) -> Result<(), AllocError>
-    ensures { OnOk result (rule_values rules.new.items ≡ rule_values rules.old.items ++ rule_values more.now) }
+    ensures { OnOk result (rule_ways rules.new.items ≡ rule_ways rules.old.items ++ rule_ways more.now) }
 {
     for rule in more {
         add_rule(rules, rule)?;
@@ -118,7 +140,7 @@ fn add_rules(rules: &mut Vec<Rule>, more: &[Rule]) -> Result<(), AllocError>
 
 // Puts a copy of the rule at the end.
 fn add_rule(rules: &mut Vec<Rule>, rule: &Rule) -> Result<(), AllocError>
-    ensures { OnOk result (rule_values rules.new.items ≡ rule_values rules.old.items ++ rule_value rule.now ∷ []) }
+    ensures { OnOk result (rule_ways rules.new.items ≡ rule_ways rules.old.items ++ rule_way rule.now ∷ []) }
 {
     let more = rule.copy()?;
     rules.push(more)?;
@@ -127,14 +149,14 @@ fn add_rule(rules: &mut Vec<Rule>, rule: &Rule) -> Result<(), AllocError>
 
 // One rule.
 fn alone(alloc: Global, rule: Rule) -> Result<Vec<Rule>, AllocError>
-    ensures { IfOk result (λ rules. rule_values rules.items ≡ rule_value rule ∷ []) }
+    ensures { IfOk result (λ rules. rule_ways rules.items ≡ rule_way rule ∷ []) }
 {
     let mut rules = Vec::with_capacity(alloc, 1)?;
     rules.push(rule)?;
     Ok(rules)
 }
 
-// The body of `!v. p`, where `v` is called by a name that none of the terms has.
+// The body of `!v. p`, where `v` is called by its base name, with the fewest primes that make it a name that none of the terms has.
 #[tactic(auto, using(crate::proofs::Opened::opening))]
 fn opened(
     alloc: Global,
@@ -142,27 +164,29 @@ fn opened(
     p: &Term,
     v: &Variable,
     body: &Term,
-) -> Result<Term, AllocError>
-    ensures typed { IfOk result (λ t. named_type t ≡ named_type body.now) }
-    ensures opened { IfOk result (λ t. IsOpened (map (λ t. nameless [] t) hyps.now) (nameless [] p.now) (record { base = base_of v.now.0; domain = v.now.1; body = nameless (v.now ∷ []) body.now }) (nameless [] t)) }
+) -> Result<Binder, AllocError>
+    ensures typed { IfOk result (λ o. named_type o.body ≡ named_type body.now) }
+    ensures opened { IfOk result (λ o. IsOpenedAt (map (λ t. nameless [] t) hyps.now) (nameless [] p.now) (record { base = base_of v.now.0; domain = v.now.1; body = nameless (v.now ∷ []) body.now }) o.variable (nameless [] o.body)) }
 {
     let name = unused_name(alloc, hyps, p, v.name())?;
     if name.same(v.name()) {
-        return body.copy();
+        return kept(v, body);
     }
-    let u = Variable::new(&name, v.ty())?;
-    renamed(alloc, &u, v, body)
+    let variable = Variable::new(&name, v.ty())?;
+    let body = renamed(alloc, &variable, v, body)?;
+    Ok(Binder { variable, body })
 }
 
-// The name, with the fewest primes that make it differ from those of all variables and constants of the terms.
-#[tactic(auto, using(crate::proofs::Opened::not_taken))]
+// The name's base, with the fewest primes that make it differ from those of all free variables and constants of the terms.
+#[tactic(auto, using(crate::proofs::Opened::named_apart))]
 fn unused_name(alloc: Global, hyps: &[Term], p: &Term, name: &Name) -> Result<Name, AllocError>
-    ensures { IfOk result (λ a. is_taken (nameless [] p.now ∷ map (λ t. nameless [] t) hyps.now) a ≡ false) }
+    ensures { IfOk result (λ a. IsFreeName (nameless [] p.now ∷ map (λ t. nameless [] t) hyps.now) (base_of name.now) a) }
 {
+    let base = Name::new(alloc, base_name(name.as_str()))?;
     let mut avoid = Vec::with_capacity(alloc, hyps.len() + 1)?;
     avoid.push(p.copy()?)?;
     copy_to(&mut avoid, hyps)?;
-    free_name(alloc, &avoid, name)
+    free_name(alloc, &avoid, &base)
 }
 
 /// The body with the variable `u` for `v`, which has the same type.
@@ -181,30 +205,36 @@ pub(crate) fn renamed(
     vsubst_good(alloc, &pairs, body)
 }
 
-// The one rule of a formula that is neither quantified nor a conjunction.
-fn single_rule(alloc: Global, fixed: &Fixed, p: &Term) -> Result<Rule, AllocError>
+// The one rule of a formula that is neither quantified nor a conjunction. The way led to it.
+fn single_rule(alloc: Global, fixed: &Fixed, p: &Term, way: &Way) -> Result<Rule, AllocError>
     requires { named_type p.now ≡ Some bool_type }
-    ensures { IfOk result (λ r. rule_value r ≡ single_rule fixed.now.names.items fixed.now.variables.items (nameless [] p.now)) }
+    ensures is { IfOk result (λ r. rule_value r ≡ single_rule fixed.now.names.items fixed.now.variables.items (nameless [] p.now)) }
+    ensures way { IfOk result (λ r. r.way ≡ way.now) }
 {
     if let Some(sides) = dest_eq(p) {
         if is_determined(alloc, fixed, sides.left, sides.right)? {
-            return Rule::of(sides.left, sides.right);
+            return Rule::of(sides.left, sides.right, way);
         }
     }
     match dest_neg(p) {
         Some(q) => {
             let falsity = mk_falsity(alloc)?;
-            Rule::of(q, &falsity)
+            Rule::of(q, &falsity, way)
         }
         None => {
             let truth = mk_truth(alloc)?;
-            Rule::of(p, &truth)
+            Rule::of(p, &truth, way)
         }
     }
 }
 
-// Whether each variable and type variable of `r` stays, or is in `l`.
-fn is_determined(alloc: Global, fixed: &Fixed, l: &Term, r: &Term) -> Result<bool, AllocError>
+/// Whether each variable and type variable of `r` stays, or is in `l`.
+pub(crate) fn is_determined(
+    alloc: Global,
+    fixed: &Fixed,
+    l: &Term,
+    r: &Term,
+) -> Result<bool, AllocError>
     ensures { IfOk result (λ b. b ≡ is_determined fixed.now.names.items fixed.now.variables.items (nameless [] l.now) (nameless [] r.now)) }
 {
     let variables = r.frees(alloc)?;

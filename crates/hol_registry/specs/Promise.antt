@@ -1,12 +1,12 @@
 -- What is stored beside a closure has one proof at most.
-use Rattle.std.specs.Prelude.{ℕ, List, [], ◌∷◌, Option, Some, None, Result, Ok, Err, IfOk}
+use Rattle.std.specs.Prelude.{ℕ, List, [], ◌∷◌, Result, Ok, Err, IfOk}
 use Rattle.std.specs.Coded.{Coded-set, coded_ℕ, coded_list, Unit-prop, ×_prop, Π_prop}
 use Rattle.hol_goal.specs.Goal.{GoalValue, goal_code}
 use Rattle.hol_goal.specs.Answer.{UsedValue, AnswerResult, Left, Unfit, OutOfTurns, TooLarge}
 use Rattle.hol_goal.specs.Arguments.{TacArgsValue}
 use Rattle.hol_goal.specs.declared.tac_code.TacCode.{TacCode}
 use Rattle.hol_just.specs.Tac.{Meaning, tac}
-use Rattle.hol_just.specs.Answering.{IsResult, IsAnsweredBy, AnswersCode, IsJustified, suits}
+use Rattle.hol_just.specs.Answering.{IsResult, IsAnswered, AnswersCode, IsJustified, suits}
 use Rattle.hol_just.specs.declared.tried.Tried.{Tried}
 use Rattle.hol_just.specs.declared.tried.TacFault.{TacFault}
 use Rattle.hol_just.specs.declared.tried.TacFault.TheVariants as fault
@@ -34,9 +34,8 @@ result_prop TooLarge used (Err fault.TurnLimit) = hlevel
 result_prop TooLarge used (Err fault.TooLarge) = Unit-prop
 result_prop TooLarge used (Err fault.Memory) = Unit-prop
 
-answered_prop : (meaning : Option Meaning) (args : TacArgsValue) (goal : GoalValue) (turns : ℕ) (result : Result Tried TacFault) → IsProp (IsAnsweredBy meaning args goal turns result)
-answered_prop None args goal turns result = hlevel
-answered_prop (Some f) args goal turns result = let used : UsedValue = record { turns_left = turns } in result_prop (f args goal used).result (f args goal used).used result
+answered_prop : (meaning : Meaning) (args : TacArgsValue) (goal : GoalValue) (turns : ℕ) (result : Result Tried TacFault) → IsProp (IsAnswered (meaning args goal (record { turns_left = turns })) result)
+answered_prop f args goal turns result = let used : UsedValue = record { turns_left = turns } in result_prop (f args goal used).result (f args goal used).used result
 
 pub answers_prop : (code : TacCode) (args : TacArgsValue) (goal : GoalValue) (turns : ℕ) (result : Result Tried TacFault) → IsProp (AnswersCode code args goal turns result)
 answers_prop code = answered_prop (tac code)

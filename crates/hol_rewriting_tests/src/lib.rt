@@ -9,4 +9,6 @@ mod rewriting_tests;
 #[cfg(test)]
 mod rules_tests;
 #[cfg(test)]
+mod theorems_tests;
+#[cfg(test)]
 mod written;

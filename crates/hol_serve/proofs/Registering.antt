@@ -1,5 +1,5 @@
 -- Codes whose functions the program registers.
-use Rattle.std.specs.Prelude.{◌≡◌, ◌+◌, ◌<◌, ◌≤◌, ◌&&◌, ℕ, Bool, true, false, not, List, [], ◌∷◌, ◌++◌, map, take, length, get_or, bytes_eq, is_some, Option, Some, None, refl, suc, zero, string_bytes}
+use Rattle.std.specs.Prelude.{◌≡◌, ◌+◌, ◌<◌, ◌≤◌, ◌&&◌, ℕ, Bool, true, false, not, List, [], ◌∷◌, ◌++◌, map, take, length, get_or, bytes_eq, refl, suc, zero, string_bytes}
 use Rattle.std.specs.List.{list_all}
 use Rattle.std.proofs.Common.{ap, ◌∙◌, arith}
 use Rattle.std.proofs.lemmas.Bool.{and_parts}
@@ -7,32 +7,13 @@ use Rattle.std.proofs.lemmas.List.{take_all}
 use Rattle.std.proofs.lemmas.Slice.Eq.{bytes_eq-Decides}
 use Rattle.hol_goal.specs.TacNames.{tac_name}
 use Rattle.hol_goal.specs.declared.tac_code.TacCode.{TacCode}
-use Rattle.hol_just.specs.Tac.{Meaning, tac}
 use Rattle.hol_registry.specs.RegistryView.{name, row}
 use Rattle.hol_registry.specs.declared.entry.Entry.{Entry}
 use Rattle.hol_registry.specs.Refusal.{IsRefusal}
 use Rattle.hol_registry.specs.declared.error.RegistryError.{RegistryError}
 use Rattle.hol_registry.specs.declared.error.RegistryError.TheVariants.{Twice}
 use Rattle.hol_document.specs.Documents.{Documents}
-use Rattle.hol_serve.specs.BegunView.{row_of, names_differ, is_known, are_known}
-
-pub has_meaning : (code : TacCode) → is_some (tac code) ≡ true → tac code ≡ None → ⊥
-has_meaning code e f = by (tac code) e f
-  where
-    by : (o : Option Meaning) → is_some o ≡ true → o ≡ None → ⊥
-    by None e f = absurd (cc)
-    by (Some m) e f = absurd (cc)
-
--- ---- a code of the list
-
-all_at : {X : Type 0} (p : X → Bool) (xs : List X) (i : ℕ) (x : X) → list_all p xs ≡ true → i < length xs → x ≡ get_or xs i x → p x ≡ true
-all_at p [] i x all l is = absurd (omega (arith, l))
-all_at p (y ∷ xs) zero x all l is = ap p is ∙ (and_parts (p y) (list_all p xs) all).0
-all_at p (y ∷ xs) (suc i) x all l is = all_at p xs i x (and_parts (p y) (list_all p xs) all).1 (omega (arith, l)) is
-
-pub known_at : (codes : List TacCode) (i : ℕ) (code : TacCode) → are_known codes ≡ true → i < length codes → code ≡ get_or codes i code → is_some (tac code) ≡ true
-known_at codes i code known l is =
-    all_at is_known codes i code (and_parts (list_all is_known codes) (names_differ (map tac_name codes)) known).0 l is
+use Rattle.hol_serve.specs.BegunView.{row_of, names_differ}
 
 -- ---- all of them
 
@@ -44,11 +25,11 @@ names_of : (codes : List TacCode) → map (λ (row : List ℕ × TacCode). row.0
 names_of [] = refl
 names_of (code ∷ codes) = ap (λ names. tac_name code ∷ names) (names_of codes)
 
-pub names_plain : (codes : List TacCode) (rows : List (List ℕ × TacCode)) → are_known codes ≡ true → rows ≡ map row_of codes → names_differ (map (λ (row : List ℕ × TacCode). row.0) rows) ≡ true
-names_plain codes rows known is =
+pub names_plain : (codes : List TacCode) (rows : List (List ℕ × TacCode)) → names_differ (map tac_name codes) ≡ true → rows ≡ map row_of codes → names_differ (map (λ (row : List ℕ × TacCode). row.0) rows) ≡ true
+names_plain codes rows differ is =
     ap (λ (rs : List (List ℕ × TacCode)). names_differ (map (λ (row : List ℕ × TacCode). row.0) rs)) is
     ∙ ap names_differ (names_of codes)
-    ∙ (and_parts (list_all is_known codes) (names_differ (map tac_name codes)) known).1
+    ∙ differ
 
 -- ---- no name is met again
 

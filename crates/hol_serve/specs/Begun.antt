@@ -2,7 +2,7 @@
 use Rattle.std.specs.Prelude.{◌≡◌, ℕ, List, [], ◌∷◌, codes}
 use Rattle.clap.specs.Words.{Text}
 use Rattle.hol_goal.specs.declared.tac_code.TacCode.{TacCode}
-use Rattle.hol_goal.specs.declared.tac_code.TacCode.TheVariants.{AllTac, NoTac, ReflTac, AcceptTac, ConjTac, Disj1Tac, Disj2Tac, EqTac, DischTac, GenTac, XGenTac, ExistsTac, SpecTac, MpTac, AssumeTac, ContrTac, ChooseTac, XChooseTac, DisjCasesTac, Subst1Tac, ApTermTac, ApThmTac, MkCombTac, UndischTac, StripTac, StripAssumeTac, BetaTac, MatchMpTac}
+use Rattle.hol_goal.specs.declared.tac_code.TacCode.TheVariants.{AllTac, NoTac, ReflTac, AcceptTac, ConjTac, Disj1Tac, Disj2Tac, EqTac, DischTac, GenTac, XGenTac, ExistsTac, SpecTac, MpTac, AssumeTac, ContrTac, ChooseTac, XChooseTac, DisjCasesTac, Subst1Tac, ApTermTac, ApThmTac, MkCombTac, UndischTac, StripTac, StripAssumeTac, BetaTac, MatchMpTac, RewriteTac, OnceRewriteTac, AsmRewriteTac, OnceAsmRewriteTac, PureRewriteTac}
 use Rattle.hol_document.specs.Documents.{Documents}
 use Rattle.hol_serve.specs.Settings.{option_text, IsValue}
 
@@ -14,7 +14,9 @@ tacs =
     ∷ (codes "X_GEN_TAC", XGenTac) ∷ (codes "EXISTS_TAC", ExistsTac) ∷ (codes "SPEC_TAC", SpecTac) ∷ (codes "MP_TAC", MpTac) ∷ (codes "ASSUME_TAC", AssumeTac)
     ∷ (codes "CONTR_TAC", ContrTac) ∷ (codes "CHOOSE_TAC", ChooseTac) ∷ (codes "X_CHOOSE_TAC", XChooseTac) ∷ (codes "DISJ_CASES_TAC", DisjCasesTac) ∷ (codes "SUBST1_TAC", Subst1Tac)
     ∷ (codes "AP_TERM_TAC", ApTermTac) ∷ (codes "AP_THM_TAC", ApThmTac) ∷ (codes "MK_COMB_TAC", MkCombTac) ∷ (codes "UNDISCH_TAC", UndischTac)
-    ∷ (codes "STRIP_TAC", StripTac) ∷ (codes "STRIP_ASSUME_TAC", StripAssumeTac) ∷ (codes "BETA_TAC", BetaTac) ∷ (codes "MATCH_MP_TAC", MatchMpTac) ∷ []
+    ∷ (codes "STRIP_TAC", StripTac) ∷ (codes "STRIP_ASSUME_TAC", StripAssumeTac) ∷ (codes "BETA_TAC", BetaTac) ∷ (codes "MATCH_MP_TAC", MatchMpTac)
+    ∷ (codes "REWRITE_TAC", RewriteTac) ∷ (codes "ONCE_REWRITE_TAC", OnceRewriteTac) ∷ (codes "ASM_REWRITE_TAC", AsmRewriteTac) ∷ (codes "ONCE_ASM_REWRITE_TAC", OnceAsmRewriteTac)
+    ∷ (codes "PURE_REWRITE_TAC", PureRewriteTac) ∷ []
 
 -- no theories stand; what they are run by is a table of functions and a number of turns
 abbrev pub begun_by : List (List ℕ × TacCode) → ℕ → Documents

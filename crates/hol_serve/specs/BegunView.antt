@@ -1,9 +1,8 @@
 -- What only private functions speak of: codes whose functions the program can register.
-use Rattle.std.specs.Prelude.{◌&&◌, ℕ, List, [], ◌∷◌, Bool, true, not, bytes_eq, map, is_some}
+use Rattle.std.specs.Prelude.{◌&&◌, ℕ, List, [], ◌∷◌, Bool, true, not, bytes_eq}
 use Rattle.std.specs.List.{list_all}
 use Rattle.hol_goal.specs.TacNames.{tac_name}
 use Rattle.hol_goal.specs.declared.tac_code.TacCode.{TacCode}
-use Rattle.hol_just.specs.Tac.{tac}
 
 -- a function under the name of its code
 abbrev pub row_of : TacCode → List ℕ × TacCode
@@ -13,10 +12,3 @@ row_of code = (tac_name code, code)
 abbrev pub names_differ : List (List ℕ) → Bool
 names_differ [] = true
 names_differ (name ∷ names) = list_all (λ other. not (bytes_eq name other)) names && names_differ names
-
--- the code has a meaning
-abbrev pub is_known : TacCode → Bool
-is_known code = is_some (tac code)
-
-abbrev pub are_known : List TacCode → Bool
-are_known codes = list_all is_known codes && names_differ (map tac_name codes)

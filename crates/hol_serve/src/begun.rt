@@ -1,10 +1,11 @@
 //! Sessions over documents that begin without theories.
 ghost use Rattle.std.specs.Prelude.{◌≡◌, ◌≢◌, ◌⊎◌, ◌≤◌, [], true, Err, IfOk, OnOk, map};
 ghost use Rattle.hol_document.specs.Documents.{Documents};
+ghost use Rattle.hol_goal.specs.TacNames.{tac_name};
 ghost use Rattle.hol_exec.specs.SetupView.{setup_value};
 ghost use Rattle.hol_registry.specs.RegistryView.{name, row};
 ghost use Rattle.hol_serve.specs.Begun.{tacs, begun_by};
-ghost use Rattle.hol_serve.specs.BegunView.{row_of, names_differ, are_known};
+ghost use Rattle.hol_serve.specs.BegunView.{row_of, names_differ};
 ghost use Rattle.hol_serve.specs.Lines.{read_limit};
 ghost use Rattle.hol_serve.specs.Machine.{MayAnswer};
 ghost use Rattle.hol_serve.specs.Session.{CountsUp, Finishes, StopsReading, StopsWriting};
@@ -15,11 +16,13 @@ use crate::serving::run;
 use hol_document::Docs;
 use hol_exec::Setup;
 use hol_goal::{Goal, TacArgs, TacCode};
+use hol_prelude::Prelude;
 use hol_registry::{Entry, Registry, RegistryError};
 use std::alloc::{AllocError, Global};
+use std::rc::Rc;
 
 // The functions on goals that the program knows.
-const CODES: [TacCode; 28] = [
+const CODES: [TacCode; 33] = [
     TacCode::AllTac,
     TacCode::NoTac,
     TacCode::ReflTac,
@@ -48,6 +51,11 @@ const CODES: [TacCode; 28] = [
     TacCode::StripAssumeTac,
     TacCode::BetaTac,
     TacCode::MatchMpTac,
+    TacCode::RewriteTac,
+    TacCode::OnceRewriteTac,
+    TacCode::AsmRewriteTac,
+    TacCode::OnceAsmRewriteTac,
+    TacCode::PureRewriteTac,
 ];
 
 /// Serves the reader's lines over documents without theories, run by the functions that the program knows, each under the name of its code,
@@ -79,7 +87,7 @@ pub(crate) fn serve_begun<R: Source, W: Sink>(
 }
 
 // The same with the functions of these codes.
-#[tactic(auto, using(crate::proofs::Registering::known_at, crate::proofs::Registering::names_plain))]
+#[tactic(auto, using(crate::proofs::Registering::names_plain))]
 fn serve_with<R: Source, W: Sink>(
     alloc: Global,
     codes: &[TacCode],
@@ -89,7 +97,7 @@ fn serve_with<R: Source, W: Sink>(
     writer: &mut W,
 ) -> Result<(), Fault>
     requires turns { turns ≤ 100000 }
-    requires known { are_known codes.now ≡ true }
+    requires differ { names_differ (map tac_name codes.now) ≡ true }
     ensures ok { OnOk result ((new : Documents) × Finishes MayAnswer (begun_by (map row_of codes.now) turns) new
         (R.remaining reader.old) (R.remaining reader.new) (W.contents writer.old) (W.contents writer.new)) }
     ensures read_fault { result ≡ Err Fault.Read → ((new : Documents) × StopsReading MayAnswer (begun_by (map row_of codes.now) turns) new
@@ -102,9 +110,10 @@ fn serve_with<R: Source, W: Sink>(
     ensures writes { result ≢ Err Fault.Write → W.has_failed writer.new → W.has_failed writer.old }
     ensures memory { result ≡ Err Fault.Memory → (reader.new ≡ reader.old) × (writer.new ≡ writer.old) }
 {
+    let prelude = Rc::new(alloc, Prelude::new(alloc)?)?;
     let mut entries = Vec::new(alloc);
     for code in codes {
-        let meant = Meant::new(*code);
+        let meant = Meant::new(*code, &prelude)?;
         let tac = Box::new(
             alloc,
             move |args: &TacArgs, goal: &Goal, turns: u32|

@@ -1,45 +1,44 @@
 //! The functions on goals that the program knows.
-ghost use Rattle.std.specs.Prelude.{◌≡◌, true, is_some, IfOk};
+ghost use Rattle.std.specs.Prelude.{◌≡◌, IfOk};
 ghost use Rattle.hol_goal.specs.ArgumentsView.{args_value};
 ghost use Rattle.hol_just.specs.Answering.{AnswersCode, IsJustified};
-ghost use Rattle.hol_just.specs.Tac.{tac};
 
 use hol_goal::{Goal, TacArgs, TacCode};
 use hol_just::{TacFault, Tried};
+use hol_prelude::Prelude;
 use hol_tac::tac;
-use std::alloc::Global;
+use std::alloc::{AllocError, Global};
+use std::rc::Rc;
 
-/// A code that has a meaning.
-#[derive(Clone, Copy)]
+/// A code, and the prelude, from which its function may take the basic rewrites.
+#[derive(Drop)]
 pub(crate) struct Meant {
     code: TacCode,
-    ghost meant: { is_some (tac code) ≡ true },
+    prelude: Rc<Prelude>,
 }
 
 impl Meant {
-    /// The code, which has a meaning.
-    pub(crate) fn new(code: TacCode) -> Meant
-        requires { is_some (tac code) ≡ true }
-        ensures { result.code ≡ code }
+    /// The code, over the prelude.
+    pub(crate) fn new(code: TacCode, prelude: &Rc<Prelude>) -> Result<Meant, AllocError>
+        ensures { IfOk result (λ meant. meant.code ≡ code) }
     {
-        Meant { code }
+        Ok(Meant {
+            code,
+            prelude: prelude.clone()?,
+        })
     }
 
     /// What the code's function answers.
-    #[tactic(auto, using(crate::proofs::Registering::has_meaning))]
     pub(crate) fn answer(
-        self,
+        &self,
         alloc: Global,
         args: &TacArgs,
         goal: &Goal,
         turns: u32,
     ) -> Result<Tried, TacFault>
-        ensures answer { AnswersCode self.code (args_value args.now) goal.now turns result }
+        ensures answer { AnswersCode self.now.code (args_value args.now) goal.now turns result }
         ensures valid { IfOk result (λ tried. IsJustified (args_value args.now) goal.now tried.step) }
     {
-        match tac(alloc, self.code, args, goal, turns) {
-            Some(answer) => answer,
-            None => unreachable!(),
-        }
+        tac(alloc, &self.prelude, self.code, args, goal, turns)
     }
 }

@@ -13,6 +13,7 @@ pub mod WaitingLaws
 pub mod NewBy
 pub mod UnderWay
 pub mod Converted
+pub mod GivenTo
 pub mod Stages
 pub mod Undetermined
 pub mod MatchMpLaws

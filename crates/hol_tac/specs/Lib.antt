@@ -7,3 +7,4 @@ pub mod Parts
 pub mod Progress
 pub mod Stripping
 pub mod Matching
+pub mod Converting

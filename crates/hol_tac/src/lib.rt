@@ -16,6 +16,7 @@ mod pieces;
 mod progress;
 mod quantifiers;
 mod replacing;
+mod rewriting;
 mod steps;
 mod stripping;
 mod substituting;
@@ -34,6 +35,9 @@ pub use converting::beta_tac;
 pub use equations::{eq_tac, refl_tac};
 pub use matching::match_mp_tac;
 pub use quantifiers::{exists_tac, gen_tac, x_gen_tac};
+pub use rewriting::{
+    asm_rewrite_tac, once_asm_rewrite_tac, once_rewrite_tac, pure_rewrite_tac, rewrite_tac,
+};
 pub use stripping::{strip_assume_tac, strip_tac};
 pub use substituting::{spec_tac, subst1_tac};
 pub use trivial::{all_tac, no_tac};

@@ -1,7 +1,7 @@
 use Rattle.std.proofs.Common.{◌≡◌, ◌∙◌, sym, subst, rules, Err}
 use Rattle.std.specs.Prelude.{string_bytes}
 use Rattle.hol_goal.specs.ArgumentsView.{args_value}
-use Rattle.hol_just.specs.Answering.{IsAnsweredBy}
+use Rattle.hol_combine.specs.Called.{IsAnsweredBy}
 use Rattle.hol_combine.specs.Runs.{Refuses, DoesNotFit, meaning_at}
 use Rattle.hol_combine.specs.RunView.{IsRun}
 use Rattle.hol_combine.proofs.Calling.{by_meaning, answered_left, answered_unfit, answered_stops, answered_large, left_falls, refused_falls, at_most_more, small_justified}

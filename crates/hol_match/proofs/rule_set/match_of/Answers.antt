@@ -1,10 +1,10 @@
 use Rattle.std.proofs.Common.{◌∙◌, sym, []}
 use Rattle.hol_terms.specs.Nameless.{nameless}
 use Rattle.hol_match.specs.SetView.{set_rule}
-use Rattle.hol_match.proofs.ApartHeads.{fit_apart}
+use Rattle.hol_match.proofs.Outlines.{fit_apart}
 use Rattle.hol_match.proofs.rule_set.match_of.Goals as goal
 
 pub returns-then-not-may_match-clause-fit : goal.returns-then-not-may_match-clause-fit
 returns-then-not-may_match-clause-fit c =
-    fit_apart (set_rule c.args.rule.now) (nameless [] c.left-left.result.now) (nameless [] c.args.t.now) c.head_place.result c.args.head
-    c.left-left.ensures.side c.head_place.ensures c.requires (sym c.may_match.ensures ∙ c.if-not-may_match.true)
+    fit_apart (set_rule c.args.rule.now) (nameless [] c.left-left.result.now) (nameless [] c.args.t.now)
+    c.left-left.ensures.side (sym c.may_match.ensures ∙ c.if-not-may_match.true)

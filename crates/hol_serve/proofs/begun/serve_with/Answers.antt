@@ -3,12 +3,12 @@ use Rattle.std.proofs.lemmas.Result.{on_ok_weaker}
 use Rattle.hol_serve.specs.Begun.{begun_by}
 use Rattle.hol_serve.specs.BegunView.{names_differ}
 use Rattle.hol_serve.specs.Machine.{MayAnswer}
-use Rattle.hol_serve.specs.Session.{Finishes, StopsWriting}
+use Rattle.hol_serve.specs.Session.{Finishes, StopsReading, StopsWriting}
 use Rattle.hol_serve.proofs.Registering.{names_of_rows, names_plain, rows_taken, begins}
 use Rattle.hol_serve.proofs.begun.serve_with.Goals as goal
 
 pub setup_of-requires-clause-differ : goal.setup_of-requires-clause-differ
-setup_of-requires-clause-differ g c = ap names_differ (names_of_rows c.loop-code.entries.items) ∙ names_plain c.args.codes.now _ c.requires.known (rows_taken c.args.codes.now c.loop-code.code-index _ c.loop-code-test.false c.loop-code.invariant)
+setup_of-requires-clause-differ g c = ap names_differ (names_of_rows c.loop-code.entries.items) ∙ names_plain c.args.codes.now _ c.requires.differ (rows_taken c.args.codes.now c.loop-code.code-index _ c.loop-code-test.false c.loop-code.invariant)
 
 pub returns-clause-ok : goal.returns-clause-ok
 returns-clause-ok g c =
@@ -17,6 +17,15 @@ returns-clause-ok g c =
     (c.new-docs.ensures.documents ∙ ap (λ s. record { theories = []; setup = s }) c.in_ok-setup.ensures ∙ ap (λ rows. begun_by rows c.args.turns) (rows_taken c.args.codes.now c.loop-code.code-index _ c.loop-code-test.false c.loop-code.invariant))
     h)
     c.run.ensures.ok
+
+pub returns-clause-read_fault : goal.returns-clause-read_fault
+returns-clause-read_fault g c e =
+    let (stops, failed) = c.run.ensures.read_fault e in (
+      begins (λ old new. StopsReading MayAnswer old new (g.R.Read.remaining c.args.reader.now) (g.R.Read.remaining c.run.new.reader) (g.W.Write.contents c.args.writer.now) (g.W.Write.contents c.run.new.writer)) _ _ _
+          (c.new-docs.ensures.documents ∙ ap (λ s. record { theories = []; setup = s }) c.in_ok-setup.ensures ∙ ap (λ rows. begun_by rows c.args.turns) (rows_taken c.args.codes.now c.loop-code.code-index _ c.loop-code-test.false c.loop-code.invariant))
+          stops,
+      failed,
+    )
 
 pub returns-clause-write_fault : goal.returns-clause-write_fault
 returns-clause-write_fault g c e =

@@ -1,0 +1,6 @@
+pub mod RuleTheorems
+pub mod RuleSteps
+pub mod Replays
+pub mod NodeTheorems
+pub mod Parts
+pub mod Equations

@@ -1,0 +1,15 @@
+//! Theorems of rewriting.
+//!
+//! A call that answers a `Result` answers the error of memory where memory is short, and nowhere else.
+#![tactic(auto)]
+
+mod conversion;
+mod parts;
+mod redex_theorem;
+mod replaying;
+mod rule_theorems;
+mod unrefused;
+
+pub use conversion::beta_conversion;
+pub use replaying::replay;
+pub use rule_theorems::rule_theorem;
