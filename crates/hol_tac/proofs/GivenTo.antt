@@ -18,9 +18,10 @@ use Rattle.hol_kernel.proofs.Stands.{both}
 use Rattle.hol_kernel.proofs.Subsets.{none_within}
 use Rattle.hol_prelude.specs.Statements.{stated, refl_clause, eq_clauses, not_clauses_weak, and_clauses, or_clauses, imp_clauses}
 use Rattle.hol_match.specs.Givens.{holds_given, all_hold, all_hyps}
-use Rattle.hol_match.specs.SetView.{set_givens, AreOf, IsGivenIn, AreGivenIn}
+use Rattle.hol_match.specs.SetView.{set_givens, AreOf, AreGivenIn}
 use Rattle.hol_match.specs.declared.set_rule.SetRule.{SetRule}
 use Rattle.hol_match.proofs.RuleSets.{all_given}
+use Rattle.hol_conv.proofs.Traces.{given_through}
 use Rattle.hol_conv.specs.declared.rewritten.Rewritten.{Rewritten}
 use Rattle.hol_conv.specs.declared.error.ConvError.{ConvError}
 use Rattle.hol_goal.specs.Goal.{GoalValue}
@@ -63,20 +64,9 @@ pub leads_among : (goal : GoalValue) (all gs : List Given) (step : Step) → Are
 leads_among goal all gs step among leads suits extra held allowed =
     leads suits extra (λ basis suit typed. all_held basis all gs (held basis suit typed) among) (λ q h. allowed q (hyps_among all gs q among h))
 
-is_given : (all ys : List Given) (i : ℕ) (g : Given) → AreGivenIn all ys → slice_get ys i ≡ Some g → IsGivenIn all g
-is_given all [] i g h at = absurd (cc)
-is_given all (y ∷ ys) zero g h at =
-    let q : y ≡ g = cc in
-    subst (IsGivenIn all) q h.0
-is_given all (y ∷ ys) (suc i) g h at = is_given all ys i g h.1 at
-
-are_given : (all ys gs : List Given) → AreGivenIn all ys → AreGivenIn ys gs → AreGivenIn all gs
-are_given all ys [] h k = tt
-are_given all ys (g ∷ gs) h k = (is_given all ys k.0.0 g h k.0.1, are_given all ys gs h k.1)
-
 -- what a trace used was given where its rules are of what was given
 pub used_given : (all : List Given) (rules : List SetRule) (o : Result Rewritten ConvError) → AreOf all rules → IfOk o (λ r. AreGivenIn (set_givens rules) r.trace.used) → IfOk o (λ r. AreGivenIn all r.trace.used)
-used_given all rules (Ok r) h k = are_given all (set_givens rules) r.trace.used (all_given all rules h) k
+used_given all rules (Ok r) h k = given_through all (set_givens rules) r.trace.used (all_given all rules h) k
 used_given all rules (Err x) h k = tt
 
 pub none_used : (o : Result Rewritten ConvError) → IfOk o (λ r. r.trace.used ≡ []) → IfOk o (λ r. AreGivenIn [] r.trace.used)
