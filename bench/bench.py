@@ -15,10 +15,9 @@ that are reported on) is not counted. The times shown are medians of the rounds;
 whole process. The memory is the greatest of the rounds: the peak resident set of the whole process. A reply that isn't of the
 expected kind ends the run with status 1.
 
-What goals cost, also those whose types share their nodes, is measured by goals.py, beside this. The tests of hol_types and hol_terms named
+What goals cost, also those whose types share their nodes, is measured by goals.py, beside this. The tests of hol_logic_tests named
 `.._shared_..` have types and terms that no text within the limits makes: over trees of 2^60 leaves and 60 or 120 nodes, sizes, types, what
-isn't free, and comparisons that differ early are answered at once (a call that walked the tree would not end). Two equal trees of that size
-can't be told equal early: std's `Rc::ptr_eq` promises nothing, so no contract can rest on two copies being one node.
+isn't free, comparisons that differ early and comparisons over shared parts are answered at once (a call that walked the tree would not end).
 
 Needs Python 3.8 and Linux, and nothing else.
 """

@@ -31,7 +31,8 @@ PATH is the built program, crates/hol_bench/out/hol_bench. Its jobs:
   order     the orders of these types against a type variable
 
 Each line has the size that the job is given, its answer (the nodes of the result or the conclusion, 20,001 for more; of the last two a sum), and how many
-times it is done in a second of processor time. The times are medians of the rounds, less those of a run that prepares the same and does nothing.
+times it is done in a second of processor time. The times are medians of the rounds, less those of a run that prepares the same and does nothing. A round
+does the job so often that it takes at least a third of a second, so that starting the program doesn't show.
 
 Needs Python 3.8 and Linux, and nothing else.
 """
@@ -96,6 +97,24 @@ def processor_seconds(program, job, size, times):
     return after.ru_utime + after.ru_stime - before.ru_utime - before.ru_stime, done.stdout.split(":")[1].split()[0]
 
 
+def enough(program, job, size, times):
+    """How often the job is done in a round that takes at least a third of a second."""
+    while True:
+        seconds = processor_seconds(program, job, size, times)[0]
+        if seconds >= 0.33 or times >= 1_000_000_000:
+            return times
+        times = min(int(times * max(2, min(50, 0.5 / max(seconds, 0.01)))), 1_000_000_000)
+
+
+def rate(program, job, size, times, rounds):
+    """How often the job is done in a second of processor time, and its answer."""
+    times = enough(program, job, size, times)
+    runs = [processor_seconds(program, job, size, times) for _ in range(rounds)]
+    idle = [processor_seconds(program, job, size, 0) for _ in range(rounds)]
+    seconds = statistics.median(run[0] for run in runs) - statistics.median(run[0] for run in idle)
+    return times / max(seconds, 1e-6), runs[0][1]
+
+
 def main():
     parser = argparse.ArgumentParser(description=__doc__, formatter_class=argparse.RawDescriptionHelpFormatter)
     parser.add_argument("--program", required=True)
@@ -107,10 +126,8 @@ def main():
     for job, size, times in JOBS:
         if not job.startswith(given.only):
             continue
-        runs = [processor_seconds(program, job, size, times) for _ in range(given.rounds)]
-        idle = [processor_seconds(program, job, size, 0) for _ in range(given.rounds)]
-        seconds = max(statistics.median(run[0] for run in runs) - statistics.median(run[0] for run in idle), 1e-6)
-        print(f"{job:22}{size:6}{runs[0][1]:>11}{times / seconds:12,.0f}{1000 * seconds / times:12.4f}")
+        done, answer = rate(program, job, size, times, given.rounds)
+        print(f"{job:22}{size:6}{answer:>11}{done:12,.0f}{1000 / done:12.4f}")
 
 
 if __name__ == "__main__":

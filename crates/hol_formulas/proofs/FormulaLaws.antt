@@ -2,6 +2,7 @@
 use Rattle.std.specs.Prelude.{◌≡◌, ℕ, Bool, true, false, cond, ◌&&◌, List, bytes_eq, codes, Option, Some, None, refl}
 use Rattle.std.specs.Option.{option_and_then, option_map}
 use Rattle.std.proofs.Common.{ap, ◌∙◌}
+use Rattle.std.proofs.lemmas.Bool.{and_parts}
 use Rattle.std.proofs.lemmas.Slice.Eq.{bytes_eq-Decides}
 use Rattle.hol_types.specs.Tree.{TypeTree}
 use Rattle.hol_types.specs.Equal.{type_eq}
@@ -38,10 +39,6 @@ dest_exists_existential x = ap (λ k. cond k (Some x) None) (type_eq_itself (qua
 
 -- ---- what is taken apart was so made
 
-both : (a b : Bool) → (a && b) ≡ true → (a ≡ true) × (b ≡ true)
-both true b e = (refl, e)
-both false b e = absurd (cc)
-
 pub dest_comb_is : (t : Nameless) (p : Nameless × Nameless) → dest_comb t ≡ Some p → t ≡ app p.0 p.1
 dest_comb_is (free v) p e = absurd (cc)
 dest_comb_is (bound i) p e = absurd (cc)
@@ -53,7 +50,7 @@ pub is_constant_is : (c : List ℕ) (s : TypeTree) (t : Nameless) → is_constan
 is_constant_is c s (free v) e = absurd (cc)
 is_constant_is c s (bound i) e = absurd (cc)
 is_constant_is c s (fixed d t) e =
-    let parts = both (bytes_eq d c) (type_eq t s) e in λ i. fixed ((bytes_eq-Decides d c).0 parts.0 i) (same_type t s parts.1 i)
+    let parts = and_parts (bytes_eq d c) (type_eq t s) e in λ i. fixed ((bytes_eq-Decides d c).0 parts.0 i) (same_type t s parts.1 i)
 is_constant_is c s (app f x) e = absurd (cc)
 is_constant_is c s (lam b a t) e = absurd (cc)
 

@@ -4,5 +4,6 @@ pub mod TypeTests
 pub mod TypeForms
 pub mod TakingApart
 pub mod PartTypes
+pub mod Signs
 pub mod FormulaLaws
 pub mod WrittenParts

@@ -2,6 +2,7 @@
 use Rattle.std.specs.Prelude.{◌≡◌, ℕ, Bool, true, false, cond, ◌&&◌, List, [], bytes_eq, codes, Option, Some, None, refl}
 use Rattle.std.specs.Option.{option_and_then, option_map}
 use Rattle.std.proofs.Common.{ap, sym, ◌∙◌}
+use Rattle.std.proofs.lemmas.Bool.{and_parts}
 use Rattle.hol_types.specs.Tree.{TypeTree}
 use Rattle.hol_types.specs.Equal.{type_eq}
 use Rattle.hol_types.specs.Fun.{fun_type, fun_parts}
@@ -93,14 +94,10 @@ pub ruleset sides_found = (sides_yes, sides_no_name, sides_no_type, sides_no_par
 
 -- ---- the operands of connectives and quantifiers
 
-both_true : (a b : Bool) → (a && b) ≡ true → b ≡ true
-both_true true b e = e
-both_true false b e = absurd (cc)
-
 -- a constant that is tested at a type has it
 pub constant_typed : (c : List ℕ) (s : TypeTree) (f : Named) → is_constant c s (nameless [] f) ≡ true → named_type f ≡ Some s
 constant_typed c s (var v) e = absurd (cc)
-constant_typed c s (constant d t) e = ap Some (same_type t s (both_true (bytes_eq d c) (type_eq t s) e))
+constant_typed c s (constant d t) e = ap Some (same_type t s (and_parts (bytes_eq d c) (type_eq t s) e).1)
 constant_typed c s (comb f x) e = absurd (cc)
 constant_typed c s (abs v b) e = absurd (cc)
 

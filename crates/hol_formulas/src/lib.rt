@@ -5,6 +5,7 @@
 
 mod bijections;
 mod connectives;
+mod equality;
 mod equations;
 mod generic;
 mod laws;
@@ -24,7 +25,8 @@ pub use connectives::{
     dest_conj, dest_disj, dest_imp, dest_neg, is_conj, is_disj, is_falsity, is_imp, is_neg,
     is_truth, mk_conj, mk_disj, mk_falsity, mk_imp, mk_neg, mk_truth,
 };
-pub use equations::{Sides, dest_eq, is_eq, mk_eq, mk_iff};
+pub use equality::Equality;
+pub use equations::{Sides, dest_eq, is_eq, mk_eq, mk_eq_like, mk_iff};
 pub use laws::{formulas_have_parts, parts_make_formulas};
 pub use names::{has_axiom_name, has_constant_name, has_type_name};
 pub use postulate::Postulate;

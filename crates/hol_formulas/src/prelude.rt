@@ -34,7 +34,7 @@ pub(crate) fn binder_type(alloc: Global) -> Result<Ty, AllocError>
 }
 
 /// `(A->B)->bool`.
-pub fn function_property_type(alloc: Global) -> Result<Ty, AllocError>
+pub(crate) fn function_property_type(alloc: Global) -> Result<Ty, AllocError>
     ensures { IfOk result (λ ty. ty ≡ function_property_type) }
 {
     let truth = bool_type(alloc)?;
@@ -71,7 +71,7 @@ pub fn has_constant(_alloc: Global, constant: &Name, ty: &Ty) -> Result<bool, Al
 }
 
 /// `(A->bool)->A`.
-pub fn choice_type(alloc: Global) -> Result<Ty, AllocError>
+pub(crate) fn choice_type(alloc: Global) -> Result<Ty, AllocError>
     ensures { IfOk result (λ ty. ty ≡ choice_type) }
 {
     let truth = bool_type(alloc)?;

@@ -93,6 +93,17 @@ pub(crate) fn is_property_type(ty: &Ty, domain: &Ty) -> bool
     own.same(domain) && is_bool(truth)
 }
 
+/// Whether the type is that of `=` between terms of the type `domain`.
+#[tactic(auto, using(crate::proofs::TypeTests::function_types))]
+pub(crate) fn is_equality_at(ty: &Ty, domain: &Ty) -> bool
+    ensures { result ≡ type_eq ty.now (equality_type domain.now) }
+{
+    let Some((own, property)) = ty.dest_fun() else {
+        return false;
+    };
+    own.same(domain) && is_property_type(property, domain)
+}
+
 /// Whether the type is `bool->bool`.
 #[tactic(auto, using(crate::proofs::TypeTests::function_types))]
 pub(crate) fn is_negation_type(ty: &Ty) -> bool

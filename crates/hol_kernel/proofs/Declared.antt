@@ -1,6 +1,7 @@
 -- What the tests of names say, and what declarations give.
 use Rattle.std.specs.Prelude.{◌≡◌, ℕ, Bool, true, false, not, ◌&&◌, ◌||◌, List, Option, Some, None, refl}
 use Rattle.std.proofs.Common.{ap, sym, ◌∙◌, subst}
+use Rattle.std.proofs.lemmas.Bool.{false_from_ne_true}
 use mathlib.Core.Bool.{true≢false}
 use Rattle.std.specs.List.{list_any}
 use Rattle.hol_types.specs.Tree.{TypeTree}
@@ -29,20 +30,16 @@ neither true b p q = absurd (true≢false p)
 neither false true p q = absurd (true≢false q)
 neither false false p q = refl
 
-is_false : (b : Bool) → (b ≡ true → ⊥) → b ≡ false
-is_false true n = absurd (n refl)
-is_false false n = refl
-
 -- the test of a name
 pub new_is : (items : Items) (k : ItemKey) → is_new items k ≡ true → IsNew items k
 new_is items k e =
     let p = both_not (prelude_has k) (list_any (λ x. has_key x k) (in_order items)) e in
-    (p.0, λ y h. is_false (has_key y k) (λ f. true≢false (sym (any_of (λ x. has_key x k) (in_order items) y (ordered_held items y h) f) ∙ p.1)))
+    (p.0, λ y h. false_from_ne_true (has_key y k) (λ f. true≢false (sym (any_of (λ x. has_key x k) (in_order items) y (ordered_held items y h) f) ∙ p.1)))
 
 pub is_new_of : (items : Items) (k : ItemKey) → IsNew items k → is_new items k ≡ true
 is_new_of items k n =
     neither (prelude_has k) (list_any (λ x. has_key x k) (in_order items)) n.0
-    (is_false (list_any (λ x. has_key x k) (in_order items))
+    (false_from_ne_true (list_any (λ x. has_key x k) (in_order items))
     (λ e. let r = any_found (λ x. has_key x k) (in_order items) e in true≢false (sym r.2 ∙ n.1 r.0 (held items r.0 r.1))))
 
 -- an item of one name

@@ -1,6 +1,7 @@
 -- What may define a constant: the test, and what it says.
 use Rattle.std.specs.Prelude.{◌≡◌, ℕ, zero, suc, ◌<◌, Bool, true, false, ◌&&◌, ◌||◌, List, [], ◌∷◌, length, Contains, slice_index_or, is_some, bytes_eq, Some, refl}
 use Rattle.std.proofs.Common.{ap, sym, ◌∙◌, subst, arith}
+use Rattle.std.proofs.lemmas.Bool.{and_parts, or_right}
 use mathlib.Core.Bool.{true≢false}
 use Rattle.std.specs.FinSet as set
 use Rattle.std.proofs.lemmas.Slice.Eq.{bytes_eq-Decides}
@@ -58,26 +59,18 @@ contains_among (b ∷ names) n e = by (bytes_eq n b) refl e (contains_among name
     by true p e more = (0, omega arith, sym ((bytes_eq-Decides n b).0 p))
     by false p e more = contains_later b n names (more e)
 
-or_true : (b : Bool) → (b || true) ≡ true
-or_true true = refl
-or_true false = refl
-
 among_contains : (names : List (List ℕ)) (n : List ℕ) → Contains names n → is_among names n ≡ true
 among_contains [] n h = absurd (omega (arith, h.1))
 among_contains (b ∷ names) n h = at h.0 h.1 h.2 (among_contains names n)
   where
     at : (k : ℕ) → k < length (b ∷ names) → slice_index_or (b ∷ names) k n ≡ n → (Contains names n → is_among names n ≡ true) → is_among (b ∷ names) n ≡ true
     at zero below is more = ap (λ t. t || is_among names n) ((bytes_eq-Decides n b).1 (sym is))
-    at (suc k) below is more = ap (λ t. bytes_eq n b || t) (more (k, omega (arith, below), is)) ∙ or_true (bytes_eq n b)
-
-both : (a b : Bool) → (a && b) ≡ true → (a ≡ true) × (b ≡ true)
-both true b e = (refl, e)
-both false b e = absurd (true≢false (sym e))
+    at (suc k) below is more = ap (λ t. bytes_eq n b || t) (more (k, omega (arith, below), is)) ∙ or_right (bytes_eq n b) true refl
 
 all_contained : (own names : List (List ℕ)) → are_among own names ≡ true → (n : List ℕ) → is_among names n ≡ true → is_among own n ≡ true
 all_contained own [] e n h = absurd (true≢false (sym h))
 all_contained own (b ∷ names) e n h =
-    let parts = both (is_among own b) (are_among own names) e in by (bytes_eq n b) refl h parts.0 (all_contained own names parts.1 n)
+    let parts = and_parts (is_among own b) (are_among own names) e in by (bytes_eq n b) refl h parts.0 (all_contained own names parts.1 n)
   where
     by : (t : Bool) → bytes_eq n b ≡ t → (t || is_among names n) ≡ true → is_among own b ≡ true → (is_among names n ≡ true → is_among own n ≡ true) → is_among own n ≡ true
     by true p h here more = ap (is_among own) ((bytes_eq-Decides n b).0 p) ∙ here
@@ -87,7 +80,7 @@ contained_all : (own names : List (List ℕ)) → ((n : List ℕ) → is_among n
 contained_all own [] f = refl
 contained_all own (b ∷ names) f =
     let here : is_among own b ≡ true = f b (ap (λ t. t || is_among names b) ((bytes_eq-Decides b b).1 refl)) in
-    let rest : are_among own names ≡ true = contained_all own names (λ n h. f n (ap (λ t. bytes_eq n b || t) h ∙ or_true (bytes_eq n b))) in
+    let rest : are_among own names ≡ true = contained_all own names (λ n h. f n (ap (λ t. bytes_eq n b || t) h ∙ or_right (bytes_eq n b) true refl)) in
     λ i. here i && rest i
 
 -- ---- the test
@@ -95,8 +88,8 @@ contained_all own (b ∷ names) f =
 module _ (items : Items) (r : Named) (a : TypeTree) (has : named_type r ≡ Some a) where
   pub definable_of : is_definable items (nameless [] r) a ≡ true → IsDefinable items (nameless [] r) a
   definable_of e =
-      let p = both (is_typed items (nameless [] r)) (is_closed (nameless [] r) && are_among (tyvars a) (term_tyvars (nameless [] r))) e in
-      let q = both (is_closed (nameless [] r)) (are_among (tyvars a) (term_tyvars (nameless [] r))) p.1 in
+      let p = and_parts (is_typed items (nameless [] r)) (is_closed (nameless [] r) && are_among (tyvars a) (term_tyvars (nameless [] r))) e in
+      let q = and_parts (is_closed (nameless [] r)) (are_among (tyvars a) (term_tyvars (nameless [] r))) p.1 in
       record {
         typed = typed_type items r a has p.0;
         closed = closed_is (nameless [] r) q.0;

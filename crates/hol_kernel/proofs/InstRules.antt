@@ -2,6 +2,7 @@
 use Rattle.std.specs.Prelude.{◌≡◌, ℕ, Bool, true, false, cond, ◌&&◌, List, [], ◌∷◌, Option, Some, None, refl}
 use Rattle.std.specs.Option.{option_map}
 use Rattle.std.proofs.Common.{ap, sym, ◌∙◌, subst, inl, inr}
+use Rattle.std.proofs.lemmas.Bool.{and_parts, and_right}
 use mathlib.Core.Bool.{true≢false}
 use Rattle.hol_types.specs.Tree.{TypeTree}
 use Rattle.hol_types.specs.Equal.{type_eq}
@@ -46,10 +47,6 @@ types_given basis pairs s made hyps t concl fit is q r e =
 
 -- ---- terms for variables
 
-two : (a b : Bool) → (a && b) ≡ true → (a ≡ true) × (b ≡ true)
-two true b e = (refl, e)
-two false b e = absurd (true≢false (sym e))
-
 -- the pair's test, for a term of the type a
 pub pair_by : (basis : Items) (t : Named) (a : TypeTree) → named_type t ≡ Some a → (v : List ℕ × TypeTree) → is_pair_at basis (nameless [] t) (var v) ≡ (is_typed basis (nameless [] t) && type_eq a v.1)
 pair_by basis t a has v = has_type_test basis t a has v.1
@@ -62,11 +59,7 @@ pair_yes basis t u a v has is same = sym (ap (is_pair_at basis (nameless [] t)) 
     with_true false = refl
 
 pub pair_no : (basis : Items) (t u : Named) (a : TypeTree) (v : List ℕ × TypeTree) → named_type t ≡ Some a → u ≡ var v → type_eq a v.1 ≡ false → false ≡ is_pair_at basis (nameless [] t) u
-pair_no basis t u a v has is other = sym (ap (is_pair_at basis (nameless [] t)) is ∙ pair_by basis t a has v ∙ ap (λ b. is_typed basis (nameless [] t) && b) other ∙ with_false (is_typed basis (nameless [] t)))
-  where
-    with_false : (b : Bool) → (b && false) ≡ false
-    with_false true = refl
-    with_false false = refl
+pair_no basis t u a v has is other = sym (ap (is_pair_at basis (nameless [] t)) is ∙ pair_by basis t a has v ∙ ap (λ b. is_typed basis (nameless [] t) && b) other ∙ and_right (is_typed basis (nameless [] t)) false refl)
 
 has_type_is : (k : Bool) (o : Option TypeTree) (a : TypeTree) → is_type_at (cond k o None) a ≡ true → o ≡ Some a
 has_type_is true (Some s) a e = ap Some ((type_cmp_decides s a).0 e)
@@ -81,13 +74,13 @@ good_pair basis t (abs v b) e = absurd (true≢false (sym e))
 
 pub pairs_good : (basis : Items) (pairs : List (Named × Named)) → are_pairs_over basis pairs ≡ true → HasBadPair pairs → ⊥
 pairs_good basis [] e bad = bad
-pairs_good basis (p ∷ pairs) e (inl bad) = bad (good_pair basis p.0 p.1 (two (is_pair_at basis (nameless [] p.0) p.1) (are_pairs_over basis pairs) e).0)
-pairs_good basis (p ∷ pairs) e (inr bad) = pairs_good basis pairs (two (is_pair_at basis (nameless [] p.0) p.1) (are_pairs_over basis pairs) e).1 bad
+pairs_good basis (p ∷ pairs) e (inl bad) = bad (good_pair basis p.0 p.1 (and_parts (is_pair_at basis (nameless [] p.0) p.1) (are_pairs_over basis pairs) e).0)
+pairs_good basis (p ∷ pairs) e (inr bad) = pairs_good basis pairs (and_parts (is_pair_at basis (nameless [] p.0) p.1) (are_pairs_over basis pairs) e).1 bad
 
 pairs_typed_over : (basis : Items) (pairs : List (Named × Named)) → are_pairs_over basis pairs ≡ true → are_typed_for basis (nameless_pairs pairs) ≡ true
 pairs_typed_over basis [] e = refl
 pairs_typed_over basis (p ∷ pairs) e =
-    let h = two (is_pair_at basis (nameless [] p.0) p.1) (are_pairs_over basis pairs) e in
+    let h = and_parts (is_pair_at basis (nameless [] p.0) p.1) (are_pairs_over basis pairs) e in
     by p.1 h.0 (pairs_typed_over basis pairs h.1)
   where
     by : (u : Named) → is_pair_at basis (nameless [] p.0) u ≡ true → are_typed_for basis (nameless_pairs pairs) ≡ true → are_typed_for basis (pair_before (nameless [] p.0) u (nameless_pairs pairs)) ≡ true

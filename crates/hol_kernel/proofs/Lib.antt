@@ -1,6 +1,7 @@
 pub mod Sets
 pub mod Steps
 pub mod Typed
+pub mod Basic
 pub mod Stored
 pub mod Variables
 pub use Rattle.hol_subst.proofs.SortedSets

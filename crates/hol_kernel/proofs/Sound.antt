@@ -2,6 +2,7 @@
 use Rattle.std.specs.Prelude.{◌≡◌, ℕ, Bool, true, false, cond, ◌&&◌, List, [], ◌∷◌, codes, bytes_eq, Option, Some, None, refl}
 use Rattle.std.specs.Option.{option_map, option_and_then}
 use Rattle.std.proofs.Common.{ap, sym, ◌∙◌, subst}
+use Rattle.std.proofs.lemmas.Bool.{and_parts}
 use mathlib.Core.Bool.{true≢false}
 use Rattle.std.proofs.lemmas.Slice.Eq.{bytes_eq-Decides}
 use Rattle.std.specs.FinSet as set
@@ -29,10 +30,6 @@ test : {T : Type 0} (b : Bool) (x y : T) → cond b (Some x) None ≡ Some y →
 test true x y e = (refl, cc)
 test false x y e = absurd (cc)
 
-two : (a b : Bool) → (a && b) ≡ true → (a ≡ true) × (b ≡ true)
-two true b e = (refl, e)
-two false b e = absurd (true≢false (sym e))
-
 alpha : (m n : Nameless) → alpha_eq m n ≡ true → strip m ≡ strip n
 alpha m n e = (alpha_eq_decides m n).0 e
 
@@ -57,7 +54,7 @@ alpha_type s t a b e f g =
 sides_is_at : (c : List ℕ) (s : TypeTree) (l r : Nameless) (x : Sides) (p : TypeTree × TypeTree) → sides_at c s l r p ≡ Some x → app (app (fixed c s) l) r ≡ equation x.sides_type x.left x.right
 sides_is_at c s l r x p e =
     let v = test (bytes_eq c (codes "=") && type_eq s (equality_type p.0)) (record { sides_type = p.0; left = l; right = r }) x e in
-    let w = two (bytes_eq c (codes "=")) (type_eq s (equality_type p.0)) v.0 in
+    let w = and_parts (bytes_eq c (codes "=")) (type_eq s (equality_type p.0)) v.0 in
     (λ i. app (app (fixed ((bytes_eq-Decides c (codes "=")).0 w.0 i) ((type_cmp_decides s (equality_type p.0)).0 w.1 i)) l) r)
     ∙ ap (λ (z : Sides). equation z.sides_type z.left z.right) v.1
 

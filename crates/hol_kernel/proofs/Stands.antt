@@ -3,6 +3,7 @@ use Rattle.std.specs.Prelude.{◌≡◌, ℕ, zero, suc, ◌+◌, ◌-◌, ◌==
 use Rattle.std.specs.Option.{option_map, option_and_then}
 use Rattle.std.specs.List.{list_any}
 use Rattle.std.proofs.Common.{ap, sym, ◌∙◌}
+use Rattle.std.proofs.lemmas.Bool.{and_parts}
 use mathlib.Core.Bool.{true≢false}
 use Rattle.hol_types.specs.Tree.{TypeTree, TypeList, TyVar, TyApp, no_types, more_types}
 use Rattle.hol_types.specs.Fun.{fun_type}
@@ -26,10 +27,7 @@ use Rattle.hol_kernel.proofs.Declared.{has_type_is}
 use Rattle.hol_formulas.proofs.Instance.{Pairs, subst_of_instance, instance_of_subst}
 use Rattle.hol_kernel.proofs.Typed.{base_is_base}
 use Rattle.hol_kernel.proofs.Variables.{known_typed}
-
-pub both : (a b : Bool) → (a && b) ≡ true → (a ≡ true) × (b ≡ true)
-both true b e = (refl, e)
-both false b e = absurd (true≢false (sym e))
+pub use Rattle.std.proofs.lemmas.Bool.{and_parts as both}
 
 either : (a b c d : Bool) → (a ≡ true → c ≡ true) → (b ≡ true → d ≡ true) → (a || b) ≡ true → (c || d) ≡ true
 either true b c d f g e = ap (λ k. k || d) (f refl)
@@ -105,8 +103,8 @@ module _ (items : Items) where
 
   pub fun_parts_stand : (a b : TypeTree) → is_type items (fun_type a b) ≡ true → (is_type items a ≡ true) × (is_type items b ≡ true)
   fun_parts_stand a b e =
-      let p = both (is_type items a) (is_type items b && true) e in
-      (p.0, (both (is_type items b) true p.1).0)
+      let p = and_parts (is_type items a) (is_type items b && true) e in
+      (p.0, (and_parts (is_type items b) true p.1).0)
 
   -- the types of binders stand
   abbrev pub AllStand : List TypeTree → Type 0
@@ -122,14 +120,14 @@ module _ (items : Items) where
   pub type_stands : (env : List TypeTree) (n : Nameless) (a : TypeTree) → AllStand env → is_known items n ≡ true → nameless_type env n ≡ Some a → is_type items a ≡ true
   type_stands env (free v) a h k e = ap (is_type items) (sym (some_is v.1 a e)) ∙ k
   type_stands env (bound i) a h k e = bound_stands env i a h e
-  type_stands env (fixed c s) a h k e = ap (is_type items) (sym (some_is s a e)) ∙ (both (is_type items s) (has_constant items c s) k).0
+  type_stands env (fixed c s) a h k e = ap (is_type items) (sym (some_is s a e)) ∙ (and_parts (is_type items s) (has_constant items c s) k).0
   type_stands env (app f x) a h k e =
       let p = app_parts env f x a e in
-      let q = both (is_known items f) (is_known items x) k in
+      let q = and_parts (is_known items f) (is_known items x) k in
       (fun_parts_stand p.0 a (type_stands env f (fun_type p.0 a) h q.0 p.1)).1
   type_stands env (lam b s n) a h k e =
-      let q = both (is_base b) (is_type items s && is_known items n) k in
-      let r = both (is_type items s) (is_known items n) q.1 in
+      let q = and_parts (is_base b) (is_type items s && is_known items n) k in
+      let r = and_parts (is_type items s) (is_known items n) q.1 in
       let p = mapped_part (λ t. fun_type s t) (nameless_type (s ∷ env) n) a e in
       let is : fun_type s p.0 ≡ a = some_is (fun_type s p.0) a (sym (ap (option_map (λ t. fun_type s t)) p.1) ∙ e) in
       ap (is_type items) (sym is) ∙ fun_stands s p.0 r.0 (type_stands (s ∷ env) n p.0 (r.0, h) r.1 p.1)
@@ -140,10 +138,10 @@ module _ (items : Items) where
   known_strip (free v) k = k
   known_strip (bound i) k = refl
   known_strip (fixed c s) k = k
-  known_strip (app f x) k = let q = both (is_known items f) (is_known items x) k in λ i. known_strip f q.0 i && known_strip x q.1 i
+  known_strip (app f x) k = let q = and_parts (is_known items f) (is_known items x) k in λ i. known_strip f q.0 i && known_strip x q.1 i
   known_strip (lam b s n) k =
-      let q = both (is_base b) (is_type items s && is_known items n) k in
-      let r = both (is_type items s) (is_known items n) q.1 in
+      let q = and_parts (is_base b) (is_type items s && is_known items n) k in
+      let r = and_parts (is_type items s) (is_known items n) q.1 in
       λ i. r.0 i && known_strip n r.1 i
 
   known_close : (v : List ℕ × TypeTree) (k : ℕ) (n : Nameless) → is_known items n ≡ true → is_known items (close v k n) ≡ true
@@ -154,10 +152,10 @@ module _ (items : Items) where
       by false = e
   known_close v k (bound i) e = refl
   known_close v k (fixed c s) e = e
-  known_close v k (app f x) e = let q = both (is_known items f) (is_known items x) e in λ i. known_close v k f q.0 i && known_close v k x q.1 i
+  known_close v k (app f x) e = let q = and_parts (is_known items f) (is_known items x) e in λ i. known_close v k f q.0 i && known_close v k x q.1 i
   known_close v k (lam b s n) e =
-      let q = both (is_base b) (is_type items s && is_known items n) e in
-      let r = both (is_type items s) (is_known items n) q.1 in
+      let q = and_parts (is_base b) (is_type items s && is_known items n) e in
+      let r = and_parts (is_type items s) (is_known items n) q.1 in
       λ i. q.0 i && (r.0 i && known_close v (k + 1) n r.1 i)
 
   pub known_bind : (v : List ℕ × TypeTree) (n : Nameless) → is_type items v.1 ≡ true → is_known items n ≡ true → is_known items (bind v n) ≡ true
@@ -179,10 +177,10 @@ module _ (items : Items) where
       by false true = known_shift k 0 r ∙ h
       by false false = refl
   known_open r k (fixed c s) h e = e
-  known_open r k (app f x) h e = let q = both (is_known items f) (is_known items x) e in λ i. known_open r k f h q.0 i && known_open r k x h q.1 i
+  known_open r k (app f x) h e = let q = and_parts (is_known items f) (is_known items x) e in λ i. known_open r k f h q.0 i && known_open r k x h q.1 i
   known_open r k (lam b s n) h e =
-      let q = both (is_base b) (is_type items s && is_known items n) e in
-      let p = both (is_type items s) (is_known items n) q.1 in
+      let q = and_parts (is_base b) (is_type items s && is_known items n) e in
+      let p = and_parts (is_type items s) (is_known items n) q.1 in
       λ i. q.0 i && (p.0 i && known_open r (k + 1) n h p.1 i)
 
   -- ---- types for type variables
@@ -194,7 +192,7 @@ module _ (items : Items) where
   lookup_stands : (pairs : Pairs) (a : List ℕ) → are_types_for items pairs ≡ true → is_type items (type_for pairs a) ≡ true
   lookup_stands [] a ok = refl
   lookup_stands (p ∷ pairs) a ok =
-      let q = both (is_type items p.0) (are_types_for items pairs) ok in
+      let q = and_parts (is_type items p.0) (are_types_for items pairs) ok in
       by (bytes_eq p.1 a) q.0 (lookup_stands pairs a q.1)
     where
       by : (b : Bool) → is_type items p.0 ≡ true → is_type items (type_for pairs a) ≡ true → is_type items (unwrap_or (cond b (Some p.0) (type_lookup pairs a)) (TyVar a)) ≡ true
@@ -206,20 +204,20 @@ module _ (items : Items) where
       subst_stands : (t : TypeTree) → is_type items t ≡ true → is_type items (type_subst pairs t) ≡ true
       subst_stands (TyVar a) e = lookup_stands pairs a ok
       subst_stands (TyApp c ts) e =
-          let p = both (has_arity items c (types_count ts)) (are_types items ts) e in
+          let p = and_parts (has_arity items c (types_count ts)) (are_types items ts) e in
           λ i. (ap (has_arity items c) (types_counted pairs ts) ∙ p.0) i && substs_stand ts p.1 i
 
       substs_stand : (ts : TypeList) → are_types items ts ≡ true → are_types items (types_subst pairs ts) ≡ true
       substs_stand no_types e = refl
       substs_stand (more_types t ts) e =
-          let p = both (is_type items t) (are_types items ts) e in λ i. subst_stands t p.0 i && substs_stand ts p.1 i
+          let p = and_parts (is_type items t) (are_types items ts) e in λ i. subst_stands t p.0 i && substs_stand ts p.1 i
 
     generic_inst : (o : Option TypeTree) (a : TypeTree) → is_instance_of o a ≡ true → is_instance_of o (type_subst pairs a) ≡ true
     generic_inst None a e = e
     generic_inst (Some generic) a e = instance_inst pairs generic a e
 
     at_inst : (c : List ℕ) (a : TypeTree) (p : List ℕ × TypeTree) → is_constant_at c a p ≡ true → is_constant_at c (type_subst pairs a) p ≡ true
-    at_inst c a p e = let q = both (bytes_eq c p.0) (is_instance p.1 a) e in λ i. q.0 i && instance_inst pairs p.1 a q.1 i
+    at_inst c a p e = let q = and_parts (bytes_eq c p.0) (is_instance p.1 a) e in λ i. q.0 i && instance_inst pairs p.1 a q.1 i
 
     makes_inst : (c : List ℕ) (a : TypeTree) (x : Item) → makes_constant c a x ≡ true → makes_constant c (type_subst pairs a) x ≡ true
     makes_inst c a x e = any_mono (is_constant_at c a) (is_constant_at c (type_subst pairs a)) (at_inst c a) (item_constants x) e
@@ -235,11 +233,11 @@ module _ (items : Items) where
     known_inst (free v) e = subst_stands v.1 e
     known_inst (bound i) e = refl
     known_inst (fixed c s) e =
-        let q = both (is_type items s) (has_constant items c s) e in λ i. subst_stands s q.0 i && constant_inst c s q.1 i
-    known_inst (app f x) e = let q = both (is_known items f) (is_known items x) e in λ i. known_inst f q.0 i && known_inst x q.1 i
+        let q = and_parts (is_type items s) (has_constant items c s) e in λ i. subst_stands s q.0 i && constant_inst c s q.1 i
+    known_inst (app f x) e = let q = and_parts (is_known items f) (is_known items x) e in λ i. known_inst f q.0 i && known_inst x q.1 i
     known_inst (lam b s n) e =
-        let q = both (is_base b) (is_type items s && is_known items n) e in
-        let r = both (is_type items s) (is_known items n) q.1 in
+        let q = and_parts (is_base b) (is_type items s && is_known items n) e in
+        let r = and_parts (is_type items s) (is_known items n) q.1 in
         λ i. q.0 i && (subst_stands s r.0 i && known_inst n r.1 i)
 
   -- ---- terms for variables
@@ -247,7 +245,7 @@ module _ (items : Items) where
   for_known : (pairs : List (Nameless × (List ℕ × TypeTree))) (v : List ℕ × TypeTree) → are_typed_for items pairs ≡ true → is_type items v.1 ≡ true → is_known items (term_for pairs v) ≡ true
   for_known [] v ok stands = stands
   for_known (p ∷ pairs) v ok stands =
-      let q = both (has_type items p.0 p.1.1) (are_typed_for items pairs) ok in
+      let q = and_parts (has_type items p.0 p.1.1) (are_typed_for items pairs) ok in
       by (variable_eq p.1 v) (known_typed items p.0 p.1.1 (has_type_is items p.0 p.1.1 q.0)).0 (for_known pairs v q.1 stands)
     where
       by : (b : Bool) → is_known items p.0 ≡ true → is_known items (term_for pairs v) ≡ true → is_known items (unwrap_or (cond b (Some p.0) (term_lookup pairs v)) (free v)) ≡ true
@@ -257,7 +255,7 @@ module _ (items : Items) where
   pub typed_pairs_fit : (pairs : List (Nameless × (List ℕ × TypeTree))) → are_typed_for items pairs ≡ true → PairsFit pairs
   typed_pairs_fit [] ok = tt
   typed_pairs_fit (p ∷ pairs) ok =
-      let q = both (has_type items p.0 p.1.1) (are_typed_for items pairs) ok in
+      let q = and_parts (has_type items p.0 p.1.1) (are_typed_for items pairs) ok in
       ((known_typed items p.0 p.1.1 (has_type_is items p.0 p.1.1 q.0)).1, typed_pairs_fit pairs q.1)
 
   pub known_subst : (pairs : List (Nameless × (List ℕ × TypeTree))) → are_typed_for items pairs ≡ true → (k : ℕ) (n : Nameless) → is_known items n ≡ true → is_known items (term_subst pairs k n) ≡ true
@@ -265,8 +263,8 @@ module _ (items : Items) where
   known_subst pairs ok k (bound i) e = refl
   known_subst pairs ok k (fixed c s) e = e
   known_subst pairs ok k (app f x) e =
-      let q = both (is_known items f) (is_known items x) e in λ i. known_subst pairs ok k f q.0 i && known_subst pairs ok k x q.1 i
+      let q = and_parts (is_known items f) (is_known items x) e in λ i. known_subst pairs ok k f q.0 i && known_subst pairs ok k x q.1 i
   known_subst pairs ok k (lam b s n) e =
-      let q = both (is_base b) (is_type items s && is_known items n) e in
-      let r = both (is_type items s) (is_known items n) q.1 in
+      let q = and_parts (is_base b) (is_type items s && is_known items n) e in
+      let r = and_parts (is_type items s) (is_known items n) q.1 in
       λ i. q.0 i && (r.0 i && known_subst pairs ok (k + 1) n r.1 i)

@@ -3,6 +3,7 @@ use Rattle.std.specs.Prelude.{◌≡◌, ℕ, Bool, true, false, cond, not, ◌&
 use Rattle.std.specs.Option.{option_map, option_and_then}
 use Rattle.std.specs.FinSet as set
 use Rattle.std.proofs.Common.{ap, sym, ◌∙◌, subst}
+use Rattle.std.proofs.lemmas.Bool.{and_right}
 use Rattle.hol_types.specs.Tree.{TypeTree}
 use Rattle.hol_types.specs.Equal.{type_eq, variable_eq}
 use Rattle.hol_types.specs.Fun.{fun_type, fun_parts}
@@ -64,11 +65,7 @@ module _ (basis : Items) (t : Named) (a : TypeTree) (has : named_type t ≡ Some
   pub assume_no_bool : type_eq a bool_type ≡ false → assume_of basis (nameless [] t) ≡ None
   assume_no_bool e =
       ap (λ k. cond k (Some (sequent_of (only_hyp (nameless [] t)) (nameless [] t))) None)
-      (has_type_test bool_type ∙ ap (λ k. is_typed basis (nameless [] t) && k) e ∙ never (is_typed basis (nameless [] t)))
-    where
-      never : (k : Bool) → (k && false) ≡ false
-      never true = refl
-      never false = refl
+      (has_type_test bool_type ∙ ap (λ k. is_typed basis (nameless [] t) && k) e ∙ and_right (is_typed basis (nameless [] t)) false refl)
 
   pub assume_no_type : is_typed basis (nameless [] t) ≡ false → assume_of basis (nameless [] t) ≡ None
   assume_no_type f =
@@ -179,3 +176,16 @@ pub ruleset betas = (beta_other, beta_untyped, beta_gives)
 pub ruleset refls = (refl_yes, refl_none)
 
 pub ruleset assumes = (assume_yes, assume_no_bool, assume_no_type)
+
+-- whether a term is well typed, of a type, from tests of the one and of the other
+pub typed_test : (basis : Items) (t : Named) (s b : TypeTree) → named_type t ≡ Some s → type_eq s b ≡ true → is_typed basis (nameless [] t) ≡ has_type basis (nameless [] t) b
+typed_test basis t s b has e = sym (has_type_test basis t s has b ∙ ap (λ k. is_typed basis (nameless [] t) && k) e ∙ and_true (is_typed basis (nameless [] t)))
+  where
+    and_true : (k : Bool) → (k && true) ≡ k
+    and_true true = refl
+    and_true false = refl
+
+pub other_type : (basis : Items) (t : Named) (s b : TypeTree) → named_type t ≡ Some s → type_eq s b ≡ false → has_type basis (nameless [] t) b ≡ false
+other_type basis t s b has e = has_type_test basis t s has b ∙ ap (λ k. is_typed basis (nameless [] t) && k) e ∙ and_right (is_typed basis (nameless [] t)) false refl
+
+pub ruleset type_tests = (typed_test, other_type)

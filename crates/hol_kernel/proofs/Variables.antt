@@ -3,6 +3,7 @@ use Rattle.std.specs.Prelude.{◌≡◌, ℕ, Bool, true, false, cond, ◌&&◌,
 use Rattle.std.specs.Option.{option_map}
 use Rattle.std.specs.List.{list_any}
 use Rattle.std.proofs.Common.{ap, sym, ◌∙◌}
+use Rattle.std.proofs.lemmas.Bool.{and_parts}
 use Rattle.hol_types.specs.Tree.{TypeTree, TypeList, TyVar, TyApp, no_types, more_types}
 use Rattle.hol_types.specs.Fun.{fun_type}
 use Rattle.hol_terms.specs.Nameless.{Nameless, free, app, fixed, nameless_type}
@@ -17,10 +18,6 @@ use Rattle.hol_kernel.specs.Rules.{reflexive, refl_of}
 use Rattle.hol_formulas.proofs.Instance.{instance_of_subst}
 use Rattle.hol_formulas.proofs.EquationTypes.{applied_fits}
 use Rattle.hol_kernel.proofs.Sets.{items_empty}
-
-both : (a b : Bool) → (a && b) ≡ true → (a ≡ true) × (b ≡ true)
-both true b e = (refl, e)
-both false b e = absurd (cc)
 
 -- a term is well typed where its types and constants stand and it has a type
 pub typed_known : (items : Items) (t : Nameless) (a : TypeTree) → is_known items t ≡ true → nameless_type [] t ≡ Some a → HasType items t a
@@ -84,8 +81,8 @@ prelude_arity items c n e = ap (λ b. b || list_any (makes_type c n) (in_order i
 mutual
   pub prelude_type : (items : Items) (a : TypeTree) → is_type no_items a ≡ true → is_type items a ≡ true
   prelude_type items (TyVar a) e = refl
-  prelude_type items (TyApp c ts) e = let p = both (has_arity no_items c (types_count ts)) (are_types no_items ts) e in λ i. prelude_arity items c (types_count ts) p.0 i && prelude_types_stand items ts p.1 i
+  prelude_type items (TyApp c ts) e = let p = and_parts (has_arity no_items c (types_count ts)) (are_types no_items ts) e in λ i. prelude_arity items c (types_count ts) p.0 i && prelude_types_stand items ts p.1 i
 
   pub prelude_types_stand : (items : Items) (ts : TypeList) → are_types no_items ts ≡ true → are_types items ts ≡ true
   prelude_types_stand items no_types e = refl
-  prelude_types_stand items (more_types t ts) e = let p = both (is_type no_items t) (are_types no_items ts) e in λ i. prelude_type items t p.0 i && prelude_types_stand items ts p.1 i
+  prelude_types_stand items (more_types t ts) e = let p = and_parts (is_type no_items t) (are_types no_items ts) e in λ i. prelude_type items t p.0 i && prelude_types_stand items ts p.1 i

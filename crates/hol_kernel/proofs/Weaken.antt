@@ -1,6 +1,7 @@
 -- What holds over a set of items holds over every larger one.
 use Rattle.std.specs.Prelude.{◌≡◌, ℕ, Bool, true, false, cond, ◌&&◌, ◌||◌, List, [], ◌∷◌, Option, Some, None, refl}
 use Rattle.std.proofs.Common.{ap, sym, ◌∙◌, subst}
+use Rattle.std.proofs.lemmas.Bool.{and_parts}
 use mathlib.Core.Bool.{true≢false}
 use Rattle.std.specs.List.{list_any, list_all}
 use Rattle.hol_types.specs.Tree.{TypeTree, TypeList, TyVar, TyApp, no_types, more_types}
@@ -29,10 +30,6 @@ ordered_held items x h =
     let is : x ≡ r.0 = equal_keys total only x r.0 r.2 in
     subst (λ (y : Item). Among y (in_order items)) (sym is) r.1
 
-both : (a b : Bool) → (a && b) ≡ true → (a ≡ true) × (b ≡ true)
-both true b e = (refl, e)
-both false b e = absurd (true≢false (sym e))
-
 either : (a b c : Bool) → (b ≡ true → c ≡ true) → (a || b) ≡ true → (a || c) ≡ true
 either true b c f e = refl
 either false b c f e = f e
@@ -53,22 +50,22 @@ module _ (items more : Items) (within : IsWithin items more) where
     pub is_type_more : (a : TypeTree) → is_type items a ≡ true → is_type more a ≡ true
     is_type_more (TyVar v) e = refl
     is_type_more (TyApp c ts) e =
-        let p = both (has_arity items c (types_count ts)) (are_types items ts) e in λ i. has_arity_more c (types_count ts) p.0 i && are_types_more ts p.1 i
+        let p = and_parts (has_arity items c (types_count ts)) (are_types items ts) e in λ i. has_arity_more c (types_count ts) p.0 i && are_types_more ts p.1 i
 
     pub are_types_more : (ts : TypeList) → are_types items ts ≡ true → are_types more ts ≡ true
     are_types_more no_types e = refl
     are_types_more (more_types t ts) e =
-        let p = both (is_type items t) (are_types items ts) e in λ i. is_type_more t p.0 i && are_types_more ts p.1 i
+        let p = and_parts (is_type items t) (are_types items ts) e in λ i. is_type_more t p.0 i && are_types_more ts p.1 i
 
   pub is_known_more : (t : Nameless) → is_known items t ≡ true → is_known more t ≡ true
   is_known_more (free v) e = is_type_more v.1 e
   is_known_more (bound i) e = refl
   is_known_more (fixed c s) e =
-      let p = both (is_type items s) (has_constant items c s) e in λ i. is_type_more s p.0 i && has_constant_more c s p.1 i
-  is_known_more (app f x) e = let p = both (is_known items f) (is_known items x) e in λ i. is_known_more f p.0 i && is_known_more x p.1 i
+      let p = and_parts (is_type items s) (has_constant items c s) e in λ i. is_type_more s p.0 i && has_constant_more c s p.1 i
+  is_known_more (app f x) e = let p = and_parts (is_known items f) (is_known items x) e in λ i. is_known_more f p.0 i && is_known_more x p.1 i
   is_known_more (lam a s b) e =
-      let p = both (is_base a) (is_type items s && is_known items b) e in
-      let q = both (is_type items s) (is_known items b) p.1 in
+      let p = and_parts (is_base a) (is_type items s && is_known items b) e in
+      let q = and_parts (is_type items s) (is_known items b) p.1 in
       λ i. p.0 i && (is_type_more s q.0 i && is_known_more b q.1 i)
 
   pub HasType-more : (t : Nameless) (a : TypeTree) → HasType items t a → HasType more t a
@@ -87,7 +84,7 @@ module _ (items more : Items) (within : IsWithin items more) where
 
   pub all_more : {X : Type 0} (p q : X → Bool) → ((x : X) → p x ≡ true → q x ≡ true) → (xs : List X) → list_all p xs ≡ true → list_all q xs ≡ true
   all_more p q f [] e = refl
-  all_more p q f (x ∷ xs) e = let r = both (p x) (list_all p xs) e in λ i. f x r.0 i && all_more p q f xs r.1 i
+  all_more p q f (x ∷ xs) e = let r = and_parts (p x) (list_all p xs) e in λ i. f x r.0 i && all_more p q f xs r.1 i
 
   pub Derives-more : (hs : Hyps) (c : Nameless) → Derives items hs c → Derives more hs c
   Derives-more _ _ (by_refl t a h) = by_refl t a (HasType-more t a h)

@@ -1,8 +1,10 @@
 //! Bases: legal sets of items.
-ghost use Rattle.std.specs.Prelude.{◌≡◌, ◌||◌, IfOk, []};
+ghost use Rattle.std.specs.Prelude.{◌≡◌, ◌||◌, IfOk, IfSome, Some, []};
 ghost use Rattle.std.specs.List.{list_any};
 ghost use Rattle.std.specs.List.Sorted.{IsStrictlySortedBy};
+ghost use Rattle.hol_terms.specs.Named.{named_type};
 ghost use Rattle.hol_terms.specs.Nameless.{nameless};
+ghost use Rattle.hol_formulas.specs.Equation.{bool_type, mk_eq};
 ghost use Rattle.hol_kernel.specs.Items.{item_cmp, item_set, no_items, in_order};
 ghost use Rattle.hol_kernel.specs.Signature.{has_arity, has_constant, makes_type, makes_constant};
 ghost use Rattle.hol_kernel.specs.Typing.{is_type, is_typed};
@@ -10,16 +12,25 @@ ghost use Rattle.hol_kernel.specs.NamedTyping.{is_known_named};
 ghost use Rattle.hol_kernel.specs.Legal.{IsLegalSet, IsStorable};
 
 use crate::item::Item;
+use hol_formulas::Equality;
 use hol_terms::{Term, TermNode};
 use hol_types::{Name, Ty, TyNode};
 use std::alloc::{AllocError, Global};
+use std::cell::RefCell;
 use std::marker::Model;
 use std::rc::Rc;
 
 /// A legal set of items. Its copies share it. The prelude belongs to every basis and is not listed.
 #[derive(Drop)]
 pub struct Basis {
-    items: Rc<Vec<Item>>,
+    shared: Rc<BasisShared>,
+}
+
+// What the copies of a basis share: its items, and the `=` that a rule last asked for, so that equations of one type share it.
+#[derive(Drop)]
+struct BasisShared {
+    items: Vec<Item>,
+    equality: RefCell<Option<Equality>>,
 }
 
 impl Model for Basis {
@@ -31,9 +42,9 @@ impl Model for Basis {
 
     ghost use Rattle.hol_kernel.specs.Legal.{IsStorable};
 
-    ghost view = { λ b. item_set b.items.value.items };
+    ghost view = { λ b. item_set b.shared.value.items.items };
 
-    ghost invariant = { λ b. IsStorable b.items.value.items };
+    ghost invariant = { λ b. IsStorable b.shared.value.items.items };
 }
 
 impl Basis {
@@ -42,8 +53,12 @@ impl Basis {
         requires { IsStorable items.items }
         ensures { IfOk result (λ basis. basis ≡ item_set items.items) }
     {
+        let shared = BasisShared {
+            items,
+            equality: RefCell::new(None),
+        };
         Ok(Basis {
-            items: Rc::new(alloc, items)?,
+            shared: Rc::new(alloc, shared)?,
         })
     }
 
@@ -60,7 +75,7 @@ impl Basis {
         ensures { IfOk result (λ basis. basis ≡ self.now) }
     {
         Ok(Basis {
-            items: self.items.clone()?,
+            shared: self.shared.clone()?,
         })
     }
 
@@ -72,7 +87,50 @@ impl Basis {
         ensures ordered { IsStrictlySortedBy item_cmp result.now }
         ensures legal { IsLegalSet self.now }
     {
-        &self.items
+        &self.shared.items
+    }
+
+    /// `left = right`, for two terms of the type. It has the `=` of the equation before, where that is of the same type.
+    pub(crate) fn equation(
+        &self,
+        alloc: Global,
+        ty: &Ty,
+        left: &Term,
+        right: &Term,
+    ) -> Result<Term, AllocError>
+        requires left { named_type left.now ≡ Some ty.now }
+        requires right { named_type right.now ≡ Some ty.now }
+        ensures is { IfOk result (λ t. t ≡ mk_eq ty.now left.now right.now) }
+        ensures typed { IfOk result (λ t. named_type t ≡ Some bool_type) }
+    {
+        let equality = self.equality(alloc, ty)?;
+        equality.between(alloc, left, right)
+    }
+
+    // `=` between terms of the type. The last one is kept.
+    fn equality(&self, alloc: Global, ty: &Ty) -> Result<Equality, AllocError>
+        ensures { IfOk result (λ equality. equality ≡ ty.now) }
+    {
+        if let Some(kept) = self.kept_equality(ty)? {
+            return Ok(kept);
+        }
+        let equality = Equality::at(alloc, ty)?;
+        let _ = self.shared.equality.try_replace(Some(equality.copy()?));
+        Ok(equality)
+    }
+
+    // The `=` that was kept, if it is between terms of the type.
+    fn kept_equality(&self, ty: &Ty) -> Result<Option<Equality>, AllocError>
+        ensures { IfOk result (λ kept. IfSome kept (λ equality. equality ≡ ty.now)) }
+    {
+        let Ok(kept) = self.shared.equality.try_borrow() else {
+            return Ok(None);
+        };
+        match &*kept {
+            Some(equality) if equality.is_at(ty) => Ok(Some(equality.copy()?)),
+            Some(_) => Ok(None),
+            None => Ok(None),
+        }
     }
 
     /// Whether the type constructor stands at this arity.
@@ -83,10 +141,15 @@ impl Basis {
     }
 
     /// Whether each type constructor in the type stands and has as many arguments as its arity says.
-    #[tactic(auto, using(crate::proofs::Steps::is_type_app))]
+    ///
+    /// Parts with constructors of the prelude alone are passed over.
+    #[tactic(auto, using(crate::proofs::Steps::is_type_app, crate::proofs::Basic::basic_stands))]
     pub fn is_type(&self, ty: &Ty) -> bool
         ensures { result ≡ is_type self.now ty.now }
     {
+        if ty.is_basic() {
+            return true;
+        }
         match ty.node() {
             TyNode::Var(_) => true,
             TyNode::App(constructor, args) => {
@@ -114,6 +177,8 @@ impl Basis {
     }
 
     /// Whether the term is well typed over the prelude and the items.
+    ///
+    /// Parts with types and constants of the prelude alone are passed over.
     #[tactic(auto, using(crate::proofs::Typed::typed_named))]
     pub fn is_typed(&self, alloc: Global, term: &Term) -> Result<bool, AllocError>
         ensures { IfOk result (λ is. is ≡ is_typed self.now (nameless [] term.now)) }
@@ -123,9 +188,13 @@ impl Basis {
     }
 
     // Whether each type and each constant of the term stands.
+    #[tactic(auto, using(crate::proofs::Basic::basic_knows))]
     fn knows(&self, alloc: Global, term: &Term) -> Result<bool, AllocError>
         ensures { IfOk result (λ knows. knows ≡ is_known_named self.now term.now) }
     {
+        if term.is_basic() {
+            return Ok(true);
+        }
         match term.node() {
             TermNode::Var(v) => Ok(self.is_type(v.ty())),
             TermNode::Const(name, ty) => {

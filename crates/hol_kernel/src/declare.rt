@@ -78,15 +78,14 @@ impl Basis {
     }
 
     /// Whether the term is well typed over the prelude and the items, of type `bool`.
+    #[tactic(auto, using(crate::proofs::TermRules::type_tests))]
     pub fn is_formula(&self, alloc: Global, p: &Term) -> Result<bool, AllocError>
         ensures { IfOk result (λ is. is ≡ has_type self.now (nameless [] p.now) bool_type) }
     {
-        let typed = self.is_typed(alloc, p)?;
-        if !typed {
+        if !hol_formulas::is_bool(p.type_of()) {
             return Ok(false);
         }
-        let truth = hol_formulas::bool_type(alloc)?;
-        Ok(p.type_of().same(&truth))
+        self.is_typed(alloc, p)
     }
 }
 

@@ -88,5 +88,5 @@ fn is_pair(alloc: Global, basis: &Basis, term: &Term, u: &Term) -> Result<bool, 
     if !term.type_of().same(v.ty()) {
         return Ok(false);
     }
-    Ok(basis.is_typed(alloc, term)?)
+    basis.is_typed(alloc, term)
 }

@@ -267,7 +267,7 @@ fn is_constant_at(
 }
 
 /// The constructor over type variables of these names.
-pub fn new_type(alloc: Global, name: &Name, parameters: &[Name]) -> Result<Ty, AllocError>
+pub(crate) fn new_type(alloc: Global, name: &Name, parameters: &[Name]) -> Result<Ty, AllocError>
     ensures { IfOk result (λ ty. ty ≡ new_type name.now parameters.now) }
 {
     let mut args = Vec::with_capacity(alloc, parameters.len())?;

@@ -8,7 +8,7 @@ use hol_formulas::{has_axiom_name, has_constant_name, has_type_name};
 use hol_types::Name;
 
 /// Whether the prelude has the name, as one of this kind.
-pub fn has_name(kind: ItemKind, name: &Name) -> bool
+pub(crate) fn has_name(kind: ItemKind, name: &Name) -> bool
     ensures { result ≡ prelude_has (key_at kind name.now) }
 {
     match kind {

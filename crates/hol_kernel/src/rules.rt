@@ -12,7 +12,7 @@ ghost use Rattle.hol_kernel.specs.declared.error.Rule.TheVariants as rule;
 use crate::basis::Basis;
 use crate::error::{KernelError, Rule};
 use crate::thm::Thm;
-use hol_formulas::{Sides, dest_eq, is_bool, mk_eq, mk_iff};
+use hol_formulas::{Sides, dest_eq, is_bool, mk_eq, mk_eq_like, mk_iff};
 use hol_subst::Hypotheses;
 use hol_terms::{Term, TermNode, Variable};
 use hol_types::Ty;
@@ -30,7 +30,7 @@ impl Thm {
         if !basis.is_typed(alloc, term)? {
             return Err(KernelError::Refused(Rule::Refl));
         }
-        let concl = mk_eq(alloc, term.type_of(), term, term)?;
+        let concl = basis.equation(alloc, term.type_of(), term, term)?;
         Ok(Thm::unconditional(alloc, basis, concl)?)
     }
 
@@ -69,7 +69,7 @@ impl Thm {
         if !x.right.alpha_equivalent(y.left) {
             return Err(KernelError::Refused(Rule::Trans));
         }
-        let concl = mk_eq(alloc, x.ty, x.left, y.right)?;
+        let concl = mk_eq_like(alloc, a.concl(), x.ty, x.left, y.right)?;
         let hyps = a.hypotheses().union(alloc, b.hypotheses())?;
         Ok(Thm::closed(a.basis(), hyps, concl)?)
     }
@@ -96,7 +96,7 @@ impl Thm {
         if !domain.same(y.ty) {
             return Err(KernelError::Refused(Rule::MkComb));
         }
-        let concl = applied(alloc, x, y, range)?;
+        let concl = applied(alloc, a.basis(), x, y, range)?;
         let hyps = a.hypotheses().union(alloc, b.hypotheses())?;
         Ok(Thm::closed(a.basis(), hyps, concl)?)
     }
@@ -146,7 +146,7 @@ impl Thm {
         if !basis.is_typed(alloc, redex)? {
             return Err(KernelError::Refused(Rule::Beta));
         }
-        let concl = mk_eq(alloc, redex.type_of(), redex, body)?;
+        let concl = basis.equation(alloc, redex.type_of(), redex, body)?;
         Ok(Thm::unconditional(alloc, basis, concl)?)
     }
 
@@ -189,7 +189,13 @@ impl Thm {
 
 // The equation of the applications of the sides: those of `x` are functions to `range`.
 #[tactic(auto, using(hol_formulas::proofs::PartTypes::applications))]
-fn applied(alloc: Global, x: Sides<'_>, y: Sides<'_>, range: &Ty) -> Result<Term, AllocError>
+fn applied(
+    alloc: Global,
+    basis: &Basis,
+    x: Sides<'_>,
+    y: Sides<'_>,
+    range: &Ty,
+) -> Result<Term, AllocError>
     requires functions { x.ty.now ≡ fun_type y.ty.now range.now }
     requires left { named_type x.left.now ≡ Some x.ty.now }
     requires right { named_type x.right.now ≡ Some x.ty.now }
@@ -200,7 +206,7 @@ fn applied(alloc: Global, x: Sides<'_>, y: Sides<'_>, range: &Ty) -> Result<Term
 {
     let left = Term::application(alloc, x.left, y.left)?;
     let right = Term::application(alloc, x.right, y.right)?;
-    mk_eq(alloc, range, &left, &right)
+    basis.equation(alloc, range, &left, &right)
 }
 
 // The equation of the abstractions of the sides.

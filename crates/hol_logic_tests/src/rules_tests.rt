@@ -2,8 +2,10 @@
 use crate::bases::{Step, basis};
 use crate::rules::{made, premise};
 use crate::sequents::{Made, found, told};
+use crate::terms_tests::doubled;
 use crate::written::term;
 use hol_kernel::{Basis, Given, Postulate, Thm};
+use hol_terms::Term;
 use std::alloc::Global;
 use std::test::Fail;
 
@@ -76,6 +78,25 @@ const KERNEL: [Row; 19] = [
 #[test]
 fn rules_of_the_kernel(rt: HostRuntime) -> Result<(), Fail> {
     assert_eq!(rt; unmet(rt.alloc(), &KERNEL)?.as_str(), "");
+    Ok(())
+}
+
+// `(\x. t) x`.
+fn redex(alloc: Global, t: &Term) -> Result<Term, Fail> {
+    let x = term(alloc, "x:A")?;
+    Ok(Term::comb(alloc, &Term::abs(alloc, &x, t)?, &x)?)
+}
+
+// It would not end in the reader's lifetime if a rule walked the tree.
+#[test]
+fn rules_do_not_walk_a_shared_term(rt: HostRuntime) -> Result<(), Fail> {
+    let basis = Basis::empty(rt.alloc())?;
+    let t = doubled(rt.alloc(), "p:A")?;
+    let th = Thm::refl(rt.alloc(), &basis, &t)?;
+    let th = Thm::trans(rt.alloc(), &th, &th)?;
+    assert!(rt; th.hyps().is_empty());
+    let th = Thm::beta(rt.alloc(), &basis, &redex(rt.alloc(), &t)?)?;
+    assert!(rt; th.hyps().is_empty());
     Ok(())
 }
 

@@ -1,8 +1,10 @@
 //! Terms: each call that takes memory is seen to have an answer, which no clause can promise, and no call walks a shared term.
 use crate::written::{term, variable};
+use hol_subst::alpha_order;
 use hol_terms::{Term, TermError, base_name};
 use hol_types::Name;
 use std::alloc::Global;
+use std::cmp::Ordering;
 use std::test::Fail;
 
 fn primed(alloc: Global, text: &str) -> Result<Name, Fail> {
@@ -59,14 +61,51 @@ fn a_base_name_has_no_primes_at_its_end(rt: HostRuntime) {
     }
 }
 
-// A term whose tree has a variable of type A at 2^60 places, over two nodes a level.
-fn doubled(alloc: Global, leaf: &str) -> Result<Term, Fail> {
+/// A term whose tree has a variable of type A at 2^60 places, over two nodes a level.
+pub(crate) fn doubled(alloc: Global, leaf: &str) -> Result<Term, Fail> {
     let f = term(alloc, "f:A->A->A")?;
     let mut t = term(alloc, leaf)?;
     for _ in 0..60 {
         t = Term::comb(alloc, &Term::comb(alloc, &f, &t)?, &t)?;
     }
     Ok(t)
+}
+
+// The term as both arguments of a new application.
+fn pair(alloc: Global, t: &Term) -> Result<Term, Fail> {
+    let f = term(alloc, "g:A->A->A")?;
+    Ok(Term::comb(alloc, &Term::comb(alloc, &f, t)?, t)?)
+}
+
+// The abstraction of the variable.
+fn under(alloc: Global, v: &str, t: &Term) -> Result<Term, Fail> {
+    Ok(Term::abs(alloc, &term(alloc, v)?, t)?)
+}
+
+// It would not end in the reader's lifetime if a call walked the tree.
+#[test]
+fn one_node_is_not_walked_twice(rt: HostRuntime) -> Result<(), Fail> {
+    let t = doubled(rt.alloc(), "p:A")?;
+    let s = pair(rt.alloc(), &t)?;
+    assert!(rt; s.same(&pair(rt.alloc(), &t)?));
+    assert_eq!(rt; alpha_order(&s, &pair(rt.alloc(), &t)?), Ordering::Equal);
+    let one = under(rt.alloc(), "x:A", &s)?;
+    let other = under(rt.alloc(), "y:A", &pair(rt.alloc(), &t)?)?;
+    assert!(rt; one.alpha_equivalent(&other) && !one.same(&other));
+    assert_eq!(rt; alpha_order(&one, &other), Ordering::Equal);
+    Ok(())
+}
+
+// A node that stands under other binders on one side is walked there.
+#[test]
+fn one_node_can_stand_for_two_terms(rt: HostRuntime) -> Result<(), Fail> {
+    let t = pair(rt.alloc(), &term(rt.alloc(), "x:A")?)?;
+    let one = under(rt.alloc(), "x:A", &t)?;
+    let other = under(rt.alloc(), "y:A", &t)?;
+    assert!(rt; !one.same(&other) && !one.alpha_equivalent(&other));
+    assert_eq!(rt; alpha_order(&one, &other), Ordering::Less);
+    assert!(rt; one.same(&under(rt.alloc(), "x:A", &t)?));
+    Ok(())
 }
 
 // It would not end in the reader's lifetime if a call walked the tree.

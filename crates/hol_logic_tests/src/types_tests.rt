@@ -65,6 +65,14 @@ fn compared(alloc: Global) -> Result<Ordering, Fail> {
     Ok(large.order(&doubled(alloc, "B", 61)?))
 }
 
+// Two equal types of 2^61 leaves over one such type: whether they are the same, and their order.
+fn compared_beside(alloc: Global) -> Result<(bool, Ordering), Fail> {
+    let large = doubled(alloc, "B", 60)?;
+    let first = Ty::fun(alloc, &large, &large)?;
+    let second = Ty::fun(alloc, &large, &large)?;
+    Ok((first.same(&second), first.order(&second)))
+}
+
 fn variables(alloc: Global) -> Result<usize, Fail> {
     let closed = doubled(alloc, "bool", 60)?;
     Ok(closed.tyvars(alloc)?.len())
@@ -75,6 +83,7 @@ fn variables(alloc: Global) -> Result<usize, Fail> {
 fn a_shared_type_is_not_walked(rt: HostRuntime) -> Result<(), Fail> {
     assert_eq!(rt; sizes(rt.alloc())?, (20_001, 20_001));
     assert_eq!(rt; compared(rt.alloc())?, Ordering::Less);
+    assert_eq!(rt; compared_beside(rt.alloc())?, (true, Ordering::Equal));
     assert_eq!(rt; variables(rt.alloc())?, 0);
     Ok(())
 }

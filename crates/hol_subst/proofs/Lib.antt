@@ -1,6 +1,7 @@
 pub mod Longest
 pub mod Closing
 pub mod AlphaOrder
+pub mod SameOrder
 pub mod CodeOrder
 pub mod FreeName
 pub mod Commute

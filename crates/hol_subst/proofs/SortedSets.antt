@@ -1,6 +1,7 @@
 -- Strictly sorted lists of keys as finite sets: two lists merged, a list but for one key, in any total order in which only equal keys tie.
 use Rattle.std.specs.Prelude.{◌≡◌, ◌⊎◌, Bool, true, false, cond, not, ◌||◌, ◌&&◌, List, [], ◌∷◌, ◌++◌, map, refl}
 use Rattle.std.proofs.Common.{ap, sym, ◌∙◌, subst, inl, inr}
+use Rattle.std.proofs.lemmas.Bool.{or_cases, or_right}
 use mathlib.Core.Bool.{true≢false}
 use Rattle.std.specs.declared.cmp.Ordering.{Ordering}
 use Rattle.std.specs.declared.cmp.Ordering.TheVariants.{Less, Equal, Greater}
@@ -55,14 +56,6 @@ any_append : {K : Type 0} (p : K → Bool) (xs ys : List K) → list_any p (xs +
 any_append p [] ys = refl
 any_append p (x ∷ xs) ys = ap (λ b. p x || b) (any_append p xs ys) ∙ or_assoc (p x) (list_any p xs) (list_any p ys)
 
-or_true : (a : Bool) → (a || true) ≡ true
-or_true true = refl
-or_true false = refl
-
-or_cases : (a b : Bool) → (a || b) ≡ true → (a ≡ true) ⊎ (b ≡ true)
-or_cases true b e = inl refl
-or_cases false b e = inr e
-
 -- q is one of the list
 abbrev pub Among : {K : Type 0} → K → List K → Type 0
 Among q [] = ⊥
@@ -79,7 +72,7 @@ any_some p (x ∷ xs) e =
 some_any : {K : Type 0} (p : K → Bool) (xs : List K) (x : K) → Among x xs → p x ≡ true → list_any p xs ≡ true
 some_any p [] x h e = absurd h
 some_any p (y ∷ xs) x (inl f) e = ap (λ b. b || list_any p xs) (ap p (sym f) ∙ e)
-some_any p (y ∷ xs) x (inr g) e = ap (λ b. p y || b) (some_any p xs x g e) ∙ or_true (p y)
+some_any p (y ∷ xs) x (inr g) e = ap (λ b. p y || b) (some_any p xs x g e) ∙ or_right (p y) true refl
 
 among_map : {K L : Type 0} (f : K → L) (q : K) (xs : List K) → Among q xs → Among (f q) (map f xs)
 among_map f q [] h = absurd h
@@ -185,7 +178,7 @@ module _ {K : Type 0} {R : K → K → Ordering} (o : IsTotalOrder R) where
   among_has : (q : K) (xs : List K) → Among q xs → list_any (eq_by_cmp R q) xs ≡ true
   among_has q [] h = absurd h
   among_has q (x ∷ xs) (inl e) = ap (λ b. b || list_any (eq_by_cmp R q) xs) (ap (λ k. is_eq (R q k)) (sym e) ∙ ap is_eq (tied_itself o q))
-  among_has q (x ∷ xs) (inr h) = ap (λ b. eq_by_cmp R q x || b) (among_has q xs h) ∙ or_true (eq_by_cmp R q x)
+  among_has q (x ∷ xs) (inr h) = ap (λ b. eq_by_cmp R q x || b) (among_has q xs h) ∙ or_right (eq_by_cmp R q x) true refl
 
   -- ---- as sets
 

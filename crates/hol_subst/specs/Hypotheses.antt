@@ -1,5 +1,5 @@
 -- Finite sets of terms, taken up to the names of bound variables: the hypotheses of a theorem (fusion.ml: term_union, term_remove, term_image).
-use Rattle.std.specs.Prelude.{List, [], map}
+use Rattle.std.specs.Prelude.{List, [], map, Option, Some, None}
 use Rattle.std.specs.FinSet as set
 use Rattle.hol_terms.specs.Nameless.{Nameless, nameless}
 use Rattle.hol_terms.specs.Named as named
@@ -28,3 +28,8 @@ hyp_of p = strip (nameless [] p)
 -- the hypotheses that a list of named terms stands for
 abbrev pub hyps_of : List named.Named → Hyps
 hyps_of ps = set.from_list (map hyp_of ps)
+
+-- the list that is shared, or no term
+abbrev pub listed : {R : Type 0} → Option R → (R → List named.Named) → List named.Named
+listed None items = []
+listed (Some r) items = items r

@@ -16,7 +16,7 @@ ghost use Rattle.hol_subst.specs.Substitution.{types_inst, term_subst};
 use crate::alpha::alpha_order;
 use crate::instances::inst_all;
 use crate::substitution::vsubst_all;
-use hol_terms::{Term, Variable};
+use hol_terms::{Term, Variable, add_copies};
 use hol_types::{Name, Ty};
 use std::alloc::{AllocError, Global};
 use std::cmp::Ordering;
@@ -26,7 +26,8 @@ use std::rc::Rc;
 /// The hypotheses of a theorem, each once up to the names of bound variables, in the order of their set. Its copies share them.
 #[derive(Drop)]
 pub struct Hypotheses {
-    terms: Rc<Vec<Term>>,
+    // Where there is none, no memory is taken.
+    terms: Option<Rc<Vec<Term>>>,
 }
 
 impl Model for Hypotheses {
@@ -34,16 +35,16 @@ impl Model for Hypotheses {
     ghost use Rattle.std.specs.List.Sorted.{IsStrictlySortedBy};
     ghost use Rattle.std.specs.FinSet as set;
     ghost use Rattle.hol_terms.specs.Code.{coded_nameless};
-    ghost use Rattle.hol_subst.specs.Hypotheses.{Hyps, hyp_of, hyps_of};
+    ghost use Rattle.hol_subst.specs.Hypotheses.{Hyps, hyp_of, hyps_of, listed};
     ghost use Rattle.hol_subst.specs.AlphaOrder.{nameless_cmp};
 
     ghost Value = { Hyps };
 
     ghost coded = { set.code coded_nameless };
 
-    ghost view = { λ h. hyps_of h.terms.value.items };
+    ghost view = { λ h. hyps_of (listed h.terms (λ r. r.value.items)) };
 
-    ghost invariant = { λ h. IsStrictlySortedBy nameless_cmp (map hyp_of h.terms.value.items) };
+    ghost invariant = { λ h. IsStrictlySortedBy nameless_cmp (map hyp_of (listed h.terms (λ r. r.value.items))) };
 }
 
 impl Hypotheses {
@@ -52,8 +53,11 @@ impl Hypotheses {
         requires { IsStrictlySortedBy nameless_cmp (map hyp_of terms.items) }
         ensures { IfOk result (λ hyps. hyps ≡ hyps_of terms.items) }
     {
+        if terms.is_empty() {
+            return Ok(Hypotheses { terms: None });
+        }
         Ok(Hypotheses {
-            terms: Rc::new(alloc, terms)?,
+            terms: Some(Rc::new(alloc, terms)?),
         })
     }
 
@@ -87,9 +91,11 @@ impl Hypotheses {
     pub fn copy(&self) -> Result<Hypotheses, AllocError>
         ensures { IfOk result (λ hyps. hyps ≡ self.now) }
     {
-        Ok(Hypotheses {
-            terms: self.terms.clone()?,
-        })
+        let terms = match &self.terms {
+            Some(terms) => Some(terms.clone()?),
+            None => None,
+        };
+        Ok(Hypotheses { terms })
     }
 
     /// The hypotheses, in the order of their set.
@@ -97,7 +103,10 @@ impl Hypotheses {
         ensures set { hyps_of result.now ≡ self.now }
         ensures ordered { IsStrictlySortedBy nameless_cmp (map hyp_of result.now) }
     {
-        &self.terms
+        match &self.terms {
+            Some(terms) => terms.as_slice(),
+            None => &[],
+        }
     }
 
     /// The hypotheses of both.
@@ -157,8 +166,8 @@ impl Hypotheses {
     }
 }
 
-// Whether the variable is free in a term of the list.
-fn is_free_in_one(terms: &[Term], v: &Variable) -> bool
+/// Whether the variable is free in a term of the list.
+pub fn is_free_in_one(terms: &[Term], v: &Variable) -> bool
     ensures { result ≡ list_any (λ p. binds (free_occurrences (nameless [] p)) v.now) terms.now }
 {
     for p in terms {
@@ -184,7 +193,7 @@ fn in_order(alloc: Global, terms: &[Term]) -> Result<Vec<Term>, AllocError>
 {
     if terms.len() <= 1 {
         let mut all = Vec::new(alloc);
-        copy_to(&mut all, terms)?;
+        add_copies(&mut all, terms)?;
         return Ok(all);
     }
     let half = terms.len() / 2;
@@ -217,8 +226,8 @@ fn merged(alloc: Global, first: &[Term], second: &[Term]) -> Result<Vec<Term>, A
             }
         }
     }
-    copy_to(&mut all, &first[i..])?;
-    copy_to(&mut all, &second[j..])?;
+    add_copies(&mut all, &first[i..])?;
+    add_copies(&mut all, &second[j..])?;
     Ok(all)
 }
 
@@ -227,16 +236,6 @@ fn push_copy(all: &mut Vec<Term>, p: &Term) -> Result<(), AllocError>
     ensures { OnOk result (all.new.items ≡ all.old.items ++ p.now ∷ []) }
 {
     all.push(p.copy()?)?;
-    Ok(())
-}
-
-// Puts copies of the terms at the end.
-fn copy_to(all: &mut Vec<Term>, terms: &[Term]) -> Result<(), AllocError>
-    ensures { OnOk result (all.new.items ≡ all.old.items ++ terms.now) }
-{
-    for p in terms {
-        push_copy(all, p)?;
-    }
     Ok(())
 }
 

@@ -12,7 +12,7 @@ ghost use Rattle.hol_subst.specs.Renaming.{image, images_without, KeepsTypes, Is
 ghost use Rattle.hol_types.specs.Filter.{name_bit, pairs_filter};
 ghost use Rattle.std.specs.Int.RustNames.{bit_or};
 
-use crate::rebuilt::{changed_abstraction, changed_application};
+use crate::rebuilt::{changed_abstraction, changed_application, copied, operator};
 use crate::variants::variant;
 use hol_terms::{Scope, Term, TermNode, Variable};
 use hol_types::{Name, NameFilter, Ty};
@@ -39,7 +39,7 @@ pub fn inst(alloc: Global, pairs: &[(Ty, Name)], t: &Term) -> Result<Term, Alloc
         t,
     )? {
         Some(instance) => Ok(instance),
-        None => Ok(t.copy()?),
+        None => t.copy(),
     }
 }
 
@@ -60,6 +60,7 @@ pub(crate) fn inst_all(
 
 // The instance of the term under the old binders, where the new ones stand for these; nothing where it is the term itself. The pairs'
 // names are among `names`, and those of the binders that were renamed among `renamed`: a part with none of either is passed over.
+#[cycle(changed)]
 fn changed(
     alloc: Global,
     pairs: &[(Ty, Name)],
@@ -81,8 +82,7 @@ fn changed(
         TermNode::Var(v) => changed_variable(alloc, pairs, old, new, v),
         TermNode::Const(c, ty) => changed_constant(alloc, pairs, c, ty),
         TermNode::Comb(f, x) => {
-            let g = changed(alloc, pairs, names, old, new, renamed, f)?;
-            let y = changed(alloc, pairs, names, old, new, renamed, x)?;
+            let (g, y) = changed_parts(alloc, pairs, names, old, new, renamed, f, x)?;
             changed_application(alloc, t, f, g, x, y)
         }
         TermNode::Abs(v, b) => {
@@ -94,6 +94,34 @@ fn changed(
             changed_abstraction(alloc, v, &u, b, c)
         }
     }
+}
+
+// What `changed` makes of the parts of the application `f x`.
+#[cycle(changed)]
+fn changed_parts(
+    alloc: Global,
+    pairs: &[(Ty, Name)],
+    names: NameFilter,
+    old: &Scope,
+    new: &Scope,
+    renamed: NameFilter,
+    f: &Term,
+    x: &Term,
+) -> Result<(Option<Term>, Option<Term>), AllocError>
+    requires types { KeepsTypes pairs.now (binders old.now) (binders new.now) }
+    requires names { names.bits ≡ pairs_filter pairs.now }
+    requires renamed { HasRenamed pairs.now (binders old.now) (binders new.now) renamed.bits }
+    ensures function { IfOk result (λ r. IsInstance pairs.now (binders old.now) (binders new.now) f.now (unwrap_or r.0 f.now)) }
+    ensures argument { IfOk result (λ r. IsInstance pairs.now (binders old.now) (binders new.now) x.now (unwrap_or r.1 x.now)) }
+{
+    let y = changed(alloc, pairs, names, old, new, renamed, x)?;
+    let Some(h) = operator(f, x) else {
+        let g = changed(alloc, pairs, names, old, new, renamed, f)?;
+        return Ok((g, y));
+    };
+    let k = changed(alloc, pairs, names, old, new, renamed, h)?;
+    let g = changed_application(alloc, f, h, k, x, copied(&y)?)?;
+    Ok((g, y))
 }
 
 // The names of the renamed binders, with that of `v` unless `u`, which stands for it, is the same.

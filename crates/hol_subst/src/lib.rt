@@ -19,7 +19,7 @@ mod variants;
 pub use alpha::{aconv, alpha_order};
 pub use closed::is_closed;
 pub use error::SubstError;
-pub use hypotheses::Hypotheses;
+pub use hypotheses::{Hypotheses, is_free_in_one};
 pub use instances::inst;
 pub use names::free_name;
 pub use substitution::{vsubst, vsubst_good};

@@ -10,7 +10,7 @@ use hol_terms::{Term, Variable};
 use std::alloc::{AllocError, Global};
 
 /// The term of the first pair of the variable.
-pub fn replacement<'a>(pairs: &'a [(Term, Variable)], v: &Variable) -> Option<&'a Term>
+pub(crate) fn replacement<'a>(pairs: &'a [(Term, Variable)], v: &Variable) -> Option<&'a Term>
     ensures { MatchOption result (given pairs.now v.now ≡ var v.now) (λ t. given pairs.now v.now ≡ t.now) }
 {
     for pair in pairs {
@@ -22,7 +22,7 @@ pub fn replacement<'a>(pairs: &'a [(Term, Variable)], v: &Variable) -> Option<&'
 }
 
 /// Whether some pair is of the variable.
-pub fn has_pair(pairs: &[(Term, Variable)], v: &Variable) -> bool
+pub(crate) fn has_pair(pairs: &[(Term, Variable)], v: &Variable) -> bool
     ensures { result ≡ has_pair pairs.now v.now }
 {
     for pair in pairs {
@@ -34,7 +34,7 @@ pub fn has_pair(pairs: &[(Term, Variable)], v: &Variable) -> bool
 }
 
 /// Whether the variable of some pair may be free in the term: where it says no, none is.
-pub fn may_touch(pairs: &[(Term, Variable)], t: &Term) -> bool
+pub(crate) fn may_touch(pairs: &[(Term, Variable)], t: &Term) -> bool
     ensures { result ≡ false → touches pairs.now t.now ≡ false }
 {
     for pair in pairs {
@@ -46,7 +46,7 @@ pub fn may_touch(pairs: &[(Term, Variable)], t: &Term) -> bool
 }
 
 /// Whether the variable is free in the term of a pair whose variable is free in `b`.
-pub fn comes_in(pairs: &[(Term, Variable)], v: &Variable, b: &Term) -> bool
+pub(crate) fn comes_in(pairs: &[(Term, Variable)], v: &Variable, b: &Term) -> bool
     ensures { result ≡ comes_in pairs.now v.now b.now }
 {
     for pair in pairs {
@@ -58,7 +58,7 @@ pub fn comes_in(pairs: &[(Term, Variable)], v: &Variable, b: &Term) -> bool
 }
 
 /// The pairs that are left in the body `b` of an abstraction over `v`.
-pub fn rest_of(
+pub(crate) fn rest_of(
     alloc: Global,
     pairs: &[(Term, Variable)],
     v: &Variable,
@@ -84,7 +84,7 @@ fn stays(u: &Variable, v: &Variable, b: &Term) -> bool
 }
 
 /// Puts the pair at the end.
-pub fn add_pair(
+pub(crate) fn add_pair(
     pairs: &mut Vec<(Term, Variable)>,
     term: &Term,
     v: &Variable,
@@ -98,7 +98,7 @@ pub fn add_pair(
 /// nothing that is then in `b`.
 ///
 /// The substituted body isn't made for this: its free variables are those of `b` that have no pair, and those of the terms that come in.
-pub fn renaming(
+pub(crate) fn renaming(
     alloc: Global,
     pairs: &[(Term, Variable)],
     v: &Variable,
@@ -121,7 +121,7 @@ fn is_taken(pairs: &[(Term, Variable)], b: &Term, v: &Variable) -> bool
 }
 
 /// The pairs after one that gives the variable `u` for `v`.
-pub fn renaming_first(
+pub(crate) fn renaming_first(
     alloc: Global,
     u: &Variable,
     v: &Variable,

@@ -1,9 +1,9 @@
 //! Applications and abstractions made again of what became of their parts.
-ghost use Rattle.std.specs.Prelude.{◌≡◌, IfOk, IsSome, Some, unwrap_or};
+ghost use Rattle.std.specs.Prelude.{◌≡◌, IfOk, IfSome, IsSome, Some, unwrap_or};
 ghost use Rattle.hol_types.specs.Tree.{TypeTree};
 ghost use Rattle.hol_terms.specs.Named.{comb, abs, named_type};
 
-use hol_terms::{Term, Variable};
+use hol_terms::{Term, TermNode, Variable};
 use std::alloc::{AllocError, Global};
 
 /// The application of what became of `f` to what became of `x`, or nothing where both stayed. It fits if the types of the application
@@ -25,6 +25,27 @@ pub(crate) fn changed_application(
     // It has a type, so `t` is known to be well typed.
     let _ty = t.type_of();
     Ok(Some(Term::application(alloc, either(&g, f), either(&y, x))?))
+}
+
+/// `h`, where `f` is the application of `h` to a term that has the node of `x`: so what becomes of `x` is found once in `f x`, as in an
+/// equation of a term and itself.
+pub(crate) fn operator<'a>(f: &'a Term, x: &Term) -> Option<&'a Term>
+    ensures { IfSome result (λ h. f.now ≡ comb h.now x.now) }
+{
+    let TermNode::Comb(h, z) = f.node() else {
+        return None;
+    };
+    if z.same_node(x) { Some(h) } else { None }
+}
+
+/// A copy, if there is a term.
+pub(crate) fn copied(new: &Option<Term>) -> Result<Option<Term>, AllocError>
+    ensures { IfOk result (λ r. r ≡ new.now) }
+{
+    match new {
+        Some(term) => Ok(Some(term.copy()?)),
+        None => Ok(None),
+    }
 }
 
 /// The abstraction of `u` in what became of `b`, or nothing where `u` is `v` and `b` stayed.

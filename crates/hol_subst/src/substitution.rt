@@ -12,7 +12,7 @@ use crate::error::SubstError;
 use crate::pairs::{
     add_pair, comes_in, has_pair, may_touch, renaming, renaming_first, replacement, rest_of,
 };
-use crate::rebuilt::{changed_abstraction, changed_application};
+use crate::rebuilt::{changed_abstraction, changed_application, copied, operator};
 use hol_terms::{Term, TermNode, Variable};
 use std::alloc::{AllocError, Global};
 
@@ -117,6 +117,7 @@ fn add_first(found: &mut Vec<(Term, Variable)>, term: &Term, u: &Term) -> Result
 }
 
 // The term with the terms of the pairs for its free variables, or nothing where it stays as it is.
+#[cycle(substituted)]
 fn substituted(
     alloc: Global,
     t: &Term,
@@ -132,8 +133,7 @@ fn substituted(
         TermNode::Var(v) => at_variable(pairs, v),
         TermNode::Const(_, _) => Ok(None),
         TermNode::Comb(f, x) => {
-            let function = substituted(alloc, f, pairs)?;
-            let argument = substituted(alloc, x, pairs)?;
+            let (function, argument) = substituted_parts(alloc, f, x, pairs)?;
             changed_application(alloc, t, f, function, x, argument)
         }
         TermNode::Abs(v, b) => {
@@ -142,6 +142,28 @@ fn substituted(
             changed_abstraction(alloc, v, &entry.binder, b, inside)
         }
     }
+}
+
+// What `substituted` makes of the parts of the application `f x`.
+#[cycle(substituted)]
+fn substituted_parts(
+    alloc: Global,
+    f: &Term,
+    x: &Term,
+    pairs: &[(Term, Variable)],
+) -> Result<(Option<Term>, Option<Term>), AllocError>
+    requires { Fit pairs.now }
+    ensures function { IfOk result (λ r. IsResult pairs.now f.now (unwrap_or r.0 f.now)) }
+    ensures argument { IfOk result (λ r. IsResult pairs.now x.now (unwrap_or r.1 x.now)) }
+{
+    let argument = substituted(alloc, x, pairs)?;
+    let Some(h) = operator(f, x) else {
+        let function = substituted(alloc, f, pairs)?;
+        return Ok((function, argument));
+    };
+    let inner = substituted(alloc, h, pairs)?;
+    let function = changed_application(alloc, f, h, inner, x, copied(&argument)?)?;
+    Ok((function, argument))
 }
 
 // A copy of the term of the first pair of the variable.
@@ -182,6 +204,6 @@ fn or_same(changed: Option<Term>, t: &Term) -> Result<Term, AllocError>
 {
     match changed {
         Some(changed) => Ok(changed),
-        None => Ok(t.copy()?),
+        None => t.copy(),
     }
 }

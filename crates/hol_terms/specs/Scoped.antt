@@ -1,7 +1,9 @@
 -- What the code compares and collects under binders, on the named terms themselves. Laws in proofs/ lead from here to nameless terms.
-use Rattle.std.specs.Prelude.{ℕ, List, [], ◌∷◌, ◌++◌, Bool, false, cond, not, ◌&&◌, ◌||◌, bytes_eq}
+use Rattle.std.specs.Prelude.{◌≡◌, ℕ, List, [], ◌∷◌, ◌++◌, Bool, true, false, cond, not, ◌&&◌, ◌||◌, bytes_eq}
+use Rattle.std.specs.Int.{bit_at}
 use Rattle.hol_types.specs.Tree.{TypeTree}
 use Rattle.hol_types.specs.Equal.{type_eq, variable_eq}
+use Rattle.hol_types.specs.Filter.{name_place}
 use Rattle.hol_terms.specs.Named.{Named, var, constant, comb, abs}
 use Rattle.hol_terms.specs.Nameless.{base_of}
 
@@ -16,6 +18,10 @@ same_place [] v [] w = variable_eq v w
 same_place [] v (r ∷ right) w = false
 same_place (l ∷ left) v [] w = false
 same_place (l ∷ left) v (r ∷ right) w = cond (variable_eq l v) (variable_eq r w) (cond (variable_eq r w) false (same_place left v right w))
+
+-- a variable whose name has no bit among these stands for one thing under both
+pub record AgreeBut (bits : ℕ) (left right : List (List ℕ × TypeTree)) : Type 0 where
+  pub same : (v : List ℕ × TypeTree) → (bit_at bits (name_place 0 v.0) ≡ 1 → ⊥) → same_place left v right v ≡ true
 
 -- the terms agree under their binders; base names count where with_bases is true
 abbrev pub same_named : Bool → List (List ℕ × TypeTree) → Named → List (List ℕ × TypeTree) → Named → Bool

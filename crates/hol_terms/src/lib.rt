@@ -4,11 +4,14 @@
 #![tactic(auto)]
 
 mod base;
+mod basic;
+mod lists;
 mod scope;
 mod term;
 mod variable;
 
 pub use base::base_name;
-pub use scope::Scope;
+pub use lists::{add_copies, copies};
+pub use scope::{Scope, same_place, with_binders};
 pub use term::{Term, TermError, TermNode};
 pub use variable::Variable;

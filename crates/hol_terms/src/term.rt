@@ -3,17 +3,20 @@ ghost use Rattle.std.specs.Prelude.{◌≡◌, ℕ, List, [], ◌∷◌, ◌↔�
 ghost use Rattle.hol_terms.specs.Named.{Named, var, constant, comb, abs, named_type, applied_type};
 ghost use Rattle.hol_types.specs.Tree.{TypeTree};
 ghost use Rattle.hol_terms.specs.Nameless.{nameless, nameless_type, base_of, free_occurrences};
-ghost use Rattle.hol_terms.specs.Scoped.{binds, same_named, add_all, occurs_in};
+ghost use Rattle.hol_terms.specs.Scoped.{binds, AgreeBut, same_named, add_all, occurs_in};
 ghost use Rattle.hol_terms.specs.Scope.{binders};
 ghost use Rattle.hol_terms.specs.Alpha.{strip, alpha_eq};
 ghost use Rattle.hol_terms.specs.Size.{named_size, term_size};
 ghost use Rattle.hol_terms.specs.Filter.{filter_of, type_filter_of};
+ghost use Rattle.hol_terms.specs.Basic.{is_basic_term};
 ghost use Rattle.hol_terms.specs.View.{named_of};
 ghost use Rattle.hol_terms.specs.declared.term.TermError.TheVariants.{Memory};
 
 use crate::base::base_name;
-use crate::scope::{Scope, same_place};
+use crate::basic::is_basic_constant;
+use crate::scope::{Scope, same_place, with_binders};
 use crate::variable::Variable;
+use hol_mark::Mark;
 use hol_types::{Name, NameFilter, Ty};
 use std::alloc::{AllocError, Global};
 use std::marker::Model;
@@ -42,16 +45,25 @@ impl From<AllocError> for TermError {
     }
 }
 
-/// A well typed term. It keeps its type, its size and filters of its free variables and of its type variables, and copies share their
-/// nodes.
+/// A well typed term. Copies share their nodes.
 #[cycle(term)]
 #[derive(Drop)]
 pub struct Term {
-    node: Rc<TermNode>,
+    shared: Rc<TermShared>,
+}
+
+// What the copies of a term share: its top node, the mark by which two copies are known to be of one term, its type, its size,
+// filters of its free variables and of its type variables, and whether all its types and constants are the prelude's.
+#[cycle(term)]
+#[derive(Drop)]
+struct TermShared {
+    node: TermNode,
+    mark: Mark,
     ty: Ty,
     size: u32,
     filter: NameFilter,
     type_filter: NameFilter,
+    basic: bool,
 }
 
 /// The top node of a term.
@@ -73,7 +85,8 @@ impl Model for Term {
     ghost use Rattle.hol_terms.specs.Named.{Named, named_type, term_nodes};
     ghost use Rattle.hol_terms.specs.Size.{named_size};
     ghost use Rattle.hol_terms.specs.Filter.{filter_of, type_filter_of};
-    ghost use Rattle.hol_terms.specs.Code.{coded_named};
+    ghost use Rattle.hol_terms.specs.Basic.{is_basic_term};
+    ghost use Rattle.hol_terms.specs.Code.{coded_named, named_code};
 
     ghost Value = { Named };
 
@@ -81,15 +94,15 @@ impl Model for Term {
 
     ghost use Rattle.hol_terms.specs.View.{named_of};
 
-    ghost view = { λ a. named_of a.node.value };
+    ghost view = { λ a. named_of a.shared.value.node };
 
-    ghost invariant = { λ a. (named_type (named_of a.node.value) ≡ Some a.ty) × (a.size ≡ min (named_size (named_of a.node.value)) 20001) × (a.filter.bits ≡ filter_of (named_of a.node.value)) × (a.type_filter.bits ≡ type_filter_of (named_of a.node.value)) };
+    ghost invariant = { λ a. (a.shared.value.mark ≡ named_code (named_of a.shared.value.node)) × (named_type (named_of a.shared.value.node) ≡ Some a.shared.value.ty) × (a.shared.value.size ≡ min (named_size (named_of a.shared.value.node)) 20001) × (a.shared.value.filter.bits ≡ filter_of (named_of a.shared.value.node)) × (a.shared.value.type_filter.bits ≡ type_filter_of (named_of a.shared.value.node)) × (a.shared.value.basic ≡ is_basic_term (named_of a.shared.value.node)) };
 
     ghost size = { term_nodes };
 
     ghost use Rattle.hol_terms.specs.Falls.{deep_le_nodes};
 
-    ghost size_decreases = { λ a h. deep_le_nodes a.node.value };
+    ghost size_decreases = { λ a h. deep_le_nodes a.shared.value };
 }
 
 impl Term {
@@ -175,15 +188,22 @@ impl Term {
         requires { named_type (named_of node) ≡ Some ty }
         ensures { IfOk result (λ t. t ≡ named_of node) }
     {
+        let mark = Mark::about(&node);
         let size = node.size();
         let filter = node.filter();
         let type_filter = node.type_filter();
-        Ok(Term {
-            node: Rc::new(alloc, node)?,
+        let basic = node.is_basic();
+        let shared = TermShared {
+            node,
+            mark,
             ty,
             size,
             filter,
             type_filter,
+            basic,
+        };
+        Ok(Term {
+            shared: Rc::new(alloc, shared)?,
         })
     }
 
@@ -192,11 +212,7 @@ impl Term {
         ensures { IfOk result (λ t. t ≡ self.now) }
     {
         Ok(Term {
-            node: self.node.clone()?,
-            ty: self.ty.copy()?,
-            size: self.size,
-            filter: self.filter,
-            type_filter: self.type_filter,
+            shared: self.shared.clone()?,
         })
     }
 
@@ -204,7 +220,7 @@ impl Term {
     pub fn node(&self) -> &TermNode
         ensures { named_of result.now ≡ self.now }
     {
-        self.node.as_ref()
+        &self.shared.node
     }
 
     /// The type of the term. Each term keeps it, so this is at once and takes no memory.
@@ -213,48 +229,76 @@ impl Term {
         ensures named { named_type self.now ≡ Some result.now }
         ensures nameless { nameless_type [] (nameless [] self.now) ≡ Some result.now }
     {
-        &self.ty
+        &self.shared.ty
+    }
+
+    /// Whether the two have one top node. Where they don't, they may still be equal.
+    ///
+    /// Takes no memory, and no more time for a larger term.
+    pub fn same_node(&self, other: &Term) -> bool
+        ensures { IsTrue result → self.now ≡ other.now }
+    {
+        self.shared.mark.same(&other.shared.mark)
     }
 
     /// Whether the two are equal as nameless terms, base names of bound variables included.
     ///
-    /// Takes no memory. Terms of different sizes are told apart at once. Else shared nodes are compared again at each place where
-    /// they stand, up to the first difference.
-    #[tactic(auto, using(crate::proofs::Same::same_terms_decides, crate::proofs::Size::same_sizes))]
+    /// Takes no memory. Terms of different sizes are told apart at once. Else both are walked up to the first difference, but for parts
+    /// where both have one node under binders that give it one meaning.
+    #[tactic(auto, using(crate::proofs::Same::same_terms_decides, crate::proofs::Size::same_sizes, crate::proofs::SameNode::agree_outside))]
     pub fn same(&self, other: &Term) -> bool
         ensures { IsTrue result ↔ (nameless [] self.now ≡ nameless [] other.now) }
     {
-        self.size == other.size && self.same_under(&Scope::Outside, other, &Scope::Outside, true)
+        let none = NameFilter::empty();
+        self.size() == other.size()
+            && self.same_under(&Scope::Outside, other, &Scope::Outside, none, true)
     }
 
     /// Whether the two are alpha equivalent: equal as nameless terms where base names are left out.
     ///
-    /// Takes no memory. Terms of different sizes are told apart at once. Else shared nodes are compared again at each place where
-    /// they stand, up to the first difference.
-    #[tactic(auto, using(crate::proofs::Alpha::alpha_equivalence, crate::proofs::Size::alpha_sizes))]
+    /// Takes no memory. Terms of different sizes are told apart at once. Else both are walked up to the first difference, but for parts
+    /// where both have one node under binders that give it one meaning.
+    #[tactic(auto, using(crate::proofs::Alpha::alpha_equivalence, crate::proofs::Size::alpha_sizes, crate::proofs::SameNode::agree_outside))]
     pub fn alpha_equivalent(&self, other: &Term) -> bool
         ensures test { result ≡ alpha_eq (nameless [] self.now) (nameless [] other.now) }
         ensures equal { IsTrue result ↔ (strip (nameless [] self.now) ≡ strip (nameless [] other.now)) }
     {
-        self.size == other.size && self.same_under(&Scope::Outside, other, &Scope::Outside, false)
+        let none = NameFilter::empty();
+        self.size() == other.size()
+            && self.same_under(&Scope::Outside, other, &Scope::Outside, none, false)
     }
 
-    // Whether the two agree under their binders. Base names count only where `with_bases` says so.
-    fn same_under(&self, left: &Scope, other: &Term, right: &Scope, with_bases: bool) -> bool
+    // Whether the two agree under their binders, of which those that differ have names among `apart`. Base names count only where
+    // `with_bases` says so.
+    #[tactic(auto, using(crate::proofs::SameNode::same_alike, crate::proofs::SameNode::agree_inside))]
+    fn same_under(
+        &self,
+        left: &Scope,
+        other: &Term,
+        right: &Scope,
+        apart: NameFilter,
+        with_bases: bool,
+    ) -> bool
+        requires { AgreeBut apart.bits (binders left.now) (binders right.now) }
         ensures { result ≡ same_named with_bases (binders left.now) self.now (binders right.now) other.now }
     {
-        match (&*self.node, &*other.node) {
+        if !self.filter().meets(apart) && self.same_node(other) {
+            return true;
+        }
+        match (&self.shared.node, &other.shared.node) {
             (TermNode::Var(v), TermNode::Var(w)) => same_place(left, v, right, w),
             (TermNode::Const(c, s), TermNode::Const(d, t)) => c.same(d) && s.same(t),
             (TermNode::Comb(f, x), TermNode::Comb(g, y)) => {
-                f.same_under(left, g, right, with_bases) && x.same_under(left, y, right, with_bases)
+                f.same_under(left, g, right, apart, with_bases)
+                    && x.same_under(left, y, right, apart, with_bases)
             }
             (TermNode::Abs(v, b), TermNode::Abs(w, c)) => {
+                let inside = with_binders(apart, v, w);
                 let left = &Scope::Inside(v, &*left);
                 let right = &Scope::Inside(w, &*right);
                 (!with_bases || same_base(v.name(), w.name()))
                     && v.ty().same(w.ty())
-                    && b.same_under(left, c, right, with_bases)
+                    && b.same_under(left, c, right, inside, with_bases)
             }
             _ => false,
         }
@@ -269,7 +313,7 @@ impl Term {
         ensures named { result ≡ min (named_size self.now) 20001 }
         ensures size { result ≡ min (term_size [] (nameless [] self.now)) 20001 }
     {
-        self.size
+        self.shared.size
     }
 
     /// Whether the variable occurs free.
@@ -290,7 +334,7 @@ impl Term {
         if !self.may_have_free(v) {
             return false;
         }
-        match &*self.node {
+        match &self.shared.node {
             TermNode::Var(w) => w.same(v),
             TermNode::Const(_, _) => false,
             TermNode::Comb(f, x) => f.occurs(v) || x.occurs(v),
@@ -305,14 +349,14 @@ impl Term {
     pub fn may_have_free(&self, v: &Variable) -> bool
         ensures { IsTrue (occurs_in v.now self.now) → IsTrue result }
     {
-        self.filter.meets(v.filter())
+        self.shared.filter.meets(v.filter())
     }
 
     /// A set that has the names of the free variables, and may have others. Each term keeps it, so this is at once.
     pub fn filter(&self) -> NameFilter
         ensures { result.bits ≡ filter_of self.now }
     {
-        self.filter
+        self.shared.filter
     }
 
     /// A set that has the names of the variables of the types in the term, and may have others. Each term keeps it, so this is at
@@ -320,7 +364,15 @@ impl Term {
     pub fn type_filter(&self) -> NameFilter
         ensures { result.bits ≡ type_filter_of self.now }
     {
-        self.type_filter
+        self.shared.type_filter
+    }
+
+    /// Whether all types and constants of the term are the prelude's, each constant at an instance of its generic type: so the term is
+    /// well typed over every basis. Each term keeps it, so this is at once.
+    pub fn is_basic(&self) -> bool
+        ensures { result ≡ is_basic_term self.now }
+    {
+        self.shared.basic
     }
 
     /// The free variables, each once, by first occurrence.
@@ -337,7 +389,7 @@ impl Term {
     fn add_frees(&self, scope: &Scope, found: &mut Vec<Variable>) -> Result<(), AllocError>
         ensures { OnOk result (found.new.items ≡ add_all found.old.items (free_occurrences (nameless (binders scope.now) self.now))) }
     {
-        match &*self.node {
+        match &self.shared.node {
             TermNode::Var(v) => {
                 if !scope.binds(v) && !contains(found, v) {
                     found.push(v.copy()?)?;
@@ -378,8 +430,8 @@ impl TermNode {
         match self {
             TermNode::Var(v) => v.filter(),
             TermNode::Const(_, _) => NameFilter::empty(),
-            TermNode::Comb(f, x) => f.filter.union(x.filter),
-            TermNode::Abs(_, b) => b.filter,
+            TermNode::Comb(f, x) => f.filter().union(x.filter()),
+            TermNode::Abs(_, b) => b.filter(),
         }
     }
 
@@ -390,8 +442,20 @@ impl TermNode {
         match self {
             TermNode::Var(v) => v.ty().filter(),
             TermNode::Const(_, ty) => ty.filter(),
-            TermNode::Comb(f, x) => f.type_filter.union(x.type_filter),
-            TermNode::Abs(v, b) => v.ty().filter().union(b.type_filter),
+            TermNode::Comb(f, x) => f.type_filter().union(x.type_filter()),
+            TermNode::Abs(v, b) => v.ty().filter().union(b.type_filter()),
+        }
+    }
+
+    // Whether all types and constants of the term with this top node are the prelude's.
+    fn is_basic(&self) -> bool
+        ensures { result ≡ is_basic_term (named_of self.now) }
+    {
+        match self {
+            TermNode::Var(v) => v.ty().is_basic(),
+            TermNode::Const(c, ty) => ty.is_basic() && is_basic_constant(c, ty),
+            TermNode::Comb(f, x) => f.is_basic() && x.is_basic(),
+            TermNode::Abs(v, b) => v.ty().is_basic() && b.is_basic(),
         }
     }
 }

@@ -52,6 +52,10 @@ mutual
 pub type_cmp_decides : (s t : TypeTree) → Decides (is_eq (type_cmp s t)) (s ≡ t)
 type_cmp_decides s t = (λ e. type_equal s t ((Equal-is (type_cmp s t)).0 e), λ e. subst (λ u. is_eq (type_cmp s u) ≡ true) e (ap is_eq (type_same s)))
 
+-- what the order answers of one type twice
+pub type_cmp_same : (s t : TypeTree) → s ≡ t → Equal ≡ type_cmp s t
+type_cmp_same s t e = sym (type_same s) ∙ ap (type_cmp s) e
+
 -- equal types have one size
 pub sizes_differ : (s t : TypeTree) → min (type_size s) 20001 ≢ min (type_size t) 20001 → is_eq (type_cmp s t) ≡ false
 sizes_differ s t h = by (is_eq (type_cmp s t)) refl

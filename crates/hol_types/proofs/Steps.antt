@@ -1,8 +1,8 @@
 -- One step of a loop over arguments.
-use Rattle.std.proofs.Common.{◌≡◌, ℕ, ◌+◌, ◌<◌, ◌≤◌, zero, suc, List, [], ◌∷◌, length, get_or, drop, take, map, refl, ap, ◌∙◌, arith, add-one, drop-cons}
+use Rattle.std.proofs.Common.{◌≡◌, Bool, true, ◌&&◌, ℕ, ◌+◌, ◌<◌, ◌≤◌, zero, suc, List, [], ◌∷◌, length, get_or, drop, take, map, refl, ap, ◌∙◌, arith, add-one, drop-cons}
 use Rattle.std.proofs.lemmas.List.{take_all, drop_all}
 use Rattle.std.proofs.Math.Seq.{drop-nil}
-use Rattle.hol_types.specs.Tree.{TypeTree, TyVar, no_types, more_types, type_list}
+use Rattle.hol_types.specs.Tree.{TypeTree, TyVar, TyApp, no_types, more_types, type_list}
 use Rattle.std.specs.Prelude.{Result, IfOk, Some, None}
 use Rattle.hol_types.specs.Match.{match_types}
 use Rattle.hol_types.specs.Fun.{both_of}
@@ -10,6 +10,7 @@ use Rattle.std.proofs.lemmas.Result.{IfOk-weaker}
 use Rattle.hol_types.specs.Order.{types_cmp}
 use Rattle.std.specs.declared.cmp.Ordering.TheVariants.{Less}
 use Rattle.hol_types.specs.Subst.{type_subst, types_subst}
+use Rattle.hol_types.specs.Basic.{is_basic_constructor, arguments, is_basic, are_basic}
 
 -- the arguments from i on are the i-th and those after it
 pub next_of : {A : Type 0} (xs : List A) (i : ℕ) (x : A) → i < length xs → x ≡ get_or xs i x → drop i xs ≡ x ∷ drop (i + 1) xs
@@ -62,3 +63,17 @@ pub match_more_none : (found : List (TypeTree × List ℕ)) (ts us : List TypeTr
 match_more_none found ts us i h k = rw (drop_all i us k, drop-cons ts i (TyVar [])) refl
 
 pub ruleset match_ends = (match_ends_some, match_ends_none, match_more_none)
+
+-- a constructor over a list of arguments
+arguments_of : (ts : List TypeTree) → arguments (type_list ts) ≡ length ts
+arguments_of [] = refl
+arguments_of (t ∷ ts) = rw (arguments_of ts) (omega arith)
+
+pub is_basic_app : (c : List ℕ) (ts : List TypeTree) → is_basic (TyApp c (type_list ts)) ≡ (is_basic_constructor c (length ts) && are_basic (type_list ts))
+is_basic_app c ts = ap (λ n. is_basic_constructor c n && are_basic (type_list ts)) (arguments_of ts)
+
+pub basic_step : (ts : List TypeTree) (i : ℕ) (t : TypeTree) → i < length ts → t ≡ get_or ts i t → are_basic (type_list (drop i ts)) ≡ (is_basic t && are_basic (type_list (drop (i + 1) ts)))
+basic_step ts i t h e = rw (next_of ts i t h e) refl
+
+pub basic_all : (ts : List TypeTree) (i : ℕ) → length ts ≤ i → are_basic (type_list (drop i ts)) ≡ true
+basic_all ts i h = rw (drop_all i ts h) refl

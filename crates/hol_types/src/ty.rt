@@ -10,22 +10,34 @@ ghost use Rattle.hol_types.specs.Equal.{type_eq};
 ghost use Rattle.hol_types.specs.Fun.{fun_type, fun_parts};
 ghost use Rattle.hol_types.specs.View.{tree_of};
 ghost use Rattle.hol_types.specs.Filter.{type_filter, pairs_filter};
+ghost use Rattle.hol_types.specs.Basic.{is_basic};
 
+use crate::constructor::is_basic_constructor;
 use crate::filter::NameFilter;
 use crate::name::Name;
+use hol_mark::Mark;
 use std::alloc::{AllocError, Global};
 use std::cmp::Ordering;
 use std::marker::Model;
 use std::rc::Rc;
 
-/// A type: a variable, or a constructor with its arguments. It keeps its size and a filter of its variables, and copies share their
-/// nodes.
+/// A type: a variable, or a constructor with its arguments. Copies share their nodes.
 #[cycle(ty)]
 #[derive(Drop)]
 pub struct Ty {
-    node: Rc<TyNode>,
+    shared: Rc<TyShared>,
+}
+
+// What the copies of a type share: its top node, the mark by which two copies are known to be of one type, its size, a filter of its
+// variables, and whether all its constructors are the prelude's.
+#[cycle(ty)]
+#[derive(Drop)]
+struct TyShared {
+    node: TyNode,
+    mark: Mark,
     size: u32,
     filter: NameFilter,
+    basic: bool,
 }
 
 /// The top node of a type.
@@ -42,7 +54,8 @@ impl Model for Ty {
     ghost use Rattle.std.specs.Prelude.{◌≡◌, min};
     ghost use Rattle.hol_types.specs.Tree.{TypeTree, type_size};
     ghost use Rattle.hol_types.specs.Filter.{type_filter};
-    ghost use Rattle.hol_types.specs.Code.{coded_type};
+    ghost use Rattle.hol_types.specs.Basic.{is_basic};
+    ghost use Rattle.hol_types.specs.Code.{coded_type, type_code};
 
     ghost Value = { TypeTree };
 
@@ -50,15 +63,15 @@ impl Model for Ty {
 
     ghost use Rattle.hol_types.specs.View.{tree_of};
 
-    ghost view = { λ a. tree_of a.node.value };
+    ghost view = { λ a. tree_of a.shared.value.node };
 
-    ghost invariant = { λ a. (a.size ≡ min (type_size (tree_of a.node.value)) 20001) × (a.filter.bits ≡ type_filter (tree_of a.node.value)) };
+    ghost invariant = { λ a. (a.shared.value.mark ≡ type_code (tree_of a.shared.value.node)) × (a.shared.value.size ≡ min (type_size (tree_of a.shared.value.node)) 20001) × (a.shared.value.filter.bits ≡ type_filter (tree_of a.shared.value.node)) × (a.shared.value.basic ≡ is_basic (tree_of a.shared.value.node)) };
 
     ghost size = { type_size };
 
     ghost use Rattle.hol_types.specs.Falls.{deep_le_size};
 
-    ghost size_decreases = { λ a h. deep_le_size a.node.value };
+    ghost size_decreases = { λ a h. deep_le_size a.shared.value };
 }
 
 impl Ty {
@@ -84,12 +97,19 @@ impl Ty {
     fn from_node(alloc: Global, node: TyNode) -> Result<Ty, AllocError>
         ensures { IfOk result (λ ty. ty ≡ tree_of node) }
     {
+        let mark = Mark::about(&node);
         let size = node.size();
         let filter = node.filter();
-        Ok(Ty {
-            node: Rc::new(alloc, node)?,
+        let basic = node.is_basic();
+        let shared = TyShared {
+            node,
+            mark,
             size,
             filter,
+            basic,
+        };
+        Ok(Ty {
+            shared: Rc::new(alloc, shared)?,
         })
     }
 
@@ -99,9 +119,7 @@ impl Ty {
         ensures { IfOk result (λ ty. ty ≡ self.now) }
     {
         Ok(Ty {
-            node: self.node.clone()?,
-            size: self.size,
-            filter: self.filter,
+            shared: self.shared.clone()?,
         })
     }
 
@@ -109,7 +127,7 @@ impl Ty {
     pub fn node(&self) -> &TyNode
         ensures { tree_of result.now ≡ self.now }
     {
-        self.node.as_ref()
+        &self.shared.node
     }
 
     /// The type of functions from `domain` to `range`: the constructor `fun` of these two.
@@ -150,7 +168,7 @@ impl Ty {
     pub fn size(&self) -> u32
         ensures { result ≡ min (type_size self.now) 20001 }
     {
-        self.size
+        self.shared.size
     }
 
     /// Whether the type variable may occur: where it does, the answer is `true`. So `false` says that it doesn't, and spares a walk.
@@ -160,14 +178,22 @@ impl Ty {
     pub fn may_have_var(&self, name: &Name) -> bool
         ensures { IsTrue (is_among (type_names self.now) name.now) → IsTrue result }
     {
-        self.filter.meets(NameFilter::of_name(name))
+        self.shared.filter.meets(NameFilter::of_name(name))
     }
 
     /// A set that has the names of its variables, and may have others. Each type keeps it, so this is at once.
     pub fn filter(&self) -> NameFilter
         ensures { result.bits ≡ type_filter self.now }
     {
-        self.filter
+        self.shared.filter
+    }
+
+    /// Whether all constructors of the type are the prelude's, with as many arguments as they take: so it is a type over every basis. Each
+    /// type keeps it, so this is at once.
+    pub fn is_basic(&self) -> bool
+        ensures { result ≡ is_basic self.now }
+    {
+        self.shared.basic
     }
 
     /// The type in which each variable's place is taken by the type of the first pair with its name. A variable with no pair stays.
@@ -179,7 +205,7 @@ impl Ty {
     pub fn subst(&self, alloc: Global, pairs: &[(Ty, Name)]) -> Result<Ty, AllocError>
         ensures { IfOk result (λ ty. ty ≡ type_subst pairs.now self.now) }
     {
-        if self.filter.is_empty() {
+        if self.shared.filter.is_empty() {
             return self.copy();
         }
         self.replaced(alloc, pairs, NameFilter::of_pairs(pairs))
@@ -196,10 +222,10 @@ impl Ty {
         requires { names.bits ≡ pairs_filter pairs.now }
         ensures { IfOk result (λ ty. ty ≡ type_subst pairs.now self.now) }
     {
-        if !self.filter.meets(names) {
+        if !self.shared.filter.meets(names) {
             return self.copy();
         }
-        match &*self.node {
+        match &self.shared.node {
             TyNode::Var(name) => match replacement(pairs, name) {
                 Some(ty) => ty.copy(),
                 None => self.copy(),
@@ -214,28 +240,41 @@ impl Ty {
         }
     }
 
+    /// Whether the two have one top node. Where they don't, they may still be equal.
+    ///
+    /// Takes no memory, and no more time for a larger type.
+    pub fn same_node(&self, other: &Ty) -> bool
+        ensures { IsTrue result → self.now ≡ other.now }
+    {
+        self.shared.mark.same(&other.shared.mark)
+    }
+
     /// Whether the two types are equal.
     ///
-    /// Takes no memory. Types of different sizes, or that keep different bits of their variables, are told apart at once. Else shared
-    /// nodes are compared again at each place where they stand, up to the first difference: two types of one size may share all their
-    /// nodes, and this can't be seen, since std's `Rc::ptr_eq` promises nothing.
+    /// Takes no memory. Types of different sizes, or that keep different bits of their variables, are told apart at once. Else both are
+    /// walked up to the first difference, but for parts where both have one node.
     #[tactic(auto, using(crate::proofs::OrderLaws::type_cmp_decides, crate::proofs::OrderLaws::sizes_differ, crate::proofs::Filters::filters_differ))]
     pub fn same(&self, other: &Ty) -> bool
         ensures test { result ≡ type_eq self.now other.now }
         ensures equal { IsTrue result ↔ (self.now ≡ other.now) }
     {
-        self.size == other.size && self.filter.same(other.filter) && self.order(other).is_eq()
+        self.size() == other.size()
+            && self.filter().same(other.filter())
+            && self.order(other).is_eq()
     }
 
     /// The order of types: variables before applications, then by the bytes of the name, then by the arguments from the left.
     ///
-    /// It is total (`laws::order_is_total`). Takes no memory. Shared nodes are compared again at each place where they stand, up to the
-    /// first difference.
-    #[tactic(auto, using(crate::proofs::Steps::ends_less))]
+    /// It is total (`laws::order_is_total`). Takes no memory. Both are walked up to the first difference, but for parts where both have
+    /// one node.
+    #[tactic(auto, using(crate::proofs::Steps::ends_less, crate::proofs::OrderLaws::type_cmp_same))]
     pub fn order(&self, other: &Ty) -> Ordering
         ensures { result ≡ type_cmp self.now other.now }
     {
-        match (&*self.node, &*other.node) {
+        if self.same_node(other) {
+            return Ordering::Equal;
+        }
+        match (&self.shared.node, &other.shared.node) {
             (TyNode::Var(a), TyNode::Var(b)) => a.order(b),
             (TyNode::Var(_), TyNode::App(_, _)) => Ordering::Less,
             (TyNode::App(_, _), TyNode::Var(_)) => Ordering::Greater,
@@ -280,10 +319,10 @@ impl Ty {
     fn add_names(&self, names: &mut Vec<Name>) -> Result<(), AllocError>
         ensures { OnOk result (names.new.items ≡ insert_names names.old.items (type_names self.now)) }
     {
-        if self.filter.is_empty() {
+        if self.shared.filter.is_empty() {
             return Ok(());
         }
-        match &*self.node {
+        match &self.shared.node {
             TyNode::Var(name) => add_name(names, name),
             TyNode::App(_, args) => {
                 for arg in args {
@@ -321,10 +360,10 @@ impl Ty {
     fn match_into(&self, target: &Ty, found: &mut Vec<(Ty, Name)>) -> Result<bool, AllocError>
         ensures { IfOk result (λ matched. match_type self.now found.old.items target.now ≡ (if matched then Some found.new.items else None)) }
     {
-        if self.filter.is_empty() {
+        if self.shared.filter.is_empty() {
             return Ok(self.same(target));
         }
-        match (&*self.node, &*target.node) {
+        match (&self.shared.node, &target.shared.node) {
             (TyNode::Var(name), _) => match replacement(found, name) {
                 Some(earlier) => Ok(earlier.same(target)),
                 None => {
@@ -381,9 +420,30 @@ impl TyNode {
             TyNode::App(_, args) => {
                 let mut filter = NameFilter::empty();
                 for arg in args {
-                    filter = filter.union(arg.filter);
+                    filter = filter.union(arg.filter());
                 }
                 filter
+            }
+        }
+    }
+
+    // Whether all constructors of the type with this top node are the prelude's.
+    #[tactic(auto, using(crate::proofs::Steps::is_basic_app, crate::proofs::Steps::basic_step, crate::proofs::Steps::basic_all))]
+    fn is_basic(&self) -> bool
+        ensures { result ≡ is_basic (tree_of self.now) }
+    {
+        match self {
+            TyNode::Var(_) => true,
+            TyNode::App(constructor, args) => {
+                if !is_basic_constructor(constructor, args.len()) {
+                    return false;
+                }
+                for arg in args {
+                    if !arg.is_basic() {
+                        return false;
+                    }
+                }
+                true
             }
         }
     }

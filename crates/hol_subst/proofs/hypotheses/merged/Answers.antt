@@ -17,8 +17,8 @@ returns c =
       | then-loop-i-test+else-j-second w ↦ merge_rest_first hyp_cmp xs ys c.loop-i.i c.loop-i.j w.if-j-second.false
       | else-loop-i-test w ↦ merge_rest_second hyp_cmp xs ys c.loop-i.i c.loop-i.j w.loop-i-test.false
     ] in
-    let first : c.copy_to.new.all.items ≡ c.loop-i.all.items ++ take (length xs - c.loop-i.i) us = c.in_ok-copy_to.ensures in
-    let second : c.copy_to-2.new.all.items ≡ c.copy_to.new.all.items ++ take (length ys - c.loop-i.j) vs = c.in_ok-copy_to-2.ensures in
+    let first : c.add_copies.new.to.items ≡ c.loop-i.all.items ++ take (length xs - c.loop-i.i) us = c.in_ok-add_copies.ensures in
+    let second : c.add_copies-2.new.to.items ≡ c.add_copies.new.to.items ++ take (length ys - c.loop-i.j) vs = c.in_ok-add_copies-2.ensures in
     second
     ∙ (λ k. (first ∙ ap (λ (zs : List Named). c.loop-i.all.items ++ zs) (take_rest xs c.loop-i.i)) k ++ take_rest ys c.loop-i.j k)
     ∙ append_assoc c.loop-i.all.items us vs

@@ -1,4 +1,4 @@
-use Rattle.std.proofs.Common.{◌≡◌, refl, ap, arith, rules, sym, ◌∙◌}
+use Rattle.std.proofs.Common.{◌≡◌, refl, ap, arith, rules, sym, subst, ◌∙◌, Option, unwrap_or}
 use Rattle.std.proofs.lemmas.Grind.{common_steps}
 use Rattle.std.proofs.lemmas.Result.{IfOk-weaker}
 use lib.Bits.{bit_and}
@@ -6,52 +6,53 @@ use Rattle.hol_types.specs.Filter.{pairs_filter}
 use Rattle.hol_terms.specs.Filter.{filter_of, type_filter_of}
 use Rattle.hol_terms.specs.Scope.{binders}
 use Rattle.hol_terms.specs.View.{named_of}
-use Rattle.hol_subst.specs.Renaming.{image}
+use Rattle.hol_terms.specs.Named.{Named}
+use Rattle.hol_subst.specs.Renaming.{image, IsInstance}
 use Rattle.hol_subst.proofs.InstSteps.{variable_at, constant_at, application_at, fits_at, abstraction_at}
 use Rattle.hol_subst.proofs.Kept.{kept_instance, renamed_inside}
 use Rattle.hol_subst.proofs.instances.+changed.Goals as goal
 
-pub returns-then-not-meets-2 : goal.returns-then-not-meets-2
-returns-then-not-meets-2 t c =
+pub changed-returns-then-not-meets-2 : goal.changed-returns-then-not-meets-2
+changed-returns-then-not-meets-2 t c =
     let types : bit_and (type_filter_of c.args.t.now) (pairs_filter c.args.pairs.now) ≡ 0 = grind (arith, common_steps) in
     let free : bit_and (filter_of c.args.t.now) c.args.renamed.bits ≡ 0 = grind (arith, common_steps) in
     kept_instance c.args.pairs.now (binders c.args.old.now) (binders c.args.new.now) c.args.t.now c.args.renamed.bits c.requires.renamed types free
 
-pub returns-in-Var : goal.returns-in-Var
-returns-in-Var t c =
+pub changed-returns-in-Var : goal.changed-returns-in-Var
+changed-returns-in-Var t c =
     IfOk-weaker _ _ _
     (λ o changed. variable_at c.args.pairs.now (binders c.args.old.now) (binders c.args.new.now) c.in-Var.v (image c.args.pairs.now (binders c.args.old.now) (binders c.args.new.now) c.in-Var.v) c.args.t.now o
     (sym c.node.ensures ∙ ap named_of c.in-Var.is) c.requires.types refl changed)
     c.changed_variable.ensures
 
-pub returns-in-Const : goal.returns-in-Const
-returns-in-Const t c =
+pub changed-returns-in-Const : goal.changed-returns-in-Const
+changed-returns-in-Const t c =
     IfOk-weaker _ _ _
     (λ o changed. constant_at c.args.pairs.now (binders c.args.old.now) (binders c.args.new.now) c.in-Const.c c.in-Const.ty c.args.t.now o
     (sym c.node.ensures ∙ ap named_of c.in-Const.is) changed)
     c.changed_constant.ensures
 
-pub changed_application-requires : goal.changed_application-requires
-changed_application-requires t c =
-    fits_at c.args.pairs.now (binders c.args.old.now) (binders c.args.new.now) c.in-Comb.f c.in-Comb.x c.args.t.now c.in_ok-g-in-Comb.g c.in_ok-y-in-Comb.y
-    (sym c.node.ensures ∙ ap named_of c.in-Comb.is) c.in_ok-g-in-Comb.ensures c.in_ok-y-in-Comb.ensures
+pub changed-changed_application-requires : goal.changed-changed_application-requires
+changed-changed_application-requires t c =
+    fits_at c.args.pairs.now (binders c.args.old.now) (binders c.args.new.now) c.in-Comb.f c.in-Comb.x c.args.t.now c.in_ok-g-in-Comb.g c.in_ok-g-in-Comb.y
+    (sym c.node.ensures ∙ ap named_of c.in-Comb.is) c.in_ok-g-in-Comb.ensures.function c.in_ok-g-in-Comb.ensures.argument
 
-pub returns-in_ok-y-in-Comb : goal.returns-in_ok-y-in-Comb
-returns-in_ok-y-in-Comb t c =
+pub changed-returns-in_ok-g-in-Comb : goal.changed-returns-in_ok-g-in-Comb
+changed-returns-in_ok-g-in-Comb t c =
     IfOk-weaker _ _ _
-    (λ o changed. application_at c.args.pairs.now (binders c.args.old.now) (binders c.args.new.now) c.in-Comb.f c.in-Comb.x c.args.t.now c.in_ok-g-in-Comb.g c.in_ok-y-in-Comb.y o
-    (sym c.node.ensures ∙ ap named_of c.in-Comb.is) c.in_ok-g-in-Comb.ensures c.in_ok-y-in-Comb.ensures changed)
+    (λ o changed. application_at c.args.pairs.now (binders c.args.old.now) (binders c.args.new.now) c.in-Comb.f c.in-Comb.x c.args.t.now c.in_ok-g-in-Comb.g c.in_ok-g-in-Comb.y o
+    (sym c.node.ensures ∙ ap named_of c.in-Comb.is) c.in_ok-g-in-Comb.ensures.function c.in_ok-g-in-Comb.ensures.argument changed)
     c.changed_application.ensures
 
-pub returns-in_ok-c-in-Abs : goal.returns-in_ok-c-in-Abs
-returns-in_ok-c-in-Abs t c =
+pub changed-returns-in_ok-c-in-Abs : goal.changed-returns-in_ok-c-in-Abs
+changed-returns-in_ok-c-in-Abs t c =
     IfOk-weaker _ _ _
     (λ o changed. abstraction_at c.args.pairs.now (binders c.args.old.now) (binders c.args.new.now) c.in-Abs.v c.in_ok-u-in-Abs.u c.in-Abs.b c.args.t.now c.in_ok-c-in-Abs.c o
     (sym c.node.ensures ∙ ap named_of c.in-Abs.is) c.in_ok-u-in-Abs.ensures c.in_ok-c-in-Abs.ensures changed)
     c.changed_abstraction.ensures
 
-pub changed-requires-in-Abs : goal.changed-requires-in-Abs
-changed-requires-in-Abs t c = (
+pub changed-changed-requires : goal.changed-changed-requires
+changed-changed-requires t c = (
   search rules,
   (
     search rules,
@@ -61,3 +62,14 @@ changed-requires-in-Abs t c = (
     ),
   ),
 )
+
+pub changed_parts-changed_application-requires : goal.changed_parts-changed_application-requires
+changed_parts-changed_application-requires t c =
+    fits_at c.args.pairs.now (binders c.args.old.now) (binders c.args.new.now) c.in-Some.h.now c.args.x.now c.args.f.now c.in_ok-k.k c.in_ok-copied.field-0
+    c.in-Some.ensures c.in_ok-k.ensures (subst (λ (z : Option Named). IsInstance c.args.pairs.now (binders c.args.old.now) (binders c.args.new.now) c.args.x.now (unwrap_or z c.args.x.now)) (sym c.in_ok-copied.ensures) c.in_ok-y.ensures)
+
+pub changed_parts-returns-clause-function : goal.changed_parts-returns-clause-function
+changed_parts-returns-clause-function t c =
+    application_at c.args.pairs.now (binders c.args.old.now) (binders c.args.new.now) c.in-Some.h.now c.args.x.now c.args.f.now c.in_ok-k.k c.in_ok-copied.field-0 c.in_ok-g-2.g
+    c.in-Some.ensures c.in_ok-k.ensures (subst (λ (z : Option Named). IsInstance c.args.pairs.now (binders c.args.old.now) (binders c.args.new.now) c.args.x.now (unwrap_or z c.args.x.now)) (sym c.in_ok-copied.ensures) c.in_ok-y.ensures)
+    c.in_ok-g-2.ensures
