@@ -3,6 +3,10 @@ pub mod Reducts
 pub mod AllTurns
 pub mod Outside
 pub mod Parts
+pub mod Places
+pub mod PlaceSizes
+pub mod PlaceTraces
+pub mod Rising
 pub mod RedexLaws
 pub mod OnceClosed
 pub mod OnceParts

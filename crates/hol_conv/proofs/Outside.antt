@@ -1,18 +1,15 @@
 -- Turns under one binder more: where a free variable of a term is bound outside, a turn of the closed term is the closed turn.
-use Rattle.std.proofs.Common.{◌≡◌, ℕ, ◌+◌, List, [], ◌∷◌, ◌++◌, length, refl, ap, sym, ◌∙◌, subst, Bool, true, false, cond, Option, Some, None, arith}
+use Rattle.std.proofs.Common.{◌≡◌, ℕ, ◌+◌, List, [], ◌∷◌, ◌++◌, length, refl, ap, sym, ◌∙◌, Bool, true, false, cond, Option, Some, None, arith}
 use Rattle.std.specs.Option.{option_map, option_or}
 use Rattle.hol_types.specs.Tree.{TypeTree}
 use Rattle.hol_types.specs.Equal.{variable_eq}
 use Rattle.hol_terms.specs.Nameless.{Nameless, free, bound, fixed, app, lam}
 use Rattle.hol_subst.specs.Closing.{close}
 use Rattle.hol_match.proofs.Contracta.{contractum_close}
-use Rattle.hol_conv.specs.declared.direction.Direction.{Direction}
-use Rattle.hol_conv.specs.declared.direction.Direction.TheVariants.{Function, Argument, Body}
 use Rattle.hol_conv.specs.declared.redexes.Redexes.{Redexes}
 use Rattle.hol_conv.specs.declared.redexes.Redexes.TheVariants.{Beta, Rules}
 use Rattle.hol_conv.specs.Redexes.{beta_contractum, contraction, IsOutside}
 use Rattle.hol_conv.specs.Turns.{turn}
-use Rattle.hol_conv.specs.Passing.{IsPassed}
 use Rattle.hol_conv.proofs.Commuting.{reduct_close}
 
 abbrev Var : Type 0
@@ -72,46 +69,3 @@ module _ (contract : Contract) (v : Var) (h : Commutes contract v) where
       let inner : turn contract (s ∷ (env ++ v.1 ∷ [])) (close v (length env + 1) b) ≡ option_map (close v (length env + 1)) (turn contract (s ∷ env) b) =
       ap (λ k. turn contract (s ∷ (env ++ v.1 ∷ [])) (close v k b)) m ∙ turn_close (s ∷ env) b ∙ ap (λ k. option_map (close v k) (turn contract (s ∷ env) b)) (sym m) in
       (λ i. option_or (h env (lam a s b) i) (option_map (λ d. lam a s d) (inner i))) ∙ lam_close (length env) a s (contract env (lam a s b)) (turn contract (s ∷ env) b)
-
-  closed_none : (k : ℕ) (o : Option Nameless) → option_map (close v k) o ≡ None → o ≡ None
-  closed_none k None e = refl
-  closed_none k (Some u) e = absurd (cc)
-
-  no_turn : (env : List TypeTree) (n : Nameless) → turn contract (env ++ v.1 ∷ []) (close v (length env) n) ≡ None → turn contract env n ≡ None
-  no_turn env n e = closed_none (length env) (turn contract env n) (sym (turn_close env n) ∙ e)
-
-  -- ---- what was passed
-  pub passed_inside : (env : List TypeTree) (path : List Direction) (n : Nameless) → IsPassed contract (env ++ v.1 ∷ []) path (close v (length env) n) → IsPassed contract env path n
-  passed_inside env [] n p = tt
-  passed_inside env (d ∷ path) (free w) p = tt
-  passed_inside env (d ∷ path) (bound i) p = tt
-  passed_inside env (d ∷ path) (fixed c s) p = tt
-  passed_inside env (Function ∷ path) (app f x) p = passed_inside env path f p
-  passed_inside env (Argument ∷ path) (app f x) p = (no_turn env f p.0, passed_inside env path x p.1)
-  passed_inside env (Body ∷ path) (app f x) p = tt
-  passed_inside env (Function ∷ path) (lam a s b) p = tt
-  passed_inside env (Argument ∷ path) (lam a s b) p = tt
-  passed_inside env (Body ∷ path) (lam a s b) p =
-      let m : length env + 1 ≡ length (s ∷ env) = omega arith in
-      passed_inside (s ∷ env) path b (subst (λ k. IsPassed contract (s ∷ (env ++ v.1 ∷ [])) path (close v k b)) m p)
-
-  passed_variable : (env : List TypeTree) (k : ℕ) (d : Direction) (path : List Direction) (w : Var) → IsPassed contract env (d ∷ path) (close v k (free w))
-  passed_variable env k d path w = by (variable_eq v w)
-    where
-      by : (c : Bool) → IsPassed contract env (d ∷ path) (cond c (bound k) (free w))
-      by true = tt
-      by false = tt
-
-  pub passed_outside : (env : List TypeTree) (path : List Direction) (n : Nameless) → IsPassed contract env path n → IsPassed contract (env ++ v.1 ∷ []) path (close v (length env) n)
-  passed_outside env [] n p = tt
-  passed_outside env (d ∷ path) (free w) p = passed_variable (env ++ v.1 ∷ []) (length env) d path w
-  passed_outside env (d ∷ path) (bound i) p = tt
-  passed_outside env (d ∷ path) (fixed c s) p = tt
-  passed_outside env (Function ∷ path) (app f x) p = passed_outside env path f p
-  passed_outside env (Argument ∷ path) (app f x) p = (turn_close env f ∙ ap (option_map (close v (length env))) p.0, passed_outside env path x p.1)
-  passed_outside env (Body ∷ path) (app f x) p = tt
-  passed_outside env (Function ∷ path) (lam a s b) p = tt
-  passed_outside env (Argument ∷ path) (lam a s b) p = tt
-  passed_outside env (Body ∷ path) (lam a s b) p =
-      let m : length env + 1 ≡ length (s ∷ env) = omega arith in
-      subst (λ k. IsPassed contract (s ∷ (env ++ v.1 ∷ [])) path (close v k b)) (sym m) (passed_outside (s ∷ env) path b p)

@@ -1,11 +1,16 @@
 -- Beta redexes as redexes of a turn.
-use Rattle.std.proofs.Common.{◌≡◌, ℕ, List, [], ◌∷◌, refl, ap, ◌∙◌, Option}
+use Rattle.std.proofs.Common.{◌≡◌, ℕ, List, [], ◌∷◌, refl, ap, ◌∙◌, false, Option, None}
 use Rattle.std.specs.Option.{option_map, option_or}
 use Rattle.hol_types.specs.Tree.{TypeTree}
 use Rattle.hol_terms.specs.Named.{Named, comb}
 use Rattle.hol_terms.specs.Nameless.{Nameless, free, bound, fixed, app, lam, nameless}
 use Rattle.hol_conv.specs.Beta.{reduct, beta_turn}
-use Rattle.hol_conv.specs.Redexes.{beta_contractum}
+use Rattle.hol_match.specs.Contracta.{contractum}
+use Rattle.hol_match.specs.RuleSets.{first_fit}
+use Rattle.hol_match.specs.SetView.{set_rules}
+use Rattle.hol_match.specs.declared.set_rule.SetRule.{SetRule}
+use Rattle.hol_match.proofs.Contracta.{first_none}
+use Rattle.hol_conv.specs.Redexes.{beta_contractum, is_applied_abstraction}
 use Rattle.hol_conv.specs.Turns.{turn, all_turns}
 use Rattle.hol_conv.proofs.Parts.{fits_itself}
 
@@ -24,3 +29,20 @@ beta_same env (lam a s b) = ap (option_map (λ d. lam a s d)) (beta_same (s ∷ 
 -- beta reduction's turns are those whose redexes are beta redexes
 pub beta_turns : (n : ℕ) (t : Nameless) → all_turns (turn (λ env m. beta_contractum m) []) n t ≡ all_turns beta_turn n t
 beta_turns n t = λ i. all_turns (λ m. beta_same [] m i) n t
+
+-- ---- terms that are said to be none
+pub no_beta_redex : (n : Nameless) → is_applied_abstraction n ≡ false → beta_contractum n ≡ None
+no_beta_redex (free v) h = refl
+no_beta_redex (bound i) h = refl
+no_beta_redex (fixed c s) h = refl
+no_beta_redex (app (free v) x) h = refl
+no_beta_redex (app (bound i) x) h = refl
+no_beta_redex (app (fixed c s) x) h = refl
+no_beta_redex (app (app f y) x) h = refl
+no_beta_redex (app (lam a s b) x) h = absurd (cc)
+no_beta_redex (lam a s b) h = refl
+
+pub no_rule_redex : (rules : List SetRule) (n : Nameless) → first_fit 0 (set_rules rules) n ≡ None → contractum [] (set_rules rules) n ≡ None
+no_rule_redex rules n h = first_none 0 (set_rules rules) n h
+
+pub ruleset no_redexes = (no_beta_redex, no_rule_redex)

@@ -3,6 +3,8 @@ use Rattle.std.proofs.Common.{◌≡◌, ℕ, zero, suc, ◌+◌, List, [], ◌�
 use Rattle.std.specs.List.{list_all}
 use Rattle.std.specs.Option.{option_map, option_and_then}
 use Rattle.std.specs.FinSet as set
+use Rattle.std.proofs.lemmas.Bool.{and_parts, and_from}
+use Rattle.std.proofs.lemmas.List.Folds.{list_all-append}
 use Rattle.hol_types.specs.Tree.{TypeTree}
 use Rattle.hol_types.specs.Equal.{variable_eq}
 use Rattle.hol_types.proofs.OrderLaws.{type_cmp_decides}
@@ -73,27 +75,14 @@ given_pair ws xs ys zs ms ks h k =
 all_of : (p : Given → Bool) (ys : List Given) (i : ℕ) (g : Given) → list_all p ys ≡ true → slice_get ys i ≡ Some g → p g ≡ true
 all_of p [] i g h e = absurd (cc)
 all_of p (y ∷ ys) zero g h e = let same : y ≡ g = cc in ap p (sym same) ∙ (and_parts (p y) (list_all p ys) h).0
-  where
-    and_parts : (a b : Bool) → (a && b) ≡ true → (a ≡ true) × (b ≡ true)
-    and_parts true b k = (refl, k)
-    and_parts false b k = absurd (cc)
 all_of p (y ∷ ys) (suc i) g h e = all_of p ys i g (and_parts (p y) (list_all p ys) h).1 e
-  where
-    and_parts : (a b : Bool) → (a && b) ≡ true → (a ≡ true) × (b ≡ true)
-    and_parts true b k = (refl, k)
-    and_parts false b k = absurd (cc)
 
 pub all_given : (p : Given → Bool) (ys gs : List Given) → list_all p ys ≡ true → AreGivenIn ys gs → list_all p gs ≡ true
 all_given p ys [] h k = refl
 all_given p ys (g ∷ gs) h k = λ i. all_of p ys k.0.0 g h k.0.1 i && all_given p ys gs h k.1 i
 
 all_both : (p : Given → Bool) (xs ys : List Given) → list_all p xs ≡ true → list_all p ys ≡ true → list_all p (xs ++ ys) ≡ true
-all_both p [] ys h k = k
-all_both p (x ∷ xs) ys h k = by (p x) h (all_both p xs ys)
-  where
-    by : (b : Bool) → (b && list_all p xs) ≡ true → (list_all p xs ≡ true → list_all p ys ≡ true → list_all p (xs ++ ys) ≡ true) → (b && list_all p (xs ++ ys)) ≡ true
-    by true g r = r g k
-    by false g r = absurd (cc)
+all_both p xs ys h k = list_all-append p xs ys ∙ and_from (list_all p xs) (list_all p ys) h k
 
 -- ---- in the parts
 pub record InParts (F X : Nameless → Option Nameless) (t u : Nameless) : Type 0 where

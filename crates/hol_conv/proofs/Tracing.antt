@@ -59,6 +59,10 @@ outside_redexes : (r : Redexes) (v : List ℕ × TypeTree) → IsOutside r v →
 outside_redexes BetaRedexes v h = refl
 outside_redexes (Rules set) v h = apart_given set.now.rules.items v h
 
+-- it is free in no hypothesis of what was used
+pub outside_used : (r : Redexes) (v : List ℕ × TypeTree) (n : TraceNode) → IsOutside r v → AreGivenIn (redex_givens r) (used n) → is_outside v (used n) ≡ true
+outside_used r v n out h = all_given (λ g. not (is_free_in (set.items (given_sequent g).hyps) v)) (redex_givens r) (used n) (outside_redexes r v out) h
+
 -- ---- a redex
 pub beta_traces : (t u : Nameless) → beta_contractum t ≡ Some u → Traces [] Beta t u
 beta_traces t u e = record { gives = e; given = tt }
@@ -74,25 +78,13 @@ by_rule_traces all n r s t u e same given c h = record {
 pub ruleset rule_traces = (by_rule_traces)
 
 -- ---- in the parts of a term
-pub function_traces : (all : List Given) (n m : TraceNode) (f x g u : Named) → IsParts n Same m → u ≡ comb g x → Traces all n (nameless [] f) (nameless [] g) → Traces all m (nameless [] (comb f x)) (nameless [] u)
-function_traces all n m f x g u h e k = record {
-  gives = h.gives (nameless [] (comb f x)) ∙ parts_give (traced n) (traced Same) (nameless [] f) (nameless [] x) (nameless [] g) (nameless [] x) k.gives refl ∙ ap (λ z. Some (nameless [] z)) (sym e);
-  given = subst (AreGivenIn all) (sym h.given) (given_both all (used n) [] k.given tt);
-}
-
-pub argument_traces : (all : List Given) (n m : TraceNode) (f x y u : Named) → IsParts Same n m → u ≡ comb f y → Traces all n (nameless [] x) (nameless [] y) → Traces all m (nameless [] (comb f x)) (nameless [] u)
-argument_traces all n m f x y u h e k = record {
-  gives = h.gives (nameless [] (comb f x)) ∙ parts_give (traced Same) (traced n) (nameless [] f) (nameless [] x) (nameless [] f) (nameless [] y) refl k.gives ∙ ap (λ z. Some (nameless [] z)) (sym e);
-  given = subst (AreGivenIn all) (sym h.given) k.given;
-}
-
 pub both_traces : (all : List Given) (a b n : TraceNode) (f x g y u : Named) → IsParts a b n → u ≡ comb g y → Traces all a (nameless [] f) (nameless [] g) → Traces all b (nameless [] x) (nameless [] y) → Traces all n (nameless [] (comb f x)) (nameless [] u)
 both_traces all a b n f x g y u h e k l = record {
   gives = h.gives (nameless [] (comb f x)) ∙ parts_give (traced a) (traced b) (nameless [] f) (nameless [] x) (nameless [] g) (nameless [] y) k.gives l.gives ∙ ap (λ z. Some (nameless [] z)) (sym e);
   given = subst (AreGivenIn all) (sym h.given) (given_both all (used a) (used b) k.given l.given);
 }
 
-pub ruleset in_application = (function_traces, argument_traces, both_traces)
+pub ruleset in_application = (both_traces)
 
 pub body_traces : (r : Redexes) (n m : TraceNode) (v w : List ℕ × TypeTree) (b c d u : Named) → IsBody w n m → u ≡ abs w d → nameless [] (abs w c) ≡ nameless [] (abs v b) → IsOutside r w → Traces (redex_givens r) n (nameless [] c) (nameless [] d) → Traces (redex_givens r) m (nameless [] (abs v b)) (nameless [] u)
 body_traces r n m v w b c d u h e same out k = record {
@@ -104,7 +96,7 @@ body_traces r n m v w b c d u h e same out k = record {
 }
   where
     outside : is_outside w (used n) ≡ true
-    outside = all_given (λ g. not (is_free_in (set.items (given_sequent g).hyps) w)) (redex_givens r) (used n) (outside_redexes r w out) k.given
+    outside = outside_used r w n out k.given
 
 pub ruleset in_abstraction = (body_traces)
 

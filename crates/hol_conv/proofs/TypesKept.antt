@@ -1,5 +1,5 @@
 -- What a trace makes of a term has the term's type.
-use Rattle.std.proofs.Common.{◌≡◌, ℕ, List, [], ◌∷◌, ◌++◌, refl, sym, ap, ◌∙◌, subst, Bool, true, false, cond, not, ◌&&◌, bytes_eq, Some, None}
+use Rattle.std.proofs.Common.{◌≡◌, ℕ, List, refl, sym, ap, ◌∙◌, subst, Bool, true, false, cond, not, ◌&&◌, bytes_eq, Some, None}
 use Rattle.hol_types.specs.Tree.{TypeTree}
 use Rattle.hol_types.specs.Equal.{type_eq}
 use Rattle.hol_types.specs.Fun.{fun_type}
@@ -7,7 +7,6 @@ use Rattle.hol_types.proofs.OrderLaws.{type_cmp_decides}
 use Rattle.hol_terms.specs.Nameless.{Nameless, free, bound, fixed, app, lam, free_occurrences, base_of}
 use Rattle.hol_terms.specs.Scoped.{binds}
 use Rattle.hol_subst.specs.Closing.{open_with}
-use Rattle.hol_kernel.specs.Given.{Given}
 use Rattle.hol_kernel.specs.Items.{Items}
 use Rattle.hol_kernel.specs.Typing.{is_type, HasType}
 use Rattle.hol_kernel.proofs.Stands.{both}
@@ -16,6 +15,7 @@ use Rattle.hol_equal.proofs.Abstractions.{bound_typed}
 use Rattle.hol_equal.proofs.Typings.{parts_typed, applied_typed}
 use Rattle.hol_match.specs.Givens.{holds_given, all_hold}
 use Rattle.hol_match.specs.SetView.{set_given}
+use Rattle.hol_match.proofs.Held.{held_front, held_back}
 use Rattle.hol_conv.specs.Redexes.{beta_contractum}
 use Rattle.hol_conv.specs.Traces.{used, opened, traced, KeepsTypes}
 use Rattle.hol_conv.specs.declared.trace_node.TraceNode.{TraceNode, Parts', Body', Both'}
@@ -24,13 +24,6 @@ use Rattle.hol_conv.proofs.RuleTypes.{function_parts, body_typed, contracted_typ
 use Rattle.hol_conv.proofs.Traces.{parts_of, body_of, then_gives}
 
 module _ (basis : Items) where
-  hold_both : (xs ys : List Given) → all_hold (xs ++ ys) basis ≡ true → (all_hold xs basis ≡ true) × (all_hold ys basis ≡ true)
-  hold_both [] ys h = (refl, h)
-  hold_both (x ∷ xs) ys h =
-      let p = both (holds_given x basis) (all_hold (xs ++ ys) basis) h in
-      let r = hold_both xs ys p.1 in
-      (λ i. p.0 i && r.0 i, r.1)
-
   -- ---- an application of an abstraction
   beta_typed : (t u : Nameless) (a : TypeTree) → beta_contractum t ≡ Some u → HasType basis t a → HasType basis u a
   beta_typed (free v) u a e h = absurd (cc)
@@ -84,11 +77,12 @@ module _ (basis : Items) where
   node_keeps : (n : TraceNode) (t u : Nameless) (a : TypeTree) → traced n t ≡ Some u → all_hold (used n) basis ≡ true → HasType basis t a → HasType basis u a
   node_keeps Same t u a e h k = let is : t ≡ u = cc in subst (λ z. HasType basis z a) is k
   node_keeps (Parts' p f q x) t u a e h k =
-      let held = hold_both (used f) (used x) h in
+      let front = held_front basis (used f) (used x) h in
+      let back = held_back basis (used f) (used x) h in
       let d = parts_of (λ z. traced f z) (λ z. traced x z) t u e in
       let parts = parts_typed basis d.function d.argument a (subst (λ z. HasType basis z a) d.old k) in
       subst (λ z. HasType basis z a) (sym d.new)
-      (applied_typed basis parts.domain a d.new_function d.new_argument (node_keeps f d.function d.new_function (fun_type parts.domain a) d.in_function held.0 parts.function) (node_keeps x d.argument d.new_argument parts.domain d.in_argument held.1 parts.argument))
+      (applied_typed basis parts.domain a d.new_function d.new_argument (node_keeps f d.function d.new_function (fun_type parts.domain a) d.in_function front parts.function) (node_keeps x d.argument d.new_argument parts.domain d.in_argument back parts.argument))
   node_keeps (Body' v p b) t u a e h k =
       let d = body_of v (used b) (λ z. traced b z) t u e in
       let o = opened_typed v t d.body a d.old k in
@@ -96,9 +90,10 @@ module _ (basis : Items) where
   node_keeps (Rule r) t u a e h k = contracted_typed basis r.value t u a (both (holds_given (set_given r.value) basis) true h).0 e k
   node_keeps Beta t u a e h k = beta_typed t u a e k
   node_keeps (Both' n p x q y) t u a e h k =
-      let held = hold_both (used x) (used y) h in
+      let front = held_front basis (used x) (used y) h in
+      let back = held_back basis (used x) (used y) h in
       let m = then_gives (λ z. traced y z) (traced x t) u e in
-      node_keeps y m.0 u a m.2 held.1 (node_keeps x t m.0 a m.1 held.0 k)
+      node_keeps y m.0 u a m.2 back (node_keeps x t m.0 a m.1 front k)
 
 pub trace_keeps : (n : TraceNode) (t u : Nameless) → traced n t ≡ Some u → KeepsTypes (record { old = t; new = u; used = used n })
 trace_keeps n t u e = λ basis a h k. node_keeps basis n t u a e h k

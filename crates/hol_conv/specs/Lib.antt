@@ -4,7 +4,7 @@ pub mod Outcomes
 pub mod Rewriting
 pub mod Once
 pub mod Redexes
-pub mod Passing
+pub mod Places
 pub mod Beside
 pub mod Ends
 pub mod Traces

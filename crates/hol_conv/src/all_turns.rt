@@ -8,9 +8,9 @@ ghost use Rattle.hol_conv.specs.Tracing.{Traces, redex_givens};
 
 use crate::ended::Ended;
 use crate::error::ConvError;
+use crate::place::Place;
 use crate::redexes::Redexes;
 use crate::trace_node::{TraceNode, append};
-use crate::turn::turn;
 use hol_terms::Term;
 use std::alloc::Global;
 
@@ -27,14 +27,14 @@ pub(crate) fn all_turns(
     ensures tells { TellsEnd result (all_turns (turn (contraction redexes.now) []) turns (nameless [] term.now)) }
     ensures traces { IfOk result (λ r. Traces (redex_givens redexes.now) r.node.value (nameless [] term.now) (nameless [] r.term)) }
 {
-    let mut now = term.copy()?;
-    let mut path = Vec::new(alloc);
+    let depth = redexes.depth();
+    let mut place = Place::of(alloc, term)?;
     let mut left = turns;
     let mut node = TraceNode::boxed(alloc, TraceNode::Same)?;
     'turns: loop {
-        let Some(turned) = turn(alloc, redexes, &now, &path)? else {
+        let Some(redex) = place.next(alloc, redexes)? else {
             return Ok(Ended {
-                term: now,
+                term: place.part,
                 left,
                 node,
             });
@@ -42,12 +42,12 @@ pub(crate) fn all_turns(
         if left == 0 {
             return Err(ConvError::Limit);
         }
-        if turned.term.size() > 20_000 {
+        if place.size_with(&redex.term) > 20_000 {
             return Err(ConvError::TooLarge);
         }
         left -= 1;
-        append(alloc, &mut node, Box::into_inner(turned.node))?;
-        now = turned.term;
-        path = turned.path;
+        let turn = place.trace(alloc, redex.node)?;
+        append(alloc, &mut node, Box::into_inner(turn))?;
+        place.put(alloc, redexes, depth, redex.term)?;
     }
 }

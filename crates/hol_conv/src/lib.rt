@@ -5,19 +5,18 @@
 
 mod all_turns;
 mod beta;
-mod direction;
 mod ended;
 mod error;
+mod frame;
 pub mod laws;
 mod once_beside;
+mod place;
 mod redexes;
 mod reduct;
 mod rewriting;
 mod rewritten;
 mod trace;
 mod trace_node;
-mod turn;
-mod turned;
 
 pub use beta::beta_all;
 pub use error::ConvError;

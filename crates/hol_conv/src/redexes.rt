@@ -1,10 +1,10 @@
 //! What is replaced in a turn.
-ghost use Rattle.std.specs.Prelude.{◌≡◌, [], IfOk, IfSome, MatchOption, Some, None};
+ghost use Rattle.std.specs.Prelude.{◌≡◌, [], IfOk, IfSome, IsFalse, MatchOption, Some, None};
 ghost use Rattle.hol_terms.specs.Named.{abs, named_type};
 ghost use Rattle.hol_terms.specs.Nameless.{nameless};
 ghost use Rattle.hol_match.specs.Contracta.{contractum};
 ghost use Rattle.hol_match.specs.SetView.{set_rules, set_givens};
-ghost use Rattle.hol_conv.specs.Redexes.{beta_contractum, contraction, IsOutside};
+ghost use Rattle.hol_conv.specs.Redexes.{beta_contractum, contraction, IsOutside, is_applied_abstraction, passes_over, depth};
 ghost use Rattle.hol_conv.specs.Tracing.{Traces, redex_givens};
 
 use crate::reduct::reduct;
@@ -43,6 +43,38 @@ impl<'a> Redexes<'a> {
         }
     }
 
+    /// Whether the term is a redex; where it is said to be none, it is none.
+    #[tactic(auto, using(crate::proofs::RedexLaws::no_redexes))]
+    pub(crate) fn is_redex(&self, alloc: Global, t: &Term) -> Result<bool, AllocError>
+        ensures { IfOk result (λ b. IsFalse b → contraction self.now [] (nameless [] t.now) ≡ None) }
+    {
+        match self {
+            Redexes::Beta => Ok(is_applied_abstraction(t)),
+            Redexes::Rules(rules) => Ok(rules.find(alloc, t)?.is_some()),
+        }
+    }
+
+    /// Whether only the term's outline and its type count: each left side is of another outline, or a variable. An application or an
+    /// abstraction of the same outline and type is no redex then, if this term is none.
+    pub(crate) fn passes_over(&self, t: &Term) -> bool
+        ensures { result ≡ passes_over self.now (nameless [] t.now) }
+    {
+        match self {
+            Redexes::Beta => !is_applied_abstraction(t),
+            Redexes::Rules(rules) => rules.passes_over(t),
+        }
+    }
+
+    /// How many levels of the outline are looked at there; `None` where a rule's left side has more than 20,000 nodes.
+    pub(crate) fn depth(&self) -> Option<usize>
+        ensures { IfSome result (λ d. d ≡ depth self.now) }
+    {
+        match self {
+            Redexes::Beta => Some(2),
+            Redexes::Rules(rules) => rules.depth(),
+        }
+    }
+
     /// The variable and the body of the abstraction of `v`, where the variable may be bound above a redex.
     #[inline(never)]
     pub(crate) fn opened(
@@ -72,6 +104,19 @@ fn kept(v: &Variable, body: &Term) -> Result<Binder, AllocError>
         variable: v.copy()?,
         body: body.copy()?,
     })
+}
+
+// Whether the term is an application of an abstraction.
+fn is_applied_abstraction(t: &Term) -> bool
+    ensures { result ≡ is_applied_abstraction (nameless [] t.now) }
+{
+    match t.node() {
+        TermNode::Comb(f, _) => match f.node() {
+            TermNode::Abs(_, _) => true,
+            TermNode::Var(_) | TermNode::Const(_, _) | TermNode::Comb(_, _) => false,
+        },
+        TermNode::Var(_) | TermNode::Const(_, _) | TermNode::Abs(_, _) => false,
+    }
 }
 
 // What an application of an abstraction becomes.

@@ -16,5 +16,7 @@ pub mod Outlines
 pub mod Under
 pub mod Contracta
 pub mod Apartness
+pub mod PassedOver
+pub mod Held
 pub mod Standing
 pub mod Formulas

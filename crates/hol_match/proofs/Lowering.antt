@@ -41,7 +41,7 @@ raised_index n k i = by (nat_lt i k) refl
         let r : i + n - n ≡ i = omega arith in
         rw p (rw q (ap (λ j. Some (bound j)) r))
 
-lowered_shift : (n k : ℕ) (t : Nameless) → lowered n k (shift n k t) ≡ Some t
+pub lowered_shift : (n k : ℕ) (t : Nameless) → lowered n k (shift n k t) ≡ Some t
 lowered_shift n k (free v) = refl
 lowered_shift n k (bound i) = raised_index n k i
 lowered_shift n k (fixed c s) = refl

@@ -1,23 +1,24 @@
-//! What of a pattern is seen without its variables and types.
-ghost use Rattle.std.specs.Prelude.{◌≡◌, []};
+//! What of a term is seen without its variables and types.
+ghost use Rattle.std.specs.Prelude.{◌≡◌, [], IfSome};
 ghost use Rattle.hol_terms.specs.Nameless.{nameless};
-ghost use Rattle.hol_match.specs.Outlines.{is_named, may_match};
+ghost use Rattle.hol_match.specs.Outlines.{is_named, is_abstraction, is_variable, may_match, depth};
 
 use hol_terms::{Term, TermNode};
 use hol_types::Name;
 
-/// Whether the pattern may match the term: where it is a constant, the term is one of its name, and where it is an application, so is the
-/// term.
+/// Whether the pattern may match the term: where it is a constant, the term is one of its name; where it is an application, so is the
+/// term, and its parts may match; where it is an abstraction, so is the term.
 pub(crate) fn may_match(pattern: &Term, t: &Term) -> bool
     ensures { result ≡ may_match (nameless [] pattern.now) (nameless [] t.now) }
 {
     match pattern.node() {
-        TermNode::Var(_) | TermNode::Abs(_, _) => true,
+        TermNode::Var(_) => true,
         TermNode::Const(name, _) => is_named(name, t),
         TermNode::Comb(p, q) => match t.node() {
             TermNode::Comb(f, x) => may_match(p, f) && may_match(q, x),
             TermNode::Var(_) | TermNode::Const(_, _) | TermNode::Abs(_, _) => false,
         },
+        TermNode::Abs(_, _) => is_abstraction(t),
     }
 }
 
@@ -28,5 +29,45 @@ fn is_named(name: &Name, t: &Term) -> bool
     match t.node() {
         TermNode::Const(own, _) => name.same(own),
         TermNode::Var(_) | TermNode::Comb(_, _) | TermNode::Abs(_, _) => false,
+    }
+}
+
+// Whether the term is an abstraction.
+fn is_abstraction(t: &Term) -> bool
+    ensures { result ≡ is_abstraction (nameless [] t.now) }
+{
+    match t.node() {
+        TermNode::Abs(_, _) => true,
+        TermNode::Var(_) | TermNode::Const(_, _) | TermNode::Comb(_, _) => false,
+    }
+}
+
+/// Whether the term is a variable.
+pub(crate) fn is_variable(t: &Term) -> bool
+    ensures { result ≡ is_variable (nameless [] t.now) }
+{
+    match t.node() {
+        TermNode::Var(_) => true,
+        TermNode::Const(_, _) | TermNode::Comb(_, _) | TermNode::Abs(_, _) => false,
+    }
+}
+
+/// How many levels of a term are looked at where this is the pattern; `None` for a pattern of more than 20,000 nodes.
+pub(crate) fn depth(pattern: &Term) -> Option<usize>
+    ensures { IfSome result (λ d. d ≡ depth (nameless [] pattern.now)) }
+{
+    if pattern.size() > 20_000 {
+        return None;
+    }
+    levels(pattern)
+}
+
+// The same of a pattern of any size: each node is met at each place where it stands.
+fn levels(pattern: &Term) -> Option<usize>
+    ensures { IfSome result (λ d. d ≡ depth (nameless [] pattern.now)) }
+{
+    match pattern.node() {
+        TermNode::Comb(p, q) => levels(p)?.max(levels(q)?).checked_add(1),
+        TermNode::Var(_) | TermNode::Const(_, _) | TermNode::Abs(_, _) => Some(1),
     }
 }

@@ -18,11 +18,12 @@ ghost use Rattle.hol_match.specs.Ways.{rule_ways};
 ghost use Rattle.hol_match.specs.Sources.{IsFrom};
 ghost use Rattle.hol_match.specs.Fixed.{stays};
 ghost use Rattle.hol_match.specs.Matches.{IsMatch};
+ghost use Rattle.hol_match.specs.Outlines.{rules_depth, rules_pass_over};
 
 use crate::binder::{Binder, binder_apart, rule_variables};
 use crate::instance::Instance;
 use crate::matching::match_with;
-use crate::outline::may_match;
+use crate::outline::{depth, is_variable, may_match};
 use crate::rule::Rule;
 use crate::set_rule::SetRule;
 use crate::source::Source;
@@ -95,6 +96,22 @@ impl RuleSet {
         binder_apart(alloc, &self.variables, v, body)
     }
 
+    /// How many levels of a term's outline are looked at to see whether the rules pass over it; `None` where a left side has more than
+    /// 20,000 nodes.
+    pub fn depth(&self) -> Option<usize>
+        ensures { IfSome result (λ d. d ≡ rules_depth (set_rules self.now.rules.items)) }
+    {
+        rules_depth(&self.rules)
+    }
+
+    /// Whether each rule's left side is a variable or of another outline than the term. Then no rule matches an application or an
+    /// abstraction of the same outline and type, if none matches the term: a variable matches either any term of a type, or itself alone.
+    pub fn passes_over(&self, t: &Term) -> bool
+        ensures { result ≡ rules_pass_over (set_rules self.now.rules.items) (nameless [] t.now) }
+    {
+        rules_pass_over(&self.rules, t)
+    }
+
     /// The number of rules.
     pub fn len(&self) -> usize
         ensures { result ≡ length self.now.rules.items }
@@ -141,6 +158,31 @@ fn match_of(alloc: Global, rule: &SetRule, t: &Term) -> Result<Option<Instance>,
         return Ok(None);
     }
     match_with(alloc, rule.fixed(), left, t)
+}
+
+// How many levels of a term are looked at for the rules' left sides.
+#[tactic(auto, using(crate::proofs::Outlines::looked_at))]
+fn rules_depth(rules: &[SetRule]) -> Option<usize>
+    ensures { IfSome result (λ d. d ≡ rules_depth (set_rules rules.now)) }
+{
+    let mut most = 1;
+    for rule in rules {
+        most = depth(rule.left())?.max(most);
+    }
+    Some(most)
+}
+
+// Whether each rule's left side is a variable or of another outline than the term.
+fn rules_pass_over(rules: &[SetRule], t: &Term) -> bool
+    ensures { result ≡ rules_pass_over (set_rules rules.now) (nameless [] t.now) }
+{
+    for rule in rules {
+        let left = rule.left();
+        if !is_variable(left) && may_match(left, t) {
+            return false;
+        }
+    }
+    true
 }
 
 // The rules of the theorems.

@@ -34,6 +34,7 @@ use Rattle.hol_equal.proofs.Applies.{mk_comb_yes, abs_yes, trans_yes, beta_yes}
 use Rattle.hol_match.specs.Contracta.{contracted}
 use Rattle.hol_match.specs.SetView.{set_rule, set_given}
 use Rattle.hol_match.specs.declared.set_rule.SetRule.{SetRule}
+use Rattle.hol_match.proofs.Held.{held_front, held_back}
 use Rattle.hol_replay.specs.Parts.{IsApplication, IsAbstraction}
 use Rattle.hol_conv.specs.Redexes.{beta_contractum}
 use Rattle.hol_replay.specs.RuleTheorems.{redex_equation}
@@ -50,15 +51,7 @@ use Rattle.hol_conv.proofs.Traces.{body_gives}
 abbrev Var : Type 0
 Var = List ℕ × TypeTree
 
--- ---- what was given for both of two
-pub read_front : (basis : Items) (xs ys : List Given) → all_hold (xs ++ ys) basis ≡ true → all_hold xs basis ≡ true
-read_front basis [] ys h = refl
-read_front basis (x ∷ xs) ys h = let p = both (holds_given x basis) (all_hold (xs ++ ys) basis) h in λ i. p.0 i && read_front basis xs ys p.1 i
-
-pub read_back : (basis : Items) (xs ys : List Given) → all_hold (xs ++ ys) basis ≡ true → all_hold ys basis ≡ true
-read_back basis [] ys h = h
-read_back basis (x ∷ xs) ys h = read_back basis xs ys (both (holds_given x basis) (all_hold (xs ++ ys) basis) h).1
-
+-- ---- what was given for a rule
 pub read_rule : (basis : Items) (n : TraceNode) (r : Box SetRule Global) → n ≡ Rule r → all_hold (used n) basis ≡ true → holds_given (set_given r.value) basis ≡ true
 read_rule basis n r e h = (both (holds_given (set_given r.value) basis) true (subst (λ z. all_hold (used z) basis ≡ true) e h)).0
 
@@ -154,7 +147,7 @@ module _ (basis : Items) (xs ys : List Given) (F X : Nameless → Option Nameles
         ∙ (λ i. theorem_on basis (sequent_of (hyps_both xs ys i) (equation a (nameless [] (sym e i)) (app l.new r.new))));
   }
 
-pub ruleset application_nodes = (parts_application, function_some, argument_some, function_known, argument_known, read_front, read_back, one_basis, parts_apply, parts_node)
+pub ruleset application_nodes = (parts_application, function_some, argument_some, function_known, argument_known, held_front, held_back, one_basis, parts_apply, parts_node)
 
 -- ---- in the body of an abstraction
 pub body_abstraction : (v : List ℕ × TypeTree) (gs : List Given) (B : Nameless → Option Nameless) (t : Named) → IsSome (in_body v gs B (nameless [] t)) → IsAbstraction t
@@ -297,7 +290,7 @@ module _ (basis : Items) (xs ys : List Given) (A S : Nameless → Option Nameles
       is = k ∙ (λ i. theorem_on (n.is i).basis (transitive (n.is i).sequent (m.is i).sequent)) ∙ (λ i. theorem_on basis (sequent_of (hyps_both xs ys i) (equation a (nameless [] t) m.new)));
     }
 
-pub ruleset following_nodes = (read_front, read_back, node_equation, first_some, second_some, second_known, second_typed, one_basis, both_apply, both_node)
+pub ruleset following_nodes = (held_front, held_back, node_equation, first_some, second_some, second_known, second_typed, one_basis, both_apply, both_node)
 
 -- ---- whole traces
 -- that there is an equation says that all that was used can be read, and that the old term is well typed

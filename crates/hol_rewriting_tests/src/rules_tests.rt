@@ -81,3 +81,44 @@ fn assumptions_have_rules(rt: HostRuntime) -> Result<(), Fail> {
     }
     Ok(())
 }
+
+// How many levels of a term's outline are looked at, and whether the term is passed over.
+fn outline(alloc: Global, set: &RuleSet, t: &str) -> Result<String, Fail> {
+    let Some(depth) = set.depth() else {
+        return Ok(String::from_str(alloc, "not counted")?);
+    };
+    if set.passes_over(&term(alloc, t)?) {
+        return Ok(format!(in alloc; "{depth}, passed over")?);
+    }
+    Ok(format!(in alloc; "{depth}, looked at")?)
+}
+
+// Rules, and a term.
+const OUTLINES: [(&str, &str, &str); 9] = [
+    ("p <=> ~p", "~p", "1, passed over"),
+    ("!x:foo. x = x <=> T", "T /\\ F", "3, passed over"),
+    ("!x:foo. x = x <=> T", "(a:foo) = b", "3, looked at"),
+    ("!x:foo. x = x <=> T", "(p:bool) = q", "3, looked at"),
+    ("~T <=> F", "~p", "2, passed over"),
+    ("~T <=> F, !p. ~ ~p <=> p", "~p", "3, passed over"),
+    ("~T <=> F, !p. ~ ~p <=> p", "~ ~T", "3, looked at"),
+    (
+        "!p. ((\\x:foo. T) = p) <=> T",
+        "(\\x:foo. F) = (\\x. T)",
+        "3, looked at",
+    ),
+    (
+        "!p. ((\\x:foo. T) = p) <=> T",
+        "(P:foo->bool) = (\\x. T)",
+        "3, passed over",
+    ),
+];
+
+#[test]
+fn outlines_tell_rules_apart(rt: HostRuntime) -> Result<(), Fail> {
+    for &(texts, t, wanted) in &OUTLINES {
+        let found = outline(rt.alloc(), &rules(rt.alloc(), texts)?, t)?;
+        assert_eq!(rt; found.as_str(), wanted, "{texts}: {t}");
+    }
+    Ok(())
+}

@@ -20,6 +20,7 @@ use Rattle.hol_prelude.specs.Statements.{stated, refl_clause, eq_clauses, not_cl
 use Rattle.hol_match.specs.Givens.{holds_given, all_hold, all_hyps}
 use Rattle.hol_match.specs.SetView.{set_givens, AreOf, AreGivenIn}
 use Rattle.hol_match.specs.declared.set_rule.SetRule.{SetRule}
+use Rattle.hol_match.proofs.Held.{held_both}
 use Rattle.hol_match.proofs.RuleSets.{all_given}
 use Rattle.hol_conv.proofs.Traces.{given_through}
 use Rattle.hol_conv.specs.declared.rewritten.Rewritten.{Rewritten}
@@ -79,12 +80,6 @@ none_used (Err x) e = tt
 pub record IsBeside (goal : GoalValue) (gs : List Given) : Type 0 where
   pub held : (basis : Items) → AllByRecursion (λ p. HasType basis p bool_type) goal.assumptions → all_hold gs basis ≡ true
   pub allowed : (extra : Hyps) → AreAllowed extra goal.assumptions (all_hyps gs)
-
-held_both : (basis : Items) (xs ys : List Given) → all_hold xs basis ≡ true → all_hold ys basis ≡ true → all_hold (xs ++ ys) basis ≡ true
-held_both basis [] ys h k = k
-held_both basis (x ∷ xs) ys h k =
-    let parts = both (holds_given x basis) (all_hold xs basis) h in
-    and_from (holds_given x basis) (all_hold (xs ++ ys) basis) parts.0 (held_both basis xs ys parts.1 k)
 
 hyps_cases : (xs ys : List Given) (q : Nameless) → set.contains (all_hyps (xs ++ ys)) q ≡ true → (set.contains (all_hyps xs) q ≡ true) ⊎ (set.contains (all_hyps ys) q ≡ true)
 hyps_cases [] ys q h = inr h

@@ -2,16 +2,17 @@ use Rattle.std.proofs.Common.{◌≡◌, [], reverse}
 use Rattle.hol_terms.specs.Nameless.{nameless}
 use Rattle.hol_conv.specs.Redexes.{contraction}
 use Rattle.hol_conv.specs.Turns.{turn, all_turns}
-use Rattle.hol_conv.specs.Passing.{IsPassed}
 use Rattle.hol_conv.specs.Tracing.{Traces, redex_givens}
+use Rattle.hol_conv.specs.Places.{whole, Stands}
 use Rattle.hol_conv.proofs.all_turns.all_turns.Given as goal
 
--- what is left does the rest, no redex stands to the left of the last one, and the trace leads up to here
+-- what is left does the rest, the next redex is in the part or to the right of it, and the trace leads up to here
 abbrev pub invariant-turns : goal.invariant-turns
-invariant-turns l =
-    (all_turns (turn (contraction l.redexes) []) l.turns (nameless [] l.term) ≡ all_turns (turn (contraction l.redexes) []) l.left (nameless [] l.now))
-    × IsPassed (contraction l.redexes) [] (reverse l.path.items) (nameless [] l.now)
-    × Traces (redex_givens l.redexes) l.node.value (nameless [] l.term) (nameless [] l.now)
+invariant-turns l = record {
+  same : all_turns (turn (contraction l.redexes) []) l.turns (nameless [] l.term) ≡ all_turns (turn (contraction l.redexes) []) l.left (whole (reverse l.place.frames.items) (nameless [] l.place.part));
+  stands : Stands l.redexes (reverse l.place.frames.items) (nameless [] l.place.part);
+  traces : Traces (redex_givens l.redexes) l.node.value (nameless [] l.term) (whole (reverse l.place.frames.items) (nameless [] l.place.part));
+}
 
 abbrev pub decreases-turns : goal.decreases-turns
 decreases-turns l = l.left
