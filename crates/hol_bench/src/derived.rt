@@ -2,7 +2,7 @@
 ghost use Rattle.std.specs.Prelude.{◌≡◌, IfOk};
 
 use crate::failure::Failure;
-use crate::terms::{numbered, tower, unary, variable_of_a};
+use crate::terms::{numbered, redex, tower, unary, variable_of_a};
 use hol_bool::{
     choose, conj, conjunct1, conjunct2, contr, disch, disj_cases, disj1, disj2, eqf_intro,
     eqt_intro, exists, generalize, mp, spec, undisch,
@@ -18,7 +18,7 @@ use std::alloc::Global;
 ///
 /// `t` is a tower of so many applications, of 5 nodes each, and p the equation `t = t`. The premises are p, and what the rule takes of it: `p ==> p` for `mp` and `undisch`, `!x. p` for `spec`, and so on.
 /// After `many_` the size is the number of the hypotheses of p, and the tower has 4 applications. `prelude`: the prelude's theorems, all of them, made anew.
-pub fn derived(alloc: Global, job: &str, size: u32, times: u32) -> Result<u32, Failure> {
+pub(crate) fn derived(alloc: Global, job: &str, size: u32, times: u32) -> Result<u32, Failure> {
     if job == "prelude" {
         return preludes(alloc, times);
     }
@@ -69,9 +69,16 @@ fn with_hypotheses(alloc: Global, count: u32) -> Result<Thm, Failure> {
 // The same from one more, `y = y` for the variable of the number.
 fn with_hypothesis(alloc: Global, number: u32, th: &Thm) -> Result<Thm, Failure> {
     let y = numbered(alloc, number)?;
-    let same = Thm::refl(alloc, th.basis(), &y)?;
-    let assumed = Thm::assume(alloc, th.basis(), same.concl())?;
+    let assumed = assumed_equation(alloc, th.basis(), &y)?;
     Ok(prove_hyp(alloc, &assumed, th)?)
+}
+
+// `y = y` from itself.
+fn assumed_equation(alloc: Global, basis: &Basis, y: &Term) -> Result<Thm, Failure>
+    ensures { IfOk result (λ th. th.basis ≡ basis.now) }
+{
+    let same = Thm::refl(alloc, basis, y)?;
+    Ok(Thm::assume(alloc, basis, same.concl())?)
 }
 
 // The theorem that the rule takes first, or only.
@@ -146,13 +153,6 @@ fn term_for(alloc: Global, job: &str, holds: &Thm) -> Result<Term, Failure> {
         "beta_conv" => redex(alloc, holds.concl()),
         _ => Ok(holds.concl().copy()?),
     }
-}
-
-// `(\x. p) x`.
-fn redex(alloc: Global, p: &Term) -> Result<Term, Failure> {
-    let x = variable_of_a(alloc, "x")?;
-    let function = Term::abs(alloc, &x, p)?;
-    Ok(Term::comb(alloc, &function, &x)?)
 }
 
 fn repeated(

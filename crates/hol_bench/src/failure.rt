@@ -12,7 +12,7 @@ use thiserror::Error;
 
 /// Why nothing was timed.
 #[derive(Clone, Copy, Debug, Drop, PartialEq, Eq, Error)]
-pub enum Failure {
+pub(crate) enum Failure {
     /// The words are not a job, a size and a number of times.
     #[error("words: JOB SIZE TIMES")]
     Words,

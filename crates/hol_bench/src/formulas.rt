@@ -10,14 +10,14 @@ use hol_terms::{Term, TermNode, Variable};
 use std::alloc::Global;
 
 /// `t = t`.
-pub fn equation(alloc: Global, t: &Term) -> Result<Term, Failure>
+pub(crate) fn equation(alloc: Global, t: &Term) -> Result<Term, Failure>
     ensures { IfOk result (λ p. named_type p ≡ Some bool_type) }
 {
     Ok(mk_eq(alloc, t.type_of(), t, t)?)
 }
 
 /// What the function on goals fits, of p.
-pub fn conclusion(alloc: Global, tac: &str, p: &Term) -> Result<Term, Failure>
+pub(crate) fn conclusion(alloc: Global, tac: &str, p: &Term) -> Result<Term, Failure>
     requires { named_type p.now ≡ Some bool_type }
     ensures { IfOk result (λ q. named_type q ≡ Some bool_type) }
 {
@@ -91,7 +91,7 @@ fn doubled(alloc: Global, p: &Term) -> Result<Term, Failure> {
 }
 
 /// A conjunction whose tree has 2 to so many leaves. Each leaf is `x = x` under four times `!x. F \/`.
-pub fn conjunction(alloc: Global, levels: u32) -> Result<Term, Failure> {
+pub(crate) fn conjunction(alloc: Global, levels: u32) -> Result<Term, Failure> {
     let mut p = equation(alloc, &variable_of_a(alloc, "x")?)?;
     for _ in 0..4 {
         p = layered(alloc, &p)?;

@@ -20,11 +20,18 @@ use std::alloc::Global;
 /// Uses a function on goals so many times, and answers the size of the goal, or 0 where it is refused.
 ///
 /// The goal is made of p, the equation `t = t` for a tower of so many applications, of 5 nodes each: `p /\ p` for `conj_tac`, `?x. p` for `exists_tac`, and so on.
-pub fn goals(alloc: Global, tac: &str, height: u32, times: u32) -> Result<u32, Failure> {
+pub(crate) fn goals(alloc: Global, tac: &str, height: u32, times: u32) -> Result<u32, Failure> {
     let t = tower(alloc, "x", height)?;
     let p = equation(alloc, &t)?;
-    let goal = goal_for(alloc, tac, &p)?;
-    let args = args_for(alloc, tac, &p)?;
+    of_formula(alloc, tac, &p, times)
+}
+
+// The same of a goal that is made of p.
+fn of_formula(alloc: Global, tac: &str, p: &Term, times: u32) -> Result<u32, Failure>
+    requires { named_type p.now ≡ Some bool_type }
+{
+    let goal = goal_for(alloc, tac, p)?;
+    let args = args_for(alloc, tac, p)?;
     repeated(alloc, tac, &args, &goal, times)
 }
 

@@ -19,7 +19,12 @@ use std::alloc::Global;
 /// `justify_rules`: the goal is an equation of a term with itself, whose tree has 2 to so many leaves; all moves are rules of the kernel, ten for a leaf. `justify`: it is a conjunction
 /// of 2 to so many leaves, each of which takes nine moves by derived rules. The moves are made at the last open goal. After `_in_turn` each is made at the next open goal, so that
 /// nearly all leaves are open at once; after `_apart` the same, far from the move before.
-pub fn justifying(alloc: Global, job: &str, levels: u32, times: u32) -> Result<u32, Failure> {
+pub(crate) fn justifying(
+    alloc: Global,
+    job: &str,
+    levels: u32,
+    times: u32,
+) -> Result<u32, Failure> {
     let p = statement(alloc, job, levels)?;
     let th = Thm::assume(alloc, &Basis::empty(alloc)?, &p)?;
     timed(alloc, job, &th, times)

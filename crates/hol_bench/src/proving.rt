@@ -28,7 +28,7 @@ struct Left {
 /// The justification of a goal of which none is left, by the functions that fit each goal.
 ///
 /// Each is used at the last open goal; after `_in_turn` at the next one, after `_apart` far from the one before.
-pub fn proved(alloc: Global, job: &str, goal: &Goal) -> Result<Just, Failure>
+pub(crate) fn proved(alloc: Global, job: &str, goal: &Goal) -> Result<Just, Failure>
     ensures { IfOk result (λ just. IsValid (suits Nothing) no_hyps just (goal.now ∷ []) []) }
 {
     let mut left = begun(alloc, goal)?;

@@ -2,7 +2,7 @@
 ghost use Rattle.std.specs.Prelude.{◌≡◌, IfOk};
 
 use crate::failure::Failure;
-use crate::terms::{tower, type_variable, unary, variable_of_a};
+use crate::terms::{redex, tower, type_pair, unary, variable_of_a};
 use hol_kernel::{Basis, Thm};
 use hol_terms::Term;
 use hol_types::{Name, Ty};
@@ -12,7 +12,7 @@ use std::alloc::Global;
 ///
 /// The terms are towers of so many applications, of 5 nodes each. `refl`: of a tower. `trans`: of `t = t` and `t = t`.
 /// `mk_comb`: of `f = f` and `t = t`. `beta`: of `(\x. t) x`. `inst`: y for x in `t = t`. `inst_type`: B for A in `t = t`.
-pub fn rules(alloc: Global, job: &str, height: u32, times: u32) -> Result<u32, Failure> {
+pub(crate) fn rules(alloc: Global, job: &str, height: u32, times: u32) -> Result<u32, Failure> {
     let basis = Basis::empty(alloc)?;
     let t = tower(alloc, "x", height)?;
     match job {
@@ -43,8 +43,8 @@ fn combined(alloc: Global, f: &Thm, x: &Thm) -> Result<u32, Failure>
     Ok(Thm::mk_comb(alloc, f, x)?.concl().size())
 }
 
-fn reduced(alloc: Global, basis: &Basis, redex: &Term) -> Result<u32, Failure> {
-    Ok(Thm::beta(alloc, basis, redex)?.concl().size())
+fn reduced(alloc: Global, basis: &Basis, applied: &Term) -> Result<u32, Failure> {
+    Ok(Thm::beta(alloc, basis, applied)?.concl().size())
 }
 
 fn with_terms(alloc: Global, pairs: &[(Term, Term)], th: &Thm) -> Result<u32, Failure> {
@@ -84,19 +84,12 @@ fn congruence(alloc: Global, basis: &Basis, t: &Term, times: u32) -> Result<u32,
 }
 
 fn beta(alloc: Global, basis: &Basis, t: &Term, times: u32) -> Result<u32, Failure> {
-    let redex = own_redex(alloc, t)?;
+    let applied = redex(alloc, t)?;
     let mut size = 0;
     for _ in 0..times {
-        size = reduced(alloc, basis, &redex)?;
+        size = reduced(alloc, basis, &applied)?;
     }
     Ok(size)
-}
-
-// `(\x. t) x`.
-fn own_redex(alloc: Global, t: &Term) -> Result<Term, Failure> {
-    let x = variable_of_a(alloc, "x")?;
-    let function = Term::abs(alloc, &x, t)?;
-    Ok(Term::comb(alloc, &function, &x)?)
 }
 
 // y for x.
@@ -118,17 +111,8 @@ fn instance(alloc: Global, basis: &Basis, t: &Term, times: u32) -> Result<u32, F
     Ok(size)
 }
 
-// B for A.
-fn type_pairs(alloc: Global) -> Result<Vec<(Ty, Name)>, Failure> {
-    let b = type_variable(alloc, "B")?;
-    let a = Name::new(alloc, "A")?;
-    let mut pairs = Vec::new(alloc);
-    pairs.push((b, a))?;
-    Ok(pairs)
-}
-
 fn type_instance(alloc: Global, basis: &Basis, t: &Term, times: u32) -> Result<u32, Failure> {
-    let pairs = type_pairs(alloc)?;
+    let pairs = type_pair(alloc, "A")?;
     let th = reflexive(alloc, basis, t)?;
     let mut size = 0;
     for _ in 0..times {

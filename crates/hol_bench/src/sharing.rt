@@ -9,7 +9,7 @@ use std::cmp::Ordering;
 /// Does a job so many times on each type of 2^1, 2^2, .. leaves up to 2^`levels`, which share their nodes, and answers the sum.
 ///
 /// `size`: the size (20,001 for more). `order`: 1 where the type comes after a type variable.
-pub fn sharing(alloc: Global, job: &str, levels: u32, times: u32) -> Result<u32, Failure> {
+pub(crate) fn sharing(alloc: Global, job: &str, levels: u32, times: u32) -> Result<u32, Failure> {
     let a = type_a(alloc)?;
     let types = shared(alloc, &a, levels)?;
     let mut sum: u32 = 0;

@@ -2,7 +2,7 @@
 
 use crate::failure::Failure;
 use crate::terms::{
-    applied_to_two, binary, numbered, pair, tower, type_variable, variable, variable_of_a,
+    binary, numbered, pair, tower, type_pair, type_variable, variable, variable_of_a,
 };
 use hol_subst::{inst, vsubst};
 use hol_terms::Term;
@@ -14,7 +14,12 @@ use std::alloc::Global;
 /// `tower`: x under so many applications. `beside`: x beside so many applications in which it does not occur. `captures`: z under so
 /// many binders, whose variables are all free in the term that comes in. `types`: a type for that of x and of all applications to it.
 /// `types_beside`: a type for that of a variable beside so many applications in which it does not occur.
-pub fn substitution(alloc: Global, job: &str, size: u32, times: u32) -> Result<u32, Failure> {
+pub(crate) fn substitution(
+    alloc: Global,
+    job: &str,
+    size: u32,
+    times: u32,
+) -> Result<u32, Failure> {
     match job {
         "tower" => in_tower(alloc, size, times),
         "beside" => in_one_side(alloc, size, times),
@@ -64,9 +69,7 @@ fn instantiated(alloc: Global, pairs: &[(Ty, Name)], t: &Term) -> Result<u32, Fa
 
 // The term with the new one for a variable of the type A, so many times.
 fn replaced(alloc: Global, t: &Term, name: &str, new: &Term, times: u32) -> Result<u32, Failure> {
-    let x = variable_of_a(alloc, name)?;
-    let mut pairs = Vec::new(alloc);
-    pairs.push((new.copy()?, x))?;
+    let pairs = term_pair(alloc, name, new)?;
     let mut size = 0;
     for _ in 0..times {
         size = substituted(alloc, &pairs, t)?;
@@ -74,11 +77,16 @@ fn replaced(alloc: Global, t: &Term, name: &str, new: &Term, times: u32) -> Resu
     Ok(size)
 }
 
+fn term_pair(alloc: Global, name: &str, new: &Term) -> Result<Vec<(Term, Term)>, Failure> {
+    let x = variable_of_a(alloc, name)?;
+    let mut pairs = Vec::new(alloc);
+    pairs.push((new.copy()?, x))?;
+    Ok(pairs)
+}
+
 // The term with B for a type variable, so many times.
 fn retyped(alloc: Global, t: &Term, name: &str, times: u32) -> Result<u32, Failure> {
-    let b = type_variable(alloc, "B")?;
-    let mut pairs = Vec::new(alloc);
-    pairs.push((b, Name::new(alloc, name)?))?;
+    let pairs = type_pair(alloc, name)?;
     let mut size = 0;
     for _ in 0..times {
         size = instantiated(alloc, &pairs, t)?;
@@ -88,11 +96,17 @@ fn retyped(alloc: Global, t: &Term, name: &str, times: u32) -> Result<u32, Failu
 
 // A variable of the type C beside a term in whose types C does not occur.
 fn beside_another_type(alloc: Global, size: u32) -> Result<Term, Failure> {
+    let half = applied_to_another_type(alloc)?;
+    let other = tower(alloc, "z", size)?;
+    Ok(Term::comb(alloc, &half, &other)?)
+}
+
+// The function of two arguments at a variable of the type C.
+fn applied_to_another_type(alloc: Global) -> Result<Term, Failure> {
     let c = type_variable(alloc, "C")?;
     let g = binary(alloc, &c)?;
     let x = variable(alloc, "x", &c)?;
-    let other = tower(alloc, "z", size)?;
-    applied_to_two(alloc, &g, &x, &other)
+    Ok(Term::comb(alloc, &g, &x)?)
 }
 
 // x beside a term in which it does not occur.

@@ -1,20 +1,18 @@
 -- What the rules answer, from what the code tested.
-use Rattle.std.specs.Prelude.{◌≡◌, ℕ, Bool, true, false, cond, not, ◌&&◌, List, [], Some, None, refl}
+use Rattle.std.specs.Prelude.{◌≡◌, ℕ, Bool, true, false, cond, not, ◌&&◌, List, Some, None}
 use Rattle.std.specs.Option.{option_and_then}
 use Rattle.std.specs.FinSet as set
 use Rattle.std.proofs.Common.{ap, sym, ◌∙◌}
 use Rattle.hol_types.specs.Tree.{TypeTree}
-use Rattle.hol_types.specs.Equal.{type_eq}
-use Rattle.hol_terms.specs.Named.{Named, var, named_type}
-use Rattle.hol_terms.specs.Nameless.{Nameless, nameless}
+use Rattle.hol_terms.specs.Named.{var}
+use Rattle.hol_terms.specs.Nameless.{Nameless}
 use Rattle.hol_subst.specs.Closing.{open_with}
 use Rattle.hol_subst.specs.Variant.{is_free_in}
 use Rattle.hol_formulas.specs.Formula.{Abstraction, universal, dest_forall}
 use Rattle.hol_formulas.proofs.FormulaLaws.{dest_forall_universal}
 use Rattle.hol_kernel.specs.Items.{Items}
 use Rattle.hol_kernel.specs.Sequent.{Sequent, sequent_of}
-use Rattle.hol_kernel.specs.Typing.{is_type, is_typed, has_type}
-use Rattle.hol_kernel.proofs.TermRules.{has_type_test}
+use Rattle.hol_kernel.specs.Typing.{is_type, has_type}
 use Rattle.hol_bool.specs.Applied.{specialized, generalized, abstraction_in}
 use Rattle.hol_bool.specs.Rules.{spec_of, gen_of}
 use Rattle.hol_equal.specs.Applied.{rand}
@@ -51,19 +49,3 @@ module _ (basis : Items) (v : List ℕ × TypeTree) (a : Sequent) where
 
   pub gen_gives : is_type basis v.1 ≡ true → is_free_in (set.items a.hyps) v ≡ false → gen_of basis (var v) a ≡ Some (generalized v a)
   gen_gives stands e = gen_at stands false e
-
-pub typed_test : (basis : Items) (t : Named) (s b : TypeTree) → named_type t ≡ Some s → type_eq s b ≡ true → is_typed basis (nameless [] t) ≡ has_type basis (nameless [] t) b
-typed_test basis t s b has e = sym (has_type_test basis t s has b ∙ ap (λ k. is_typed basis (nameless [] t) && k) e ∙ and_true (is_typed basis (nameless [] t)))
-  where
-    and_true : (k : Bool) → (k && true) ≡ k
-    and_true true = refl
-    and_true false = refl
-
-pub other_type : (basis : Items) (t : Named) (s b : TypeTree) → named_type t ≡ Some s → type_eq s b ≡ false → has_type basis (nameless [] t) b ≡ false
-other_type basis t s b has e = has_type_test basis t s has b ∙ ap (λ k. is_typed basis (nameless [] t) && k) e ∙ and_false (is_typed basis (nameless [] t))
-  where
-    and_false : (k : Bool) → (k && false) ≡ false
-    and_false true = refl
-    and_false false = refl
-
-pub ruleset tests = (typed_test, other_type)

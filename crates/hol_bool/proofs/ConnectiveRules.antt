@@ -12,8 +12,8 @@ use Rattle.hol_formulas.proofs.FormulaLaws.{dest_binary_is}
 use Rattle.hol_kernel.specs.Items.{Items}
 use Rattle.hol_kernel.specs.Sequent.{only_hyp, Sequent, sequent_of}
 use Rattle.hol_kernel.specs.Typing.{has_type}
-use Rattle.hol_equal.specs.Applied.{lhs, rhs}
-use Rattle.hol_bool.specs.Applied.{first_conjunct, second_conjunct, implied, discharged, undischarged}
+use Rattle.hol_equal.specs.Applied.{lhs, rhs, concluded}
+use Rattle.hol_bool.specs.Applied.{first_conjunct, second_conjunct, discharged, undischarged}
 use Rattle.hol_bool.specs.Rules.{conjunct1_of, conjunct2_of, mp_of, disch_of, undisch_of}
 
 module _ (c : List ℕ) (t : Nameless) where
@@ -86,7 +86,7 @@ module _ (a b : Sequent) where
     pub mp_other : alpha_eq p b.concl ≡ false → mp_of a b ≡ None
     mp_other e = mp_at false e
 
-    pub mp_gives : alpha_eq p b.concl ≡ true → mp_of a b ≡ Some (implied a b)
+    pub mp_gives : alpha_eq p b.concl ≡ true → mp_of a b ≡ Some (concluded a b)
     mp_gives e = mp_at true e ∙ ap (λ t. Some (sequent_of (set.union a.hyps b.hyps) (rhs t))) (sym implies)
 
 module _ (basis : Items) (p : Nameless) (a : Sequent) where

@@ -3,6 +3,9 @@ use Rattle.std.specs.Prelude.{◌≡◌, ℕ, Bool, true, false, cond, not, ◌&
 use Rattle.std.specs.Option.{option_map, option_and_then}
 use Rattle.std.specs.FinSet as set
 use Rattle.std.proofs.Common.{ap, sym, ◌∙◌}
+use Rattle.std.proofs.Math.Bool.{or-true}
+use Rattle.hol_equal.proofs.RuleLaws.{tested}
+use Rattle.hol_kernel.proofs.RuleLaws.{both_more}
 use mathlib.Core.Bool.{true≢false}
 use Rattle.hol_types.specs.Tree.{TypeTree}
 use Rattle.hol_types.specs.Equal.{type_eq}
@@ -66,10 +69,6 @@ module _ (t : Nameless) where
 and_none : {A : Type 0} (x : A) (k : Bool) → cond (k && false) (Some x) None ≡ None
 and_none x true = refl
 and_none x false = refl
-
-or_last : (k : Bool) → (k || true) ≡ true
-or_last true = refl
-or_last false = refl
 
 none_twice : {A : Type 0} (k : Bool) → cond {A = Option A} k None None ≡ None
 none_twice true = refl
@@ -217,13 +216,13 @@ module _ (v : List ℕ × TypeTree) (a b : Sequent) where
 
     pub choose_in_second : binds (free_occurrences b.concl) v ≡ true → choose_of (var v) a b ≡ None
     choose_in_second q =
-        choose_captured (ap (λ k. binds (free_occurrences a.concl) v || (k || is_free_in (set.items (choose_left v b.hyps x)) v)) q ∙ or_last (binds (free_occurrences a.concl) v))
+        choose_captured (ap (λ k. binds (free_occurrences a.concl) v || (k || is_free_in (set.items (choose_left v b.hyps x)) v)) q ∙ or-true (binds (free_occurrences a.concl) v))
 
     pub choose_in_left : is_free_in (set.items (choose_left v b.hyps x)) v ≡ true → choose_of (var v) a b ≡ None
     choose_in_left q =
         choose_captured
         (ap (λ k. binds (free_occurrences a.concl) v || (binds (free_occurrences b.concl) v || k)) q
-        ∙ ap (λ k. binds (free_occurrences a.concl) v || k) (or_last (binds (free_occurrences b.concl) v)) ∙ or_last (binds (free_occurrences a.concl) v))
+        ∙ ap (λ k. binds (free_occurrences a.concl) v || k) (or-true (binds (free_occurrences b.concl) v)) ∙ or-true (binds (free_occurrences a.concl) v))
 
     pub fresh : binds (free_occurrences a.concl) v ≡ false → binds (free_occurrences b.concl) v ≡ false → is_free_in (set.items (choose_left v b.hyps x)) v ≡ false → is_free_in (a.concl ∷ b.concl ∷ set.items (choose_left v b.hyps x)) v ≡ false
     fresh f g h = λ i. f i || (g i || h i)
@@ -237,29 +236,21 @@ pub ruleset refused = (disj1_none, disj2_none, disj_cases_none, disj_cases_other
 
 -- ---- larger sets of items
 
-tested_more : (p q : Bool) (x s : Sequent) → (p ≡ true → q ≡ true) → cond p (Some x) None ≡ Some s → cond q (Some x) None ≡ Some s
-tested_more true q x s f e = ap (λ k. cond k (Some x) None) (f refl) ∙ e
-tested_more false q x s f e = absurd (cc)
-
 pub disj1_monotone : (a : Sequent) (q : Nameless) → IsMonotone (λ basis. disj1_of basis a q)
 disj1_monotone a q basis more h s e =
-    tested_more (has_type basis q bool_type) (has_type more q bool_type) (with_right a q) s (has_type_more basis more (within_of_subset basis more h) q bool_type) e
+    tested (has_type basis q bool_type) (has_type more q bool_type) (with_right a q) s (has_type_more basis more (within_of_subset basis more h) q bool_type) e
 
 pub disj2_monotone : (p : Nameless) (a : Sequent) → IsMonotone (λ basis. disj2_of basis p a)
 disj2_monotone p a basis more h s e =
-    tested_more (has_type basis p bool_type) (has_type more p bool_type) (with_left p a) s (has_type_more basis more (within_of_subset basis more h) p bool_type) e
+    tested (has_type basis p bool_type) (has_type more p bool_type) (with_left p a) s (has_type_more basis more (within_of_subset basis more h) p bool_type) e
 
 and_second : (k j l : Bool) → (j ≡ true → l ≡ true) → (k && j) ≡ true → (k && l) ≡ true
 and_second true j l f e = f e
 and_second false j l f e = absurd (true≢false (sym e))
 
-and_first : (j l k : Bool) → (j ≡ true → l ≡ true) → (j && k) ≡ true → (l && k) ≡ true
-and_first true l k f e = ap (λ b. b && k) (f refl) ∙ e
-and_first false l k f e = absurd (true≢false (sym e))
-
 pub contr_monotone : (p : Nameless) (a : Sequent) → IsMonotone (λ basis. contr_of basis p a)
 contr_monotone p a basis more h s e =
-    tested_more (is_falsity a.concl && has_type basis p bool_type) (is_falsity a.concl && has_type more p bool_type) (sequent_of a.hyps p) s
+    tested (is_falsity a.concl && has_type basis p bool_type) (is_falsity a.concl && has_type more p bool_type) (sequent_of a.hyps p) s
     (and_second (is_falsity a.concl) (has_type basis p bool_type) (has_type more p bool_type) (has_type_more basis more (within_of_subset basis more h) p bool_type)) e
 
 module _ (basis more : Items) (wider : (t : Nameless) (s : TypeTree) → HasType basis t s → HasType more t s) where
@@ -276,8 +267,8 @@ exists_monotone e t a basis more h s is = outer (is_typed basis e) refl is
     inner : (o : Option Abstraction) → option_and_then (exists_at basis e t a) o ≡ Some s → option_and_then (exists_at more e t a) o ≡ Some s
     inner None g = absurd (cc)
     inner (Some x) g =
-        tested_more (has_type basis t x.domain && alpha_eq (open_with t 0 x.body) a.concl) (has_type more t x.domain && alpha_eq (open_with t 0 x.body) a.concl) (sequent_of a.hyps e) s
-        (and_first (has_type basis t x.domain) (has_type more t x.domain) (alpha_eq (open_with t 0 x.body) a.concl) (has_type_more basis more (within_of_subset basis more h) t x.domain)) g
+        tested (has_type basis t x.domain && alpha_eq (open_with t 0 x.body) a.concl) (has_type more t x.domain && alpha_eq (open_with t 0 x.body) a.concl) (sequent_of a.hyps e) s
+        (both_more (has_type basis t x.domain) (has_type more t x.domain) (alpha_eq (open_with t 0 x.body) a.concl) (has_type_more basis more (within_of_subset basis more h) t x.domain)) g
 
     outer : (k : Bool) → is_typed basis e ≡ k → cond k (option_and_then (exists_at basis e t a) (dest_exists e)) None ≡ Some s → exists_of more e t a ≡ Some s
     outer true f g =

@@ -1,10 +1,9 @@
 -- Instances of the general theorems.
-use Rattle.std.specs.Prelude.{◌≡◌, ℕ, Result, Ok, Err, IfOk, true, cond, ◌&&◌, List, [], ◌∷◌, codes, Option, Some, None, unwrap_or, IsSome, is_some, Bool, false, refl}
+use Rattle.std.specs.Prelude.{◌≡◌, Result, Ok, Err, IfOk, true, cond, ◌&&◌, [], ◌∷◌, codes, Option, Some, None, unwrap_or, IsSome, is_some, Bool, false, refl}
 use Rattle.std.specs.FinSet as set
-use Rattle.std.proofs.Common.{ap, sym, ◌∙◌, subst}
+use Rattle.std.proofs.Common.{ap, sym, ◌∙◌}
 use mathlib.Core.Bool.{true≢false}
 use Rattle.hol_types.specs.Tree.{TypeTree}
-use Rattle.hol_types.specs.Equal.{variable_eq}
 use Rattle.hol_types.specs.Fun.{fun_type}
 use Rattle.hol_terms.specs.Named.{Named, var}
 use Rattle.hol_terms.specs.Nameless.{Nameless, free, fixed, app, nameless}

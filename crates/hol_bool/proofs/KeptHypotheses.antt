@@ -4,6 +4,7 @@ use Rattle.std.specs.Option.{option_map, option_and_then}
 use Rattle.std.specs.Ordering.{eq_by_cmp}
 use Rattle.std.specs.FinSet as set
 use Rattle.std.proofs.Common.{ap, sym, ◌∙◌, subst}
+use Rattle.std.proofs.lemmas.Bool.{and_parts}
 use Rattle.hol_terms.specs.Nameless.{Nameless}
 use Rattle.hol_terms.specs.Alpha.{strip, alpha_eq}
 use Rattle.hol_subst.specs.AlphaOrder.{nameless_cmp}
@@ -19,13 +20,9 @@ use Rattle.hol_equal.specs.Hypotheses.{StaysWithin}
 use Rattle.hol_equal.proofs.KeptHypotheses.{all_within, tested_within}
 use Rattle.hol_bool.specs.Rules.{conj_of, conjunct1_of, conjunct2_of, mp_of, disch_of, undisch_of, not_intro_of}
 
-second : (a b : Bool) → (a && b) ≡ true → b ≡ true
-second true b e = e
-second false b e = absurd (cc)
-
 rest_within : (hs : Hyps) (k : Nameless) → set.is_subset (set.remove hs k) hs ≡ true
 rest_within hs k =
-    set.contains-is_subset hyps_total (set.remove hs k) hs (λ q h. second (not (eq_by_cmp nameless_cmp q k)) (set.contains hs q) (sym (set.contains-remove hyps_total hs k q) ∙ h))
+    set.contains-is_subset hyps_total (set.remove hs k) hs (λ q h. (and_parts (not (eq_by_cmp nameless_cmp q k)) (set.contains hs q) (sym (set.contains-remove hyps_total hs k q) ∙ h)).1)
 
 none_is : (hs : Hyps) (k : Nameless) → set.contains (set.remove hs k) k ≡ false
 none_is hs k = set.contains-remove hyps_total hs k k ∙ ap (λ b. not b && set.contains hs k) (itself hyps_total hyps_same k)

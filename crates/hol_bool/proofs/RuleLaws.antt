@@ -1,10 +1,9 @@
 -- What the rules give over a set of items they give over every larger one.
-use Rattle.std.specs.Prelude.{◌≡◌, Bool, true, false, cond, not, ◌&&◌, Option, Some, None, refl}
+use Rattle.std.specs.Prelude.{◌≡◌, cond, not, ◌&&◌, Option, Some, None}
 use Rattle.std.specs.Option.{option_and_then}
 use Rattle.std.specs.FinSet as set
-use Rattle.std.proofs.Common.{ap, ◌∙◌}
-use mathlib.Core.Bool.{true≢false}
-use Rattle.std.proofs.Common.{sym}
+use Rattle.hol_equal.proofs.RuleLaws.{tested}
+use Rattle.hol_kernel.proofs.RuleLaws.{both_more}
 use Rattle.hol_terms.specs.Named.{Named, var, constant, comb, abs}
 use Rattle.hol_terms.specs.Nameless.{Nameless}
 use Rattle.hol_subst.specs.Closing.{open_with}
@@ -18,14 +17,6 @@ use Rattle.hol_kernel.proofs.Subsets.{within_of_subset}
 use Rattle.hol_kernel.proofs.Weaken.{is_type_more, has_type_more}
 use Rattle.hol_bool.specs.Rules.{spec_of, gen_of, disch_of}
 use Rattle.hol_bool.specs.Applied.{discharged}
-
-tested : (a b : Bool) (x s : Sequent) → (a ≡ true → b ≡ true) → cond a (Some x) None ≡ Some s → cond b (Some x) None ≡ Some s
-tested true b x s f e = ap (λ k. cond k (Some x) None) (f refl) ∙ e
-tested false b x s f e = absurd (cc)
-
-both_more : (a c b : Bool) → (a ≡ true → c ≡ true) → (a && b) ≡ true → (c && b) ≡ true
-both_more true c b f e = ap (λ k. k && b) (f refl) ∙ e
-both_more false c b f e = absurd (true≢false (sym e))
 
 pub spec_monotone : (t : Nameless) (a : Sequent) → IsMonotone (λ basis. spec_of basis t a)
 spec_monotone t a basis more h s e = by (dest_forall a.concl) e

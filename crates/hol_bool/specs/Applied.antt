@@ -110,10 +110,7 @@ first_conjunct a = sequent_of a.hyps (lhs a.concl)
 abbrev pub second_conjunct : Sequent → Sequent
 second_conjunct a = sequent_of a.hyps (rhs a.concl)
 
--- MP, DISCH, UNDISCH
-abbrev pub implied : Sequent → Sequent → Sequent
-implied a b = sequent_of (set.union a.hyps b.hyps) (rhs a.concl)
-
+-- DISCH, UNDISCH; MP gives what EQ_MP does, `concluded`
 abbrev pub discharged : Nameless → Sequent → Sequent
 discharged p a = sequent_of (set.remove a.hyps (strip p)) (implication p a.concl)
 

@@ -9,8 +9,7 @@ ghost use Rattle.hol_bool.specs.declared.error.Rule.TheVariants as rule;
 
 use crate::applied;
 use crate::error::{BoolError, Rule};
-use crate::rules::is_of_type;
-use hol_formulas::{bool_type, dest_imp, is_conj, is_disj, is_falsity, is_imp, is_neg};
+use hol_formulas::{dest_imp, is_conj, is_disj, is_falsity, is_imp, is_neg};
 use hol_kernel::Thm;
 use hol_terms::Term;
 use std::alloc::Global;
@@ -69,8 +68,7 @@ pub fn disch(alloc: Global, p: &Term, a: &Thm) -> Result<Thm, BoolError>
     ensures sequent { Gives in_bool rule.Disch (over a.now.basis (disch_of a.now.basis (nameless [] p.now) a.now.sequent)) result }
     ensures basis { IfOk result (λ th. th.basis ≡ a.now.basis) }
 {
-    let truth = bool_type(alloc)?;
-    if !is_of_type(alloc, a.basis(), p, &truth)? {
+    if !a.basis().is_formula(alloc, p)? {
         return Err(BoolError::Refused(Rule::Disch));
     }
     Ok(applied::disch(alloc, p, a)?)
@@ -115,8 +113,7 @@ pub fn disj1(alloc: Global, a: &Thm, q: &Term) -> Result<Thm, BoolError>
     ensures sequent { Gives in_bool rule.Disj1 (over a.now.basis (disj1_of a.now.basis a.now.sequent (nameless [] q.now))) result }
     ensures basis { IfOk result (λ th. th.basis ≡ a.now.basis) }
 {
-    let truth = bool_type(alloc)?;
-    if !is_of_type(alloc, a.basis(), q, &truth)? {
+    if !a.basis().is_formula(alloc, q)? {
         return Err(BoolError::Refused(Rule::Disj1));
     }
     Ok(applied::disj1(alloc, a, q)?)
@@ -130,8 +127,7 @@ pub fn disj2(alloc: Global, p: &Term, a: &Thm) -> Result<Thm, BoolError>
     ensures sequent { Gives in_bool rule.Disj2 (over a.now.basis (disj2_of a.now.basis (nameless [] p.now) a.now.sequent)) result }
     ensures basis { IfOk result (λ th. th.basis ≡ a.now.basis) }
 {
-    let truth = bool_type(alloc)?;
-    if !is_of_type(alloc, a.basis(), p, &truth)? {
+    if !a.basis().is_formula(alloc, p)? {
         return Err(BoolError::Refused(Rule::Disj2));
     }
     Ok(applied::disj2(alloc, p, a)?)
@@ -168,8 +164,7 @@ pub fn contr(alloc: Global, p: &Term, a: &Thm) -> Result<Thm, BoolError>
     if !is_falsity(a.concl()) {
         return Err(BoolError::Refused(Rule::Contr));
     }
-    let truth = bool_type(alloc)?;
-    if !is_of_type(alloc, a.basis(), p, &truth)? {
+    if !a.basis().is_formula(alloc, p)? {
         return Err(BoolError::Refused(Rule::Contr));
     }
     Ok(applied::contr(alloc, p, a)?)

@@ -10,8 +10,8 @@ ghost use Rattle.hol_formulas.specs.Prelude.{boolean};
 ghost use Rattle.hol_kernel.specs.Sequent.{only_hyp, sequent_of};
 ghost use Rattle.hol_kernel.specs.Theorem.{theorem_on};
 ghost use Rattle.hol_kernel.specs.Typing.{HasType};
-ghost use Rattle.hol_equal.specs.Applied.{lhs, rhs};
-ghost use Rattle.hol_bool.specs.Applied.{with_right, with_left, by_cases, implied, discharged};
+ghost use Rattle.hol_equal.specs.Applied.{lhs, rhs, concluded};
+ghost use Rattle.hol_bool.specs.Applied.{with_right, with_left, by_cases, discharged};
 ghost use Rattle.hol_bool.specs.Unfolded.{or_unfolded, either, either_for_all, letter, side_name, reached_from};
 
 use crate::definitions::{definition, unfold_first, unfold_last};
@@ -57,7 +57,7 @@ fn one_case(alloc: Global, a: &Thm, p: &Term, b: &Thm) -> Result<Thm, AllocError
     requires typed { HasType a.now.basis (nameless [] p.now) bool_type }
     requires is { a.now.sequent.concl ≡ implication (implication (nameless [] p.now) (rhs (lhs a.now.sequent.concl))) (rhs a.now.sequent.concl) }
     requires fits { strip (rhs (lhs a.now.sequent.concl)) ≡ strip b.now.sequent.concl }
-    ensures { IfOk result (λ th. th ≡ theorem_on a.now.basis (implied a.now.sequent (discharged (nameless [] p.now) b.now.sequent))) }
+    ensures { IfOk result (λ th. th ≡ theorem_on a.now.basis (concluded a.now.sequent (discharged (nameless [] p.now) b.now.sequent))) }
 {
     let way = disch(alloc, p, b)?;
     mp(alloc, a, &way)

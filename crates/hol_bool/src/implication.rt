@@ -8,8 +8,8 @@ ghost use Rattle.hol_formulas.specs.Formula.{conjunction, implication, equivalen
 ghost use Rattle.hol_kernel.specs.Sequent.{only_hyp, sequent_of};
 ghost use Rattle.hol_kernel.specs.Theorem.{theorem_on};
 ghost use Rattle.hol_kernel.specs.Typing.{HasType};
-ghost use Rattle.hol_equal.specs.Applied.{lhs, rhs};
-ghost use Rattle.hol_bool.specs.Applied.{imp_unfolded, implied, discharged, undischarged};
+ghost use Rattle.hol_equal.specs.Applied.{lhs, rhs, concluded};
+ghost use Rattle.hol_bool.specs.Applied.{imp_unfolded, discharged, undischarged};
 
 use crate::conjunction::{conj, conjunct1, conjunct2};
 use crate::definitions::{definition, unfold_at};
@@ -48,7 +48,7 @@ pub fn mp(alloc: Global, a: &Thm, b: &Thm) -> Result<Thm, AllocError>
     requires one_basis { a.now.basis ≡ b.now.basis }
     requires is { a.now.sequent.concl ≡ implication (lhs a.now.sequent.concl) (rhs a.now.sequent.concl) }
     requires fits { strip (lhs a.now.sequent.concl) ≡ strip b.now.sequent.concl }
-    ensures { IfOk result (λ th. th ≡ theorem_on a.now.basis (implied a.now.sequent b.now.sequent)) }
+    ensures { IfOk result (λ th. th ≡ theorem_on a.now.basis (concluded a.now.sequent b.now.sequent)) }
 {
     let own = as_equivalence(alloc, a)?;
     let both = eq_mp_sym(alloc, &own, b)?;

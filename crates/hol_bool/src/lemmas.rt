@@ -10,14 +10,13 @@ ghost use Rattle.hol_kernel.specs.Rules.{sequent_image};
 ghost use Rattle.hol_kernel.specs.Sequent.{only_hyp, sequent_of};
 ghost use Rattle.hol_kernel.specs.Theorem.{theorem_on};
 ghost use Rattle.hol_kernel.specs.Typing.{HasType, is_type};
-ghost use Rattle.hol_equal.specs.Unrefused.{IsUnrefused};
 ghost use Rattle.hol_bool.specs.Lemmas.{hypothesis, conclusion, lemma_at, general, put, put_predicate};
 
 use crate::lemma::{Lemma, derived};
 use crate::letters::letter;
-use hol_equal::applied::{inst_type, prove_hyp};
+use hol_equal::applied::{inst_type, prove_hyp, unrefused};
 use hol_formulas::{bool_type, occurrence, variable};
-use hol_kernel::{Basis, KernelError, Thm};
+use hol_kernel::{Basis, Thm};
 use hol_terms::Term;
 use hol_types::Ty;
 use std::alloc::{AllocError, Global};
@@ -116,19 +115,6 @@ impl Lemmas {
     {
         let own = self.instance(alloc, which, p, q)?;
         prove_hyp(alloc, premise, &own)
-    }
-}
-
-// The theorem of a call that is not refused.
-fn unrefused(answer: Result<Thm, KernelError>) -> Result<Thm, AllocError>
-    requires { IsUnrefused answer }
-    ensures { IfOk result (λ th. answer ≡ Ok th) }
-{
-    match answer {
-        Ok(th) => Ok(th),
-        Err(KernelError::Memory) => Err(AllocError),
-        Err(KernelError::Refused(_)) => unreachable!(),
-        Err(KernelError::Clash(_)) => unreachable!(),
     }
 }
 

@@ -1,16 +1,14 @@
 //! Rules of the quantifiers (bool.ml). The names of bound variables in what they give are those of what they were handed.
 ghost use Rattle.std.specs.Prelude.{◌≡◌, ◌∷◌, IfOk, [], true};
 ghost use Rattle.std.specs.FinSet as set;
-ghost use Rattle.std.specs.List.{list_any};
 ghost use Rattle.hol_types.specs.Fun.{fun_type};
-ghost use Rattle.hol_terms.specs.Nameless.{nameless, lam, base_of, free_occurrences};
+ghost use Rattle.hol_terms.specs.Nameless.{nameless, lam, base_of};
 ghost use Rattle.hol_terms.specs.Alpha.{alpha_eq};
-ghost use Rattle.hol_terms.specs.Scoped.{binds};
 ghost use Rattle.hol_subst.specs.Closing.{open_with};
 ghost use Rattle.hol_subst.specs.Variant.{is_free_in};
 ghost use Rattle.hol_formulas.specs.Equation.{bool_type};
 ghost use Rattle.hol_kernel.specs.Theorem.{over};
-ghost use Rattle.hol_kernel.specs.Typing.{HasType, has_type, is_type};
+ghost use Rattle.hol_kernel.specs.Typing.{HasType, is_type};
 ghost use Rattle.hol_kernel.specs.Gives.{Gives};
 ghost use Rattle.hol_bool.specs.Rules.{spec_of, gen_of, exists_of, choose_of, choose_left};
 ghost use Rattle.hol_bool.specs.Refusals.{in_bool};
@@ -24,37 +22,9 @@ use crate::universal::forall_of;
 use hol_equal::applied::sides_of;
 use hol_formulas::{dest_exists, occurrence};
 use hol_kernel::{Basis, Thm};
+use hol_subst::is_free_in_one;
 use hol_terms::{Term, TermNode, Variable};
-use hol_types::Ty;
 use std::alloc::{AllocError, Global};
-
-/// Whether the term is well typed over the basis, of the type.
-#[tactic(auto, using(crate::proofs::Answered::tests))]
-pub(crate) fn is_of_type(
-    alloc: Global,
-    basis: &Basis,
-    t: &Term,
-    ty: &Ty,
-) -> Result<bool, AllocError>
-    ensures { IfOk result (λ is. is ≡ has_type basis.now (nameless [] t.now) ty.now) }
-{
-    if !t.type_of().same(ty) {
-        return Ok(false);
-    }
-    basis.is_typed(alloc, t)
-}
-
-// Whether the variable is free in a term of the list.
-fn is_free_in_one(terms: &[Term], v: &Variable) -> bool
-    ensures { result ≡ list_any (λ p. binds (free_occurrences (nameless [] p)) v.now) terms.now }
-{
-    for p in terms {
-        if p.vfree_in(v) {
-            return true;
-        }
-    }
-    false
-}
 
 // Whether the variable is free in a hypothesis.
 fn is_free_in_hypotheses(a: &Thm, v: &Variable) -> bool
@@ -75,7 +45,7 @@ pub fn spec(alloc: Global, t: &Term, a: &Thm) -> Result<Thm, BoolError>
     let Some((v, _)) = forall_of(a) else {
         return Err(BoolError::Refused(Rule::Spec));
     };
-    if !is_of_type(alloc, a.basis(), t, v.ty())? {
+    if !a.basis().has_type(alloc, t, v.ty())? {
         return Err(BoolError::Refused(Rule::Spec));
     }
     Ok(applied::spec(alloc, t, a)?)
@@ -147,7 +117,7 @@ pub fn exists(alloc: Global, e: &Term, t: &Term, a: &Thm) -> Result<Thm, BoolErr
     if !a.basis().is_typed(alloc, e)? {
         return Err(BoolError::Refused(Rule::Exists));
     }
-    if !is_of_type(alloc, a.basis(), t, x.ty())? {
+    if !a.basis().has_type(alloc, t, x.ty())? {
         return Err(BoolError::Refused(Rule::Exists));
     }
     if !says_of(alloc, a, x, p, t)? {

@@ -1,7 +1,6 @@
 -- Runs of an expression from runs of its parts.
-use Rattle.std.specs.Prelude.{◌≡◌, ◌≤◌, ◌<◌, ℕ, Bool, true, ◌&&◌, IsTrue, List, [], ◌∷◌, length, Result, Ok, Err, IfOk, refl}
-use Rattle.std.specs.Cmp.Derive.{both_true}
-use Rattle.std.proofs.Common.{ap, sym, ◌∙◌, subst, arith, get_or}
+use Rattle.std.specs.Prelude.{◌≡◌, ◌<◌, ℕ, Bool, true, IsTrue, List, [], ◌∷◌, length, Result, Ok, Err, IfOk, refl}
+use Rattle.std.proofs.Common.{ap, sym, ◌∙◌, subst, get_or}
 use Rattle.std.proofs.lemmas.Bool.{and_parts}
 use Rattle.hol_kernel.specs.Items.{Items}
 use Rattle.hol_kernel.specs.Sequent.{no_hyps}
@@ -11,8 +10,8 @@ use Rattle.hol_just.specs.Valid.{IsValid}
 use Rattle.hol_just.specs.Answering.{suits}
 use Rattle.hol_just.specs.declared.reason.Move.{Move}
 use Rattle.hol_just.proofs.Validity.{valid_none, valid_under}
-use Rattle.hol_combine.specs.ExprValue.{CallValue, ExprValue, ExprValues, Then, ThenL, OrElse, Repeat, Every, First, Replicate, no_exprs, more_exprs, exprs, then_all, or_else_all}
-use Rattle.hol_combine.specs.Runs.{RunValue, Leaves, Refuses, Stops, RefusalValue, then_on, otherwise, each, unchanged, repeated, replicate, run, run_every, run_first}
+use Rattle.hol_combine.specs.ExprValue.{CallValue, ExprValue, ExprValues, Then, ThenL, OrElse, First, no_exprs, more_exprs, exprs, then_all, or_else_all}
+use Rattle.hol_combine.specs.Runs.{RunValue, Leaves, Refuses, Stops, RefusalValue, then_on, otherwise, each, unchanged, run, run_every, run_first}
 use Rattle.hol_combine.specs.More.{run_more, run_list}
 use Rattle.hol_combine.specs.Suits.{all_calls, all_calls_of, suits_expr, suits_exprs}
 use Rattle.hol_combine.specs.RunView.{IsError, IsRun, IsValidRun}

@@ -1,31 +1,26 @@
 -- What a registered function answers, as the run of a call.
-use Rattle.std.specs.Prelude.{◌≡◌, ◌<◌, ◌≤◌, ℕ, zero, suc, Bool, true, List, [], ◌∷◌, length, Option, Some, None, Result, Ok, Err, IfOk, refl}
-use Rattle.std.specs.FinSet as set
-use Rattle.std.specs.FinSet.{is_subset-contains}
-use Rattle.std.proofs.Common.{ap, sym, ◌∙◌, subst, arith}
+use Rattle.std.specs.Prelude.{◌≡◌, ◌<◌, ◌≤◌, ℕ, zero, suc, true, List, [], ◌∷◌, length, Option, Some, None, Result, Ok, Err, IfOk, refl}
+use Rattle.std.proofs.Common.{sym, subst, arith}
 use Rattle.hol_kernel.specs.Sequent.{no_hyps}
-use Rattle.hol_kernel.proofs.HypothesisLists.{hyps_total, hyps_same}
-use Rattle.hol_kernel.proofs.Members.{in_union_right}
-use Rattle.hol_goal.specs.Achieves.{assumed}
 use Rattle.hol_goal.specs.Goal.{GoalValue}
 use Rattle.hol_goal.specs.Answer.{UsedValue, AnswerResult, AnswerValue, Left, Unfit, OutOfTurns, TooLarge}
 use Rattle.hol_goal.specs.Arguments.{TacArgsValue}
 use Rattle.hol_goal.specs.declared.tac_code.TacCode.{TacCode}
 use Rattle.hol_just.specs.Tac.{Meaning}
 use Rattle.hol_just.specs.Valid.{IsValid}
-use Rattle.hol_just.specs.Answering.{args_hyps, suits, IsResult, IsJustified}
+use Rattle.hol_just.specs.Answering.{are_assumed, suits, IsResult, IsJustified}
 use Rattle.hol_just.specs.declared.tried.Step.{Step}
 use Rattle.hol_just.specs.declared.tried.Tried.{Tried}
 use Rattle.hol_just.specs.declared.tried.TacFault.TheVariants as fault
-use Rattle.hol_combine.specs.Runs.{RunValue, Refuses, DoesNotFit, Stops, TurnLimit, LargeGoal, answer_of, small, run_meaning, meaning_at, are_assumed}
-use Rattle.hol_combine.specs.RunView.{IsRun, IsValidRun}
+use Rattle.hol_just.proofs.Assumed.{nothing_left}
+use Rattle.hol_combine.specs.Runs.{Refuses, DoesNotFit, Stops, TurnLimit, LargeGoal, answer_of, small, run_meaning, meaning_at}
+use Rattle.hol_combine.specs.RunView.{IsValidRun}
 use Rattle.hol_combine.specs.Going.{LeavesAtMost}
 use Rattle.hol_combine.specs.Called.{IsAnsweredBy, IsCalled}
 use Rattle.hol_combine.specs.declared.ran.Ran.{Ran}
 use Rattle.hol_combine.specs.declared.ran.RunError.{RunError}
 use Rattle.hol_combine.specs.declared.ran.RunError.TheVariants as error
-use Rattle.hol_combine.proofs.Assumed.{empty_in}
-use Rattle.hol_combine.proofs.Turns.{MeaningFalls, at_falls}
+use Rattle.hol_combine.proofs.Turns.{MeaningFalls}
 
 -- the answer of the meaning at the index
 pub by_meaning : (table : List (List ℕ × TacCode)) (index : ℕ) (args : TacArgsValue) (goal : GoalValue) (turns : ℕ) (result : Result Tried _) → index < length table → IsCalled table index args goal turns result → IsAnsweredBy (meaning_at table index) args goal turns result
@@ -121,11 +116,7 @@ at_most_more m n (Err error.Memory) h l = tt
 
 -- where the theorems' hypotheses are assumptions none is left over
 justified : (args : TacArgsValue) (goal : GoalValue) (step : Step) → are_assumed args goal ≡ true → IsJustified args goal step → IsValid (suits args) no_hyps step.just (goal ∷ []) step.goals.items
-justified args goal step h j =
-    j no_hyps (record {
-      among = empty_in (args_hyps args);
-      all = λ p i. in_union_right hyps_total hyps_same no_hyps (assumed goal.assumptions) p (is_subset-contains hyps_total (args_hyps args) (assumed goal.assumptions) h p i);
-    })
+justified args goal step h j = j no_hyps (nothing_left args goal (are_assumed args goal) refl h)
 
 pub small_justified : (args : TacArgsValue) (goal : GoalValue) (step : Step) (result : Result Ran RunError) → IsJustified args goal step → IfOk result (λ ran. ran.step ≡ step) → IfOk result (λ ran. IsJustified args goal ran.step)
 small_justified args goal step (Ok ran) j e = subst (IsJustified args goal) (sym e) j

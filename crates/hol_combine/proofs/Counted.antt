@@ -2,9 +2,9 @@
 use Rattle.std.specs.Prelude.{◌≡◌, ℕ, zero, suc, List, [], ◌∷◌, ◌++◌, length, refl}
 use Rattle.std.proofs.Common.{ap, sym, ◌∙◌}
 use Rattle.hol_goal.specs.Goal.{GoalValue}
-use Rattle.hol_combine.specs.Runs.{RunValue, Leaves, Refuses, Stops, TurnLimit, before_goals, then_on, each, unchanged, replicate}
+use Rattle.hol_combine.specs.Runs.{RunValue, Leaves, Refuses, Stops, TurnLimit, before_goals, then_on, each, replicate}
 use Rattle.hol_combine.specs.Going.{copies}
-use Rattle.hol_combine.proofs.After.{before_none, before_on, none_after, each_unchanged}
+use Rattle.hol_combine.proofs.After.{before_none, before_on, each_unchanged}
 
 -- each goal once and so many times more; where a number lacks nothing is done
 abbrev pub counted : (GoalValue → ℕ → RunValue) → List ℕ → List GoalValue → ℕ → RunValue

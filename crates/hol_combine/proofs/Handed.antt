@@ -6,19 +6,16 @@ use Rattle.std.specs.Cmp.Derive.{both_true}
 use Rattle.std.proofs.Common.{ap, sym, ◌∙◌, subst, arith, inl, inr, get_or, drop}
 use Rattle.std.proofs.lemmas.Bool.{and_parts}
 use Rattle.std.proofs.lemmas.List.{append-nil, drop_all, drop_more}
-use Rattle.hol_types.proofs.OrderLaws.{type_cmp_decides}
-use Rattle.hol_terms.specs.Named.{Named, named_type}
+use Rattle.hol_terms.specs.Named.{Named}
 use Rattle.hol_terms.specs.Nameless.{Nameless, nameless}
 use Rattle.hol_formulas.specs.Equation.{bool_type}
 use Rattle.hol_formulas.specs.Formula.{connective_type, negation_type, falsity, dest_imp, dest_neg}
 use Rattle.hol_formulas.proofs.FormulaLaws.{dest_unary_is, dest_binary_is}
-use Rattle.hol_kernel.specs.Given.{assumed as assume, assumption_of}
 use Rattle.hol_kernel.specs.Items.{Items}
 use Rattle.hol_kernel.specs.Sequent.{no_hyps, only_hyp}
 use Rattle.hol_kernel.specs.Typing.{HasType}
-use Rattle.hol_kernel.proofs.Assumptions.{assumption_yes}
 use Rattle.hol_kernel.proofs.Declared.{has_type_of}
-use Rattle.hol_kernel.proofs.HypothesisLists.{hyps_total, hyps_same}
+use Rattle.hol_kernel.proofs.HypothesisLists.{hyps_total, hyps_same, empty_in}
 use Rattle.hol_kernel.proofs.Members.{Among, in_union_cases, in_union_left, in_union_right, not_in_empty}
 use Rattle.hol_goal.specs.Goal.{GoalValue}
 use Rattle.hol_goal.specs.Achieves.{assumed, AreAllowed}
@@ -40,12 +37,6 @@ use Rattle.hol_combine.specs.RunView.{IsValidRun}
 use Rattle.hol_combine.specs.Going.{FollowsCut}
 use Rattle.hol_combine.specs.declared.ran.Ran.{Ran}
 use Rattle.hol_combine.specs.declared.ran.RunError.{RunError}
-use Rattle.hol_combine.proofs.Assumed.{empty_in}
-
--- ---- the theorem
-
-pub formula_assumed : (p : Named) → named_type p ≡ Some bool_type → assumption_of (nameless [] p) ≡ Some (assume (nameless [] p))
-formula_assumed p typed = assumption_yes p bool_type typed ((type_cmp_decides bool_type bool_type).1 refl)
 
 -- ---- what is asked of the basis
 

@@ -4,7 +4,6 @@ pub mod Turns
 pub mod Counted
 pub mod Progress
 pub mod Lists
-pub mod Assumed
 pub mod Same
 pub mod Calling
 pub mod Handed

@@ -1,5 +1,5 @@
 -- Steps of the loops of runs.
-use Rattle.std.specs.Prelude.{◌≡◌, ◌≤◌, ◌<◌, ◌+◌, ℕ, zero, suc, Bool, true, false, nat_eq, cond, codes, List, [], ◌∷◌, ◌++◌, length, reverse, Option, Some, None, refl}
+use Rattle.std.specs.Prelude.{◌≡◌, ◌≤◌, ◌+◌, ℕ, zero, suc, Bool, true, false, nat_eq, cond, codes, List, [], ◌∷◌, ◌++◌, length, reverse, Some, None, refl}
 use Rattle.std.proofs.Common.{ap, sym, ◌∙◌, subst, arith}
 use Rattle.std.proofs.lemmas.Bool.{eq-eqb, eqb-true}
 use Rattle.std.proofs.lemmas.List.{length-append, length-reverse, reverse-append}
@@ -7,8 +7,8 @@ use Rattle.hol_kernel.specs.Items.{Items}
 use Rattle.hol_goal.specs.Goal.{GoalValue}
 use Rattle.hol_goal.specs.declared.tac_code.TacCode.{TacCode}
 use Rattle.hol_just.specs.declared.reason.Move.{Move}
-use Rattle.hol_combine.specs.ExprValue.{ExprValue, ExprValues, no_exprs, more_exprs, exprs}
-use Rattle.hol_combine.specs.Runs.{RunValue, Leaves, Refuses, Stops, StopValue, RefusalValue, DoesNotFit, before_goals, then_on, each, repeated, replicate, unchanged, count, as_many, run, run_every, run_each}
+use Rattle.hol_combine.specs.ExprValue.{ExprValue, ExprValues, more_exprs, exprs}
+use Rattle.hol_combine.specs.Runs.{RunValue, Leaves, Refuses, Stops, StopValue, RefusalValue, DoesNotFit, before_goals, then_on, each, repeated, replicate, count, as_many, run, run_every, run_each}
 use Rattle.hol_combine.specs.More.{run_list, run_more}
 use Rattle.hol_combine.specs.RunView.{IsError, IsValidRun}
 use Rattle.hol_combine.specs.Going.{GoesOn, GoesOnFrom, HasAtMost, IsRefusal, copies}
@@ -16,11 +16,11 @@ use Rattle.hol_combine.specs.Work.{WorkValue, IsNext, started, finished, again, 
 use Rattle.hol_combine.specs.declared.ran.Ran.{Ran}
 use Rattle.hol_combine.specs.declared.ran.RunError.{RunError}
 use Rattle.hol_combine.specs.declared.ran.RunError.TheVariants as error
-use Rattle.hol_combine.proofs.After.{each_first, each_unchanged, error_then}
+use Rattle.hol_combine.proofs.After.{each_first, error_then}
 use Rattle.hol_combine.proofs.Falling.{Falls, round_left, round_kept, round_stops}
 use Rattle.hol_combine.proofs.Counted.{counted, counted_all, count_again, count_last}
 use Rattle.hol_combine.proofs.Lists.{each_every_one}
-use Rattle.hol_combine.proofs.Progress.{Progress, starts, finishes, goes_again, keeps, fails, ends, ends_at}
+use Rattle.hol_combine.proofs.Progress.{Progress, starts, finishes, goes_again, keeps, fails, ends}
 
 pub next_left : (w0 w1 : WorkValue) (goal : GoalValue) → IsNext w0 w1 (Some goal) → w0.left ≡ w1.left
 next_left w0 w1 goal was = ap (λ w. w.left) was

@@ -1,5 +1,5 @@
 -- Steps of going through goals.
-use Rattle.std.specs.Prelude.{◌≡◌, ◌≤◌, ℕ, Bool, IsTrue, List, [], ◌∷◌, ◌++◌, length, Option, Some, None, refl}
+use Rattle.std.specs.Prelude.{◌≡◌, ◌≤◌, ℕ, Bool, List, [], ◌∷◌, ◌++◌, length, Some, None, refl}
 use Rattle.std.proofs.Common.{ap, sym, ◌∙◌, subst, arith, append_assoc}
 use Rattle.std.proofs.lemmas.List.{append-nil}
 use Rattle.hol_kernel.specs.Items.{Items}
@@ -8,14 +8,14 @@ use Rattle.hol_goal.specs.Goal.{GoalValue}
 use Rattle.hol_just.specs.Gives.{moved}
 use Rattle.hol_just.specs.Valid.{IsValid}
 use Rattle.hol_just.specs.declared.reason.Move.{Move}
-use Rattle.hol_just.proofs.Validity.{valid_none, valid_at, valid_under}
-use Rattle.hol_combine.specs.Runs.{RunValue, Leaves, Refuses, Stops, before_goals, then_on}
+use Rattle.hol_just.proofs.Validity.{valid_at, valid_under}
+use Rattle.hol_combine.specs.Runs.{RunValue, Leaves, before_goals}
 use Rattle.hol_combine.specs.RunView.{IsError}
 use Rattle.hol_combine.specs.Going.{GoesOn}
 use Rattle.hol_combine.specs.Work.{WorkValue, IsNext, started, finished, again, kept}
 use Rattle.hol_combine.specs.declared.ran.Ran.{Ran}
 use Rattle.hol_combine.specs.declared.ran.RunError.{RunError}
-use Rattle.hol_combine.proofs.After.{before_both, before_none, error_then, error_before}
+use Rattle.hol_combine.proofs.After.{before_both, before_none, error_before}
 
 -- What is done so far and what comes of those that wait is the whole; and it is valid.
 pub record Progress (rest : List GoalValue → ℕ → RunValue) (more : Items → Bool) (ran : Ran) (whole : RunValue) (w : WorkValue) : Type 0 where

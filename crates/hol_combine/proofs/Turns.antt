@@ -1,10 +1,10 @@
 -- No run leaves more turns than it had.
-use Rattle.std.specs.Prelude.{◌≡◌, ◌≤◌, ℕ, zero, suc, Bool, true, false, cond, nat_eq, length, map, List, [], ◌∷◌, ◌++◌, Option, Some, None}
+use Rattle.std.specs.Prelude.{◌≤◌, ℕ, zero, suc, Bool, true, false, cond, nat_eq, length, map, List, [], ◌∷◌, ◌++◌, Option, Some, None}
 use Rattle.std.proofs.Common.{arith}
 use Rattle.hol_terms.specs.Nameless.{Nameless}
 use Rattle.hol_kernel.specs.Given.{assumed}
 use Rattle.hol_goal.specs.Goal.{GoalValue}
-use Rattle.hol_goal.specs.Answer.{UsedValue, AnswerResult, AnswerValue, Left, Unfit, OutOfTurns, TooLarge}
+use Rattle.hol_goal.specs.Answer.{AnswerResult, AnswerValue, Left, Unfit, OutOfTurns, TooLarge}
 use Rattle.hol_goal.specs.Arguments.{TacArgsValue}
 use Rattle.hol_goal.specs.declared.tac_code.TacCode.{TacCode}
 use Rattle.hol_goal.specs.declared.tac_code.TacCode.TheVariants.{AllTac, NoTac, ReflTac, AcceptTac, ConjTac, Disj1Tac, Disj2Tac, EqTac, DischTac, GenTac, XGenTac, ExistsTac, SpecTac, MpTac, AssumeTac, ContrTac, ChooseTac, XChooseTac, DisjCasesTac, Subst1Tac, ApTermTac, ApThmTac, MkCombTac, UndischTac, StripAssumeTac, StripTac, MatchMpTac, BetaTac, RewriteTac, OnceRewriteTac, AsmRewriteTac, OnceAsmRewriteTac, PureRewriteTac}
@@ -12,10 +12,11 @@ use Rattle.hol_just.specs.Leaving.{concluding}
 use Rattle.hol_just.specs.Strip.{antecedent}
 use Rattle.hol_just.specs.ConversionTacs.{basic}
 use Rattle.hol_just.specs.Tac.{Meaning, tac}
+use Rattle.hol_just.specs.Answering.{are_assumed}
 use Rattle.hol_just.proofs.Pieces.{strip_assume_falls, strip_tac_falls}
 use Rattle.hol_just.proofs.Converting.{beta_falls, rewrite_falls, once_falls}
 use Rattle.hol_combine.specs.ExprValue.{CallValue, TheoremTacValue, ExprValue, ExprValues, Call, Then, ThenL, OrElse, Try, Repeat, Every, First, Replicate, Changed, DischThen, PopAssum, FirstAssum, SubgoalThen, no_exprs, more_exprs}
-use Rattle.hol_combine.specs.Runs.{RunValue, Leaves, Refuses, Stops, before_goals, then_on, otherwise, each, unchanged, has_large, answer_of, run_meaning, meaning_at, are_assumed, call_paid, run_call, handed, hand, disch_then, pop_assum, first_assum, subgoal_then, is_just, changed, replicate, as_many, count, run, run_every, run_first, run_each}
+use Rattle.hol_combine.specs.Runs.{RunValue, Leaves, Refuses, Stops, before_goals, each, unchanged, has_large, answer_of, run_meaning, meaning_at, call_paid, run_call, handed, hand, disch_then, pop_assum, first_assum, subgoal_then, is_just, changed, replicate, as_many, count, run, run_every, run_first, run_each}
 use Rattle.hol_combine.proofs.Falling.{IsWithin, Falls, within_more, within_before, within_then, within_otherwise, each_falls, repeated_falls}
 
 within_cond : (n : ℕ) (b : Bool) (x y : RunValue) → IsWithin n x → IsWithin n y → IsWithin n (cond b x y)

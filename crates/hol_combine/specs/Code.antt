@@ -1,30 +1,18 @@
 -- How the logic stores expressions: as trees of numbers, by functions that map no two to one tree.
 use Rattle.std.specs.Coded.{Coded, coded×, coded_ℕ, coded_list, coded_option, code_by}
-use Rattle.std.proofs.Common.{◌≡◌, ◌≢◌, ℕ, List, Option, ap, arith, refl}
+use Rattle.std.proofs.Common.{◌≡◌, ℕ, List, Option, ap, arith, refl}
 use base.Stored.{Gv, gnil, gnum, gcons}
+use Rattle.hol_types.specs.Code.{head, tail, apart}
 use Rattle.hol_terms.specs.Nameless.{Nameless}
 use Rattle.hol_terms.specs.Code.{coded_nameless}
 use Rattle.hol_kernel.specs.Given.{Given, given_code}
 use Rattle.hol_goal.specs.Arguments.{TacArgsValue, Nothing, Term, Pair, Theorem, TermAndTheorem, Theorems}
 use Rattle.hol_combine.specs.ExprValue.{CallValue, TheoremTacValue, ExprValue, ExprValues, Call, Then, ThenL, OrElse, Try, Repeat, Every, First, Replicate, Changed, DischThen, PopAssum, FirstAssum, SubgoalThen, no_exprs, more_exprs}
 
-abbrev head : Gv → Gv
-head gnil = gnil
-head (gnum n) = gnil
-head (gcons a b) = a
-
-abbrev tail : Gv → Gv
-tail gnil = gnil
-tail (gnum n) = gnil
-tail (gcons a b) = b
-
 abbrev number_in : Gv → ℕ
 number_in gnil = 0
 number_in (gnum n) = n
 number_in (gcons a b) = 0
-
-apart : (m n : ℕ) {a b : Gv} → gcons (gnum m) a ≡ gcons (gnum n) b → m ≢ n → ⊥
-apart m n p other = other (cc)
 
 abbrev pub coded_theorems : Coded (List Given)
 coded_theorems = coded_list given_code

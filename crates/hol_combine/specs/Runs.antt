@@ -2,17 +2,15 @@
 -- Each call and each round of REPEAT and REPLICATE_TAC pays a turn.
 use Rattle.std.specs.Prelude.{ℕ, zero, suc, Bool, true, false, ◌&&◌, cond, codes, nat_eq, nat_lt, List, [], ◌∷◌, ◌++◌, length, Option, Some, None}
 use Rattle.std.specs.List.{list_any}
-use Rattle.std.specs.FinSet as set
 use Rattle.hol_terms.specs.Nameless.{Nameless}
 use Rattle.hol_terms.specs.Alpha.{alpha_eq}
 use Rattle.hol_goal.specs.Goal.{GoalValue, goal_size}
-use Rattle.hol_goal.specs.Achieves.{assumed}
-use Rattle.hol_goal.specs.Answer.{UsedValue, AnswerResult, AnswerValue, Left, Unfit, OutOfTurns, TooLarge}
+use Rattle.hol_goal.specs.Answer.{AnswerResult, AnswerValue, Left, Unfit, OutOfTurns, TooLarge}
 use Rattle.hol_kernel.specs.Given.{assumed as assume}
 use Rattle.hol_goal.specs.Arguments.{TacArgsValue, Theorem, TermAndTheorem}
 use Rattle.hol_goal.specs.declared.tac_code.TacCode.{TacCode}
 use Rattle.hol_just.specs.Tac.{Meaning, tac}
-use Rattle.hol_just.specs.Answering.{args_hyps}
+use Rattle.hol_just.specs.Answering.{are_assumed}
 use Rattle.hol_just.specs.Leaving.{concluding}
 use Rattle.hol_just.specs.Strip.{antecedent}
 use Rattle.hol_combine.specs.ExprValue.{CallValue, TheoremTacValue, ExprValue, ExprValues, Call, Then, ThenL, OrElse, Try, Repeat, Every, First, Replicate, Changed, DischThen, PopAssum, FirstAssum, SubgoalThen, no_exprs, more_exprs}
@@ -94,10 +92,6 @@ abbrev pub meaning_at : List (List ℕ × TacCode) → ℕ → Option Meaning
 meaning_at [] index = None
 meaning_at (row ∷ rows) zero = Some (tac row.1)
 meaning_at (row ∷ rows) (suc index) = meaning_at rows index
-
--- each hypothesis of the theorems among the arguments is an assumption, up to bound names
-abbrev pub are_assumed : TacArgsValue → GoalValue → Bool
-are_assumed args goal = set.is_subset (args_hyps args) (assumed goal.assumptions)
 
 abbrev pub call_paid : List (List ℕ × TacCode) → CallValue → GoalValue → ℕ → RunValue
 call_paid table call goal turns = run_meaning (meaning_at table call.index) call.name call.args goal turns

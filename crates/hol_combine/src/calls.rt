@@ -1,26 +1,17 @@
 //! Calls of registered functions on goals.
 ghost use Rattle.std.specs.Prelude.{◌≡◌, ◌≤◌, ◌<◌, IfOk, length, true, [], ◌∷◌};
-ghost use Rattle.std.specs.FinSet as set;
-ghost use Rattle.std.specs.List.{list_all, list_any};
-ghost use Rattle.hol_terms.specs.Nameless.{nameless};
-ghost use Rattle.hol_terms.specs.Alpha.{alpha_eq};
-ghost use Rattle.hol_kernel.specs.Given.{given_sequent};
-ghost use Rattle.hol_goal.specs.Achieves.{assumed};
 ghost use Rattle.hol_goal.specs.ArgumentsView.{args_value};
 ghost use Rattle.hol_just.specs.Answering.{suits, IsJustified};
 ghost use Rattle.hol_combine.specs.ExprView.{call_value};
-ghost use Rattle.hol_combine.specs.Runs.{are_assumed, has_large, small, call_paid, run_call};
+ghost use Rattle.hol_combine.specs.Runs.{has_large, small, call_paid, run_call};
 ghost use Rattle.hol_combine.specs.RunView.{IsRun, IsValidRun};
 ghost use Rattle.hol_combine.specs.Going.{LeavesAtMost};
 
 use crate::expr::TacCall;
 use crate::ran::{Ran, Refusal, RunError};
 use crate::tacs::Tacs;
-use hol_goal::{Goal, TacArgs};
-use hol_just::{TacFault, Tried};
-use hol_kernel::Given;
-use hol_subst::aconv;
-use hol_terms::Term;
+use hol_goal::Goal;
+use hol_just::{TacFault, Tried, are_assumed};
 use std::alloc::Global;
 
 // The most nodes that a goal may have.
@@ -95,46 +86,4 @@ pub(crate) fn has_large(goals: &[Goal]) -> bool
     ensures { result ≡ has_large goals.now }
 {
     goals.iter().any(|goal| goal.size() > LARGEST_GOAL)
-}
-
-// Whether each hypothesis of the theorems among the arguments is an assumption.
-fn are_assumed(args: &TacArgs, goal: &Goal) -> bool
-    ensures { result ≡ are_assumed (args_value args.now) goal.now }
-{
-    match args {
-        TacArgs::Nothing => true,
-        TacArgs::Term(_) => true,
-        TacArgs::Pair(_, _) => true,
-        TacArgs::Theorem(th) => is_assumed(th, goal),
-        TacArgs::TermAndTheorem(_, th) => is_assumed(th, goal),
-        TacArgs::Theorems(ths) => all_assumed(ths, goal),
-    }
-}
-
-// Whether each hypothesis of the theorems is an assumption.
-fn all_assumed(ths: &[Given], goal: &Goal) -> bool
-    ensures { result ≡ list_all (λ th. set.is_subset (given_sequent th).hyps (assumed goal.now.assumptions)) ths.now }
-{
-    ths.iter().all(|th| is_assumed(th, goal))
-}
-
-// Whether each hypothesis of the theorem is an assumption.
-fn is_assumed(th: &Given, goal: &Goal) -> bool
-    ensures { result ≡ set.is_subset (given_sequent th.now).hyps (assumed goal.now.assumptions) }
-{
-    are_among(th.hyps(), goal.assumptions())
-}
-
-// Whether each of the terms is one of the assumptions, up to bound names.
-fn are_among(hyps: &[Term], assumptions: &[Term]) -> bool
-    ensures { result ≡ list_all (λ h. list_any (λ p. alpha_eq (nameless [] p) (nameless [] h)) assumptions.now) hyps.now }
-{
-    hyps.iter().all(|hyp| stands(hyp, assumptions))
-}
-
-// Whether the term is one of the assumptions, up to bound names.
-fn stands(hyp: &Term, assumptions: &[Term]) -> bool
-    ensures { result ≡ list_any (λ p. alpha_eq (nameless [] p) (nameless [] hyp.now)) assumptions.now }
-{
-    assumptions.iter().any(|assumption| aconv(assumption, hyp))
 }

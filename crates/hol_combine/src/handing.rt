@@ -3,7 +3,6 @@ ghost use Rattle.std.specs.Prelude.{◌≡◌, ◌++◌, ◌∷◌, Some, [], If
 ghost use Rattle.hol_terms.specs.Named.{named_type};
 ghost use Rattle.hol_terms.specs.Nameless.{nameless};
 ghost use Rattle.hol_formulas.specs.Equation.{bool_type};
-ghost use Rattle.hol_kernel.specs.Given.{assumed};
 ghost use Rattle.hol_goal.specs.ArgumentsView.{args_value};
 ghost use Rattle.hol_just.specs.Gives.{moved};
 ghost use Rattle.hol_combine.specs.ExprView.{call_value, theorem_tac_value};
@@ -13,8 +12,7 @@ ghost use Rattle.hol_combine.specs.Going.{FollowsCut};
 use crate::expr::{TacCall, TheoremTac};
 use crate::ran::Ran;
 use hol_goal::{Goal, TacArgs};
-use hol_just::{Just, Step};
-use hol_kernel::{Given, KernelError};
+use hol_just::{Just, Step, assumption};
 use hol_terms::Term;
 use std::alloc::{AllocError, Global};
 
@@ -37,24 +35,10 @@ fn handed_args(tac: &TheoremTac, p: &Term) -> Result<TacArgs, AllocError>
     requires { named_type p.now ≡ Some bool_type }
     ensures { IfOk result (λ args. args_value args ≡ handed_args (theorem_tac_value tac.now).term (nameless [] p.now)) }
 {
-    let th = assume(p)?;
+    let th = assumption(p)?;
     match &tac.term {
         None => Ok(TacArgs::Theorem(th)),
         Some(t) => Ok(TacArgs::TermAndTheorem(t.copy()?, th)),
-    }
-}
-
-// The theorem `{p} |- p`.
-#[tactic(auto, using(crate::proofs::Handed::formula_assumed))]
-fn assume(p: &Term) -> Result<Given, AllocError>
-    requires { named_type p.now ≡ Some bool_type }
-    ensures { IfOk result (λ th. th ≡ assumed (nameless [] p.now)) }
-{
-    match Given::assumed(p) {
-        Ok(th) => Ok(th),
-        Err(KernelError::Memory) => Err(AllocError),
-        Err(KernelError::Refused(_)) => unreachable!(),
-        Err(KernelError::Clash(_)) => unreachable!(),
     }
 }
 
@@ -91,15 +75,4 @@ pub(crate) fn after_cut(alloc: Global, first: Goal, ran: Ran) -> Result<Ran, All
         step: Step { goals, just },
         left,
     })
-}
-
-/// Copies of the terms.
-pub(crate) fn copies(alloc: Global, terms: &[Term]) -> Result<Vec<Term>, AllocError>
-    ensures { IfOk result (λ copied. copied.items ≡ terms.now) }
-{
-    let mut copied = Vec::with_capacity(alloc, terms.len())?;
-    for term in terms {
-        copied.push(term.copy()?)?;
-    }
-    Ok(copied)
 }

@@ -20,14 +20,14 @@ ghost use Rattle.hol_combine.specs.Going.{LeavesAtMost};
 use crate::calls::{call_paid, has_large};
 use crate::expr::{Handing, TheoremTac};
 use crate::formula::Formula;
-use crate::handing::{after, after_cut, copies, handed};
+use crate::handing::{after, after_cut, handed};
 use crate::parts::refused;
 use crate::ran::{Ran, RunError};
 use crate::tacs::Tacs;
 use hol_formulas::{dest_imp, dest_neg, mk_falsity};
 use hol_goal::Goal;
 use hol_just::Just;
-use hol_terms::Term;
+use hol_terms::{Term, copies};
 use std::alloc::Global;
 use std::slice;
 

@@ -7,8 +7,7 @@ use Rattle.hol_types.specs.Equal.{variable_eq}
 use Rattle.hol_terms.specs.Nameless.{Nameless, free, bound, fixed, app, lam}
 use Rattle.hol_subst.specs.Shift.{shift}
 use Rattle.hol_subst.specs.Closing.{close, open_with}
-use Rattle.hol_subst.proofs.Closing.{below, not_below, below_is, not_below_is, unequal_test}
-use Rattle.hol_match.proofs.Contracta.{shift_close}
+use Rattle.hol_subst.proofs.Closing.{below, not_below, below_is, not_below_is, unequal_test, shift_close}
 use Rattle.hol_conv.specs.Beta.{reduct}
 
 abbrev Var : Type 0

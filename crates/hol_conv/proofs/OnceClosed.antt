@@ -2,6 +2,7 @@
 -- term is bound outside.
 use Rattle.std.proofs.Common.{◌≡◌, ℕ, zero, suc, ◌+◌, ◌<◌, ◌≤◌, List, [], ◌∷◌, ◌++◌, length, refl, ap, sym, ◌∙◌, Bool, true, false, cond, nat_lt, Option, Some, None, slice_get, arith}
 use Rattle.std.specs.Option.{option_map}
+use Rattle.hol_subst.proofs.TypeLaws.{get_front, get_end}
 use Rattle.hol_types.specs.Tree.{TypeTree, type_size}
 use Rattle.hol_types.specs.Equal.{variable_eq}
 use Rattle.hol_terms.specs.Nameless.{Nameless, free, bound, fixed, app, lam}
@@ -9,7 +10,7 @@ use Rattle.hol_terms.specs.Size.{size_at, term_size}
 use Rattle.hol_terms.proofs.Same.{variable_eq_decides}
 use Rattle.hol_subst.specs.Closing.{close}
 use Rattle.hol_subst.proofs.Closing.{below_is, not_below_is}
-use Rattle.hol_match.proofs.Under.{get_front, get_end, get_past}
+use Rattle.hol_match.proofs.Under.{get_past}
 use Rattle.hol_conv.specs.Turns.{Outcome, finished, limit, too_large}
 use Rattle.hol_conv.specs.Once.{paid_or, and_then, once}
 use Rattle.hol_conv.specs.Beside.{beside, paid_beside_or, once_beside}

@@ -1,6 +1,7 @@
 -- What a redex becomes: its types, and the substitution that makes it.
 use Rattle.std.proofs.Common.{◌≡◌, ℕ, List, [], ◌∷◌, refl, ap, sym, ◌∙◌, subst, inl, inr, Bool, true, false, cond, Option, Some, None, unwrap_or, Result, Ok, Err, IfOk}
 use Rattle.std.specs.Option.{option_map, option_and_then}
+use Rattle.hol_formulas.proofs.TypeTests.{same_type}
 use Rattle.hol_types.specs.Tree.{TypeTree}
 use Rattle.hol_types.specs.Fun.{fun_type}
 use Rattle.hol_types.specs.Equal.{type_eq, variable_eq}
@@ -17,9 +18,6 @@ use Rattle.hol_subst.proofs.Typing.{AllTyped, subst_type}
 use Rattle.hol_conv.specs.Beta.{reduct}
 
 -- ---- types
-type_same : (s t : TypeTree) → type_eq s t ≡ true → s ≡ t
-type_same s t h = ap (λ w. w.1) ((variable_eq_decides ([], s) ([], t)).0 h)
-
 -- the type of an abstraction's application, of a variable of type a, by the types of the body and of the argument
 abbrev type_at : TypeTree → Option TypeTree → Option TypeTree → Option TypeTree
 type_at a o p = option_and_then (λ s. option_and_then (λ t. applied_type s t) p) (option_map (λ r. fun_type a r) o)
@@ -30,7 +28,7 @@ fitting a (Some r) None h = absurd (h refl)
 fitting a (Some r) (Some t) h = by (type_eq a t) refl h
   where
     by : (c : Bool) → type_eq a t ≡ c → (cond c (Some r) None ≡ None → ⊥) → (Some t ≡ Some a) × (cond c (Some r) None ≡ Some r)
-    by true e g = (ap Some (sym (type_same a t e)), refl)
+    by true e g = (ap Some (sym (same_type a t e)), refl)
     by false e g = absurd (g refl)
 
 pub argument_type : (v : List ℕ × TypeTree) (b f x : Named) → f ≡ abs v b → (named_type (comb f x) ≡ None → ⊥) → named_type x ≡ Some v.1

@@ -22,7 +22,7 @@ use Rattle.hol_kernel.specs.Items.{Items, in_order}
 use Rattle.hol_kernel.specs.Signature.{has_constant, makes_constant}
 use Rattle.hol_kernel.specs.Typing.{is_type, is_base, is_known, are_types_for, are_typed_for, HasType}
 use Rattle.hol_kernel.proofs.Declared.{has_type_is, has_type_of}
-use Rattle.hol_kernel.proofs.Sound.{sides_is}
+use Rattle.hol_kernel.proofs.Sound.{sides_is, strip_type}
 use Rattle.hol_kernel.proofs.Stands.{both, some_is, known_open, known_inst, known_subst}
 use Rattle.hol_kernel.proofs.Variables.{typed_known, known_typed, variable_typed}
 use Rattle.hol_kernel.proofs.WellTyped.{sides_typed}
@@ -45,9 +45,9 @@ use Rattle.hol_match.specs.declared.set_rule.SetRule.{SetRule}
 use Rattle.hol_match.specs.declared.source.Source.{Source}
 use Rattle.hol_match.proofs.Contracta.{instance_type}
 use Rattle.hol_match.proofs.Holding.{TermsHold}
-use Rattle.hol_match.proofs.MatchLaws.{strip_type}
 use Rattle.hol_match.proofs.RuleSets.{beside_both}
-use Rattle.hol_match.proofs.Standing.{TypesStand, TermsStand, Adds, matched_stands}
+use Rattle.hol_match.specs.Standing.{TermsStand}
+use Rattle.hol_match.proofs.Standing.{Adds, matched_stands, types_all}
 use Rattle.hol_match.proofs.Staying.{most_general, joint_holds, terms_after}
 
 module _ (basis : Items) where
@@ -235,10 +235,6 @@ module _ (basis : Items) where
           subst (λ z. AreSides z) is (single_typed names variables p (way_typed r.rule.way (source_whole r.source.value) p k (whole_typed r.source.value h)))
 
   -- ---- what it makes
-  types_for : (ps : List (TypeTree × List ℕ)) → TypesStand basis ps → are_types_for basis ps ≡ true
-  types_for [] h = refl
-  types_for (p ∷ ps) h = λ i. h.0 i && types_for ps h.1 i
-
   terms_for : (found ps : List (Nameless × (List ℕ × TypeTree))) → TermsHold found ps → TermsStand basis ps → are_typed_for basis ps ≡ true
   terms_for found [] h k = refl
   terms_for found (p ∷ ps) h k = λ i. has_type_of basis p.0 p.1.1 (typed_known basis p.0 p.1.1 k.0 h.0.1) i && terms_for found ps h.1 k.1 i
@@ -278,7 +274,7 @@ module _ (basis : Items) where
           let made : instantiated (beside stay all) 0 right ≡ u = cc in
           let m : matched 0 left stay t ≡ Some (joint stay a) = q ∙ ap (λ z. Some z) g.1 in
           let fits = (most_general names variables left t a m).fits in
-          let types = types_for a.types g.2.0 in
+          let types = types_all basis a.types g.2.0 in
           let terms = terms_for (joint stay a).terms a.terms (terms_after names variables a (joint_holds names variables left t a m)) g.2.1 in
           let l = instance_typed a left sides.sides_type fits.typed types terms sides.left in
           let same : Some (type_subst a.types sides.sides_type) ≡ Some b =

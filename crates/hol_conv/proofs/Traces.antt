@@ -1,19 +1,16 @@
 -- Traces: one after the other, in parts, and of turns.
-use Rattle.std.proofs.Common.{◌≡◌, ℕ, zero, suc, ◌+◌, List, [], ◌∷◌, ◌++◌, refl, sym, ap, ◌∙◌, subst, Bool, true, false, cond, not, ◌&&◌, ◌||◌, slice_get, Option, Some, None, Result, Ok, Err, OnOk, Box, Global}
+use Rattle.std.proofs.Common.{◌≡◌, ℕ, zero, suc, ◌+◌, List, [], ◌∷◌, ◌++◌, refl, sym, ap, ◌∙◌, subst, Bool, true, false, cond, not, ◌&&◌, slice_get, Option, Some, None, Result, Ok, Err, OnOk, Box, Global}
 use Rattle.std.specs.List.{list_all}
 use Rattle.std.specs.Option.{option_map, option_and_then}
 use Rattle.std.specs.FinSet as set
 use Rattle.std.proofs.lemmas.Bool.{and_parts, and_from}
 use Rattle.std.proofs.lemmas.List.Folds.{list_all-append}
 use Rattle.hol_types.specs.Tree.{TypeTree}
-use Rattle.hol_types.specs.Equal.{variable_eq}
 use Rattle.hol_types.proofs.OrderLaws.{type_cmp_decides}
 use Rattle.std.proofs.lemmas.Slice.Eq.{bytes_eq-Decides}
-use Rattle.hol_terms.specs.Nameless.{Nameless, free, bound, fixed, app, lam, free_occurrences, base_of}
-use Rattle.hol_terms.specs.Scoped.{binds}
+use Rattle.hol_terms.specs.Nameless.{Nameless, free, bound, app, base_of}
 use Rattle.hol_subst.specs.Closing.{bind, close, open_with}
-use Rattle.hol_subst.proofs.Closing.{open_close, eq_flip}
-use Rattle.hol_terms.proofs.Occurs.{binds_append}
+use Rattle.hol_subst.proofs.Closing.{open_close, close_binds}
 use Rattle.hol_formulas.specs.Equation.{dest_comb}
 use Rattle.hol_formulas.proofs.FormulaLaws.{dest_comb_is}
 use Rattle.hol_kernel.specs.Given.{Given, given_sequent}
@@ -137,25 +134,10 @@ pub body_gives : (v : List ℕ × TypeTree) (gs : List Given) (B : Nameless → 
 body_gives v gs B t n d p q r = (λ i. cond (p i) (option_and_then (λ m. option_map (bind v) (B m)) (q i)) None) ∙ ap (option_map (bind v)) r
 
 -- a variable that was bound is not free
-closed_free : (v : List ℕ × TypeTree) (k : ℕ) (n : Nameless) → binds (free_occurrences (close v k n)) v ≡ false
-closed_free v k (free w) = by (variable_eq v w) refl
-  where
-    by : (b : Bool) → variable_eq v w ≡ b → binds (free_occurrences (cond b (bound k) (free w))) v ≡ false
-    by true e = refl
-    by false e = or_none (variable_eq w v) (eq_flip w v ∙ e)
-      where
-        or_none : (b : Bool) → b ≡ false → (b || false) ≡ false
-        or_none true g = g
-        or_none false g = refl
-closed_free v k (bound i) = refl
-closed_free v k (fixed c s) = refl
-closed_free v k (app f x) = binds_append (free_occurrences (close v k f)) (free_occurrences (close v k x)) v ∙ (λ i. closed_free v k f i || closed_free v k x i)
-closed_free v k (lam a s b) = closed_free v (k + 1) b
-
 -- what was bound is opened again
 pub opened_again : (v : List ℕ × TypeTree) (n : Nameless) → opened v (bind v n) ≡ Some n
 opened_again v n =
-    (λ i. cond ((bytes_eq-Decides (base_of v.0) (base_of v.0)).1 refl i && ((type_cmp_decides v.1 v.1).1 refl i && not (closed_free v 0 n i))) (Some (open_with (free v) 0 (close v 0 n))) None)
+    (λ i. cond ((bytes_eq-Decides (base_of v.0) (base_of v.0)).1 refl i && ((type_cmp_decides v.1 v.1).1 refl i && not (close_binds v 0 n i))) (Some (open_with (free v) 0 (close v 0 n))) None)
     ∙ ap (λ m. Some m) (open_close v 0 n)
 
 -- ---- one after the other

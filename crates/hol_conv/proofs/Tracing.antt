@@ -1,5 +1,5 @@
 -- Traces of turns, and of topmost redexes.
-use Rattle.std.proofs.Common.{◌≡◌, ℕ, List, [], ◌∷◌, ◌++◌, map, refl, sym, ap, ◌∙◌, subst, Bool, true, false, not, ◌&&◌, slice_get, Some}
+use Rattle.std.proofs.Common.{◌≡◌, ℕ, List, [], ◌∷◌, ◌++◌, refl, sym, ap, ◌∙◌, subst, Bool, true, false, not, ◌&&◌, slice_get, Some}
 use Rattle.std.specs.Prelude.{Ok, Err}
 use Rattle.std.specs.FinSet as set
 use Rattle.std.proofs.lemmas.Bool.{false≢true}
@@ -16,6 +16,7 @@ use Rattle.hol_match.specs.Contracta.{contracted}
 use Rattle.hol_match.specs.SetView.{set_rule, set_rules, set_given, set_givens, IsGivenIn, AreGivenIn}
 use Rattle.hol_match.specs.declared.set_rule.SetRule.{SetRule}
 use Rattle.hol_match.specs.declared.source.Source.{Source}
+use Rattle.hol_match.proofs.Lookups.{own_variables}
 use Rattle.hol_conv.specs.declared.ended.Ended.{Ended}
 use Rattle.hol_conv.specs.declared.error.ConvError.{ConvError}
 use Rattle.hol_conv.specs.declared.error.ConvError.TheVariants.{Limit, TooLarge, Memory}
@@ -41,12 +42,8 @@ apart_given (r ∷ rules) v h = λ i. not (absent i) && apart_given rules v h.2 
     s : Source
     s = r.source.value
 
-    stays_names : (vs : List (List ℕ × TypeTree)) → map (λ (p : Nameless × (List ℕ × TypeTree)). p.1) (map (λ w. (free w, w)) vs) ≡ vs
-    stays_names [] = refl
-    stays_names (w ∷ vs) = ap (λ ws. w ∷ ws) (stays_names vs)
-
     not_there : binds s.fixed.variables.items v ≡ false
-    not_there = ap (λ vs. binds vs v) (sym (stays_names s.fixed.variables.items)) ∙ h.0
+    not_there = ap (λ vs. binds vs v) (sym (own_variables s.fixed.variables.items)) ∙ h.0
 
     absent : is_free_in (set.items (given_sequent s.given).hyps) v ≡ false
     absent = by (is_free_in (set.items (given_sequent s.given).hyps) v) refl

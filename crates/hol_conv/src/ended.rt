@@ -5,8 +5,8 @@ use hol_terms::Term;
 
 /// A part of a term after all its turns, the turns that are left, and how it was rewritten.
 #[derive(Drop)]
-pub struct Ended {
-    pub term: Term,
-    pub left: u32,
-    pub node: Box<TraceNode>,
+pub(crate) struct Ended {
+    pub(crate) term: Term,
+    pub(crate) left: u32,
+    pub(crate) node: Box<TraceNode>,
 }

@@ -89,21 +89,10 @@ impl<'a> Redexes<'a> {
         ensures outside { IfOk result (λ o. IsOutside self.now o.variable) }
     {
         match self {
-            Redexes::Beta => kept(v, body),
+            Redexes::Beta => Binder::kept(v, body),
             Redexes::Rules(rules) => rules.opened(alloc, v, body),
         }
     }
-}
-
-// The variable and the body as they are.
-fn kept(v: &Variable, body: &Term) -> Result<Binder, AllocError>
-    ensures variable { IfOk result (λ o. o.variable ≡ v.now) }
-    ensures body { IfOk result (λ o. o.body ≡ body.now) }
-{
-    Ok(Binder {
-        variable: v.copy()?,
-        body: body.copy()?,
-    })
 }
 
 // Whether the term is an application of an abstraction.

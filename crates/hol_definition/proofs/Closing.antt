@@ -1,5 +1,5 @@
 -- Binding a fresh variable of what is said of it.
-use Rattle.std.specs.Prelude.{◌≡◌, ◌<◌, ◌≤◌, ◌+◌, ℕ, zero, suc, Bool, true, false, cond, List, nat_lt, refl}
+use Rattle.std.specs.Prelude.{◌≡◌, ◌+◌, ℕ, zero, suc, Bool, true, false, cond, List, refl}
 use Rattle.std.proofs.Common.{ap, sym, ◌∙◌, arith}
 use Rattle.hol_types.specs.Tree.{TypeTree}
 use Rattle.hol_types.specs.Equal.{variable_eq}
@@ -7,7 +7,7 @@ use Rattle.hol_terms.specs.Nameless.{Nameless, free, bound, fixed, app, lam, fre
 use Rattle.hol_terms.specs.Scoped.{binds}
 use Rattle.hol_subst.specs.Shift.{shift}
 use Rattle.hol_subst.specs.Closing.{close, open_with}
-use Rattle.hol_subst.proofs.Closing.{below, not_below, below_is, not_below_is, eq_same, close_absent}
+use Rattle.hol_subst.proofs.Closing.{below, shift_close, eq_same, close_absent}
 use Rattle.hol_subst.proofs.Opening.{close_open}
 use Rattle.hol_formulas.specs.Equation.{equation}
 use Rattle.hol_formulas.specs.Formula.{universal}
@@ -16,32 +16,6 @@ use Rattle.hol_definition.specs.ForAll.{for_all}
 
 abbrev Var : Type 0
 Var = List ℕ × TypeTree
-
--- ---- shifting and binding
-
-shift_index : (v : Var) (j m k i : ℕ) → m ≤ k → shift j m (close v k (bound i)) ≡ close v (k + j) (shift j m (bound i))
-shift_index v j m k i h = by (nat_lt i k) refl (nat_lt i m) refl
-  where
-    by : (a : Bool) → nat_lt i k ≡ a → (c : Bool) → nat_lt i m ≡ c → shift j m (bound (cond a i (i + 1))) ≡ close v (k + j) (bound (cond c i (i + j)))
-    by true p true q = let low : i < k = below_is i k p in rw (q, below i (k + j) (omega arith)) refl
-    by true p false q = let low : i < k = below_is i k p in rw (q, below (i + j) (k + j) (omega arith)) refl
-    by false p true q = let high : k ≤ i = not_below_is i k p in let low : i < m = below_is i m q in absurd (omega arith)
-    by false p false q =
-        let high : k ≤ i = not_below_is i k p in
-        rw (not_below (i + 1) m (omega arith), not_below (i + j) (k + j) (omega arith)) (ap bound (omega arith))
-
-shift_close : (v : List ℕ × TypeTree) (j m k : ℕ) (n : Nameless) → m ≤ k → shift j m (close v k n) ≡ close v (k + j) (shift j m n)
-shift_close v j m k (free w) h = by (variable_eq v w)
-  where
-    by : (c : Bool) → shift j m (cond c (bound k) (free w)) ≡ cond c (bound (k + j)) (free w)
-    by true = rw (not_below k m h) refl
-    by false = refl
-shift_close v j m k (bound i) h = shift_index v j m k i h
-shift_close v j m k (fixed c s) h = refl
-shift_close v j m k (app f x) h = λ i. app (shift_close v j m k f h i) (shift_close v j m k x h i)
-shift_close v j m k (lam a s b) h =
-    let more : k + 1 + j ≡ k + j + 1 = omega arith in
-    ap (lam a s) (shift_close v j (m + 1) (k + 1) b (omega arith) ∙ ap (λ z. close v z (shift j (m + 1) b)) more)
 
 -- ---- what is said of all arguments, bound
 

@@ -25,7 +25,7 @@ use Rattle.hol_kernel.proofs.Variables.{known_typed, variable_typed}
 use Rattle.hol_kernel.proofs.WellTyped.{sides_typed}
 use Rattle.hol_equal.specs.Applied.{body, range_of}
 use Rattle.hol_bool.specs.Applied.{defining, unfolded, generalized}
-use Rattle.hol_bool.proofs.Disjunctions.{free_in_none as none_free}
+use Rattle.hol_bool.proofs.Disjunctions.{free_in_none as none_free, not_none}
 use Rattle.hol_definition.specs.ForAll.{for_all}
 use Rattle.hol_definition.proofs.Closing.{bound_over}
 
@@ -37,13 +37,10 @@ abbrev part : {A X : Type 0} → X → (A → X) → Option A → X
 part d f None = d
 part d f (Some a) = f a
 
-some_none : {A : Type 0} (a : A) → Some a ≡ None → ⊥
-some_none a e = absurd (cc)
-
 -- an equation has sides
 pub has_sides : (a : Sequent) (own : Nameless) → (ty : TypeTree) × ((l : Nameless) × ((r : Nameless) × (a ≡ sequent_of no_hyps (equation ty l r)))) → own ≡ a.concl → dest_eq own ≡ None → ⊥
 has_sides a own (ty, (l, (r, is))) e none =
-    some_none (record { sides_type = ty; left = l; right = r }) (sym (ap dest_eq (e ∙ ap (λ (s : Sequent). s.concl) is) ∙ dest_eq_equation ty l r) ∙ none)
+    not_none (record { sides_type = ty; left = l; right = r }) (sym (ap dest_eq (e ∙ ap (λ (s : Sequent). s.concl) is) ∙ dest_eq_equation ty l r) ∙ none)
 
 -- and they are these
 pub sides_are : (own : Nameless) (ty s : TypeTree) (l r x y : Nameless) → own ≡ equation ty l r → dest_eq own ≡ Some (record { sides_type = s; left = x; right = y }) → (s ≡ ty) × (x ≡ l) × (y ≡ r)

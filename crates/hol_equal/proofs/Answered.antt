@@ -2,6 +2,7 @@
 use Rattle.std.specs.Prelude.{◌≡◌, ℕ, Bool, true, false, cond, ◌&&◌, List, [], Option, Some, None, is_some, refl}
 use Rattle.std.specs.Option.{option_map, option_and_then}
 use Rattle.std.proofs.Common.{ap, sym, ◌∙◌}
+use Rattle.std.proofs.Math.Bool.{and-false}
 use Rattle.hol_types.specs.Tree.{TypeTree}
 use Rattle.hol_types.specs.Equal.{type_eq}
 use Rattle.hol_types.specs.Fun.{fun_type, fun_parts}
@@ -17,7 +18,6 @@ use Rattle.hol_kernel.specs.Sequent.{no_hyps, Sequent, sequent_of}
 use Rattle.hol_kernel.specs.NamedTyping.{is_known_named}
 use Rattle.hol_kernel.specs.Typing.{type_over, is_typed, has_type, HasType}
 use Rattle.hol_kernel.specs.Rules.{reflexive, mk_comb_of}
-use Rattle.hol_kernel.proofs.TermRules.{has_type_test}
 use Rattle.hol_kernel.proofs.Typed.{typed_named, type_over_named}
 use Rattle.hol_kernel.specs.Theorem.{Theorem, theorem_on, over}
 use Rattle.hol_equal.specs.Applied.{symmetric, combined, under, at_argument, contraction}
@@ -59,24 +59,6 @@ module _ (basis : Items) (s t : Nameless) where
   pub alpha_gives : (a : TypeTree) → alpha_eq s t ≡ true → is_typed basis t ≡ true → HasType basis s a → alpha_of basis s t ≡ Some (sequent_of no_hyps (equation a s t))
   alpha_gives a e f typed = λ i. cond (e i && f i) (option_map (λ b. sequent_of no_hyps (equation b s t)) (typed i)) None
 
--- ---- typing tests
-
-and_true : (k : Bool) → (k && true) ≡ k
-and_true true = refl
-and_true false = refl
-
-and_false : (k : Bool) → (k && false) ≡ false
-and_false true = refl
-and_false false = refl
-
-pub typed_test : (basis : Items) (t : Named) (s b : TypeTree) → named_type t ≡ Some s → type_eq s b ≡ true → is_typed basis (nameless [] t) ≡ has_type basis (nameless [] t) b
-typed_test basis t s b has e = sym (has_type_test basis t s has b ∙ ap (λ k. is_typed basis (nameless [] t) && k) e ∙ and_true (is_typed basis (nameless [] t)))
-
-pub other_type : (basis : Items) (t : Named) (s b : TypeTree) → named_type t ≡ Some s → type_eq s b ≡ false → has_type basis (nameless [] t) b ≡ false
-other_type basis t s b has e = has_type_test basis t s has b ∙ ap (λ k. is_typed basis (nameless [] t) && k) e ∙ and_false (is_typed basis (nameless [] t))
-
-pub ruleset tests = (typed_test, other_type)
-
 -- ---- AP_TERM
 
 module _ (basis : Items) (f : Named) (ty : TypeTree) (has : named_type f ≡ Some ty) (a : Sequent) where
@@ -111,7 +93,7 @@ module _ (basis : Items) (f : Named) (ty : TypeTree) (has : named_type f ≡ Som
           by false = refl
 
       pub ap_term_other : type_eq p.0 s ≡ false → ap_term_of basis (nameless [] f) a ≡ None
-      ap_term_other g = ap_term_test (is_known_named basis f) false refl g ∙ ap (λ b. cond b (Some (sequent_of a.hyps (equation p.1 (app (nameless [] f) l) (app (nameless [] f) r)))) None) (and_false (is_known_named basis f))
+      ap_term_other g = ap_term_test (is_known_named basis f) false refl g ∙ ap (λ b. cond b (Some (sequent_of a.hyps (equation p.1 (app (nameless [] f) l) (app (nameless [] f) r)))) None) (and-false (is_known_named basis f))
 
       pub ap_term_untyped : is_typed basis (nameless [] f) ≡ false → ap_term_of basis (nameless [] f) a ≡ None
       ap_term_untyped g = ap_term_test false (type_eq p.0 s) (sym (typed_named basis f ty has) ∙ g) refl

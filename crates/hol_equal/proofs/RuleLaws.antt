@@ -35,7 +35,7 @@ ap_term_monotone f a basis more h s e = by (dest_eq a.concl) e
     by None g = absurd (cc)
     by (Some x) g = typed_more basis more (within_of_subset basis more h) (λ o. option_and_then (at_sides f a.hyps x) (option_and_then fun_parts o)) refl f s g
 
-tested : (a b : Bool) (x s : Sequent) → (a ≡ true → b ≡ true) → cond a (Some x) None ≡ Some s → cond b (Some x) None ≡ Some s
+pub tested : (a b : Bool) (x s : Sequent) → (a ≡ true → b ≡ true) → cond a (Some x) None ≡ Some s → cond b (Some x) None ≡ Some s
 tested true b x s f e = ap (λ k. cond k (Some x) None) (f refl) ∙ e
 tested false b x s f e = absurd (cc)
 

@@ -81,6 +81,7 @@ combined a b = sequent_of (set.union a.hyps b.hyps) (equation (range_of (side_ty
 abbrev pub abstracted : List ℕ × TypeTree → Sequent → Sequent
 abstracted v a = sequent_of a.hyps (equation (fun_type v.1 (side_type a.concl)) (bind v (lhs a.concl)) (bind v (rhs a.concl)))
 
+-- EQ_MP, and MP
 abbrev pub concluded : Sequent → Sequent → Sequent
 concluded a b = sequent_of (set.union a.hyps b.hyps) (rhs a.concl)
 

@@ -21,8 +21,8 @@ use hol_terms::{Term, TermNode, Variable};
 use hol_types::{Name, Ty};
 use std::alloc::{AllocError, Global};
 
-// The theorem of a call that is not refused.
-fn unrefused(answer: Result<Thm, KernelError>) -> Result<Thm, AllocError>
+/// The theorem of a call that is not refused.
+pub fn unrefused(answer: Result<Thm, KernelError>) -> Result<Thm, AllocError>
     requires { IsUnrefused answer }
     ensures { IfOk result (λ th. answer ≡ Ok th) }
 {

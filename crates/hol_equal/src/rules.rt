@@ -3,7 +3,7 @@ ghost use Rattle.std.specs.Prelude.{◌≡◌, IfOk, []};
 ghost use Rattle.hol_terms.specs.Named.{var};
 ghost use Rattle.hol_terms.specs.Nameless.{nameless};
 ghost use Rattle.hol_formulas.specs.Equation.{bool_type, equation};
-ghost use Rattle.hol_kernel.specs.Typing.{has_type, HasType};
+ghost use Rattle.hol_kernel.specs.Typing.{HasType};
 ghost use Rattle.hol_kernel.specs.Theorem.{over};
 ghost use Rattle.hol_kernel.specs.Gives.{Gives};
 ghost use Rattle.hol_equal.specs.Applied.{lhs, rhs};
@@ -14,10 +14,8 @@ ghost use Rattle.hol_equal.specs.declared.error.Rule.TheVariants as rule;
 use crate::applied::{self, known_sides, sides_of};
 use crate::error::{EqualError, Rule};
 use crate::replacement::equal_images;
-use hol_formulas::bool_type;
 use hol_kernel::{Basis, Thm};
 use hol_terms::{Term, TermNode, Variable};
-use hol_types::Ty;
 use std::alloc::{AllocError, Global};
 
 /// The rule of symmetry (equal.ml, SYM): from `s = t`, `t = s`.
@@ -50,17 +48,6 @@ pub fn alpha(alloc: Global, basis: &Basis, s: &Term, t: &Term) -> Result<Thm, Eq
         return Err(EqualError::Refused(Rule::Alpha));
     }
     Ok(applied::alpha(alloc, basis, s.type_of(), s, t)?)
-}
-
-// Whether the term is well typed over the basis, of the type.
-#[tactic(auto, using(crate::proofs::Answered::tests))]
-fn is_of_type(alloc: Global, basis: &Basis, t: &Term, ty: &Ty) -> Result<bool, AllocError>
-    ensures { IfOk result (λ is. is ≡ has_type basis.now (nameless [] t.now) ty.now) }
-{
-    if !t.type_of().same(ty) {
-        return Ok(false);
-    }
-    basis.is_typed(alloc, t)
 }
 
 /// The rule of the operand (equal.ml, AP_TERM): from `s = t`, `f s = f t`.
@@ -102,7 +89,7 @@ pub fn ap_thm(alloc: Global, a: &Thm, x: &Term) -> Result<Thm, EqualError>
     let Some((domain, _range)) = sides.ty.dest_fun() else {
         return Err(EqualError::Refused(Rule::ApThm));
     };
-    if !is_of_type(alloc, a.basis(), x, domain)? {
+    if !a.basis().has_type(alloc, x, domain)? {
         return Err(EqualError::Refused(Rule::ApThm));
     }
     Ok(applied::ap_thm(alloc, a, domain, x)?)
@@ -148,8 +135,7 @@ pub fn subst(alloc: Global, a: &Thm, v: &Term, m: &Term, b: &Thm) -> Result<Thm,
     if !variable.ty().same(sides.ty) {
         return Err(EqualError::Refused(Rule::Subst));
     }
-    let truth = bool_type(alloc)?;
-    if !is_of_type(alloc, a.basis(), m, &truth)? {
+    if !a.basis().is_formula(alloc, m)? {
         return Err(EqualError::Refused(Rule::Subst));
     }
     with_right_side(alloc, a, variable, m, b)

@@ -1,42 +1,15 @@
 -- The number of a `new_type` that is written is at most 16.
-use Rattle.std.specs.Prelude.{◌≡◌, ◌≤◌, ℕ, Bool, true, false, cond, List, nat_le, refl}
+use Rattle.std.specs.Prelude.{◌≡◌, ◌≤◌, ℕ, Bool, true, false, List, nat_le, refl}
 use Rattle.std.proofs.Common.{sym, ◌∙◌, subst, arith}
 use Rattle.std.proofs.lemmas.Bool.Decides.{nat_tests}
-use mathlib.Core.Bool.{true≢false}
-use Rattle.hol_notation_grammar.specs.Syntax.{Tree, node, Trees, done, leaf, tree, nothing}
+use Rattle.hol_notation_commands.proofs.Steps.{large_parts}
+use Rattle.hol_notation_grammar.specs.Syntax.{Tree, node, done, leaf, tree}
 use Rattle.hol_notation_grammar.specs.Over.{above}
 use Rattle.hol_notation_tactics.specs.Number.{number_value}
 use Rattle.hol_notation_commands.specs.Text.{CommandText, NewType}
-use Rattle.hol_notation_commands.specs.Grammar.{Nonterminal, Production, has, no_text, command_grammar, a_command, a_declaration, open_goal, run_tactic, undo, rotate, finish, give_up, import_theory, declare, new_type, new_constant, new_axiom, new_definition, new_basic_type_definition, six_names}
+use Rattle.hol_notation_commands.specs.Grammar.{command_grammar, a_command, a_declaration, open_goal, run_tactic, undo, rotate, finish, give_up, import_theory, declare, new_type, new_constant, new_axiom, new_definition, new_basic_type_definition}
 use Rattle.hol_notation_commands.specs.Reading.{IsCommandText}
 use Rattle.hol_notation_commands.specs.Value.{declaration_value, command_value}
-
-abbrev IsWritten : Nonterminal → Type 0
-IsWritten no_text = ⊥
-IsWritten _ = Unit {0}
-
-is_written : {n : Nonterminal} → Production n → IsWritten n
-is_written open_goal = tt
-is_written run_tactic = tt
-is_written undo = tt
-is_written rotate = tt
-is_written finish = tt
-is_written give_up = tt
-is_written import_theory = tt
-is_written declare = tt
-is_written new_type = tt
-is_written new_constant = tt
-is_written new_axiom = tt
-is_written new_definition = tt
-is_written new_basic_type_definition = tt
-is_written six_names = tt
-
-no_tree : Tree command_grammar (above no_text) → ⊥
-no_tree (node p ts) = is_written p
-
-large_parts : (b : Bool) → b ≡ false → (ts : Trees command_grammar (cond b nothing (has no_text nothing))) → ⊥
-large_parts true e ts = true≢false e
-large_parts false e (tree t ts) = no_tree t
 
 small : (m k : ℕ) (b : Bool) → nat_le m 16 ≡ b → (b ≡ false → ⊥) → m ≡ k → k ≤ 16
 small m k true e f is = subst (λ (n : ℕ). n ≤ 16) is (grind (arith, nat_tests))

@@ -11,6 +11,7 @@ use Rattle.hol_theory.specs.Key.{KeyValue}
 use Rattle.hol_theory.specs.Entry.{EntryValue, Entries, IsEntry, EachIsEntry, entry_at, entry_basis, own_item}
 use Rattle.hol_theory.specs.Theory.{with_item, items_after, items_in, RestsOn, IsTheory}
 use Rattle.hol_theory.specs.Adding.{missing}
+use Rattle.hol_theory.proofs.Defining.{each_at}
 use Rattle.hol_theory.proofs.Entries.{found}
 use Rattle.hol_theory.proofs.Items.{after_old}
 use Rattle.hol_exec.specs.StateValue.{ProofValue}
@@ -31,13 +32,8 @@ rests_among items (f ∷ es) e h (inr i) = rests_among (with_item items (own_ite
 pub entry_within : (es : Entries) (key : KeyValue) (v : EntryValue) → IsTheory es → entry_at key es ≡ Some v → IsSubset (entry_basis v) (items_in es)
 entry_within es key v t e = rests_among [] es (key, v) t.rests (found key es v e)
 
-each_among : (es : Entries) (e : KeyValue × EntryValue) → EachIsEntry es → Among e es → IsEntry e.0 e.1
-each_among [] e h i = absurd i
-each_among (f ∷ es) e h (inl is) = subst (λ (g : KeyValue × EntryValue). IsEntry g.0 g.1) (sym is) h.0
-each_among (f ∷ es) e h (inr i) = each_among es e h.1 i
-
 pub entry_is : (es : Entries) (key : KeyValue) (v : EntryValue) → IsTheory es → entry_at key es ≡ Some v → IsEntry key v
-entry_is es key v t e = each_among es (key, v) t.each (found key es v e)
+entry_is es key v t e = each_at es (key, v) t.each (found key es v e)
 
 -- ---- what an import brings
 

@@ -1,29 +1,28 @@
 -- What a command reads is well typed over the basis of what it resolves: the constants that occur in a reading are cited, and so are the types that are written.
-use Rattle.std.specs.Prelude.{◌≡◌, ◌⊎◌, ℕ, zero, suc, Bool, true, false, cond, ◌&&◌, ◌||◌, ◌==◌, List, [], ◌∷◌, ◌++◌, bytes_eq, codes, filter, length, map, Option, Some, None, refl}
+use Rattle.std.specs.Prelude.{◌≡◌, ◌⊎◌, ℕ, zero, suc, Bool, true, false, cond, ◌&&◌, ◌||◌, ◌==◌, List, [], ◌∷◌, ◌++◌, bytes_eq, codes, filter, Option, Some, None, refl}
 use Rattle.std.specs.List.{list_any, list_all, Contains}
-use Rattle.std.specs.Option.{option_and_then}
 use Rattle.std.proofs.Common.{ap, sym, ◌∙◌, subst, inl, inr, arith}
 use Rattle.std.proofs.lemmas.Bool.{and_parts, eq-eqb}
 use Rattle.std.proofs.lemmas.Slice.Eq.{bytes_eq-Decides}
-use Rattle.hol_types.specs.Tree.{TypeTree, TypeList, TyVar, TyApp, no_types, more_types, type_list}
-use Rattle.hol_types.specs.Fun.{fun_type, fun_parts}
+use Rattle.hol_types.specs.Tree.{TypeTree, TypeList, TyVar, TyApp, no_types, more_types}
+use Rattle.hol_types.specs.Fun.{fun_type}
 use Rattle.hol_types.specs.Subst.{type_subst}
-use Rattle.hol_terms.specs.Nameless.{Nameless, free, bound, fixed, app, lam, base_of, nameless_type}
+use Rattle.hol_terms.specs.Nameless.{Nameless, free, bound, fixed, app, lam, base_of}
 use Rattle.hol_formulas.specs.Constants.{prelude_types, prelude_constants, is_constructor, generic_in, is_instance, is_instance_of, is_constant_at}
 use Rattle.hol_formulas.specs.Equation.{bool_type, equality_type}
 use Rattle.hol_formulas.proofs.Instance.{instance_of_subst}
 use Rattle.hol_kernel.specs.Item.{Item, declared_type, declared_constant, defined_constant, defined_type, declared_axiom}
 use Rattle.hol_kernel.specs.Items.{Items, in_order, Holds, IsSubset}
 use Rattle.hol_kernel.specs.Legal.{IsSound, IsLegalSet}
-use Rattle.hol_kernel.specs.Signature.{has_arity, has_constant, makes_type, makes_constant, item_types, item_constants, new_type, bijections, constant_of, term_tyvars}
+use Rattle.hol_kernel.specs.Signature.{has_arity, has_constant, makes_type, makes_constant, item_types, item_constants, new_type, constant_of, term_tyvars}
 use Rattle.hol_kernel.specs.Typing.{types_count, is_type, are_types, is_known, HasType}
 use Rattle.hol_kernel.proofs.Held.{sound_held}
-use Rattle.hol_kernel.proofs.Ordered.{any_of as any_among}
+use Rattle.hol_subst.proofs.SortedSets.{some_any as any_among}
 use Rattle.hol_kernel.proofs.Members.{or_right}
-use Rattle.hol_kernel.proofs.Stands.{fun_stands, fun_parts_stand, type_stands}
-use Rattle.hol_kernel.proofs.Steps.{is_type_app}
+use Rattle.hol_kernel.proofs.Stands.{fun_stands}
 use Rattle.hol_kernel.proofs.Subsets.{within_of_subset}
 use Rattle.hol_kernel.proofs.Variables.{known_typed}
+use Rattle.hol_kernel.proofs.WellTyped.{own_type_stands, old_stands, new_stands, constants}
 use Rattle.hol_kernel.proofs.Weaken.{ordered_held, is_type_more}
 use Rattle.hol_infer.specs.Resolving.{arity_of, generic_type_of}
 use Rattle.hol_infer.specs.Standing.{stands, all_stand, TermStands, AreStanding, types_count as count}
@@ -105,48 +104,20 @@ module _ (keep : List ℕ → Bool) where
 -- ---- what a legal set makes is of types that stand over it
 
 module _ (items : Items) (legal : IsLegalSet items) where
-  params_stand : (names : List (List ℕ)) → are_types items (type_list (map TyVar names)) ≡ true
-  params_stand [] = refl
-  params_stand (a ∷ names) = params_stand names
-
-  params_counted : (names : List (List ℕ)) → length (map TyVar names) ≡ length names
-  params_counted [] = refl
-  params_counted (a ∷ names) = ap suc (params_counted names)
-
-  own_type : (t : Nameless) (a : TypeTree) → HasType items t a → is_type items a ≡ true
-  own_type t a h = let p = known_typed items t a h in type_stands items [] t a tt p.0 p.1
-
-  module _ (c abs rep : List ℕ) (p : Nameless) (s : TypeTree) (there : Holds items (defined_type c abs rep p)) (typed : HasType items p (fun_type s bool_type)) where
-    abbrev new : TypeTree
-    new = new_type c (term_tyvars p)
-
-    old_stands : is_type items s ≡ true
-    old_stands = (fun_parts_stand items s bool_type (own_type p (fun_type s bool_type) typed)).0
-
-    new_made : makes_type c (length (map TyVar (term_tyvars p))) (defined_type c abs rep p) ≡ true
-    new_made =
-        let name : bytes_eq c c ≡ true = (bytes_eq-Decides c c).1 refl in
-        let counted : (length (map TyVar (term_tyvars p)) == length (term_tyvars p)) ≡ true = eq-eqb (length (map TyVar (term_tyvars p))) (length (term_tyvars p)) (params_counted (term_tyvars p)) in
-        λ i. (name i && counted i) || false
-
-    new_stands : is_type items new ≡ true
-    new_stands =
-        let has : has_arity items c (length (map TyVar (term_tyvars p))) ≡ true =
-        or_right (list_any (is_constructor c (length (map TyVar (term_tyvars p)))) prelude_types) (list_any (makes_type c (length (map TyVar (term_tyvars p)))) (in_order items))
-        (any_among (makes_type c (length (map TyVar (term_tyvars p)))) (in_order items) (defined_type c abs rep p) (ordered_held items (defined_type c abs rep p) there) new_made) in
-        is_type_app items c (map TyVar (term_tyvars p)) ∙ (λ i. has i && params_stand (term_tyvars p) i)
-
-    both_stand : list_all (λ (d : List ℕ × TypeTree). is_type items d.1) (bijections abs rep new (option_and_then fun_parts (nameless_type [] p))) ≡ true
-    both_stand =
-        ap (λ o. list_all (λ (d : List ℕ × TypeTree). is_type items d.1) (bijections abs rep new (option_and_then fun_parts o))) (known_typed items p (fun_type s bool_type) typed).1
-        ∙ (λ i. fun_stands items s new old_stands new_stands i && (fun_stands items new s new_stands old_stands i && true))
+  both_stand : (c abs rep : List ℕ) (p : Nameless) (s : TypeTree) → Holds items (defined_type c abs rep p) → HasType items p (fun_type s bool_type) →
+      list_all (λ (d : List ℕ × TypeTree). is_type items d.1) (item_constants (defined_type c abs rep p)) ≡ true
+  both_stand c abs rep p s there typed =
+      let new : TypeTree = new_type c (term_tyvars p) in
+      let old : is_type items s ≡ true = old_stands items c abs rep p s there typed in
+      let own : is_type items new ≡ true = new_stands items c abs rep p s there typed in
+      ap (list_all (λ (d : List ℕ × TypeTree). is_type items d.1)) (constants items c abs rep p s there typed) ∙ (λ i. fun_stands items s new old own i && (fun_stands items new s own old i && true))
 
   -- the generic types of what an item makes
   generics_stand : (x : Item) → Holds items x → IsSound items x → list_all (λ (d : List ℕ × TypeTree). is_type items d.1) (item_constants x) ≡ true
   generics_stand (declared_type c n) h sound = refl
   generics_stand (declared_constant c a) h sound = λ i. sound i && true
   generics_stand (defined_constant c r) h (a, sound) =
-      ap (λ o. list_all (λ (d : List ℕ × TypeTree). is_type items d.1) (constant_of c o)) (known_typed items r a sound.typed).1 ∙ (λ i. own_type r a sound.typed i && true)
+      ap (λ o. list_all (λ (d : List ℕ × TypeTree). is_type items d.1) (constant_of c o)) (known_typed items r a sound.typed).1 ∙ (λ i. own_type_stands items r a sound.typed i && true)
   generics_stand (defined_type c abs rep p) h (x, (s, sound)) = both_stand c abs rep p s h sound.typed
   generics_stand (declared_axiom n p) h sound = refl
 

@@ -23,6 +23,5 @@ pub mod Runs
 pub mod Readings
 pub mod UniqueMade
 pub mod Unique
-pub mod Comparing
 pub mod Runnable
 pub mod Parts

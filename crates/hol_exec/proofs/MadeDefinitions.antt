@@ -1,5 +1,5 @@
 -- What a command defines is not refused: its names are new, what it defines is well typed and closed, and its type variables are reflected.
-use Rattle.std.specs.Prelude.{◌≡◌, ◌≢◌, ◌⊎◌, ◌||◌, ◌&&◌, ℕ, Bool, true, false, cond, not, List, [], ◌∷◌, ◌++◌, map, bytes_eq, is_some, Option, Some, None, refl}
+use Rattle.std.specs.Prelude.{◌≡◌, ◌≢◌, ◌⊎◌, ◌||◌, ◌&&◌, ℕ, Bool, true, false, cond, not, List, [], ◌∷◌, ◌++◌, map, bytes_eq, is_some, Some, None, refl}
 use Rattle.std.specs.declared.cmp.Ordering.{Ordering}
 use Rattle.std.specs.declared.cmp.Ordering.TheVariants.{Less, Equal, Greater}
 use Rattle.std.specs.List.{IsDistinct, list_any, find, AllByRecursion}
@@ -7,8 +7,9 @@ use Rattle.std.specs.Map.{keys_of}
 use Rattle.std.specs.FinSet as set
 use Rattle.std.specs.Option.{option_and_then}
 use Rattle.std.proofs.Common.{ap, sym, ◌∙◌, subst, inl, inr}
-use Rattle.std.proofs.lemmas.Bool.{and_parts, and_from}
+use Rattle.std.proofs.lemmas.Bool.{and_parts, and_from, or_parts}
 use Rattle.std.proofs.lemmas.Slice.Eq.{bytes_eq-Decides}
+use Rattle.hol_theory.proofs.Entries.{other_way}
 use Rattle.hol_types.specs.Tree.{TypeTree}
 use Rattle.hol_types.specs.Fun.{fun_type}
 use Rattle.hol_types.specs.Names.{tyvars, insert_name, insert_names, placed_name, is_among}
@@ -40,14 +41,14 @@ use Rattle.hol_equal.specs.Applied.{rand}
 use Rattle.hol_notation_commands.specs.Text.{TypeDefinitionText}
 use Rattle.hol_theory.specs.Key.{KeyValue, key_eq, type_key, constant_key, theorem_key}
 use Rattle.hol_theory.specs.Theory.{items_in}
-use Rattle.hol_theory.proofs.Keys.{key_is, key_itself}
+use Rattle.hol_theory.proofs.Keys.{key_itself}
 use Rattle.hol_exec.specs.Parsed.{NewBasicTypeDefinition}
 use Rattle.hol_exec.specs.Keys.{made_by_making}
 use Rattle.hol_exec.specs.ReadsValue.{Values}
 use Rattle.hol_exec.specs.Standing.{is_standing, first_taken}
 use Rattle.hol_exec.specs.Defining.{first_name, first_free, unreflected_at, first_unreflected}
 use Rattle.hol_exec.specs.Valid.{AreOfTheory, AreNewNames}
-use Rattle.hol_exec.proofs.NewNames.{free_keys, new_over}
+use Rattle.hol_exec.proofs.NewNames.{free_keys, new_over, untaken}
 
 -- ---- closed terms, and type variables
 
@@ -124,13 +125,6 @@ can_define cited made h basis name c p r a within keys none known right has clos
 
 -- ---- keys that differ
 
-flipped : (a b : KeyValue) → key_eq a b ≡ false → key_eq b a ≡ false
-flipped a b e = by (key_eq b a) refl
-  where
-    by : (t : Bool) → key_eq b a ≡ t → t ≡ false
-    by true f = let wrong : true ≡ false = sym (key_itself a) ∙ ap (key_eq a) (sym (key_is b a f)) ∙ e in absurd (cc)
-    by false f = refl
-
 any_false : (k : KeyValue) (before : List KeyValue) (q : KeyValue) → Among k before → list_any (key_eq q) before ≡ false → key_eq q k ≡ false
 any_false k [] q i e = absurd i
 any_false k (b ∷ before) q i e = by (key_eq q b) refl e i (any_false k before q)
@@ -149,19 +143,11 @@ among_last : (k : KeyValue) (xs : List KeyValue) → Among k (xs ++ k ∷ [])
 among_last k [] = inl refl
 among_last k (x ∷ xs) = inr (among_last k xs)
 
-untaken : (b : Bool) (key : KeyValue) (o : Option KeyValue) → cond b (Some key) o ≡ None → (b ≡ false) × (o ≡ None)
-untaken true key o e = absurd (cc)
-untaken false key o e = (refl, e)
-
-second : (a b : Bool) → (a || b) ≡ false → b ≡ false
-second true b e = absurd (cc)
-second false b e = e
-
 none_like : (k : KeyValue) (before : List KeyValue) (made : Values) → Among k before → first_taken before made ≡ None → AllByRecursion (λ y. key_eq k y ≡ false) (keys_of made)
 none_like k before [] i e = tt
 none_like k before ((q, o) ∷ made) i e =
     let first = untaken (is_standing q o || list_any (key_eq q) before) q (first_taken (before ++ q ∷ []) made) e in (
-      flipped q k (any_false k before q i (second (is_standing q o) (list_any (key_eq q) before) first.0)),
+      other_way q k (any_false k before q i (or_parts (is_standing q o) (list_any (key_eq q) before) first.0).1),
       none_like k (before ++ q ∷ []) made (among_left k before (q ∷ []) i) first.1,
     )
 

@@ -4,6 +4,7 @@ use Rattle.std.specs.List.{list_any}
 use Rattle.std.specs.Map.{keys_of}
 use Rattle.std.specs.FinSet as set
 use Rattle.std.proofs.Common.{sym, ◌∙◌, subst, inl, inr, arith}
+use Rattle.std.proofs.lemmas.Bool.{or_parts}
 use Rattle.hol_types.specs.Tree.{TypeTree, TyVar}
 use Rattle.hol_terms.specs.Named.{Named, var}
 use Rattle.hol_terms.specs.Nameless.{Nameless}
@@ -48,10 +49,6 @@ only_memory r none Memory h some = refl
 
 -- ---- keys that are not taken
 
-neither : (a b : Bool) → (a || b) ≡ false → (a ≡ false) × (b ≡ false)
-neither true b e = absurd (cc)
-neither false b e = (refl, e)
-
 nothing : (o : Option EntryValue) → is_some o ≡ false → o ≡ None
 nothing None e = refl
 nothing (Some v) e = absurd (cc)
@@ -61,7 +58,7 @@ pub record IsFree (es : Entries) (key : KeyValue) : Type 0 where
   pub entry : entry_at key es ≡ None
   pub prelude : in_prelude key.kind key.name ≡ false
 
-untaken : (b : Bool) (key : KeyValue) (o : Option KeyValue) → cond b (Some key) o ≡ None → (b ≡ false) × (o ≡ None)
+pub untaken : (b : Bool) (key : KeyValue) (o : Option KeyValue) → cond b (Some key) o ≡ None → (b ≡ false) × (o ≡ None)
 untaken true key o e = absurd (cc)
 untaken false key o e = (refl, e)
 
@@ -69,8 +66,8 @@ free_of : (es : Entries) (before : List KeyValue) (made : Values) → StandIn es
 free_of es before [] h e key i = absurd i
 free_of es before ((k, o) ∷ made) h e key i =
     let first = untaken (is_standing k o || list_any (key_eq k) before) k (first_taken (before ++ k ∷ []) made) e in
-    let standing = neither (is_standing k o) (list_any (key_eq k) before) first.0 in
-    let own = neither (is_some o) (in_prelude k.kind k.name) standing.0 in
+    let standing = or_parts (is_standing k o) (list_any (key_eq k) before) first.0 in
+    let own = or_parts (is_some o) (in_prelude k.kind k.name) standing.0 in
     by i (record { entry = sym h.0 ∙ nothing o own.0; prelude = own.1 }) (free_of es (before ++ k ∷ []) made h.1 first.1 key)
   where
     by : (key ≡ k) ⊎ Among key (keys_of made) → IsFree es k → (Among key (keys_of made) → IsFree es key) → IsFree es key
@@ -84,8 +81,8 @@ free_keys cited made h keys e none key i = free_of h.entries [] made h.made_stan
 
 any_out : {X : Type 0} (q : X → Bool) (xs : List X) (k : ℕ) (d : X) → k < length xs → list_any q xs ≡ false → q (get_or xs k d) ≡ false
 any_out q [] k d lt e = absurd (omega (arith, lt))
-any_out q (x ∷ xs) zero d lt e = (neither (q x) (list_any q xs) e).0
-any_out q (x ∷ xs) (suc k) d lt e = any_out q xs k d (omega (arith, lt)) (neither (q x) (list_any q xs) e).1
+any_out q (x ∷ xs) zero d lt e = (or_parts (q x) (list_any q xs) e).0
+any_out q (x ∷ xs) (suc k) d lt e = any_out q xs k d (omega (arith, lt)) (or_parts (q x) (list_any q xs) e).1
 
 -- the three axioms of the prelude have the names of theorems of it: the ninth, the tenth and the thirteenth after the first
 axiom_prelude : (name : List ℕ) → in_prelude key_kind.Theorem name ≡ false → prelude_has (item.axiom_key name) ≡ false

@@ -3,8 +3,8 @@ use Rattle.std.specs.Prelude.{◌≡◌, ℕ, Bool, true, false, cond, ◌||◌,
 use Rattle.std.specs.FinSet as set
 use Rattle.std.proofs.Common.{ap, sym, ◌∙◌, subst}
 use Rattle.hol_types.specs.Tree.{TypeTree}
-use Rattle.hol_types.proofs.OrderLaws.{type_cmp_decides}
 use Rattle.std.specs.Option.{option_map}
+use Rattle.hol_exec.proofs.Statements.{of_bool}
 use Rattle.hol_terms.specs.Named.{Named}
 use Rattle.hol_terms.specs.Nameless.{Nameless, nameless_type}
 use Rattle.hol_formulas.specs.Equation.{bool_type}
@@ -205,15 +205,11 @@ readings_over cited made over qs own readings h e read is =
 one_read : (cited : Values) (q : QuotationText) (p : Nameless) → IsTermReadAs (lookups_of cited) q.term (ReadsAs p) → AreRead (lookups_of cited) (quoted.Term q ∷ []) (Ok ((q.place, ATerm p) ∷ []))
 one_read cited q p h = ((q.place, ReadsAs (ATerm p)) ∷ [], (refl, (ReadsAs p, h, refl), tt), refl)
 
-some_of : (o : Option TypeTree) → is_type_at o bool_type ≡ true → o ≡ Some bool_type
-some_of None e = absurd (cc)
-some_of (Some a) e = ap Some ((type_cmp_decides a bool_type).0 e)
-
 typed_at : (items : Items) (p : Nameless) → is_typed items p ≡ true → is_type_at (nameless_type [] p) bool_type ≡ true → HasType items p bool_type
 typed_at items p typed e = by (is_known items p) refl typed
   where
     by : (b : Bool) → is_known items p ≡ b → is_some (cond b (nameless_type [] p) None) ≡ true → HasType items p bool_type
-    by true k h = typed_known items p bool_type k (some_of (nameless_type [] p) e)
+    by true k h = typed_known items p bool_type k (of_bool (nameless_type [] p) e)
     by false k h = absurd (cc)
 
 -- a quotation of type bool is a statement over the basis of what it resolves

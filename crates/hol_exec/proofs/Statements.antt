@@ -14,7 +14,7 @@ use Rattle.hol_goal.specs.Goal.{GoalValue}
 use Rattle.hol_goal.specs.Achieves.{IsTyped}
 use Rattle.hol_exec.specs.Valid.{IsStatement}
 
-of_bool : (o : Option TypeTree) → is_type_at o bool_type ≡ true → o ≡ Some bool_type
+pub of_bool : (o : Option TypeTree) → is_type_at o bool_type ≡ true → o ≡ Some bool_type
 of_bool None e = absurd (cc)
 of_bool (Some a) e = ap Some ((type_cmp_decides a bool_type).0 e)
 

@@ -4,7 +4,7 @@ use Rattle.std.proofs.Common.{ap, sym, ◌∙◌, inl, inr}
 use Rattle.hol_notation_terms.specs.Text.{QuotationText}
 use Rattle.hol_notation_tactics.specs.Text.{TacText}
 use Rattle.hol_notation_commands.specs.Reading.{Reads, Breaks}
-use Rattle.hol_notation_commands.proofs.OneReading.{one-reading as one_command}
+use Rattle.hol_notation_commands.proofs.OneReading.{one_reading as one_command}
 use Rattle.hol_exec.specs.Setup.{SetupValue}
 use Rattle.hol_exec.specs.Parsed.{LocalText, Goal, Apply, Qed, Make, ParsedValue, Local, Direct, Unread, IsParsed, parsed}
 use Rattle.hol_resolve.specs.Lookups.{LookupsValue}

@@ -6,10 +6,11 @@ ghost use Rattle.hol_kernel.specs.Theorem.{theorem_over};
 ghost use Rattle.hol_exec.specs.ReadsValue.{ClosingValue, closing_of};
 
 use crate::proof::Proof;
-use crate::same::{Same, same_basis};
+use crate::same::Same;
 use hol_kernel::{Basis, Thm};
 use hol_stack::{Stack, StackError};
 use hol_terms::Term;
+use hol_theory::same_basis;
 use std::alloc::{AllocError, Global};
 use std::marker::Model;
 

@@ -18,7 +18,7 @@ use hol_notation_terms::Definition;
 use hol_resolve::{Lookups, Reading};
 use hol_subst::term_tyvars;
 use hol_terms::{Term, TermNode};
-use hol_types::Name;
+use hol_types::{Name, is_among};
 use std::alloc::{AllocError, Global};
 use std::cmp::Ordering;
 
@@ -107,16 +107,4 @@ fn first_outside(others: &[Name], names: &[Name]) -> Result<Option<Name>, AllocE
         }
     }
     Ok(None)
-}
-
-// Whether the name is one of the names.
-fn is_among(names: &[Name], name: &Name) -> bool
-    ensures { result ≡ is_among names.now name.now }
-{
-    for own in names {
-        if name.same(own) {
-            return true;
-        }
-    }
-    false
 }

@@ -12,7 +12,6 @@ mod direct_outcome;
 mod entry;
 mod expressions;
 mod formulas;
-mod goals;
 mod keys;
 mod laws;
 mod lookups;

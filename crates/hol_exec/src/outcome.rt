@@ -10,14 +10,13 @@ ghost use Rattle.hol_exec.specs.OutcomeView.{outcome_of};
 ghost use Rattle.hol_exec.specs.Valid.{IsStatement, IsLeft, IsValidChange};
 
 use crate::entry::copies;
-use crate::goals::step_copy;
 use crate::refusal::RefusalKind;
-use crate::same::{Same, same_basis, same_each};
+use crate::same::{Same, same_each};
 use hol_goal::Goal;
 use hol_just::Step;
 use hol_kernel::Basis;
 use hol_terms::Term;
-use hol_theory::Entries;
+use hol_theory::{Entries, same_basis};
 use std::alloc::{AllocError, Global};
 use std::marker::Model;
 
@@ -60,6 +59,7 @@ impl Model for Outcome {
 }
 
 impl Outcome {
+    /// The opening of a proof of this name and statement, on this basis.
     pub(crate) fn opens(name: String, statement: Term, basis: Basis) -> Outcome
         requires { IsStatement basis (nameless [] statement) }
         ensures { result ≡ Opens (string_bytes name) (nameless [] statement) basis }
@@ -69,6 +69,7 @@ impl Outcome {
         }
     }
 
+    /// The step that leaves these goals of the first one; the basis is that of all that was resolved.
     pub(crate) fn leaves(goal: Goal, step: Step, basis: Basis) -> Outcome
         requires { IsLeft basis step.just goal step.goals.items }
         ensures { result ≡ Leaves goal step.goals.items basis }
@@ -78,6 +79,7 @@ impl Outcome {
         }
     }
 
+    /// The making of these entries, if any.
     pub(crate) fn makes(entries: Entries) -> Outcome
         requires entries { EachIsEntry entries.items }
         requires keys { IsDistinct key_eq (keys_of entries.items) }
@@ -88,6 +90,7 @@ impl Outcome {
         }
     }
 
+    /// The drop of the newest element of the proof's history.
     pub(crate) fn undoes() -> Outcome
         ensures { result ≡ Undoes }
     {
@@ -96,6 +99,7 @@ impl Outcome {
         }
     }
 
+    /// The turn of the first goal to the end, so many times.
     pub(crate) fn rotates(times: usize) -> Outcome
         ensures { result ≡ Rotates times }
     {
@@ -104,6 +108,7 @@ impl Outcome {
         }
     }
 
+    /// The refusal of the command; the text is what it speaks of, or empty.
     pub(crate) fn refuses(kind: RefusalKind, arg: String) -> Outcome
         ensures { result ≡ Refuses kind (string_bytes arg) }
     {
@@ -112,6 +117,7 @@ impl Outcome {
         }
     }
 
+    /// What it does.
     pub(crate) fn change(&self) -> &Change
         ensures change { outcome_of result.now ≡ self.now }
         ensures valid { IsValidChange result.now }
@@ -211,6 +217,6 @@ fn leaving_copy(
     ensures { IfOk result (λ o. o ≡ Leaves goal.now step.now.goals.items basis.now) }
 {
     let goal = goal.copy(alloc)?;
-    let step = step_copy(alloc, step)?;
+    let step = step.copy(alloc)?;
     Ok(Outcome::leaves(goal, step, basis.copy()?))
 }

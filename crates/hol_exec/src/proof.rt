@@ -6,7 +6,6 @@ ghost use Rattle.hol_formulas.specs.Equation.{bool_type};
 ghost use Rattle.hol_exec.specs.OutcomeValue.{opened, stepped, without_newest, rotated};
 ghost use Rattle.hol_exec.specs.Valid.{IsStatement, CanStep};
 
-use crate::goals::step_copy;
 use hol_goal::Goal;
 use hol_just::Step;
 use hol_kernel::Basis;
@@ -86,7 +85,7 @@ impl Proof {
         ensures ok { OnOk result (self.new ≡ stepped step.now.goals.items basis.now self.old) }
         ensures err { OnErr result (self.new ≡ self.old) }
     {
-        let Step { goals, just } = step_copy(alloc, step)?;
+        let Step { goals, just } = step.copy(alloc)?;
         self.stack.apply(alloc, goals, just, basis)
     }
 

@@ -163,7 +163,6 @@ impl Reads {
     }
 
     /// Whether both are the same: terms with their base names, and theorems with their bases.
-    #[tactic(auto, using(crate::proofs::Comparing::test_is))]
     pub fn same(&self, other: &Reads) -> bool
         ensures equal { IsTrue result ↔ (self.now ≡ other.now) }
         ensures test { result ≡ same_reads self.now other.now }

@@ -2,7 +2,7 @@
 ghost use Rattle.std.specs.Prelude.{◌≡◌, ◌↔◌, IsTrue, map, []};
 ghost use Rattle.hol_terms.specs.Nameless.{nameless};
 
-use hol_kernel::{Basis, Item};
+use hol_goal::Goal;
 use hol_terms::Term;
 use hol_theory::{Key, Value};
 
@@ -28,8 +28,8 @@ pub(crate) fn same_each<T: Same>(left: &[T], right: &[T]) -> bool
     true
 }
 
-/// Whether the terms are the same, one by one.
-pub(crate) fn same_terms(left: &[Term], right: &[Term]) -> bool
+// Whether the terms are the same, one by one.
+fn same_terms(left: &[Term], right: &[Term]) -> bool
     ensures { IsTrue result ↔ (map (nameless []) left.now ≡ map (nameless []) right.now) }
 {
     if left.len() != right.len() {
@@ -43,18 +43,11 @@ pub(crate) fn same_terms(left: &[Term], right: &[Term]) -> bool
     true
 }
 
-impl Same for Item {
-    fn same_as(&self, other: &Item) -> bool {
-        self.same(other)
+impl Same for Goal {
+    fn same_as(&self, other: &Goal) -> bool {
+        same_terms(self.assumptions(), other.assumptions())
+            && self.conclusion().same(other.conclusion())
     }
-}
-
-/// Whether the bases have the same items.
-#[tactic(auto, using(crate::proofs::Comparing::same_bases))]
-pub(crate) fn same_basis(left: &Basis, right: &Basis) -> bool
-    ensures { IsTrue result ↔ (left.now ≡ right.now) }
-{
-    same_each(left.items(), right.items())
 }
 
 impl Same for Value {

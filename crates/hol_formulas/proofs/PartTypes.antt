@@ -1,9 +1,9 @@
 -- The types of the parts of the prelude's statements.
-use Rattle.std.specs.Prelude.{◌≡◌, ℕ, List, Some, None, refl}
+use Rattle.std.specs.Prelude.{◌≡◌, Some, None, refl}
 use Rattle.std.proofs.Common.{sym, ◌∙◌}
 use Rattle.hol_types.specs.Tree.{TypeTree}
 use Rattle.hol_types.specs.Fun.{fun_type}
-use Rattle.hol_terms.specs.Named.{Named, comb, abs, named_type}
+use Rattle.hol_terms.specs.Named.{Named, comb, named_type}
 use Rattle.hol_formulas.specs.Equation.{bool_type}
 use Rattle.hol_formulas.specs.Prelude.{postulated}
 use Rattle.hol_formulas.specs.declared.postulate.Postulate.{Postulate}
@@ -18,9 +18,6 @@ pub applies : (f x : Named) (a b : TypeTree) → named_type f ≡ Some (fun_type
 applies f x a b e g n = let absurdity : Some b ≡ None = sym (applied_typed f x a b e g) ∙ n in absurd (cc)
 
 pub ruleset applications = (applied_typed, applies)
-
-pub abs_typed : (v : List ℕ × TypeTree) (b : Named) (a : TypeTree) → named_type b ≡ Some a → named_type (abs v b) ≡ Some (fun_type v.1 a)
-abs_typed v b a e = rw (e) refl
 
 -- each statement is of type bool
 pub postulated_typed : (which : Postulate) → named_type (postulated which) ≡ Some bool_type

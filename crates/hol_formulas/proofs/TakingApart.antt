@@ -8,6 +8,7 @@ use Rattle.hol_types.specs.Equal.{type_eq}
 use Rattle.hol_types.specs.Fun.{fun_type, fun_parts}
 use Rattle.hol_terms.specs.Named.{Named, var, constant, comb, abs, named_type, applied_type}
 use Rattle.hol_terms.specs.Nameless.{Nameless, fixed, app, nameless}
+use Rattle.hol_terms.proofs.Typing.{applied_is}
 use Rattle.hol_formulas.specs.Equation.{bool_type, equality_type, Sides, sides_at, dest_eq}
 use Rattle.hol_formulas.specs.Formula.{connective_type, negation_type, quantifier_type, is_constant}
 use Rattle.hol_formulas.proofs.EquationTypes.{type_eq_itself}
@@ -17,17 +18,6 @@ use Rattle.hol_formulas.proofs.TypeTests.{same_type, fun_parts_is, parts_test}
 
 some_same : (s t : TypeTree) → Some s ≡ Some t → s ≡ t
 some_same s t e = cc
-
-applied_is : (s t b : TypeTree) → applied_type s t ≡ Some b → s ≡ fun_type t b
-applied_is s t b e = by (fun_parts s) refl e
-  where
-    fits : (p : TypeTree × TypeTree) (k : Bool) → fun_parts s ≡ Some p → type_eq p.0 t ≡ k → cond k (Some p.1) None ≡ Some b → s ≡ fun_type t b
-    fits p true f g h = let r : p.1 ≡ b = cc in fun_parts_is s p f ∙ (λ i. fun_type (same_type p.0 t g i) (r i))
-    fits p false f g h = absurd (cc)
-
-    by : (o : Option (TypeTree × TypeTree)) → fun_parts s ≡ o → option_and_then (λ p. cond (type_eq p.0 t) (Some p.1) None) o ≡ Some b → s ≡ fun_type t b
-    by None f g = absurd (cc)
-    by (Some p) f g = fits p (type_eq p.0 t) f refl g
 
 -- What a well typed application says of its parts.
 pub record IsApplied (f x : Named) (b : TypeTree) : Type 0 where

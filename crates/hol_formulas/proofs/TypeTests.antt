@@ -3,7 +3,7 @@ use Rattle.std.specs.Prelude.{◌≡◌, ℕ, Bool, true, false, cond, ◌&&◌,
 use Rattle.std.specs.Bool.{one_answer}
 use Rattle.std.specs.Ordering.{ordering_then, is_eq}
 use Rattle.std.specs.declared.cmp.Ordering.{Ordering}
-use Rattle.std.specs.declared.cmp.Ordering.TheVariants.{Less, Equal, Greater}
+use Rattle.std.specs.declared.cmp.Ordering.TheVariants.{Equal}
 use Rattle.std.specs.Cmp.{Equal-is}
 use borrow.Author.Tests.{eqb-true}
 use Rattle.std.proofs.Common.{ap, sym, ◌∙◌, arith}
@@ -12,7 +12,7 @@ use Rattle.hol_types.specs.Tree.{TypeTree, TypeList, TyVar, TyApp, no_types, mor
 use Rattle.hol_types.specs.Equal.{type_eq}
 use Rattle.hol_types.specs.Order.{name_cmp, type_cmp, types_cmp}
 use Rattle.hol_types.specs.Fun.{fun_type, fun_parts, both_of}
-use Rattle.hol_types.proofs.OrderLaws.{type_cmp_decides, name_equal, name_same}
+use Rattle.hol_types.proofs.OrderLaws.{type_cmp_decides, name_equal, name_same, then_equal_right, is_eq_then}
 use Rattle.hol_formulas.specs.Equation.{bool_type}
 
 pub same_type : (s t : TypeTree) → type_eq s t ≡ true → s ≡ t
@@ -35,11 +35,7 @@ fun_parts_is (TyApp c ts) p e = by (bytes_eq c (codes "fun")) refl e
     by false f g = absurd (cc)
 
 then_test : (r s : Ordering) → is_eq (ordering_then r (ordering_then s Equal)) ≡ (is_eq r && is_eq s)
-then_test Less s = refl
-then_test Equal Less = refl
-then_test Equal Equal = refl
-then_test Equal Greater = refl
-then_test Greater s = refl
+then_test r s = ap (λ o. is_eq (ordering_then r o)) (then_equal_right s) ∙ is_eq_then r s
 
 fun_types_test : (a b d r : TypeTree) → type_eq (fun_type a b) (fun_type d r) ≡ (type_eq a d && type_eq b r)
 fun_types_test a b d r = then_test (type_cmp a d) (type_cmp b r)
@@ -69,11 +65,6 @@ no_arguments (t ∷ ts) = by (length (t ∷ ts) == 0) refl
     by true e = absurd (omega (arith, eqb-true (length (t ∷ ts)) 0 e))
     by false e = refl
 
-then_is : (r s : Ordering) → is_eq (ordering_then r s) ≡ (is_eq r && is_eq s)
-then_is Less s = refl
-then_is Equal s = refl
-then_is Greater s = refl
-
 name_test : (a b : List ℕ) → is_eq (name_cmp a b) ≡ bytes_eq a b
 name_test a b =
     one_answer (is_eq (name_cmp a b)) (bytes_eq a b)
@@ -81,7 +72,7 @@ name_test a b =
 
 pub bool_test_app : (c : List ℕ) (ts : List TypeTree) → type_eq (TyApp c (type_list ts)) bool_type ≡ (bytes_eq c (codes "bool") && (length ts == 0))
 bool_test_app c ts =
-    then_is (name_cmp c (codes "bool")) (types_cmp (type_list ts) no_types)
+    is_eq_then (name_cmp c (codes "bool")) (types_cmp (type_list ts) no_types)
     ∙ (λ i. name_test c (codes "bool") i && no_arguments ts i)
 
 pub ruleset bool_types = (bool_test_var, bool_test_app)

@@ -1,6 +1,7 @@
 -- The types and constants of the prelude, and what is an instance of a generic type.
 use Rattle.std.specs.Prelude.{ℕ, Bool, false, cond, ◌&&◌, ◌==◌, List, [], ◌∷◌, bytes_eq, codes, Option, Some, None, is_some}
 use Rattle.hol_types.specs.Tree.{TypeTree, TyVar}
+use Rattle.hol_types.specs.Basic.{basic_constructors}
 use Rattle.hol_types.specs.Fun.{fun_type}
 use Rattle.hol_types.specs.Match.{match_type}
 use Rattle.hol_formulas.specs.Equation.{bool_type, equality_type}
@@ -8,8 +9,9 @@ use Rattle.hol_formulas.specs.Formula.{negation_type, connective_type, quantifie
 
 -- ---- the prelude
 
+-- each type constructor of the prelude with its arity
 abbrev pub prelude_types : List (List ℕ × ℕ)
-prelude_types = (codes "bool", 0) ∷ (codes "fun", 2) ∷ (codes "ind", 0) ∷ []
+prelude_types = basic_constructors
 
 abbrev pub var_a : TypeTree
 var_a = TyVar (codes "A")

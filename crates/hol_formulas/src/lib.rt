@@ -32,9 +32,11 @@ pub use names::{has_axiom_name, has_constant_name, has_type_name};
 pub use postulate::Postulate;
 pub use prelude::{has_constant, has_type, instances_are_substitutions, is_instance};
 pub use quantifiers::{dest_exists, dest_forall, is_exists, is_forall, mk_exists, mk_forall};
+pub use sort::function_type;
 pub use standing::{prelude_constants, prelude_types};
 pub use statements::statement;
 pub use terms::{constant, occurrence, variable};
 pub use types::{
     bool_type, connective_type, equality_type, is_bool, negation_type, quantifier_type,
+    type_variable,
 };

@@ -10,19 +10,14 @@ use crate::sort::function_type;
 use crate::types::{
     bool_type, is_bool, is_connective_type, is_negation_type, quantifier_type, type_variable,
 };
-use hol_types::{Name, Ty};
+use hol_types::{Name, Ty, is_basic_constructor};
 use std::alloc::{AllocError, Global};
 
 /// Whether the prelude has the type constructor at this arity.
 pub fn has_type(constructor: &Name, arity: usize) -> bool
     ensures { result ≡ list_any (is_constructor constructor.now arity) prelude_types }
 {
-    match constructor.as_str() {
-        "bool" => arity == 0,
-        "fun" => arity == 2,
-        "ind" => arity == 0,
-        _ => false,
-    }
+    is_basic_constructor(constructor, arity)
 }
 
 /// `(A->bool)->bool`.

@@ -62,7 +62,7 @@ pub fn is_exists(term: &Term) -> bool
 }
 
 // The property of the variable that the term says.
-#[tactic(auto, using(crate::proofs::PartTypes::abs_typed))]
+#[tactic(auto, using(hol_terms::proofs::Typing::abs_type))]
 fn property_of(alloc: Global, v: &Variable, p: &Term) -> Result<Term, AllocError>
     requires body { named_type p.now ≡ Some bool_type }
     ensures is { IfOk result (λ t. t ≡ abs v.now p.now) }

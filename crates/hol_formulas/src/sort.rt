@@ -25,7 +25,7 @@ pub(crate) enum Sort {
     Element,
     /// `B`.
     Value,
-    /// `A->B`.
+    /// `A->B`, the type of functions at its most general.
     Function,
     /// `A->bool`.
     Property,
@@ -70,8 +70,8 @@ fn predicate(alloc: Global, domain: &Ty) -> Result<Ty, AllocError>
     Ty::fun(alloc, domain, &truth)
 }
 
-/// `A->B`.
-pub(crate) fn function_type(alloc: Global) -> Result<Ty, AllocError>
+/// `A->B`, the type of functions at its most general.
+pub fn function_type(alloc: Global) -> Result<Ty, AllocError>
     ensures { IfOk result (λ ty. ty ≡ fun_type var_a var_b) }
 {
     let a = type_variable(alloc, "A")?;

@@ -29,7 +29,7 @@ pub fn is_bool(ty: &Ty) -> bool
 }
 
 /// The type variable of this name.
-pub(crate) fn type_variable(alloc: Global, name: &str) -> Result<Ty, AllocError>
+pub fn type_variable(alloc: Global, name: &str) -> Result<Ty, AllocError>
     ensures { IfOk result (λ ty. ty ≡ TyVar name.now) }
 {
     let name = Name::new(alloc, name)?;

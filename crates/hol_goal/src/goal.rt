@@ -1,12 +1,13 @@
 //! Goals: assumptions and a conclusion.
-ghost use Rattle.std.specs.Prelude.{◌≡◌, ◌∷◌, ◌++◌, IfOk, OnOk, Some, map, min, []};
+ghost use Rattle.std.specs.Prelude.{◌≡◌, ◌+◌, IfOk, Some, map, min, []};
 ghost use Rattle.hol_terms.specs.Named.{named_type};
 ghost use Rattle.hol_terms.specs.Nameless.{nameless};
+ghost use Rattle.hol_terms.specs.Size.{term_size};
 ghost use Rattle.hol_formulas.specs.Equation.{bool_type};
-ghost use Rattle.hol_goal.specs.Goal.{goal_of, goal_size};
+ghost use Rattle.hol_goal.specs.Goal.{goal_of, goal_size, terms_size};
 ghost use Rattle.hol_goal.specs.Formulas.{AreFormulas};
 
-use hol_terms::Term;
+use hol_terms::{Term, copies};
 use std::alloc::{AllocError, Global};
 use std::marker::Model;
 
@@ -41,7 +42,7 @@ impl Goal {
         requires conclusion { named_type conclusion ≡ Some bool_type }
         ensures { result ≡ goal_of assumptions.items conclusion }
     {
-        let size = size_of(&assumptions, &conclusion);
+        let size = total_size(&assumptions, &conclusion);
         Goal {
             assumptions,
             conclusion,
@@ -96,27 +97,16 @@ impl Goal {
     }
 }
 
-// Copies of the terms.
-fn copies(alloc: Global, terms: &[Term]) -> Result<Vec<Term>, AllocError>
-    ensures { IfOk result (λ copied. copied.items ≡ terms.now) }
-{
-    let mut copied = Vec::with_capacity(alloc, terms.len())?;
-    for term in terms {
-        copied.push(term.copy()?)?;
-    }
-    Ok(copied)
-}
-
 // The most that a size says.
 const LARGEST_SIZE: u32 = 20_001;
 
-// The size of all the terms, or 20,001 for more.
-fn size_of(assumptions: &[Term], conclusion: &Term) -> u32
-    ensures { result ≡ min (goal_size (goal_of assumptions.now conclusion.now)) 20001 }
+/// The size of the terms and of a last one, or 20,001 for more.
+pub fn total_size(terms: &[Term], last: &Term) -> u32
+    ensures { result ≡ min (term_size [] (nameless [] last.now) + terms_size (map (nameless []) terms.now)) 20001 }
 {
-    let mut size = conclusion.size();
-    for assumption in assumptions {
-        size = (size + assumption.size()).min(LARGEST_SIZE);
+    let mut size = last.size();
+    for term in terms {
+        size = (size + term.size()).min(LARGEST_SIZE);
     }
     size
 }

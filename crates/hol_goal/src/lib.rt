@@ -4,9 +4,11 @@
 #![tactic(auto)]
 
 mod goal;
+mod lists;
 mod tac_args;
 mod tac_code;
 
-pub use goal::Goal;
+pub use goal::{Goal, total_size};
+pub use lists::{add_copies, copies};
 pub use tac_args::{ArgumentKind, TacArgs};
 pub use tac_code::TacCode;

@@ -1,9 +1,12 @@
 -- Instances of a type whose parts have the slots of some variables in common.
-use Rattle.std.proofs.Common.{◌≡◌, ℕ, ◌+◌, ◌<◌, ◌≤◌, List, [], ◌∷◌, ◌++◌, length, map, get_or, take, refl, sym, ◌∙◌, ap, subst, arith, Bool, true, false, cond, bytes_eq, length-append, Option, Some, None}
+use Rattle.std.proofs.Common.{◌≡◌, ℕ, ◌+◌, ◌<◌, ◌≤◌, List, [], ◌∷◌, ◌++◌, length, map, get_or, take, refl, sym, ◌∙◌, ap, subst, arith, Bool, true, false, bytes_eq, length-append, Option}
 use Rattle.std.specs.Prelude.{◌↔◌, unwrap_or}
 use Rattle.std.proofs.lemmas.List.{append_assoc, append-nil, map-append, take_more, take_all}
 use Rattle.std.proofs.lemmas.List.Elements.{All-nil, All-push}
 use Rattle.std.proofs.lemmas.List.Sums.{sum_by-append, sum_by-cons}
+use Rattle.std.proofs.lemmas.Bool.{or_parts}
+use Rattle.hol_types.proofs.Lookups.{type_first, type_second}
+use Rattle.hol_types.proofs.Steps.{subst_list}
 use Rattle.hol_types.specs.Tree.{TypeTree, TyVar, TyApp, type_list, type_size, types_size}
 use Rattle.hol_types.specs.Names.{is_among, type_names, types_names}
 use Rattle.hol_types.specs.Subst.{type_subst, types_subst, type_lookup, type_for}
@@ -15,31 +18,14 @@ use Rattle.hol_infer.specs.Graph.{pairs_from, part_pairs, bound_names, IsBoundIn
 use Rattle.hol_infer.specs.Generate.{Solves, slots, IsWellFormed, Agree, IsFresh, AddsUnknown, IsPlace, HasNoPlace}
 use Rattle.hol_infer.specs.Linear.{ArePairwiseApartBut}
 use Rattle.hol_infer.specs.Expanding.{BuildsBound, AreBoundInstances, BuildsAllBound, BuildsInstance}
-use Rattle.hol_infer.proofs.Growing.{map_agree, pairs_agree, solves_agree}
-use Rattle.hol_infer.proofs.Extending.{agree_trans, agree_refl, extend_fresh, env_more, subst_list}
+use Rattle.hol_infer.proofs.Growing.{map_agree, pairs_agree, solves_agree, app_ap}
+use Rattle.hol_infer.proofs.Extending.{agree_trans, agree_refl, extend_fresh, env_more, append_same, one_same}
 use Rattle.hol_infer.proofs.Instances.{turned, subst_same, substs_same, put_from, put_from_agree, put_from_at, named_types}
-use Rattle.hol_infer.proofs.Linear.{both_false}
 use Rattle.hol_infer.proofs.Numbers.{among_after}
 use Rattle.hol_infer.proofs.Opening.{variable_for, weights_none}
-use Rattle.hol_infer.proofs.Splitting.{restricted, restricted_in, restricted_out, not_both, more_same, sizes_push, append_same, one_same, app_ap}
+use Rattle.hol_infer.proofs.Splitting.{restricted, restricted_in, restricted_out, not_both, more_same, sizes_push}
 
 -- ---- what stands for a variable
-
-lookup_front : (ps qs : List (TypeTree × List ℕ)) (a : List ℕ) (t : TypeTree) → type_lookup ps a ≡ Some t → type_lookup (ps ++ qs) a ≡ Some t
-lookup_front [] qs a t e = absurd (cc)
-lookup_front (p ∷ ps) qs a t e = by (bytes_eq p.1 a) e (lookup_front ps qs a t)
-  where
-    by : (b : Bool) → cond b (Some p.0) (type_lookup ps a) ≡ Some t → (type_lookup ps a ≡ Some t → type_lookup (ps ++ qs) a ≡ Some t) → cond b (Some p.0) (type_lookup (ps ++ qs) a) ≡ Some t
-    by true f r = f
-    by false f r = r f
-
-lookup_back : (ps qs : List (TypeTree × List ℕ)) (a : List ℕ) → type_lookup ps a ≡ None → type_lookup (ps ++ qs) a ≡ type_lookup qs a
-lookup_back [] qs a e = refl
-lookup_back (p ∷ ps) qs a e = by (bytes_eq p.1 a) e (lookup_back ps qs a)
-  where
-    by : (b : Bool) → cond b (Some p.0) (type_lookup ps a) ≡ None → (type_lookup ps a ≡ None → type_lookup (ps ++ qs) a ≡ type_lookup qs a) → cond b (Some p.0) (type_lookup (ps ++ qs) a) ≡ type_lookup qs a
-    by true f r = absurd (cc)
-    by false f r = r f
 
 abbrev looked : List ℕ → Option TypeTree → TypeTree
 looked a o = unwrap_or o (TyVar a)
@@ -57,7 +43,7 @@ env_in types base (b ∷ names) σ τ a h = by (bytes_eq b a) refl (env_in types
 env_out : (types : ℕ → TypeTree) (base : ℕ) (names : List (List ℕ)) (σ : List (TypeTree × List ℕ)) (a : List ℕ) → is_among names a ≡ false → type_lookup (pairs_from types base names ++ σ) a ≡ type_lookup σ a
 env_out types base [] σ a h = refl
 env_out types base (b ∷ names) σ a h =
-    let both = both_false (bytes_eq a b) (is_among names a) h in
+    let both = or_parts (bytes_eq a b) (is_among names a) h in
     let other : bytes_eq b a ≡ false = turned b a both.0 in
     rw other (env_out types (base + 1) names σ a both.1)
 
@@ -85,7 +71,7 @@ bound_place g names base at a w le place = record {
 }
   where
     known : (types : ℕ → TypeTree) (pairs : List (TypeTree × List ℕ)) → type_subst (pairs_from types base names ++ pairs) (TyVar a) ≡ types (base + at)
-    known types pairs = ap (looked a) (lookup_front (pairs_from types base names) pairs a (types (base + at)) (place.gives types base))
+    known types pairs = ap (looked a) (type_first (pairs_from types base names) pairs a (types (base + at)) (place.gives types base))
 
 pub bound_free : (g h : Graph) (names : List (List ℕ)) (base slot : ℕ) (a : List ℕ) → IsWellFormed g → HasNoPlace names a → IsFresh g h slot Unknown → BuildsBound g h names base slot (TyVar a)
 bound_free g h names base slot a w none fresh = record {
@@ -104,7 +90,7 @@ bound_free g h names base slot a w none fresh = record {
 }
   where
     given : (types : ℕ → TypeTree) (t : TypeTree) → type_subst (pairs_from types base names ++ (t, a) ∷ []) (TyVar a) ≡ t
-    given types t = ap (looked a) (lookup_back (pairs_from types base names) ((t, a) ∷ []) a (none.gives types base)) ∙ variable_for t a
+    given types t = ap (looked a) (type_second (pairs_from types base names) ((t, a) ∷ []) a (none.gives types base)) ∙ variable_for t a
 
 part_slot : (g h : Graph) (slot : ℕ) (part : GenericPart) → IsWellFormed g → IsPartIn (slots g) part → IsFresh g h slot (Part part) → BuildsBound g h (bound_names part) part.base slot part.ty
 part_slot g h slot part w in' fresh = record {

@@ -4,9 +4,9 @@ use Rattle.std.specs.Prelude.{◌↔◌}
 use Rattle.std.specs.List.{All}
 use Rattle.std.proofs.lemmas.Bool.{eq-eqb, ne_eqb}
 use Rattle.std.proofs.lemmas.List.Elements.{All-weaker, All-nil, All-push, All-append}
-use Rattle.hol_types.specs.Tree.{TypeTree, TyVar, TyApp, more_types, type_list}
+use Rattle.hol_types.specs.Tree.{TypeTree, TyVar, TyApp, type_list}
 use Rattle.hol_types.specs.Fun.{fun_type}
-use Rattle.hol_types.specs.Subst.{type_subst, types_subst, type_lookup}
+use Rattle.hol_types.specs.Subst.{type_subst, type_lookup}
 use Rattle.hol_terms.specs.Nameless.{Nameless, free, fixed, app, lam, base_of}
 use Rattle.hol_infer.specs.Raw.{RawTree}
 use Rattle.hol_infer.specs.Typing.{IsTyping, IsOpen}
@@ -16,8 +16,9 @@ use Rattle.hol_infer.specs.declared.cell.Cell.TheVariants.{Unknown, Link, Rigid,
 use Rattle.hol_infer.specs.declared.generate.Graph.{Graph}
 use Rattle.hol_infer.specs.Graph.{pairs_from, bound_names, CellHolds, IsExpandedCell}
 use Rattle.hol_infer.specs.Generate.{Solves, slots, IsWellFormed, Agree, IsNewCell, IsFresh, IsFunction, BuildsType, BuildsTypes, IsPlace, HasNoPlace, Grows}
-use Rattle.hol_infer.proofs.Growing.{solves_agree, map_agree, bound_agree}
+use Rattle.hol_infer.proofs.Growing.{solves_agree, map_agree, bound_agree, app_ap}
 use Rattle.std.proofs.lemmas.List.{map-append, append-nil, append_assoc}
+use Rattle.hol_types.proofs.Steps.{subst_list}
 
 pub agree_trans : (n m : ℕ) (a b c : ℕ → TypeTree) → n ≤ m → Agree n a b → Agree m b c → Agree n a c
 agree_trans n m a b c le p q = record { agree = λ i lt. p.agree i lt ∙ q.agree i (omega arith) }
@@ -25,10 +26,10 @@ agree_trans n m a b c le p q = record { agree = λ i lt. p.agree i lt ∙ q.agre
 pub agree_refl : (n : ℕ) (a : ℕ → TypeTree) → Agree n a a
 agree_refl n a = record { agree = λ i lt. refl }
 
-app_same : (u u' v v' : Nameless) → u ≡ u' → v ≡ v' → app u v ≡ app u' v'
+pub app_same : (u u' v v' : Nameless) → u ≡ u' → v ≡ v' → app u v ≡ app u' v'
 app_same u u' v v' p q = cc
 
-lam_same : (a : List ℕ) (s s' : TypeTree) (b b' : Nameless) → s ≡ s' → b ≡ b' → lam a s b ≡ lam a s' b'
+pub lam_same : (a : List ℕ) (s s' : TypeTree) (b b' : Nameless) → s ≡ s' → b ≡ b' → lam a s b ≡ lam a s' b'
 lam_same a s s' b b' p q = cc
 
 pub term_agree : (n : ℕ) (types types' : ℕ → TypeTree) (term : SlotTree) → Agree n types types' → AreSlotsIn n term → typed types term ≡ typed types' term
@@ -62,9 +63,6 @@ put_agree types n t = record { agree = λ i lt. (let ne : i ≢ n = omega arith 
 pub put_same : (types : ℕ → TypeTree) (n : ℕ) (t : TypeTree) → put types n t n ≡ t
 put_same types n t = rw (eq-eqb n n refl) refl
 
-app_ap : (c : List ℕ) (ss ts : List TypeTree) → ss ≡ ts → TyApp c (type_list ss) ≡ TyApp c (type_list ts)
-app_ap c ss ts e = cc
-
 parts_agree : (n : ℕ) (types types' : ℕ → TypeTree) (c : List ℕ) (parts : List ℕ) (t : TypeTree) → map types parts ≡ map types' parts → t ≡ TyApp c (type_list (map types parts)) → t ≡ TyApp c (type_list (map types' parts))
 parts_agree n types types' c parts t e h = h ∙ app_ap c (map types parts) (map types' parts) e
 
@@ -86,7 +84,7 @@ extend_fresh g h slot cell w in' fresh type_of types t s holds =
     let same : types' slot ≡ t = ap types' fresh.slot_is ∙ put_same types (slots g) t in
     (types', a, (fresh.solves type_of types').1 (solves_agree g type_of types types' w a s, subst (λ (u : TypeTree). CellHolds types' u cell) (sym same) (cell_holds_new (slots g) types types' t cell a in' holds)), same)
 
-fun_same : (s s' t t' : TypeTree) → s ≡ s' → t ≡ t' → fun_type s t ≡ fun_type s' t'
+pub fun_same : (s s' t t' : TypeTree) → s ≡ s' → t ≡ t' → fun_type s t ≡ fun_type s' t'
 fun_same s s' t t' p q = cc
 
 pub extend_function : (g h : Graph) (slot d r : ℕ) → IsWellFormed g → d < slots g → r < slots g → IsFunction g h slot d r →
@@ -122,10 +120,10 @@ grows_trans f g h v w = record {
 
 -- ---- the slots of a type
 
-lookup_for : (pairs : List (TypeTree × List ℕ)) (a : List ℕ) (t : TypeTree) → type_lookup pairs a ≡ Some t → type_subst pairs (TyVar a) ≡ t
+pub lookup_for : (pairs : List (TypeTree × List ℕ)) (a : List ℕ) (t : TypeTree) → type_lookup pairs a ≡ Some t → type_subst pairs (TyVar a) ≡ t
 lookup_for pairs a t e = rw e refl
 
-lookup_none : (pairs : List (TypeTree × List ℕ)) (a : List ℕ) → type_lookup pairs a ≡ None → type_subst pairs (TyVar a) ≡ TyVar a
+pub lookup_none : (pairs : List (TypeTree × List ℕ)) (a : List ℕ) → type_lookup pairs a ≡ None → type_subst pairs (TyVar a) ≡ TyVar a
 lookup_none pairs a e = rw e refl
 
 -- a type variable that is one of the names, and one that is not
@@ -163,10 +161,10 @@ builds_types_none g names base w = record {
   complete = λ type_of types s. (types, agree_refl (slots g) types, s);
 }
 
-append_same : (xs xs' ys ys' : List TypeTree) → xs ≡ xs' → ys ≡ ys' → xs ++ ys ≡ xs' ++ ys'
+pub append_same : (xs xs' ys ys' : List TypeTree) → xs ≡ xs' → ys ≡ ys' → xs ++ ys ≡ xs' ++ ys'
 append_same xs xs' ys ys' p q = cc
 
-one_same : (s t : TypeTree) → s ≡ t → s ∷ [] ≡ t ∷ []
+pub one_same : (s t : TypeTree) → s ≡ t → s ∷ [] ≡ t ∷ []
 one_same s t p = cc
 
 pub builds_types_more : (g g1 h : Graph) (names : List (List ℕ)) (base : ℕ) (parts : List ℕ) (tys : List TypeTree) (slot : ℕ) (ty : TypeTree) → BuildsTypes g g1 names base parts tys → BuildsType g1 h names base slot ty → BuildsTypes g h names base (parts ++ slot ∷ []) (tys ++ ty ∷ [])
@@ -191,10 +189,6 @@ builds_types_more g g1 h names base parts tys slot ty b c = record {
       let m = b.more in
       (y.0, agree_trans (slots g) (slots g1) types x.0 y.0 m x.1 y.1, y.2);
 }
-
-pub subst_list : (pairs : List (TypeTree × List ℕ)) (ts : List TypeTree) → type_list (map (type_subst pairs) ts) ≡ types_subst pairs (type_list ts)
-subst_list pairs [] = refl
-subst_list pairs (t ∷ ts) = ap (more_types (type_subst pairs t)) (subst_list pairs ts)
 
 pub builds_type_app : (g g1 h : Graph) (names : List (List ℕ)) (base slot : ℕ) (c : List ℕ) (cell : Cell) (parts : List ℕ) (tys : List TypeTree) →
     ((types : ℕ → TypeTree) (t : TypeTree) → CellHolds types t cell ↔ (t ≡ TyApp c (type_list (map types parts)))) → IsNewCell (slots g1) cell → IsExpandedCell cell →

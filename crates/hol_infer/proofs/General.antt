@@ -2,7 +2,7 @@
 use Rattle.std.proofs.Common.{◌≡◌, ℕ, [], List, length, refl, ◌∙◌, ap, arith, Option, Some, None}
 use Rattle.std.proofs.lemmas.List.Elements.{All-nil}
 use Rattle.hol_types.specs.Tree.{TypeTree, TyVar}
-use Rattle.hol_terms.specs.Nameless.{Nameless, free, fixed, app, lam, base_of}
+use Rattle.hol_terms.specs.Nameless.{free, fixed, base_of}
 use Rattle.hol_infer.specs.Raw.{RawTree}
 use Rattle.hol_infer.specs.Typing.{HasNoTyping}
 use Rattle.hol_infer.specs.Shape.{ShapeTree}
@@ -14,7 +14,7 @@ use Rattle.hol_infer.specs.Generate.{Solves, slots, slot_of, IsFresh, Generates}
 use Rattle.hol_infer.specs.Expanding.{Refines}
 use Rattle.hol_infer.specs.Found.{types_at, AreGeneral}
 use Rattle.hol_infer.specs.Solved.{IsGraphOf, IsSolvedBy, IsGeneralTyping}
-use Rattle.hol_infer.proofs.Extending.{agree_trans, term_agree, are_slots_in_more}
+use Rattle.hol_infer.proofs.Extending.{agree_trans, term_agree, are_slots_in_more, app_same, lam_same}
 
 -- ---- the graph of a whole term
 
@@ -82,12 +82,6 @@ pub unsolved : (g h : Graph) → Refines g h → ((types : ℕ → TypeTree) →
 unsolved g h refines none = unsettled g h refines (λ types s. none types s.respects)
 
 -- ---- typings
-
-app_same : (u u' v v' : Nameless) → u ≡ u' → v ≡ v' → app u v ≡ app u' v'
-app_same u u' v v' p q = cc
-
-lam_same : (x : List ℕ) (a a' : TypeTree) (b b' : Nameless) → a ≡ a' → b ≡ b' → lam x a b ≡ lam x a' b'
-lam_same x a a' b b' p q = cc
 
 pub typed_same : (types types' : ℕ → TypeTree) (term : SlotTree) → ((i : ℕ) → types i ≡ types' i) → typed types term ≡ typed types' term
 typed_same types types' (SlotBound i) h = refl

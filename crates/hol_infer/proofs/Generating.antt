@@ -3,6 +3,7 @@ use Rattle.std.proofs.Common.{◌≡◌, ℕ, zero, suc, ◌<◌, List, [], ◌�
 use Rattle.std.specs.List.{All}
 use Rattle.hol_types.specs.Tree.{TypeTree}
 use Rattle.hol_types.specs.Fun.{fun_type}
+use Rattle.hol_types.proofs.SubstLaws.{subst_none}
 use Rattle.hol_terms.specs.Nameless.{Nameless, free, bound, fixed, app, lam, base_of}
 use Rattle.hol_infer.specs.Raw.{RawTree, RawBound, RawConstant, RawFree, RawApply, RawAbstraction, RawAnnotated}
 use Rattle.hol_infer.specs.Typing.{IsTyping}
@@ -11,11 +12,7 @@ use Rattle.hol_infer.specs.declared.cell.Cell.TheVariants.{Unknown}
 use Rattle.hol_infer.specs.declared.generate.Graph.{Graph}
 use Rattle.hol_infer.specs.Generate.{Solves, slots, IsWellFormed, Agree, IsFresh, IsFunction, IsEquated, BuildsType, Instantiates, FindsName, BuildsVariable, Generates}
 use Rattle.hol_infer.proofs.Growing.{map_agree}
-use Rattle.hol_infer.proofs.Extending.{agree_refl, agree_trans, term_agree, are_slots_in_more, typing_at, extend_fresh, extend_function}
-use Rattle.hol_infer.proofs.Instances.{rigid_subst}
-
-app_same : (u u' v v' : Nameless) → u ≡ u' → v ≡ v' → app u v ≡ app u' v'
-app_same u u' v v' p q = cc
+use Rattle.hol_infer.proofs.Extending.{agree_refl, agree_trans, term_agree, are_slots_in_more, typing_at, extend_fresh, extend_function, app_same, fun_same}
 
 lam_same : (x y : List ℕ) (a a' : TypeTree) (b b' : Nameless) → y ≡ x → a ≡ a' → b ≡ b' → lam y a b ≡ lam x a' b'
 lam_same x y a a' b b' p q r = cc
@@ -28,9 +25,6 @@ free_same v x t t' p q = cc
 
 some_same : (s t : TypeTree) → Some s ≡ Some t → s ≡ t
 some_same s t p = cc
-
-fun_same : (s s' t t' : TypeTree) → s ≡ s' → t ≡ t' → fun_type s t ≡ fun_type s' t'
-fun_same s s' t t' p q = cc
 
 list_same : (s s' : TypeTree) (b b' : List TypeTree) → s ≡ s' → b ≡ b' → s ∷ b ≡ s' ∷ b'
 list_same s s' b b' p q = cc
@@ -224,12 +218,12 @@ module _ (g g1 g2 h : Graph) (env : List ℕ) (raw : RawTree) (ty : TypeTree) (e
         let p = gi.sound type_of types s in
         let q = (same.solves type_of types).0 p.0 in
         let i = builds.sound type_of types q.0 in
-        (i.0, (sym q.1 ∙ i.1 ∙ rigid_subst ty, p.1));
+        (i.0, (sym q.1 ∙ i.1 ∙ subst_none ty, p.1));
     complete = λ type_of types p s (e_is, t).
         let m1 = builds.more in
         let n2 = same.slots_are in
         let x = builds.complete type_of types s in
-        let slot_is : x.0 slot ≡ ty = (builds.sound type_of x.0 x.2).1 ∙ rigid_subst ty in
+        let slot_is : x.0 slot ≡ ty = (builds.sound type_of x.0 x.2).1 ∙ subst_none ty in
         let e1 : types e ≡ x.0 e = x.1.agree e e_in in
         let s2 : Solves g2 type_of x.0 = (same.solves type_of x.0).1 (x.2, slot_is ∙ sym e_is ∙ e1) in
         let y = gi.complete type_of x.0 p s2
@@ -243,11 +237,11 @@ builds_variable_some g h slot annotation ty is b = record {
   well_formed = b.well_formed;
   more = b.more;
   slot_in = b.slot_in;
-  sound = λ type_of types s. (let x = b.sound type_of types s in (x.0, rw is (x.1 ∙ rigid_subst ty)));
+  sound = λ type_of types s. (let x = b.sound type_of types s in (x.0, rw is (x.1 ∙ subst_none ty)));
   complete = λ type_of types t s meets.
       let x = b.complete type_of types s in
       let e : t ≡ ty = rw is at meets in
-      (x.0, x.1, x.2, (b.sound type_of x.0 x.2).1 ∙ rigid_subst ty ∙ sym e);
+      (x.0, x.1, x.2, (b.sound type_of x.0 x.2).1 ∙ subst_none ty ∙ sym e);
 }
 
 pub builds_variable_none : (g h : Graph) (slot : ℕ) (annotation : Option TypeTree) → annotation ≡ None → IsWellFormed g → IsFresh g h slot Unknown → BuildsVariable g h slot annotation

@@ -122,7 +122,7 @@ parts_agree n types types' (p ∷ parts) a h =
 pub map_agree : (n : ℕ) (types types' : ℕ → TypeTree) (env : List ℕ) → Agree n types types' → All (λ s. s < n) env → map types env ≡ map types' env
 map_agree n types types' env a h = parts_agree n types types' env a h
 
-app_ap : (c : List ℕ) (ss ts : List TypeTree) → ss ≡ ts → TyApp c (type_list ss) ≡ TyApp c (type_list ts)
+pub app_ap : (c : List ℕ) (ss ts : List TypeTree) → ss ≡ ts → TyApp c (type_list ss) ≡ TyApp c (type_list ts)
 app_ap c ss ts e = cc
 
 pair_same : (s t : TypeTree) (a : List ℕ) (ps qs : List (TypeTree × List ℕ)) → s ≡ t → ps ≡ qs → (s, a) ∷ ps ≡ (t, a) ∷ qs

@@ -3,6 +3,7 @@ use Rattle.std.proofs.Common.{◌≡◌, ℕ, ◌+◌, ◌<◌, ◌≤◌, List,
 use Rattle.std.specs.Global.{Vec}
 use Rattle.std.proofs.lemmas.Bool.{eq-eqb, eqb-true}
 use Rattle.std.proofs.lemmas.List.{take_all}
+use Rattle.std.proofs.Math.Bool.{or-true, or-false}
 use Rattle.hol_types.specs.Tree.{TypeTree, more_types, type_list}
 use Rattle.hol_types.proofs.Steps.{next_of}
 use Rattle.hol_infer.specs.Shape.{ShapeTree, shape_list, shape_holes, shapes_holes, fill, fills}
@@ -30,16 +31,8 @@ fill_all at ss ts i e h = ap type_list (e ∙ ap (map (fill at)) (take_all i ss 
 pub hole_step : (order holes : List ℕ) (i k : ℕ) → i < length holes → k ≡ get_or holes i k → add_holes order (drop i holes) ≡ add_holes (add_hole order k) (drop (i + 1) holes)
 hole_step order holes i k lt e = rw (next_of holes i k lt e) refl
 
-or_true : (b : Bool) → (b || true) ≡ true
-or_true true = refl
-or_true false = refl
-
 among_last : (order : List ℕ) (j k : ℕ) → is_hole_among (order ++ j ∷ []) k ≡ (is_hole_among order k || (j == k))
-among_last [] j k = or_none (j == k)
-  where
-    or_none : (b : Bool) → (b || false) ≡ b
-    or_none true = refl
-    or_none false = refl
+among_last [] j k = or-false (j == k)
 among_last (l ∷ order) j k = by (l == k) (among_last order j k)
   where
     by : (b : Bool) → is_hole_among (order ++ j ∷ []) k ≡ (is_hole_among order k || (j == k)) → (b || is_hole_among (order ++ j ∷ []) k) ≡ ((b || is_hole_among order k) || (j == k))
@@ -57,12 +50,12 @@ among_all : (order xs : List ℕ) (k : ℕ) → is_hole_among order k ≡ true �
 among_all order [] k h = h
 among_all order (x ∷ xs) k h = among_all (add_hole order x) xs k (among_kept order x k h)
 
-added_there : (order : List ℕ) (k : ℕ) → is_hole_among (add_hole order k) k ≡ true
+pub added_there : (order : List ℕ) (k : ℕ) → is_hole_among (add_hole order k) k ≡ true
 added_there order k = by (is_hole_among order k) refl
   where
     by : (b : Bool) → is_hole_among order k ≡ b → is_hole_among (cond b order (order ++ k ∷ [])) k ≡ true
     by true e = e
-    by false e = among_last order k k ∙ rw (eq-eqb k k refl) (or_true (is_hole_among order k))
+    by false e = among_last order k k ∙ rw (eq-eqb k k refl) (or-true (is_hole_among order k))
 
 among_added : (order xs : List ℕ) (k : ℕ) → is_hole_among xs k ≡ true → is_hole_among (add_holes order xs) k ≡ true
 among_added order [] k h = absurd (cc)

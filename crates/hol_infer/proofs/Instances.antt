@@ -8,16 +8,6 @@ use Rattle.hol_types.specs.Names.{is_among, type_names, types_names}
 use Rattle.hol_infer.specs.Graph.{pairs_from}
 use Rattle.hol_infer.specs.Generate.{Agree, IsPlace, HasNoPlace, IsRigidBut, AreRigidBut}
 
--- nothing is put for the type variables of an annotation
-mutual
-  pub rigid_subst : (ty : TypeTree) → type_subst [] ty ≡ ty
-  rigid_subst (TyVar a) = refl
-  rigid_subst (TyApp c ts) = ap (TyApp c) (rigid_substs ts)
-
-  rigid_substs : (ts : TypeList) → types_subst [] ts ≡ ts
-  rigid_substs no_types = refl
-  rigid_substs (more_types t ts) = λ i. more_types (rigid_subst t i) (rigid_substs ts i)
-
 -- ---- places of names
 
 -- a is not the name b
@@ -63,10 +53,6 @@ place_at (b ∷ names) a (suc i) h l e =
     }
 
 -- ---- all type variables are among the names
-
-or_left : (a b : Bool) → (a || b) ≡ false → a ≡ false
-or_left false b e = refl
-or_left true b e = e
 
 pub among_front : (a : List ℕ) (xs ys : List (List ℕ)) → is_among xs a ≡ true → is_among (xs ++ ys) a ≡ true
 among_front a [] ys e = absurd (cc)

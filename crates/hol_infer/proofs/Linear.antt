@@ -7,6 +7,8 @@ use Rattle.std.specs.BTreeSet.{BTreeSet, contains_by}
 use Rattle.std.proofs.lemmas.Map.Text.{is_eq-slice_cmp}
 use Rattle.std.proofs.lemmas.List.{append-nil, append_assoc, take_more, take_all}
 use Rattle.std.proofs.lemmas.Slice.Eq.{bytes_eq-Decides}
+use Rattle.std.proofs.Math.Bool.{or-false, or-true}
+use Rattle.std.proofs.lemmas.Bool.{not-true, or_parts}
 use Rattle.hol_types.specs.Tree.{TypeTree, TyApp, type_list}
 use Rattle.hol_types.specs.Names.{is_among, type_names, types_names}
 use Rattle.hol_types.proofs.Filters.{among_append}
@@ -23,41 +25,25 @@ names_step names ts i t h e = rw (next_of ts i t h e) (sym (append_assoc names (
 
 -- ---- one name more
 
-pub both_false : (a b : Bool) → (a || b) ≡ false → (a ≡ false) × (b ≡ false)
-both_false true b e = absurd (cc)
-both_false false b e = (refl, e)
-
-or_none : (b : Bool) → (b || false) ≡ b
-or_none true = refl
-or_none false = refl
-
 pub among_push : (names : List (List ℕ)) (a q : List ℕ) → is_among (names ++ a ∷ []) q ≡ (is_among names q || bytes_eq q a)
-among_push names a q = among_append names (a ∷ []) q ∙ ap (λ (b : Bool). is_among names q || b) (or_none (bytes_eq q a))
+among_push names a q = among_append names (a ∷ []) q ∙ ap (λ (b : Bool). is_among names q || b) (or-false (bytes_eq q a))
 
 distinct_push : (names : List (List ℕ)) (a : List ℕ) → AreDistinct names → is_among names a ≡ false → AreDistinct (names ++ a ∷ [])
 distinct_push [] a d none = (refl, tt)
 distinct_push (b ∷ names) a d none =
-    let both = both_false (bytes_eq a b) (is_among names a) none in
+    let both = or_parts (bytes_eq a b) (is_among names a) none in
     let other : bytes_eq b a ≡ false = turned b a both.0 in
     (among_push names a b ∙ rw (d.0, other) refl, distinct_push names a d.1 both.1)
 
 pub among_step : (names : List (List ℕ)) (i : ℕ) (a q : List ℕ) → i < length names → a ≡ get_or names i a → is_among (take (i + 1) names) q ≡ (is_among (take i names) q || bytes_eq q a)
 among_step names i a q lt e = ap (λ (ns : List (List ℕ)). is_among ns q) (take_more names i a lt ∙ ap (λ (b : List ℕ). take i names ++ b ∷ []) (sym e)) ∙ among_push (take i names) a q
 
-or_true : (b : Bool) → (b || true) ≡ true
-or_true true = refl
-or_true false = refl
-
-not_true : (b : Bool) → not b ≡ true → b ≡ false
-not_true true e = absurd (cc)
-not_true false e = refl
-
 -- a name that was not in the set of those that were seen is not among them
 pub none_seen : (names : List (List ℕ)) (i : ℕ) (a b : List ℕ) (s : BTreeSet (Bor (List ℕ))) (added : Bool) → b ≡ a →
     ((q : List ℕ) → contains_by (λ k. slice_cmp nat_cmp q k.now) s ≡ is_among (take i names) q) →
     added ≡ not (contains_by (λ k. slice_cmp nat_cmp b k.now) s) → added ≡ true → is_among (take i names) a ≡ false
 none_seen names i a b s added same seen is was =
-    sym (seen a) ∙ not_true (contains_by (λ k. slice_cmp nat_cmp a k.now) s) (subst (λ (x : List ℕ). not (contains_by (λ k. slice_cmp nat_cmp x k.now) s) ≡ true) same (sym is ∙ was))
+    sym (seen a) ∙ not-true (contains_by (λ k. slice_cmp nat_cmp a k.now) s) (subst (λ (x : List ℕ). not (contains_by (λ k. slice_cmp nat_cmp x k.now) s) ≡ true) same (sym is ∙ was))
 
 -- the set of the names that were seen, with one more
 pub seen_step : (names : List (List ℕ)) (i : ℕ) (a b : List ℕ) (s n : BTreeSet (Bor (List ℕ))) → i < length names → a ≡ get_or names i a → b ≡ a →
@@ -72,16 +58,16 @@ seen_step names i a b s n lt e same seen updates q =
     by : (b : Bool) → bytes_eq a q ≡ b → cond b true (contains_by (λ k. slice_cmp nat_cmp q k.now) s) ≡ (is_among (take i names) q || bytes_eq q a)
     by true f =
         let same : bytes_eq q a ≡ true = (bytes_eq-Decides q a).1 (sym ((bytes_eq-Decides a q).0 f)) in
-        sym (ap (λ (b : Bool). is_among (take i names) q || b) same ∙ or_true (is_among (take i names) q))
+        sym (ap (λ (b : Bool). is_among (take i names) q || b) same ∙ or-true (is_among (take i names) q))
     by false f =
         let other : bytes_eq q a ≡ false = turned q a f in
-        seen q ∙ sym (ap (λ (b : Bool). is_among (take i names) q || b) other ∙ or_none (is_among (take i names) q))
+        seen q ∙ sym (ap (λ (b : Bool). is_among (take i names) q || b) other ∙ or-false (is_among (take i names) q))
 
 -- ---- the arguments of a constructor
 
 distinct_front : (xs ys : List (List ℕ)) → AreDistinct (xs ++ ys) → AreDistinct xs
 distinct_front [] ys d = tt
-distinct_front (x ∷ xs) ys d = ((both_false (is_among xs x) (is_among ys x) (sym (among_append xs ys x) ∙ d.0)).0, distinct_front xs ys d.1)
+distinct_front (x ∷ xs) ys d = ((or_parts (is_among xs x) (is_among ys x) (sym (among_append xs ys x) ∙ d.0)).0, distinct_front xs ys d.1)
 
 distinct_back : (xs ys : List (List ℕ)) → AreDistinct (xs ++ ys) → AreDistinct ys
 distinct_back [] ys d = d
@@ -94,7 +80,7 @@ distinct_apart (x ∷ xs) ys d a m = by (bytes_eq a x) refl m (distinct_apart xs
     by : (b : Bool) → bytes_eq a x ≡ b → (b || is_among xs a) ≡ true → (is_among xs a ≡ true → is_among ys a ≡ false) → is_among ys a ≡ false
     by true e m r =
         let same : x ≡ a = sym ((bytes_eq-Decides a x).0 e) in
-        subst (λ (n : List ℕ). is_among ys n ≡ false) same (both_false (is_among xs x) (is_among ys x) (sym (among_append xs ys x) ∙ d.0)).1
+        subst (λ (n : List ℕ). is_among ys n ≡ false) same (or_parts (is_among xs x) (is_among ys x) (sym (among_append xs ys x) ∙ d.0)).1
     by false e m r = r m
 
 pub linear_args : (ts : List TypeTree) → AreDistinct (types_names (type_list ts)) → AreLinear ts
@@ -121,7 +107,7 @@ two_apart s t h = (λ a m. ap (λ (ns : List (List ℕ)). is_among ns a) (append
 
 distinct_but_front : (but xs ys : List (List ℕ)) → AreDistinctBut but (xs ++ ys) → AreDistinctBut but xs
 distinct_but_front but [] ys d = tt
-distinct_but_front but (x ∷ xs) ys d = (λ none. (both_false (is_among xs x) (is_among ys x) (sym (among_append xs ys x) ∙ d.0 none)).0, distinct_but_front but xs ys d.1)
+distinct_but_front but (x ∷ xs) ys d = (λ none. (or_parts (is_among xs x) (is_among ys x) (sym (among_append xs ys x) ∙ d.0 none)).0, distinct_but_front but xs ys d.1)
 
 distinct_but_back : (but xs ys : List (List ℕ)) → AreDistinctBut but (xs ++ ys) → AreDistinctBut but ys
 distinct_but_back but [] ys d = d
@@ -135,7 +121,7 @@ distinct_but_apart but (x ∷ xs) ys d a none m = by (bytes_eq a x) refl m (dist
     by true e m r =
         let same : a ≡ x = (bytes_eq-Decides a x).0 e in
         let here : is_among but x ≡ false = subst (λ (n : List ℕ). is_among but n ≡ false) same none in
-        subst (λ (n : List ℕ). is_among ys n ≡ false) (sym same) (both_false (is_among xs x) (is_among ys x) (sym (among_append xs ys x) ∙ d.0 here)).1
+        subst (λ (n : List ℕ). is_among ys n ≡ false) (sym same) (or_parts (is_among xs x) (is_among ys x) (sym (among_append xs ys x) ∙ d.0 here)).1
     by false e m r = r m
 
 pub linear_but_args : (but : List (List ℕ)) (ts : List TypeTree) → AreDistinctBut but (types_names (type_list ts)) → AreLinearBut but ts
@@ -171,12 +157,12 @@ equal_names a b e = (bytes_eq-Decides a b).1 (sym ((bytes_eq-Decides b a).0 e))
 but_push : (but names : List (List ℕ)) (a : List ℕ) → AreDistinctBut but names → (is_among but a ≡ false → is_among names a ≡ false) → AreDistinctBut but (names ++ a ∷ [])
 but_push but [] a d h = (λ none. refl, tt)
 but_push but (b ∷ names) a d h =
-    (λ none. among_push names a b ∙ by (bytes_eq b a) refl none (d.0 none), but_push but names a d.1 (λ none. (both_false (bytes_eq a b) (is_among names a) (h none)).1))
+    (λ none. among_push names a b ∙ by (bytes_eq b a) refl none (d.0 none), but_push but names a d.1 (λ none. (or_parts (bytes_eq a b) (is_among names a) (h none)).1))
   where
     by : (t : Bool) → bytes_eq b a ≡ t → is_among but b ≡ false → is_among names b ≡ false → (is_among names b || t) ≡ false
     by true e none apart =
         let here : is_among but a ≡ false = subst (λ (n : List ℕ). is_among but n ≡ false) ((bytes_eq-Decides b a).0 e) none in
-        let z : true ≡ false = sym (equal_names a b e) ∙ (both_false (bytes_eq a b) (is_among names a) (h here)).0 in
+        let z : true ≡ false = sym (equal_names a b e) ∙ (or_parts (bytes_eq a b) (is_among names a) (h here)).0 in
         absurd (cc)
     by false e none apart = rw apart refl
 
@@ -207,7 +193,7 @@ once_keeps twice a q h = by (is_among twice a) h
   where
     by : (t : Bool) → is_among (cond t twice (twice ++ a ∷ [])) q ≡ false → is_among twice q ≡ false
     by true e = e
-    by false e = (both_false (is_among twice q) (bytes_eq q a) (sym (among_push twice a q) ∙ e)).0
+    by false e = (or_parts (is_among twice q) (bytes_eq q a) (sym (among_push twice a q) ∙ e)).0
 
 -- a name that was seen before is among those that stand twice
 twice_step : (twice names : List (List ℕ)) (i : ℕ) (a : List ℕ) → i < length names → a ≡ get_or names i a → AreDistinctBut twice (take i names) → AreDistinctBut (once twice a) (take (i + 1) names)

@@ -1,6 +1,7 @@
 -- Named terms that are built of skeletons: what their nameless terms are, and that their types fit.
-use Rattle.std.proofs.Common.{◌≡◌, ◌≢◌, ℕ, ◌+◌, ◌<◌, zero, suc, List, [], ◌∷◌, map, refl, sym, ◌∙◌, ap, subst, arith, add-zero, Bool, true, false, ◌||◌, bytes_eq, Option, Some, None, slice_get}
+use Rattle.std.proofs.Common.{◌≡◌, ◌≢◌, ℕ, ◌+◌, ◌<◌, zero, suc, List, [], ◌∷◌, map, refl, sym, ◌∙◌, ap, subst, arith, add-zero, Bool, true, false, bytes_eq, Option, Some, None, slice_get}
 use Rattle.std.specs.Option.{option_map, option_and_then}
+use Rattle.std.proofs.lemmas.Bool.{or_parts}
 use Rattle.std.proofs.lemmas.Slice.Eq.{bytes_eq-Decides}
 use Rattle.hol_types.specs.Tree.{TypeTree}
 use Rattle.hol_types.specs.Names.{is_among}
@@ -9,8 +10,9 @@ use Rattle.hol_types.specs.Fun.{fun_type}
 use Rattle.hol_types.proofs.OrderLaws.{type_cmp_decides}
 use Rattle.hol_terms.specs.Named.{Named, comb, abs, named_type, applied_type}
 use Rattle.hol_terms.specs.Nameless.{Nameless, free, bound, fixed, app, lam, place, base_of, nameless, nameless_type}
-use Rattle.hol_terms.proofs.Typing.{type_under}
+use Rattle.hol_terms.proofs.Typing.{type_under, applied_fits}
 use Rattle.std.specs.Prelude.{Result, Ok, Err, IsErrOf, IsOkUnless}
+use Rattle.hol_infer.proofs.Extending.{app_same}
 use Rattle.hol_terms.specs.declared.term.TermError.{TermError}
 use Rattle.hol_terms.specs.declared.term.TermError.TheVariants.{TypesDontFit, NotAVariable, Memory}
 use Rattle.hol_infer.specs.Raw.{RawTree, RawBound, RawConstant, RawFree, RawApply, RawAbstraction, RawAnnotated}
@@ -71,20 +73,12 @@ bound_there [] i (a, h) e = h
 bound_there (u ∷ env) zero (a, h) e = absurd (cc)
 bound_there (u ∷ env) (suc i) (a, (ne, h)) e = bound_there env i (a, h) e
 
-or_left : (a b : Bool) → (a || b) ≡ false → a ≡ false
-or_left true b e = e
-or_left false b e = refl
-
-or_right : (a b : Bool) → (a || b) ≡ false → b ≡ false
-or_right true b e = absurd (cc)
-or_right false b e = e
-
 free_at : (env : Env) (j : ℕ) (v : List ℕ × TypeTree) → is_among (map (λ u. u.0) env) v.0 ≡ false → place env j v ≡ free v
 free_at [] j v h = refl
 free_at (u ∷ env) j v h =
-    let here : bytes_eq v.0 u.0 ≡ false = or_left (bytes_eq v.0 u.0) (is_among (map (λ w. w.0) env) v.0) h in
+    let here : bytes_eq v.0 u.0 ≡ false = (or_parts (bytes_eq v.0 u.0) (is_among (map (λ w. w.0) env) v.0) h).0 in
     let apart : u.0 ≢ v.0 = λ e. (let z : true ≡ false = sym ((bytes_eq-Decides v.0 u.0).1 (sym e)) ∙ here in cc) in
-    place_there u v env j (other_variable u v apart) ∙ free_at env (j + 1) v (or_right (bytes_eq v.0 u.0) (is_among (map (λ w. w.0) env) v.0) h)
+    place_there u v env j (other_variable u v apart) ∙ free_at env (j + 1) v (or_parts (bytes_eq v.0 u.0) (is_among (map (λ w. w.0) env) v.0) h).1
 
 pub free_place : (env : Env) (x : List ℕ) (t : TypeTree) → is_among (map (λ u. u.0) env) x ≡ false → place env 0 (x, t) ≡ free (x, t)
 free_place env x t h = free_at env 0 (x, t) h
@@ -113,9 +107,6 @@ typed_body env a s b (t, e) = by (nameless_type (s ∷ env) b) refl e
     by None p q = absurd (cc)
     by (Some u) p q = (u, p)
 
-app_same : (u u' v v' : Nameless) → u ≡ u' → v ≡ v' → app u v ≡ app u' v'
-app_same u u' v v' p q = cc
-
 lam_same : (x y : List ℕ) (s t : TypeTree) (p q : Nameless) → x ≡ y → s ≡ t → p ≡ q → lam x s p ≡ lam y t q
 lam_same x y s t p q e g h = cc
 
@@ -137,9 +128,6 @@ comb_fits env f x p q e g (t, typed') none =
     none_some t (sym none ∙ sym (type_under env (comb f x)) ∙ ap (nameless_type (map (λ v. v.1) env)) whole ∙ typed')
 
 -- ---- typings are well typed
-
-fits : (s t : TypeTree) → applied_type (fun_type s t) s ≡ Some t
-fits s t = let e : type_eq s s ≡ true = (type_cmp_decides s s).1 refl in rw e refl
 
 pub typing_type : (type_of : List ℕ → TypeTree) (env : List TypeTree) (raw : RawTree) (p : Nameless) (t : TypeTree) → IsTyping type_of env raw p t → nameless_type env p ≡ Some t
 typing_type type_of env (RawBound i) (free v) t h = absurd h
@@ -163,7 +151,7 @@ typing_type type_of env (RawApply f a) (fixed d u) t h = absurd h
 typing_type type_of env (RawApply f a) (app g b) t (s, p, q) =
     let e : nameless_type env g ≡ Some (fun_type s t) = typing_type type_of env f g (fun_type s t) p in
     let d : nameless_type env b ≡ Some s = typing_type type_of env a b s q in
-    rw (e, d) (fits s t)
+    rw (e, d) (applied_fits s t)
 typing_type type_of env (RawApply f a) (lam x s b) t h = absurd h
 typing_type type_of env (RawAbstraction x annotation body) (free v) t h = absurd h
 typing_type type_of env (RawAbstraction x annotation body) (bound j) t h = absurd h

@@ -5,10 +5,11 @@ use Rattle.std.specs.List.{All}
 use Rattle.std.proofs.lemmas.Fmt.{decimal_injective}
 use Rattle.std.proofs.lemmas.List.Elements.{All-nil, All-cons}
 use Rattle.std.proofs.lemmas.Slice.Eq.{bytes_eq-Decides}
-use Rattle.hol_types.specs.Tree.{TypeTree, TyVar, TyApp, more_types}
+use Rattle.hol_infer.proofs.Extending.{app_same, lam_same, lookup_for, lookup_none}
+use Rattle.hol_types.specs.Tree.{TypeTree, TyApp, more_types}
 use Rattle.hol_types.specs.Subst.{type_lookup, type_subst, types_subst}
 use Rattle.hol_types.specs.Names.{type_names, types_names}
-use Rattle.hol_terms.specs.Nameless.{Nameless, free, fixed, app, lam, base_of}
+use Rattle.hol_terms.specs.Nameless.{free, fixed, base_of}
 use Rattle.hol_infer.specs.Typing.{open_name, IsOpen, instantiate_types}
 use Rattle.hol_infer.specs.Reading.{occurring_tyvars, ComeInOrder}
 use Rattle.hol_infer.specs.Shape.{ShapeTree, ShapeList, Hole, Fixed, Built, no_shapes, more_shapes, fill, fills, shape_holes, shapes_holes}
@@ -16,7 +17,7 @@ use Rattle.hol_infer.specs.SlotTree.{SlotTree, SlotBound, SlotConstant, SlotFree
 use Rattle.hol_infer.specs.Found.{shape_at, types_at, HasRigidNames, HaveRigidNames}
 use Rattle.hol_infer.specs.Holes.{is_hole_among, add_hole, add_holes, hole_index, open_type}
 use Rattle.hol_infer.specs.Solved.{term_holes}
-use Rattle.hol_infer.proofs.Holes.{add_holes_append}
+use Rattle.hol_infer.proofs.Holes.{add_holes_append, added_there}
 
 -- ---- open names
 
@@ -104,18 +105,12 @@ abbrev mutual
   AllHolesIn order no_shapes = Unit {0}
   AllHolesIn order (more_shapes s ss) = AreHolesIn order s × AllHolesIn order ss
 
-subst_variable : (pairs : List (TypeTree × List ℕ)) (a : List ℕ) (t : TypeTree) → type_lookup pairs a ≡ Some t → type_subst pairs (TyVar a) ≡ t
-subst_variable pairs a t e = rw e refl
-
-subst_other : (pairs : List (TypeTree × List ℕ)) (a : List ℕ) → type_lookup pairs a ≡ None → type_subst pairs (TyVar a) ≡ TyVar a
-subst_other pairs a e = rw e refl
-
 mutual
   pub subst_fill : (at : ℕ → TypeTree) (order : List ℕ) (s : ShapeTree) → length order < 2 ^ 64 → AreHolesIn order s → HasRigidNames s → type_subst (pairs_of at 0 order) (fill (open_type order) s) ≡ fill at s
   subst_fill at order (Hole k) l h r = (let z : 0 + hole_index order k ≡ hole_index order k = omega arith in
-      subst_variable (pairs_of at 0 order) (open_name (hole_index order k)) (at k)
+      lookup_for (pairs_of at 0 order) (open_name (hole_index order k)) (at k)
       (subst (λ (n : ℕ). type_lookup (pairs_of at 0 order) (open_name n) ≡ Some (at k)) z (pair_found at 0 order k (omega (arith, l)) h)))
-  subst_fill at order (Fixed a) l h r = subst_other (pairs_of at 0 order) a (pair_missing at 0 order a r)
+  subst_fill at order (Fixed a) l h r = lookup_none (pairs_of at 0 order) a (pair_missing at 0 order a r)
   subst_fill at order (Built c ss) l h r = ap (TyApp c) (subst_fills at order ss l h r)
 
   subst_fills : (at : ℕ → TypeTree) (order : List ℕ) (ss : ShapeList) → length order < 2 ^ 64 → AllHolesIn order ss → HaveRigidNames ss → types_subst (pairs_of at 0 order) (fills (open_type order) ss) ≡ fills at ss
@@ -129,12 +124,6 @@ AreTermHolesIn shapes order (SlotConstant c s) = AreHolesIn order (shape_at shap
 AreTermHolesIn shapes order (SlotFree x s) = AreHolesIn order (shape_at shapes s)
 AreTermHolesIn shapes order (SlotApply f a) = AreTermHolesIn shapes order f × AreTermHolesIn shapes order a
 AreTermHolesIn shapes order (SlotAbstraction x s b) = AreHolesIn order (shape_at shapes s) × AreTermHolesIn shapes order b
-
-app_same : (u u' v v' : Nameless) → u ≡ u' → v ≡ v' → app u v ≡ app u' v'
-app_same u u' v v' p q = cc
-
-lam_same : (x : List ℕ) (a a' : TypeTree) (b b' : Nameless) → a ≡ a' → b ≡ b' → lam x a b ≡ lam x a' b'
-lam_same x a a' b b' p q = cc
 
 pub instance_of : (at : ℕ → TypeTree) (shapes : List ShapeTree) (order : List ℕ) (term : SlotTree) → length order < 2 ^ 64 → AreTermHolesIn shapes order term → ((i : ℕ) → HasRigidNames (shape_at shapes i)) →
     instantiate_types (pairs_of at 0 order) (typed (types_at shapes (open_type order)) term) ≡ typed (types_at shapes at) term
@@ -152,7 +141,7 @@ instance_of at shapes order (SlotAbstraction x s b) l (h, k) r =
 
 -- ---- the order of the names
 
-among_last : (order : List ℕ) (k : ℕ) → is_hole_among (order ++ k ∷ []) k ≡ true
+pub among_last : (order : List ℕ) (k : ℕ) → is_hole_among (order ++ k ∷ []) k ≡ true
 among_last [] k = rw (eq-eqb k k refl) refl
 among_last (j ∷ order) k = by (j == k) (among_last order k)
   where
@@ -160,7 +149,7 @@ among_last (j ∷ order) k = by (j == k) (among_last order k)
     by true r = refl
     by false r = r
 
-among_before : (order rest : List ℕ) (k : ℕ) → is_hole_among order k ≡ true → is_hole_among (order ++ rest) k ≡ true
+pub among_before : (order rest : List ℕ) (k : ℕ) → is_hole_among order k ≡ true → is_hole_among (order ++ rest) k ≡ true
 among_before [] rest k h = absurd (cc)
 among_before (j ∷ order) rest k h = by (j == k) h (among_before order rest k)
   where
@@ -186,13 +175,6 @@ grows_trans a b c p q = record { rest = p.rest ++ q.rest; is = q.is ∙ ap (λ (
 holes_grow : (order ks : List ℕ) → Grows order (add_holes order ks)
 holes_grow order [] = record { rest = []; is = sym (append-nil order) }
 holes_grow order (k ∷ ks) = grows_trans order (add_hole order k) (add_holes (add_hole order k) ks) (hole_grows order k) (holes_grow (add_hole order k) ks)
-
-hole_added : (order : List ℕ) (k : ℕ) → is_hole_among (add_hole order k) k ≡ true
-hole_added order k = by (is_hole_among order k) refl
-  where
-    by : (b : Bool) → is_hole_among order k ≡ b → is_hole_among (cond b order (order ++ k ∷ [])) k ≡ true
-    by true e = e
-    by false e = among_last order k
 
 among_grown : (order after : List ℕ) (k : ℕ) → Grows order after → is_hole_among order k ≡ true → is_hole_among after k ≡ true
 among_grown order after k g h = subst (λ (xs : List ℕ). is_hole_among xs k ≡ true) (sym g.is) (among_before order g.rest k h)
@@ -285,7 +267,7 @@ term_in_order shapes order final (SlotAbstraction x s b) r g =
 
 mutual
   shape_covered : (order final : List ℕ) (s : ShapeTree) → Grows (add_holes order (shape_holes s)) final → AreHolesIn final s
-  shape_covered order final (Hole k) g = among_grown (add_hole order k) final k g (hole_added order k)
+  shape_covered order final (Hole k) g = among_grown (add_hole order k) final k g (added_there order k)
   shape_covered order final (Fixed a) g = tt
   shape_covered order final (Built c ss) g = shapes_covered order final ss g
 

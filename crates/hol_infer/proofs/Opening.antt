@@ -6,6 +6,7 @@ use Rattle.std.proofs.lemmas.Slice.Eq.{bytes_eq-Decides}
 use Rattle.std.proofs.lemmas.List.{get_or_append_left, append-nil}
 use Rattle.std.proofs.lemmas.List.Elements.{All-nil, All-head, All-tail}
 use Rattle.std.proofs.lemmas.List.Sums.{sum_by-set, sum_by-append, sum_by-cons}
+use Rattle.hol_types.proofs.Steps.{subst_list}
 use Rattle.hol_types.specs.Tree.{TypeTree, TyVar, TyApp, type_list, type_size}
 use Rattle.hol_types.specs.Names.{is_among, type_names}
 use Rattle.hol_types.specs.Subst.{type_subst, type_for}
@@ -16,8 +17,8 @@ use Rattle.hol_infer.specs.declared.generate.Graph.{Graph}
 use Rattle.hol_infer.specs.Graph.{pairs_from, CellHolds, cell_at, Respects, IsGraph, IsCellIn, AreIn, IsExpandedCell, generic_weight, generics, SameSolutions}
 use Rattle.hol_infer.specs.Generate.{Solves, slots, IsWellFormed, Agree, AddsUnknown, BuildsTypes}
 use Rattle.hol_infer.specs.Expanding.{Refines, BuildsInstance, Expands}
-use Rattle.hol_infer.proofs.Growing.{solves_agree}
-use Rattle.hol_infer.proofs.Extending.{agree_trans, agree_refl, grows_trans, subst_list}
+use Rattle.hol_infer.proofs.Growing.{solves_agree, app_ap}
+use Rattle.hol_infer.proofs.Extending.{agree_trans, agree_refl, grows_trans}
 use Rattle.hol_infer.proofs.Instances.{put_from, put_from_agree, put_from_at, named_types, subst_same}
 use Rattle.hol_infer.proofs.Merging.{written, respects_set, holds_set, respects_unset, is_graph_set}
 
@@ -94,9 +95,6 @@ builds_variable g ty a e w = record {
   sound = λ type_of types s. (s, λ t holds. subst (λ (u : TypeTree). IsGenericInstance u t) e ((t, a) ∷ [], sym (variable_for t a)));
   complete = λ type_of types t s instance. (types, agree_refl (slots g) types, s, tt);
 }
-
-app_ap : (c : List ℕ) (ss ts : List TypeTree) → ss ≡ ts → TyApp c (type_list ss) ≡ TyApp c (type_list ts)
-app_ap c ss ts e = cc
 
 pub builds_constructed : (g g1 h : Graph) (c : List ℕ) (args : List TypeTree) (names : List (List ℕ)) (base : ℕ) (parts : List ℕ) (cell : Cell) → IsWellFormed g →
     ((a : List ℕ) → is_among (type_names (TyApp c (type_list args))) a ≡ true → is_among names a ≡ true) → base ≡ slots g → AddsUnknown g g1 (length names) → BuildsTypes g1 h names base parts args →

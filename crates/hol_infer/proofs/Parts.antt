@@ -4,6 +4,7 @@ use Rattle.std.specs.Prelude.{unwrap_or}
 use Rattle.std.specs.Global.{Vec}
 use Rattle.std.proofs.lemmas.List.{take_more, take_all, drop_all, drop-drop, length-take-le}
 use Rattle.std.proofs.lemmas.Slice.Eq.{bytes_eq-Decides}
+use Rattle.std.proofs.lemmas.Bool.{or_parts}
 use Rattle.hol_types.specs.Tree.{TypeTree, TypeList, TyVar, TyApp, no_types, more_types, type_list, type_size, types_size}
 use Rattle.hol_types.specs.Names.{is_among, type_names, types_names, tyvars}
 use Rattle.hol_types.specs.Subst.{type_subst, types_subst, type_lookup, type_for}
@@ -15,7 +16,6 @@ use Rattle.hol_infer.specs.Linear.{AreDistinct}
 use Rattle.hol_infer.specs.Holes.{add_hole, add_holes, AreHolesOf}
 use Rattle.hol_infer.specs.Found.{found_at, shape_found, bound_from, AreRowFound, HasRigidNames, HaveRigidNames, AreHolesBelow, AllHolesBelow}
 use Rattle.hol_infer.proofs.Instances.{subst_same}
-use Rattle.hol_infer.proofs.Linear.{both_false}
 use Rattle.hol_infer.proofs.Holes.{add_holes_append, add_added, holes_of_push}
 use Rattle.hol_infer.proofs.Numbers.{Covers, covers_all, covers_front, covers_back, covers_self, place_for, place_below}
 
@@ -80,8 +80,8 @@ stands_lt bound base names (TyApp c ts) h a s m e = let r = all_stand_le bound b
 
 apart_names : (names : List (List ℕ)) (b : List ℕ) (k : ℕ) → is_among names b ≡ false → k < length names → bytes_eq b (get_or names k []) ≡ false
 apart_names [] b k h lt = absurd (omega (arith, lt))
-apart_names (c ∷ names) b zero h lt = (both_false (bytes_eq b c) (is_among names b) h).0
-apart_names (c ∷ names) b (suc k) h lt = apart_names names b k (both_false (bytes_eq b c) (is_among names b) h).1 (omega (arith, lt))
+apart_names (c ∷ names) b zero h lt = (or_parts (bytes_eq b c) (is_among names b) h).0
+apart_names (c ∷ names) b (suc k) h lt = apart_names names b k (or_parts (bytes_eq b c) (is_among names b) h).1 (omega (arith, lt))
 
 at_start : (found : List (Option ShapeTree)) (base : ℕ) → Some (shape_found (found_at found base)) ≡ Some (shape_found (found_at found (base + 0)))
 at_start found base = ap (λ (j : ℕ). Some (shape_found (found_at found j))) (omega arith)

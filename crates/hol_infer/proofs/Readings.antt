@@ -1,5 +1,5 @@
 -- The most general typing, with its open types named as they occur, is the reading.
-use Rattle.std.proofs.Common.{◌≡◌, ℕ, ◌+◌, ◌<◌, ◌^◌, zero, suc, List, [], ◌∷◌, ◌++◌, length, refl, sym, ◌∙◌, ap, subst, arith, true, false, Bool, ◌==◌, ◌||◌, eq-eqb, length-append, inl, inr, Option, Some, None}
+use Rattle.std.proofs.Common.{◌≡◌, ℕ, ◌+◌, ◌<◌, ◌^◌, zero, suc, List, [], ◌∷◌, ◌++◌, length, refl, sym, ◌∙◌, ap, subst, arith, true, length-append, inl, inr, Option, Some, None}
 use Rattle.std.proofs.lemmas.Bool.{cases_eq}
 use Rattle.hol_types.specs.Tree.{TypeTree, TypeList, TyVar, TyApp, no_types, more_types}
 use Rattle.hol_terms.specs.Nameless.{Nameless}
@@ -14,7 +14,7 @@ use Rattle.hol_infer.specs.Generate.{IsClosedAt, IsRigidOption, IsRigidBut, AreR
 use Rattle.hol_infer.specs.Found.{shape_at, types_at, AreHolesBelow, AllHolesBelow}
 use Rattle.hol_infer.specs.Holes.{add_holes, open_type, is_hole_among, hole_index}
 use Rattle.hol_infer.specs.Solved.{IsGeneralTyping, term_holes, slot_term_size, IsWellTyped}
-use Rattle.hol_infer.proofs.Naming.{pairs_of, pairs_open, AreHolesIn, AllHolesIn, AreTermHolesIn, instance_of, term_in_order, term_covered, grows_self}
+use Rattle.hol_infer.proofs.Naming.{pairs_of, pairs_open, AreHolesIn, AllHolesIn, AreTermHolesIn, instance_of, term_in_order, term_covered, grows_self, among_before, among_last}
 use Rattle.hol_infer.proofs.Named.{typing_type}
 use Rattle.hol_infer.proofs.Sizes.{typed_size}
 
@@ -62,27 +62,11 @@ abbrev below : ℕ → List ℕ
 below zero = []
 below (suc n) = below n ++ n ∷ []
 
-among_front : (xs ys : List ℕ) (k : ℕ) → is_hole_among xs k ≡ true → is_hole_among (xs ++ ys) k ≡ true
-among_front [] ys k h = absurd (cc)
-among_front (x ∷ xs) ys k h = by (x == k) h (among_front xs ys k)
-  where
-    by : (b : Bool) → (b || is_hole_among xs k) ≡ true → (is_hole_among xs k ≡ true → is_hole_among (xs ++ ys) k ≡ true) → (b || is_hole_among (xs ++ ys) k) ≡ true
-    by true e r = refl
-    by false e r = r e
-
-among_last : (xs : List ℕ) (k : ℕ) → is_hole_among (xs ++ k ∷ []) k ≡ true
-among_last [] k = rw (eq-eqb k k refl) refl
-among_last (x ∷ xs) k = by (x == k) (among_last xs k)
-  where
-    by : (b : Bool) → is_hole_among (xs ++ k ∷ []) k ≡ true → (b || is_hole_among (xs ++ k ∷ []) k) ≡ true
-    by true r = refl
-    by false r = r
-
 among_below : (n k : ℕ) → k < n → is_hole_among (below n) k ≡ true
 among_below zero k l = absurd (omega arith)
 among_below (suc n) k l = elim (cases_eq k n) [
   | inl e ↦ subst (λ (j : ℕ). is_hole_among (below n ++ n ∷ []) j ≡ true) (sym e) (among_last (below n) n)
-  | inr ne ↦ among_front (below n) (n ∷ []) k (among_below n k (omega arith))
+  | inr ne ↦ among_before (below n) (n ∷ []) k (among_below n k (omega arith))
 ]
 
 length_below : (n : ℕ) → length (below n) ≡ n

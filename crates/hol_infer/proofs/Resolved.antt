@@ -4,6 +4,7 @@ use Rattle.std.specs.Option.{option_map}
 use Rattle.std.proofs.lemmas.Bool.{and_from, and_right}
 use Rattle.std.proofs.lemmas.List.{take_more, take_all, map-append}
 use Rattle.std.proofs.lemmas.Slice.Eq.{bytes_eq-Decides}
+use Rattle.hol_notation_terms.proofs.SameTypes.{nodes_at}
 use Rattle.hol_types.specs.Tree.{TypeTree, TyApp, more_types, type_list}
 use Rattle.hol_types.specs.Names.{is_among}
 use Rattle.hol_notation_terms.specs.declared.operator.Operator.{Operator}
@@ -209,17 +210,12 @@ have_false arities (t ∷ ts) zero d l e = rw e refl
 have_false arities (t ∷ ts) (suc i) d l e = and_right (has_arities arities t) (have_arities arities (type_texts ts)) (have_false arities ts i d (omega arith) e)
 
 -- an argument has fewer nodes than the whole
-text_size : (ts : List TypeText) (i : ℕ) (d : TypeText) → i < length ts → type_nodes (get_or ts i d) ≤ types_nodes (type_texts ts)
-text_size [] i d lt = absurd (omega arith)
-text_size (t ∷ ts) zero d lt = omega arith
-text_size (t ∷ ts) (suc i) d lt = let r = text_size ts i d (omega arith) in omega (arith, r)
-
 pub text_falls : (ty : TypeText) (c : List ℕ) (args items : List TypeText) (i : ℕ) (arg : TypeText) → Apply c (type_texts args) ≡ ty → items ≡ args → i < length items → arg ≡ get_or items i arg → type_nodes arg < type_nodes ty
 text_falls ty c args items i arg e p lt q =
     let whole : 1 + types_nodes (type_texts args) ≡ type_nodes ty = ap type_nodes e in
     let same : types_nodes (type_texts items) ≡ types_nodes (type_texts args) = ap (λ (xs : List TypeText). types_nodes (type_texts xs)) p in
     let here : type_nodes arg ≡ type_nodes (get_or items i arg) = ap type_nodes q in
-    let r = text_size items i arg lt in
+    let r = nodes_at items i arg lt in
     omega (arith, whole, same, here, r)
 
 -- ---- a constructor with arguments

@@ -5,7 +5,8 @@ use Rattle.std.proofs.lemmas.Bool.{cases_eq, cases_lt}
 use Rattle.std.proofs.lemmas.List.{get_or_past}
 use Rattle.std.proofs.lemmas.List.Elements.{All-head, All-tail, All-contains}
 use Rattle.std.proofs.Math.Nat.{mul-le-mul_right}
-use Rattle.hol_types.specs.Tree.{TypeTree, TypeList, TyVar, TyApp, more_types, type_list, type_size, types_size}
+use Rattle.hol_infer.proofs.Splitting.{more_same}
+use Rattle.hol_types.specs.Tree.{TypeTree, TyVar, TyApp, type_list, type_size, types_size}
 use Rattle.hol_types.specs.Names.{tyvars, type_names, is_among}
 use Rattle.hol_types.specs.Subst.{type_subst}
 use Rattle.hol_infer.specs.Shape.{ShapeTree, Hole, shape_list, fill, fills, part_shape}
@@ -36,9 +37,6 @@ cons_parts o p os ps e = (cc, cc)
 
 cons_same : (o p : Option ShapeTree) (os ps : List (Option ShapeTree)) → o ≡ p → os ≡ ps → o ∷ os ≡ p ∷ ps
 cons_same o p os ps e f = cc
-
-types_same : (s t : TypeTree) (ss ts : TypeList) → s ≡ t → ss ≡ ts → more_types s ss ≡ more_types t ts
-types_same s t ss ts p q = cc
 
 -- a slot that gets a shape had none, so no other shape is lost
 keeps : (found : List (Option ShapeTree)) (at i : ℕ) (s t : ShapeTree) → found_at found at ≡ None → found_at found i ≡ Some s → found_at (set found at (Some t)) i ≡ Some s
@@ -72,7 +70,7 @@ parts_general cells numbering found types b r m [] (s ∷ shapes) e = absurd (cc
 parts_general cells numbering found types b r m (p ∷ parts) [] e = absurd (cc)
 parts_general cells numbering found types b r m (p ∷ parts) (s ∷ shapes) e =
     let both = cons_parts (found_at found p) (Some s) (map (found_at found) parts) (map Some shapes) e in
-    types_same (types p) (fill types s) (type_list (map types parts)) (fills types (shape_list shapes))
+    more_same (types p) (fill types s) (type_list (map types parts)) (fills types (shape_list shapes))
     (b.general types r m p s both.0) (parts_general cells numbering found types b r m parts shapes both.1)
 
 -- a shape made of general shapes is general
@@ -213,7 +211,7 @@ module _ (cells : List Cell) (numbering : Numbering) (found : List (Option Shape
   parts_hold at (p ∷ parts) (s ∷ shapes) in' e =
       let both = cons_parts (found_at found p) (Some s) (map (found_at found) parts) (map Some shapes) e in
       let same : s ≡ shape_at ss p = some_same s (shape_at ss p) (sym both.0 ∙ all p (All-head (λ (k : ℕ). k < length cells) p parts in')) in
-      types_same (fill at s) (types_at ss at p) (fills at (shape_list shapes)) (type_list (map (types_at ss at) parts))
+      more_same (fill at s) (types_at ss at p) (fills at (shape_list shapes)) (type_list (map (types_at ss at) parts))
       (ap (fill at) same) (parts_hold at parts shapes (All-tail (λ (k : ℕ). k < length cells) p parts in') both.1)
 
   cell_holds : (at : ℕ → TypeTree) (i : ℕ) (cell : Cell) → i < length cells → IsCellIn (length cells) i cell → BuiltFrom numbering found i (shape_at ss i) cell → CellHolds (types_at ss at) (types_at ss at i) cell

@@ -1,7 +1,7 @@
 -- Instances of a type whose arguments have no type variable in common.
 use Rattle.std.proofs.Common.{◌≡◌, ℕ, suc, inl, inr, ◌+◌, ◌<◌, ◌≤◌, List, [], ◌∷◌, ◌++◌, length, map, get_or, take, drop, refl, sym, ◌∙◌, ap, subst, arith, Bool, true, false, ◌||◌, bytes_eq, length-append}
 use Rattle.std.specs.Prelude.{◌↔◌, IsTrue}
-use Rattle.std.proofs.lemmas.Bool.{cases_eq}
+use Rattle.std.proofs.lemmas.Bool.{cases_eq, or_parts}
 use Rattle.std.proofs.lemmas.List.{append_assoc, append-nil, map-append, get_or_default, take_more, take_all}
 use Rattle.std.proofs.lemmas.List.Elements.{All-nil, All-push}
 use Rattle.std.proofs.lemmas.List.Sums.{sum_by-append, sum_by-cons}
@@ -10,7 +10,7 @@ use Rattle.hol_types.specs.Tree.{TypeTree, TypeList, TyApp, more_types, type_lis
 use Rattle.hol_types.specs.Names.{is_among, type_names, types_names}
 use Rattle.hol_types.specs.Subst.{type_subst, types_subst, type_for}
 use Rattle.hol_types.proofs.Filters.{among_append}
-use Rattle.hol_types.proofs.Steps.{next_of}
+use Rattle.hol_types.proofs.Steps.{next_of, subst_list}
 use Rattle.hol_infer.specs.Typing.{IsGenericInstance}
 use Rattle.hol_infer.specs.declared.cell.Cell.{Cell}
 use Rattle.hol_infer.specs.declared.cell.Cell.TheVariants.{Generic}
@@ -19,10 +19,9 @@ use Rattle.hol_infer.specs.Graph.{CellHolds, IsCellIn, generic_weight, generics}
 use Rattle.hol_infer.specs.Generate.{slots, IsWellFormed, IsFresh}
 use Rattle.hol_infer.specs.Linear.{ArePairwiseApart}
 use Rattle.hol_infer.specs.Expanding.{AreInstances, BuildsParts, BuildsInstance}
-use Rattle.hol_infer.proofs.Growing.{map_agree}
-use Rattle.hol_infer.proofs.Extending.{agree_trans, agree_refl, extend_fresh, env_more, subst_list}
+use Rattle.hol_infer.proofs.Growing.{map_agree, app_ap}
+use Rattle.hol_infer.proofs.Extending.{agree_trans, agree_refl, extend_fresh, env_more, append_same, one_same}
 use Rattle.hol_infer.proofs.Instances.{turned, subst_same, substs_same}
-use Rattle.hol_infer.proofs.Linear.{both_false}
 use Rattle.hol_infer.proofs.Numbers.{among_after}
 
 -- ---- the test
@@ -83,7 +82,7 @@ restricted_in pairs rest (b ∷ names) a h = by (bytes_eq b a) refl (restricted_
 pub restricted_out : (pairs rest : List (TypeTree × List ℕ)) (names : List (List ℕ)) (a : List ℕ) → is_among names a ≡ false → type_for (restricted pairs names rest) a ≡ type_for rest a
 restricted_out pairs rest [] a h = refl
 restricted_out pairs rest (b ∷ names) a h =
-    let both = both_false (bytes_eq a b) (is_among names a) h in
+    let both = or_parts (bytes_eq a b) (is_among names a) h in
     let other : bytes_eq b a ≡ false = turned b a both.0 in
     rw other (restricted_out pairs rest names a both.1)
 
@@ -118,12 +117,6 @@ instances_push (f ∷ tys) (s ∷ ts) g t is h = (is.0, instances_push tys ts g 
 pub sizes_push : (tys : List TypeTree) (g : TypeTree) → types_size (type_list (tys ++ g ∷ [])) ≡ types_size (type_list tys) + type_size g
 sizes_push [] g = omega arith
 sizes_push (t ∷ tys) g = let r = sizes_push tys g in omega (arith, r)
-
-pub append_same : (xs xs' ys ys' : List TypeTree) → xs ≡ xs' → ys ≡ ys' → xs ++ ys ≡ xs' ++ ys'
-append_same xs xs' ys ys' p q = cc
-
-pub one_same : (s t : TypeTree) → s ≡ t → s ∷ [] ≡ t ∷ []
-one_same s t p = cc
 
 pub parts_none : (g : Graph) → IsWellFormed g → BuildsParts g g [] []
 parts_none g w = record {
@@ -189,9 +182,6 @@ parts_step g g1 h parts parts' tys i part ty ty' lt e p n b fresh =
 
 pub parts_all : (g h : Graph) (parts : List ℕ) (tys : List TypeTree) (i : ℕ) → length tys ≤ i → BuildsParts g h parts (take i tys) → BuildsParts g h parts tys
 parts_all g h parts tys i le b = subst (λ (ts : List TypeTree). BuildsParts g h parts ts) (take_all i tys le) b
-
-pub app_ap : (c : List ℕ) (ss ts : List TypeTree) → ss ≡ ts → TyApp c (type_list ss) ≡ TyApp c (type_list ts)
-app_ap c ss ts e = cc
 
 pub builds_split : (g h : Graph) (c : List ℕ) (parts : List ℕ) (tys : List TypeTree) (cell : Cell) → ArePairwiseApart tys → BuildsParts g h parts tys →
     ((types : ℕ → TypeTree) (t : TypeTree) → CellHolds types t cell ↔ (t ≡ TyApp c (type_list (map types parts)))) → ((i : ℕ) → IsCellIn (slots h) i cell) → generic_weight cell ≡ 0 →

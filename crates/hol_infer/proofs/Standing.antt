@@ -1,6 +1,6 @@
 -- The most general typing of a term that stands stands too: what does not stand in its types could be taken out, and substitution
 -- takes nothing out.
-use Rattle.std.proofs.Common.{◌≡◌, ℕ, suc, List, [], ◌∷◌, map, refl, sym, ◌∙◌, ap, subst, Bool, true, false, ◌&&◌, ◌==◌, cond, bytes_eq, codes, Option, Some, None}
+use Rattle.std.proofs.Common.{◌≡◌, ℕ, suc, List, [], ◌∷◌, map, refl, sym, ◌∙◌, ap, subst, Bool, true, false, ◌&&◌, cond, bytes_eq, codes, Option, Some, None}
 use Rattle.std.proofs.lemmas.Bool.{and_parts, and_from}
 use Rattle.std.specs.Prelude.{unwrap_or}
 use Rattle.std.specs.Option.{option_map}
@@ -8,7 +8,8 @@ use Rattle.std.proofs.lemmas.Option.{slice_get-map}
 use Rattle.hol_types.specs.Tree.{TypeTree, TypeList, TyVar, TyApp, no_types, more_types}
 use Rattle.hol_types.specs.Fun.{fun_type}
 use Rattle.hol_types.specs.Subst.{type_lookup, type_for, type_subst, types_subst}
-use Rattle.hol_terms.specs.Nameless.{Nameless, free, bound, fixed, app, lam, with_letter, base_of, nameless_type}
+use Rattle.hol_terms.specs.Nameless.{Nameless, free, bound, fixed, app, lam, base_of, nameless_type}
+use Rattle.hol_terms.proofs.Primes.{base_again}
 use Rattle.hol_infer.specs.Raw.{RawTree, RawBound, RawConstant, RawFree, RawApply, RawAbstraction, RawAnnotated}
 use Rattle.hol_infer.specs.Typing.{IsTyping, IsPrincipal, Meets, instantiate_types}
 use Rattle.hol_infer.specs.Reading.{IsReading}
@@ -96,18 +97,6 @@ mutual
 -- ---- terms
 
 -- a base name is its own base
-letter_again : (x : ℕ) (b : Bool) → (x == 39) ≡ b → base_of (cond b [] (x ∷ [])) ≡ cond b [] (x ∷ [])
-letter_again x true e = refl
-letter_again x false e = rw e refl
-
-base_again : (name : List ℕ) → base_of (base_of name) ≡ base_of name
-base_again [] = refl
-base_again (x ∷ xs) = by (base_of xs) (base_again xs)
-  where
-    by : (ys : List ℕ) → base_of ys ≡ ys → base_of (with_letter x ys) ≡ with_letter x ys
-    by [] e = letter_again x (x == 39) refl
-    by (y ∷ ys) e = ap (with_letter x) e
-
 base_stands : (y x : List ℕ) → y ≡ base_of x → base_of y ≡ y
 base_stands y x e = ap base_of e ∙ base_again x ∙ sym e
 

@@ -1,27 +1,14 @@
 -- How the logic stores a shape: as a tree of numbers, by a function that maps no two shapes to one tree.
 use Rattle.std.specs.Coded.{Coded}
-use Rattle.std.proofs.Common.{◌≡◌, ◌≢◌, ℕ, refl, ap, arith}
+use Rattle.std.proofs.Common.{◌≡◌, ℕ, refl, ap, arith}
 use base.Stored.{Gv, gnil, gnum, gcons}
-use Rattle.hol_types.specs.Code.{coded_name}
+use Rattle.hol_types.specs.Code.{coded_name, head, tail, apart}
 use Rattle.hol_infer.specs.Shape.{ShapeTree, ShapeList, Hole, Fixed, Built, no_shapes, more_shapes}
-
-abbrev head : Gv → Gv
-head gnil = gnil
-head (gnum n) = gnil
-head (gcons a b) = a
-
-abbrev tail : Gv → Gv
-tail gnil = gnil
-tail (gnum n) = gnil
-tail (gcons a b) = b
 
 abbrev num : Gv → ℕ
 num gnil = 0
 num (gnum n) = n
 num (gcons a b) = 0
-
-apart : (m n : ℕ) {a b : Gv} → gcons (gnum m) a ≡ gcons (gnum n) b → m ≢ n → ⊥
-apart m n p other = other (cc)
 
 abbrev mutual
   pub shape_code : ShapeTree → Gv

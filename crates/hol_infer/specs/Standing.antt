@@ -1,16 +1,13 @@
 -- Terms over what stands: each type constructor takes so many arguments as `takes` says, each constant has a type that `has` says, and
 -- each bound variable has a base name.
 -- Source: fusion.ml, mk_type and mk_const.
-use Rattle.std.specs.Prelude.{◌≡◌, ℕ, zero, suc, Bool, true, ◌&&◌, List, codes, Some}
+use Rattle.std.specs.Prelude.{◌≡◌, ℕ, Bool, true, ◌&&◌, List, codes, Some}
 use Rattle.hol_types.specs.Tree.{TypeTree, TypeList, TyVar, TyApp, no_types, more_types}
+pub use Rattle.hol_types.specs.Tree.{types_count}
 use Rattle.hol_types.specs.Fun.{fun_type}
 use Rattle.hol_types.specs.Subst.{type_subst}
 use Rattle.hol_terms.specs.Nameless.{Nameless, free, bound, fixed, app, lam, base_of}
 use Rattle.hol_infer.specs.Resolving.{arity_of, generic_type_of, bool_type}
-
-abbrev pub types_count : TypeList → ℕ
-types_count no_types = zero
-types_count (more_types t ts) = suc (types_count ts)
 
 abbrev mutual
   pub stands : (List ℕ → ℕ → Bool) → TypeTree → Bool

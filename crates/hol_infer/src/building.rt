@@ -18,7 +18,7 @@ use std::alloc::{AllocError, Global};
 
 /// Puts the open slots of the term at the end of the list as they occur, each unless it is there.
 #[tactic(auto, using(crate::proofs::Holes::add_holes_append))]
-pub fn add_term_holes(
+pub(crate) fn add_term_holes(
     alloc: Global,
     shapes: &[Shape],
     term: &Skeleton,
@@ -139,7 +139,7 @@ fn free_at(
 }
 
 /// The term of the skeleton, under binders.
-pub fn build(
+pub(crate) fn build(
     alloc: Global,
     shapes: &[Shape],
     order: &[usize],

@@ -5,7 +5,7 @@ use std::rc::Rc;
 
 /// What is known of the type of a slot.
 #[derive(Drop)]
-pub enum Cell {
+pub(crate) enum Cell {
     /// Nothing.
     Unknown,
     /// It is the type of a slot with a lower number.
@@ -23,18 +23,18 @@ pub enum Cell {
 /// A part of an instance of a generic type. The parts of one instance have the slots of its variables in common, and no slots of their own
 /// for what they are made of.
 #[derive(Drop)]
-pub struct GenericPart {
+pub(crate) struct GenericPart {
     /// The part, as it stands in the generic type. It is no type variable.
-    pub ty: Ty,
+    pub(crate) ty: Ty,
     /// The type variables that stand in the generic type twice: those from `base` on are their slots, in this order.
-    pub names: Rc<Vec<Name>>,
+    pub(crate) names: Rc<Vec<Name>>,
     /// The slot of the first of the names.
-    pub base: usize,
+    pub(crate) base: usize,
 }
 
 /// Two slots that must have one type.
 #[derive(Clone, Copy)]
-pub struct Equation {
-    pub left: usize,
-    pub right: usize,
+pub(crate) struct Equation {
+    pub(crate) left: usize,
+    pub(crate) right: usize,
 }

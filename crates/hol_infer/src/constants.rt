@@ -94,7 +94,7 @@ fn counted(
 /// The term whose identifiers are resolved, among constants of these generic types.
 ///
 /// Answers `Arity` only where a type that is written has that fault.
-pub fn resolved(
+pub(crate) fn resolved(
     alloc: Global,
     constants: &[(Name, Ty)],
     arities: &[(Name, usize)],
@@ -108,7 +108,7 @@ pub fn resolved(
 }
 
 /// The same of the equation of a definition.
-pub fn resolved_definition(
+pub(crate) fn resolved_definition(
     alloc: Global,
     constants: &[(Name, Ty)],
     arities: &[(Name, usize)],

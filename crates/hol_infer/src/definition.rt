@@ -144,7 +144,7 @@ fn equality_with(
 /// `c = \v1 .. vn. r`, its identifiers resolved: c is a free variable whatever stands.
 ///
 /// Answers `Arity` only where a type that is written has that fault.
-pub fn resolve_definition(
+pub(crate) fn resolve_definition(
     alloc: Global,
     constants: &[(Name, Scheme)],
     arities: &[(Name, usize)],

@@ -302,7 +302,7 @@ impl Graph {
     /// have a variable in common.
     ///
     /// Answers `Untypable` only where no types met the graph and the equations.
-    pub fn settle(&mut self, alloc: Global) -> Result<(), Fault>
+    pub(crate) fn settle(&mut self, alloc: Global) -> Result<(), Fault>
         requires { IsWellFormed self.old }
         ensures refines { OnOk result (Refines self.old self.new) }
         ensures solved { OnOk result (self.new.pending.items ≡ []) }

@@ -266,7 +266,7 @@ fn none_found(alloc: Global, count: usize) -> Result<Vec<Option<Shape>>, AllocEr
 /// Answers `Untypable` only where no types meet the graph. Its time is linear in the graph: with each slot after its parts, one pass finds
 /// all that can be found, and one sweep sees that nothing is left. A generic type whose parts have no slots has its shape at once, however
 /// large it is. A part of an instance whose variables have slots costs a walk for each of these, up to where it first stands.
-pub fn shapes_of(alloc: Global, cells: &[Cell]) -> Result<Vec<Shape>, Fault>
+pub(crate) fn shapes_of(alloc: Global, cells: &[Cell]) -> Result<Vec<Shape>, Fault>
     requires graph { IsGraph cells.now }
     ensures general { IfOk result (λ v. AreGeneral cells.now v.items) }
     ensures untypable { IfErr result (λ e. e ≡ Fault.Untypable → (types : ℕ → TypeTree) → Respects cells.now types → ⊥) }

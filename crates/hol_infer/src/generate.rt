@@ -15,15 +15,15 @@ use std::alloc::{AllocError, Global};
 
 /// Slots, equations between them that are still to be solved, and the slots of the free names.
 #[derive(Drop)]
-pub struct Graph {
-    pub cells: Vec<Cell>,
-    pub pending: Vec<Equation>,
-    pub names: Vec<(Name, usize)>,
+pub(crate) struct Graph {
+    pub(crate) cells: Vec<Cell>,
+    pub(crate) pending: Vec<Equation>,
+    pub(crate) names: Vec<(Name, usize)>,
 }
 
 impl Graph {
     /// No slots.
-    pub fn new(alloc: Global) -> Graph
+    pub(crate) fn new(alloc: Global) -> Graph
         ensures cells { result.cells.items ≡ [] }
         ensures pending { result.pending.items ≡ [] }
         ensures names { result.names.items ≡ [] }
@@ -36,7 +36,7 @@ impl Graph {
     }
 
     /// One slot more.
-    pub fn fresh(&mut self, cell: Cell) -> Result<usize, AllocError>
+    pub(crate) fn fresh(&mut self, cell: Cell) -> Result<usize, AllocError>
         requires well_formed { IsWellFormed self.old }
         requires cell_in { IsNewCell (slots self.old) cell }
         ensures { IfOk result (λ slot. IsFresh self.old self.new slot cell) }
@@ -57,8 +57,7 @@ impl Graph {
         let mut parts = Vec::with_capacity(alloc, 2)?;
         parts.push(domain)?;
         parts.push(range)?;
-        let slot = self.fresh(Cell::App(name, parts))?;
-        Ok(slot)
+        self.fresh(Cell::App(name, parts))
     }
 
     // One equation more.
@@ -278,7 +277,7 @@ impl Graph {
     }
 
     /// Adds slots and equations for the term, whose type is that of the slot `expected`.
-    pub fn generate(
+    pub(crate) fn generate(
         &mut self,
         alloc: Global,
         scope: &Scope<'_>,

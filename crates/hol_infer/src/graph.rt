@@ -146,7 +146,7 @@ fn take_cell(cells: &mut [Cell], low: usize, high: usize)
 
 /// One of two slots.
 #[derive(Clone, Copy)]
-pub enum Side {
+pub(crate) enum Side {
     /// That of the lower number.
     Low,
     /// That of the higher number.
@@ -248,7 +248,7 @@ fn equate(
 /// meet the graph and the equations afterwards are those that did before.
 ///
 /// Answers `Untypable` only where there were none.
-pub fn unify(cells: &mut [Cell], pending: &mut Vec<Equation>) -> Result<Option<usize>, Fault>
+pub(crate) fn unify(cells: &mut [Cell], pending: &mut Vec<Equation>) -> Result<Option<usize>, Fault>
     requires graph { IsGraph cells.old }
     requires pending_in { AreIn cells.old pending.old.items }
     ensures graph { IsGraph cells.new }

@@ -12,17 +12,17 @@ use std::alloc::{AllocError, Global};
 /// Numbers for the type variables of the generic types of a graph: those of one slot stand in a row, as many as any slot needs, and the
 /// rows stand after the numbers of the slots. So the row of a slot needs no walk over its type.
 #[derive(Clone, Copy)]
-pub struct Numbering {
+pub(crate) struct Numbering {
     /// How many slots there are.
-    pub slots: usize,
+    pub(crate) slots: usize,
     /// How many numbers a row has.
-    pub row: usize,
+    pub(crate) row: usize,
 }
 
 impl Numbering {
     /// The first number of a slot's row.
     #[tactic(auto, using(crate::proofs::Numbers::row_fits))]
-    pub fn base(self, slot: usize) -> usize
+    pub(crate) fn base(self, slot: usize) -> usize
         requires slot_in { slot < self.slots }
         requires fits { limit_of self < 2 ^ 64 }
         ensures { result ≡ base_at self slot }
@@ -76,7 +76,7 @@ fn limit(slots: usize, row: usize) -> Option<usize>
 }
 
 /// Numbers for the generic types of the graph. Where there are not enough of them in a machine word, there isn't the memory either.
-pub fn numbering_of(alloc: Global, cells: &[Cell]) -> Result<Numbering, Fault>
+pub(crate) fn numbering_of(alloc: Global, cells: &[Cell]) -> Result<Numbering, Fault>
     ensures numbering { IfOk result (λ numbering. IsNumbering cells.now numbering) }
     ensures typable { IfErr result (λ e. e ≡ Fault.Untypable → ⊥) }
 {

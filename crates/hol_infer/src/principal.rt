@@ -20,9 +20,9 @@ use std::alloc::{AllocError, Global};
 
 /// A term with a table of the shapes of its slots.
 #[derive(Drop)]
-pub struct Typed {
-    pub skeleton: Skeleton,
-    pub shapes: Vec<Shape>,
+pub(crate) struct Typed {
+    pub(crate) skeleton: Skeleton,
+    pub(crate) shapes: Vec<Shape>,
 }
 
 // The slots of a term and the equations between them.
@@ -51,7 +51,7 @@ fn solve(alloc: Global, graph: Graph) -> Result<Vec<Shape>, Fault>
 /// The most general typing of a term.
 ///
 /// Answers `Untypable` only where there is none.
-pub fn principal(alloc: Global, term: &RawTerm) -> Result<Typed, Fault>
+pub(crate) fn principal(alloc: Global, term: &RawTerm) -> Result<Typed, Fault>
     requires { IsClosedAt 0 (raw_tree term.now) }
     ensures general { IfOk result (λ t. IsGeneralTyping (raw_tree term.now) t.shapes.items (slot_tree t.skeleton)) }
     ensures untypable { IfErr result (λ e. e ≡ Fault.Untypable → HasNoTyping (raw_tree term.now)) }
@@ -90,7 +90,7 @@ fn bound_size(shapes: &[Shape], scope: &Scope<'_>, index: usize) -> u32
 }
 
 /// The number of nodes of a term with its types, or 20,001 for more.
-pub fn size(shapes: &[Shape], scope: &Scope<'_>, term: &Skeleton) -> u32
+pub(crate) fn size(shapes: &[Shape], scope: &Scope<'_>, term: &Skeleton) -> u32
     ensures { result ≡ min (slot_term_size shapes.now (scope_slots scope.now) (slot_tree term.now)) 20001 }
 {
     match term {

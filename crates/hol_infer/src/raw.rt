@@ -9,7 +9,7 @@ use std::alloc::{AllocError, Global};
 
 /// A term with identifiers resolved and without types.
 #[derive(Drop)]
-pub enum RawTerm {
+pub(crate) enum RawTerm {
     /// The variable of the abstraction so many outwards, from 0.
     Bound(usize),
     /// A constant with its generic type.
@@ -26,14 +26,18 @@ pub enum RawTerm {
 
 impl RawTerm {
     /// The application of the first to the second.
-    pub fn apply(alloc: Global, function: RawTerm, argument: RawTerm) -> Result<RawTerm, AllocError>
+    pub(crate) fn apply(
+        alloc: Global,
+        function: RawTerm,
+        argument: RawTerm,
+    ) -> Result<RawTerm, AllocError>
         ensures { IfOk result (λ t. raw_tree t ≡ RawApply (raw_tree function) (raw_tree argument)) }
     {
         Ok(RawTerm::Apply(Box::new(alloc, function)?, Box::new(alloc, argument)?))
     }
 
     /// The abstraction over a variable of this name.
-    pub fn abstraction(
+    pub(crate) fn abstraction(
         alloc: Global,
         name: &str,
         annotation: Option<Ty>,
@@ -58,7 +62,7 @@ impl RawTerm {
     }
 
     /// The term with its type written.
-    pub fn annotated(alloc: Global, term: RawTerm, ty: Ty) -> Result<RawTerm, AllocError>
+    pub(crate) fn annotated(alloc: Global, term: RawTerm, ty: Ty) -> Result<RawTerm, AllocError>
         ensures { IfOk result (λ t. raw_tree t ≡ RawAnnotated (raw_tree term) ty) }
     {
         Ok(RawTerm::Annotated(Box::new(alloc, term)?, ty))

@@ -55,8 +55,7 @@ fn named(alloc: Global, shapes: &[Shape], skeleton: &Skeleton) -> Result<Term, T
 {
     let mut order = Vec::new(alloc);
     add_term_holes(alloc, shapes, skeleton, &mut order)?;
-    let term = build(alloc, shapes, &order, &Scope::Outside, skeleton)?;
-    Ok(term)
+    build(alloc, shapes, &order, &Scope::Outside, skeleton)
 }
 
 // The named term of a typing, unless it is too large.
@@ -79,7 +78,7 @@ fn reading_of(alloc: Global, typed: &Typed) -> Result<Term, ReadingError>
 ///
 /// Answers `Untypable` exactly where there is no typing, and `TooLarge` exactly where the most general typings, which are all of one size,
 /// have over 20,000 nodes.
-pub fn read(alloc: Global, term: &RawTerm) -> Result<Term, ReadingError>
+pub(crate) fn read(alloc: Global, term: &RawTerm) -> Result<Term, ReadingError>
     requires scoped { IsScoped [] (raw_tree term.now) }
     requires rigid { HasRigidAnnotations (raw_tree term.now) }
     ensures reading { IfOk result (λ t. IsReading (raw_tree term.now) (nameless [] t)) }

@@ -17,7 +17,7 @@ use std::alloc::{AllocError, AllocFailed, Global};
 
 /// Why identifiers are not resolved.
 #[derive(Clone, Copy, Debug, PartialEq, Eq)]
-pub enum ResolveError {
+pub(crate) enum ResolveError {
     /// A type constructor with another number of arguments than its arity, or arguments given to a name that is no constructor.
     Arity,
     /// There is no memory left.
@@ -42,7 +42,7 @@ impl<T: Drop> From<AllocFailed<T>> for ResolveError {
 
 /// The names of the variables of the enclosing abstractions, the innermost first.
 #[derive(Clone, Copy)]
-pub enum Names<'a> {
+pub(crate) enum Names<'a> {
     /// Under no abstraction.
     Outermost,
     /// Under an abstraction over a variable of this name, which stands in that scope.
@@ -163,7 +163,7 @@ fn constructed(alloc: Global, constructor: &str, types: &[Ty]) -> Result<Ty, Res
 ///
 /// Answers `Arity` only where a constructor stands with another number of arguments than its arity, or arguments are given to a name
 /// that is no constructor.
-pub fn resolve_type(
+pub(crate) fn resolve_type(
     alloc: Global,
     arities: &[(Name, usize)],
     ty: &PreType,
@@ -192,7 +192,7 @@ pub fn resolve_type(
     }
 }
 
-// The type that is written for a bound variable, if there is one.
+/// The type that is written for a bound variable, if there is one.
 pub(crate) fn resolve_annotation(
     alloc: Global,
     arities: &[(Name, usize)],
@@ -275,7 +275,7 @@ fn equivalence(alloc: Global) -> Result<RawTerm, ResolveError>
 }
 
 /// What an operator means.
-pub fn operator(
+pub(crate) fn operator(
     alloc: Global,
     constants: &[(Name, Scheme)],
     names: &Names<'_>,
@@ -354,7 +354,7 @@ fn typed(
 /// The term whose identifiers are resolved, under abstractions over variables of these names.
 ///
 /// Answers `Arity` only where a type that is written has that fault.
-pub fn resolve(
+pub(crate) fn resolve(
     alloc: Global,
     constants: &[(Name, Scheme)],
     arities: &[(Name, usize)],

@@ -5,7 +5,7 @@ ghost use Rattle.hol_infer.specs.declared.scheme.Variables.TheVariants.{Distinct
 ghost use Rattle.hol_infer.specs.Linear.{IsLinear, IsLinearBut, AreDistinct, AreDistinctBut};
 
 use hol_mark::Mark;
-use hol_types::{Name, Ty, TyNode};
+use hol_types::{Name, Ty, TyNode, is_among};
 use std::alloc::{AllocError, Global};
 use std::collections::BTreeSet;
 use std::marker::Model;
@@ -13,7 +13,7 @@ use std::rc::Rc;
 
 /// What is known of how often the type variables stand in a type.
 #[derive(Clone, Copy, Debug, PartialEq, Eq)]
-pub enum Variables {
+pub(crate) enum Variables {
     /// Nothing.
     Unknown,
     /// Each stands once.
@@ -24,7 +24,7 @@ pub enum Variables {
 
 /// A generic type. Its copies share its nodes, and its mark once its variables are counted.
 #[derive(Drop)]
-pub struct Scheme {
+pub(crate) struct Scheme {
     ty: Ty,
     variables: Variables,
     repeated: Option<Rc<Vec<Name>>>,
@@ -49,7 +49,7 @@ impl Model for Scheme {
 
 impl Scheme {
     /// The generic type, of whose variables that much is known.
-    pub fn of(ty: &Ty, variables: Variables) -> Result<Scheme, AllocError>
+    pub(crate) fn of(ty: &Ty, variables: Variables) -> Result<Scheme, AllocError>
         requires { variables ≡ Distinct → IsLinear ty.now }
         ensures { IfOk result (λ s. s ≡ ty.now) }
     {
@@ -62,7 +62,7 @@ impl Scheme {
     }
 
     /// Finds out whether its variables are distinct, unless that is known, in time near linear in the type, and gives it a mark.
-    pub fn count(&mut self, alloc: Global) -> Result<(), AllocError>
+    pub(crate) fn count(&mut self, alloc: Global) -> Result<(), AllocError>
         ensures { OnOk result (self.new ≡ self.old) }
     {
         match self.variables {
@@ -83,28 +83,28 @@ impl Scheme {
     }
 
     /// The type.
-    pub fn ty(&self) -> &Ty
+    pub(crate) fn ty(&self) -> &Ty
         ensures { result.now ≡ self.now }
     {
         &self.ty
     }
 
     /// What is known of its variables.
-    pub fn variables(&self) -> Variables
+    pub(crate) fn variables(&self) -> Variables
         ensures { result ≡ Distinct → IsLinear self.now }
     {
         self.variables
     }
 
     /// The variables that stand in it twice, where they are known and there are some.
-    pub fn repeated(&self) -> Option<&Rc<Vec<Name>>>
+    pub(crate) fn repeated(&self) -> Option<&Rc<Vec<Name>>>
         ensures { IfSome result (λ names. IsLinearBut names.now.value.items self.now × AreDistinct names.now.value.items) }
     {
         self.repeated.as_ref()
     }
 
     /// The same generic type.
-    pub fn copy(&self) -> Result<Scheme, AllocError>
+    pub(crate) fn copy(&self) -> Result<Scheme, AllocError>
         ensures { IfOk result (λ s. s ≡ self.now) }
     {
         let repeated = match &self.repeated {
@@ -136,7 +136,7 @@ impl Scheme {
     }
 
     /// Whether the two are equal types: at once for copies of one that was counted, and else by a comparison.
-    pub fn same(&self, other: &Scheme) -> bool
+    pub(crate) fn same(&self, other: &Scheme) -> bool
         ensures { IsTrue result ↔ (self.now ≡ other.now) }
     {
         if self.has_mark_of(other) {
@@ -163,18 +163,6 @@ fn add_occurrences(ty: &Ty, names: &mut Vec<Name>) -> Result<(), AllocError>
             Ok(())
         }
     }
-}
-
-// Whether the name is among the names.
-fn is_among(names: &[Name], name: &Name) -> bool
-    ensures { result ≡ is_among names.now name.now }
-{
-    for other in names {
-        if name.same(other) {
-            return true;
-        }
-    }
-    false
 }
 
 // Puts the name at the end, unless it is there.

@@ -14,12 +14,12 @@ use std::marker::Model;
 use std::rc::Rc;
 
 /// One more than the nodes that a reading may have.
-pub const TOO_LARGE: u32 = 20_001;
+pub(crate) const TOO_LARGE: u32 = 20_001;
 
 /// A type over slots. Its copies share their nodes.
 #[cycle(shape)]
 #[derive(Drop)]
-pub struct Shape {
+pub(crate) struct Shape {
     size: u32,
     node: Rc<ShapeNode>,
 }
@@ -27,7 +27,7 @@ pub struct Shape {
 /// The top node of a shape.
 #[cycle(shape)]
 #[derive(Drop)]
-pub enum ShapeNode {
+pub(crate) enum ShapeNode {
     /// A slot whose type is open.
     Open(usize),
     /// A type variable of an annotation.
@@ -64,7 +64,7 @@ impl Model for Shape {
 
 impl Shape {
     /// The open slot of this number.
-    pub fn open(alloc: Global, slot: usize) -> Result<Shape, AllocError>
+    pub(crate) fn open(alloc: Global, slot: usize) -> Result<Shape, AllocError>
         ensures { IfOk result (λ s. s ≡ Hole slot) }
     {
         Ok(Shape {
@@ -74,7 +74,7 @@ impl Shape {
     }
 
     /// The type variable of this name.
-    pub fn rigid(alloc: Global, name: &Name) -> Result<Shape, AllocError>
+    pub(crate) fn rigid(alloc: Global, name: &Name) -> Result<Shape, AllocError>
         ensures { IfOk result (λ s. s ≡ Fixed name.now) }
     {
         Ok(Shape {
@@ -84,7 +84,7 @@ impl Shape {
     }
 
     /// The constructor of this name applied to the parts.
-    pub fn app(alloc: Global, name: &Name, parts: Vec<Shape>) -> Result<Shape, AllocError>
+    pub(crate) fn app(alloc: Global, name: &Name, parts: Vec<Shape>) -> Result<Shape, AllocError>
         ensures { IfOk result (λ s. s ≡ Built name.now (shape_list parts.items)) }
     {
         let size = size_with(&parts);
@@ -96,7 +96,7 @@ impl Shape {
 
     /// The generic type, whose type variables are the open slots from `base` on, in order of their names. It takes no walk.
     #[tactic(auto, using(crate::proofs::Numbers::instance_size))]
-    pub fn instance(alloc: Global, generic: &Ty, base: usize) -> Result<Shape, AllocError>
+    pub(crate) fn instance(alloc: Global, generic: &Ty, base: usize) -> Result<Shape, AllocError>
         requires { base + length (tyvars generic.now) < 2 ^ 64 }
         ensures { IfOk result (λ s. s ≡ instance_shape base (tyvars generic.now) generic.now) }
     {
@@ -108,7 +108,7 @@ impl Shape {
 
     /// The generic type, where for some of its type variables these shapes are put, and the others are the open slots from `base` on, in
     /// order of all their names. It takes a walk only where one of the shapes has more than one node.
-    pub fn part(
+    pub(crate) fn part(
         alloc: Global,
         generic: &Ty,
         bound: Vec<(Shape, Name)>,
@@ -126,7 +126,7 @@ impl Shape {
     }
 
     /// The same shape, sharing its nodes.
-    pub fn copy(&self) -> Result<Shape, AllocError>
+    pub(crate) fn copy(&self) -> Result<Shape, AllocError>
         ensures { IfOk result (λ s. s ≡ self.now) }
     {
         Ok(Shape {
@@ -136,7 +136,7 @@ impl Shape {
     }
 
     /// The number of nodes, or 20,001 where there are more.
-    pub fn size(&self) -> u32
+    pub(crate) fn size(&self) -> u32
         ensures { result ≡ min (shape_size self.now) 20001 }
     {
         self.size
@@ -144,7 +144,7 @@ impl Shape {
 
     /// Puts the open slots at the end of the list as they occur, each unless it is there.
     #[tactic(auto, using(crate::proofs::Holes::add_step))]
-    pub fn add_holes(&self, alloc: Global, order: &mut Vec<usize>) -> Result<(), AllocError>
+    pub(crate) fn add_holes(&self, alloc: Global, order: &mut Vec<usize>) -> Result<(), AllocError>
         ensures { OnOk result (order.new.items ≡ add_holes order.old.items (shape_holes self.now)) }
     {
         match &*self.node {
@@ -175,7 +175,7 @@ impl Shape {
 
     /// The type, where an open slot is the type variable named by its place in the order.
     #[tactic(auto, using(crate::proofs::Holes::fill_all, crate::proofs::Numbers::filled))]
-    pub fn ty(&self, alloc: Global, order: &[usize]) -> Result<Ty, AllocError>
+    pub(crate) fn ty(&self, alloc: Global, order: &[usize]) -> Result<Ty, AllocError>
         ensures { IfOk result (λ t. t ≡ fill (open_type order.now) self.now) }
     {
         match &*self.node {

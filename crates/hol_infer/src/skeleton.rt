@@ -8,7 +8,7 @@ use std::alloc::{AllocError, Global};
 
 /// A term with slots for its types.
 #[derive(Drop)]
-pub enum Skeleton {
+pub(crate) enum Skeleton {
     /// The variable of the abstraction so many outwards, from 0.
     Bound(usize),
     /// A constant.
@@ -23,7 +23,7 @@ pub enum Skeleton {
 
 impl Skeleton {
     /// The application of the first to the second.
-    pub fn apply(
+    pub(crate) fn apply(
         alloc: Global,
         function: Skeleton,
         argument: Skeleton,
@@ -34,7 +34,7 @@ impl Skeleton {
     }
 
     /// The abstraction over a variable of this name and slot.
-    pub fn abstraction(
+    pub(crate) fn abstraction(
         alloc: Global,
         name: &Name,
         slot: usize,
@@ -48,7 +48,7 @@ impl Skeleton {
 
 /// The slots of the variables of the enclosing abstractions, the innermost first.
 #[derive(Clone, Copy)]
-pub enum Scope<'a> {
+pub(crate) enum Scope<'a> {
     /// Under no abstraction.
     Outermost,
     /// Under an abstraction whose variable has this slot, which stands in that scope.
@@ -57,7 +57,7 @@ pub enum Scope<'a> {
 
 impl<'a> Scope<'a> {
     /// The slot of the variable that an index means.
-    pub fn slot(&self, index: usize) -> usize
+    pub(crate) fn slot(&self, index: usize) -> usize
         requires { index < length (scope_slots self.now) }
         ensures { slice_get (scope_slots self.now) index ≡ Some result }
     {

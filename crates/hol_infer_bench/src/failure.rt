@@ -8,7 +8,7 @@ use thiserror::Error;
 
 /// Why nothing was timed.
 #[derive(Clone, Copy, Debug, Drop, PartialEq, Eq, Error)]
-pub enum Failure {
+pub(crate) enum Failure {
     /// The words are not a type, a term and a number of times.
     #[error("words: TYPE TERM TIMES")]
     Words,

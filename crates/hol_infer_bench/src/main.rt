@@ -13,7 +13,7 @@ use std::alloc::{AllocError, Global};
 use std::env;
 use std::process::ExitCode;
 
-/// The type of the constant, the term, and how often its types are found.
+// The type of the constant, the term, and how often its types are found.
 #[derive(Drop)]
 struct Work {
     ty: String,
@@ -21,7 +21,7 @@ struct Work {
     times: u32,
 }
 
-/// The work that the program's words name.
+// The work that the program's words name.
 fn words(rt: &HostRuntime) -> Result<Work, Failure> {
     let mut words = env::args(rt)?;
     let _program = words.next();
@@ -80,7 +80,7 @@ fn answer(
     }
 }
 
-/// Finds the types so many times, and answers what the last time gave.
+// Finds the types so many times, and answers what the last time gave.
 fn done(alloc: Global, work: &Work) -> Result<String, Failure> {
     let constants = constants(alloc, work.ty.as_str())?;
     let arities = arities(alloc)?;

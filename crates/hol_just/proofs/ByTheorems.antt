@@ -24,7 +24,7 @@ use Rattle.hol_just.specs.Valid.{IsValid}
 use Rattle.hol_just.specs.Justifies.{goal_at, always, holds_given, holds_formula, ClosesByGiven, CutsBy, SplitsByCases, LeavesCases, LeavesConjunctionRight, LeavesConjunctionLeft, ClosesByLeft, ClosesByRight, LeavesConjuncts, TurnsEquation, SplitsByEquation, LeavesReplaced, SplitsByExistence, LeavesChosen}
 use Rattle.hol_just.specs.declared.reason.Move.{Move}
 use Rattle.hol_just.proofs.Allowed.{allowed_more}
-use Rattle.hol_just.proofs.Givens.{IsFormula}
+use Rattle.hol_match.proofs.Formulas.{IsFormula}
 use Rattle.hol_just.proofs.Typings.{operands_typed}
 use Rattle.hol_just.proofs.Validity.{valid_at, valid_under}
 

@@ -5,13 +5,12 @@ use Rattle.std.specs.FinSet as set
 use Rattle.std.proofs.Common.{ap, sym, ◌∙◌}
 use Rattle.hol_types.specs.Tree.{TypeTree}
 use Rattle.hol_terms.specs.Nameless.{Nameless}
-use Rattle.hol_terms.specs.Alpha.{strip, alpha_eq}
 use Rattle.hol_terms.proofs.Alpha.{alpha_eq_decides}
 use Rattle.hol_formulas.specs.Equation.{bool_type, equation}
 use Rattle.hol_formulas.specs.Formula.{truth}
 use Rattle.hol_formulas.proofs.FormulaLaws.{dest_eq_equation}
 use Rattle.hol_kernel.specs.Items.{Items}
-use Rattle.hol_kernel.specs.Sequent.{Hyps, no_hyps, Sequent, sequent_of}
+use Rattle.hol_kernel.specs.Sequent.{Hyps, Sequent, sequent_of}
 use Rattle.hol_kernel.specs.Rules.{eq_mp_of, eq_mp_sides}
 use Rattle.hol_kernel.specs.Typing.{type_over, HasType}
 use Rattle.hol_kernel.specs.Theorem.{Theorem, theorem_on}

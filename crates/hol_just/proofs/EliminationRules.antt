@@ -72,7 +72,7 @@ like_quantified t c x e =
 same_opened : (r : Nameless) (x y : Abstraction) → strip y.body ≡ strip x.body → strip (open_with r 0 y.body) ≡ strip (open_with r 0 x.body)
 same_opened r x y e = strip_open r 0 y.body ∙ ap (open_with (strip r) 0) e ∙ sym (strip_open r 0 x.body)
 
-same_free : (v : Variable) (m n : Nameless) → strip m ≡ strip n → binds (free_occurrences m) v ≡ binds (free_occurrences n) v
+pub same_free : (v : Variable) (m n : Nameless) → strip m ≡ strip n → binds (free_occurrences m) v ≡ binds (free_occurrences n) v
 same_free v m n e = ap (λ vs. binds vs v) (sym (strip_free m)) ∙ ap (λ t. binds (free_occurrences t) v) e ∙ ap (λ vs. binds vs v) (strip_free n)
 
 -- ---- the rules

@@ -12,7 +12,7 @@ use Rattle.hol_kernel.proofs.Sound.{strip_type}
 use Rattle.hol_just.specs.Gives.{moved}
 use Rattle.hol_just.specs.Justifies.{goal_at, always, holds_given, holds_formula, ClosesEquation, ClosesByGiven, ClosesByFalsity, SplitsApplications, LeavesArguments, LeavesFunctions, SplitsEquivalence, SplitsIntoImplications, LeavesConsequent, UnfoldsNegation, LeavesRefutation, TakesOut, SplitsByImplication, LeavesImplication, LeavesAssuming, LeavesFalsity}
 use Rattle.hol_just.specs.declared.reason.Move.{Move}
-use Rattle.hol_just.proofs.Givens.{IsFormula}
+use Rattle.hol_match.proofs.Formulas.{IsFormula}
 use Rattle.hol_just.proofs.Validity.{valid_at, valid_under}
 
 pub leaves_arguments : (f : Nameless) (splits closes all : List Move) → SplitsApplications splits → ClosesEquation f closes → all ≡ splits ++ moved 0 closes → LeavesArguments f all

@@ -2,6 +2,7 @@ pub mod Frame
 pub mod Validity
 pub mod Cuts
 pub mod Applied
+pub mod Assumed
 pub mod Moves
 pub mod Allowed
 pub mod Likeness
@@ -14,13 +15,11 @@ pub mod Replacing
 pub mod EliminationRules
 pub mod EliminationMoves
 pub mod Converting
-pub mod MatchAdds
 pub mod TraceTypes
 pub mod ConversionMoves
 pub mod Expanding
 pub mod MatchAlike
 pub mod MatchStays
-pub mod MatchKnown
 pub mod MatchOpened
 pub mod MatchFixed
 pub mod MatchApplied
@@ -30,7 +29,6 @@ pub mod MatchTyped
 pub mod ByTheorems
 pub mod Handed
 pub mod Proposition
-pub mod Givens
 pub mod Joined
 pub mod Pieces
 pub mod Weaker

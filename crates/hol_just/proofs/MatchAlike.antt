@@ -2,20 +2,22 @@
 use Rattle.std.specs.Prelude.{◌≡◌, ℕ, ◌+◌, Bool, true, false, cond, bytes_eq, List, [], ◌∷◌, ◌++◌, Option, Some, None, unwrap_or, refl}
 use Rattle.std.specs.Option.{option_map, option_and_then}
 use Rattle.std.proofs.Common.{ap, sym, ◌∙◌, subst}
+use Rattle.hol_match.proofs.Staying.{inst_same}
 use Rattle.hol_types.specs.Tree.{TypeTree, TypeList, TyVar, TyApp, no_types, more_types}
 use Rattle.hol_types.specs.Equal.{type_eq}
 use Rattle.hol_types.specs.Match.{bound_name, match_type, match_types}
-use Rattle.hol_types.specs.Subst.{type_lookup, type_for, type_subst, types_subst}
+use Rattle.hol_types.specs.Subst.{type_lookup, type_for}
 use Rattle.hol_terms.specs.Nameless.{Nameless, free, bound, fixed, app, lam, nameless_type}
 use Rattle.hol_terms.specs.Alpha.{alpha_eq}
-use Rattle.hol_subst.specs.Substitution.{term_lookup, term_for, term_subst, types_inst, variable_inst}
+use Rattle.hol_subst.specs.Substitution.{term_lookup, term_for, term_subst, types_inst}
 use Rattle.hol_subst.proofs.Commute.{subst_agree}
 use Rattle.hol_formulas.specs.Equation.{dest_comb}
 use Rattle.hol_formulas.specs.Formula.{dest_abs}
 use Rattle.hol_match.specs.Instance.{InstanceValue, instance_of, instantiated}
 use Rattle.hol_match.specs.Lowering.{lowered}
 use Rattle.hol_match.specs.Matching.{taken, with_type, variable_takes, variable_meets_under, constant_meets, matched_under}
-use Rattle.hol_match.proofs.Lookups.{type_first, type_second, term_first, term_second}
+use Rattle.hol_types.proofs.Lookups.{type_first, type_second}
+use Rattle.hol_match.proofs.Lookups.{term_first, term_second}
 
 abbrev Pairs : Type 0
 Pairs = List (TypeTree × List ℕ)
@@ -157,22 +159,6 @@ GivesSame a b = ((x : List ℕ) → type_for a.types x ≡ type_for b.types x) �
 
 pub alike_gives : (a b : InstanceValue) → Alike a b → GivesSame a b
 alike_gives a b h = (λ x. ap (λ o. unwrap_or o (TyVar x)) (h.0 x), λ v. ap (λ o. unwrap_or o (free v)) (h.1 v))
-
-mutual
-  pub type_same : (ps qs : List (TypeTree × List ℕ)) (t : TypeTree) → ((x : List ℕ) → type_for ps x ≡ type_for qs x) → type_subst ps t ≡ type_subst qs t
-  type_same ps qs (TyVar a) e = e a
-  type_same ps qs (TyApp c ts) e = ap (TyApp c) (types_same ps qs ts e)
-
-  types_same : (ps qs : List (TypeTree × List ℕ)) (ts : TypeList) → ((x : List ℕ) → type_for ps x ≡ type_for qs x) → types_subst ps ts ≡ types_subst qs ts
-  types_same ps qs no_types e = refl
-  types_same ps qs (more_types t ts) e = λ i. more_types (type_same ps qs t e i) (types_same ps qs ts e i)
-
-inst_same : (ps qs : Pairs) (n : Nameless) → ((x : List ℕ) → type_for ps x ≡ type_for qs x) → types_inst ps n ≡ types_inst qs n
-inst_same ps qs (free v) e = λ i. free (v.0, type_same ps qs v.1 e i)
-inst_same ps qs (bound i) e = refl
-inst_same ps qs (fixed c s) e = ap (fixed c) (type_same ps qs s e)
-inst_same ps qs (app f x) e = λ i. app (inst_same ps qs f e i) (inst_same ps qs x e i)
-inst_same ps qs (lam a s b) e = λ i. lam a (type_same ps qs s e i) (inst_same ps qs b e i)
 
 pub same_instance : (a b : InstanceValue) (k : ℕ) (n : Nameless) → GivesSame a b → instantiated a k n ≡ instantiated b k n
 same_instance a b k n h = ap (term_subst a.terms k) (inst_same a.types b.types n h.0) ∙ subst_agree a.terms b.terms k (types_inst b.types n) (λ w f. h.1 w)

@@ -1,40 +1,40 @@
 -- The reason by an instance of what stands under a theorem's quantifiers: the calls by which the code goes there.
-use Rattle.std.specs.Prelude.{◌≡◌, ℕ, ◌<◌, Bool, true, false, cond, ◌&&◌, List, [], ◌∷◌, map, codes, length, Option, Some, None, IsSome, is_some, refl}
+use Rattle.std.specs.Prelude.{◌≡◌, ℕ, Bool, true, false, cond, List, [], ◌∷◌, map, codes, Option, Some, None, IsSome, is_some, refl}
 use Rattle.std.specs.Option.{option_map, option_and_then}
 use Rattle.std.specs.FinSet as set
-use Rattle.std.proofs.Common.{ap, sym, ◌∙◌, subst, arith}
+use Rattle.std.proofs.Common.{ap, sym, ◌∙◌, subst}
 use Rattle.hol_types.specs.Tree.{TypeTree}
 use Rattle.hol_terms.specs.Named.{Named, var, constant, comb, abs}
 use Rattle.hol_terms.specs.Nameless.{Nameless, free, app, base_of, nameless}
-use Rattle.hol_subst.specs.Hypotheses.{Hyps, hyp_of, hyps_of, hyps_image}
+use Rattle.hol_subst.specs.Hypotheses.{Hyps, hyps_of, hyps_image}
 use Rattle.hol_subst.specs.Pairs.{nameless_pairs, HasBadPair}
 use Rattle.hol_subst.specs.Substitution.{term_subst, types_inst}
-use Rattle.hol_subst.proofs.HypothesisLists.{hyps_total, hyps_same}
 use Rattle.hol_formulas.specs.Equation.{bool_type}
 use Rattle.hol_formulas.specs.Formula.{Abstraction, quantifier_type, is_constant, is_forall}
 use Rattle.hol_kernel.specs.Given.{Given, given_over}
 use Rattle.hol_kernel.specs.Items.{Items}
 use Rattle.hol_kernel.specs.Rules.{inst_type_of, inst_of}
 use Rattle.hol_kernel.specs.Sequent.{Sequent, sequent_of}
-use Rattle.hol_kernel.specs.Theorem.{Theorem, theorem_on, over, IsWellTyped}
-use Rattle.hol_kernel.specs.Typing.{is_known, has_type, HasType}
+use Rattle.hol_kernel.specs.Theorem.{Theorem, theorem_on, over}
+use Rattle.hol_kernel.specs.Typing.{has_type}
 use Rattle.hol_kernel.proofs.Declared.{has_type_is}
-use Rattle.hol_kernel.proofs.Members.{Among, from_list_among}
 use Rattle.hol_kernel.proofs.Variables.{known_typed}
 use Rattle.hol_bool.specs.Rules.{spec_of}
 use Rattle.hol_match.specs.Instance.{InstanceValue, both, instantiated}
 use Rattle.hol_match.specs.Fixed.{stays_of}
 use Rattle.hol_match.specs.Matches.{Says, IsMostGeneral}
 use Rattle.hol_match.specs.Matching.{matched}
+use Rattle.hol_match.specs.Standing.{TermsStand, Stands}
+use Rattle.hol_match.proofs.Standing.{found_stands, types_all}
+use Rattle.hol_replay.proofs.Instances.{pairs_over}
 use Rattle.hol_just.specs.Inference.{from_none, inferred}
 use Rattle.hol_just.specs.Matching.{bound_variables, bound_by, specialized, instance_like, matching}
 use Rattle.hol_just.specs.Reasons.{premise_of}
 use Rattle.hol_just.specs.Over.{CutValue, Infers}
 use Rattle.hol_just.proofs.Expanding.{over_basis, over_sequent}
-use Rattle.hol_just.proofs.MatchAlike.{Alike, AreAlike, matched_alike, alike_gives, same_instance}
+use Rattle.hol_just.proofs.MatchAlike.{AreAlike, matched_alike, alike_gives, same_instance}
 use Rattle.hol_just.proofs.MatchStays.{stays_alike}
 use Rattle.hol_just.proofs.MatchFixed.{types_keep, terms_keep, alone}
-use Rattle.hol_just.proofs.MatchKnown.{TermsStand, Stands, found_stands, types_all, pairs_all}
 
 -- ---- an instance of a sequent
 
@@ -59,7 +59,7 @@ module _ (basis : Items) (a : Sequent) (t : Nameless) (ps : List Named) (is : hy
   pub is_found : matched 0 a.concl (stays_of (map (nameless []) ps)) t ≡ None → ⊥
   is_found e = alike_some (matched 0 a.concl (stays_of (set.items a.hyps)) t) (matched 0 a.concl (stays_of (map (nameless []) ps)) t) alike parts.1 e
 
-  module _ (typed : IsWellTyped (theorem_on basis a)) (f : InstanceValue) (found : matched 0 a.concl (stays_of (map (nameless []) ps)) t ≡ Some (both (stays_of (map (nameless []) ps)) f)) (says : Says f (stays_of (map (nameless []) ps))) where
+  module _ (f : InstanceValue) (found : matched 0 a.concl (stays_of (map (nameless []) ps)) t ≡ Some (both (stays_of (map (nameless []) ps)) f)) (says : Says f (stays_of (map (nameless []) ps))) where
     like_is : instance_like basis t a ≡ Some (sequent_of a.hyps (instantiated f 0 a.concl))
     like_is = (λ i. cond (parts.0 i) (option_map (λ j. sequent_of a.hyps (instantiated j 0 a.concl)) (matched 0 a.concl (stays_of (set.items a.hyps)) t)) None) ∙ by (matched 0 a.concl (stays_of (set.items a.hyps)) t) alike_found parts.1
       where
@@ -77,11 +77,7 @@ module _ (basis : Items) (a : Sequent) (t : Nameless) (ps : List Named) (is : hy
 
     stands : Stands basis f
     stands =
-        found_stands basis ps a.concl t f
-        (λ k m.
-        (known_typed basis k bool_type
-        (typed.hypotheses k (subst (λ (s : Hyps). set.contains s k ≡ true) is (from_list_among hyps_total hyps_same (map hyp_of ps) k m)))).0)
-        (known_typed basis t bool_type (has_type_is basis t bool_type parts.0)).0 found
+        found_stands basis 0 a.concl (stays_of (map (nameless []) ps)) t f (known_typed basis t bool_type (has_type_is basis t bool_type parts.0)).0 found
 
     types_is : inst_type_of basis f.types a ≡ Some (sequent_of a.hyps (types_inst f.types a.concl))
     types_is =
@@ -99,7 +95,7 @@ module _ (basis : Items) (a : Sequent) (t : Nameless) (ps : List Named) (is : hy
       terms_are : inst_of basis pairs (sequent_of a.hyps (types_inst f.types a.concl)) ≡ Some (sequent_of a.hyps (instantiated f 0 a.concl))
       terms_are =
           ap (λ c. cond c (Some (sequent_of (hyps_image (term_subst (nameless_pairs pairs) 0) a.hyps) (term_subst (nameless_pairs pairs) 0 (types_inst f.types a.concl)))) None)
-          (pairs_all basis pairs good (subst (TermsStand basis) (sym are) stands.1))
+          (pairs_over basis pairs good (subst (TermsStand basis) (sym are) stands.1))
           ∙ ap (λ (qs : List (Nameless × (List ℕ × TypeTree))). Some (sequent_of (hyps_image (term_subst qs 0) a.hyps) (term_subst qs 0 (types_inst f.types a.concl)))) are
           ∙ ap (λ (hs : Hyps). Some (sequent_of hs (instantiated f 0 a.concl))) (terms_keep f a.hyps ps is says)
 
@@ -120,23 +116,23 @@ module _ (th : Theorem) (t concl : Nameless) (ps : List Named) (is : hyps_of ps 
   pub found_there : matched 0 concl (stays_of (map (nameless []) ps)) t ≡ None → ⊥
   found_there e = is_found th.basis th.sequent t ps is some (ap (λ n. matched 0 n (stays_of (map (nameless []) ps)) t) (sym same) ∙ e)
 
-  module _ (typed : IsWellTyped th) (f : InstanceValue) (found : matched 0 concl (stays_of (map (nameless []) ps)) t ≡ Some (both (stays_of (map (nameless []) ps)) f)) (general : IsMostGeneral (stays_of (map (nameless []) ps)) concl t f) (types : List (TypeTree × List ℕ)) (types_are : types ≡ f.types) where
+  module _ (f : InstanceValue) (found : matched 0 concl (stays_of (map (nameless []) ps)) t ≡ Some (both (stays_of (map (nameless []) ps)) f)) (general : IsMostGeneral (stays_of (map (nameless []) ps)) concl t f) (types : List (TypeTree × List ℕ)) (types_are : types ≡ f.types) where
     own_found : matched 0 th.sequent.concl (stays_of (map (nameless []) ps)) t ≡ Some (both (stays_of (map (nameless []) ps)) f)
     own_found = ap (λ n. matched 0 n (stays_of (map (nameless []) ps)) t) (sym same) ∙ found
 
     pub inst_type_applies : IsSome (over th.basis (inst_type_of th.basis types th.sequent))
     inst_type_applies =
-        subst (λ (qs : List (TypeTree × List ℕ)). IsSome (over th.basis (inst_type_of th.basis qs th.sequent))) (sym types_are) (types_apply th.basis th.sequent t ps is some typed f own_found general.fits.left)
+        subst (λ (qs : List (TypeTree × List ℕ)). IsSome (over th.basis (inst_type_of th.basis qs th.sequent))) (sym types_are) (types_apply th.basis th.sequent t ps is some f own_found general.fits.left)
 
     module _ (pairs : List (Named × Named)) (are : nameless_pairs pairs ≡ f.terms) (good : HasBadPair pairs → ⊥) (r : Theorem) (gave : over th.basis (inst_type_of th.basis types th.sequent) ≡ Some r) where
       own_gave : over th.basis (inst_type_of th.basis f.types th.sequent) ≡ Some r
       own_gave = ap (λ (qs : List (TypeTree × List ℕ)). over th.basis (inst_type_of th.basis qs th.sequent)) (sym types_are) ∙ gave
 
       pub inst_applies : IsSome (over r.basis (inst_of r.basis pairs r.sequent))
-      inst_applies = terms_apply th.basis th.sequent t ps is some typed f own_found general.fits.left pairs are good r own_gave
+      inst_applies = terms_apply th.basis th.sequent t ps is some f own_found general.fits.left pairs are good r own_gave
 
       pub inst_gives : (new : Theorem) → over r.basis (inst_of r.basis pairs r.sequent) ≡ Some new → over th.basis (instance_like th.basis t th.sequent) ≡ Some new
-      inst_gives new e = terms_give th.basis th.sequent t ps is some typed f own_found general.fits.left pairs are good r own_gave new e
+      inst_gives new e = terms_give th.basis th.sequent t ps is some f own_found general.fits.left pairs are good r own_gave new e
 
 -- ---- outer quantifiers
 

@@ -1,6 +1,5 @@
 -- The justification of MATCH_MP_TAC: of an implication from `?vs. p`, the conclusion is proved with p at new variables assumed.
-use Rattle.std.specs.Prelude.{◌≡◌, ℕ, ◌+◌, Bool, true, false, cond, ◌||◌, List, [], ◌∷◌, ◌++◌, map, codes, refl}
-use Rattle.std.specs.FinSet as set
+use Rattle.std.specs.Prelude.{◌≡◌, ℕ, ◌+◌, Bool, true, false, cond, ◌||◌, List, [], ◌∷◌, ◌++◌, codes, refl}
 use Rattle.std.proofs.Common.{ap, sym, ◌∙◌, subst}
 use Rattle.std.proofs.lemmas.Bool.{or_left, or_right, or_parts}
 use Rattle.hol_types.specs.Tree.{TypeTree}
@@ -11,14 +10,12 @@ use Rattle.hol_terms.specs.Alpha.{strip}
 use Rattle.hol_terms.specs.Scoped.{binds}
 use Rattle.hol_terms.proofs.Occurs.{binds_append}
 use Rattle.hol_terms.proofs.Same.{variable_eq_decides}
-use Rattle.hol_subst.specs.Closing.{close, open_with, bind}
-use Rattle.hol_subst.specs.Variant.{is_free_in}
+use Rattle.hol_subst.specs.Closing.{close, bind}
 use Rattle.hol_subst.proofs.Closing.{eq_same, close_binds, open_close, nameless_abs}
 use Rattle.hol_subst.proofs.HypothesisLists.{hyps_total, hyps_same}
 use Rattle.hol_formulas.specs.Equation.{bool_type}
-use Rattle.hol_formulas.specs.Formula.{quantifier_type, implication, existential}
+use Rattle.hol_formulas.specs.Formula.{quantifier_type, implication}
 use Rattle.hol_formulas.specs.Making.{mk_exists}
-use Rattle.hol_kernel.specs.Items.{Items}
 use Rattle.hol_kernel.specs.Sequent.{Hyps}
 use Rattle.hol_kernel.specs.Given.{Given, assumed, given_sequent}
 use Rattle.hol_kernel.proofs.Declared.{has_type_of}
@@ -29,7 +26,7 @@ use Rattle.hol_goal.specs.Achieves as achieves
 use Rattle.hol_just.specs.MatchMp.{existentials}
 use Rattle.hol_just.specs.Gives.{moved}
 use Rattle.hol_just.specs.Valid.{IsValid}
-use Rattle.hol_just.specs.Justifies.{goal_at, always, holds_given, IsNew, AreNew, LeavesChosen, LeavesConsequent, LeavesImplication, SplitsByImplication, ClosesByInstance, ClosesByPremise, LeavesPremise}
+use Rattle.hol_just.specs.Justifies.{goal_at, always, holds_given, AreNew, LeavesChosen, LeavesConsequent, LeavesImplication, SplitsByImplication, ClosesByInstance, ClosesByPremise, LeavesPremise}
 use Rattle.hol_just.specs.declared.reason.Move.{Move}
 use Rattle.hol_just.proofs.Allowed.{allowed_only, allowed_more}
 use Rattle.hol_just.proofs.Validity.{valid_at, valid_under}

@@ -1,66 +1,32 @@
 -- The justification by an instance of what stands under a theorem's outer quantifiers.
-use Rattle.std.specs.Prelude.{◌≡◌, ℕ, Bool, true, false, cond, bytes_eq, IsTrue, List, [], ◌∷◌, ◌++◌, map, Option, Some, None, refl}
+use Rattle.std.specs.Prelude.{◌≡◌, cond, List, [], Option, Some, None, refl}
 use Rattle.std.specs.Option.{option_map, option_and_then}
 use Rattle.std.specs.FinSet as set
-use Rattle.std.proofs.Common.{ap, sym, ◌∙◌, subst}
-use Rattle.std.proofs.lemmas.Slice.Eq.{bytes_eq-Decides}
-use Rattle.hol_types.specs.Tree.{TypeTree, TyVar}
-use Rattle.hol_types.specs.Equal.{variable_eq}
-use Rattle.hol_types.specs.Subst.{type_lookup}
+use Rattle.std.proofs.Common.{ap, ◌∙◌, subst}
 use Rattle.hol_terms.specs.Named.{Named}
-use Rattle.hol_terms.specs.Nameless.{Nameless, free, nameless}
+use Rattle.hol_terms.specs.Nameless.{Nameless, nameless}
 use Rattle.hol_terms.specs.Alpha.{strip}
-use Rattle.hol_terms.proofs.Same.{variable_eq_decides}
-use Rattle.hol_subst.specs.Substitution.{term_lookup}
-use Rattle.hol_subst.proofs.Closing.{eq_same}
 use Rattle.hol_formulas.specs.Equation.{bool_type}
 use Rattle.hol_kernel.specs.Items.{Items}
-use Rattle.hol_kernel.specs.Sequent.{Hyps, Sequent, sequent_of}
+use Rattle.hol_kernel.specs.Sequent.{Hyps, sequent_of}
 use Rattle.hol_kernel.specs.Given.{Given, given_sequent}
-use Rattle.hol_kernel.specs.Typing.{has_type, HasType}
+use Rattle.hol_kernel.specs.Typing.{HasType}
 use Rattle.hol_kernel.proofs.Declared.{has_type_of}
-use Rattle.hol_match.specs.Instance.{InstanceValue, instantiated, staying}
+use Rattle.hol_match.specs.Instance.{InstanceValue, instantiated}
 use Rattle.hol_match.specs.Fixed.{fixed_names, fixed_variables, stays_of}
 use Rattle.hol_match.specs.Matches.{IsMatch}
 use Rattle.hol_match.specs.Matching.{matched}
-use Rattle.hol_match.proofs.Lookups.{append_assoc}
-use Rattle.hol_match.proofs.TypeMatches.{TypesHold}
 use Rattle.hol_match.proofs.MatchLaws.{Tells, Makes, matched_tells}
-use Rattle.hol_match.proofs.Holding.{TermsHold, Holds, HoldsIn, matched_holds, holding_says, holding_typed}
-use Rattle.hol_match.proofs.Staying.{none_is_missing}
-use Rattle.hol_goal.specs.Achieves.{AreAllowed}
-use Rattle.hol_just.specs.Matching.{bound_variables, specialized, instance_like, matching}
+use Rattle.hol_match.proofs.Holding.{Holds, HoldsIn, matched_holds, holding_says, holding_typed}
+use Rattle.hol_match.proofs.Staying.{none_is_missing, own_terms_hold, own_types_hold}
+use Rattle.hol_just.specs.Matching.{bound_variables, instance_like, matching}
 use Rattle.hol_just.specs.Reasons.{premise_of}
-use Rattle.hol_just.specs.Justifies.{goal_at, holds_given, StandsUnder, HasInstance, ClosesByInstance}
+use Rattle.hol_just.specs.Justifies.{goal_at, holds_given, ClosesByInstance}
 use Rattle.hol_just.specs.declared.reason.Reason.TheVariants.{Matching}
 use Rattle.hol_just.proofs.EquationRules.{holds_premise}
 use Rattle.hol_just.proofs.OneMove.{one, one_valid, by_none, answer_by}
 
 -- ---- what stays holds in itself
-
-type_among : (before : List (List ℕ)) (a : List ℕ) (names : List (List ℕ)) → type_lookup (map (λ a. (TyVar a, a)) (before ++ a ∷ names)) a ≡ Some (TyVar a)
-type_among [] a names = rw ((bytes_eq-Decides a a).1 refl) refl
-type_among (b ∷ before) a names = by (bytes_eq b a) refl (type_among before a names)
-  where
-    by : (c : Bool) → bytes_eq b a ≡ c → type_lookup (map (λ a. (TyVar a, a)) (before ++ a ∷ names)) a ≡ Some (TyVar a) → cond c (Some (TyVar b)) (type_lookup (map (λ a. (TyVar a, a)) (before ++ a ∷ names)) a) ≡ Some (TyVar a)
-    by true q r = ap (λ x. Some (TyVar x)) ((bytes_eq-Decides b a).0 q)
-    by false q r = r
-
-own_types_hold : (before names : List (List ℕ)) → TypesHold (map (λ a. (TyVar a, a)) (before ++ names)) (map (λ a. (TyVar a, a)) names)
-own_types_hold before [] = tt
-own_types_hold before (a ∷ names) = (type_among before a names, subst (λ l. TypesHold (map (λ a. (TyVar a, a)) l) (map (λ a. (TyVar a, a)) names)) (append_assoc before (a ∷ []) names) (own_types_hold (before ++ a ∷ []) names))
-
-term_among : (before : List (List ℕ × TypeTree)) (v : List ℕ × TypeTree) (vs : List (List ℕ × TypeTree)) → term_lookup (map (λ v. (free v, v)) (before ++ v ∷ vs)) v ≡ Some (free v)
-term_among [] v vs = rw (eq_same v) refl
-term_among (u ∷ before) v vs = by (variable_eq u v) refl (term_among before v vs)
-  where
-    by : (c : Bool) → variable_eq u v ≡ c → term_lookup (map (λ v. (free v, v)) (before ++ v ∷ vs)) v ≡ Some (free v) → cond c (Some (free u)) (term_lookup (map (λ v. (free v, v)) (before ++ v ∷ vs)) v) ≡ Some (free v)
-    by true q r = ap (λ x. Some (free x)) ((variable_eq_decides u v).0 q)
-    by false q r = r
-
-own_terms_hold : (before vs : List (List ℕ × TypeTree)) → TermsHold (map (λ v. (free v, v)) (before ++ vs)) (map (λ v. (free v, v)) vs)
-own_terms_hold before [] = tt
-own_terms_hold before (v ∷ vs) = ((term_among before v vs, refl), subst (λ l. TermsHold (map (λ v. (free v, v)) l) (map (λ v. (free v, v)) vs)) (append_assoc before (v ∷ []) vs) (own_terms_hold (before ++ v ∷ []) vs))
 
 pub stays_hold : (ns : List Nameless) → Holds (stays_of ns)
 stays_hold ns = (own_types_hold [] (fixed_names [] ns), own_terms_hold [] (fixed_variables [] ns))

@@ -1,21 +1,21 @@
 -- A theorem's outer quantifiers taken off: SPEC at the variables gives what stands under them.
-use Rattle.std.specs.Prelude.{◌≡◌, ℕ, zero, suc, cond, List, [], ◌∷◌, codes, Option, Some, None, refl}
+use Rattle.std.specs.Prelude.{◌≡◌, ℕ, zero, suc, cond, List, ◌∷◌, codes, Option, Some, None, refl}
 use Rattle.std.specs.Option.{option_and_then}
-use Rattle.std.proofs.Common.{ap, sym, ◌∙◌, subst}
+use Rattle.std.proofs.Common.{ap, ◌∙◌, subst}
 use Rattle.hol_types.specs.Tree.{TypeTree}
 use Rattle.hol_terms.specs.Nameless.{Nameless, free}
 use Rattle.hol_subst.specs.Closing.{open_with}
 use Rattle.hol_formulas.specs.Equation.{bool_type}
-use Rattle.hol_formulas.specs.Formula.{Abstraction, universal, dest_forall}
+use Rattle.hol_formulas.specs.Formula.{Abstraction, dest_forall}
 use Rattle.hol_formulas.proofs.FormulaLaws.{dest_quantifier_is}
 use Rattle.hol_kernel.specs.Items.{Items}
-use Rattle.hol_kernel.specs.Sequent.{Hyps, Sequent, sequent_of}
-use Rattle.hol_kernel.specs.Typing.{is_type, has_type, HasType}
+use Rattle.hol_kernel.specs.Sequent.{Hyps, sequent_of}
+use Rattle.hol_kernel.specs.Typing.{has_type, HasType}
 use Rattle.hol_kernel.proofs.Declared.{has_type_of}
 use Rattle.hol_kernel.proofs.Variables.{variable_typed}
-use Rattle.hol_bool.specs.Rules.{spec_of}
+use Rattle.hol_match.specs.Rules.{apart}
 use Rattle.hol_just.specs.Matching.{specialized}
-use Rattle.hol_just.specs.MatchMp.{OpenedValue, under, apart, opened_at, opened_in}
+use Rattle.hol_just.specs.MatchMp.{OpenedValue, under, opened_at, opened_in}
 use Rattle.hol_just.proofs.Typings.{property_typed, opened_typed}
 
 module _ (basis : Items) (hs : Hyps) where

@@ -1,22 +1,21 @@
 -- What MATCH_MP_TAC leaves is a formula wherever the theorem holds and the conclusion is one.
-use Rattle.std.specs.Prelude.{◌≡◌, ℕ, Bool, true, false, cond, not, ◌&&◌, List, [], ◌∷◌, map, Some, refl}
-use Rattle.std.specs.List.{filter, AllByRecursion}
-use Rattle.std.specs.FinSet as set
-use Rattle.std.proofs.Common.{ap, sym, ◌∙◌, subst}
+use Rattle.std.specs.Prelude.{◌≡◌, ℕ, Bool, true, false, cond, not, ◌&&◌, ◌||◌, List, [], ◌∷◌, map, Some, refl}
+use Rattle.std.specs.List.{AllByRecursion}
+use Rattle.std.proofs.Common.{sym, ◌∙◌, subst}
 use Rattle.hol_types.specs.Tree.{TypeTree}
+use Rattle.hol_types.specs.Equal.{variable_eq}
 use Rattle.hol_terms.specs.Named.{Named}
-use Rattle.hol_terms.specs.Nameless.{Nameless, free, nameless, nameless_type, free_occurrences}
+use Rattle.hol_terms.specs.Nameless.{Nameless, free, bound, fixed, app, lam, nameless, nameless_type, free_occurrences}
 use Rattle.hol_terms.specs.Scoped.{binds}
-use Rattle.hol_subst.specs.Hypotheses.{Hyps, hyp_of, hyps_of}
+use Rattle.hol_terms.proofs.Occurs.{binds_append}
+use Rattle.hol_terms.proofs.Same.{variable_eq_decides}
 use Rattle.hol_subst.specs.Substitution.{types_inst, variable_inst}
-use Rattle.hol_subst.proofs.HypothesisLists.{hyps_total, hyps_same}
 use Rattle.hol_subst.proofs.Typing.{subst_type}
 use Rattle.hol_subst.proofs.TypesInst.{inst_type}
 use Rattle.hol_formulas.specs.Equation.{bool_type}
 use Rattle.hol_kernel.specs.Items.{Items}
-use Rattle.hol_kernel.specs.Typing.{is_type, is_known, HasType, are_typed_for}
+use Rattle.hol_kernel.specs.Typing.{is_type, is_base, is_known, HasType, are_typed_for}
 use Rattle.hol_kernel.proofs.Declared.{has_type_of}
-use Rattle.hol_kernel.proofs.Members.{Among, from_list_among}
 use Rattle.hol_kernel.proofs.Stands.{both, known_inst, known_subst}
 use Rattle.hol_kernel.proofs.Variables.{known_typed, typed_known}
 use Rattle.hol_match.specs.Instance.{InstanceValue, instantiated}
@@ -25,8 +24,9 @@ use Rattle.hol_match.specs.Fixed.{stays_of}
 use Rattle.hol_match.specs.Matches.{IsWellTyped}
 use Rattle.hol_match.specs.Matching.{matched}
 use Rattle.hol_match.proofs.Holding.{TermsHold, Holds, HoldsIn, hold_after, matched_holds}
+use Rattle.hol_match.specs.Standing.{TermsStand, Stands}
+use Rattle.hol_match.proofs.Standing.{found_stands, types_all}
 use Rattle.hol_just.specs.MatchMp.{undetermined, existentials}
-use Rattle.hol_just.proofs.MatchKnown.{TermsStand, Stands, occurrence_stands, types_all, found_stands}
 use Rattle.hol_just.proofs.MatchMoves.{stays_hold}
 use Rattle.hol_just.proofs.Typings.{existential_typed}
 
@@ -39,15 +39,33 @@ existentials_typed basis (v ∷ vs) p h k = existential_typed basis v (existenti
 
 -- ---- the instance
 
+-- the type of a variable that is free in a term stands where the term does
+occurrence_stands : (basis : Items) (n : Nameless) (v : List ℕ × TypeTree) → is_known basis n ≡ true → binds (free_occurrences n) v ≡ true → is_type basis v.1 ≡ true
+occurrence_stands basis (free w) v h e = by (variable_eq w v) refl e
+  where
+    by : (b : Bool) → variable_eq w v ≡ b → (b || false) ≡ true → is_type basis v.1 ≡ true
+    by true q g = subst (λ (z : List ℕ × TypeTree). is_type basis z.1 ≡ true) ((variable_eq_decides w v).0 q) h
+    by false q g = absurd (cc)
+occurrence_stands basis (bound i) v h e = absurd (cc)
+occurrence_stands basis (fixed c s) v h e = absurd (cc)
+occurrence_stands basis (app f x) v h e =
+    let parts = both (is_known basis f) (is_known basis x) h in
+    by (binds (free_occurrences f) v) refl (sym (binds_append (free_occurrences f) (free_occurrences x) v) ∙ e) (λ q. occurrence_stands basis f v parts.0 q) (λ q. occurrence_stands basis x v parts.1 q)
+  where
+    by :
+        (b : Bool) → binds (free_occurrences f) v ≡ b → (b || binds (free_occurrences x) v) ≡ true → (binds (free_occurrences f) v ≡ true → is_type basis v.1 ≡ true) →
+        (binds (free_occurrences x) v ≡ true → is_type basis v.1 ≡ true) → is_type basis v.1 ≡ true
+    by true q g k l = k q
+    by false q g k l = l g
+occurrence_stands basis (lam a s b) v h e = occurrence_stands basis b v (both (is_type basis s) (is_known basis b) (both (is_base a) (is_type basis s && is_known basis b) h).1).1 e
+
 typed_all : (basis : Items) (found ps : List (Nameless × (List ℕ × TypeTree))) → TermsHold found ps → TermsStand basis ps → are_typed_for basis ps ≡ true
 typed_all basis found [] h k = refl
 typed_all basis found (p ∷ ps) h k = λ i. has_type_of basis p.0 p.1.1 (typed_known basis p.0 p.1.1 k.0 h.0.1) i && typed_all basis found ps h.1 k.1 i
 
-module _ (basis : Items) (ps : List Named) (b t : Nameless) (f : InstanceValue) (hyps : (k : Nameless) → set.contains (hyps_of ps) k ≡ true → HasType basis k bool_type) (known : HasType basis t bool_type) (found : matched 0 b (stays_of (map (nameless []) ps)) t ≡ Some (instance.both (stays_of (map (nameless []) ps)) f)) where
+module _ (basis : Items) (ps : List Named) (b t : Nameless) (f : InstanceValue) (known : HasType basis t bool_type) (found : matched 0 b (stays_of (map (nameless []) ps)) t ≡ Some (instance.both (stays_of (map (nameless []) ps)) f)) where
   stands : Stands basis f
-  stands =
-      found_stands basis ps b t f (λ k m. (known_typed basis k bool_type (hyps k (from_list_among hyps_total hyps_same (map hyp_of ps) k m))).0)
-      (known_typed basis t bool_type known).0 found
+  stands = found_stands basis 0 b (stays_of (map (nameless []) ps)) t f (known_typed basis t bool_type known).0 found
 
   typed_pairs : are_typed_for basis f.terms ≡ true
   typed_pairs =

@@ -1,5 +1,5 @@
 -- What becomes of pieces that are stripped has fewer nodes, so that stripping goes by pieces, and never gives turns back.
-use Rattle.std.specs.Prelude.{◌≡◌, ◌≤◌, ◌<◌, ◌+◌, ◌-◌, ℕ, zero, suc, Bool, true, false, cond, ◌||◌, nat_lt, ◌==◌, List, [], ◌∷◌, ◌++◌, codes, Option, Some, None, refl}
+use Rattle.std.specs.Prelude.{◌≡◌, ◌≤◌, ◌<◌, ◌+◌, ℕ, zero, suc, Bool, true, false, cond, ◌||◌, List, [], ◌∷◌, ◌++◌, codes, Option, Some, None, refl}
 use Rattle.std.specs.Option.{option_map, option_or, unwrap_or}
 use Rattle.std.specs.List.{AllByRecursion, list_any}
 use Rattle.std.proofs.Common.{ap, sym, ◌∙◌, arith, append_assoc}
@@ -9,6 +9,8 @@ use Rattle.hol_terms.specs.Alpha.{alpha_eq}
 use Rattle.hol_subst.specs.Closing.{open_with}
 use Rattle.hol_formulas.specs.Formula.{connective_type, Abstraction, conjunction, disjunction, existential, is_truth, is_falsity, dest_conj, dest_disj, dest_exists}
 use Rattle.hol_formulas.proofs.FormulaLaws.{dest_binary_is, dest_quantifier_is}
+use Rattle.hol_match.specs.Rules.{nodes}
+use Rattle.hol_match.proofs.Opened.{nodes_opened}
 use Rattle.hol_goal.specs.Goal.{GoalValue}
 use Rattle.hol_just.specs.FreeNames.{free_name}
 use Rattle.hol_goal.specs.Arguments.{TacArgsValue, Nothing, Term, Pair, Theorem, TermAndTheorem, Theorems}
@@ -16,7 +18,7 @@ use Rattle.hol_kernel.specs.Given.{given_sequent}
 use Rattle.hol_just.specs.Leaving.{concluding, assuming, goal_terms, theorem_terms, with_nothing, with_theorem}
 use Rattle.hol_just.specs.ConnectiveTacs.{conj_tac}
 use Rattle.hol_just.specs.QuantifierTacs.{gen_tac}
-use Rattle.hol_just.specs.Strip.{Piece, Conjuncts, Disjuncts, Property, Closing, Dropped, Kept, plain_piece, piece, WaitingValue, waiting, new_variable, becomes, Stripped, Leaves, RunsOut, before_goals, and_also, strip_each, strip_parts, strip_in, nodes, all_nodes, strip, strip_assume_tac, antecedent, strip_tac, stripped}
+use Rattle.hol_just.specs.Strip.{Piece, Conjuncts, Disjuncts, Property, Closing, Dropped, Kept, plain_piece, piece, WaitingValue, waiting, new_variable, becomes, Stripped, Leaves, RunsOut, before_goals, and_also, strip_each, strip_parts, strip_in, all_nodes, strip, strip_assume_tac, antecedent, strip_tac, stripped}
 
 -- ---- which piece is which
 
@@ -66,18 +68,6 @@ some_node (bound i) = omega arith
 some_node (fixed c s) = omega arith
 some_node (app f x) = omega arith
 some_node (lam a s b) = omega arith
-
-pub opened_nodes : (v : List ℕ × TypeTree) (k : ℕ) (t : Nameless) → nodes (open_with (free v) k t) ≡ nodes t
-opened_nodes v k (free w) = refl
-opened_nodes v k (bound i) = by (nat_lt i k) (i == k)
-  where
-    by : (b d : Bool) → nodes (cond b (bound i) (cond d (free v) (bound (i - 1)))) ≡ 1
-    by true d = refl
-    by false true = refl
-    by false false = refl
-opened_nodes v k (fixed c s) = refl
-opened_nodes v k (app f x) = λ i. 1 + opened_nodes v k f i + opened_nodes v k x i
-opened_nodes v k (lam a s b) = λ i. 1 + opened_nodes v (k + 1) b i
 
 -- what is to be stripped
 abbrev pub parts_of : Option (List WaitingValue × ℕ) → List WaitingValue
@@ -138,7 +128,7 @@ parts_fewer others p ps goal (suc turns) (Disjuncts a b) h =
 parts_fewer others p ps goal turns (Property x) h =
     let e : nodes p ≡ 1 + 1 + (1 + nodes x.body) = ap nodes (h.property x refl) in
     let v : List ℕ × TypeTree = (free_name (others ++ ((p ∷ ps) ++ goal_terms goal)) x.base, x.domain) in
-    let same : nodes (open_with (new_variable others (p ∷ ps) goal x) 0 x.body) ≡ nodes x.body = opened_nodes v 0 x.body in
+    let same : nodes (open_with (new_variable others (p ∷ ps) goal x) 0 x.body) ≡ nodes x.body = nodes_opened v 0 x.body in
     one_fewer (waiting (open_with (new_variable others (p ∷ ps) goal x) 0 x.body ∷ ps) goal) (nodes p + all_nodes ps) (omega (arith, e, same))
 parts_fewer others p ps goal turns Closing h = none_fewer (nodes p + all_nodes ps)
 parts_fewer others p ps goal turns Dropped h = let r = some_node p in one_fewer (waiting ps goal) (nodes p + all_nodes ps) (omega (arith, r))

@@ -1,8 +1,9 @@
 -- What the rules of the quantifiers make of sequents that achieve goals.
-use Rattle.std.specs.Prelude.{◌≡◌, ℕ, Bool, true, false, cond, not, ◌&&◌, ◌||◌, List, [], ◌∷◌, map, codes, Some, None, is_some, refl}
+use Rattle.std.specs.Prelude.{◌≡◌, ℕ, true, false, cond, not, ◌&&◌, ◌||◌, List, [], ◌∷◌, map, codes, Some, None, is_some, refl}
 use Rattle.std.specs.Option.{option_and_then}
 use Rattle.std.specs.FinSet as set
 use Rattle.std.proofs.Common.{ap, sym, ◌∙◌, subst, inl, inr}
+use Rattle.std.proofs.lemmas.Bool.{or_parts}
 use Rattle.hol_types.specs.Tree.{TypeTree}
 use Rattle.hol_terms.specs.Named.{Named, var}
 use Rattle.hol_terms.specs.Nameless.{Nameless, free, fixed, app, lam, nameless, free_occurrences}
@@ -35,14 +36,10 @@ Variable = List ℕ × TypeTree
 
 -- ---- where a variable is not free
 
-or_false : (a b : Bool) → (a || b) ≡ false → (a ≡ false) × (b ≡ false)
-or_false true b e = absurd cc
-or_false false b e = (refl, e)
-
 one_not_free : (v : Variable) (n : Nameless) (ns : List Nameless) → is_free_in ns v ≡ false → Among n ns → binds (free_occurrences n) v ≡ false
 one_not_free v n [] none h = absurd h
-one_not_free v n (m ∷ ns) none (inl e) = ap (λ t. binds (free_occurrences t) v) e ∙ (or_false (binds (free_occurrences m) v) (is_free_in ns v) none).0
-one_not_free v n (m ∷ ns) none (inr h) = one_not_free v n ns (or_false (binds (free_occurrences m) v) (is_free_in ns v) none).1 h
+one_not_free v n (m ∷ ns) none (inl e) = ap (λ t. binds (free_occurrences t) v) e ∙ (or_parts (binds (free_occurrences m) v) (is_free_in ns v) none).0
+one_not_free v n (m ∷ ns) none (inr h) = one_not_free v n ns (or_parts (binds (free_occurrences m) v) (is_free_in ns v) none).1 h
 
 none_free : (v : Variable) (ns : List Nameless) → ((n : Nameless) → Among n ns → binds (free_occurrences n) v ≡ false) → is_free_in ns v ≡ false
 none_free v [] each = refl

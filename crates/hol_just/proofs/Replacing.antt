@@ -1,7 +1,8 @@
 -- Replacement of each occurrence of a term.
-use Rattle.std.specs.Prelude.{◌≡◌, ◌⊎◌, ℕ, ◌+◌, Bool, true, false, cond, ◌&&◌, ◌||◌, List, [], ◌∷◌, Some, None, unwrap_or, refl}
+use Rattle.std.specs.Prelude.{◌≡◌, ◌⊎◌, ℕ, ◌+◌, Bool, true, false, cond, ◌&&◌, List, [], ◌∷◌, Some, None, unwrap_or, refl}
 use Rattle.std.specs.Option.{option_map, option_and_then}
 use Rattle.std.proofs.Common.{ap, sym, ◌∙◌, inl, inr}
+use Rattle.std.proofs.lemmas.Bool.{or_parts}
 use Rattle.hol_types.specs.Tree.{TypeTree}
 use Rattle.hol_types.specs.Fun.{fun_type}
 use Rattle.hol_types.specs.Equal.{variable_eq}
@@ -28,12 +29,8 @@ use Rattle.hol_just.specs.Replacing.{replace_each}
 abbrev Variable : Type 0
 Variable = List ℕ × TypeTree
 
-or_false : (a b : Bool) → (a || b) ≡ false → (a ≡ false) × (b ≡ false)
-or_false true b e = absurd cc
-or_false false b e = (refl, e)
-
 parts_without : (v : Variable) (f x : Nameless) → binds (free_occurrences (app f x)) v ≡ false → (binds (free_occurrences f) v ≡ false) × (binds (free_occurrences x) v ≡ false)
-parts_without v f x e = or_false (binds (free_occurrences f) v) (binds (free_occurrences x) v) (sym (binds_append (free_occurrences f) (free_occurrences x) v) ∙ e)
+parts_without v f x e = or_parts (binds (free_occurrences f) v) (binds (free_occurrences x) v) (sym (binds_append (free_occurrences f) (free_occurrences x) v) ∙ e)
 
 eq_flipped : (v w : Variable) → variable_eq w v ≡ false → variable_eq v w ≡ false
 eq_flipped v w e = by (variable_eq v w) refl
@@ -52,7 +49,7 @@ replaced_after s t v k (free w) c e = by (alpha_eq (free w) s)
   where
     by : (b : Bool) → term_subst ((t, v) ∷ []) k (cond b (free v) (free w)) ≡ cond b t (free w)
     by true = put_in t v k c
-    by false = ap (λ b. shift k 0 (unwrap_or (cond b (Some t) None) (free w))) (eq_flipped v w (or_false (variable_eq w v) false e).0)
+    by false = ap (λ b. shift k 0 (unwrap_or (cond b (Some t) None) (free w))) (eq_flipped v w (or_parts (variable_eq w v) false e).0)
 replaced_after s t v k (bound i) c e = refl
 replaced_after s t v k (fixed d a) c e = by (alpha_eq (fixed d a) s)
   where

@@ -1,6 +1,7 @@
 -- What a trace makes of a well-typed term has the term's type.
 use Rattle.std.proofs.Common.{◌≡◌, ℕ, List, [], ◌∷◌, refl, sym, ap, ◌∙◌, Bool, true, false, cond, not, ◌&&◌, bytes_eq, Option, Some, None}
 use Rattle.std.specs.Option.{option_map, option_and_then}
+use Rattle.hol_kernel.proofs.Sound.{strip_type}
 use Rattle.hol_types.specs.Tree.{TypeTree}
 use Rattle.hol_types.specs.Equal.{type_eq}
 use Rattle.hol_types.specs.Fun.{fun_type}
@@ -14,20 +15,19 @@ use Rattle.hol_subst.proofs.Typing.{typed_closed, mapped_part}
 use Rattle.hol_subst.proofs.TypeLaws.{bind_type, open_type}
 use Rattle.hol_kernel.proofs.Stands.{some_is, app_parts}
 use Rattle.hol_match.specs.Contracta.{contracted}
-use Rattle.hol_match.specs.Instance.{InstanceValue, instantiated, both}
+use Rattle.hol_match.specs.Instance.{InstanceValue, instantiated}
 use Rattle.hol_match.specs.Matching.{matched}
 use Rattle.hol_match.specs.RuleSets.{IsTypedRule, beside}
 use Rattle.hol_match.specs.SetView.{set_rule}
 use Rattle.hol_match.specs.declared.set_rule.SetRule.{SetRule}
 use Rattle.hol_match.proofs.Contracta.{instance_type}
-use Rattle.hol_match.proofs.MatchLaws.{strip_type}
 use Rattle.hol_match.proofs.RuleSets.{beside_both, fit_match}
+use Rattle.hol_match.proofs.Standing.{AddsTo, matched_adds}
 use Rattle.hol_conv.specs.Redexes.{beta_contractum}
 use Rattle.hol_conv.specs.Traces.{used, opened, in_parts, in_body, traced}
 use Rattle.hol_conv.specs.declared.trace_node.TraceNode.{TraceNode}
 use Rattle.hol_conv.proofs.Traces.{parts_of, body_of, then_gives}
 use Rattle.hol_just.specs.TraceTypes.{KeepsType}
-use Rattle.hol_just.proofs.MatchAdds.{Adds, matched_adds}
 
 -- ---- an application of an abstraction
 pub beta_keeps : (t u : Nameless) (a : TypeTree) → beta_contractum t ≡ Some u → nameless_type [] t ≡ Some a → nameless_type [] u ≡ Some a
@@ -102,7 +102,7 @@ rule_keeps r sides t u b e h = by (matched 0 left stay t) refl (matched_adds 0 l
     stay : InstanceValue
     stay = (set_rule r).stays
 
-    by : (o : Option InstanceValue) → matched 0 left stay t ≡ o → Adds stay o → option_map (λ a. instantiated a 0 right) (option_map (beside stay) o) ≡ Some u → nameless_type [] u ≡ Some b
+    by : (o : Option InstanceValue) → matched 0 left stay t ≡ o → AddsTo stay o → option_map (λ a. instantiated a 0 right) (option_map (beside stay) o) ≡ Some u → nameless_type [] u ≡ Some b
     by None q g f = absurd (cc)
     by (Some all) q g f =
         let a = g.0 in

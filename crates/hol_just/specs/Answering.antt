@@ -1,13 +1,13 @@
 -- When what a function on goals answers is right: it is what its code means, and the step is justified.
-use Rattle.std.specs.Prelude.{◌≡◌, ℕ, Bool, true, ◌&&◌, List, [], ◌∷◌, Result, Ok, Err}
+use Rattle.std.specs.Prelude.{◌≡◌, ℕ, Bool, true, ◌&&◌, [], ◌∷◌, Result, Ok, Err}
 use Rattle.std.specs.List.{list_all}
 use Rattle.std.specs.FinSet as set
 use Rattle.hol_kernel.specs.Items.{Items}
-use Rattle.hol_kernel.specs.Given.{Given, given_sequent}
+use Rattle.hol_kernel.specs.Given.{given_sequent}
 use Rattle.hol_kernel.specs.Sequent.{Hyps, no_hyps}
 use Rattle.hol_goal.specs.Goal.{GoalValue}
 use Rattle.hol_goal.specs.Answer.{UsedValue, AnswerResult, Left, Unfit, OutOfTurns, TooLarge, AnswerValue}
-use Rattle.hol_goal.specs.Achieves.{AreAllowed}
+use Rattle.hol_goal.specs.Achieves.{AreAllowed, assumed}
 use Rattle.hol_goal.specs.Arguments.{TacArgsValue, Nothing, Term, Pair, Theorem, TermAndTheorem, Theorems}
 use Rattle.hol_goal.specs.declared.tac_code.TacCode.{TacCode}
 pub use Rattle.hol_match.specs.Givens.{all_hyps}
@@ -61,6 +61,11 @@ args_hyps (Pair s t) = no_hyps
 args_hyps (Theorem th) = (given_sequent th).hyps
 args_hyps (TermAndTheorem t th) = (given_sequent th).hyps
 args_hyps (Theorems ths) = all_hyps ths
+
+-- Each hypothesis of each theorem among the arguments is an assumption of the goal, up to bound names.
+-- Source: HOL Light's tactics.ml refuses a tactic whose theorem has other hypotheses; that it is a test of its own is this project's.
+abbrev pub are_assumed : TacArgsValue → GoalValue → Bool
+are_assumed args goal = set.is_subset (args_hyps args) (assumed goal.assumptions)
 
 -- the basis suits the arguments: their terms are well typed over it, and it contains the theorems' bases
 abbrev pub suits : TacArgsValue → Items → Bool

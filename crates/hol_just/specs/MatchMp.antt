@@ -1,7 +1,7 @@
 -- MATCH_MP_TAC (HOL Light Reference Manual): by a theorem `!xs. s ==> t` whose t matches the conclusion it leaves what s is at the match.
 -- What may be instantiated are the variables that the outer quantifiers bind, and the type variables and free variables of the conclusion that no hypothesis has. The former are
 -- called apart from all that occurs, so that the match takes none for another. Those of them that s has and t lacks are not determined by the match: it is left that some exist.
-use Rattle.std.specs.Prelude.{ℕ, zero, suc, Bool, List, [], ◌∷◌, map, not, ◌&&◌, Option, Some, None}
+use Rattle.std.specs.Prelude.{ℕ, zero, suc, List, [], ◌∷◌, map, not, ◌&&◌, Option, Some, None}
 use Rattle.std.specs.List.{filter}
 use Rattle.std.specs.Option.{option_map, option_and_then}
 use Rattle.std.specs.FinSet as set
@@ -16,11 +16,10 @@ use Rattle.hol_bool.specs.Rules.{over_variable}
 use Rattle.hol_match.specs.Instance.{InstanceValue, instantiated}
 use Rattle.hol_match.specs.Fixed.{stays_of}
 use Rattle.hol_match.specs.Matching.{matched}
+use Rattle.hol_match.specs.Rules.{apart, nodes}
 use Rattle.hol_goal.specs.Goal.{GoalValue}
-use Rattle.hol_just.specs.FreeNames.{free_name}
 use Rattle.hol_just.specs.Leaving.{concluding}
 use Rattle.hol_just.specs.QuantifierTacs.{terms_by}
-use Rattle.hol_just.specs.Strip.{nodes}
 
 -- ---- outer quantifiers taken off
 
@@ -31,10 +30,6 @@ pub record OpenedValue : Type 0 where
 
 abbrev pub under : List ℕ × TypeTree → OpenedValue → OpenedValue
 under v o = record { variables = v ∷ o.variables; body = o.body }
-
--- the variable of x, whose name is that of no free variable and no constant of the terms
-abbrev pub apart : List Nameless → Abstraction → List ℕ × TypeTree
-apart avoid x = (free_name avoid x.base, x.domain)
 
 abbrev pub opened_at : (List Nameless → Nameless → OpenedValue) → List Nameless → Nameless → Option Abstraction → OpenedValue
 opened_at f avoid p None = record { variables = []; body = p }

@@ -4,11 +4,12 @@
 use Rattle.std.specs.Prelude.{ℕ, zero, suc, ◌+◌, List, [], ◌∷◌, ◌++◌, cond, ◌||◌, Option, Some, None}
 use Rattle.std.specs.Option.{option_map, option_or, unwrap_or}
 use Rattle.std.specs.List.{list_any}
-use Rattle.hol_terms.specs.Nameless.{Nameless, free, bound, fixed, app, lam}
+use Rattle.hol_terms.specs.Nameless.{Nameless, free}
 use Rattle.hol_terms.specs.Alpha.{alpha_eq}
 use Rattle.hol_subst.specs.Closing.{open_with}
 use Rattle.hol_formulas.specs.Formula.{Abstraction, falsity, is_truth, is_falsity, dest_conj, dest_disj, dest_exists, dest_imp, dest_neg}
 use Rattle.hol_kernel.specs.Given.{Given, given_sequent}
+use Rattle.hol_match.specs.Rules.{nodes}
 use Rattle.hol_goal.specs.Goal.{GoalValue}
 use Rattle.hol_goal.specs.Answer.{UsedValue, AnswerValue, Left, OutOfTurns, answered}
 use Rattle.hol_just.specs.FreeNames.{free_name}
@@ -100,13 +101,6 @@ strip_in zero others w turns = Leaves (w.goal ∷ []) turns
 strip_in (suc steps) others w turns = strip_first (strip_in steps others) others w.pieces w.goal turns
 
 -- No more steps are needed than the pieces have nodes, since what becomes of a piece has fewer: `strip_goes_by_pieces` of laws.rt.
-abbrev pub nodes : Nameless → ℕ
-nodes (free v) = 1
-nodes (bound i) = 1
-nodes (fixed c s) = 1
-nodes (app f x) = 1 + nodes f + nodes x
-nodes (lam a s b) = 1 + nodes b
-
 abbrev pub all_nodes : List Nameless → ℕ
 all_nodes [] = 0
 all_nodes (p ∷ ps) = nodes p + all_nodes ps

@@ -7,9 +7,9 @@ ghost use Rattle.hol_just.specs.Justifies.{TurnsEquation, SplitsByEquation, Leav
 
 use crate::just::Just;
 use crate::reason::Reason;
-use crate::tacs::conclusion_typed;
 use hol_formulas::occurrence;
 use hol_kernel::Given;
+use hol_match::conclusion_typed;
 use hol_terms::{Term, Variable};
 use std::alloc::{AllocError, Global};
 

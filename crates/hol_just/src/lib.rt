@@ -11,6 +11,7 @@ mod conversions;
 mod cursor;
 mod elimination_steps;
 mod equal_steps;
+mod hypotheses;
 mod just;
 mod justifying;
 mod laws;
@@ -22,8 +23,9 @@ mod steps;
 mod tacs;
 mod tried;
 
-pub use assuming::{assumption, given_typed};
+pub use assuming::assumption;
 pub use conversions::conversion_typed;
+pub use hypotheses::are_assumed;
 pub use just::Just;
 pub use justifying::justify;
 pub use laws::{

@@ -70,7 +70,6 @@ fn instance_like(alloc: Global, t: &Term, th: &Thm) -> Result<Thm, AllocError>
     requires { IsSome (over th.now.basis (instance_like th.now.basis (nameless [] t.now) th.now.sequent)) }
     ensures { IfOk result (λ r. over th.now.basis (instance_like th.now.basis (nameless [] t.now) th.now.sequent) ≡ Some r) }
 {
-    th.well_typed();
     let Some(found) = term_match(alloc, th.hyps(), th.concl(), t)? else {
         unreachable!()
     };

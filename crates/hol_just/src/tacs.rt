@@ -1,17 +1,14 @@
 //! The justifications of the functions on goals.
-ghost use Rattle.std.specs.Prelude.{IfOk, IsTrue, []};
+ghost use Rattle.std.specs.Prelude.{IfOk, []};
 ghost use Rattle.hol_terms.specs.Nameless.{nameless};
-ghost use Rattle.hol_formulas.specs.Equation.{bool_type};
-ghost use Rattle.hol_kernel.specs.Items.{Items};
-ghost use Rattle.hol_kernel.specs.Given.{given_sequent};
-ghost use Rattle.hol_kernel.specs.Typing.{HasType};
-ghost use Rattle.hol_just.specs.Justifies.{holds_given, ClosesEquation, ClosesByGiven, ClosesByFalsity, SplitsApplications, LeavesArguments, LeavesFunctions, SplitsEquivalence, SplitsIntoImplications};
+ghost use Rattle.hol_just.specs.Justifies.{ClosesEquation, ClosesByGiven, ClosesByFalsity, SplitsApplications, LeavesArguments, LeavesFunctions, SplitsEquivalence, SplitsIntoImplications};
 ghost use Rattle.hol_just.specs.Justifies.{SplitsConjunction, LeavesLeft, LeavesRight, LeavesConsequent, UnfoldsNegation, LeavesRefutation, TakesOut, SplitsByImplication, LeavesImplication, LeavesAssuming, LeavesFalsity, LeavesProperty, LeavesAtWitness};
 
 use crate::just::Just;
 use crate::reason::Reason;
 use hol_formulas::occurrence;
-use hol_kernel::{Given, GivenNode};
+use hol_kernel::Given;
+use hol_match::conclusion_typed;
 use hol_terms::{Term, Variable};
 use std::alloc::{AllocError, Global};
 
@@ -186,15 +183,5 @@ impl Just {
     {
         let formula = conclusion.copy()?;
         Just::one(alloc, Reason::Existence(formula, witness.copy()?))
-    }
-}
-
-/// The conclusion is a formula over each basis that contains the theorem's, and the term over each over which it can be assumed.
-pub(crate) fn conclusion_typed(th: &Given)
-    ensures { (basis : Items) → IsTrue (holds_given th.now basis) → HasType basis (given_sequent th.now).concl bool_type }
-{
-    match th.node() {
-        GivenNode::Theorem(theorem) => theorem.well_typed(),
-        GivenNode::Assumed(_) => {}
     }
 }

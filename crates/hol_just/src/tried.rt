@@ -1,10 +1,10 @@
 //! What the functions on goals answer.
-ghost use Rattle.std.specs.Prelude.{◌≡◌};
+ghost use Rattle.std.specs.Prelude.{◌≡◌, IfOk};
 ghost use Rattle.hol_just.specs.declared.tried.TacFault.TheVariants.{Memory};
 
 use crate::just::Just;
-use hol_goal::Goal;
-use std::alloc::{AllocError, AllocFailed};
+use hol_goal::{Goal, copies};
+use std::alloc::{AllocError, AllocFailed, Global};
 
 /// The goals that are left of a goal, and why they are.
 #[derive(Drop)]
@@ -13,6 +13,19 @@ pub struct Step {
     pub goals: Vec<Goal>,
     /// Makes theorems of them into a theorem of the goal.
     pub just: Just,
+}
+
+impl Step {
+    /// An equal step.
+    pub fn copy(&self, alloc: Global) -> Result<Step, AllocError>
+        ensures goals { IfOk result (λ step. step.goals.items ≡ self.now.goals.items) }
+        ensures just { IfOk result (λ step. step.just ≡ self.now.just) }
+    {
+        Ok(Step {
+            goals: copies(alloc, &self.goals)?,
+            just: self.just.copy(alloc)?,
+        })
+    }
 }
 
 /// What a function on goals did.

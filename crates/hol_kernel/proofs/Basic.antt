@@ -1,21 +1,20 @@
 -- What has only types and constants of the prelude stands over every basis.
-use Rattle.std.specs.Prelude.{◌≡◌, ℕ, zero, suc, Bool, true, false, cond, ◌&&◌, ◌||◌, ◌==◌, List, [], ◌∷◌, bytes_eq, codes, Option, Some, None, is_some, refl}
+use Rattle.std.specs.Prelude.{◌≡◌, ℕ, suc, Bool, true, false, cond, List, [], ◌∷◌, bytes_eq, codes, Option, Some, None, is_some, refl}
 use Rattle.std.specs.List.{list_any}
 use Rattle.std.proofs.Common.{ap, sym, ◌∙◌}
 use Rattle.std.proofs.lemmas.Bool.{and_parts, and_from, or_left}
 use Rattle.std.proofs.lemmas.Slice.Eq.{bytes_eq-Decides}
 use Rattle.hol_types.specs.Tree.{TypeTree, TypeList, TyVar, TyApp, no_types, more_types}
-use Rattle.hol_types.specs.Subst.{type_subst}
 use Rattle.hol_types.specs.Fun.{fun_type, fun_parts}
 use Rattle.hol_types.specs.Equal.{type_eq}
 use Rattle.hol_types.specs.Basic.{is_basic_constructor, arguments, is_basic, are_basic}
 use Rattle.hol_types.proofs.OrderLaws.{type_cmp_decides}
 use Rattle.hol_terms.specs.Named.{Named, var, constant, comb, abs}
-use Rattle.hol_terms.specs.Basic.{is_empty, is_truth, is_property, is_predicate, is_equality, is_choice, is_negation, is_connective, is_binder, is_function_property, basic_constants, has_form, is_basic_constant, is_basic_term}
+use Rattle.hol_terms.specs.Basic.{is_truth, is_property, is_predicate, is_equality, is_choice, is_negation, is_connective, is_binder, is_function_property, basic_constants, has_form, is_basic_constant, is_basic_term}
 use Rattle.hol_formulas.specs.Equation.{bool_type, equality_type}
 use Rattle.hol_formulas.specs.Formula.{negation_type, connective_type}
-use Rattle.hol_formulas.specs.Constants.{prelude_types, prelude_constants, is_constructor, var_a, var_b, binder_type, choice_type, function_property_type, is_instance, generic_in, prelude_generic, is_instance_of}
-use Rattle.hol_formulas.proofs.Instance.{Pairs, instance_of_subst}
+use Rattle.hol_formulas.specs.Constants.{prelude_types, prelude_constants, is_constructor, var_a, binder_type, choice_type, function_property_type, is_instance, generic_in, prelude_generic, is_instance_of}
+use Rattle.hol_formulas.proofs.Instance.{instance_of_subst}
 use Rattle.hol_formulas.proofs.TypeTests.{fun_parts_is}
 use Rattle.hol_kernel.specs.Items.{Items, in_order}
 use Rattle.hol_kernel.specs.Signature.{makes_type, has_arity, makes_constant, has_constant}

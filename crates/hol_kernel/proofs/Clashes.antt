@@ -1,6 +1,7 @@
 -- Clashes that the code finds, and sets that agree where it finds none.
 use Rattle.std.specs.Prelude.{◌≡◌, ℕ, Bool, true, false, cond, ◌||◌, List, [], ◌∷◌, Option, Some, None, refl}
 use Rattle.std.proofs.Common.{ap, sym, ◌∙◌, subst, inl, inr}
+use Rattle.std.proofs.lemmas.Bool.{or_right}
 use mathlib.Core.Bool.{true≢false}
 use Rattle.std.specs.Ordering.{eq_by_cmp}
 use Rattle.std.specs.List.{list_any}
@@ -9,13 +10,13 @@ use Rattle.std.specs.Set.{sorted_merge}
 use Rattle.std.specs.FinSet as set
 use Rattle.std.proofs.lemmas.Slice.Eq.{bytes_eq-Decides}
 use Rattle.hol_kernel.specs.Item.{Item}
-use Rattle.hol_kernel.specs.Items.{Items, item_cmp, Holds, item_set, IsSubset}
+use Rattle.hol_kernel.specs.Items.{Items, item_cmp, Holds, item_set}
 use Rattle.hol_kernel.specs.Signature.{ItemKey, type_key, constant_key, axiom_key, key_eq, key_name, item_keys, has_key}
 use Rattle.hol_kernel.specs.Legal.{IsLegalSet, IsStorable, HasNewKeys, IsSound}
 use Rattle.hol_kernel.specs.Extends.{Agree, ClashesAt}
 use Rattle.hol_kernel.specs.Clashing.{name_order, shared_in, unless_same, clash_of, or_else, clash_with, clash_between}
-use Rattle.hol_kernel.proofs.SortedSets.{sorted_one, sorted_merged, set_merged}
-use Rattle.hol_kernel.proofs.Members.{Among, among_from_list, from_list_among, itself, equal_keys, in_union_left, in_union_right, union_insert, union_empty}
+use Rattle.hol_kernel.proofs.SortedSets.{sorted_one, sorted_merged, set_merged, union_none_right}
+use Rattle.hol_kernel.proofs.Members.{Among, among_from_list, from_list_among, itself, equal_keys, union_insert}
 use Rattle.hol_kernel.proofs.ItemOrder.{total, only, name_order_is, equal_names, merge_same}
 use Rattle.hol_kernel.proofs.Unions.{IsLegalSet-union, IsLegalSet-insert}
 
@@ -57,11 +58,7 @@ abbrev Found : List ItemKey → Item → List ℕ → Type 0
 Found ks y n = (k : ItemKey) × (list_any (key_eq k) ks ≡ true) × (has_key y k ≡ true) × (key_name k ≡ n)
 
 later : (l : ItemKey) (ks : List ItemKey) (y : Item) (n : List ℕ) → Found ks y n → Found (l ∷ ks) y n
-later l ks y n f = (f.0, or_true (key_eq f.0 l) f.1, f.2, f.3)
-  where
-    or_true : (a : Bool) {b : Bool} → b ≡ true → (a || b) ≡ true
-    or_true true e = refl
-    or_true false e = e
+later l ks y n f = (f.0, or_right (key_eq f.0 l) (list_any (key_eq f.0) ks) f.1, f.2, f.3)
 
 pub found : (ks : List ItemKey) (y : Item) (n : List ℕ) → shared_in ks y ≡ Some n → Found ks y n
 found [] y n e = absurd (cc)
@@ -235,7 +232,7 @@ pub extended_set : (a : Items) (xs all : List Item) (x : Item) → item_set xs �
 extended_set a xs all x p new e =
     merged_set xs (x ∷ []) all (agree_new a xs x p new) e
     ∙ union_insert total only (item_set xs) set.empty x
-    ∙ ap (λ (s : Items). set.insert s x) (union_empty total only (item_set xs) ∙ p)
+    ∙ ap (λ (s : Items). set.insert s x) (union_none_right total only (item_set xs) ∙ p)
 
 pub storable_insert : (a : Items) (xs all : List Item) (x : Item) → item_set xs ≡ a → IsLegalSet a → IsStrictlySortedBy item_cmp xs → HasNewKeys a x → IsSound a x → all ≡ sorted_merge name_order true xs (x ∷ []) → IsStorable all
 storable_insert a xs all x p l s new sound e =

@@ -4,8 +4,8 @@ use Rattle.std.proofs.Common.{ap, sym, ◌∙◌, subst}
 use Rattle.std.proofs.lemmas.Bool.{false_from_ne_true}
 use mathlib.Core.Bool.{true≢false}
 use Rattle.std.specs.List.{list_any}
+use Rattle.hol_formulas.proofs.EquationTypes.{type_eq_itself}
 use Rattle.hol_types.specs.Tree.{TypeTree}
-use Rattle.hol_types.specs.Equal.{type_eq}
 use Rattle.hol_types.proofs.OrderLaws.{type_cmp_decides}
 use Rattle.hol_terms.specs.Nameless.{Nameless}
 use Rattle.hol_kernel.specs.Item.{Item, declared_type, declared_constant, declared_axiom}
@@ -16,7 +16,7 @@ use Rattle.hol_kernel.specs.Typing.{is_type, is_type_at, has_type, type_over, Ha
 use Rattle.hol_kernel.specs.Legal.{IsNew, HasNewKeys}
 use Rattle.hol_kernel.specs.Extends.{IsDeclareType, IsDeclareConst, IsDeclareAxiom}
 use Rattle.hol_kernel.specs.Clashing.{is_new}
-use Rattle.hol_kernel.proofs.Ordered.{any_found, any_of}
+use Rattle.hol_kernel.proofs.SortedSets.{any_some, some_any}
 use Rattle.hol_kernel.proofs.Weaken.{held, ordered_held}
 use Rattle.hol_kernel.proofs.Clashes.{key_is, key_itself}
 
@@ -34,13 +34,13 @@ neither false false p q = refl
 pub new_is : (items : Items) (k : ItemKey) → is_new items k ≡ true → IsNew items k
 new_is items k e =
     let p = both_not (prelude_has k) (list_any (λ x. has_key x k) (in_order items)) e in
-    (p.0, λ y h. false_from_ne_true (has_key y k) (λ f. true≢false (sym (any_of (λ x. has_key x k) (in_order items) y (ordered_held items y h) f) ∙ p.1)))
+    (p.0, λ y h. false_from_ne_true (has_key y k) (λ f. true≢false (sym (some_any (λ x. has_key x k) (in_order items) y (ordered_held items y h) f) ∙ p.1)))
 
 pub is_new_of : (items : Items) (k : ItemKey) → IsNew items k → is_new items k ≡ true
 is_new_of items k n =
     neither (prelude_has k) (list_any (λ x. has_key x k) (in_order items)) n.0
     (false_from_ne_true (list_any (λ x. has_key x k) (in_order items))
-    (λ e. let r = any_found (λ x. has_key x k) (in_order items) e in true≢false (sym r.2 ∙ n.1 r.0 (held items r.0 r.1))))
+    (λ e. let r = any_some (λ x. has_key x k) (in_order items) e in true≢false (sym r.2 ∙ n.1 r.0 (held items r.0 r.1))))
 
 -- an item of one name
 or_none : (a : Bool) → (a || false) ≡ true → a ≡ true
@@ -84,9 +84,6 @@ axiom_new items n p e = one_name items (declared_axiom n p) (axiom_key n) (λ l.
 pub axiom_taken : (items : Items) (n : List ℕ) (p : Nameless) (more : Items) → is_new items (axiom_key n) ≡ false → IsDeclareAxiom items n p more → ⊥
 axiom_taken items n p more e d = name_taken items (declared_axiom n p) (axiom_key n) (own_name (axiom_key n)) e d.0
 
-type_itself : (a : TypeTree) → type_eq a a ≡ true
-type_itself a = (type_cmp_decides a a).1 refl
-
 -- the test of a type
 pub has_type_is : (items : Items) (t : Nameless) (a : TypeTree) → has_type items t a ≡ true → HasType items t a
 has_type_is items t a e = by (type_over items t) refl e
@@ -96,7 +93,7 @@ has_type_is items t a e = by (type_over items t) refl e
     by (Some s) p e = p ∙ ap Some ((type_cmp_decides s a).0 e)
 
 pub has_type_of : (items : Items) (t : Nameless) (a : TypeTree) → HasType items t a → has_type items t a ≡ true
-has_type_of items t a e = ap (λ o. is_type_at o a) e ∙ type_itself a
+has_type_of items t a e = ap (λ o. is_type_at o a) e ∙ type_eq_itself a
 
 pub no_formula : (items : Items) (n : List ℕ) (p : Nameless) (more : Items) → has_type items p bool_type ≡ false → IsDeclareAxiom items n p more → ⊥
 no_formula items n p more e d = true≢false (sym (has_type_of items p bool_type d.1) ∙ e)

@@ -19,7 +19,7 @@ use Rattle.hol_kernel.specs.Extends.{IsAxiomOf}
 use Rattle.hol_kernel.specs.Clashing.{axiom_at, first_of_two, axiom_in}
 use Rattle.hol_kernel.proofs.Members.{Among, in_insert_old, in_insert_cases, not_in_empty}
 use Rattle.hol_kernel.proofs.ItemOrder.{total, only}
-use Rattle.hol_kernel.proofs.Weaken.{held, ordered_held, IsSound-more, Derives-more}
+use Rattle.hol_kernel.proofs.Weaken.{held, ordered_held, IsSound-more, derives_more}
 
 -- ---- each item meets its condition over the whole set
 
@@ -103,4 +103,4 @@ axiom_derived items name own hs p concl legal b h c there =
 -- ---- a larger basis
 
 pub wider_derived : (items more own : Items) (hs ks : Hyps) (s t : Nameless) → IsSubset items more → own ≡ more → ks ≡ hs → t ≡ s → Derives items hs s → Derives own ks t
-wider_derived items more own hs ks s t within b h c d = along more own hs ks s t b h c (Derives-more items more (set.is_subset-contains total items more within) hs s d)
+wider_derived items more own hs ks s t within b h c d = along more own hs ks s t b h c (derives_more items more (set.is_subset-contains total items more within) hs s d)

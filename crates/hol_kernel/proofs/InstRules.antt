@@ -2,10 +2,9 @@
 use Rattle.std.specs.Prelude.{◌≡◌, ℕ, Bool, true, false, cond, ◌&&◌, List, [], ◌∷◌, Option, Some, None, refl}
 use Rattle.std.specs.Option.{option_map}
 use Rattle.std.proofs.Common.{ap, sym, ◌∙◌, subst, inl, inr}
-use Rattle.std.proofs.lemmas.Bool.{and_parts, and_right}
+use Rattle.std.proofs.lemmas.Bool.{and_parts}
 use mathlib.Core.Bool.{true≢false}
 use Rattle.hol_types.specs.Tree.{TypeTree}
-use Rattle.hol_types.specs.Equal.{type_eq}
 use Rattle.hol_types.proofs.OrderLaws.{type_cmp_decides}
 use Rattle.hol_terms.specs.Named.{Named, var, constant, comb, abs, named_type}
 use Rattle.hol_terms.specs.Nameless.{Nameless, nameless, nameless_type}
@@ -18,11 +17,10 @@ use Rattle.hol_subst.proofs.TypesInst.{typed_instance}
 use Rattle.hol_kernel.specs.Items.{Items}
 use Rattle.hol_kernel.specs.Sequent.{Hyps, hyps_image, Sequent}
 use Rattle.hol_formulas.specs.Equation.{bool_type}
-use Rattle.hol_kernel.specs.Typing.{is_known, is_typed, is_type_at, are_types_for, are_typed_for}
+use Rattle.hol_kernel.specs.Typing.{is_known, is_type_at, are_types_for, are_typed_for}
 use Rattle.hol_kernel.specs.Derivation.{Derives, by_inst_type, by_inst}
 use Rattle.hol_kernel.specs.Rules.{sequent_image, inst_type_of, inst_of, is_pair_at, are_pairs_over}
 use Rattle.hol_kernel.specs.Theorem.{Theorem, theorem_on, theorem_over, over, IsDerived}
-use Rattle.hol_kernel.proofs.TermRules.{has_type_test}
 
 -- ---- derivations
 
@@ -46,20 +44,6 @@ types_given basis pairs s made hyps t concl fit is q r e =
     ∙ (λ i. Some (theorem_over basis (sym q i) (sym (r ∙ ap (types_inst pairs) is) i))) ∙ ap Some (sym e)
 
 -- ---- terms for variables
-
--- the pair's test, for a term of the type a
-pub pair_by : (basis : Items) (t : Named) (a : TypeTree) → named_type t ≡ Some a → (v : List ℕ × TypeTree) → is_pair_at basis (nameless [] t) (var v) ≡ (is_typed basis (nameless [] t) && type_eq a v.1)
-pair_by basis t a has v = has_type_test basis t a has v.1
-
-pub pair_yes : (basis : Items) (t u : Named) (a : TypeTree) (v : List ℕ × TypeTree) → named_type t ≡ Some a → u ≡ var v → type_eq a v.1 ≡ true → is_typed basis (nameless [] t) ≡ is_pair_at basis (nameless [] t) u
-pair_yes basis t u a v has is same = sym (ap (is_pair_at basis (nameless [] t)) is ∙ pair_by basis t a has v ∙ ap (λ b. is_typed basis (nameless [] t) && b) same ∙ with_true (is_typed basis (nameless [] t)))
-  where
-    with_true : (b : Bool) → (b && true) ≡ b
-    with_true true = refl
-    with_true false = refl
-
-pub pair_no : (basis : Items) (t u : Named) (a : TypeTree) (v : List ℕ × TypeTree) → named_type t ≡ Some a → u ≡ var v → type_eq a v.1 ≡ false → false ≡ is_pair_at basis (nameless [] t) u
-pair_no basis t u a v has is other = sym (ap (is_pair_at basis (nameless [] t)) is ∙ pair_by basis t a has v ∙ ap (λ b. is_typed basis (nameless [] t) && b) other ∙ and_right (is_typed basis (nameless [] t)) false refl)
 
 has_type_is : (k : Bool) (o : Option TypeTree) (a : TypeTree) → is_type_at (cond k o None) a ≡ true → o ≡ Some a
 has_type_is true (Some s) a e = ap Some ((type_cmp_decides s a).0 e)
@@ -104,5 +88,3 @@ pub terms_given : (basis : Items) (pairs : List (Named × Named)) (s : Sequent) 
 terms_given basis pairs s made hyps t concl fit is q r e =
     (λ i. option_map (theorem_on basis) (cond (fit i) (Some (sequent_image (put pairs) s)) None))
     ∙ (λ i. Some (theorem_over basis (sym q i) (sym (r ∙ ap (put pairs) is) i))) ∙ ap Some (sym e)
-
-pub ruleset pairs_tested = (pair_yes, pair_no)

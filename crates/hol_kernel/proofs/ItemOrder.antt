@@ -3,9 +3,8 @@ use Rattle.std.specs.Prelude.{◌≡◌, ℕ, true, false, List, [], ◌∷◌, 
 use Rattle.std.proofs.Common.{ap, sym, ◌∙◌, inl, inr}
 use Rattle.std.specs.declared.cmp.Ordering.{Ordering}
 use Rattle.std.specs.declared.cmp.Ordering.TheVariants.{Less, Equal, Greater}
-use Rattle.std.specs.Ordering.{nat_cmp, ordering_then, match_ordering}
+use Rattle.std.specs.Ordering.{ordering_then, match_ordering}
 use Rattle.std.specs.Cmp.{IsTotalOrder, tied_itself}
-use Rattle.std.specs.Cmp.Lexicographic.{slice_cmp}
 use Rattle.std.specs.FinSet as set
 use Rattle.std.specs.Set.{sorted_merge}
 use Rattle.std.proofs.lemmas.Slice.Eq.{bytes_eq-Decides}
@@ -13,6 +12,7 @@ use Rattle.hol_types.specs.Code.{name_code, type_code}
 use Rattle.hol_types.specs.Order.{name_cmp}
 use Rattle.hol_terms.specs.Code.{nameless_code}
 use Rattle.hol_subst.specs.CodeOrder.{flat, coded_total, coded_same}
+use Rattle.hol_subst.proofs.CodeOrder.{rows_cmp, name_rows}
 use Rattle.hol_kernel.specs.Item.{Item, item_code, declared_type, declared_constant, defined_constant, defined_type, declared_axiom}
 use Rattle.hol_kernel.specs.Items.{item_cmp}
 use Rattle.hol_kernel.specs.Signature.{ItemKey, type_key, constant_key, axiom_key, has_key}
@@ -24,20 +24,6 @@ total = coded_total item_code
 
 pub only : set.IsAntisymmetric item_cmp
 only = coded_same item_code
-
-then_then : (r s t : Ordering) → ordering_then r (ordering_then s t) ≡ ordering_then (ordering_then r s) t
-then_then Less s t = refl
-then_then Equal s t = refl
-then_then Greater s t = refl
-
-abbrev rows_cmp : List ℕ → List ℕ → Ordering
-rows_cmp r q = slice_cmp nat_cmp r q
-
-name_rows : (a b r q : List ℕ) → rows_cmp (flat (name_code a) r) (flat (name_code b) q) ≡ ordering_then (name_cmp a b) (rows_cmp r q)
-name_rows [] [] r q = refl
-name_rows [] (y ∷ ys) r q = refl
-name_rows (x ∷ xs) [] r q = refl
-name_rows (x ∷ xs) (y ∷ ys) r q = ap (ordering_then (nat_cmp x y)) (name_rows xs ys r q) ∙ then_then (nat_cmp x y) (name_cmp xs ys) (rows_cmp r q)
 
 -- what follows the first name in an item's code
 abbrev rest_of : Item → List ℕ

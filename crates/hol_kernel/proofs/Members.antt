@@ -1,32 +1,21 @@
 -- Membership in finite sets whose order ties only equal keys.
-use Rattle.std.specs.Prelude.{◌≡◌, Bool, true, false, ◌||◌, ◌⊎◌, List, [], ◌∷◌, refl}
+use Rattle.std.specs.Prelude.{◌≡◌, true, false, ◌⊎◌, List, [], ◌∷◌, refl}
 use Rattle.std.proofs.Common.{ap, sym, ◌∙◌, inl, inr, subst}
 pub use Rattle.std.proofs.lemmas.Bool.{or_left, or_right}
 use Rattle.std.proofs.lemmas.Bool.{or_cases}
 use mathlib.Core.Bool.{true≢false}
 use Rattle.std.specs.declared.cmp.Ordering.{Ordering}
-use Rattle.std.specs.declared.cmp.Ordering.TheVariants.{Less, Equal, Greater}
 use Rattle.std.specs.Ordering.{eq_by_cmp, is_eq}
-use Rattle.std.specs.Cmp.{IsTotalOrder, tied_itself}
+use Rattle.std.specs.Cmp.{IsTotalOrder, Equal-is, tied_itself, both_ways}
 use Rattle.std.specs.FinSet as set
-
-pub same_bool : (a b : Bool) → (a ≡ true → b ≡ true) → (b ≡ true → a ≡ true) → a ≡ b
-same_bool true true p q = refl
-same_bool true false p q = sym (p refl)
-same_bool false true p q = q refl
-same_bool false false p q = refl
-
-pub is_eq-Equal : (r : Ordering) → is_eq r ≡ true → r ≡ Equal
-is_eq-Equal Less e = absurd (true≢false (sym e))
-is_eq-Equal Equal e = refl
-is_eq-Equal Greater e = absurd (true≢false (sym e))
+pub use Rattle.hol_subst.proofs.SortedSets.{Among}
 
 module _ {K : Type 0} {R : K → K → Ordering} (o : IsTotalOrder R) (only : set.IsAntisymmetric R) where
   pub itself : (k : K) → eq_by_cmp R k k ≡ true
   itself k = ap is_eq (tied_itself o k)
 
   pub equal_keys : (q k : K) → eq_by_cmp R q k ≡ true → q ≡ k
-  equal_keys q k e = only q k (is_eq-Equal (R q k) e)
+  equal_keys q k e = only q k ((Equal-is (R q k)).0 e)
 
   pub in_insert_here : (s : set.FinSet R) (k : K) → set.contains (set.insert s k) k ≡ true
   in_insert_here s k = set.contains-insert o s k k ∙ or_left _ _ (itself k)
@@ -51,16 +40,11 @@ module _ {K : Type 0} {R : K → K → Ordering} (o : IsTotalOrder R) (only : se
   not_in_empty q h = true≢false (sym h ∙ set.contains-empty R q)
 
   pub same_members : (s t : set.FinSet R) → ((q : K) → set.contains s q ≡ true → set.contains t q ≡ true) → ((q : K) → set.contains t q ≡ true → set.contains s q ≡ true) → s ≡ t
-  same_members s t there back = set.same_set o only s t (λ q. same_bool _ _ (there q) (back q))
+  same_members s t there back = set.same_set o only s t (λ q. both_ways _ _ (there q) (back q))
 
   pub in_or_out : (s : set.FinSet R) (q : K) → (set.contains s q ≡ true) ⊎ (set.contains s q ≡ true → ⊥)
   in_or_out s q =
       elim (set.contains s q) as (λ b. (b ≡ true) ⊎ (b ≡ true → ⊥)) [ true ↦ inl refl | false ↦ inr (λ e. true≢false (sym e)) ]
-
-  pub union_empty : (a : set.FinSet R) → set.union a set.empty ≡ a
-  union_empty a =
-      same_members _ _ (λ q h. elim (in_union_cases a set.empty q h) [ inl i ↦ i | inr i ↦ absurd (not_in_empty q i) ])
-      (λ q h. in_union_left a set.empty q h)
 
   pub insert_there : (s : set.FinSet R) (k : K) → set.contains s k ≡ true → set.insert s k ≡ s
   insert_there s k there =
@@ -86,10 +70,6 @@ module _ {K : Type 0} {R : K → K → Ordering} (o : IsTotalOrder R) (only : se
       ])
 
 -- ---- lists as sets
-
-abbrev pub Among : {K : Type 0} → K → List K → Type 0
-Among q [] = ⊥
-Among q (x ∷ xs) = (q ≡ x) ⊎ Among q xs
 
 module _ {K : Type 0} {R : K → K → Ordering} (o : IsTotalOrder R) (only : set.IsAntisymmetric R) where
   pub among_from_list : (ks : List K) (q : K) → set.contains (set.from_list {R = R} ks) q ≡ true → Among q ks

@@ -1,6 +1,6 @@
 -- Strictly sorted lists with the same elements are equal, and what a sorting gives.
 use Rattle.std.specs.Prelude.{◌≡◌, Bool, true, false, ◌||◌, List, [], ◌∷◌, refl}
-use Rattle.std.proofs.Common.{ap, sym, ◌∙◌, subst, inl, inr}
+use Rattle.std.proofs.Common.{ap, sym, ◌∙◌, subst}
 use mathlib.Core.Bool.{true≢false}
 use Rattle.std.specs.declared.cmp.Ordering.{Ordering}
 use Rattle.std.specs.declared.cmp.Ordering.TheVariants.{Less, Equal, Greater}
@@ -10,37 +10,10 @@ use Rattle.std.specs.List.{list_any, AllByRecursion}
 use Rattle.std.specs.List.Sorted.{IsStrictlySortedBy}
 use Rattle.std.specs.Set.{sorted_merge}
 use Rattle.std.specs.FinSet as set
-use Rattle.hol_kernel.proofs.SortedSets.{sorted_one, sorted_none, sorted_merged, set_merged}
-use Rattle.hol_kernel.proofs.Members.{Among, itself, equal_keys}
-
-or_false : (b : Bool) → (b || false) ≡ b
-or_false true = refl
-or_false false = refl
-
-all_map : {K : Type 0} (P Q : K → Type 0) → ((x : K) → P x → Q x) → (xs : List K) → AllByRecursion P xs → AllByRecursion Q xs
-all_map P Q f [] a = tt
-all_map P Q f (x ∷ xs) a = (f x a.0, all_map P Q f xs a.1)
-
--- an element that passes
-pub any_found : {K : Type 0} (p : K → Bool) (xs : List K) → list_any p xs ≡ true → (x : K) × Among x xs × (p x ≡ true)
-any_found {K} p [] e = absurd (true≢false (sym e))
-any_found {K} p (x ∷ xs) e = by (p x) refl e (any_found p xs)
-  where
-    open_up : (r : (y : K) × Among y xs × (p y ≡ true)) → (y : K) × Among y (x ∷ xs) × (p y ≡ true)
-    open_up r = (r.0, inr r.1, r.2)
-
-    by : (b : Bool) → p x ≡ b → (b || list_any p xs) ≡ true → (list_any p xs ≡ true → (y : K) × Among y xs × (p y ≡ true)) → (y : K) × Among y (x ∷ xs) × (p y ≡ true)
-    by true h e rest = (x, inl refl, h)
-    by false h e rest = open_up (rest e)
-
-pub any_of : {K : Type 0} (p : K → Bool) (xs : List K) (x : K) → Among x xs → p x ≡ true → list_any p xs ≡ true
-any_of p [] x h e = absurd h
-any_of p (y ∷ xs) x (inl is) e = ap (λ b. b || list_any p xs) (ap p (sym is) ∙ e)
-any_of p (y ∷ xs) x (inr h) e = by (p y) (any_of p xs x h e)
-  where
-    by : (b : Bool) → list_any p xs ≡ true → (b || list_any p xs) ≡ true
-    by true h = refl
-    by false h = h
+use Rattle.std.proofs.Math.Bool.{or-false}
+use Rattle.hol_kernel.proofs.SortedSets.{all_map, sorted_one, sorted_none, sorted_merged, set_merged}
+use Rattle.hol_kernel.proofs.Members.{itself, equal_keys}
+pub use Rattle.hol_subst.proofs.SortedSets.{some_any as any_of}
 
 module _ {K : Type 0} {R : K → K → Ordering} (o : IsTotalOrder R) (only : set.IsAntisymmetric R) where
   abbrev has : K → List K → Bool
@@ -101,7 +74,7 @@ module _ {K : Type 0} {R : K → K → Ordering} (o : IsTotalOrder R) (only : se
   one_more s x =
       set.same_set o only _ _
       (λ q. set.contains-union o (set.insert set.empty x) s q
-      ∙ ap (λ b. b || set.contains s q) (set.contains-insert o set.empty x q ∙ ap (λ b. eq_by_cmp R q x || b) (set.contains-empty R q) ∙ or_false (eq_by_cmp R q x))
+      ∙ ap (λ b. b || set.contains s q) (set.contains-insert o set.empty x q ∙ ap (λ b. eq_by_cmp R q x || b) (set.contains-empty R q) ∙ or-false (eq_by_cmp R q x))
       ∙ sym (set.contains-insert o s x q))
 
   sorting_set : (xs : List K) → set.from_list {R = R} (sorting xs) ≡ set.from_list xs

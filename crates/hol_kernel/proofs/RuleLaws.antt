@@ -1,7 +1,6 @@
 -- Each rule gives over a larger set of items what it gives over a smaller one.
 use Rattle.std.specs.Prelude.{◌≡◌, ℕ, Bool, true, false, cond, not, ◌&&◌, List, [], Option, Some, None, refl}
 use Rattle.std.specs.Option.{option_map}
-use Rattle.std.specs.List.{list_all}
 use Rattle.std.specs.FinSet as set
 use Rattle.std.proofs.Common.{ap, sym, ◌∙◌}
 use mathlib.Core.Bool.{true≢false}
@@ -24,7 +23,7 @@ tested : {T : Type 0} (a b : Bool) (x s : T) → (a ≡ true → b ≡ true) →
 tested true b x s f e = ap (λ k. cond k (Some x) None) (f refl) ∙ e
 tested false b x s f e = absurd (cc)
 
-both_more : (a c b : Bool) → (a ≡ true → c ≡ true) → (a && b) ≡ true → (c && b) ≡ true
+pub both_more : (a c b : Bool) → (a ≡ true → c ≡ true) → (a && b) ≡ true → (c && b) ≡ true
 both_more true c b f e = ap (λ k. k && b) (f refl) ∙ e
 both_more false c b f e = absurd (true≢false (sym e))
 

@@ -1,11 +1,11 @@
 -- Each rule gives a theorem that has a derivation.
-use Rattle.std.specs.Prelude.{◌≡◌, ℕ, Bool, true, false, cond, ◌&&◌, List, [], ◌∷◌, codes, bytes_eq, Option, Some, None, refl}
+use Rattle.std.specs.Prelude.{◌≡◌, ℕ, true, ◌&&◌, List, [], ◌∷◌, codes, bytes_eq, Option, Some, None, refl}
 use Rattle.std.specs.Option.{option_map, option_and_then}
 use Rattle.std.proofs.Common.{ap, sym, ◌∙◌, subst}
 use Rattle.std.proofs.lemmas.Bool.{and_parts}
-use mathlib.Core.Bool.{true≢false}
 use Rattle.std.proofs.lemmas.Slice.Eq.{bytes_eq-Decides}
 use Rattle.std.specs.FinSet as set
+use Rattle.std.proofs.lemmas.Option.{cond_some}
 use Rattle.hol_types.specs.Tree.{TypeTree}
 use Rattle.hol_types.specs.Equal.{type_eq}
 use Rattle.hol_types.specs.Fun.{fun_type, fun_parts}
@@ -25,10 +25,6 @@ use Rattle.hol_formulas.specs.Equation.{Sides, sides_at, dest_eq}
 use Rattle.hol_formulas.proofs.TypeTests.{fun_parts_is}
 
 -- ---- what tests say
-
-test : {T : Type 0} (b : Bool) (x y : T) → cond b (Some x) None ≡ Some y → (b ≡ true) × (x ≡ y)
-test true x y e = (refl, cc)
-test false x y e = absurd (cc)
 
 alpha : (m n : Nameless) → alpha_eq m n ≡ true → strip m ≡ strip n
 alpha m n e = (alpha_eq_decides m n).0 e
@@ -53,7 +49,7 @@ alpha_type s t a b e f g =
 
 sides_is_at : (c : List ℕ) (s : TypeTree) (l r : Nameless) (x : Sides) (p : TypeTree × TypeTree) → sides_at c s l r p ≡ Some x → app (app (fixed c s) l) r ≡ equation x.sides_type x.left x.right
 sides_is_at c s l r x p e =
-    let v = test (bytes_eq c (codes "=") && type_eq s (equality_type p.0)) (record { sides_type = p.0; left = l; right = r }) x e in
+    let v = cond_some (bytes_eq c (codes "=") && type_eq s (equality_type p.0)) (record { sides_type = p.0; left = l; right = r }) x e in
     let w = and_parts (bytes_eq c (codes "=")) (type_eq s (equality_type p.0)) v.0 in
     (λ i. app (app (fixed ((bytes_eq-Decides c (codes "=")).0 w.0 i) ((type_cmp_decides s (equality_type p.0)).0 w.1 i)) l) r)
     ∙ ap (λ (z : Sides). equation z.sides_type z.left z.right) v.1
@@ -81,7 +77,7 @@ module _ (items : Items) (a b t : Sequent) (d : Derived items a) (e : Derived it
     where
       go : (p q : Option Sides) → dest_eq a.concl ≡ p → dest_eq b.concl ≡ q → trans_sides (set.union a.hyps b.hyps) p q ≡ Some t → Derived items t
       go (Some x) (Some y) p q is =
-          let v = test (alpha_eq x.right y.left) (sequent_of (set.union a.hyps b.hyps) (equation x.sides_type x.left y.right)) t is in
+          let v = cond_some (alpha_eq x.right y.left) (sequent_of (set.union a.hyps b.hyps) (equation x.sides_type x.left y.right)) t is in
           subst (Derived items) v.1
           (by_trans a.hyps b.hyps x.sides_type y.sides_type x.left x.right y.left y.right (by_sides items a x p d) (by_sides items b y q e) (alpha x.right y.left v.0))
       go (Some x) None p q is = absurd (cc)
@@ -93,7 +89,7 @@ module _ (items : Items) (a b t : Sequent) (d : Derived items a) (e : Derived it
     where
       go : (p : Option Sides) → dest_eq a.concl ≡ p → eq_mp_sides (set.union a.hyps b.hyps) p b.concl ≡ Some t → Derived items t
       go (Some x) p is =
-          let v = test (alpha_eq x.left b.concl) (sequent_of (set.union a.hyps b.hyps) x.right) t is in
+          let v = cond_some (alpha_eq x.left b.concl) (sequent_of (set.union a.hyps b.hyps) x.right) t is in
           subst (Derived items) v.1
           (by_eq_mp a.hyps b.hyps x.sides_type x.left x.right b.concl (by_sides items a x p d) e (alpha x.left b.concl v.0))
       go None p is = absurd (cc)
@@ -104,7 +100,7 @@ module _ (items : Items) (a b t : Sequent) (d : Derived items a) (e : Derived it
     where
       typed : (x y : Sides) (f : Option (TypeTree × TypeTree)) → fun_parts x.sides_type ≡ f → dest_eq a.concl ≡ Some x → dest_eq b.concl ≡ Some y → comb_parts (set.union a.hyps b.hyps) x y f ≡ Some t → Derived items t
       typed x y (Some s) f p q is =
-          let v = test (type_eq s.0 y.sides_type) (sequent_of (set.union a.hyps b.hyps) (equation s.1 (app x.left y.left) (app x.right y.right))) t is in
+          let v = cond_some (type_eq s.0 y.sides_type) (sequent_of (set.union a.hyps b.hyps) (equation s.1 (app x.left y.left) (app x.right y.right))) t is in
           subst (Derived items) v.1
           (by_mk_comb a.hyps b.hyps s.0 s.1 x.left x.right y.left y.right
           (subst (λ (u : TypeTree). Derives items a.hyps (equation u x.left x.right)) (fun_parts_is x.sides_type s f) (by_sides items a x p d))

@@ -9,6 +9,7 @@ use Rattle.hol_types.specs.Tree.{TypeTree, TypeList, TyVar, TyApp, no_types, mor
 use Rattle.hol_types.specs.Fun.{fun_type}
 use Rattle.hol_types.specs.Equal.{variable_eq}
 use Rattle.hol_types.specs.Subst.{type_lookup, type_for, type_subst, types_subst}
+use Rattle.hol_types.proofs.SubstLaws.{subst_none}
 use Rattle.hol_terms.specs.Named.{applied_type}
 use Rattle.hol_terms.specs.Nameless.{Nameless, free, bound, fixed, app, lam, nameless_type}
 use Rattle.hol_terms.specs.Alpha.{strip}
@@ -16,7 +17,7 @@ use Rattle.hol_subst.specs.Shift.{shift}
 use Rattle.hol_subst.specs.Closing.{close, open_with, bind}
 use Rattle.hol_subst.specs.Substitution.{term_lookup, term_for, term_subst, types_inst}
 use Rattle.hol_subst.proofs.Typing.{mapped_part}
-use Rattle.hol_subst.proofs.TypesInst.{applied_is}
+use Rattle.hol_terms.proofs.Typing.{applied_is}
 use Rattle.hol_subst.proofs.TypeLaws.{PairsFit}
 use Rattle.hol_kernel.specs.Item.{Item}
 use Rattle.hol_kernel.specs.Items.{Items, in_order}
@@ -77,15 +78,6 @@ instance_inst : (pairs : Pairs) (generic a : TypeTree) → is_instance generic a
 instance_inst pairs generic a e =
     let r = subst_of_instance generic a e in
     instance_of_subst generic (type_subst pairs a) (after r.0 pairs) (subst_after r.0 pairs generic ∙ ap (type_subst pairs) r.1)
-
-mutual
-  subst_none : (t : TypeTree) → type_subst [] t ≡ t
-  subst_none (TyVar a) = refl
-  subst_none (TyApp c ts) = ap (TyApp c) (substs_none ts)
-
-  substs_none : (ts : TypeList) → types_subst [] ts ≡ ts
-  substs_none no_types = refl
-  substs_none (more_types t ts) = λ i. more_types (subst_none t i) (substs_none ts i)
 
 -- a type is an instance of itself
 pub instance_itself : (a : TypeTree) → is_instance a a ≡ true

@@ -3,7 +3,7 @@ use Rattle.std.specs.Prelude.{◌≡◌}
 use Rattle.std.proofs.Common.{ap, sym, ◌∙◌, inl, inr}
 use Rattle.std.specs.FinSet as set
 use Rattle.hol_kernel.specs.Item.{Item}
-use Rattle.hol_kernel.specs.Items.{Items, no_items, Holds, IsSubset, IsWithin}
+use Rattle.hol_kernel.specs.Items.{Items, no_items, IsSubset, IsWithin}
 use Rattle.hol_kernel.proofs.ItemOrder.{total, only}
 use Rattle.hol_kernel.proofs.Members.{not_in_empty, in_insert_old, in_union_cases, in_union_left, in_union_right}
 

@@ -4,6 +4,7 @@ use Rattle.std.specs.Option.{option_map, option_and_then}
 use Rattle.std.specs.FinSet as set
 use Rattle.std.proofs.Common.{ap, sym, ◌∙◌, subst}
 use Rattle.std.proofs.lemmas.Bool.{and_right}
+use Rattle.std.proofs.Math.Bool.{and-true}
 use Rattle.hol_types.specs.Tree.{TypeTree}
 use Rattle.hol_types.specs.Equal.{type_eq, variable_eq}
 use Rattle.hol_types.specs.Fun.{fun_type, fun_parts}
@@ -179,11 +180,7 @@ pub ruleset assumes = (assume_yes, assume_no_bool, assume_no_type)
 
 -- whether a term is well typed, of a type, from tests of the one and of the other
 pub typed_test : (basis : Items) (t : Named) (s b : TypeTree) → named_type t ≡ Some s → type_eq s b ≡ true → is_typed basis (nameless [] t) ≡ has_type basis (nameless [] t) b
-typed_test basis t s b has e = sym (has_type_test basis t s has b ∙ ap (λ k. is_typed basis (nameless [] t) && k) e ∙ and_true (is_typed basis (nameless [] t)))
-  where
-    and_true : (k : Bool) → (k && true) ≡ k
-    and_true true = refl
-    and_true false = refl
+typed_test basis t s b has e = sym (has_type_test basis t s has b ∙ ap (λ k. is_typed basis (nameless [] t) && k) e ∙ and-true (is_typed basis (nameless [] t)))
 
 pub other_type : (basis : Items) (t : Named) (s b : TypeTree) → named_type t ≡ Some s → type_eq s b ≡ false → has_type basis (nameless [] t) b ≡ false
 other_type basis t s b has e = has_type_test basis t s has b ∙ ap (λ k. is_typed basis (nameless [] t) && k) e ∙ and_right (is_typed basis (nameless [] t)) false refl

@@ -31,7 +31,7 @@ use Rattle.hol_kernel.proofs.ItemOrder.{total, only}
 use Rattle.hol_kernel.proofs.Members.{or_right, in_insert_here, in_insert_old, not_in_empty}
 use Rattle.hol_kernel.proofs.Stands.{both}
 use Rattle.hol_kernel.proofs.Variables.{typed_known, known_typed}
-use Rattle.hol_kernel.proofs.Weaken.{HasType-more, Derives-more}
+use Rattle.hol_kernel.proofs.Weaken.{HasType-more, derives_more}
 use Rattle.hol_kernel.proofs.WellTyped.{theorem_typed}
 
 -- ---- names
@@ -122,7 +122,7 @@ module _ (items : Items) (c abs rep : List ℕ) (th : Theorem) where
 
     inhabited : Derives items no_hyps (app (nameless [] p) x)
     inhabited =
-        Derives-more th.basis items wider no_hyps (app (nameless [] p) x)
+        derives_more th.basis items wider no_hyps (app (nameless [] p) x)
         (subst (λ (hs : Hyps). Derives th.basis hs (app (nameless [] p) x)) m.0 (subst (λ (n : Nameless). Derives th.basis th.sequent.hyps n) m.1 derives))
 
     pub type_sound : are_new_names items c abs rep ≡ true → is_closed (nameless [] p) ≡ true → IsSound items (defined_type c abs rep (nameless [] p))

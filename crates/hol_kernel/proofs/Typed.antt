@@ -1,11 +1,12 @@
 -- Well typed terms, and the named terms that they come from.
-use Rattle.std.specs.Prelude.{◌≡◌, ℕ, ◌+◌, ◌==◌, Bool, true, false, cond, ◌&&◌, List, [], ◌∷◌, Option, Some, None, is_some, refl}
+use Rattle.std.specs.Prelude.{◌≡◌, ℕ, ◌+◌, Bool, true, false, cond, ◌&&◌, List, [], ◌∷◌, Option, Some, None, is_some, refl}
 use Rattle.std.proofs.Common.{ap, sym, ◌∙◌}
 use Rattle.std.proofs.lemmas.Slice.Eq.{bytes_eq-Decides}
 use Rattle.hol_types.specs.Tree.{TypeTree}
 use Rattle.hol_types.specs.Equal.{type_eq, variable_eq}
 use Rattle.hol_terms.specs.Named.{Named, var, constant, comb, abs, named_type}
-use Rattle.hol_terms.specs.Nameless.{Nameless, base_of, with_letter, place, nameless}
+use Rattle.hol_terms.specs.Nameless.{Nameless, base_of, place, nameless}
+use Rattle.hol_terms.proofs.Primes.{base_again}
 use Rattle.hol_terms.proofs.Same.{variable_eq_decides}
 use Rattle.hol_terms.proofs.Typing.{type_outside}
 use Rattle.hol_kernel.specs.Items.{Items}
@@ -14,19 +15,6 @@ use Rattle.hol_kernel.specs.NamedTyping.{is_known_named}
 
 abbrev Variables : Type 0
 Variables = List (List ℕ × TypeTree)
-
--- a base name has no primes at its end
-base_again : (a : List ℕ) → base_of (base_of a) ≡ base_of a
-base_again [] = refl
-base_again (x ∷ xs) = by (base_of xs) (base_again xs)
-  where
-    letter : (t : Bool) → (x == 39) ≡ t → base_of (cond t [] (x ∷ [])) ≡ cond t [] (x ∷ [])
-    letter true e = refl
-    letter false e = ap (λ b. cond b [] (x ∷ [])) e
-
-    by : (b : List ℕ) → base_of b ≡ b → base_of (with_letter x b) ≡ with_letter x b
-    by [] e = letter (x == 39) refl
-    by (y ∷ ys) e = ap (with_letter x) e
 
 pub base_is_base : (a : List ℕ) → is_base (base_of a) ≡ true
 base_is_base a = (bytes_eq-Decides (base_of (base_of a)) (base_of a)).1 (base_again a)

@@ -8,7 +8,8 @@ use Rattle.hol_kernel.specs.Signature.{ItemKey, has_key}
 use Rattle.hol_kernel.specs.Legal.{HasNewKeys, IsSound, IsLegal, IsLegalSet}
 use Rattle.hol_kernel.specs.Extends.{Agree}
 use Rattle.hol_kernel.proofs.Weaken.{IsSound-more}
-use Rattle.hol_kernel.proofs.Members.{in_insert_here, in_insert_old, in_insert_cases, in_union_left, in_union_right, in_union_cases, same_members, in_or_out, union_insert, union_empty}
+use Rattle.hol_kernel.proofs.SortedSets.{union_none_right}
+use Rattle.hol_kernel.proofs.Members.{in_insert_here, in_insert_old, in_insert_cases, in_union_left, in_union_right, in_union_cases, same_members, in_or_out, union_insert}
 use Rattle.hol_kernel.proofs.ItemOrder.{total, only}
 
 -- an item that is there already adds nothing
@@ -35,7 +36,7 @@ joined :
     (a : Items) (first : List Item) → IsLegal first → item_set first ≡ a →
     (second : List Item) → IsLegal second → Agree a (item_set second) →
     (order : List Item) × IsLegal order × (item_set order ≡ set.union a (item_set second))
-joined a first legal is [] _ agree = (first, legal, is ∙ sym (union_empty total only a))
+joined a first legal is [] _ agree = (first, legal, is ∙ sym (union_none_right total only a))
 joined a first legal is (x ∷ earlier) ok agree =
     let b : Items = item_set earlier in
     let rest = joined a first legal is earlier ok.2 (λ y z k i j. agree y z k i (in_insert_old total only b x z j)) in

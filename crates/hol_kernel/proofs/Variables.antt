@@ -4,6 +4,7 @@ use Rattle.std.specs.Option.{option_map}
 use Rattle.std.specs.List.{list_any}
 use Rattle.std.proofs.Common.{ap, sym, ◌∙◌}
 use Rattle.std.proofs.lemmas.Bool.{and_parts}
+use Rattle.std.proofs.Math.Bool.{or-false}
 use Rattle.hol_types.specs.Tree.{TypeTree, TypeList, TyVar, TyApp, no_types, more_types}
 use Rattle.hol_types.specs.Fun.{fun_type}
 use Rattle.hol_terms.specs.Nameless.{Nameless, free, app, fixed, nameless_type}
@@ -16,7 +17,7 @@ use Rattle.hol_formulas.specs.Constants.{is_constructor, prelude_types}
 use Rattle.hol_kernel.specs.Typing.{types_count, is_type, are_types, is_known, HasType}
 use Rattle.hol_kernel.specs.Rules.{reflexive, refl_of}
 use Rattle.hol_formulas.proofs.Instance.{instance_of_subst}
-use Rattle.hol_formulas.proofs.EquationTypes.{applied_fits}
+use Rattle.hol_terms.proofs.Typing.{applied_fits}
 use Rattle.hol_kernel.proofs.Sets.{items_empty}
 
 -- a term is well typed where its types and constants stand and it has a type
@@ -69,11 +70,7 @@ refl_variable items v stands = refl_typed items (free v) v.1 (variable_typed ite
 -- ---- types of the prelude stand over all items
 
 none_made : (c : List ℕ) (n : ℕ) → has_arity no_items c n ≡ list_any (is_constructor c n) prelude_types
-none_made c n = ap (λ xs. list_any (is_constructor c n) prelude_types || list_any (makes_type c n) (in_order_of xs)) (items_empty (coded_total item_code)) ∙ or_false _
-  where
-    or_false : (b : Bool) → (b || false) ≡ b
-    or_false true = refl
-    or_false false = refl
+none_made c n = ap (λ xs. list_any (is_constructor c n) prelude_types || list_any (makes_type c n) (in_order_of xs)) (items_empty (coded_total item_code)) ∙ or-false _
 
 prelude_arity : (items : Items) (c : List ℕ) (n : ℕ) → has_arity no_items c n ≡ true → has_arity items c n ≡ true
 prelude_arity items c n e = ap (λ b. b || list_any (makes_type c n) (in_order items)) (sym (none_made c n) ∙ e)

@@ -16,17 +16,18 @@ use Rattle.hol_kernel.specs.Typing.{types_count, is_type, are_types, is_base, is
 use Rattle.hol_kernel.specs.Derivation.{Derives, by_refl, by_trans, by_mk_comb, by_abs, by_beta, by_assume, by_eq_mp, by_deduct_antisym, by_inst_type, by_inst, by_postulate, by_axiom, by_definition, by_abs_rep, by_rep_abs}
 use Rattle.hol_kernel.specs.Legal.{IsSound}
 use Rattle.hol_kernel.proofs.Members.{Among, itself, equal_keys}
-use Rattle.hol_kernel.proofs.Ordered.{any_found, any_of, in_sorting}
+use Rattle.hol_kernel.proofs.Ordered.{in_sorting}
+use Rattle.hol_kernel.proofs.SortedSets.{any_some, some_any}
 use Rattle.hol_kernel.proofs.ItemOrder.{total, only}
 
 -- ---- the items in order are those of the set
 
 pub held : (items : Items) (x : Item) → Among x (in_order items) → Holds items x
-held items x h = sym (in_sorting total only items x) ∙ any_of _ (in_order items) x h (itself total only x)
+held items x h = sym (in_sorting total only items x) ∙ some_any _ (in_order items) x h (itself total only x)
 
 pub ordered_held : (items : Items) (x : Item) → Holds items x → Among x (in_order items)
 ordered_held items x h =
-    let r = any_found _ (in_order items) (in_sorting total only items x ∙ h) in
+    let r = any_some _ (in_order items) (in_sorting total only items x ∙ h) in
     let is : x ≡ r.0 = equal_keys total only x r.0 r.2 in
     subst (λ (y : Item). Among y (in_order items)) (sym is) r.1
 
@@ -37,8 +38,8 @@ either false b c f e = f e
 module _ (items more : Items) (within : IsWithin items more) where
   any_more : (p : Item → Bool) → list_any p (in_order items) ≡ true → list_any p (in_order more) ≡ true
   any_more p e =
-      let r = any_found p (in_order items) e in
-      any_of p (in_order more) r.0 (ordered_held more r.0 (within r.0 (held items r.0 r.1))) r.2
+      let r = any_some p (in_order items) e in
+      some_any p (in_order more) r.0 (ordered_held more r.0 (within r.0 (held items r.0 r.1))) r.2
 
   pub has_arity_more : (c : List ℕ) (n : ℕ) → has_arity items c n ≡ true → has_arity more c n ≡ true
   has_arity_more c n = either (list_any (is_constructor c n) prelude_types) _ _ (any_more (makes_type c n))
@@ -86,24 +87,24 @@ module _ (items more : Items) (within : IsWithin items more) where
   all_more p q f [] e = refl
   all_more p q f (x ∷ xs) e = let r = and_parts (p x) (list_all p xs) e in λ i. f x r.0 i && all_more p q f xs r.1 i
 
-  pub Derives-more : (hs : Hyps) (c : Nameless) → Derives items hs c → Derives more hs c
-  Derives-more _ _ (by_refl t a h) = by_refl t a (HasType-more t a h)
-  Derives-more _ _ (by_trans hs ks a b s m n t d e same) = by_trans hs ks a b s m n t (Derives-more _ _ d) (Derives-more _ _ e) same
-  Derives-more _ _ (by_mk_comb hs ks a b f g x y d e) = by_mk_comb hs ks a b f g x y (Derives-more _ _ d) (Derives-more _ _ e)
-  Derives-more _ _ (by_abs hs a v l r stands new d) = by_abs hs a v l r (is_type_more v.1 stands) new (Derives-more _ _ d)
-  Derives-more _ _ (by_beta a v b h new) = by_beta a v b (HasType-more (app (lam (base_of v.0) v.1 b) (free v)) a h) new
-  Derives-more _ _ (by_assume p h) = by_assume p (HasType-more p bool_type h)
-  Derives-more _ _ (by_eq_mp hs ks a l r m d e same) = by_eq_mp hs ks a l r m (Derives-more _ _ d) (Derives-more _ _ e) same
-  Derives-more _ _ (by_deduct_antisym hs ks p q d e) = by_deduct_antisym hs ks p q (Derives-more _ _ d) (Derives-more _ _ e)
-  Derives-more _ _ (by_inst_type hs p pairs ok d) =
-      by_inst_type hs p pairs (all_more (λ p. is_type items p.0) (λ p. is_type more p.0) (λ p. is_type_more p.0) pairs ok) (Derives-more _ _ d)
-  Derives-more _ _ (by_inst hs p pairs ok d) =
-      by_inst hs p pairs (all_more (λ p. has_type items p.0 p.1.1) (λ p. has_type more p.0 p.1.1) (λ p. has_type_more p.0 p.1.1) pairs ok) (Derives-more _ _ d)
-  Derives-more _ _ (by_postulate which) = by_postulate which
-  Derives-more _ _ (by_axiom n p h typed) = by_axiom n p (within _ h) (HasType-more p bool_type typed)
-  Derives-more _ _ (by_definition c r a h typed) = by_definition c r a (within _ h) (HasType-more r a typed)
-  Derives-more _ _ (by_abs_rep c abs rep p s h typed) = by_abs_rep c abs rep p s (within _ h) (HasType-more p _ typed)
-  Derives-more _ _ (by_rep_abs c abs rep p s h typed) = by_rep_abs c abs rep p s (within _ h) (HasType-more p _ typed)
+  pub derives_more : (hs : Hyps) (c : Nameless) → Derives items hs c → Derives more hs c
+  derives_more _ _ (by_refl t a h) = by_refl t a (HasType-more t a h)
+  derives_more _ _ (by_trans hs ks a b s m n t d e same) = by_trans hs ks a b s m n t (derives_more _ _ d) (derives_more _ _ e) same
+  derives_more _ _ (by_mk_comb hs ks a b f g x y d e) = by_mk_comb hs ks a b f g x y (derives_more _ _ d) (derives_more _ _ e)
+  derives_more _ _ (by_abs hs a v l r stands new d) = by_abs hs a v l r (is_type_more v.1 stands) new (derives_more _ _ d)
+  derives_more _ _ (by_beta a v b h new) = by_beta a v b (HasType-more (app (lam (base_of v.0) v.1 b) (free v)) a h) new
+  derives_more _ _ (by_assume p h) = by_assume p (HasType-more p bool_type h)
+  derives_more _ _ (by_eq_mp hs ks a l r m d e same) = by_eq_mp hs ks a l r m (derives_more _ _ d) (derives_more _ _ e) same
+  derives_more _ _ (by_deduct_antisym hs ks p q d e) = by_deduct_antisym hs ks p q (derives_more _ _ d) (derives_more _ _ e)
+  derives_more _ _ (by_inst_type hs p pairs ok d) =
+      by_inst_type hs p pairs (all_more (λ p. is_type items p.0) (λ p. is_type more p.0) (λ p. is_type_more p.0) pairs ok) (derives_more _ _ d)
+  derives_more _ _ (by_inst hs p pairs ok d) =
+      by_inst hs p pairs (all_more (λ p. has_type items p.0 p.1.1) (λ p. has_type more p.0 p.1.1) (λ p. has_type_more p.0 p.1.1) pairs ok) (derives_more _ _ d)
+  derives_more _ _ (by_postulate which) = by_postulate which
+  derives_more _ _ (by_axiom n p h typed) = by_axiom n p (within _ h) (HasType-more p bool_type typed)
+  derives_more _ _ (by_definition c r a h typed) = by_definition c r a (within _ h) (HasType-more r a typed)
+  derives_more _ _ (by_abs_rep c abs rep p s h typed) = by_abs_rep c abs rep p s (within _ h) (HasType-more p _ typed)
+  derives_more _ _ (by_rep_abs c abs rep p s h typed) = by_rep_abs c abs rep p s (within _ h) (HasType-more p _ typed)
 
   pub IsSound-more : (x : Item) → IsSound items x → IsSound more x
   IsSound-more (declared_type c n) s = tt
@@ -117,7 +118,7 @@ module _ (items more : Items) (within : IsWithin items more) where
         apart = s.1.1.apart;
         typed = HasType-more p _ s.1.1.typed;
         closed = s.1.1.closed;
-        inhabited = Derives-more _ _ s.1.1.inhabited;
+        inhabited = derives_more _ _ s.1.1.inhabited;
       },
     ),
   )

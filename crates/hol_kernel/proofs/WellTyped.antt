@@ -11,7 +11,7 @@ use Rattle.hol_types.specs.Tree.{TypeTree, TyVar, type_list}
 use Rattle.hol_types.specs.Fun.{fun_type, fun_parts}
 use Rattle.hol_terms.specs.Nameless.{Nameless, free, fixed, app, lam, base_of, nameless_type}
 use Rattle.hol_terms.specs.Alpha.{strip}
-use Rattle.hol_terms.proofs.Typing.{type_outside}
+use Rattle.hol_terms.proofs.Typing.{type_outside, applied_fits}
 use Rattle.hol_subst.specs.Closing.{bind, open_with}
 use Rattle.hol_subst.specs.Substitution.{term_subst, types_inst}
 use Rattle.hol_subst.proofs.Typing.{typed_closed, subst_type, mapped_part}
@@ -31,10 +31,9 @@ use Rattle.hol_kernel.specs.Derivation.{Derives, by_refl, by_trans, by_mk_comb, 
 use Rattle.hol_kernel.specs.Theorem.{Theorem, IsWellTyped}
 use Rattle.hol_formulas.specs.declared.postulate.Postulate.{Postulate}
 use Rattle.hol_formulas.specs.declared.postulate.Postulate.TheVariants.{TDef, AndDef, ImpDef, ForallDef, ExistsDef, OrDef, FDef, NotDef, ExistsUniqueDef, EtaAx, SelectAx, OneOne, Onto, InfinityAx}
-use Rattle.hol_formulas.proofs.EquationTypes.{applied_fits}
 use Rattle.hol_kernel.proofs.HypothesisLists.{hyps_total, hyps_same}
 use Rattle.hol_kernel.proofs.Members.{Among, in_insert_cases, in_union_cases, not_in_empty, or_right, from_list_among, among_from_list, from_list-items}
-use Rattle.hol_kernel.proofs.Ordered.{any_of}
+use Rattle.hol_kernel.proofs.SortedSets.{some_any}
 use Rattle.hol_formulas.proofs.PartTypes.{postulated_typed}
 use Rattle.hol_kernel.proofs.Sound.{strip_type}
 use Rattle.hol_kernel.proofs.Stands.{both, some_is, app_parts, instance_itself, fun_stands, fun_parts_stand, type_stands, known_strip, known_bind, known_open, known_inst, typed_pairs_fit, known_subst}
@@ -178,7 +177,7 @@ module _ (items : Items) where
 
   constant_made : (c : List ℕ) (a : TypeTree) (x : Item) → Holds items x → makes_constant c a x ≡ true → is_type items a ≡ true → HasType items (fixed c a) a
   constant_made c a x there makes stands =
-      let has : has_constant items c a ≡ true = or_right (is_instance_of (prelude_generic c) a) (list_any (makes_constant c a) (in_order items)) (any_of (makes_constant c a) (in_order items) x (ordered_held items x there) makes) in
+      let has : has_constant items c a ≡ true = or_right (is_instance_of (prelude_generic c) a) (list_any (makes_constant c a) (in_order items)) (some_any (makes_constant c a) (in_order items) x (ordered_held items x there) makes) in
       typed_known items (fixed c a) a (λ i. stands i && has i) refl
 
   definition_typed : (c : List ℕ) (r : Nameless) (a : TypeTree) → Holds items (defined_constant c r) → HasType items r a → HasType items (equation a (fixed c a) r) bool_type
@@ -191,7 +190,7 @@ module _ (items : Items) where
     abbrev new : TypeTree
     new = new_type c (term_tyvars p)
 
-    old_stands : is_type items s ≡ true
+    pub old_stands : is_type items s ≡ true
     old_stands = (fun_parts_stand items s bool_type (own_type_stands p (fun_type s bool_type) typed)).0
 
     new_made : (n : ℕ) → n ≡ length (term_tyvars p) → makes_type c n (defined_type c abs rep p) ≡ true
@@ -200,15 +199,15 @@ module _ (items : Items) where
         let count : (n == length (term_tyvars p)) ≡ true = grind (arith, nat_tests) in
         λ i. (name i && count i) || false
 
-    new_stands : is_type items new ≡ true
+    pub new_stands : is_type items new ≡ true
     new_stands =
         let makes : makes_type c (length (map TyVar (term_tyvars p))) (defined_type c abs rep p) ≡ true = new_made (length (map TyVar (term_tyvars p))) (params_counted (term_tyvars p)) in
         let has : has_arity items c (length (map TyVar (term_tyvars p))) ≡ true =
         or_right (list_any (is_constructor c (length (map TyVar (term_tyvars p)))) prelude_types) (list_any (makes_type c (length (map TyVar (term_tyvars p)))) (in_order items))
-        (any_of (makes_type c (length (map TyVar (term_tyvars p)))) (in_order items) (defined_type c abs rep p) (ordered_held items (defined_type c abs rep p) there) makes) in
+        (some_any (makes_type c (length (map TyVar (term_tyvars p)))) (in_order items) (defined_type c abs rep p) (ordered_held items (defined_type c abs rep p) there) makes) in
         is_type_app items c (map TyVar (term_tyvars p)) ∙ (λ i. has i && params_stand (term_tyvars p) i)
 
-    constants : bijections abs rep new (option_and_then fun_parts (nameless_type [] p)) ≡ (abs, fun_type s new) ∷ (rep, fun_type new s) ∷ []
+    pub constants : bijections abs rep new (option_and_then fun_parts (nameless_type [] p)) ≡ (abs, fun_type s new) ∷ (rep, fun_type new s) ∷ []
     constants = ap (λ o. bijections abs rep new (option_and_then fun_parts o)) (known_typed items p (fun_type s bool_type) typed).1
 
     to_typed : HasType items (to_new abs s new) (fun_type s new)

@@ -1,15 +1,12 @@
 -- Well typed terms over the prelude and a set of items (fusion.ml: mk_type, mk_const, mk_comb, type_of).
-use Rattle.std.specs.Prelude.{◌≡◌, ℕ, zero, suc, Bool, true, false, cond, ◌&&◌, List, [], bytes_eq, Option, Some, None, is_some, IsTrue}
+use Rattle.std.specs.Prelude.{◌≡◌, ℕ, Bool, true, false, cond, ◌&&◌, List, [], bytes_eq, Option, Some, None, is_some, IsTrue}
 use Rattle.std.specs.List.{list_all}
 use Rattle.hol_types.specs.Tree.{TypeTree, TypeList, TyVar, TyApp, no_types, more_types}
+pub use Rattle.hol_types.specs.Tree.{types_count}
 use Rattle.hol_types.specs.Equal.{type_eq}
 use Rattle.hol_terms.specs.Nameless.{Nameless, free, bound, fixed, app, lam, base_of, nameless_type}
 use Rattle.hol_kernel.specs.Items.{Items}
 use Rattle.hol_kernel.specs.Signature.{has_arity, has_constant}
-
-abbrev pub types_count : TypeList → ℕ
-types_count no_types = zero
-types_count (more_types t ts) = suc (types_count ts)
 
 -- each type constructor stands, and has as many arguments as its arity says
 abbrev mutual

@@ -7,7 +7,7 @@ ghost use Rattle.hol_terms.specs.Nameless.{nameless};
 ghost use Rattle.hol_formulas.specs.Equation.{bool_type, mk_eq};
 ghost use Rattle.hol_kernel.specs.Items.{item_cmp, item_set, no_items, in_order};
 ghost use Rattle.hol_kernel.specs.Signature.{has_arity, has_constant, makes_type, makes_constant};
-ghost use Rattle.hol_kernel.specs.Typing.{is_type, is_typed};
+ghost use Rattle.hol_kernel.specs.Typing.{has_type, is_type, is_typed};
 ghost use Rattle.hol_kernel.specs.NamedTyping.{is_known_named};
 ghost use Rattle.hol_kernel.specs.Legal.{IsLegalSet, IsStorable};
 
@@ -48,7 +48,7 @@ impl Model for Basis {
 }
 
 impl Basis {
-    // The basis of the items.
+    /// The basis of the items.
     pub(crate) fn made(alloc: Global, items: Vec<Item>) -> Result<Basis, AllocError>
         requires { IsStorable items.items }
         ensures { IfOk result (λ basis. basis ≡ item_set items.items) }
@@ -185,6 +185,17 @@ impl Basis {
     {
         let _ty = term.type_of();
         self.knows(alloc, term)
+    }
+
+    /// Whether the term is well typed over the prelude and the items, of the type.
+    #[tactic(auto, using(crate::proofs::TermRules::type_tests))]
+    pub fn has_type(&self, alloc: Global, term: &Term, ty: &Ty) -> Result<bool, AllocError>
+        ensures { IfOk result (λ has. has ≡ has_type self.now (nameless [] term.now) ty.now) }
+    {
+        if !term.type_of().same(ty) {
+            return Ok(false);
+        }
+        self.is_typed(alloc, term)
     }
 
     // Whether each type and each constant of the term stands.

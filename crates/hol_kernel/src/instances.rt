@@ -78,15 +78,11 @@ fn are_pairs(alloc: Global, basis: &Basis, pairs: &[(Term, Term)]) -> Result<boo
 }
 
 // Whether `u` is a variable of the type of the term, which is one over the basis.
-#[tactic(auto, using(crate::proofs::InstRules::pairs_tested))]
 fn is_pair(alloc: Global, basis: &Basis, term: &Term, u: &Term) -> Result<bool, AllocError>
     ensures { IfOk result (λ is. is ≡ is_pair_at basis.now (nameless [] term.now) u.now) }
 {
     let TermNode::Var(v) = u.node() else {
         return Ok(false);
     };
-    if !term.type_of().same(v.ty()) {
-        return Ok(false);
-    }
-    basis.is_typed(alloc, term)
+    basis.has_type(alloc, term, v.ty())
 }

@@ -59,7 +59,7 @@ impl Model for Item {
 }
 
 impl Item {
-    // The item of a node.
+    /// The item of a node.
     pub(crate) fn made(alloc: Global, node: ItemNode) -> Result<Item, AllocError>
         requires { HasParameters node }
         ensures { IfOk result (λ item. item ≡ item_of node) }

@@ -32,7 +32,7 @@ impl Basis {
         Ok(Basis::made(alloc, all)?)
     }
 
-    // The basis with one item more.
+    /// The basis with one item more.
     pub(crate) fn extended(&self, alloc: Global, item: Item) -> Result<Basis, AllocError>
         requires new { HasNewKeys self.now item }
         requires sound { IsSound self.now item }

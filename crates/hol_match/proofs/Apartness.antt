@@ -80,7 +80,7 @@ apart_of vs (e ∷ es) v h =
     (unbound ws v (all_unnamed vs ws v.0 p.0).1, (all_unnamed [] (free_occurrences e.rule.right) v.0 p.1).1, apart_of (add_all more own) es v h)
 
 -- ---- a name that is in use nowhere
-name_free : (a : List ℕ) (s : TypeTree) (n : Nameless) → has_name a n ≡ false → binds (free_occurrences n) (a, s) ≡ false
+pub name_free : (a : List ℕ) (s : TypeTree) (n : Nameless) → has_name a n ≡ false → binds (free_occurrences n) (a, s) ≡ false
 name_free a s (free w) e = unbound (w ∷ []) (a, s) (rw e refl)
 name_free a s (bound i) e = refl
 name_free a s (fixed c t) e = refl

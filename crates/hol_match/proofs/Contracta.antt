@@ -1,10 +1,11 @@
 -- What rules make of a term: by the first match that is found, its type, and what it becomes where a free variable of the term is bound
 -- outside.
-use Rattle.std.proofs.Common.{◌≡◌, ℕ, zero, suc, ◌+◌, ◌-◌, ◌<◌, ◌≤◌, List, [], ◌∷◌, ◌++◌, map, length, drop, refl, ap, sym, ◌∙◌, Bool, true, false, cond, nat_lt, ◌||◌, bytes_eq, Option, Some, None, unwrap_or, slice_get, arith}
+use Rattle.std.proofs.Common.{◌≡◌, ℕ, zero, suc, ◌+◌, ◌-◌, ◌<◌, ◌≤◌, List, [], ◌∷◌, ◌++◌, map, length, drop, refl, ap, sym, ◌∙◌, Bool, true, false, cond, ◌||◌, bytes_eq, Option, Some, None, unwrap_or, slice_get, arith}
 use Rattle.std.specs.Option.{option_map, option_or}
 use Rattle.std.proofs.lemmas.Bool.{or_parts}
 use Rattle.std.proofs.lemmas.List.{drop-map}
 use Rattle.std.proofs.lemmas.Slice.Eq.{bytes_eq-Decides}
+use Rattle.hol_kernel.proofs.Sound.{strip_type}
 use Rattle.hol_types.specs.Tree.{TypeTree}
 use Rattle.hol_types.specs.Equal.{variable_eq}
 use Rattle.hol_types.specs.Subst.{type_subst}
@@ -16,7 +17,7 @@ use Rattle.hol_terms.proofs.Typing.{type_outside}
 use Rattle.hol_subst.specs.Shift.{shift}
 use Rattle.hol_subst.specs.Closing.{close}
 use Rattle.hol_subst.specs.Substitution.{term_lookup, term_subst, types_inst}
-use Rattle.hol_subst.proofs.Closing.{IsClosed, closed_more, below, not_below, below_is, not_below_is, eq_flip}
+use Rattle.hol_subst.proofs.Closing.{IsClosed, closed_more, below, shift_close, eq_flip}
 use Rattle.hol_subst.proofs.Typing.{subst_type}
 use Rattle.hol_subst.proofs.TypesInst.{inst_type}
 use Rattle.hol_match.specs.Instance.{InstanceValue, instance_of, instantiated}
@@ -27,36 +28,10 @@ use Rattle.hol_match.specs.Contracta.{contracted, contractum}
 use Rattle.hol_match.specs.Apart.{is_named, IsApart}
 use Rattle.hol_match.specs.declared.set_rule.SetRule.{SetRule}
 use Rattle.hol_match.specs.SetView.{set_rule, set_rules, set_given, set_givens, IsGivenIn}
-use Rattle.hol_match.proofs.MatchLaws.{strip_type}
 use Rattle.hol_match.proofs.Under.{closed, closed_terms, lookup_closed, matched_closed}
 
 abbrev Var : Type 0
 Var = List ℕ × TypeTree
-
--- ---- shifting
-shift_index : (v : Var) (j m k i : ℕ) → m ≤ k → shift j m (close v k (bound i)) ≡ close v (k + j) (shift j m (bound i))
-shift_index v j m k i h = by (nat_lt i k) refl (nat_lt i m) refl
-  where
-    by : (a : Bool) → nat_lt i k ≡ a → (c : Bool) → nat_lt i m ≡ c → shift j m (bound (cond a i (i + 1))) ≡ close v (k + j) (bound (cond c i (i + j)))
-    by true p true q = let low : i < k = below_is i k p in rw (q, below i (k + j) (omega arith)) refl
-    by true p false q = let low : i < k = below_is i k p in rw (q, below (i + j) (k + j) (omega arith)) refl
-    by false p true q = let high : k ≤ i = not_below_is i k p in let low : i < m = below_is i m q in absurd (omega arith)
-    by false p false q =
-        let high : k ≤ i = not_below_is i k p in
-        rw (not_below (i + 1) m (omega arith), not_below (i + j) (k + j) (omega arith)) (ap bound (omega arith))
-
-pub shift_close : (v : List ℕ × TypeTree) (j m k : ℕ) (n : Nameless) → m ≤ k → shift j m (close v k n) ≡ close v (k + j) (shift j m n)
-shift_close v j m k (free w) h = by (variable_eq v w)
-  where
-    by : (c : Bool) → shift j m (cond c (bound k) (free w)) ≡ cond c (bound (k + j)) (free w)
-    by true = rw (not_below k m h) refl
-    by false = refl
-shift_close v j m k (bound i) h = shift_index v j m k i h
-shift_close v j m k (fixed c s) h = refl
-shift_close v j m k (app f x) h = λ i. app (shift_close v j m k f h i) (shift_close v j m k x h i)
-shift_close v j m k (lam a s b) h =
-    let more : k + 1 + j ≡ k + j + 1 = omega arith in
-    ap (lam a s) (shift_close v j (m + 1) (k + 1) b (omega arith) ∙ ap (λ z. close v z (shift j (m + 1) b)) more)
 
 -- ---- the right side
 pub named_append : (xs ys : List (List ℕ × TypeTree)) (a : List ℕ) → is_named (xs ++ ys) a ≡ (is_named xs a || is_named ys a)

@@ -1,16 +1,13 @@
 -- The name with the fewest primes that is not taken is the one that is searched for: no more primes are needed than names occur.
-use Rattle.std.specs.Prelude.{◌≡◌, ℕ, zero, suc, ◌+◌, ◌<◌, ◌≤◌, Bool, true, false, cond, ◌||◌, ◌⊎◌, List, [], ◌∷◌, ◌++◌, length, codes, refl}
+use Rattle.std.specs.Prelude.{◌≡◌, ℕ, zero, suc, ◌+◌, ◌<◌, ◌≤◌, true, false, cond, List, [], ◌∷◌, ◌++◌, length, codes, refl}
 use Rattle.std.proofs.Common.{ap, sym, ◌∙◌, inl, inr, arith, length-append}
 use Rattle.std.proofs.lemmas.Slice.Eq.{bytes_eq-Decides}
+use Rattle.std.proofs.lemmas.Bool.{false_from_ne_true, or_cases}
 use Rattle.hol_terms.specs.Nameless.{Nameless, free, bound, fixed, app, lam}
 use Rattle.hol_terms.specs.Primes.{with_primes}
 use Rattle.hol_subst.specs.FreeName.{has_name, is_taken, IsFreeName}
 use Rattle.hol_kernel.proofs.Members.{Among}
 use Rattle.hol_match.specs.FreeNames.{count_names, count_all, untaken, free_name}
-
-or_cases : (a b : Bool) → (a || b) ≡ true → (a ≡ true) ⊎ (b ≡ true)
-or_cases true b e = inl refl
-or_cases false b e = inr e
 
 -- ---- the names that occur
 
@@ -98,13 +95,9 @@ few_primes a (suc k) ns each =
 
 -- ---- the search
 
-false_of : (b : Bool) → (b ≡ true → ⊥) → b ≡ false
-false_of true h = absurd (h refl)
-false_of false h = refl
-
 module _ (avoid : List Nameless) (base r : List ℕ) (h : IsFreeName avoid base r) where
   pub not_taken : is_taken avoid r ≡ false
-  not_taken = false_of (is_taken avoid r) h.fresh
+  not_taken = false_from_ne_true (is_taken avoid r) h.fresh
 
   at_last : (j : ℕ) → j ≡ h.primes → with_primes j base ≡ r
   at_last j e = ap (λ k. with_primes k base) e ∙ sym h.is

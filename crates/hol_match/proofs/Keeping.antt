@@ -7,6 +7,7 @@ use Rattle.std.proofs.lemmas.Slice.Eq.{bytes_eq-Decides}
 use Rattle.hol_types.specs.Tree.{TypeTree, TyVar, TyApp, TypeList, no_types, more_types}
 use Rattle.hol_types.specs.Names.{is_among, type_names, types_names, insert_names, tyvars}
 use Rattle.hol_types.proofs.Names.{tyvars_among}
+use Rattle.hol_types.proofs.Filters.{among_append}
 use Rattle.hol_terms.specs.Named.{Named}
 use Rattle.hol_terms.specs.Nameless.{Nameless, free, bound, fixed, app, lam, nameless, free_occurrences}
 use Rattle.hol_terms.specs.Alpha.{strip}
@@ -37,28 +38,20 @@ vars_names [] = refl
 vars_names (a ∷ names) = ap (λ xs. a ∷ xs) (vars_names names)
 
 -- each of the names is there once they are put in order
-ordered_has : (names : List (List ℕ)) (a : List ℕ) → is_among (insert_names [] names) a ≡ is_among names a
+pub ordered_has : (names : List (List ℕ)) (a : List ℕ) → is_among (insert_names [] names) a ≡ is_among names a
 ordered_has names a = ap (λ xs. is_among (insert_names [] xs) a) (sym (vars_names names)) ∙ tyvars_among (TyApp [] (vars names)) a ∙ ap (λ xs. is_among xs a) (vars_names names)
-
-among_both : (a : List ℕ) (xs ys : List (List ℕ)) → is_among (xs ++ ys) a ≡ (is_among xs a || is_among ys a)
-among_both a [] ys = refl
-among_both a (x ∷ xs) ys = by (bytes_eq a x) (among_both a xs ys)
-  where
-    by : (b : Bool) → is_among (xs ++ ys) a ≡ (is_among xs a || is_among ys a) → (b || is_among (xs ++ ys) a) ≡ ((b || is_among xs a) || is_among ys a)
-    by true e = refl
-    by false e = e
 
 term_names : (a : List ℕ) (n : Nameless) → is_among (type_names_in n) a ≡ has_type_var a n
 term_names a (free v) = tyvars_among v.1 a
 term_names a (bound i) = refl
 term_names a (fixed c s) = tyvars_among s a
-term_names a (app f x) = among_both a (type_names_in f) (type_names_in x) ∙ (λ i. term_names a f i || term_names a x i)
-term_names a (lam b s n) = among_both a (tyvars s) (type_names_in n) ∙ (λ i. tyvars_among s a i || term_names a n i)
+term_names a (app f x) = among_append (type_names_in f) (type_names_in x) a ∙ (λ i. term_names a f i || term_names a x i)
+term_names a (lam b s n) = among_append (tyvars s) (type_names_in n) a ∙ (λ i. tyvars_among s a i || term_names a n i)
 
 term_has : (a : List ℕ) (n : Nameless) → is_among (term_tyvars n) a ≡ has_type_var a n
 term_has a n = ordered_has (type_names_in n) a ∙ term_names a n
 
-stripped : (a : List ℕ) (n : Nameless) → has_type_var a (strip n) ≡ has_type_var a n
+pub stripped : (a : List ℕ) (n : Nameless) → has_type_var a (strip n) ≡ has_type_var a n
 stripped a (free v) = refl
 stripped a (bound i) = refl
 stripped a (fixed c s) = refl
@@ -71,7 +64,7 @@ name_stays names b a h = by (is_among names b)
   where
     by : (c : Bool) → is_among (cond c names (names ++ b ∷ [])) a ≡ true
     by true = h
-    by false = among_both a names (b ∷ []) ∙ or_left (is_among names a) (is_among (b ∷ []) a) h
+    by false = among_append names (b ∷ []) a ∙ or_left (is_among names a) (is_among (b ∷ []) a) h
 
 names_stay : (names more : List (List ℕ)) (a : List ℕ) → is_among names a ≡ true → is_among (add_names names more) a ≡ true
 names_stay names [] a h = h
@@ -89,7 +82,7 @@ name_there names b a h = by (is_among names b) refl
             by_test : (c : Bool) → bytes_eq a b ≡ c → (c || false) ≡ true → a ≡ b
             by_test true q k = (bytes_eq-Decides a b).0 q
             by_test false q k = absurd (false≢true k)
-    by false e = among_both a names (b ∷ []) ∙ or_right (is_among names a) (is_among (b ∷ []) a) h
+    by false e = among_append names (b ∷ []) a ∙ or_right (is_among names a) (is_among (b ∷ []) a) h
 
 names_there : (names more : List (List ℕ)) (a : List ℕ) → is_among more a ≡ true → is_among (add_names names more) a ≡ true
 names_there names [] a h = absurd (cc)
@@ -141,13 +134,17 @@ free_there vs (p ∷ ps) w h = by (binds (free_occurrences (nameless [] p)) w) r
     by false e k r = r k
 
 -- ---- of hypotheses
+pub names_fixed : (hs : Hyps) (ps : List Named) → hyps_of ps ≡ hs → (a : List ℕ) → has_type_var_in (set.items hs) a ≡ true → is_among (fixed_names [] (map (λ t. nameless [] t) ps)) a ≡ true
+names_fixed hs ps is a h = fixed_there [] ps a (sym (any_of_set hyps_total hyps_same (has_type_var a) (map hyp_of ps)) ∙ ap (λ (s : Hyps). has_type_var_in (set.items s) a) is ∙ h)
+
+pub variables_fixed : (hs : Hyps) (ps : List Named) → hyps_of ps ≡ hs → (v : List ℕ × TypeTree) → is_free_in (set.items hs) v ≡ true → binds (fixed_variables [] (map (λ t. nameless [] t) ps)) v ≡ true
+variables_fixed hs ps is v h = free_there [] ps v (sym (free_in_hyps hs ps v is) ∙ h)
+
 pub names_kept : (hs : Hyps) (ps : List Named) (f : Fixed) → hyps_of ps ≡ hs → AreFixed (map (λ t. nameless [] t) ps) f → (a : List ℕ) → has_type_var_in (set.items hs) a ≡ true → is_among f.names.items a ≡ true
-names_kept hs ps f is own a h =
-    ap (λ ns. is_among ns a) own.0
-    ∙ fixed_there [] ps a (sym (any_of_set hyps_total hyps_same (has_type_var a) (map hyp_of ps)) ∙ ap (λ (s : Hyps). has_type_var_in (set.items s) a) is ∙ h)
+names_kept hs ps f is own a h = ap (λ ns. is_among ns a) own.0 ∙ names_fixed hs ps is a h
 
 pub variables_kept : (hs : Hyps) (ps : List Named) (f : Fixed) → hyps_of ps ≡ hs → AreFixed (map (λ t. nameless [] t) ps) f → (v : List ℕ × TypeTree) → is_free_in (set.items hs) v ≡ true → binds f.variables.items v ≡ true
-variables_kept hs ps f is own v h = ap (λ vs. binds vs v) own.1 ∙ free_there [] ps v (sym (free_in_hyps hs ps v is) ∙ h)
+variables_kept hs ps f is own v h = ap (λ vs. binds vs v) own.1 ∙ variables_fixed hs ps is v h
 
 pub ruleset staying = (names_kept, variables_kept)
 

@@ -1,11 +1,13 @@
 -- Looking up in pairs that come after those of what stays, and one step of matching types.
 use Rattle.std.proofs.Common.{◌≡◌, ℕ, zero, suc, ◌<◌, ◌≤◌, List, [], ◌∷◌, ◌++◌, map, length, get_or, refl, ap, sym, ◌∙◌, Bool, true, false, cond, ◌||◌, if◌then◌else◌, bytes_eq, Some, None, subst, inl, inr, arith}
 use Rattle.std.specs.Option.{option_and_then}
+use Rattle.std.proofs.lemmas.List.{append_assoc}
 use Rattle.std.proofs.lemmas.Slice.Eq.{bytes_eq-Decides}
 use Rattle.hol_types.specs.Tree.{TypeTree, TyVar, TyApp, type_list, type_size, types_size}
 use Rattle.hol_types.specs.Names.{is_among}
 use Rattle.hol_types.specs.Subst.{type_lookup}
 use Rattle.hol_types.specs.Equal.{variable_eq}
+use Rattle.hol_types.proofs.Lookups.{type_first, type_second}
 use Rattle.hol_types.proofs.Steps.{match_ends_some, match_ends_none, match_more_none}
 use Rattle.hol_types.proofs.Filters.{closed_match}
 use Rattle.hol_terms.specs.Named.{Named, var, constant, comb, abs, named_type}
@@ -22,22 +24,6 @@ use Rattle.hol_match.specs.declared.fixed.Fixed.{Fixed}
 use Rattle.hol_match.specs.Matching.{taken, with_type, variable_takes, variable_meets}
 use Rattle.hol_match.specs.Places.{is_variable}
 
-pub type_first : (xs ys : List (TypeTree × List ℕ)) (a : List ℕ) (s : TypeTree) → type_lookup xs a ≡ Some s → type_lookup (xs ++ ys) a ≡ Some s
-type_first [] ys a s e = absurd (cc)
-type_first (x ∷ xs) ys a s e = by (bytes_eq x.1 a) (type_first xs ys a s) e
-  where
-    by : (b : Bool) → (type_lookup xs a ≡ Some s → type_lookup (xs ++ ys) a ≡ Some s) → cond b (Some x.0) (type_lookup xs a) ≡ Some s → cond b (Some x.0) (type_lookup (xs ++ ys) a) ≡ Some s
-    by true r f = f
-    by false r f = r f
-
-pub type_second : (xs ys : List (TypeTree × List ℕ)) (a : List ℕ) → type_lookup xs a ≡ None → type_lookup (xs ++ ys) a ≡ type_lookup ys a
-type_second [] ys a e = refl
-type_second (x ∷ xs) ys a e = by (bytes_eq x.1 a) (type_second xs ys a) e
-  where
-    by : (b : Bool) → (type_lookup xs a ≡ None → type_lookup (xs ++ ys) a ≡ type_lookup ys a) → cond b (Some x.0) (type_lookup xs a) ≡ None → cond b (Some x.0) (type_lookup (xs ++ ys) a) ≡ type_lookup ys a
-    by true r f = absurd (cc)
-    by false r f = r f
-
 pub term_first : (xs ys : List (Nameless × (List ℕ × TypeTree))) (v : List ℕ × TypeTree) (s : Nameless) → term_lookup xs v ≡ Some s → term_lookup (xs ++ ys) v ≡ Some s
 term_first [] ys v s e = absurd (cc)
 term_first (x ∷ xs) ys v s e = by (variable_eq x.1 v) (term_first xs ys v s) e
@@ -53,10 +39,6 @@ term_second (x ∷ xs) ys v e = by (variable_eq x.1 v) (term_second xs ys v) e
     by : (b : Bool) → (term_lookup xs v ≡ None → term_lookup (xs ++ ys) v ≡ term_lookup ys v) → cond b (Some x.0) (term_lookup xs v) ≡ None → cond b (Some x.0) (term_lookup (xs ++ ys) v) ≡ term_lookup ys v
     by true r f = absurd (cc)
     by false r f = r f
-
-pub append_assoc : {A : Type 0} (xs ys zs : List A) → (xs ++ ys) ++ zs ≡ xs ++ (ys ++ zs)
-append_assoc [] ys zs = refl
-append_assoc (x ∷ xs) ys zs = λ i. x ∷ append_assoc xs ys zs i
 
 -- a pair of a term and a variable at the end
 pairs_more : (ps : List (Named × Named)) (t : Named) (v : List ℕ × TypeTree) → nameless_pairs (ps ++ (t, var v) ∷ []) ≡ nameless_pairs ps ++ (nameless [] t, v) ∷ []

@@ -2,6 +2,7 @@
 use Rattle.std.proofs.Common.{◌≡◌, ℕ, ◌+◌, List, [], ◌∷◌, ◌++◌, refl, sym, ap, ◌∙◌, Bool, true, false, cond, bytes_eq, Option, Some, None}
 use Rattle.std.specs.Option.{option_map, option_and_then}
 use Rattle.std.proofs.lemmas.Slice.Eq.{bytes_eq-Decides}
+use Rattle.hol_kernel.proofs.Sound.{strip_type}
 use Rattle.hol_types.specs.Tree.{TypeTree}
 use Rattle.hol_types.specs.Subst.{type_subst}
 use Rattle.hol_types.specs.Match.{match_type}
@@ -92,13 +93,6 @@ tells_takes v u s found =
     tells_both (λ σ. type_subst σ.types v.1 ≡ s) (λ σ. strip (term_for σ.terms (v.0, s)) ≡ strip u) found (with_type v.1 found s)
     (λ more. taken (term_lookup more.terms (v.0, s)) more (v.0, s) u) (tells_type v.1 s found)
     (λ more. tells_taken (v.0, s) u more (term_lookup more.terms (v.0, s)) refl)
-
-pub strip_type : (env : List TypeTree) (n : Nameless) → nameless_type env (strip n) ≡ nameless_type env n
-strip_type env (free v) = refl
-strip_type env (bound i) = refl
-strip_type env (fixed c s) = refl
-strip_type env (app f x) = rw (strip_type env f, strip_type env x) refl
-strip_type env (lam a s b) = rw (strip_type (s ∷ env) b) refl
 
 -- what a well typed instance gives for v has v's type
 same_type : (σ : InstanceValue) (v : List ℕ × TypeTree) (u : Nameless) → IsWellTyped σ → strip (term_for σ.terms (variable_inst σ.types v)) ≡ strip u → nameless_type [] u ≡ Some (type_subst σ.types v.1)

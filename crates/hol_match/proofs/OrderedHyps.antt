@@ -1,8 +1,9 @@
 -- Hypotheses in the order of their set, up to bound names: the rules beside them are those beside the set's.
-use Rattle.std.proofs.Common.{◌≡◌, ℕ, zero, suc, ◌+◌, List, [], ◌∷◌, ◌++◌, map, refl, sym, ap, ◌∙◌, Bool, true, false, cond, ◌||◌, codes, Option, Some, None}
+use Rattle.std.proofs.Common.{◌≡◌, ℕ, zero, suc, ◌+◌, List, [], ◌∷◌, ◌++◌, map, refl, sym, ap, ◌∙◌, false, cond, ◌||◌, codes, Option, Some, None}
 use Rattle.std.specs.Ordering.{eq_by_cmp}
 use Rattle.std.specs.List.Sorted.{IsStrictlySortedBy}
 use Rattle.std.specs.FinSet as set
+use Rattle.std.proofs.Math.Bool.{or-false}
 use Rattle.hol_types.specs.Tree.{TypeTree}
 use Rattle.hol_types.specs.Names.{insert_names, tyvars}
 use Rattle.hol_terms.specs.Named.{Named}
@@ -31,15 +32,11 @@ order_sorted : (ns : List Nameless) → IsStrictlySortedBy nameless_cmp (in_orde
 order_sorted [] = sorted_none hyps_total
 order_sorted (n ∷ ns) = sorted_merged hyps_total (n ∷ []) (in_order ns) (sorted_one hyps_total n) (order_sorted ns)
 
-no_more : (b : Bool) → (b || false) ≡ b
-no_more true = refl
-no_more false = refl
-
 one_more : (s : Hyps) (n : Nameless) → set.union (set.insert set.empty n) s ≡ set.insert s n
 one_more s n =
     set.same_set hyps_total hyps_same (set.union (set.insert set.empty n) s) (set.insert s n)
     (λ q. set.contains-union hyps_total (set.insert set.empty n) s q
-    ∙ ap (λ b. b || set.contains s q) (set.contains-insert hyps_total set.empty n q ∙ ap (λ b. eq_by_cmp nameless_cmp q n || b) (set.contains-empty nameless_cmp q) ∙ no_more (eq_by_cmp nameless_cmp q n))
+    ∙ ap (λ b. b || set.contains s q) (set.contains-insert hyps_total set.empty n q ∙ ap (λ b. eq_by_cmp nameless_cmp q n || b) (set.contains-empty nameless_cmp q) ∙ or-false (eq_by_cmp nameless_cmp q n))
     ∙ sym (set.contains-insert hyps_total s n q))
 
 order_set : (ns : List Nameless) → set.from_list {R = nameless_cmp} (in_order ns) ≡ set.from_list ns
@@ -53,7 +50,7 @@ items_are ps hs e o =
     (λ q. sym (set.contains-from_list hyps_total (map hyp_of ps) q) ∙ ap (λ (t : Hyps). set.contains t q) same ∙ set.contains-from_list hyps_total (listed hs) q)
 
 -- ---- what stays
-strip_names : (n : Nameless) → type_names_in (strip n) ≡ type_names_in n
+pub strip_names : (n : Nameless) → type_names_in (strip n) ≡ type_names_in n
 strip_names (free v) = refl
 strip_names (bound i) = refl
 strip_names (fixed c s) = refl
@@ -76,7 +73,7 @@ pub stays_same : (ps : List Named) (hs : Hyps) → hyps_of ps ≡ hs → IsStric
 stays_same ps hs e o = (λ i. staying (names_same [] ps i) (variables_same [] ps i)) ∙ ap stays_of (items_are ps hs e o)
 
 -- ---- names
-strip_has : (a : List ℕ) (n : Nameless) → has_name a (strip n) ≡ has_name a n
+pub strip_has : (a : List ℕ) (n : Nameless) → has_name a (strip n) ≡ has_name a n
 strip_has a (free v) = refl
 strip_has a (bound i) = refl
 strip_has a (fixed c s) = refl

@@ -7,7 +7,9 @@ use Rattle.hol_types.specs.Tree.{TypeTree}
 use Rattle.hol_terms.specs.Named.{Named, named_type}
 use Rattle.hol_terms.proofs.Typing.{type_outside}
 use Rattle.hol_terms.specs.Nameless.{Nameless, nameless}
-use Rattle.std.proofs.lemmas.List.{drop_all}
+use Rattle.std.proofs.Math.Seq.{drop-append_seam}
+use Rattle.std.proofs.lemmas.List.{drop_all, append-nil, append_assoc}
+use Rattle.std.proofs.lemmas.Option.{slice_get-get_or}
 use Rattle.hol_types.proofs.Steps.{next_of}
 use Rattle.hol_kernel.specs.Given.{Given, given_sequent}
 use Rattle.hol_kernel.specs.Sequent.{Sequent}
@@ -28,16 +30,11 @@ use Rattle.hol_match.specs.declared.rule.Rule.{Rule}
 use Rattle.hol_match.specs.declared.source.Source.{Source}
 use Rattle.hol_match.specs.Ways.{rule_way, rule_ways}
 use Rattle.hol_match.specs.Sources.{IsFrom}
-use Rattle.hol_match.proofs.Lookups.{append_assoc}
 use Rattle.hol_match.proofs.OrderedHyps.{stays_same, rules_same}
 use Rattle.hol_match.proofs.Staying.{most_general}
 
-after_all : {A : Type 0} (xs ys : List A) → drop (length xs) (xs ++ ys) ≡ ys
-after_all [] ys = refl
-after_all (x ∷ xs) ys = after_all xs ys
-
 pub beside_both : (s a : InstanceValue) → beside s (both s a) ≡ a
-beside_both s a = λ i. instance_of (after_all s.types a.types i) (after_all s.terms a.terms i)
+beside_both s a = λ i. instance_of (drop-append_seam s.types a.types i) (drop-append_seam s.terms a.terms i)
 
 pub fit_found : (e : RuleEntry) (t : Nameless) (a : InstanceValue) → matched 0 e.rule.left e.stays t ≡ Some (both e.stays a) → fit e t ≡ Some a
 fit_found e t a h = ap (option_map (beside e.stays)) h ∙ ap (λ q. Some q) (beside_both e.stays a)
@@ -78,12 +75,8 @@ goes_next thms all es new i g l e h a =
     h ∙ ap (λ ts. es ++ rule_entries i (map given_sequent ts)) (next_of thms i g l e)
     ∙ sym (append_assoc es (entries i 0 (stays_of (listed s.hyps)) (rules_of (listed s.hyps) s.concl)) rest) ∙ ap (λ xs. xs ++ rest) (sym a)
 
-append_nothing : {A : Type 0} (xs : List A) → xs ++ [] ≡ xs
-append_nothing [] = refl
-append_nothing (x ∷ xs) = λ i. x ∷ append_nothing xs i
-
 pub goes_last : (all : List Sequent) (thms : List Given) (i : ℕ) (es : List RuleEntry) → length thms ≤ i → Goes all i (map given_sequent (drop i thms)) es → es ≡ rule_entries 0 all
-goes_last all thms i es l h = sym (h ∙ ap (λ ts. es ++ rule_entries i (map given_sequent ts)) (drop_all i thms l) ∙ append_nothing es)
+goes_last all thms i es l h = sym (h ∙ ap (λ ts. es ++ rule_entries i (map given_sequent ts)) (drop_all i thms l) ∙ append-nil es)
 
 pub ruleset going = (goes_first, goes_next, goes_last)
 
@@ -113,9 +106,7 @@ given_pushed all rules new r i g own place stay e entry is at h = subst (AreOf a
     more (x ∷ rs) k = (k.0, more rs k.1)
 
 given_at : (all : List Given) (i : ℕ) (g : Given) → i < length all → g ≡ get_or all i g → slice_get all i ≡ Some g
-given_at [] i g l e = absurd (omega (arith, l))
-given_at (x ∷ all) zero g l e = ap (λ y. Some y) (sym e)
-given_at (x ∷ all) (suc i) g l e = given_at all i g (omega (arith, l)) e
+given_at all i g l e = slice_get-get_or all i g l ∙ ap (λ y. Some y) (sym e)
 
 pub given_more : (all : List Given) (i : ℕ) (g : Given) (before after : List SetRule) → i < length all → g ≡ get_or all i g → AddsFrom i g before after → AreOf all before → AreOf all after
 given_more all i g before after l e a h = a all (given_at all i g l e) h

@@ -1,5 +1,6 @@
 -- What a match finds beside what stays is a match by itself, and the most general one.
 use Rattle.std.proofs.Common.{◌≡◌, ℕ, List, [], ◌∷◌, ◌++◌, map, refl, sym, ap, ◌∙◌, subst, Bool, true, false, cond, bytes_eq, Option, Some, None, unwrap_or}
+use Rattle.std.proofs.lemmas.List.{append_assoc}
 use Rattle.std.proofs.lemmas.Slice.Eq.{bytes_eq-Decides}
 use Rattle.hol_types.specs.Tree.{TypeTree, TypeList, TyVar, TyApp, no_types, more_types}
 use Rattle.hol_types.specs.Subst.{type_lookup, type_for, type_subst, types_subst}
@@ -14,7 +15,8 @@ use Rattle.hol_match.specs.Instance.{InstanceValue, instantiated, both, staying}
 use Rattle.hol_match.specs.Matching.{matched}
 use Rattle.hol_match.specs.Fixed.{fixed_names, fixed_variables, stays_of}
 use Rattle.hol_match.specs.Matches.{GivesTypes, GivesTerms, Says, IsMatch, IsMostGeneral, HasNoMatch}
-use Rattle.hol_match.proofs.Lookups.{type_first, type_second, term_first, term_second, append_assoc}
+use Rattle.hol_types.proofs.Lookups.{type_first, type_second}
+use Rattle.hol_match.proofs.Lookups.{term_first, term_second}
 use Rattle.hol_match.proofs.TypeMatches as types
 use Rattle.hol_match.proofs.TypeMatches.{TypesHold}
 use Rattle.hol_match.proofs.MatchLaws.{Tells, Makes, matched_tells, gives_before}
@@ -68,15 +70,15 @@ gives_types_as σ τ [] e h = tt
 gives_types_as σ τ (p ∷ ps) e h = (sym (e p.1) ∙ h.0, gives_types_as σ τ ps e h.1)
 
 mutual
-  type_same : (ps qs : List (TypeTree × List ℕ)) (t : TypeTree) → ((x : List ℕ) → type_for ps x ≡ type_for qs x) → type_subst ps t ≡ type_subst qs t
+  pub type_same : (ps qs : List (TypeTree × List ℕ)) (t : TypeTree) → ((x : List ℕ) → type_for ps x ≡ type_for qs x) → type_subst ps t ≡ type_subst qs t
   type_same ps qs (TyVar a) e = e a
   type_same ps qs (TyApp c ts) e = ap (TyApp c) (types_same ps qs ts e)
 
-  types_same : (ps qs : List (TypeTree × List ℕ)) (ts : TypeList) → ((x : List ℕ) → type_for ps x ≡ type_for qs x) → types_subst ps ts ≡ types_subst qs ts
+  pub types_same : (ps qs : List (TypeTree × List ℕ)) (ts : TypeList) → ((x : List ℕ) → type_for ps x ≡ type_for qs x) → types_subst ps ts ≡ types_subst qs ts
   types_same ps qs no_types e = refl
   types_same ps qs (more_types t ts) e = λ i. more_types (type_same ps qs t e i) (types_same ps qs ts e i)
 
-inst_same : (ps qs : Pairs) (n : Nameless) → ((x : List ℕ) → type_for ps x ≡ type_for qs x) → types_inst ps n ≡ types_inst qs n
+pub inst_same : (ps qs : Pairs) (n : Nameless) → ((x : List ℕ) → type_for ps x ≡ type_for qs x) → types_inst ps n ≡ types_inst qs n
 inst_same ps qs (free v) e = λ i. free (v.0, type_same ps qs v.1 e i)
 inst_same ps qs (bound i) e = refl
 inst_same ps qs (fixed c s) e = ap (fixed c) (type_same ps qs s e)
@@ -122,7 +124,7 @@ gives_terms_as σ τ (p ∷ ps) e h = (ap strip (sym (e p.1)) ∙ h.0, gives_ter
 
 -- ---- the answer
 
-type_among : (before : List (List ℕ)) (a : List ℕ) (names : List (List ℕ)) → type_lookup (map (λ a. (TyVar a, a)) (before ++ a ∷ names)) a ≡ Some (TyVar a)
+pub type_among : (before : List (List ℕ)) (a : List ℕ) (names : List (List ℕ)) → type_lookup (map (λ a. (TyVar a, a)) (before ++ a ∷ names)) a ≡ Some (TyVar a)
 type_among [] a names = rw ((bytes_eq-Decides a a).1 refl) refl
 type_among (b ∷ before) a names = by (bytes_eq b a) refl (type_among before a names)
   where
@@ -130,11 +132,11 @@ type_among (b ∷ before) a names = by (bytes_eq b a) refl (type_among before a 
     by true q r = ap (λ x. Some (TyVar x)) ((bytes_eq-Decides b a).0 q)
     by false q r = r
 
-own_types_hold : (before names : List (List ℕ)) → TypesHold (map (λ a. (TyVar a, a)) (before ++ names)) (map (λ a. (TyVar a, a)) names)
+pub own_types_hold : (before names : List (List ℕ)) → TypesHold (map (λ a. (TyVar a, a)) (before ++ names)) (map (λ a. (TyVar a, a)) names)
 own_types_hold before [] = tt
 own_types_hold before (a ∷ names) = (type_among before a names, subst (λ l. TypesHold (map (λ a. (TyVar a, a)) l) (map (λ a. (TyVar a, a)) names)) (append_assoc before (a ∷ []) names) (own_types_hold (before ++ a ∷ []) names))
 
-term_among : (before : List (List ℕ × TypeTree)) (v : List ℕ × TypeTree) (vs : List (List ℕ × TypeTree)) → term_lookup (map (λ v. (free v, v)) (before ++ v ∷ vs)) v ≡ Some (free v)
+pub term_among : (before : List (List ℕ × TypeTree)) (v : List ℕ × TypeTree) (vs : List (List ℕ × TypeTree)) → term_lookup (map (λ v. (free v, v)) (before ++ v ∷ vs)) v ≡ Some (free v)
 term_among [] v vs = rw (eq_same v) refl
 term_among (u ∷ before) v vs = by (variable_eq u v) refl (term_among before v vs)
   where
@@ -142,7 +144,7 @@ term_among (u ∷ before) v vs = by (variable_eq u v) refl (term_among before v 
     by true q r = ap (λ x. Some (free x)) ((variable_eq_decides u v).0 q)
     by false q r = r
 
-own_terms_hold : (before vs : List (List ℕ × TypeTree)) → TermsHold (map (λ v. (free v, v)) (before ++ vs)) (map (λ v. (free v, v)) vs)
+pub own_terms_hold : (before vs : List (List ℕ × TypeTree)) → TermsHold (map (λ v. (free v, v)) (before ++ vs)) (map (λ v. (free v, v)) vs)
 own_terms_hold before [] = tt
 own_terms_hold before (v ∷ vs) = ((term_among before v vs, refl), subst (λ l. TermsHold (map (λ v. (free v, v)) l) (map (λ v. (free v, v)) vs)) (append_assoc before (v ∷ []) vs) (own_terms_hold (before ++ v ∷ []) vs))
 

@@ -3,6 +3,7 @@ use Rattle.std.proofs.Common.{◌≡◌, ℕ, zero, suc, ◌+◌, ◌-◌, ◌<�
 use Rattle.std.specs.Option.{option_map, option_and_then}
 use Rattle.std.proofs.lemmas.Bool.Decides.{nat_tests}
 use Rattle.std.proofs.lemmas.List.{map-append}
+use Rattle.hol_subst.proofs.TypeLaws.{get_front, get_end}
 use Rattle.hol_types.specs.Tree.{TypeTree}
 use Rattle.hol_types.specs.Fun.{fun_type}
 use Rattle.hol_types.specs.Match.{match_type}
@@ -100,15 +101,6 @@ alpha_close v k m n = by (alpha_eq (close v k m) (close v k n)) refl (alpha_eq m
     by false p false q = refl
     by true p false q = sym ((alpha_eq_decides m n).1 (inner ((alpha_eq_decides (close v k m) (close v k n)).0 p))) ∙ q
     by false p true q = sym p ∙ (alpha_eq_decides (close v k m) (close v k n)).1 (outer ((alpha_eq_decides m n).0 q))
-
-pub get_front : (env : List TypeTree) (s : TypeTree) (i : ℕ) → i < length env → slice_get (env ++ s ∷ []) i ≡ slice_get env i
-get_front [] s i l = absurd (omega arith)
-get_front (t ∷ env) s zero l = refl
-get_front (t ∷ env) s (suc i) l = get_front env s i (omega arith)
-
-pub get_end : (env : List TypeTree) (s : TypeTree) → slice_get (env ++ s ∷ []) (length env) ≡ Some s
-get_end [] s = refl
-get_end (t ∷ env) s = get_end env s
 
 pub get_past : (env : List TypeTree) (s : TypeTree) (i : ℕ) → length env ≤ i → slice_get (env ++ s ∷ []) (suc i) ≡ slice_get env i
 get_past [] s zero l = refl

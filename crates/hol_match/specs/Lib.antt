@@ -14,6 +14,7 @@ pub mod WayFalls
 pub mod Ways
 pub mod Opening
 pub mod Sources
+pub mod Standing
 pub mod Givens
 pub mod Listed
 pub mod RuleSets

@@ -24,6 +24,19 @@ pub struct Binder {
     pub body: Term,
 }
 
+impl Binder {
+    /// The variable and the body as they are.
+    pub fn kept(v: &Variable, body: &Term) -> Result<Binder, AllocError>
+        ensures variable { IfOk result (λ o. o.variable ≡ v.now) }
+        ensures body { IfOk result (λ o. o.body ≡ body.now) }
+    {
+        Ok(Binder {
+            variable: v.copy()?,
+            body: body.copy()?,
+        })
+    }
+}
+
 /// The variable and the body of the abstraction of `v`, where the variable has a name that none of these has. It has the name of `v`,
 /// with primes if need be.
 #[tactic(auto, using(crate::proofs::Apartness::openings))]
@@ -39,23 +52,12 @@ pub(crate) fn binder_apart(
     ensures apart { IfOk result (λ o. is_named variables.now o.variable.0 ≡ false) }
 {
     if !is_named(variables, v.name()) {
-        return kept(v, body);
+        return Binder::kept(v, body);
     }
     let name = unused_name(alloc, variables, body, v.name())?;
     let variable = Variable::new(&name, v.ty())?;
     let body = renamed(alloc, &variable, v, body)?;
     Ok(Binder { variable, body })
-}
-
-/// The variable and the body as they are.
-pub(crate) fn kept(v: &Variable, body: &Term) -> Result<Binder, AllocError>
-    ensures variable { IfOk result (λ o. o.variable ≡ v.now) }
-    ensures body { IfOk result (λ o. o.body ≡ body.now) }
-{
-    Ok(Binder {
-        variable: v.copy()?,
-        body: body.copy()?,
-    })
 }
 
 // Whether one of the variables has the name.

@@ -10,7 +10,7 @@ ghost use Rattle.hol_match.specs.Fixed.{AreFixed, add_name, add_names, fixed_nam
 
 use hol_subst::term_tyvars;
 use hol_terms::{Term, Variable};
-use hol_types::Name;
+use hol_types::{Name, is_among};
 use std::alloc::{AllocError, Global};
 
 /// The type variables and the free variables of some terms, each once: what a match leaves as it is.
@@ -45,7 +45,7 @@ impl Fixed {
         ensures among { result ≡ is_among self.now.names.items name.now }
         ensures lookup { type_lookup (stays self.now).types name.now ≡ (if result then Some (TyVar name.now) else None) }
     {
-        has_name(&self.names, name)
+        is_among(&self.names, name)
     }
 
     /// Whether the variable is one of these.
@@ -56,18 +56,6 @@ impl Fixed {
     {
         has_variable(&self.variables, v)
     }
-}
-
-/// Whether the name is one of these.
-pub(crate) fn has_name(names: &[Name], name: &Name) -> bool
-    ensures { result ≡ is_among names.now name.now }
-{
-    for other in names {
-        if name.same(other) {
-            return true;
-        }
-    }
-    false
 }
 
 // Whether the variable is one of these.
@@ -108,7 +96,7 @@ fn add_names(names: &mut Vec<Name>, own: &[Name]) -> Result<(), AllocError>
 fn add_name(names: &mut Vec<Name>, name: &Name) -> Result<(), AllocError>
     ensures { OnOk result (names.new.items ≡ add_name names.old.items name.now) }
 {
-    if !has_name(names, name) {
+    if !is_among(names, name) {
         names.push(name.copy()?)?;
     }
     Ok(())

@@ -1,7 +1,6 @@
 //! Instances: types for type variables and terms for variables.
 ghost use Rattle.std.specs.Prelude.{◌≡◌, ◌++◌, ◌∷◌, [], IfOk, OnOk, MatchOption, if◌then◌else◌, Some, None};
 ghost use Rattle.hol_terms.specs.Named.{named_type};
-ghost use Rattle.hol_types.specs.Subst.{type_lookup};
 ghost use Rattle.hol_terms.specs.Nameless.{nameless};
 ghost use Rattle.hol_subst.specs.Pairs.{nameless_pairs, HasBadPair};
 ghost use Rattle.hol_subst.specs.Substitution.{term_lookup};
@@ -129,18 +128,6 @@ fn add_pair(
     let variable = Term::var(alloc, v)?;
     pairs.push((t.copy()?, variable))?;
     Ok(())
-}
-
-/// The type of the first pair of the name.
-pub(crate) fn type_in<'a>(pairs: &'a [(Ty, Name)], name: &Name) -> Option<&'a Ty>
-    ensures { MatchOption result (type_lookup pairs.now name.now ≡ None) (λ ty. type_lookup pairs.now name.now ≡ Some ty.now) }
-{
-    for pair in pairs {
-        if pair.1.same(name) {
-            return Some(&pair.0);
-        }
-    }
-    None
 }
 
 // The term of the first pair of the variable.

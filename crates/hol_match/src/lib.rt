@@ -24,4 +24,5 @@ pub use matching::term_match;
 pub use rule_set::RuleSet;
 pub use rule_step::RuleStep;
 pub use set_rule::SetRule;
+pub use source::conclusion_typed;
 pub use way::{Way, WayNode};

@@ -5,7 +5,7 @@ ghost use Rattle.hol_types.specs.Tree.{TypeTree};
 ghost use Rattle.hol_terms.specs.Named.{comb, abs, var, named_type};
 ghost use Rattle.hol_terms.specs.Nameless.{nameless};
 ghost use Rattle.hol_terms.specs.Scope.{binders};
-ghost use Rattle.hol_terms.specs.Scoped.{same_named, same_place};
+ghost use Rattle.hol_terms.specs.Scoped.{same_named};
 ghost use Rattle.hol_subst.specs.Substitution.{term_lookup};
 ghost use Rattle.hol_formulas.specs.Equation.{dest_comb};
 ghost use Rattle.hol_formulas.specs.Formula.{dest_abs};
@@ -18,7 +18,7 @@ ghost use Rattle.hol_match.specs.Places.{has_one_of};
 
 use crate::fixed::Fixed;
 use crate::instance::{Instance, is_variable};
-use hol_terms::{Scope, Term, TermNode, Variable};
+use hol_terms::{Scope, Term, TermNode, Variable, same_place};
 use hol_types::{Name, Ty};
 use std::alloc::{AllocError, Global};
 
@@ -236,20 +236,5 @@ fn take(
             found.add_term(alloc, t, u)?;
             Ok(true)
         }
-    }
-}
-
-// Whether `v` under the binders `left` and `w` under `right` are bound at one depth, or are the same free variable.
-fn same_place(left: &Scope, v: &Variable, right: &Scope, w: &Variable) -> bool
-    ensures { result ≡ same_place (binders left.now) v.now (binders right.now) w.now }
-{
-    match (left, right) {
-        (Scope::Outside, Scope::Outside) => v.same(w),
-        (Scope::Inside(l, left), Scope::Inside(r, right)) => match (l.same(v), r.same(w)) {
-            (true, here) => here,
-            (false, true) => false,
-            (false, false) => same_place(left, v, right, w),
-        },
-        (Scope::Outside, Scope::Inside(_, _)) | (Scope::Inside(_, _), Scope::Outside) => false,
     }
 }

@@ -15,15 +15,15 @@ ghost use Rattle.hol_match.specs.Ways.{rule_way, rule_ways, IsOnWay};
 ghost use Rattle.hol_match.specs.Opening.{IsOpenedAt, AreOnWay};
 ghost use Rattle.hol_match.specs.Fixed.{AreFixed};
 
-use crate::binder::{Binder, kept};
-use crate::fixed::{Fixed, has_name};
+use crate::binder::Binder;
+use crate::fixed::Fixed;
 use crate::rule::Rule;
 use crate::rule_step::RuleStep;
 use crate::way::Way;
 use hol_formulas::{dest_conj, dest_eq, dest_forall, dest_neg, mk_falsity, mk_forall, mk_truth};
 use hol_subst::{free_name, term_tyvars, vsubst_good};
-use hol_terms::{Term, Variable, base_name};
-use hol_types::Name;
+use hol_terms::{Term, Variable, add_copies, base_name};
+use hol_types::{Name, is_among};
 use std::alloc::{AllocError, Global};
 
 /// The rules of a theorem with these hypotheses and this conclusion, in order. The variables are those that may be instantiated.
@@ -170,7 +170,7 @@ fn opened(
 {
     let name = unused_name(alloc, hyps, p, v.name())?;
     if name.same(v.name()) {
-        return kept(v, body);
+        return Binder::kept(v, body);
     }
     let variable = Variable::new(&name, v.ty())?;
     let body = renamed(alloc, &variable, v, body)?;
@@ -185,7 +185,7 @@ fn unused_name(alloc: Global, hyps: &[Term], p: &Term, name: &Name) -> Result<Na
     let base = Name::new(alloc, base_name(name.as_str()))?;
     let mut avoid = Vec::with_capacity(alloc, hyps.len() + 1)?;
     avoid.push(p.copy()?)?;
-    copy_to(&mut avoid, hyps)?;
+    add_copies(&mut avoid, hyps)?;
     free_name(alloc, &avoid, &base)
 }
 
@@ -263,19 +263,9 @@ fn are_types_given(fixed: &Fixed, own: &[Name], names: &[Name]) -> bool
     ensures { result ≡ list_all (λ a. is_among fixed.now.names.items a || is_among own.now a) names.now }
 {
     for name in names {
-        if !fixed.has_name(name) && !has_name(own, name) {
+        if !fixed.has_name(name) && !is_among(own, name) {
             return false;
         }
     }
     true
-}
-
-// Puts copies of the terms at the end.
-fn copy_to(all: &mut Vec<Term>, terms: &[Term]) -> Result<(), AllocError>
-    ensures { OnOk result (all.new.items ≡ all.old.items ++ terms.now) }
-{
-    for t in terms {
-        all.push(t.copy()?)?;
-    }
-    Ok(())
 }

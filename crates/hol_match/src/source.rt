@@ -1,5 +1,5 @@
 //! What rules were made of.
-ghost use Rattle.std.specs.Prelude.{◌≡◌, ℕ, List, [], true, map, IfOk};
+ghost use Rattle.std.specs.Prelude.{◌≡◌, ℕ, List, [], true, map, IfOk, IsTrue};
 ghost use Rattle.std.specs.FinSet as set;
 ghost use Rattle.std.specs.Coded.{Coded-set, coded_list};
 ghost use Rattle.hol_types.specs.Tree.{TypeTree};
@@ -12,7 +12,7 @@ ghost use Rattle.hol_subst.specs.Hypotheses.{hyps_of};
 ghost use Rattle.hol_formulas.specs.Equation.{bool_type};
 ghost use Rattle.hol_kernel.specs.Given.{given_sequent};
 ghost use Rattle.hol_kernel.specs.Items.{Items};
-ghost use Rattle.hol_kernel.specs.Typing.{has_type};
+ghost use Rattle.hol_kernel.specs.Typing.{has_type, HasType};
 ghost use Rattle.hol_match.specs.Fixed.{AreFixed};
 ghost use Rattle.hol_match.specs.Givens.{holds_given};
 ghost use Rattle.hol_match.specs.Rules.{pattern_variables};
@@ -53,7 +53,7 @@ impl Source {
     {
         let fixed = Fixed::of(alloc, hyps)?;
         let variables = pattern_variables(alloc, &fixed, given.concl())?;
-        is_formula(given);
+        conclusion_typed(given);
         Ok(Source {
             given: given.copy()?,
             fixed,
@@ -107,9 +107,9 @@ impl Source {
     }
 }
 
-// The conclusion is a formula over each basis that contains the theorem's, or over which the term can be assumed.
-fn is_formula(given: &Given)
-    ensures { (basis : Items) → holds_given given.now basis ≡ true → has_type basis (given_sequent given.now).concl bool_type ≡ true }
+/// The conclusion is a formula over each basis that contains the theorem's, or over which the term can be assumed.
+pub fn conclusion_typed(given: &Given)
+    ensures { (basis : Items) → IsTrue (holds_given given.now basis) → HasType basis (given_sequent given.now).concl bool_type }
 {
     match given.node() {
         GivenNode::Theorem(theorem) => theorem.well_typed(),

@@ -7,8 +7,7 @@ ghost use Rattle.hol_types.specs.Equal.{type_eq};
 ghost use Rattle.hol_match.specs.Fixed.{stays};
 
 use crate::fixed::Fixed;
-use crate::instance::type_in;
-use hol_types::{Name, Ty, TyNode};
+use hol_types::{Name, Ty, TyNode, type_in};
 use std::alloc::AllocError;
 
 /// Whether the pattern matches the target beside the pairs found so far. Those that it needs more are put at their end.
@@ -16,7 +15,7 @@ use std::alloc::AllocError;
 /// Parts without variables are compared as `same` does.
 #[cycle(match_into)]
 #[tactic(auto, using(crate::proofs::Lookups::type_steps))]
-pub fn match_into(
+pub(crate) fn match_into(
     pattern: &Ty,
     fixed: &Fixed,
     target: &Ty,

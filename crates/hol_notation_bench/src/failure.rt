@@ -7,7 +7,7 @@ use thiserror::Error;
 
 /// Why nothing was timed.
 #[derive(Clone, Copy, Debug, Drop, PartialEq, Eq, Error)]
-pub enum Failure {
+pub(crate) enum Failure {
     /// The words are not a kind, a number of tokens and a number of times.
     #[error("words: KIND TOKENS TIMES")]
     Words,

@@ -12,7 +12,7 @@ use std::alloc::Global;
 use std::env;
 use std::process::ExitCode;
 
-/// What kind of text is read, of how many tokens, and how often.
+// What kind of text is read, of how many tokens, and how often.
 #[derive(Drop)]
 struct Work {
     kind: String,
@@ -20,7 +20,7 @@ struct Work {
     times: u32,
 }
 
-/// The work that the program's words name.
+// The work that the program's words name.
 fn words(rt: &HostRuntime) -> Result<Work, Failure> {
     let mut words = env::args(rt)?;
     let _program = words.next();
@@ -37,7 +37,7 @@ fn words(rt: &HostRuntime) -> Result<Work, Failure> {
     })
 }
 
-/// Reads the text so many times, and answers how many tokens it has.
+// Reads the text so many times, and answers how many tokens it has.
 fn done(alloc: Global, work: &Work) -> Result<usize, Failure> {
     let text = text(alloc, work.kind.as_str(), work.tokens)?;
     for _ in 0..work.times {

@@ -3,7 +3,7 @@
 use crate::failure::Failure;
 use std::alloc::{AllocError, Global};
 
-/// The most brackets that a text may have open.
+// The most brackets that a text may have open.
 const MOST_BRACKETS: u32 = 200;
 
 /// A text of so many tokens, or a few less, most of which are of one kind.
@@ -11,7 +11,7 @@ const MOST_BRACKETS: u32 = 200;
 /// `brackets`: variables as arguments, each inside as many brackets as may be open. `arguments`: a variable's arguments. `binders`:
 /// one inside another. `variables`: of one binder. `right`: right operands of an infix, one inside another. `prefix`: one inside
 /// another. `then`: a chain of tactics. `types`: a type's arrows.
-pub fn text(alloc: Global, kind: &str, tokens: u32) -> Result<String, Failure> {
+pub(crate) fn text(alloc: Global, kind: &str, tokens: u32) -> Result<String, Failure> {
     let (before, around, part, each, after) = match kind {
         "brackets" => return Ok(brackets(alloc, tokens)?),
         "arguments" => ("g N `f", 5, " x", 1, "`"),

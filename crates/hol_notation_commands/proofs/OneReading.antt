@@ -56,9 +56,9 @@ one_break text p q a b =
       ]
     ]
 
-pub one-reading : (text : List ℕ) (a b : ReadText) → IsRead text a → IsRead text b → a ≡ b
-one-reading text (Reads c) (Reads d) h k =
+pub one_reading : (text : List ℕ) (a b : ReadText) → IsRead text a → IsRead text b → a ≡ b
+one_reading text (Reads c) (Reads d) h k =
     ap Reads (one_command (lexemes text h.tokens) c d h.is (subst (λ (ts : List Token). IsCommand (lexemes text ts) d) (one_token_list text k.tokens h.tokens k.lexed h.lexed) k.is))
-one-reading text (Reads c) (Breaks q) h k = absurd (command_or_break text c q h k)
-one-reading text (Breaks p) (Reads d) h k = absurd (command_or_break text d p k h)
-one-reading text (Breaks p) (Breaks q) h k = ap Breaks (one_break text p q h k)
+one_reading text (Reads c) (Breaks q) h k = absurd (command_or_break text c q h k)
+one_reading text (Breaks p) (Reads d) h k = absurd (command_or_break text d p k h)
+one_reading text (Breaks p) (Breaks q) h k = ap Breaks (one_break text p q h k)

@@ -5,9 +5,8 @@ use Rattle.hol_notation_tokens.specs.Lexeme.{Lexeme}
 use Rattle.hol_notation_grammar.specs.Terminal.{number}
 use Rattle.hol_notation_grammar.specs.Syntax.{nothing, token, part, Tree, node, done, leaf, tree, all_then, Stands}
 use Rattle.hol_notation_grammar.specs.Over.{below, above, raised}
-use Rattle.hol_notation_grammar.proofs.Steps.{Filled, Fills}
+use Rattle.hol_notation_grammar.proofs.Steps.{Filled, Fills, Completes}
 use Rattle.hol_notation_grammar.proofs.Raising.{raised_stands}
-use Rattle.hol_notation_grammar.proofs.Walk.{Completes}
 use Rattle.hol_notation_terms.specs.Grammar.{term_grammar, a_quotation, a_type_quotation, a_definition, defined, no_parameter, plain_side, equals_side}
 use Rattle.hol_notation_terms.proofs.Some.{mark, some_level}
 use Rattle.hol_notation_tactics.specs.Grammar.{tactic_grammar, tactics_over_terms, a_tactic}

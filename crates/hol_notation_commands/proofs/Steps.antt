@@ -16,6 +16,7 @@ use Rattle.hol_notation_grammar.proofs.Walk.{Path}
 use Rattle.hol_notation_terms.specs.Grammar.{Nonterminal as TermNonterminal, term_grammar}
 use Rattle.hol_notation_tactics.specs.Number.{number_value}
 use Rattle.hol_notation_tactics.specs.Grammar.{tactic_grammar, tactics_over_terms}
+pub use Rattle.hol_notation_tactics.proofs.Steps.{both}
 use Rattle.hol_notation_commands.specs.declared.word.CommandWord.{CommandWord}
 use Rattle.hol_notation_commands.specs.declared.word.CommandWord.TheVariants.{Goal, Apply, Back, Rotate, Qed, Oops, Import, NewType, NewConstant, NewAxiom, NewDefinition, NewBasicTypeDefinition}
 use Rattle.hol_notation_commands.specs.Grammar.{Nonterminal, Production, has, no_text, at_most_16, commands_over_tactics, command_grammar, a_declaration, open_goal, run_tactic, undo, rotate, finish, give_up, import_theory, declare, new_type, new_constant, new_axiom, new_definition, new_basic_type_definition, six_names}
@@ -24,9 +25,6 @@ use Rattle.hol_notation_commands.specs.Value.{declaration_value}
 use Rattle.hol_notation_commands.proofs.Picks.{pick, looks, choose_command, choose_declaration}
 use Rattle.hol_notation_commands.proofs.Certain.{certain}
 use Rattle.hol_notation_commands.proofs.Some.{some_declaration, fills_arity}
-
-pub both : {A B C : Type 0} (f : A → B → C) {a b : A} {u w : B} → a ≡ b → u ≡ w → f a u ≡ f b w
-both f {a} {b} {u} {w} p q = ap (λ x. f x u) p ∙ ap (f b) q
 
 pub none_left : (words : List Word) → length words ≡ 0 → map seen words ≡ []
 none_left [] h = refl
@@ -87,10 +85,10 @@ is_written new_definition = tt
 is_written new_basic_type_definition = tt
 is_written six_names = tt
 
-no_tree : Tree command_grammar (above no_text) → ⊥
+pub no_tree : Tree command_grammar (above no_text) → ⊥
 no_tree (node p ts) = is_written p
 
-large_parts : (b : Bool) → b ≡ false → (ts : Trees command_grammar (cond b nothing (has no_text nothing))) → ⊥
+pub large_parts : (b : Bool) → b ≡ false → (ts : Trees command_grammar (cond b nothing (has no_text nothing))) → ⊥
 large_parts true e ts = true≢false e
 large_parts false e (tree t ts) = no_tree t
 

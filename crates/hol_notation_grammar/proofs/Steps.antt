@@ -1,5 +1,5 @@
 -- How a part that is stuck makes the whole stuck.
-use Rattle.std.proofs.Common.{◌≡◌, ℕ, List, [], ◌∷◌, ◌++◌, refl, ap, ◌∙◌, sym, subst, Some, None}
+use Rattle.std.proofs.Common.{◌≡◌, ◌⊎◌, inl, inr, ℕ, List, [], ◌∷◌, ◌++◌, refl, ap, ◌∙◌, sym, subst, Some, None, append_assoc}
 use Rattle.hol_notation_tokens.specs.declared.error.SyntaxError.{SyntaxError}
 use Rattle.hol_notation_tokens.specs.declared.error.SyntaxError.TheVariants.{Memory, Syntax}
 use Rattle.hol_notation_tokens.specs.Lexeme.{Lexeme}
@@ -36,14 +36,22 @@ pub record Filled (G : Grammar) (ps : Parts G.Nonterminal) (after : List Lexeme)
 abbrev pub Fills : (G : Grammar) → G.Nonterminal → Parts G.Nonterminal → Type 0
 Fills G n ps = (after : List Lexeme) → G.Closes n after → Filled G ps after
 
--- some way to write these parts, so that they close what stands before them
-pub record Fitting (G : Grammar) (m : G.Nonterminal) (ps : Parts G.Nonterminal) (after : List Lexeme) : Type 0 where
+-- what is written of a nonterminal ends, whatever comes after it
+abbrev pub IsEnded : (G : Grammar) → G.Nonterminal → Type 0
+IsEnded G m = (t : Tree G m) (u w : List Lexeme) → Stands t u → Stands t w
+
+-- before these lexemes a nonterminal may end: they close it, or it ends by itself
+abbrev pub Ready : (G : Grammar) → G.Nonterminal → List Lexeme → Type 0
+Ready G m u = G.Closes m u ⊎ (G.Closes m [] × IsEnded G m)
+
+-- some way to write these parts, before which a nonterminal may end
+pub record Completion (G : Grammar) (m : G.Nonterminal) (ps : Parts G.Nonterminal) (after : List Lexeme) : Type 0 where
   pub written : Trees G ps
   pub stands : AllStand written after
-  pub closes : G.Closes m (all_then written after)
+  pub ready : Ready G m (all_then written after)
 
-abbrev pub Fits : (G : Grammar) → G.Nonterminal → G.Nonterminal → Parts G.Nonterminal → Type 0
-Fits G n m ps = (after : List Lexeme) → G.Closes n after → Fitting G m ps after
+abbrev pub Completes : (G : Grammar) → G.Nonterminal → G.Nonterminal → Parts G.Nonterminal → Type 0
+Completes G n m ps = (after : List Lexeme) → G.Closes n after → Completion G m ps after
 
 -- for one production the next lexeme is enough
 abbrev pub Looks : {G : Grammar} → Certain G → G.Nonterminal → Type 0
@@ -95,9 +103,29 @@ stuck_here {G} C n end words looks none begins = record {
     stops G C n words looks none (node r ts) after more s next q =
         none_not_some r (sym none ∙ sym (looks more words next) ∙ ap (C.pick n) q ∙ C.picks r ts after s)
 
+ready_stands : {G : Grammar} (C : Certain G) {m : G.Nonterminal} (t : Tree G m) (rest after : List Lexeme) → Ready G m after → Stands t rest → Stands t after
+ready_stands {G} C {m} t rest after r s = elim r [
+  | inl k ↦ closed_stands C t rest after s k
+  | inr e ↦ e.1 t rest after s
+]
+
+ready_begins : (G : Grammar) (m : G.Nonterminal) (front after : List Lexeme) → ((u : List Lexeme) → G.Closes m u → Begins G m front u) → Ready G m after → Begins G m front after
+ready_begins G m front after b r = elim r [
+  | inl k ↦ b after k
+  | inr e ↦ ended e.1 (b [] e.0)
+]
+  where
+    ended : IsEnded G m → Begins G m front [] → Begins G m front after
+    ended e c = record {
+      written = c.written;
+      more = c.more ++ after;
+      whole = then_append c.written [] after ∙ ap (λ (l : List Lexeme). l ++ after) c.whole ∙ append_assoc front c.more after;
+      stands = e c.written [] after c.stands;
+    }
+
 -- the first part
 pub fails_part : {G : Grammar} (C : Certain G) (n m : G.Nonterminal) (ps : Parts G.Nonterminal) (end : ℕ) (words : List Lexeme) (e : SyntaxError)
-    → Fits G n m ps → Fails G m end words e → FailsAll G n (part m ps) end words e
+    → Completes G n m ps → Fails G m end words e → FailsAll G n (part m ps) end words e
 fails_part C n m ps end words Memory fits h = tt
 fails_part {G} C n m ps end words (Syntax place) fits h = record {
   front = h.front;
@@ -106,7 +134,7 @@ fails_part {G} C n m ps end words (Syntax place) fits h = record {
   here = h.here;
   begins = λ after k.
       let f = fits after k in
-      let b = h.begins (all_then f.written after) f.closes in
+      let b = ready_begins G m h.front (all_then f.written after) h.begins f.ready in
       record { written = tree b.written f.written; more = b.more; whole = b.whole; stands = (b.stands, f.stands) };
   stops = λ ts after more s next q. stops G m ps h.front h.rest h.stops ts after more s next q;
 }
@@ -118,7 +146,7 @@ fails_part {G} C n m ps end words (Syntax place) fits h = record {
 
 -- what comes after a part that is read
 pub fails_after : {G : Grammar} (C : Certain G) (n m : G.Nonterminal) (ps : Parts G.Nonterminal) (end : ℕ) (words rest : List Lexeme) (e : SyntaxError) (t : Tree G m)
-    → Fits G n m ps → Stands t rest → words ≡ then t rest → FailsAll G n ps end rest e → FailsAll G n (part m ps) end words e
+    → Completes G n m ps → Stands t rest → words ≡ then t rest → FailsAll G n ps end rest e → FailsAll G n (part m ps) end words e
 fails_after C n m ps end words rest Memory t fits stands w h = tt
 fails_after {G} C n m ps end words rest (Syntax place) t fits stands w h = record {
   front = then t h.front;
@@ -130,12 +158,12 @@ fails_after {G} C n m ps end words rest (Syntax place) t fits stands w h = recor
 }
   where
     begins : (G : Grammar) (C : Certain G) (n m : G.Nonterminal) (ps : Parts G.Nonterminal) (t : Tree G m) (rest after front later : List Lexeme) → rest ≡ front ++ later → Stands t rest
-        → Fitting G m ps after → BeginsAll G ps front after → BeginsAll G (part m ps) (then t front) after
+        → Completion G m ps after → BeginsAll G ps front after → BeginsAll G (part m ps) (then t front) after
     begins G C n m ps t rest after [] later w s f b = record {
       written = tree t f.written;
       more = all_then f.written after;
       whole = then_append t [] (all_then f.written after);
-      stands = (closed_stands C t rest (all_then f.written after) s f.closes, f.stands);
+      stands = (ready_stands C t rest (all_then f.written after) f.ready s, f.stands);
     }
     begins G C n m ps t rest after (x ∷ front) later w s f b = record {
       written = tree t b.written;

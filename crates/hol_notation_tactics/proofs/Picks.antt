@@ -1,6 +1,7 @@
 -- The production that the next token picks.
 use Rattle.std.proofs.Common.{◌≡◌, false, IsTrue, inl, inr, List, [], ◌∷◌, refl, ap, ◌∙◌, sym, subst, Option, Some, None}
 use Rattle.std.proofs.lemmas.Bool.{false≢true}
+use Rattle.hol_notation_terms.proofs.Picks.{kind_same}
 use Rattle.hol_notation_tokens.specs.declared.token.Kind.{Kind}
 use Rattle.hol_notation_tokens.specs.declared.token.Kind.TheVariants.{Ident, CloseList, Semicolon, Open as OpenKind, OpenList as OpenListKind, Backquote as BackquoteKind}
 use Rattle.hol_notation_tokens.specs.Lexeme.{Lexeme}
@@ -146,12 +147,6 @@ lead_same [] [] h = refl
 lead_same [] (y ∷ ys) h = absurd h
 lead_same (x ∷ xs) [] h = absurd h
 lead_same (x ∷ xs) (y ∷ ys) h = ap lead_of h
-
-kind_same : (u w : List Lexeme) → SameNext u w → next_kind u ≡ next_kind w
-kind_same [] [] h = refl
-kind_same [] (y ∷ ys) h = absurd h
-kind_same (x ∷ xs) [] h = absurd h
-kind_same (x ∷ xs) (y ∷ ys) h = ap (λ (z : Lexeme). Some z.kind) h
 
 -- one token is enough
 pub looks : (n : Nonterminal) (u w : List Lexeme) → SameNext u w → pick n u ≡ pick n w

@@ -6,9 +6,8 @@ use Rattle.hol_notation_grammar.specs.Terminal.{Terminal, Is, SameNext, number}
 use Rattle.hol_notation_grammar.specs.Syntax.{Parts, nothing, token, part, Tree, node, done, leaf, tree, then, all_then, Stands}
 use Rattle.hol_notation_grammar.specs.Over.{Over, below, above, raised}
 use Rattle.hol_notation_grammar.proofs.Laws.{stands_next}
-use Rattle.hol_notation_grammar.proofs.Steps.{Filled, Fills}
+use Rattle.hol_notation_grammar.proofs.Steps.{Filled, Fills, IsEnded, Ready, Completion, Completes}
 use Rattle.hol_notation_grammar.proofs.Raising.{raised_stands}
-use Rattle.hol_notation_grammar.proofs.Walk.{IsEnded, Ready, Completion, Completes}
 use Rattle.hol_notation_terms.specs.Grammar.{Nonterminal as TermNonterminal, term_grammar, a_quotation, a_type_quotation, quoted, type_quoted}
 use Rattle.hol_notation_terms.proofs.Some.{mark, some_type, some_level}
 use Rattle.hol_notation_tactics.specs.Grammar.{Nonterminal, the_sign, a_name, has, quotes, IsEnding, tactics_over_terms, tactic_grammar, an_alternative, some_steps, a_tactical, a_tactic_atom, a_tactic_list, more_tactics, a_theorem_tactic, some_arguments, an_argument, more_theorems, a_simple_theorem, some_pairs, a_pair, more_pairs, no_alternative, no_step, discharge, named_tactic, empty_tactics, last_tactic, named_theorem_tactic, no_argument, named_argument, last_theorem, named_theorem, bracketed_theorem, listed_pairs, two_types, next_pair, last_pair}

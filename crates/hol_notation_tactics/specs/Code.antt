@@ -1,23 +1,10 @@
 -- How the logic stores theorem and tactic expressions: as trees of numbers, by functions that map no two to one tree.
 use Rattle.std.specs.Coded.{Coded, coded×, coded_list, code_by}
-use Rattle.std.proofs.Common.{◌≡◌, ◌≢◌, ℕ, List, ap, arith, refl}
+use Rattle.std.proofs.Common.{◌≡◌, ℕ, List, ap, arith, refl}
 use base.Stored.{Gv, gnil, gnum, gcons}
 use Rattle.hol_notation_terms.specs.Text.{TypeQuotationText}
-use Rattle.hol_notation_terms.specs.Code.{coded_name, coded_quotation, coded_type_quotation}
+use Rattle.hol_notation_terms.specs.Code.{head, tail, apart, coded_name, coded_quotation, coded_type_quotation}
 use Rattle.hol_notation_tactics.specs.Text.{TypePairText, ThmText, Cited, Assume, Refl, Spec, Sym, Conjunct1, Conjunct2, Mp, InstType, ArgumentText, Term, Theorem, Pair, Theorems, CallText, TacText, TacTexts, Call, Then, ThenL, OrElse, Repeat, Try, Changed, Every, First, Replicate, DischThen, PopAssum, FirstAssum, SubgoalThen, no_tacs, more_tacs}
-
-abbrev head : Gv → Gv
-head gnil = gnil
-head (gnum n) = gnil
-head (gcons a b) = a
-
-abbrev tail : Gv → Gv
-tail gnil = gnil
-tail (gnum n) = gnil
-tail (gcons a b) = b
-
-apart : (m n : ℕ) {a b : Gv} → gcons (gnum m) a ≡ gcons (gnum n) b → m ≢ n → ⊥
-apart m n p other = other (cc)
 
 abbrev pub coded_pair : Coded TypePairText
 coded_pair = code_by (TypeQuotationText × TypeQuotationText) (coded× coded_type_quotation coded_type_quotation) (λ q. (q.new_type, q.old_type)) (λ p. record { new_type = p.0; old_type = p.1 }) (λ _. refl)

@@ -1,5 +1,5 @@
 -- From what is read of the parts of a definition to the definition.
-use Rattle.std.proofs.Common.{◌≡◌, true, false, ℕ, List, [], ◌∷◌, ◌++◌, refl, ap, ◌∙◌, sym, subst, Option, Some, None, codes, map}
+use Rattle.std.proofs.Common.{◌≡◌, inl, true, false, ℕ, List, [], ◌∷◌, ◌++◌, refl, ap, ◌∙◌, sym, subst, Option, Some, None, codes, map}
 use Rattle.std.proofs.lemmas.Bool.{false≢true}
 use Rattle.hol_notation_tokens.specs.declared.token.Kind.{Kind}
 use Rattle.hol_notation_tokens.specs.declared.token.Kind.TheVariants.{Ident as IdentKind, Open, Colon, Equals, Iff, Backquote}
@@ -11,7 +11,7 @@ use Rattle.hol_notation_grammar.specs.Terminal.{Is, IsNotNext, sign, identifier,
 use Rattle.hol_notation_grammar.specs.Class.{Taken}
 use Rattle.hol_notation_grammar.specs.Syntax.{Parts, nothing, token, part, node, done, leaf, tree, then, Stands}
 use Rattle.hol_notation_grammar.specs.Reading.{Stuck, IsMissing}
-use Rattle.hol_notation_grammar.proofs.Steps.{Fits, fails_part, fails_after, fails_behind, fails_missing, stuck_here}
+use Rattle.hol_notation_grammar.proofs.Steps.{Completes, fails_part, fails_after, fails_behind, fails_missing, stuck_here}
 use Rattle.hol_notation_terms.specs.Text.{TypeText, VariableText, TermText, RightSideText}
 use Rattle.hol_notation_terms.specs.TakenNames.{taken_names}
 use Rattle.hol_notation_terms.specs.Grammar.{Nonterminal, term_grammar, a_type, a_level, a_term, an_ascription, a_definition, a_parameters, a_right_side, an_equation, defined, named_parameter, typed_parameter, no_parameter, typed_side, plain_side, equals_side, iff_side}
@@ -110,8 +110,8 @@ iff_found words after behind rest x y a v t f u =
     }
 
 -- a right side
-fit_equation : Fits term_grammar a_right_side a_type (part an_equation nothing)
-fit_equation after k = let e = some_equation after in record { written = tree e.0 done; stands = (e.1, tt); closes = refl }
+fit_equation : Completes term_grammar a_right_side a_type (part an_equation nothing)
+fit_equation after k = let e = some_equation after in record { written = tree e.0 done; stands = (e.1, tt); ready = inl refl }
 
 picks_typed_side : {words after : List Lexeme} (x : Lexeme) → Taken (Is (sign Colon)) words x after → pick a_right_side words ≡ Some typed_side
 picks_typed_side x t = ap (pick a_right_side) t.whole ∙ ap (λ (k : Kind). choose_side (Some k)) t.is
@@ -164,10 +164,10 @@ from_ascription names x = part an_ascription (from_parameters names x)
 abbrev other : List (List ℕ) → Lexeme
 other names = record { kind = IdentKind; text = fresh names; place = 0 }
 
-fit_parameters : (names : List (List ℕ)) (x : Lexeme) → Fits term_grammar (a_parameters names) an_ascription (from_parameters names x)
+fit_parameters : (names : List (List ℕ)) (x : Lexeme) → Completes term_grammar (a_parameters names) an_ascription (from_parameters names x)
 fit_parameters names x after k =
     let p = some_parameters (names ++ x.text ∷ []) after in
-    record { written = tree p.0 done; stands = (p.1, tt); closes = refl }
+    record { written = tree p.0 done; stands = (p.1, tt); ready = inl refl }
 
 named_picked : (names : List (List ℕ)) {words after : List Lexeme} (x : Lexeme) → Taken (Is identifier) words x after → pick (a_parameters names) words ≡ Some named_parameter
 named_picked names x t = ap (pick (a_parameters names)) t.whole ∙ ap (λ (k : Kind). choose_parameter names (Some k)) t.is

@@ -1,6 +1,7 @@
 -- The production that the next tokens pick.
 use Rattle.std.proofs.Common.{◌≡◌, Bool, true, false, IsTrue, ◌||◌, cond, ℕ, zero, suc, List, [], ◌∷◌, refl, ap, ◌∙◌, sym, subst, Option, Some, None}
-use Rattle.std.proofs.lemmas.Bool.{false≢true}
+use Rattle.std.proofs.lemmas.Bool.{false≢true, false_from_ne_true}
+use Rattle.std.proofs.Math.Bool.{or-true}
 use Rattle.hol_notation_tokens.specs.declared.token.Kind.{Kind}
 use Rattle.hol_notation_tokens.specs.declared.token.Kind.TheVariants.{Ident, Iff, Implies, Or, And, Arrow, ExistsUnique, Equals, Not, Lambda, ForAll, Exists, Choice, Open, Close, Dot, Colon, Comma}
 use Rattle.hol_notation_tokens.specs.Lexeme.{Lexeme}
@@ -152,13 +153,9 @@ looks (a_parameters names) m u w h = ap (choose_parameter names) (kind_same u w 
 looks a_right_side m u w h = ap choose_side (kind_same u w h)
 looks an_equation m u w h = ap choose_equation (kind_same u w h)
 
-not_true : (b : Bool) → (IsTrue b → ⊥) → b ≡ false
-not_true true h = absurd (h refl)
-not_true false h = refl
-
 pub not_opens : (n : Nonterminal) (rest : List Lexeme) → IsNotNext (λ x. IsTrue (opens n x.kind)) rest → next_opens n rest ≡ false
 not_opens n [] h = refl
-not_opens n (x ∷ rest) h = not_true (opens n x.kind) h
+not_opens n (x ∷ rest) h = false_from_ne_true (opens n x.kind) h
 
 pub infix_opens : (h : ℕ) → is_infix_at h (infix_at h) ≡ true
 infix_opens zero = refl
@@ -287,15 +284,11 @@ level_inner : {h : ℕ} (t : Tree term_grammar (a_level h)) (w : List Lexeme) �
 level_inner (node level_zero (tree t done)) w s = unary_inner t w s.1.0
 level_inner (node level_up (tree l (tree r done))) w s = level_inner l (then r w) s.1.0
 
-or_true : (b : Bool) → b || true ≡ true
-or_true true = refl
-or_true false = refl
-
 operator_picked : (k : Kind) (c : Bool) → IsTrue (is_operator k) → c ≡ true → choose_inside k c ≡ Some operator_alone
 operator_picked k c h e =
     ap (λ (b : Bool). cond b (cond (is_infix k || c) (Some operator_alone) (Some inner)) (Some inner)) h
     ∙ ap (λ (b : Bool). cond (is_infix k || b) (Some operator_alone) (Some inner)) e
-    ∙ ap (λ (b : Bool). cond b (Some operator_alone) (Some inner)) (or_true (is_infix k))
+    ∙ ap (λ (b : Bool). cond b (Some operator_alone) (Some inner)) (or-true (is_infix k))
 
 -- the next kind opens the right side of a definition
 abbrev IsEquationKind : Option Kind → Type 0

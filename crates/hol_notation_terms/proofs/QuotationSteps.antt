@@ -1,5 +1,5 @@
 -- From what is read of the parts of a quotation to the quotation.
-use Rattle.std.proofs.Common.{◌≡◌, IsTrue, ℕ, List, ◌∷◌, refl, ap, ◌∙◌, subst}
+use Rattle.std.proofs.Common.{◌≡◌, inl, IsTrue, ℕ, List, ◌∷◌, refl, ap, ◌∙◌, subst}
 use Rattle.hol_notation_tokens.specs.declared.token.Kind.TheVariants.{Colon, Backquote}
 use Rattle.hol_notation_tokens.specs.declared.error.SyntaxError.{SyntaxError}
 use Rattle.hol_notation_tokens.specs.Lexeme.{Lexeme}
@@ -7,7 +7,7 @@ use Rattle.hol_notation_grammar.specs.Terminal.{Is, sign}
 use Rattle.hol_notation_grammar.specs.Class.{Taken}
 use Rattle.hol_notation_grammar.specs.Syntax.{Parts, nothing, token, part, node, done, leaf, tree, then, Stands}
 use Rattle.hol_notation_grammar.specs.Reading.{IsMissing}
-use Rattle.hol_notation_grammar.proofs.Steps.{FailsAll, Fits, Filled, fails_node, fails_part, fails_after, fails_behind, fails_missing}
+use Rattle.hol_notation_grammar.proofs.Steps.{FailsAll, Completes, Filled, fails_node, fails_part, fails_after, fails_behind, fails_missing}
 use Rattle.hol_notation_terms.specs.Text.{TypeText, TermText}
 use Rattle.hol_notation_terms.specs.Grammar.{Nonterminal, term_grammar, closing, a_type, a_term, a_quotation, a_type_quotation, quoted, type_quoted}
 use Rattle.hol_notation_terms.specs.Value.{type_value, level_value, quotation_value, type_quotation_value}
@@ -26,8 +26,8 @@ from_type = part a_type from_end
 abbrev from_colon : Parts Nonterminal
 from_colon = token (sign Colon) (λ _. from_type)
 
-pub fit_end : (n m : Nonterminal) → IsTrue (closing m Backquote) → Fits term_grammar n m from_end
-fit_end n m c after k = record { written = leaf (mark Backquote) done; stands = (refl, tt); closes = c }
+pub fit_end : (n m : Nonterminal) → IsTrue (closing m Backquote) → Completes term_grammar n m from_end
+fit_end n m c after k = record { written = leaf (mark Backquote) done; stands = (refl, tt); ready = inl c }
 
 some_from_type : (after : List Lexeme) → Filled term_grammar from_type after
 some_from_type after = record {

@@ -1,11 +1,11 @@
 -- Some way to write each part, for what a text may go on with.
-use Rattle.std.proofs.Common.{ℕ, zero, suc, List, [], ◌∷◌, refl, codes}
+use Rattle.std.proofs.Common.{inl, ℕ, zero, suc, List, [], ◌∷◌, refl, codes}
 use Rattle.hol_notation_tokens.specs.declared.token.Kind.{Kind}
 use Rattle.hol_notation_tokens.specs.declared.token.Kind.TheVariants.{Ident, Close}
 use Rattle.hol_notation_tokens.specs.Lexeme.{Lexeme}
 use Rattle.hol_notation_grammar.specs.Syntax.{nothing, part, Tree, node, done, leaf, tree, Stands}
 use Rattle.hol_notation_grammar.specs.Reading.{Begins}
-use Rattle.hol_notation_grammar.proofs.Steps.{Fits}
+use Rattle.hol_notation_grammar.proofs.Steps.{Completes}
 use Rattle.hol_notation_terms.specs.Grammar.{Nonterminal, term_grammar, Closes, a_type, a_term, an_arrow, an_applied_type, a_type_list, a_type_rest, a_postfix, a_level, a_tail, a_unary, an_arguments, an_annotation, applied_first, no_arrow, named_type, one_type, last_type, no_postfix, level_zero, level_up, no_infix, plain, typed_term, no_argument, no_annotation, identifier_atom}
 use Rattle.hol_notation_terms.proofs.Picks.{shut}
 
@@ -26,24 +26,24 @@ some_arrow after k = (node no_arrow done, (shut an_arrow after k, tt))
 abbrev pub ClosesToo : Nonterminal → Nonterminal → Type 0
 ClosesToo n m = (after : List Lexeme) → Closes n after → Closes m after
 
-pub fit_nothing : (n m : Nonterminal) → ClosesToo n m → Fits term_grammar n m nothing
-fit_nothing n m f after k = record { written = done; stands = tt; closes = f after k }
+pub fit_nothing : (n m : Nonterminal) → ClosesToo n m → Completes term_grammar n m nothing
+fit_nothing n m f after k = record { written = done; stands = tt; ready = inl (f after k) }
 
-pub fit_arrow : Fits term_grammar a_type an_applied_type (part an_arrow nothing)
-fit_arrow after k = record { written = tree (node no_arrow done) done; stands = ((shut an_arrow after k, tt), tt); closes = k }
+pub fit_arrow : Completes term_grammar a_type an_applied_type (part an_arrow nothing)
+fit_arrow after k = record { written = tree (node no_arrow done) done; stands = ((shut an_arrow after k, tt), tt); ready = inl k }
 
-pub fit_list : Fits term_grammar an_applied_type a_type (part a_type_list nothing)
+pub fit_list : Completes term_grammar an_applied_type a_type (part a_type_list nothing)
 fit_list after k = record {
   written = tree (node one_type (leaf (mark Close) (tree (node no_postfix done) done))) done;
   stands = ((tt, (refl, ((shut a_postfix after k, tt), tt))), tt);
-  closes = refl;
+  ready = inl refl;
 }
 
-pub fit_rest : (n : Nonterminal) → ClosesToo n a_postfix → Fits term_grammar n a_type (part a_type_rest nothing)
+pub fit_rest : (n : Nonterminal) → ClosesToo n a_postfix → Completes term_grammar n a_type (part a_type_rest nothing)
 fit_rest n f after k = record {
   written = tree (node last_type (leaf (mark Close) (leaf (mark Ident) (tree (node no_postfix done) done)))) done;
   stands = ((tt, (refl, (refl, ((shut a_postfix after (f after k), tt), tt)))), tt);
-  closes = refl;
+  ready = inl refl;
 }
 
 pub begins_applied : (after : List Lexeme) → Closes a_type after → Begins term_grammar an_applied_type [] after

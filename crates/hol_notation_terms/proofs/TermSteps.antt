@@ -1,5 +1,5 @@
 -- From what is read of the parts of a term to the term.
-use Rattle.std.proofs.Common.{◌≡◌, ◌-◌, Bool, true, false, IsTrue, cond, ℕ, zero, suc, List, [], ◌∷◌, refl, ap, ◌∙◌, sym, subst, Some, None, arith}
+use Rattle.std.proofs.Common.{◌≡◌, inl, ◌-◌, Bool, true, false, IsTrue, cond, ℕ, zero, suc, List, [], ◌∷◌, refl, ap, ◌∙◌, sym, subst, Some, None, arith}
 use Rattle.std.proofs.lemmas.Bool.{false≢true}
 use Rattle.hol_notation_tokens.specs.declared.token.Kind.{Kind}
 use Rattle.hol_notation_tokens.specs.declared.token.Kind.TheVariants.{Ident as IdentKind, Iff as IffKind, Implies as ImpliesKind, Or as OrKind, And as AndKind, Equals as EqualsKind, Not as NotKind, Lambda, ForAll as ForAllKind, Exists as ExistsKind, ExistsUnique as ExistsUniqueKind, Choice as ChoiceKind, Open, Close, Colon, Dot}
@@ -10,7 +10,7 @@ use Rattle.hol_notation_grammar.specs.Terminal.{Is, IsNotNext, identifier, sign,
 use Rattle.hol_notation_grammar.specs.Class.{Taken}
 use Rattle.hol_notation_grammar.specs.Syntax.{Parts, nothing, token, part, node, done, leaf, tree, then, Stands}
 use Rattle.hol_notation_grammar.specs.Reading.{Stuck, IsMissing}
-use Rattle.hol_notation_grammar.proofs.Steps.{FailsAll, Fits, fails_node, fails_part, fails_after, fails_behind, fails_missing, stuck_here}
+use Rattle.hol_notation_grammar.proofs.Steps.{FailsAll, Completes, fails_node, fails_part, fails_after, fails_behind, fails_missing, stuck_here}
 use Rattle.hol_notation_terms.specs.declared.operator.Operator.TheVariants.{Not}
 use Rattle.hol_notation_terms.specs.Text.{TypeText, VariableText, TermText, Named, Constant, Applied, Typed}
 use Rattle.hol_notation_terms.specs.Grammar.{Nonterminal, Production, parts, term_grammar, infix_at, is_infix_at, opens, closing, a_type, a_level, a_term, a_tail, a_unary, a_typed, an_arguments, an_annotation, an_atom, an_inside, a_closed, a_bound, a_variable, an_ascription, an_after_name, an_after_bound, level_zero, level_up, no_infix, infixed, negation, binding, plain, typed_term, no_argument, argument, no_annotation, annotated, identifier_atom, parenthesised, closed_term, named_bound, typed_bound, typed_variable, ascription, last_typed, name_alone, bound_body, bound_more}
@@ -30,8 +30,8 @@ pub final : (n m : Nonterminal) (end : ℕ) (words : List Lexeme) (e : SyntaxErr
 final n m end words e f h = fails_part certain n m nothing end words e (fit_nothing n m f) h
 
 -- the levels
-fit_tail : (h : ℕ) → Fits term_grammar (a_level (suc h)) (a_level h) (part (a_tail h) nothing)
-fit_tail h after k = record { written = tree (node no_infix done) done; stands = ((shut (a_tail h) after k, tt), tt); closes = k }
+fit_tail : (h : ℕ) → Completes term_grammar (a_level (suc h)) (a_level h) (part (a_tail h) nothing)
+fit_tail h after k = record { written = tree (node no_infix done) done; stands = ((shut (a_tail h) after k, tt), tt); ready = inl k }
 
 infix_open : (h : ℕ) (k : Kind) → IsTrue (is_infix_at h k) → k ≡ infix_at h
 infix_open zero EqualsKind e = refl
@@ -149,15 +149,15 @@ pub plain_found : (words rest : List Lexeme) (v : TermText) → IsFound typed_va
 plain_found words rest v f = record { written = node plain (tree f.written done); whole = f.whole; stands = (tt, (f.stands, tt)); says = f.says }
 
 -- a function, its arguments, and the type after it
-fit_arguments : Fits term_grammar a_typed an_atom (part an_arguments (part an_annotation nothing))
+fit_arguments : Completes term_grammar a_typed an_atom (part an_arguments (part an_annotation nothing))
 fit_arguments after k = record {
   written = tree (node no_argument done) (tree (node no_annotation done) done);
   stands = ((shut an_arguments after k, tt), ((shut an_annotation after k, tt), tt));
-  closes = k;
+  ready = inl k;
 }
 
-fit_annotation : Fits term_grammar a_typed an_arguments (part an_annotation nothing)
-fit_annotation after k = record { written = tree (node no_annotation done) done; stands = ((shut an_annotation after k, tt), tt); closes = k }
+fit_annotation : Completes term_grammar a_typed an_arguments (part an_annotation nothing)
+fit_annotation after k = record { written = tree (node no_annotation done) done; stands = ((shut an_annotation after k, tt), tt); ready = inl k }
 
 colon_open : (k : Kind) → IsTrue (opens an_annotation k) → k ≡ Colon
 colon_open Colon h = refl
@@ -205,8 +205,8 @@ untyped_found words after rest v w f g n = record {
 }
 
 -- arguments
-fit_more : Fits term_grammar an_arguments an_atom (part an_arguments nothing)
-fit_more after k = record { written = tree (node no_argument done) done; stands = ((shut an_arguments after k, tt), tt); closes = k }
+fit_more : Completes term_grammar an_arguments an_atom (part an_arguments nothing)
+fit_more after k = record { written = tree (node no_argument done) done; stands = ((shut an_arguments after k, tt), tt); ready = inl k }
 
 argument_picked : (words : List Lexeme) → next_opens an_arguments words ≡ true → pick an_arguments words ≡ Some argument
 argument_picked words e = ap (λ (b : Bool). cond b (Some argument) (Some no_argument)) e
@@ -270,8 +270,8 @@ inside_found words after rest x v t f = record {
 }
 
 -- a term and the parenthesis after it
-fit_close : (n m : Nonterminal) → IsTrue (closing m Close) → Fits term_grammar n m (token (sign Close) (λ _. nothing))
-fit_close n m c after k = record { written = leaf (mark Close) done; stands = (refl, tt); closes = c }
+fit_close : (n m : Nonterminal) → IsTrue (closing m Close) → Completes term_grammar n m (token (sign Close) (λ _. nothing))
+fit_close n m c after k = record { written = leaf (mark Close) done; stands = (refl, tt); ready = inl c }
 
 pub closed_fails : (end : ℕ) (words : List Lexeme) (e : SyntaxError) → Failing a_term end words e → Failing a_closed end words e
 closed_fails end words e h =
@@ -375,11 +375,11 @@ variable_found words inside after rest x y name v t s f e = record {
 }
 
 -- what a binder binds
-fit_after_bound : Fits term_grammar a_bound a_variable (part an_after_bound nothing)
+fit_after_bound : Completes term_grammar a_bound a_variable (part an_after_bound nothing)
 fit_after_bound after k = record {
   written = tree (node bound_body (leaf (mark Dot) (tree (some_level 5 after k).0 done))) done;
   stands = ((tt, (refl, ((some_level 5 after k).1, tt))), tt);
-  closes = refl;
+  ready = inl refl;
 }
 
 pub named_fails : (end : ℕ) (words rest : List Lexeme) (e : SyntaxError) (x : Lexeme) → Taken (Is identifier) words x rest → Failing an_after_name end rest e → Failing a_bound end words e
@@ -427,8 +427,8 @@ typed_found words rest later k v w f g = record {
 abbrev from_dot : Parts Nonterminal
 from_dot = token (sign Dot) (λ _. part a_term nothing)
 
-fit_dot : Fits term_grammar an_after_name a_type from_dot
-fit_dot after k = record { written = leaf (mark Dot) (tree (some_level 5 after k).0 done); stands = (refl, ((some_level 5 after k).1, tt)); closes = refl }
+fit_dot : Completes term_grammar an_after_name a_type from_dot
+fit_dot after k = record { written = leaf (mark Dot) (tree (some_level 5 after k).0 done); stands = (refl, ((some_level 5 after k).1, tt)); ready = inl refl }
 
 typed_name : {words after : List Lexeme} (x : Lexeme) → Taken (Is (sign Colon)) words x after → pick an_after_name words ≡ Some last_typed
 typed_name x t = ap (pick an_after_name) t.whole ∙ ap (λ (k : Kind). choose_after_name (Some k)) t.is

@@ -2,23 +2,14 @@
 use Rattle.std.specs.Prelude.{◌≡◌, true, false, not, ◌&&◌, ◌||◌, Bool, refl}
 use Rattle.std.specs.FinSet as set
 use Rattle.std.proofs.Common.{ap, sym, ◌∙◌}
+use Rattle.hol_bool.proofs.Disjunctions.{one_removed}
 use Rattle.hol_terms.specs.Nameless.{Nameless}
 use Rattle.hol_terms.specs.Alpha.{strip}
-use Rattle.hol_kernel.specs.Sequent.{Hyps, no_hyps, only_hyp}
+use Rattle.hol_kernel.specs.Sequent.{Hyps, no_hyps}
 use Rattle.hol_kernel.specs.Theorem.{Theorem, theorem_over}
 use Rattle.hol_equal.proofs.HypSets.{none_left, none_without}
-use Rattle.hol_bool.proofs.HypLaws.{is, has, same, in_union, in_rest, in_one, in_none}
+use Rattle.hol_bool.proofs.HypLaws.{is, has, same, in_union, in_rest}
 use Rattle.hol_prelude.specs.Deduction.{theorem_of, theorem_under, IsFrom}
-
--- ---- a formula alone
-
-one_way : (p : Bool) → (not p && (p || false)) ≡ false
-one_way true = refl
-one_way false = refl
-
-pub one_alone : (p : Nameless) → set.remove (only_hyp p) (strip p) ≡ no_hyps
-one_alone p =
-    same _ _ (λ q. in_rest (only_hyp p) (strip p) q ∙ ap (λ b. not (is q (strip p)) && b) (in_one p q) ∙ one_way (is q (strip p)) ∙ sym (in_none q))
 
 -- ---- two sets
 
@@ -64,7 +55,7 @@ discharged_alone hs ks j k a b =
 -- ---- theorems
 
 pub under_from : (p q : Nameless) → IsFrom p (theorem_under p q)
-under_from p q = record { over = refl; alone = one_alone p }
+under_from p q = record { over = refl; alone = one_removed p }
 
 pub of_from : (k p : Nameless) → IsFrom k (theorem_of p)
 of_from k p = record { over = refl; alone = none_without (strip k) }

@@ -1,3 +1,2 @@
 pub mod From
-pub mod Unconditional
 pub mod Names

@@ -1,6 +1,5 @@
 //! ONE_ONE and ONTO as they are read: of each function.
 ghost use Rattle.std.specs.Prelude.{◌≡◌, IfOk};
-ghost use Rattle.hol_types.specs.Tree.{TyVar};
 ghost use Rattle.hol_types.specs.Fun.{fun_type};
 ghost use Rattle.hol_terms.specs.Nameless.{free};
 ghost use Rattle.hol_formulas.specs.Constants.{var_a, var_b};
@@ -15,28 +14,10 @@ ghost use Rattle.hol_prelude.specs.Statements.{stated, one_one, onto};
 
 use hol_bool::applied::generalize;
 use hol_bool::unfold;
-use hol_formulas::{Postulate, bool_type, occurrence, variable};
+use hol_formulas::{Postulate, bool_type, function_type, occurrence, variable};
 use hol_kernel::Thm;
 use hol_terms::Variable;
-use hol_types::{Name, Ty};
 use std::alloc::{AllocError, Global};
-
-/// A type variable.
-pub(crate) fn type_variable(alloc: Global, name: &str) -> Result<Ty, AllocError>
-    ensures { IfOk result (λ ty. ty ≡ TyVar name.now) }
-{
-    let own = Name::new(alloc, name)?;
-    Ty::var(alloc, &own)
-}
-
-// `A->B`.
-fn function_type(alloc: Global) -> Result<Ty, AllocError>
-    ensures { IfOk result (λ ty. ty ≡ fun_type var_a var_b) }
-{
-    let domain = type_variable(alloc, "A")?;
-    let range = type_variable(alloc, "B")?;
-    Ty::fun(alloc, &domain, &range)
-}
 
 // `f:A->B`.
 fn function(alloc: Global) -> Result<Variable, AllocError>

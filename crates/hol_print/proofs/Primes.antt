@@ -11,7 +11,7 @@ use Rattle.std.proofs.lemmas.Bool.Decides.{nat_tests}
 use Rattle.hol_types.specs.Names.{is_among}
 use Rattle.hol_terms.specs.Nameless.{with_letter, base_of}
 use Rattle.hol_terms.specs.Primes.{with_primes}
-use Rattle.hol_terms.proofs.Primes.{base_with_primes}
+use Rattle.hol_terms.proofs.Primes.{base_with_primes, base_again}
 use Rattle.hol_print.specs.Taken.{IsTable}
 use Rattle.hol_print.specs.ShowTerm.{primed}
 
@@ -49,18 +49,6 @@ with_before (suc k) o a = ap (λ x. x ++ codes "'") (with_before k o a) ∙ appe
 pub ruleset after_front = (with_before)
 
 -- ---- the base and the primes of a text
-
-base_again : (a : List ℕ) → base_of (base_of a) ≡ base_of a
-base_again [] = refl
-base_again (x ∷ xs) = by (base_of xs) (base_again xs)
-  where
-    letter : (t : Bool) → (x == 39) ≡ t → base_of (cond t [] (x ∷ [])) ≡ cond t [] (x ∷ [])
-    letter true e = refl
-    letter false e = ap (λ b. cond b [] (x ∷ [])) e
-
-    by : (b : List ℕ) → base_of b ≡ b → base_of (with_letter x b) ≡ with_letter x b
-    by [] e = letter (x == 39) refl
-    by (y ∷ ys) e = ap (with_letter x) e
 
 base_length : (a : List ℕ) → length (base_of a) ≤ length a
 base_length [] = omega arith

@@ -9,7 +9,7 @@ use hol_notation::{
 use std::alloc::Global;
 
 /// The structure of a copy of the command that the text is.
-pub fn spelled(alloc: Global, text: &str) -> Result<String, SyntaxError> {
+pub(crate) fn spelled(alloc: Global, text: &str) -> Result<String, SyntaxError> {
     let command = read_command(alloc, text)?.copy(alloc)?;
     let mut spelled = Spelling {
         alloc,
@@ -24,7 +24,7 @@ pub fn spelled(alloc: Global, text: &str) -> Result<String, SyntaxError> {
     }
 }
 
-/// What is spelled so far, and whether there was memory for all of it.
+// What is spelled so far, and whether there was memory for all of it.
 #[derive(Drop)]
 struct Spelling {
     alloc: Global,

@@ -6,14 +6,14 @@ use std::alloc::{AllocError, Global};
 use std::test::Fail;
 
 /// How many parts inside one another a term or type has at most.
-pub const LEVELS: usize = 100;
+pub(crate) const LEVELS: usize = 100;
 
 // How many equations are solved at most.
 const EQUATIONS: usize = 10_000;
 
 /// A term's types as far as they are found. A name of a type begins with `?` where it is still to be found.
 #[derive(Drop)]
-pub struct Typing<'a> {
+pub(crate) struct Typing<'a> {
     alloc: Global,
     constants: &'a [(Name, Ty)],
     open: usize,
@@ -25,7 +25,7 @@ pub struct Typing<'a> {
 
 /// The types of the term's constants and variables from left to right, also of each variable where it is bound, or nothing where there
 /// is no typing. The types that are left open are `?0`, `?1` and so on, as they occur.
-pub fn plain_types(
+pub(crate) fn plain_types(
     alloc: Global,
     term: &PreTerm,
     constants: &[(Name, Ty)],

@@ -6,7 +6,7 @@ use std::test::Fail;
 
 /// The type that is written so: `bool`, `>` for functions from the type before the last to the last, and the constructors `list` of one
 /// type and `prod` of two.
-pub fn ty(alloc: Global, words: &str) -> Result<Ty, Fail> {
+pub(crate) fn ty(alloc: Global, words: &str) -> Result<Ty, Fail> {
     let mut stack = Vec::new(alloc);
     for word in words.split_whitespace() {
         let made = made_type(alloc, &mut stack, word)?;
@@ -37,7 +37,7 @@ fn of_two(alloc: Global, stack: &mut Vec<Ty>, name: &str) -> Result<Ty, Fail> {
 
 /// The term that is written so, all of type bool: `/\`, `\/`, `==>` and `=` stand between the last two, `~` and `f` before the last,
 /// `(/\)` too, alone; `!x`, `?x`, `?!x`, `@x` and `\x` bind x in the last; another word is a variable.
-pub fn term(alloc: Global, words: &str) -> Result<Term, Fail> {
+pub(crate) fn term(alloc: Global, words: &str) -> Result<Term, Fail> {
     let mut stack = Vec::new(alloc);
     for word in words.split_whitespace() {
         let made = made_term(alloc, &mut stack, word)?;

@@ -2,7 +2,9 @@
 use Rattle.std.proofs.Common.{◌≡◌, ℕ, List, [], ◌∷◌, ◌++◌, refl, sym, ap, ◌∙◌, Bool, true, false, not, ◌&&◌, ◌||◌}
 use Rattle.std.specs.List.{list_any}
 use Rattle.std.specs.FinSet as set
+use Rattle.std.proofs.Math.Bool.{or_assoc}
 use Rattle.std.proofs.lemmas.Bool.{false≢true}
+use Rattle.std.proofs.lemmas.List.Folds.{list_any-append}
 use Rattle.hol_types.specs.Tree.{TypeTree}
 use Rattle.hol_terms.specs.Nameless.{Nameless, free_occurrences}
 use Rattle.hol_terms.specs.Scoped.{binds}
@@ -21,12 +23,8 @@ union_more a b c =
     set.same_set hyps_total hyps_same (set.union a (set.union b c)) (set.union (set.union a b) c)
     (λ q.
     set.contains-union hyps_total a (set.union b c) q ∙ ap (λ k. set.contains a q || k) (set.contains-union hyps_total b c q)
-    ∙ or_more (set.contains a q) (set.contains b q) (set.contains c q)
+    ∙ sym (or_assoc (set.contains a q) (set.contains b q) (set.contains c q))
     ∙ sym (set.contains-union hyps_total (set.union a b) c q ∙ ap (λ k. k || set.contains c q) (set.contains-union hyps_total a b q)))
-  where
-    or_more : (x y z : Bool) → (x || (y || z)) ≡ ((x || y) || z)
-    or_more true y z = refl
-    or_more false y z = refl
 
 pub hyps_both : (xs ys : List Given) → set.union (all_hyps xs) (all_hyps ys) ≡ all_hyps (xs ++ ys)
 hyps_both [] ys = union_none_left hyps_total hyps_same (all_hyps ys)
@@ -40,14 +38,6 @@ free_any : (v : List ℕ × TypeTree) (ns : List Nameless) → is_free_in ns v �
 free_any v [] = refl
 free_any v (n ∷ ns) = ap (λ b. binds (free_occurrences n) v || b) (free_any v ns)
 
-any_both : (p : Nameless → Bool) (xs ys : List Nameless) → list_any p (xs ++ ys) ≡ (list_any p xs || list_any p ys)
-any_both p [] ys = refl
-any_both p (x ∷ xs) ys = by (p x) (any_both p xs ys)
-  where
-    by : (b : Bool) → list_any p (xs ++ ys) ≡ (list_any p xs || list_any p ys) → (b || list_any p (xs ++ ys)) ≡ ((b || list_any p xs) || list_any p ys)
-    by true e = refl
-    by false e = e
-
 union_list : (hs ks : Hyps) → set.union hs ks ≡ set.from_list (set.items hs ++ set.items ks)
 union_list hs ks =
     (λ i. set.union (sym (from_list-items hyps_total hyps_same hs) i) (sym (from_list-items hyps_total hyps_same ks) i)) ∙ sym (set_append hyps_total hyps_same (set.items hs) (set.items ks))
@@ -55,7 +45,7 @@ union_list hs ks =
 free_union : (v : List ℕ × TypeTree) (hs ks : Hyps) → is_free_in (set.items (set.union hs ks)) v ≡ (is_free_in (set.items hs) v || is_free_in (set.items ks) v)
 free_union v hs ks =
     ap (λ (s : Hyps). is_free_in (set.items s) v) (union_list hs ks) ∙ free_any v (set.items (set.from_list (set.items hs ++ set.items ks)))
-    ∙ any_of_set hyps_total hyps_same (λ n. binds (free_occurrences n) v) (set.items hs ++ set.items ks) ∙ any_both (λ n. binds (free_occurrences n) v) (set.items hs) (set.items ks)
+    ∙ any_of_set hyps_total hyps_same (λ n. binds (free_occurrences n) v) (set.items hs ++ set.items ks) ∙ list_any-append (λ n. binds (free_occurrences n) v) (set.items hs) (set.items ks)
     ∙ sym (λ i. free_any v (set.items hs) i || free_any v (set.items ks) i)
 
 -- a variable that is free in none of those that were given

@@ -1,11 +1,13 @@
 -- The theorem of a rule at a match: the rules of the logic apply, and the hypotheses stay.
-use Rattle.std.proofs.Common.{◌≡◌, ℕ, List, [], ◌∷◌, ◌++◌, map, refl, sym, ap, ◌∙◌, subst, Bool, true, false, cond, ◌&&◌, ◌||◌, inl, inr, bytes_eq, Option, Some, None}
+use Rattle.std.proofs.Common.{◌≡◌, ℕ, List, [], ◌∷◌, map, refl, sym, ap, ◌∙◌, subst, Bool, true, false, cond, ◌&&◌, ◌||◌, inl, inr, bytes_eq, Option, Some, None}
 use Rattle.std.specs.Prelude.{IsSome, Result, Ok}
-use Rattle.std.specs.List.{AllByRecursion, list_any}
+use Rattle.std.specs.List.{list_any}
 use Rattle.std.specs.Option.{option_map}
 use Rattle.std.specs.FinSet as set
 use Rattle.std.proofs.lemmas.Bool.{false≢true, or_left, or_right}
 use Rattle.std.proofs.lemmas.Slice.Eq.{bytes_eq-Decides}
+use Rattle.hol_match.proofs.Keeping.{stripped}
+use Rattle.hol_types.proofs.Filters.{among_append}
 use Rattle.hol_types.specs.Tree.{TypeTree, TypeList, TyVar, TyApp, no_types, more_types}
 use Rattle.hol_types.specs.Equal.{variable_eq}
 use Rattle.hol_types.specs.Names.{is_among, type_names, types_names}
@@ -19,9 +21,10 @@ use Rattle.hol_terms.proofs.Typing.{type_outside}
 use Rattle.hol_subst.specs.Hypotheses.{Hyps, hyp_of, hyps_of, hyps_image}
 use Rattle.hol_subst.specs.Pairs.{nameless_pairs, HasBadPair}
 use Rattle.hol_subst.specs.Substitution.{term_for, term_subst, types_inst}
+use Rattle.hol_subst.specs.Variant.{is_free_in}
 use Rattle.hol_subst.proofs.Commute.{subst_agree, subst_nothing}
 use Rattle.hol_subst.proofs.HypothesisLists.{hyps_total, hyps_same, free_in_hyps}
-use Rattle.hol_subst.proofs.Images.{types_hyps, image_hyps}
+use Rattle.hol_subst.proofs.Images.{strip_strip, types_hyps, image_hyps}
 use Rattle.hol_subst.proofs.SortedSets.{any_of_set, union_none_left}
 use Rattle.hol_subst.proofs.Strip.{subst_alpha}
 use Rattle.hol_formulas.specs.Equation.{equation}
@@ -31,7 +34,7 @@ use Rattle.hol_kernel.specs.NamedTyping.{is_known_named}
 use Rattle.hol_kernel.specs.Rules.{inst_of, inst_type_of, is_pair_at, are_pairs_over, reflexive, sequent_image, trans_of}
 use Rattle.hol_kernel.specs.Sequent.{no_hyps, Sequent, sequent_of}
 use Rattle.hol_kernel.specs.Theorem.{Theorem, theorem_on, over}
-use Rattle.hol_kernel.specs.Typing.{is_type, is_known, are_types_for}
+use Rattle.hol_kernel.specs.Typing.{is_known, are_types_for}
 use Rattle.hol_kernel.specs.Gives.{Gives, in_kernel}
 use Rattle.hol_kernel.specs.declared.error.Rule.{Rule}
 use Rattle.hol_kernel.specs.declared.error.KernelError.{KernelError}
@@ -45,21 +48,19 @@ use Rattle.hol_equal.proofs.Steps as steps
 use Rattle.hol_match.specs.Contracta.{contracted}
 use Rattle.hol_match.specs.Instance.{InstanceValue, instantiated, staying}
 use Rattle.hol_match.specs.Matches.{GivesTypes, GivesTerms, Says, IsMatch}
-use Rattle.hol_match.specs.Matching.{matched}
 use Rattle.hol_match.specs.Opening.{has_type_var, has_type_var_in}
-use Rattle.hol_match.specs.RuleSets.{RuleEntry, fit, beside}
+use Rattle.hol_match.specs.RuleSets.{RuleEntry, fit}
 use Rattle.hol_match.specs.Rules.{RuleValue}
 use Rattle.hol_match.specs.SetView.{set_rule, set_given}
 use Rattle.hol_match.specs.Sources.{IsSound}
+use Rattle.hol_match.specs.Standing.{TermsStand, Stands}
 use Rattle.hol_match.specs.declared.set_rule.SetRule.{SetRule}
 use Rattle.hol_match.specs.declared.source.Source.{Source}
-use Rattle.hol_match.proofs.RuleSets.{beside_both}
-use Rattle.hol_match.proofs.Standing.{Adds, matched_stands}
+use Rattle.hol_match.proofs.Standing.{fit_stands, types_all}
 use Rattle.hol_replay.specs.RuleTheorems.{IsRuleTheorem, side_equation, redex_equation}
-use Rattle.hol_replay.specs.RuleSteps.{TermsStand}
 
 -- ---- what stays is given itself
-type_stays : (a : InstanceValue) (names : List (List ℕ)) (c : List ℕ) → GivesTypes a (map (λ n. (TyVar n, n)) names) → is_among names c ≡ true → type_for a.types c ≡ TyVar c
+pub type_stays : (a : InstanceValue) (names : List (List ℕ)) (c : List ℕ) → GivesTypes a (map (λ n. (TyVar n, n)) names) → is_among names c ≡ true → type_for a.types c ≡ TyVar c
 type_stays a [] c h e = absurd (cc)
 type_stays a (n ∷ names) c h e = by (bytes_eq c n) refl e (type_stays a names c h.1)
   where
@@ -67,28 +68,20 @@ type_stays a (n ∷ names) c h e = by (bytes_eq c n) refl e (type_stays a names 
     by true q k r = let same : c ≡ n = (bytes_eq-Decides c n).0 q in subst (λ z. type_for a.types z ≡ TyVar z) (sym same) h.0
     by false q k r = r k
 
-free_strip : (n : Nameless) (v : List ℕ × TypeTree) → strip n ≡ free v → n ≡ free v
+pub free_strip : (n : Nameless) (v : List ℕ × TypeTree) → strip n ≡ free v → n ≡ free v
 free_strip (free w) v e = e
 free_strip (bound i) v e = absurd (cc)
 free_strip (fixed c s) v e = absurd (cc)
 free_strip (app f x) v e = absurd (cc)
 free_strip (lam a s b) v e = absurd (cc)
 
-term_stays : (a : InstanceValue) (vs : List (List ℕ × TypeTree)) (w : List ℕ × TypeTree) → GivesTerms a (map (λ v. (free v, v)) vs) → binds vs w ≡ true → term_for a.terms w ≡ free w
+pub term_stays : (a : InstanceValue) (vs : List (List ℕ × TypeTree)) (w : List ℕ × TypeTree) → GivesTerms a (map (λ v. (free v, v)) vs) → binds vs w ≡ true → term_for a.terms w ≡ free w
 term_stays a [] w h e = absurd (cc)
 term_stays a (v ∷ vs) w h e = by (variable_eq v w) refl e (term_stays a vs w h.1)
   where
     by : (b : Bool) → variable_eq v w ≡ b → (b || binds vs w) ≡ true → (binds vs w ≡ true → term_for a.terms w ≡ free w) → term_for a.terms w ≡ free w
     by true q k r = let same : v ≡ w = (variable_eq_decides v w).0 q in subst (λ z. term_for a.terms z ≡ free z) same (free_strip (term_for a.terms v) v h.0)
     by false q k r = r k
-
-among : (xs ys : List (List ℕ)) (c : List ℕ) → is_among (xs ++ ys) c ≡ (is_among xs c || is_among ys c)
-among [] ys c = refl
-among (x ∷ xs) ys c = by (bytes_eq c x) (among xs ys c)
-  where
-    by : (b : Bool) → is_among (xs ++ ys) c ≡ (is_among xs c || is_among ys c) → (b || is_among (xs ++ ys) c) ≡ ((b || is_among xs c) || is_among ys c)
-    by true e = refl
-    by false e = e
 
 -- ---- a term that has only what stays
 module _ (pairs : List (TypeTree × List ℕ)) where
@@ -100,8 +93,8 @@ module _ (pairs : List (TypeTree × List ℕ)) where
     types_kept : (ts : TypeList) → ((c : List ℕ) → is_among (types_names ts) c ≡ true → type_for pairs c ≡ TyVar c) → types_subst pairs ts ≡ ts
     types_kept no_types h = refl
     types_kept (more_types t ts) h = λ i. more_types
-        (type_kept t (λ c k. h c (among (type_names t) (types_names ts) c ∙ or_left (is_among (type_names t) c) (is_among (types_names ts) c) k)) i)
-        (types_kept ts (λ c k. h c (among (type_names t) (types_names ts) c ∙ or_right (is_among (type_names t) c) (is_among (types_names ts) c) k)) i)
+        (type_kept t (λ c k. h c (among_append (type_names t) (types_names ts) c ∙ or_left (is_among (type_names t) c) (is_among (types_names ts) c) k)) i)
+        (types_kept ts (λ c k. h c (among_append (type_names t) (types_names ts) c ∙ or_right (is_among (type_names t) c) (is_among (types_names ts) c) k)) i)
 
   inst_kept : (n : Nameless) → ((c : List ℕ) → has_type_var c n ≡ true → type_for pairs c ≡ TyVar c) → types_inst pairs n ≡ n
   inst_kept (free v) h = ap (λ s. free (v.0, s)) (type_kept v.1 h)
@@ -115,33 +108,23 @@ module _ (pairs : List (TypeTree × List ℕ)) where
       (inst_kept b (λ c k. h c (or_right (is_among (type_names s) c) (has_type_var c b) k)) i)
 
 -- ---- hypotheses
-stripped_var : (c : List ℕ) (n : Nameless) → has_type_var c (strip n) ≡ has_type_var c n
-stripped_var c (free v) = refl
-stripped_var c (bound i) = refl
-stripped_var c (fixed d s) = refl
-stripped_var c (app f x) = λ i. stripped_var c f i || stripped_var c x i
-stripped_var c (lam d s n) = ap (λ b. is_among (type_names s) c || b) (stripped_var c n)
-
 vars_in : (hs : Hyps) (ps : List Named) (c : List ℕ) → hyps_of ps ≡ hs → has_type_var_in (set.items hs) c ≡ list_any (λ p. has_type_var c (nameless [] p)) ps
 vars_in hs ps c is = ap (λ (s : Hyps). has_type_var_in (set.items s) c) (sym is) ∙ any_of_set hyps_total hyps_same (has_type_var c) (map hyp_of ps) ∙ keys ps
   where
     keys : (qs : List Named) → list_any (has_type_var c) (map hyp_of qs) ≡ list_any (λ p. has_type_var c (nameless [] p)) qs
     keys [] = refl
-    keys (q ∷ qs) = λ i. stripped_var c (nameless [] q) i || keys qs i
+    keys (q ∷ qs) = λ i. stripped c (nameless [] q) i || keys qs i
 
-module _ (s : Source) (sound : IsSound s) (a : InstanceValue) (says : Says a (staying s.fixed.names.items s.fixed.variables.items)) (ps : List Named) (is : hyps_of ps ≡ (given_sequent s.given).hyps) where
-  abbrev pub hs : Hyps
-  hs = (given_sequent s.given).hyps
-
+-- these stay where what they have does
+module _ (a : InstanceValue) (names : List (List ℕ)) (vs : List (List ℕ × TypeTree)) (says : Says a (staying names vs)) (hs : Hyps) (ps : List Named) (is : hyps_of ps ≡ hs) where
   types_left : (qs : List Named) → ((c : List ℕ) → list_any (λ p. has_type_var c (nameless [] p)) qs ≡ true → type_for a.types c ≡ TyVar c) → map (λ p. nameless [] p) qs ≡ map (λ p. types_inst a.types (nameless [] p)) qs
   types_left [] h = refl
   types_left (q ∷ qs) h = λ i.
       sym (inst_kept a.types (nameless [] q) (λ c k. h c (or_left (has_type_var c (nameless [] q)) (list_any (λ p. has_type_var c (nameless [] p)) qs) k))) i
       ∷ types_left qs (λ c k. h c (or_right (has_type_var c (nameless [] q)) (list_any (λ p. has_type_var c (nameless [] p)) qs) k)) i
 
-  hyps_typed : hyps_image (types_inst a.types) hs ≡ hs
-  hyps_typed =
-      sym (types_hyps a.types hs ps ps is (types_left ps (λ c k. type_stays a s.fixed.names.items c says.0 (sound.names c (vars_in hs ps c is ∙ k))))) ∙ is
+  pub hyps_typed : ((c : List ℕ) → has_type_var_in (set.items hs) c ≡ true → is_among names c ≡ true) → hyps_image (types_inst a.types) hs ≡ hs
+  hyps_typed stay = sym (types_hyps a.types hs ps ps is (types_left ps (λ c k. type_stays a names c says.0 (stay c (vars_in hs ps c is ∙ k))))) ∙ is
 
   terms_left : (qs : List Named) → ((w : List ℕ × TypeTree) → list_any (λ p. binds (free_occurrences (nameless [] p)) w) qs ≡ true → term_for a.terms w ≡ free w) → map (λ p. nameless [] p) qs ≡ map (λ p. term_subst a.terms 0 (nameless [] p)) qs
   terms_left [] h = refl
@@ -149,33 +132,32 @@ module _ (s : Source) (sound : IsSound s) (a : InstanceValue) (says : Says a (st
       sym (subst_agree a.terms [] 0 (nameless [] q) (λ w f. h w (or_left (binds (free_occurrences (nameless [] q)) w) (list_any (λ p. binds (free_occurrences (nameless [] p)) w) qs) f)) ∙ subst_nothing 0 (nameless [] q)) i
       ∷ terms_left qs (λ w k. h w (or_right (binds (free_occurrences (nameless [] q)) w) (list_any (λ p. binds (free_occurrences (nameless [] p)) w) qs) k)) i
 
-  hyps_left : hyps_image (term_subst a.terms 0) hs ≡ hs
-  hyps_left =
-      sym (image_hyps (term_subst a.terms 0) (λ n. subst_alpha a.terms 0 (strip n) n (strip_strip n)) hs ps ps is (terms_left ps (λ w k. term_stays a s.fixed.variables.items w says.1 (sound.variables w (free_in_hyps hs ps w is ∙ k))))) ∙ is
-    where
-      strip_strip : (n : Nameless) → strip (strip n) ≡ strip n
-      strip_strip (free v) = refl
-      strip_strip (bound i) = refl
-      strip_strip (fixed c t) = refl
-      strip_strip (app f x) = λ i. app (strip_strip f i) (strip_strip x i)
-      strip_strip (lam b t n) = ap (lam [] t) (strip_strip n)
+  pub hyps_left : ((v : List ℕ × TypeTree) → is_free_in (set.items hs) v ≡ true → binds vs v ≡ true) → hyps_image (term_subst a.terms 0) hs ≡ hs
+  hyps_left stay =
+      sym (image_hyps (term_subst a.terms 0) (λ n. subst_alpha a.terms 0 (strip n) n (strip_strip n)) hs ps ps is (terms_left ps (λ w k. term_stays a vs w says.1 (stay w (free_in_hyps hs ps w is ∙ k))))) ∙ is
+
+module _ (s : Source) (sound : IsSound s) (a : InstanceValue) (says : Says a (staying s.fixed.names.items s.fixed.variables.items)) (ps : List Named) (is : hyps_of ps ≡ (given_sequent s.given).hyps) where
+  abbrev pub hs : Hyps
+  hs = (given_sequent s.given).hyps
+
+  typed : hyps_image (types_inst a.types) hs ≡ hs
+  typed = hyps_typed a s.fixed.names.items s.fixed.variables.items says hs ps is sound.names
+
+  left : hyps_image (term_subst a.terms 0) hs ≡ hs
+  left = hyps_left a s.fixed.names.items s.fixed.variables.items says hs ps is sound.variables
 
   -- the rule's equation at the instance
   pub image_is : (basis : Items) (b : TypeTree) (r : RuleValue) (th : Theorem) → th ≡ side_equation basis hs b r → theorem_on th.basis (sequent_image (term_subst a.terms 0) (sequent_image (types_inst a.types) th.sequent)) ≡ theorem_on basis (sequent_of hs (equation (type_subst a.types b) (instantiated a 0 r.left) (instantiated a 0 r.right)))
   image_is basis b r th e =
       (λ i. theorem_on (e i).basis (sequent_image (term_subst a.terms 0) (sequent_image (types_inst a.types) (e i).sequent)))
-      ∙ (λ i. theorem_on basis (sequent_of ((ap (hyps_image (term_subst a.terms 0)) hyps_typed ∙ hyps_left) i) (equation (type_subst a.types b) (instantiated a 0 r.left) (instantiated a 0 r.right))))
+      ∙ (λ i. theorem_on basis (sequent_of ((ap (hyps_image (term_subst a.terms 0)) typed ∙ left) i) (equation (type_subst a.types b) (instantiated a 0 r.left) (instantiated a 0 r.right))))
 
 -- ---- instantiation applies
 module _ (basis : Items) where
-  types_all : (ps : List (TypeTree × List ℕ)) → AllByRecursion (λ p. is_type basis p.0 ≡ true) ps → are_types_for basis ps ≡ true
-  types_all [] h = refl
-  types_all (p ∷ ps) h = λ i. h.0 i && types_all ps h.1 i
-
   pair_over : (t : Named) (u : Named) (v : List ℕ × TypeTree) → u ≡ var v → named_type t ≡ Some v.1 → is_known basis (nameless [] t) ≡ true → is_pair_at basis (nameless [] t) u ≡ true
   pair_over t u v e typed known = ap (is_pair_at basis (nameless [] t)) e ∙ has_type_of basis (nameless [] t) v.1 (typed_known basis (nameless [] t) v.1 known (type_outside t ∙ typed))
 
-  pairs_over : (ps : List (Named × Named)) → (HasBadPair ps → ⊥) → TermsStand basis (nameless_pairs ps) → are_pairs_over basis ps ≡ true
+  pub pairs_over : (ps : List (Named × Named)) → (HasBadPair ps → ⊥) → TermsStand basis (nameless_pairs ps) → are_pairs_over basis ps ≡ true
   pairs_over [] good h = refl
   pairs_over ((t, var v) ∷ ps) good h = by (is_pair_at basis (nameless [] t) (var v)) refl (pairs_over ps (λ b. good (inr b)) h.1)
     where
@@ -227,22 +209,11 @@ module _ (rule : Rule) (basis : Items) (image : Sequent) (th : Theorem) (typed :
 pub ruleset applying = (type_unrefused, type_told, term_unrefused, term_told)
 
 -- ---- the redex
--- what a match finds stands over the basis where the term does
-fit_stands : (basis : Items) (e : RuleEntry) (t : Nameless) (a : InstanceValue) → is_known basis t ≡ true → fit e t ≡ Some a → AllByRecursion (λ p. is_type basis p.0 ≡ true) a.types × TermsStand basis a.terms
-fit_stands basis e t a known h = by (matched 0 e.rule.left e.stays t) (matched_stands basis 0 e.rule.left e.stays t known) h
-  where
-    by : (o : Option InstanceValue) → Adds basis e.stays o → option_map (beside e.stays) o ≡ Some a → AllByRecursion (λ p. is_type basis p.0 ≡ true) a.types × TermsStand basis a.terms
-    by None k g = absurd (cc)
-    by (Some all) k g =
-        let rest : beside e.stays all ≡ a = cc in
-        let same : a ≡ k.0 = sym rest ∙ ap (beside e.stays) k.1 ∙ beside_both e.stays k.0 in
-        subst (λ z. AllByRecursion (λ p. is_type basis p.0 ≡ true) z.types × TermsStand basis z.terms) (sym same) k.2
-
 module _ (basis : Items) (r : SetRule) (general : Theorem) (is : IsRuleTheorem basis r general) (t : Named) (known : is_known_named basis t ≡ true) where
   own_basis : general.basis ≡ basis
   own_basis = ap (λ z. z.basis) is.1
 
-  stands : (a : InstanceValue) → fit (set_rule r) (nameless [] t) ≡ Some a → AllByRecursion (λ p. is_type basis p.0 ≡ true) a.types × TermsStand basis a.terms
+  stands : (a : InstanceValue) → fit (set_rule r) (nameless [] t) ≡ Some a → Stands basis a
   stands a e = fit_stands basis (set_rule r) (nameless [] t) a (known_outside basis t ∙ known) e
 
   pub types_fit : (a : InstanceValue) → fit (set_rule r) (nameless [] t) ≡ Some a → are_types_for general.basis a.types ≡ true

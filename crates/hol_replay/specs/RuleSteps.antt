@@ -10,7 +10,7 @@ use Rattle.hol_formulas.specs.Equation.{dest_eq}
 use Rattle.hol_kernel.specs.Items.{Items}
 use Rattle.hol_kernel.specs.Sequent.{Hyps}
 use Rattle.hol_kernel.specs.Theorem.{Theorem}
-use Rattle.hol_kernel.specs.Typing.{is_type, is_known}
+use Rattle.hol_kernel.specs.Typing.{is_type}
 use Rattle.hol_match.specs.Rules.{RuleValue, equation_rule}
 use Rattle.hol_match.specs.Ways.{stepped, way}
 use Rattle.hol_replay.specs.RuleTheorems.{side_equation}
@@ -47,7 +47,3 @@ IsEquation rule th r = (a : TypeTree) × (r ≡ side_equation th.basis th.sequen
 -- the rule of the formula is its equation
 abbrev pub is_taken : List (List ℕ) → List (List ℕ × TypeTree) → Nameless → Bool
 is_taken names variables p = is_some (option_and_then (equation_rule names variables) (dest_eq p))
-
--- the types and constants of each term stand
-abbrev pub TermsStand : Items → List (Nameless × (List ℕ × TypeTree)) → Type 0
-TermsStand basis pairs = AllByRecursion (λ p. is_known basis p.0 ≡ true) pairs

@@ -8,7 +8,6 @@ mod parts;
 mod redex_theorem;
 mod replaying;
 mod rule_theorems;
-mod unrefused;
 
 pub use conversion::beta_conversion;
 pub use replaying::replay;

@@ -11,11 +11,10 @@ ghost use Rattle.hol_match.specs.Contracta.{contracted};
 ghost use Rattle.hol_match.specs.Givens.{holds_given};
 ghost use Rattle.hol_match.specs.SetView.{set_rule, set_given};
 ghost use Rattle.hol_replay.specs.RuleTheorems.{redex_equation};
-ghost use Rattle.hol_replay.specs.RuleSteps.{TermsStand};
+ghost use Rattle.hol_match.specs.Standing.{TermsStand};
 
 use crate::rule_theorems::rule_theorem;
-use crate::unrefused::unrefused;
-use hol_equal::applied::{refl, trans};
+use hol_equal::applied::{refl, trans, unrefused};
 use hol_kernel::{Basis, Thm};
 use hol_match::{Instance, SetRule};
 use hol_terms::Term;

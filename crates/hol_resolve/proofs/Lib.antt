@@ -1,7 +1,6 @@
 pub mod Over
 pub mod Applied
 pub mod Measured
-pub mod Assumed
 pub mod Trying
 pub mod Suiting
 pub mod Standing

@@ -1,15 +1,12 @@
 -- Theorems as they are written: what rules make of theorems that are cited, innermost first and from left to right.
 -- Sources: the HOL Light Reference Manual (ASSUME, REFL, SPEC, SYM, CONJUNCT1, CONJUNCT2, MP, INST_TYPE), whose rules are those of hol_kernel, hol_equal and hol_bool;
 -- the order of refusals and the largest size are this project's.
-use Rattle.std.specs.Prelude.{ℕ, ◌+◌, List, [], ◌∷◌, true, cond, codes, nat_lt, bytes_eq, Option, Some, None, Result, Ok, Err}
+use Rattle.std.specs.Prelude.{ℕ, ◌+◌, List, [], ◌∷◌, cond, codes, nat_lt, bytes_eq, Option, Some, None, Result, Ok, Err}
 use Rattle.std.specs.Option.{option_map, option_and_then}
-use Rattle.std.specs.FinSet as set
 use Rattle.std.specs.Map.{lookup}
-use Rattle.std.specs.Set.{sorted_merge}
 use Rattle.hol_types.specs.Tree.{TypeTree, TyVar, TyApp}
 use Rattle.hol_terms.specs.Nameless.{Nameless, nameless_type}
 use Rattle.hol_terms.specs.Size.{term_size}
-use Rattle.hol_subst.specs.AlphaOrder.{nameless_cmp}
 use Rattle.hol_subst.specs.Closing.{open_with}
 use Rattle.hol_subst.specs.Substitution.{types_inst}
 use Rattle.hol_formulas.specs.Equation.{bool_type}
@@ -18,6 +15,7 @@ use Rattle.hol_kernel.specs.Rules.{reflexive, sequent_image}
 use Rattle.hol_kernel.specs.Sequent.{Hyps, only_hyp, Sequent, sequent_of}
 use Rattle.hol_kernel.specs.Theorem.{Theorem}
 use Rattle.hol_kernel.specs.Typing.{is_type_at}
+use Rattle.hol_match.specs.Listed.{listed}
 use Rattle.hol_equal.specs.Rules.{sym_of}
 use Rattle.hol_bool.specs.Rules.{conjunct1_of, conjunct2_of, mp_of}
 use Rattle.hol_notation_tactics.specs.Text.{TypePairText, ThmText, Cited, Assume, Refl, Spec, Sym, Conjunct1, Conjunct2, Mp, InstType}
@@ -81,15 +79,10 @@ pairs_at readings (p ∷ pairs) = option_map (λ ps. ps.0 ∷ ps.1) (both (pair_
 abbrev pub instantiated : Sequent → List (TypeTree × List ℕ) → Sequent
 instantiated a pairs = sequent_image (types_inst pairs) a
 
--- ---- sizes: a theorem counts all its terms
-
--- hypotheses, each once
-abbrev pub each_once : List Nameless → List Nameless
-each_once [] = []
-each_once (p ∷ ps) = sorted_merge nameless_cmp true (p ∷ []) (each_once ps)
+-- ---- sizes: a theorem counts all its terms, each hypothesis once
 
 abbrev pub sequent_size : Sequent → ℕ
-sequent_size s = term_size [] s.concl + terms_size (each_once (set.items s.hyps))
+sequent_size s = term_size [] s.concl + terms_size (listed s.hyps)
 
 -- what a rule gives: it may have 20,000 nodes
 abbrev pub small : Sequent → Result Sequent Refusal

@@ -8,4 +8,3 @@ pub mod Over
 pub mod Forward
 pub mod Written
 pub mod Steps
-pub mod Among

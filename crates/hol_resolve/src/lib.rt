@@ -7,7 +7,6 @@
 mod arguments;
 mod attempts;
 mod forward_rule;
-mod hypotheses;
 mod laws;
 mod lookups;
 mod pairs;
@@ -22,7 +21,6 @@ mod theorems;
 
 pub use arguments::arguments_written;
 pub use forward_rule::ForwardRule;
-pub use hypotheses::are_assumed;
 pub use laws::readings_are_over;
 pub use lookups::Lookups;
 pub use quotations::{AnyQuotation, quotations_of};

@@ -2,10 +2,10 @@
 use Rattle.std.proofs.Common.{◌≡◌, ℕ, ◌+◌, List, [], ◌++◌, Bool, true, false, Option, refl, arith, inl, inr}
 use Rattle.std.proofs.lemmas.Grind.{common_steps}
 use Rattle.std.specs.Io.KnownBytes.{Appends, Consumes, IsAtEnd}
+use Rattle.std.proofs.KnownBytes.{Appends-nil, Appends-trans, Consumes-nil, Consumes-trans}
 use Rattle.hol_serve.specs.Lines.{StandsFor, unless_empty, ended_lines, begun_line}
 use Rattle.hol_serve.specs.Session.{Answers, AnswersInPart, CountsUp, Finishes, StopsReading, StopsWriting}
-use Rattle.hol_serve.proofs.Known.{appends_nothing, appends_more, consumes_nothing, consumes_more}
-use Rattle.hol_serve.proofs.Cutting.{ended_lines-append, begun_line-append}
+use Rattle.hol_serve.proofs.Cutting.{ended_lines_joined, begun_line_joined}
 use Rattle.hol_serve.proofs.Sessions.{Machine, answers_more, part_after}
 
 -- what holds before each read
@@ -17,7 +17,7 @@ Runs may first left held holds old now kept overlong =
 pub run_starts : {S : Type 0} (may : Machine S) (first held : Option (List ℕ)) (old : S) (kept : List ℕ) (overlong : Bool)
     → StandsFor kept overlong [] → Runs may first first held held old old kept overlong
 unfolding ended_lines begun_line
-run_starts may first held old kept overlong h = ([], [], consumes_nothing first, h, appends_nothing held, (refl, refl, refl))
+run_starts may first held old kept overlong h = ([], [], Consumes-nil first, h, Appends-nil held, (refl, refl, refl))
 
 pub run_goes_on : {S : Type 0} (may : Machine S) (first left left' held holds holds' : Option (List ℕ)) (old now new : S) (kept kept' : List ℕ) (overlong overlong' : Bool) (chunk : List ℕ)
     → Runs may first left held holds old now kept overlong → Consumes left left' chunk
@@ -28,10 +28,10 @@ run_goes_on may first left left' held holds holds' old now new kept kept' overlo
     let (stands', more, appends', answers') = serve (begun_line [] read) stands in (
       read ++ chunk,
       replies ++ more,
-      consumes_more first left left' read chunk consumes takes,
-      rw (begun_line-append [] read chunk) stands',
-      appends_more held holds holds' replies more appends appends',
-      rw (ended_lines-append [] read chunk) (answers_more may old now new (ended_lines [] read) (ended_lines (begun_line [] read) chunk) replies more false answers answers'),
+      Consumes-trans first left left' read chunk consumes takes,
+      rw (begun_line_joined [] read chunk) stands',
+      Appends-trans held holds holds' replies more appends appends',
+      rw (ended_lines_joined [] read chunk) (answers_more may old now new (ended_lines [] read) (ended_lines (begun_line [] read) chunk) replies more false answers answers'),
     )
 
 pub run_closes : {S : Type 0} (may : Machine S) (first left left' held holds holds' : Option (List ℕ)) (old now new : S) (kept : List ℕ) (overlong : Bool) (chunk : List ℕ)
@@ -42,9 +42,9 @@ run_closes may first left left' held holds holds' old now new kept overlong chun
     let (more, appends', answers') = serve (begun_line [] read) stands in (
       read ++ chunk,
       replies ++ more,
-      consumes_more first left left' read chunk consumes takes,
-      appends_more held holds holds' replies more appends appends',
-      inr (rw (ended_lines-append [] read chunk)
+      Consumes-trans first left left' read chunk consumes takes,
+      Appends-trans held holds holds' replies more appends appends',
+      inr (rw (ended_lines_joined [] read chunk)
           (answers_more may old now new (ended_lines [] read) (ended_lines (begun_line [] read) chunk) replies more true answers answers')),
     )
 
@@ -56,9 +56,9 @@ run_fails may first left left' held holds holds' old now new kept overlong chunk
     let (more, appends', part) = serve (begun_line [] read) stands in (
       read ++ chunk,
       replies ++ more,
-      consumes_more first left left' read chunk consumes takes,
-      appends_more held holds holds' replies more appends appends',
-      inl (rw (ended_lines-append [] read chunk)
+      Consumes-trans first left left' read chunk consumes takes,
+      Appends-trans held holds holds' replies more appends appends',
+      inl (rw (ended_lines_joined [] read chunk)
           (part_after may old now new (ended_lines [] read) (ended_lines (begun_line [] read) chunk) replies more answers part)),
     )
 
@@ -67,7 +67,7 @@ pub run_stops : {S : Type 0} (may : Machine S) (first left left' held holds : Op
     → StopsReading may old now first left' held holds
 run_stops may first left left' held holds old now kept overlong (read, replies, consumes, stands, appends, answers) takes =
     let none : read ++ [] ≡ read = grind (arith, common_steps) in
-    (read, replies, rw none at (consumes_more first left left' read [] consumes takes), appends, answers)
+    (read, replies, rw none at (Consumes-trans first left left' read [] consumes takes), appends, answers)
 
 pub run_ends : {S : Type 0} (may : Machine S) (first left left' held holds holds' : Option (List ℕ)) (old now new : S) (kept : List ℕ) (overlong : Bool)
     → Runs may first left held holds old now kept overlong → Consumes left left' [] → IsAtEnd left'
@@ -78,8 +78,8 @@ run_ends may first left left' held holds holds' old now new kept overlong (read,
     let (more, closed, appends', answers') = serve (begun_line [] read) stands in (
       read,
       replies ++ more,
-      rw none at (consumes_more first left left' read [] consumes takes),
-      appends_more held holds holds' replies more appends appends',
+      rw none at (Consumes-trans first left left' read [] consumes takes),
+      Appends-trans held holds holds' replies more appends appends',
       inl (end, closed, answers_more may old now new (ended_lines [] read) (unless_empty (begun_line [] read)) replies more closed answers answers'),
     )
 
@@ -92,8 +92,8 @@ run_ends_in_part may first left left' held holds holds' old now new kept overlon
     let (more, appends', part) = serve (begun_line [] read) stands in (
       read,
       replies ++ more,
-      rw none at (consumes_more first left left' read [] consumes takes),
-      appends_more held holds holds' replies more appends appends',
+      rw none at (Consumes-trans first left left' read [] consumes takes),
+      Appends-trans held holds holds' replies more appends appends',
       inr (end, part_after may old now new (ended_lines [] read) (unless_empty (begun_line [] read)) replies more answers part),
     )
 

@@ -11,7 +11,7 @@ use crate::lines::{Fault, Reply, Service, Sink, Source, run_lines};
 use hol_document::Editable;
 use std::alloc::Global;
 
-/// Requests in lines of JSON.
+// Requests in lines of JSON.
 #[derive(Clone, Copy)]
 struct JsonLines;
 

@@ -1,10 +1,10 @@
 //! Elements of a history.
-ghost use Rattle.std.specs.Prelude.{◌≡◌, ◌≤◌, ◌++◌, ◌∷◌, [], length, drop, take, IfOk, OnOk};
+ghost use Rattle.std.specs.Prelude.{◌≡◌, ◌≤◌, ◌++◌, ◌∷◌, [], length, drop, take, IfOk};
 ghost use Rattle.std.specs.FinSet as set;
 ghost use Rattle.hol_kernel.specs.Extends.{Agree};
 
 use crate::basis::joined;
-use hol_goal::Goal;
+use hol_goal::{Goal, add_copies};
 use hol_just::Just;
 use hol_kernel::Basis;
 use std::alloc::{AllocError, Global};
@@ -133,14 +133,4 @@ impl Earlier {
             change: self.change.copy(alloc)?,
         })
     }
-}
-
-// Puts copies of the goals at the end.
-fn add_copies(alloc: Global, to: &mut Vec<Goal>, goals: &[Goal]) -> Result<(), AllocError>
-    ensures { OnOk result (to.new.items ≡ to.old.items ++ goals.now) }
-{
-    for goal in goals {
-        to.push(goal.copy(alloc)?)?;
-    }
-    Ok(())
 }

@@ -1,10 +1,9 @@
 -- What becomes of the names of bound variables in a substitution.
-use Rattle.std.proofs.Common.{◌≡◌, ℕ, ◌<◌, List, [], ◌∷◌, refl, ap, sym, ◌∙◌, subst, Bool, true, false, cond, not, ◌&&◌, ◌||◌, arith}
-use Rattle.std.proofs.lemmas.Bool.{or_left, or_right, or_parts, and_parts}
+use Rattle.std.proofs.Common.{◌≡◌, ℕ, List, [], ◌∷◌, refl, ap, sym, ◌∙◌, subst, Bool, true, false, cond, not, ◌&&◌, ◌||◌, arith}
+use Rattle.std.proofs.lemmas.Bool.{or_left, or_right, or_parts, and_parts, not-true}
 use Rattle.hol_types.specs.Tree.{TypeTree}
 use Rattle.hol_types.specs.Equal.{variable_eq}
 use Rattle.hol_terms.specs.Named.{Named, var, constant, comb, abs}
-use Rattle.hol_terms.specs.Primes.{with_primes, HasFewestPrimes}
 use Rattle.hol_terms.specs.Scoped.{occurs_in}
 use Rattle.hol_terms.proofs.Primes.{fewest_other}
 use Rattle.hol_terms.proofs.Same.{variable_eq_decides}
@@ -203,10 +202,6 @@ coming_captured ps v u b f n e = by (coming ps u b f e)
 pub taken_captured : (ps : List (Named × (List ℕ × TypeTree))) (v u : List ℕ × TypeTree) (b : Named) → Fit ps → has_pair ps v ≡ false → comes_in ps v b ≡ true → is_taken ps b u ≡ true → Captures (given ps) v b u
 taken_captured ps v u b f n e k = by (variable_eq v u) refl (occurs_in u b && not (has_pair ps u)) refl k
   where
-    negated : (t : Bool) → not t ≡ true → t ≡ false
-    negated true z = absurd (cc)
-    negated false z = refl
-
     by : (s : Bool) → variable_eq v u ≡ s → (t : Bool) → (occurs_in u b && not (has_pair ps u)) ≡ t → (t || comes_in ps u b) ≡ true → Captures (given ps) v b u
     by true p t q z = coming_captured ps v u b f n (ap (λ x. comes_in ps x b) (sym ((variable_eq_decides v u).0 p)) ∙ e)
     by false p true q z =
@@ -215,7 +210,7 @@ taken_captured ps v u b f n e k = by (variable_eq v u) refl (occurs_in u b && no
           other = u;
           in_body = parts.0;
           differs = p;
-          comes = ap (occurs_in u) (none_given ps u (var u) (negated (has_pair ps u) parts.1)) ∙ eq_same u;
+          comes = ap (occurs_in u) (none_given ps u (var u) (not-true (has_pair ps u) parts.1)) ∙ eq_same u;
         }
     by false p false q z = coming_captured ps v u b f n z
 

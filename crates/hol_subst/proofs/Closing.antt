@@ -1,5 +1,5 @@
 -- Closing and opening. The nameless term of an abstraction is the closed one of its body, and opening undoes closing.
-use Rattle.std.proofs.Common.{◌≡◌, ℕ, suc, ◌+◌, ◌<◌, ◌≤◌, List, [], ◌∷◌, ◌++◌, length, refl, ap, sym, ◌∙◌, Bool, true, false, cond, ◌||◌, nat_lt, ◌==◌, arith}
+use Rattle.std.proofs.Common.{◌≡◌, ℕ, suc, ◌+◌, ◌<◌, ◌≤◌, List, [], ◌∷◌, ◌++◌, length, refl, ap, sym, ◌∙◌, Bool, true, false, cond, nat_lt, ◌==◌, arith}
 use Rattle.std.proofs.lemmas.Bool.{or_parts}
 use Rattle.std.proofs.lemmas.Bool.Decides.{nat_tests}
 use Rattle.hol_types.specs.Tree.{TypeTree}
@@ -141,6 +141,31 @@ close_binds v k (bound i) = refl
 close_binds v k (fixed c s) = refl
 close_binds v k (app f x) = binds_append (free_occurrences (close v k f)) (free_occurrences (close v k x)) v ∙ rw (close_binds v k f, close_binds v k x) refl
 close_binds v k (lam a s b) = close_binds v (k + 1) b
+
+-- ---- shifting what was closed
+pub shift_index : (v : Var) (j m k i : ℕ) → m ≤ k → shift j m (close v k (bound i)) ≡ close v (k + j) (shift j m (bound i))
+shift_index v j m k i h = by (nat_lt i k) refl (nat_lt i m) refl
+  where
+    by : (a : Bool) → nat_lt i k ≡ a → (c : Bool) → nat_lt i m ≡ c → shift j m (bound (cond a i (i + 1))) ≡ close v (k + j) (bound (cond c i (i + j)))
+    by true p true q = let low : i < k = below_is i k p in rw (q, below i (k + j) (omega arith)) refl
+    by true p false q = let low : i < k = below_is i k p in rw (q, below (i + j) (k + j) (omega arith)) refl
+    by false p true q = let high : k ≤ i = not_below_is i k p in let low : i < m = below_is i m q in absurd (omega arith)
+    by false p false q =
+        let high : k ≤ i = not_below_is i k p in
+        rw (not_below (i + 1) m (omega arith), not_below (i + j) (k + j) (omega arith)) (ap bound (omega arith))
+
+pub shift_close : (v : List ℕ × TypeTree) (j m k : ℕ) (n : Nameless) → m ≤ k → shift j m (close v k n) ≡ close v (k + j) (shift j m n)
+shift_close v j m k (free w) h = by (variable_eq v w)
+  where
+    by : (c : Bool) → shift j m (cond c (bound k) (free w)) ≡ cond c (bound (k + j)) (free w)
+    by true = rw (not_below k m h) refl
+    by false = refl
+shift_close v j m k (bound i) h = shift_index v j m k i h
+shift_close v j m k (fixed c s) h = refl
+shift_close v j m k (app f x) h = λ i. app (shift_close v j m k f h i) (shift_close v j m k x h i)
+shift_close v j m k (lam a s b) h =
+    let more : k + 1 + j ≡ k + j + 1 = omega arith in
+    ap (lam a s) (shift_close v j (m + 1) (k + 1) b (omega arith) ∙ ap (λ z. close v z (shift j (m + 1) b)) more)
 
 -- ---- opening
 open_index : (v : Var) (k i : ℕ) → open_with (free v) k (bound (cond (nat_lt i k) i (i + 1))) ≡ bound i

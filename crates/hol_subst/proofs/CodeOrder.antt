@@ -5,7 +5,6 @@ use Rattle.std.specs.Cmp.{IsTotalOrder}
 use Rattle.std.specs.Cmp.Lexicographic.{slice_cmp}
 use Rattle.std.specs.FinSet.{IsAntisymmetric}
 use Rattle.std.specs.declared.cmp.Ordering.{Ordering}
-use Rattle.std.specs.declared.cmp.Ordering.TheVariants.{Less, Equal, Greater}
 use Rattle.hol_types.specs.Tree.{TypeTree, TypeList, TyVar, TyApp, no_types, more_types}
 use Rattle.hol_types.specs.Code.{name_code, type_code, types_code}
 use Rattle.hol_types.specs.Order.{name_cmp, type_cmp, types_cmp}
@@ -16,10 +15,10 @@ use Rattle.hol_subst.specs.AlphaOrder.{nameless_cmp}
 use Rattle.hol_subst.specs.CodeOrder.{flat, coded_cmp, coded_total, coded_same}
 
 -- two rows of numbers
-abbrev rows_cmp : List ℕ → List ℕ → Ordering
+abbrev pub rows_cmp : List ℕ → List ℕ → Ordering
 rows_cmp r q = slice_cmp nat_cmp r q
 
-name_rows : (a b r q : List ℕ) → rows_cmp (flat (name_code a) r) (flat (name_code b) q) ≡ ordering_then (name_cmp a b) (rows_cmp r q)
+pub name_rows : (a b r q : List ℕ) → rows_cmp (flat (name_code a) r) (flat (name_code b) q) ≡ ordering_then (name_cmp a b) (rows_cmp r q)
 name_rows [] [] r q = refl
 name_rows [] (y ∷ ys) r q = refl
 name_rows (x ∷ xs) [] r q = refl

@@ -1,5 +1,5 @@
 -- Substitution under a binder, where the binder's variable may be renamed.
-use Rattle.std.proofs.Common.{◌≡◌, ℕ, ◌+◌, List, [], refl, ap, sym, ◌∙◌, Bool, true, false, cond, ◌||◌, arith}
+use Rattle.std.proofs.Common.{◌≡◌, ℕ, ◌+◌, List, [], refl, ap, sym, ◌∙◌, Bool, true, false, cond, arith}
 use Rattle.std.proofs.lemmas.Bool.{or_left, or_right}
 use Rattle.hol_types.specs.Tree.{TypeTree}
 use Rattle.hol_types.specs.Equal.{variable_eq}

@@ -1,8 +1,8 @@
 -- One substitution after another is one substitution, and a term stays in which none of the variables is free.
-use Rattle.std.proofs.Common.{◌≡◌, ℕ, ◌+◌, ◌<◌, ◌≤◌, List, [], ◌∷◌, refl, ap, sym, ◌∙◌, Bool, true, false, cond, nat_lt, Option, Some, None, unwrap_or, arith}
+use Rattle.std.proofs.Common.{◌≡◌, ℕ, ◌+◌, ◌<◌, ◌≤◌, List, [], ◌∷◌, refl, ap, sym, ◌∙◌, Bool, true, false, cond, nat_lt, Some, unwrap_or, arith}
 use Rattle.hol_types.specs.Tree.{TypeTree}
 use Rattle.hol_types.specs.Equal.{variable_eq}
-use Rattle.hol_types.specs.Subst.{type_subst, types_composed}
+use Rattle.hol_types.specs.Subst.{types_composed}
 use Rattle.hol_types.proofs.SubstLaws.{type_subst_composed, type_untouched}
 use Rattle.hol_terms.specs.Nameless.{Nameless, free, bound, fixed, app, lam}
 use Rattle.hol_subst.specs.Shift.{shift}

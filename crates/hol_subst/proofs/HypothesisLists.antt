@@ -1,22 +1,25 @@
 -- Lists of hypotheses in order, and their sets.
-use Rattle.std.specs.Prelude.{◌≡◌, ℕ, ◌≤◌, Bool, true, false, cond, not, ◌||◌, List, [], ◌∷◌, ◌++◌, map, length, ◌-◌, take, drop, refl}
-use Rattle.std.proofs.Common.{ap, sym, ◌∙◌, subst, arith}
+use Rattle.std.specs.Prelude.{◌≡◌, ℕ, ◌≤◌, Bool, true, false, cond, not, ◌||◌, ◌&&◌, List, [], ◌∷◌, ◌++◌, map, length, ◌-◌, take, drop, refl}
+use Rattle.std.proofs.Common.{ap, sym, ◌∙◌, subst, arith, inl, inr}
+use Rattle.std.proofs.lemmas.Bool.{and_parts, and_from, or_left, or_right, or_cases}
+use mathlib.Core.Bool.{true≢false}
 use Rattle.std.specs.declared.cmp.Ordering.{Ordering}
 use Rattle.std.specs.declared.cmp.Ordering.TheVariants.{Less, Equal, Greater}
 use Rattle.std.specs.Ordering.{eq_by_cmp, is_eq, match_ordering}
-use Rattle.std.specs.Cmp.{IsTotalOrder, Equal-is, tied_itself}
+use Rattle.std.specs.Cmp.{IsTotalOrder, Equal-is, tied_itself, both_ways}
 use Rattle.std.specs.List.{filter, list_any}
 use Rattle.std.specs.List.Sorted.{IsStrictlySortedBy}
 use Rattle.std.specs.Set.{sorted_merge}
 use Rattle.std.specs.FinSet as set
 use Rattle.std.specs.Bool.{one_answer}
 use Rattle.std.proofs.lemmas.List.{take_rest, take-append-drop, map-append, nil_from_length}
+use Rattle.hol_subst.proofs.Strip.{strip_free}
 use Rattle.hol_types.specs.Tree.{TypeTree}
-use Rattle.hol_terms.specs.Nameless.{Nameless, free, bound, fixed, app, lam, nameless, free_occurrences}
+use Rattle.hol_terms.specs.Nameless.{Nameless, free, nameless, free_occurrences}
 use Rattle.hol_terms.specs.Scoped.{binds}
 use Rattle.hol_subst.specs.Variant.{is_free_in}
 use Rattle.hol_terms.specs.Named.{Named}
-use Rattle.hol_terms.specs.Alpha.{strip, alpha_eq}
+use Rattle.hol_terms.specs.Alpha.{alpha_eq}
 use Rattle.hol_terms.proofs.Alpha.{alpha_eq_decides}
 use Rattle.hol_subst.proofs.CodeOrder.{nameless_total, nameless_same}
 use Rattle.hol_subst.specs.Hypotheses.{Hyps, no_hyps, hyp_of, hyps_of}
@@ -87,6 +90,40 @@ merged_ordered ps qs all e s t =
     subst AreOrdered (sym e)
     (subst (IsStrictlySortedBy nameless_cmp) (sym (map_merged hyp_of nameless_cmp ps qs)) (sorted_merged hyps_total (map hyp_of ps) (map hyp_of qs) s t))
 
+-- ---- among others
+
+-- no hypothesis is among any
+pub empty_in : (s : Hyps) → set.is_subset no_hyps s ≡ true
+empty_in s = set.contains-is_subset hyps_total no_hyps s (λ q i. absurd (true≢false (sym i ∙ set.contains-empty nameless_cmp q)))
+
+-- one more is among those where it is one of them
+pub insert_in : (s : Hyps) (k : Nameless) (t : Hyps) → set.is_subset (set.insert s k) t ≡ set.contains t k && set.is_subset s t
+insert_in s k t =
+    both_ways (set.is_subset (set.insert s k) t) (set.contains t k && set.is_subset s t)
+    (λ h. and_from (set.contains t k) (set.is_subset s t)
+    (set.is_subset-contains hyps_total (set.insert s k) t h k (set.contains-insert hyps_total s k k ∙ or_left (eq_by_cmp nameless_cmp k k) (set.contains s k) (ap is_eq (tied_itself hyps_total k))))
+    (set.contains-is_subset hyps_total s t (λ q i. set.is_subset-contains hyps_total (set.insert s k) t h q (set.contains-insert hyps_total s k q ∙ or_right (eq_by_cmp nameless_cmp q k) (set.contains s q) i))))
+    (λ h.
+    let p = and_parts (set.contains t k) (set.is_subset s t) h in
+    set.contains-is_subset hyps_total (set.insert s k) t (λ q i. elim (or_cases (eq_by_cmp nameless_cmp q k) (set.contains s q) (sym (set.contains-insert hyps_total s k q) ∙ i)) [
+      | inl e ↦ ap (set.contains t) (hyps_same q k ((Equal-is (nameless_cmp q k)).0 e)) ∙ p.0
+      | inr j ↦ set.is_subset-contains hyps_total s t p.1 q j
+    ]))
+
+-- and two sets where both are
+pub union_in : (a b t : Hyps) → set.is_subset (set.union a b) t ≡ set.is_subset a t && set.is_subset b t
+union_in a b t =
+    both_ways (set.is_subset (set.union a b) t) (set.is_subset a t && set.is_subset b t)
+    (λ h. and_from (set.is_subset a t) (set.is_subset b t)
+    (set.contains-is_subset hyps_total a t (λ q i. set.is_subset-contains hyps_total (set.union a b) t h q (set.contains-union hyps_total a b q ∙ or_left (set.contains a q) (set.contains b q) i)))
+    (set.contains-is_subset hyps_total b t (λ q i. set.is_subset-contains hyps_total (set.union a b) t h q (set.contains-union hyps_total a b q ∙ or_right (set.contains a q) (set.contains b q) i))))
+    (λ h.
+    let p = and_parts (set.is_subset a t) (set.is_subset b t) h in
+    set.contains-is_subset hyps_total (set.union a b) t (λ q i. elim (or_cases (set.contains a q) (set.contains b q) (sym (set.contains-union hyps_total a b q) ∙ i)) [
+      | inl j ↦ set.is_subset-contains hyps_total a t p.0 q j
+      | inr j ↦ set.is_subset-contains hyps_total b t p.1 q j
+    ]))
+
 -- ---- but one
 
 alpha_key : (q p : Named) → alpha_eq (nameless [] q) (nameless [] p) ≡ eq_by_cmp nameless_cmp (hyp_of q) (hyp_of p)
@@ -126,13 +163,6 @@ union_right s t ps e is = sym (union_none_left hyps_total hyps_same t) ∙ ap (�
 
 -- ---- free variables
 
-free_stripped : (n : Nameless) → free_occurrences (strip n) ≡ free_occurrences n
-free_stripped (free v) = refl
-free_stripped (bound i) = refl
-free_stripped (fixed c s) = refl
-free_stripped (app f x) = λ i. free_stripped f i ++ free_stripped x i
-free_stripped (lam a s b) = free_stripped b
-
 abbrev has_free : List ℕ × TypeTree → Nameless → Bool
 has_free v n = binds (free_occurrences n) v
 
@@ -140,9 +170,14 @@ free_any : (ns : List Nameless) (v : List ℕ × TypeTree) → is_free_in ns v �
 free_any [] v = refl
 free_any (n ∷ ns) v = ap (λ b. has_free v n || b) (free_any ns v)
 
+-- a variable is free in one of the nameless terms of a list where it is free in one of the list
+pub free_in_list : (ts : List Named) (v : List ℕ × TypeTree) → is_free_in (map (λ t. nameless [] t) ts) v ≡ list_any (λ t. binds (free_occurrences (nameless [] t)) v) ts
+free_in_list [] v = refl
+free_in_list (t ∷ ts) v = ap (λ b. binds (free_occurrences (nameless [] t)) v || b) (free_in_list ts v)
+
 free_keys : (ps : List Named) (v : List ℕ × TypeTree) → list_any (has_free v) (map hyp_of ps) ≡ list_any (λ p. has_free v (nameless [] p)) ps
 free_keys [] v = refl
-free_keys (p ∷ ps) v = λ i. binds (free_stripped (nameless [] p) i) v || free_keys ps v i
+free_keys (p ∷ ps) v = λ i. binds (strip_free (nameless [] p) i) v || free_keys ps v i
 
 -- a variable is free in a hypothesis where it is free in a term of the list
 pub free_in_hyps : (hs : Hyps) (ps : List Named) (v : List ℕ × TypeTree) → hyps_of ps ≡ hs → is_free_in (set.items hs) v ≡ list_any (λ p. binds (free_occurrences (nameless [] p)) v) ps

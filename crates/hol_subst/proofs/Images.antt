@@ -16,7 +16,7 @@ use Rattle.hol_subst.proofs.HypothesisLists.{hyps_total, hyps_same}
 
 -- ---- base names left out
 
-strip_strip : (n : Nameless) → strip (strip n) ≡ strip n
+pub strip_strip : (n : Nameless) → strip (strip n) ≡ strip n
 strip_strip (free v) = refl
 strip_strip (bound i) = refl
 strip_strip (fixed c s) = refl

@@ -1,13 +1,12 @@
 -- A term ties with itself under binders that give its free variables one meaning.
 use Rattle.std.proofs.Common.{◌≡◌, ℕ, List, [], ◌∷◌, refl, sym, ap, ◌∙◌, Bool, true, false, cond}
 use Rattle.std.specs.Ordering.{ordering_then}
-use Rattle.std.specs.declared.cmp.Ordering.{Ordering}
 use Rattle.std.specs.declared.cmp.Ordering.TheVariants.{Less, Equal, Greater}
 use lib.Bits.{bit_and}
 use Rattle.hol_types.specs.Tree.{TypeTree}
 use Rattle.hol_types.specs.Equal.{variable_eq}
 use Rattle.hol_types.specs.Filter.{name_place}
-use Rattle.hol_types.specs.Order.{name_cmp, type_cmp}
+use Rattle.hol_types.specs.Order.{type_cmp}
 use Rattle.hol_types.proofs.Filters.{Apart, apart_bits, own_bit, or_has_left, or_has_right}
 use Rattle.hol_types.proofs.OrderLaws.{name_same, type_cmp_same}
 use Rattle.hol_terms.specs.Named.{Named, var, constant, comb, abs}

@@ -11,14 +11,7 @@ use Rattle.std.specs.List.{list_any, filter, AllByRecursion}
 use Rattle.std.specs.List.Sorted.{IsStrictlySortedBy}
 use Rattle.std.specs.Set.{sorted_merge, merge_step}
 use Rattle.std.specs.FinSet as set
-
-or_assoc : (a b c : Bool) → (a || (b || c)) ≡ ((a || b) || c)
-or_assoc true b c = refl
-or_assoc false b c = refl
-
-or_false : (a : Bool) → (a || false) ≡ a
-or_false true = refl
-or_false false = refl
+use Rattle.std.proofs.Math.Bool.{or-false, or_assoc}
 
 once : (t a b : Bool) → (t || (a || b)) ≡ ((t || a) || (t || b))
 once true a b = refl
@@ -43,7 +36,7 @@ by_test : (b : Bool) (P : Bool → Type 0) → (b ≡ true → P true) → (b �
 by_test true P f g = f refl
 by_test false P f g = g refl
 
-all_map : {K : Type 0} (P Q : K → Type 0) → ((x : K) → P x → Q x) → (xs : List K) → AllByRecursion P xs → AllByRecursion Q xs
+pub all_map : {K : Type 0} (P Q : K → Type 0) → ((x : K) → P x → Q x) → (xs : List K) → AllByRecursion P xs → AllByRecursion Q xs
 all_map P Q f [] a = tt
 all_map P Q f (x ∷ xs) a = (f x a.0, all_map P Q f xs a.1)
 
@@ -54,14 +47,14 @@ all_filter p P (x ∷ xs) a =
 
 any_append : {K : Type 0} (p : K → Bool) (xs ys : List K) → list_any p (xs ++ ys) ≡ (list_any p xs || list_any p ys)
 any_append p [] ys = refl
-any_append p (x ∷ xs) ys = ap (λ b. p x || b) (any_append p xs ys) ∙ or_assoc (p x) (list_any p xs) (list_any p ys)
+any_append p (x ∷ xs) ys = ap (λ b. p x || b) (any_append p xs ys) ∙ sym (or_assoc (p x) (list_any p xs) (list_any p ys))
 
 -- q is one of the list
 abbrev pub Among : {K : Type 0} → K → List K → Type 0
 Among q [] = ⊥
 Among q (x ∷ xs) = (q ≡ x) ⊎ Among q xs
 
-any_some : {K : Type 0} (p : K → Bool) (xs : List K) → list_any p xs ≡ true → (x : K) × Among x xs × (p x ≡ true)
+pub any_some : {K : Type 0} (p : K → Bool) (xs : List K) → list_any p xs ≡ true → (x : K) × Among x xs × (p x ≡ true)
 any_some p [] e = absurd (true≢false (sym e))
 any_some p (x ∷ xs) e =
     elim (or_cases (p x) (list_any p xs) e) [
@@ -69,7 +62,7 @@ any_some p (x ∷ xs) e =
       | inr g ↦ let a = any_some p xs g in (a.0, inr a.1, a.2)
     ]
 
-some_any : {K : Type 0} (p : K → Bool) (xs : List K) (x : K) → Among x xs → p x ≡ true → list_any p xs ≡ true
+pub some_any : {K : Type 0} (p : K → Bool) (xs : List K) (x : K) → Among x xs → p x ≡ true → list_any p xs ≡ true
 some_any p [] x h e = absurd h
 some_any p (y ∷ xs) x (inl f) e = ap (λ b. b || list_any p xs) (ap p (sym f) ∙ e)
 some_any p (y ∷ xs) x (inr g) e = ap (λ b. p y || b) (some_any p xs x g e) ∙ or_right (p y) true refl
@@ -149,10 +142,10 @@ module _ {K : Type 0} {R : K → K → Ordering} (o : IsTotalOrder R) where
     as_first x y k = ap is_eq (sym (alike_right o x y q k))
 
     has_step : (x : K) (xs : List K) → ((ys : List K) → has (sorted_merge R true xs ys) ≡ (has xs || has ys)) → (ys : List K) → has (sorted_merge R true (x ∷ xs) ys) ≡ (has (x ∷ xs) || has ys)
-    has_step x xs h [] = sym (or_false (has (x ∷ xs)))
+    has_step x xs h [] = sym (or-false (has (x ∷ xs)))
     has_step x xs h (y ∷ ys) =
         by_rank (λ l. has l ≡ (has (x ∷ xs) || has (y ∷ ys))) (R x y) _ _ _
-        (λ k. ap (λ b. eq_by_cmp R q x || b) (h (y ∷ ys)) ∙ or_assoc (eq_by_cmp R q x) (has xs) (has (y ∷ ys)))
+        (λ k. ap (λ b. eq_by_cmp R q x || b) (h (y ∷ ys)) ∙ sym (or_assoc (eq_by_cmp R q x) (has xs) (has (y ∷ ys))))
         (λ k. ap (λ b. eq_by_cmp R q x || b) (h ys) ∙ once (eq_by_cmp R q x) (has xs) (has ys) ∙ ap (λ t. has (x ∷ xs) || (t || has ys)) (sym (as_first x y k)))
         (λ k. ap (λ b. eq_by_cmp R q y || b) (has_step x xs h ys) ∙ swapped (eq_by_cmp R q y) (has (x ∷ xs)) (has ys))
 
@@ -241,7 +234,7 @@ module _ {K : Type 0} {R : K → K → Ordering} (o : IsTotalOrder R) where
     union_none_left s = set.same_set o only _ _ (λ q. set.contains-union o set.empty s q ∙ ap (λ b. b || set.contains s q) (set.contains-empty R q))
 
     pub union_none_right : (s : set.FinSet R) → set.union s set.empty ≡ s
-    union_none_right s = set.same_set o only _ _ (λ q. set.contains-union o s set.empty q ∙ ap (λ b. set.contains s q || b) (set.contains-empty R q) ∙ or_false (set.contains s q))
+    union_none_right s = set.same_set o only _ _ (λ q. set.contains-union o s set.empty q ∙ ap (λ b. set.contains s q || b) (set.contains-empty R q) ∙ or-false (set.contains s q))
 
     pub remove_none : (k : K) → set.remove (set.empty {R = R}) k ≡ set.empty
     remove_none k =

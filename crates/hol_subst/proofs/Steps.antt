@@ -6,7 +6,7 @@ use Rattle.hol_types.proofs.Steps.{next_of}
 use Rattle.hol_types.specs.Tree.{TypeTree}
 use Rattle.hol_types.specs.Equal.{variable_eq}
 use Rattle.hol_terms.specs.Named.{Named, var, constant, comb, abs, named_type}
-use Rattle.hol_terms.specs.Nameless.{Nameless, free, bound, fixed, app, lam, nameless, nameless_type}
+use Rattle.hol_terms.specs.Nameless.{free, app, nameless, nameless_type}
 use Rattle.hol_terms.proofs.Same.{variable_eq_decides}
 use Rattle.hol_terms.specs.Scoped.{occurs_in}
 use Rattle.hol_terms.proofs.Occurs.{occurs_is}

@@ -4,7 +4,7 @@ use Rattle.std.proofs.Common.{ap, sym, ◌∙◌}
 use Rattle.hol_types.specs.Tree.{TypeTree}
 use Rattle.hol_types.specs.Equal.{variable_eq}
 use Rattle.hol_types.specs.Names.{tyvars, insert_names}
-use Rattle.hol_types.proofs.Names.{insert_names-append}
+use Rattle.hol_types.proofs.Names.{insert_names_append}
 use Rattle.hol_terms.specs.Nameless.{place}
 use Rattle.hol_terms.specs.Scoped.{binds}
 use Rattle.hol_subst.specs.TermTyvars.{type_names_in}
@@ -23,4 +23,4 @@ bound_adds names env v e = sym (ap (insert_names names) (place_names env 0 v ∙
 pub free_adds : (names : List (List ℕ)) (env : List (List ℕ × TypeTree)) (v : List ℕ × TypeTree) → binds env v ≡ false → insert_names names (tyvars v.1) ≡ insert_names names (type_names_in (place env 0 v))
 free_adds names env v e = sym (ap (insert_names names) (place_names env 0 v ∙ ap (λ b. cond b [] (tyvars v.1)) e))
 
-pub ruleset terms = (bound_adds, free_adds, insert_names-append)
+pub ruleset terms = (bound_adds, free_adds, insert_names_append)

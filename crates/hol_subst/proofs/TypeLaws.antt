@@ -32,12 +32,12 @@ pairs_typed (p ∷ pairs) h w = by (variable_eq p.1 w) refl (pairs_typed pairs h
     by false q r = r
 
 -- ---- closing and opening
-get_front : (env : List TypeTree) (s : TypeTree) (i : ℕ) → i < length env → slice_get (env ++ s ∷ []) i ≡ slice_get env i
+pub get_front : (env : List TypeTree) (s : TypeTree) (i : ℕ) → i < length env → slice_get (env ++ s ∷ []) i ≡ slice_get env i
 get_front [] s i l = absurd (omega arith)
 get_front (t ∷ env) s zero l = refl
 get_front (t ∷ env) s (suc i) l = get_front env s i (omega arith)
 
-get_end : (env : List TypeTree) (s : TypeTree) → slice_get (env ++ s ∷ []) (length env) ≡ Some s
+pub get_end : (env : List TypeTree) (s : TypeTree) → slice_get (env ++ s ∷ []) (length env) ≡ Some s
 get_end [] s = refl
 get_end (t ∷ env) s = get_end env s
 

@@ -1,38 +1,17 @@
 -- Type instantiation keeps types up to the substitution.
-use Rattle.std.proofs.Common.{◌≡◌, ℕ, List, [], ◌∷◌, map, refl, ap, sym, ◌∙◌, Bool, true, false, cond, ◌||◌, bytes_eq, codes, Option, Some, None}
+use Rattle.std.proofs.Common.{◌≡◌, ℕ, List, [], ◌∷◌, map, refl, ap, sym, ◌∙◌, Option, Some, None}
 use Rattle.std.specs.Option.{option_map, option_and_then}
 use Rattle.std.proofs.lemmas.Option.{slice_get-map}
-use Rattle.std.proofs.lemmas.Slice.Eq.{bytes_eq-Decides}
-use Rattle.hol_types.specs.Tree.{TypeTree, TypeList, TyVar, TyApp, no_types, more_types}
+use Rattle.hol_types.specs.Tree.{TypeTree}
 use Rattle.hol_types.specs.Subst.{type_subst}
-use Rattle.hol_types.specs.Fun.{fun_type, both_of}
-use Rattle.hol_types.specs.Equal.{type_eq}
-use Rattle.hol_types.proofs.OrderLaws.{type_cmp_decides}
+use Rattle.hol_types.specs.Fun.{fun_type}
 use Rattle.hol_terms.specs.Named.{Named, named_type, applied_type}
 use Rattle.hol_terms.specs.Nameless.{Nameless, free, bound, fixed, app, lam, nameless, nameless_type}
-use Rattle.hol_terms.proofs.Typing.{type_outside}
+use Rattle.hol_terms.proofs.Typing.{type_outside, applied_fits}
+pub use Rattle.hol_terms.proofs.Typing.{applied_is}
 use Rattle.hol_subst.specs.Substitution.{types_inst}
 
 -- ---- types
--- what is applied is of a type of functions
-pub applied_is : (s t u : TypeTree) → applied_type s t ≡ Some u → s ≡ fun_type t u
-applied_is (TyVar a) t u e = absurd (cc)
-applied_is (TyApp c ts) t u e = by (bytes_eq c (codes "fun")) refl ts e
-  where
-    same : (b : Bool) (p q : TypeTree) → bytes_eq c (codes "fun") ≡ true → type_eq p t ≡ b → cond b (Some q) None ≡ Some u → TyApp c (more_types p (more_types q no_types)) ≡ fun_type t u
-    same true p q h i f = let g : q ≡ u = cc in λ j. TyApp ((bytes_eq-Decides c (codes "fun")).0 h j) (more_types ((type_cmp_decides p t).0 i j) (more_types (g j) no_types))
-    same false p q h i f = absurd (cc)
-
-    by : (b : Bool) → bytes_eq c (codes "fun") ≡ b → (us : TypeList) → option_and_then (λ p. cond (type_eq p.0 t) (Some p.1) None) (cond b (both_of us) None) ≡ Some u → TyApp c us ≡ fun_type t u
-    by true h no_types f = absurd (cc)
-    by true h (more_types p no_types) f = absurd (cc)
-    by true h (more_types p (more_types q no_types)) f = same (type_eq p t) p q h refl f
-    by true h (more_types p (more_types q (more_types r us))) f = absurd (cc)
-    by false h us f = absurd (cc)
-
-applied_fits : (t u : TypeTree) → applied_type (fun_type t u) t ≡ Some u
-applied_fits t u = ap (λ b. cond b (Some u) None) ((type_cmp_decides t t).1 refl)
-
 -- an application that fits still fits
 pub applied_inst : (pairs : List (TypeTree × List ℕ)) (s t u : TypeTree) → applied_type s t ≡ Some u → applied_type (type_subst pairs s) (type_subst pairs t) ≡ Some (type_subst pairs u)
 applied_inst pairs s t u e = ap (λ r. applied_type (type_subst pairs r) (type_subst pairs t)) (applied_is s t u e) ∙ applied_fits (type_subst pairs t) (type_subst pairs u)

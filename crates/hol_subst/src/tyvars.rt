@@ -1,15 +1,13 @@
 //! The type variables of a term.
-ghost use Rattle.std.specs.Prelude.{◌≡◌, ◌≤◌, IfOk, OnOk, MatchOption, [], length};
-ghost use Rattle.std.specs.List.{insert};
-ghost use Rattle.hol_types.specs.Names.{tyvars, insert_name, insert_names, is_among};
+ghost use Rattle.std.specs.Prelude.{◌≡◌, IfOk, OnOk, []};
+ghost use Rattle.hol_types.specs.Names.{tyvars, insert_names};
 ghost use Rattle.hol_terms.specs.Nameless.{nameless};
 ghost use Rattle.hol_terms.specs.Scope.{binders};
 ghost use Rattle.hol_subst.specs.TermTyvars.{type_names_in, term_tyvars, are_among};
 
 use hol_terms::{Scope, Term, TermNode};
-use hol_types::{Name, Ty};
+use hol_types::{Name, Ty, insert_name, is_among};
 use std::alloc::{AllocError, Global};
-use std::cmp::Ordering;
 
 /// The names of the type variables in the types of the term, each once, by bytes.
 pub fn term_tyvars(alloc: Global, term: &Term) -> Result<Vec<Name>, AllocError>
@@ -65,33 +63,9 @@ fn add_type(alloc: Global, ty: &Ty, names: &mut Vec<Name>) -> Result<(), AllocEr
 {
     let own = ty.tyvars(alloc)?;
     for name in &own {
-        add_name(names, name)?;
+        insert_name(names, name)?;
     }
     Ok(())
-}
-
-// Puts the name in its place, unless it is there.
-fn add_name(names: &mut Vec<Name>, name: &Name) -> Result<(), AllocError>
-    ensures { OnOk result (names.new.items ≡ insert_name name.now names.old.items) }
-{
-    if let Some(at) = place_of(names, name) {
-        names.insert(at, name.copy()?)?;
-    }
-    Ok(())
-}
-
-// The place of a name that is not there.
-fn place_of(names: &[Name], name: &Name) -> Option<usize>
-    ensures { MatchOption result (insert_name name.now names.now ≡ names.now) (λ at. (at ≤ length names.now) × (insert_name name.now names.now ≡ insert names.now at name.now)) }
-{
-    for (i, other) in names.iter().enumerate() {
-        match name.order(other) {
-            Ordering::Less => return Some(i),
-            Ordering::Equal => return None,
-            Ordering::Greater => {}
-        }
-    }
-    Some(names.len())
 }
 
 // Whether each of the names is one of the others.
@@ -104,16 +78,4 @@ fn are_among(own: &[Name], names: &[Name]) -> bool
         }
     }
     true
-}
-
-// Whether the name is one of these.
-fn is_among(own: &[Name], name: &Name) -> bool
-    ensures { result ≡ is_among own.now name.now }
-{
-    for other in own {
-        if name.same(other) {
-            return true;
-        }
-    }
-    false
 }

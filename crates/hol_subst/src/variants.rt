@@ -3,6 +3,7 @@ ghost use Rattle.std.specs.Prelude.{◌≡◌, [], map, IfOk};
 ghost use Rattle.hol_terms.specs.Nameless.{nameless};
 ghost use Rattle.hol_subst.specs.Variant.{is_free_in, IsVariant};
 
+use crate::hypotheses::is_free_in_one;
 use hol_terms::{Term, Variable};
 use std::alloc::{AllocError, Global};
 
@@ -21,10 +22,5 @@ pub fn variant(alloc: Global, avoid: &[Term], v: &Variable) -> Result<Variable, 
 fn free_in_any(avoid: &[Term], v: &Variable) -> bool
     ensures { result ≡ is_free_in (map (λ t. nameless [] t) avoid.now) v.now }
 {
-    for term in avoid {
-        if term.vfree_in(v) {
-            return true;
-        }
-    }
-    false
+    is_free_in_one(avoid, v)
 }

@@ -2,6 +2,7 @@
 use Rattle.std.specs.Prelude.{◌≡◌, List, [], ◌∷◌, Some, None}
 use Rattle.std.specs.Option.{option_map, option_and_then}
 use Rattle.std.proofs.Common.{ap, sym, ◌∙◌, subst}
+use Rattle.hol_kernel.proofs.Stands.{some_is}
 use Rattle.hol_types.specs.Tree.{TypeTree}
 use Rattle.hol_types.specs.Fun.{fun_type}
 use Rattle.hol_terms.specs.Named.{Named, comb, named_type}
@@ -59,9 +60,6 @@ same_domain d e r h = ap (λ t. fun_type t r) h
 
 some_domain : (d e r : TypeTree) → Some (fun_type d r) ≡ Some (fun_type e r) → d ≡ e
 some_domain d e r h = cc
-
-some_type : (d e : TypeTree) → Some d ≡ Some e → d ≡ e
-some_type d e h = cc
 
 -- terms that are equal up to bound names have one type
 like_types : (s t : Named) → strip (nameless [] s) ≡ strip (nameless [] t) → named_type s ≡ named_type t
@@ -121,7 +119,7 @@ module _ (goal : GoalValue) (f x g y : Named) (parts : AreApplications goal f x 
         let p = applied_parts f x parts.range parts.left in
         let q = applied_parts g y parts.range parts.right in
         p.function
-        ∙ ap Some (same_domain p.domain q.domain parts.range (some_type p.domain q.domain (sym p.argument ∙ like_types x y like ∙ q.argument)))
+        ∙ ap Some (same_domain p.domain q.domain parts.range (some_is p.domain q.domain (sym p.argument ∙ like_types x y like ∙ q.argument)))
         ∙ sym q.function
 
     pub ap_thm_valid :

@@ -1,38 +1,24 @@
 -- A variable of a name that is not taken is not free, and what calls say of such names.
-use Rattle.std.specs.Prelude.{◌≡◌, ℕ, Bool, true, false, ◌&&◌, ◌||◌, List, [], ◌∷◌, map, Result, Ok, Err, IfOk, refl}
-use Rattle.std.proofs.Common.{◌∙◌, ap, subst}
+use Rattle.std.specs.Prelude.{◌≡◌, ℕ, Bool, true, false, ◌||◌, List, [], ◌∷◌, map, Result, Ok, Err, IfOk, refl}
+use Rattle.std.proofs.Common.{◌∙◌, subst}
+use Rattle.std.proofs.lemmas.Bool.{or_parts}
+use Rattle.hol_match.proofs.Apartness.{name_free}
 use Rattle.hol_types.specs.Tree.{TypeTree}
-use Rattle.hol_types.specs.Equal.{type_eq}
 use Rattle.hol_terms.specs.Named.{Named}
-use Rattle.hol_terms.specs.Nameless.{Nameless, nameless, free, bound, fixed, app, lam, free_occurrences}
+use Rattle.hol_terms.specs.Nameless.{Nameless, nameless, free}
 use Rattle.hol_terms.specs.Primes.{HasFewestPrimes}
-use Rattle.hol_terms.specs.Scoped.{binds}
-use Rattle.hol_terms.proofs.Occurs.{binds_append}
 use Rattle.hol_subst.specs.FreeName.{has_name, is_taken, IsFreeName}
 use Rattle.hol_subst.specs.Variant.{is_free_in}
 use Rattle.hol_just.specs.FreeNames.{free_name}
 pub use Rattle.hol_match.proofs.FreshNames.{not_taken, is_free_name}
 
-or_false : (a b : Bool) → (a || b) ≡ false → (a ≡ false) × (b ≡ false)
-or_false true b e = absurd cc
-or_false false b e = (refl, e)
-
 -- ---- a variable of a name that is not taken is not free
-
-binds_no : (a : List ℕ) (s : TypeTree) (n : Nameless) → has_name a n ≡ false → binds (free_occurrences n) (a, s) ≡ false
-binds_no a s (free v) h = ap (λ b. (b && type_eq v.1 s) || false) h
-binds_no a s (bound i) h = refl
-binds_no a s (fixed c t) h = refl
-binds_no a s (app f x) h =
-    let p = or_false (has_name a f) (has_name a x) h in
-    binds_append (free_occurrences f) (free_occurrences x) (a, s) ∙ (λ i. binds_no a s f p.0 i || binds_no a s x p.1 i)
-binds_no a s (lam c t b) h = binds_no a s b h
 
 pub not_free : (avoid : List Nameless) (a : List ℕ) (s : TypeTree) → is_taken avoid a ≡ false → is_free_in avoid (a, s) ≡ false
 not_free [] a s h = refl
 not_free (n ∷ avoid) a s h =
-    let p = or_false (has_name a n) (is_taken avoid a) h in
-    λ i. binds_no a s n p.0 i || not_free avoid a s p.1 i
+    let p = or_parts (has_name a n) (is_taken avoid a) h in
+    λ i. name_free a s n p.0 i || not_free avoid a s p.1 i
 
 -- ---- what calls say
 

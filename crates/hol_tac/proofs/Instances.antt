@@ -1,7 +1,8 @@
 -- Quantified formulas at terms.
-use Rattle.std.specs.Prelude.{◌≡◌, ℕ, Bool, true, false, ◌||◌, List, [], ◌∷◌, map, codes, Result, Ok, Err, IfOk, Some, refl}
+use Rattle.std.specs.Prelude.{◌≡◌, ℕ, false, ◌||◌, List, [], ◌∷◌, map, codes, Result, Ok, Err, IfOk, Some, refl}
 use Rattle.std.specs.List.{list_any}
 use Rattle.std.proofs.Common.{ap, sym, ◌∙◌, subst, inl, inr}
+use Rattle.std.proofs.lemmas.Bool.{or_parts}
 use Rattle.hol_types.specs.Tree.{TypeTree}
 use Rattle.hol_terms.specs.Named.{Named, var, named_type}
 use Rattle.hol_terms.specs.Nameless.{Nameless, free, nameless, nameless_type, free_occurrences}
@@ -75,10 +76,6 @@ free_elsewhere goal w terms v same are absent =
     free_in_list terms v ∙ ap (λ (ns : List Nameless). is_free_in ns v) are
     ∙ ap (λ b. b || is_free_in goal.assumptions v) (sym (ap (λ t. binds (free_occurrences t) v) (sym same) ∙ absent))
 
-or_false : (a b : Bool) → (a || b) ≡ false → (a ≡ false) × (b ≡ false)
-or_false true b e = absurd cc
-or_false false b e = (refl, e)
-
 -- ---- the justifications
 
 module _ (goal : GoalValue) (w : Nameless) (same : w ≡ goal.conclusion) (moves : List Move) (x : Abstraction) where
@@ -95,7 +92,7 @@ module _ (goal : GoalValue) (w : Nameless) (same : w ≡ goal.conclusion) (moves
       IsValid always no_hyps moves (goal ∷ []) (concluding goal (open_with (free v) 0 x.body) ∷ [])
   gen_valid v taken typed absent leaves =
       let is : goal.conclusion ≡ universal x = sym same ∙ dest_quantifier_is (codes "!") w x taken in
-      let each = or_false (binds (free_occurrences goal.conclusion) v) (is_free_in goal.assumptions v) absent in
+      let each = or_parts (binds (free_occurrences goal.conclusion) v) (is_free_in goal.assumptions v) absent in
       subst (λ (g : Nameless). IsValid always no_hyps moves (goal_at goal.assumptions g ∷ []) (concluding goal (open_with (free v) 0 x.body) ∷ [])) (sym is)
       (leaves no_hyps goal.assumptions x typed (ap (λ (ns : List Nameless). is_free_in ns v) (items_empty hyps_total)) each.1
       (ap (λ t. binds (free_occurrences t) v) (sym is) ∙ each.0))

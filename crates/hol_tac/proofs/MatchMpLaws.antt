@@ -3,7 +3,7 @@ use Rattle.std.specs.Prelude.{◌≡◌, ℕ, Bool, true, false, cond, not, ◌&
 use Rattle.std.specs.Option.{option_map, option_and_then}
 use Rattle.std.specs.FinSet as set
 use Rattle.std.proofs.Common.{ap, sym, ◌∙◌, subst}
-use Rattle.std.proofs.lemmas.Bool.{or_left, or_right}
+use Rattle.std.proofs.lemmas.Bool.{or_left, or_right, or_parts}
 use Rattle.hol_types.specs.Tree.{TypeTree}
 use Rattle.hol_types.specs.Equal.{variable_eq}
 use Rattle.hol_terms.specs.Named.{Named, named_type}
@@ -31,11 +31,13 @@ use Rattle.hol_match.specs.Fixed.{stays_of}
 use Rattle.hol_match.specs.Matches.{IsMostGeneral}
 use Rattle.hol_match.specs.Matches as matches
 use Rattle.hol_match.specs.Matching.{matched}
+use Rattle.hol_match.specs.Rules.{nodes}
+use Rattle.hol_match.proofs.Formulas.{IsFormula}
+use Rattle.hol_match.proofs.Staying.{type_same}
 use Rattle.hol_goal.specs.Goal.{GoalValue}
 use Rattle.hol_goal.specs.Achieves.{assumed, AreAllowed}
 use Rattle.hol_goal.specs.Arguments.{Theorem}
 use Rattle.hol_just.specs.Leaving.{concluding, goal_terms, theorem_terms}
-use Rattle.hol_just.specs.Strip.{nodes}
 use Rattle.hol_just.specs.QuantifierTacs.{terms_by}
 use Rattle.hol_just.specs.MatchMp.{OpenedValue, opened, undetermined, existentials, premise_at, left_of_match, match_mp_by, match_mp_tac}
 use Rattle.hol_just.specs.Valid.{IsValid}
@@ -43,10 +45,9 @@ use Rattle.hol_just.specs.Justifies.{holds_given, AreNew, StandsUnder, HasInstan
 use Rattle.hol_just.specs.Answering.{IsJustified}
 use Rattle.hol_just.specs.declared.reason.Move.{Move}
 use Rattle.hol_just.specs.declared.tried.Step.{Step}
-use Rattle.hol_just.proofs.Givens.{IsFormula, HasFormulas}
 use Rattle.hol_just.proofs.QuantifierRules.{allowed_fresh}
 use Rattle.hol_just.proofs.Typings.{operands_typed}
-use Rattle.hol_just.proofs.MatchAlike.{AreAlike, GivesSame, matched_alike, alike_gives, same_instance, type_same}
+use Rattle.hol_just.proofs.MatchAlike.{AreAlike, GivesSame, matched_alike, alike_gives, same_instance}
 use Rattle.hol_just.proofs.MatchStays.{stays_alike}
 use Rattle.hol_just.proofs.MatchFixed.{stays_said, alone}
 use Rattle.hol_just.proofs.MatchOpened.{IsOpened, opened_is}
@@ -54,7 +55,7 @@ use Rattle.hol_just.proofs.MatchTyped.{premise_typed}
 use Rattle.hol_tac.specs.Matching.{IsFound}
 use Rattle.hol_tac.proofs.FreshNames.{not_free}
 use Rattle.hol_tac.proofs.Stages.{AreApart}
-use Rattle.hol_tac.proofs.TermsBy.{or_false, free_in_both}
+use Rattle.hol_tac.proofs.TermsBy.{free_in_both}
 
 -- ---- what is found
 
@@ -147,15 +148,15 @@ module _ (th : Given) (goal : GoalValue) where
   all_new extra us among absent v h =
       let hs = (given_sequent th).hyps in
       let none : is_free_in (terms_by th goal) v ≡ false = not_free (terms_by th goal) v.0 v.1 (absent v h) in
-      let parts = or_false (is_free_in (goal_terms goal) v) (is_free_in (theorem_terms th) v) (sym (free_in_both (goal_terms goal) (theorem_terms th) v) ∙ none) in
-      let mine = or_false (binds (free_occurrences goal.conclusion) v) (is_free_in goal.assumptions v) parts.0 in
-      let others = or_false (binds (free_occurrences (given_sequent th).concl) v) (is_free_in (set.items hs) v) parts.1 in
+      let parts = or_parts (is_free_in (goal_terms goal) v) (is_free_in (theorem_terms th) v) (sym (free_in_both (goal_terms goal) (theorem_terms th) v) ∙ none) in
+      let mine = or_parts (binds (free_occurrences goal.conclusion) v) (is_free_in goal.assumptions v) parts.0 in
+      let others = or_parts (binds (free_occurrences (given_sequent th).concl) v) (is_free_in (set.items hs) v) parts.1 in
       let within : AreAllowed hs [] extra = λ p g. in_union_left hyps_total hyps_same hs (assumed []) p (set.is_subset-contains hyps_total extra hs among p g) in
       record { of_extra = allowed_fresh hs [] extra v others.1 refl within; of_assumptions = mine.1; of_conclusion = mine.0 }
 
 -- ---- the justification
 
-module _ (th : Given) (goal : GoalValue) (o : OpenedValue) (is : opened (terms_by th goal) (given_sequent th).concl ≡ o) (conclusion : IsFormula th) (hypotheses : HasFormulas th) where
+module _ (th : Given) (goal : GoalValue) (o : OpenedValue) (is : opened (terms_by th goal) (given_sequent th).concl ≡ o) (conclusion : IsFormula th) where
   stands_under : StandsUnder th o.variables o.body
   stands_under basis suit =
       subst (IsOpened basis (given_sequent th).hyps (given_sequent th).concl) is
@@ -180,8 +181,7 @@ module _ (th : Given) (goal : GoalValue) (o : OpenedValue) (is : opened (terms_b
     is_formula : IsFormulaWith th goal.conclusion (premise_at o.variables (s, t) f)
     is_formula basis suit typed =
         let whole = subst (λ (n : Nameless). HasType basis n bool_type) body_is (stands_under basis suit).1 in
-        premise_typed basis found.listed t goal.conclusion f
-        (λ k m. hypotheses basis suit k (subst (λ (hs : Hyps). set.contains hs k ≡ true) found.are m)) typed found.found s t o.variables found.general.fits.typed
+        premise_typed basis found.listed t goal.conclusion f typed found.found s t o.variables found.general.fits.typed
         (operands_typed basis (codes "==>") s t bool_type whole).0
 
     pub justified :

@@ -3,6 +3,7 @@ use Rattle.std.specs.Prelude.{◌≡◌, ◌-◌, ℕ, zero, suc, true, false, c
 use Rattle.std.specs.Option.{option_map, option_or, unwrap_or}
 use Rattle.std.specs.List.{list_any}
 use Rattle.std.proofs.Common.{ap, sym, ◌∙◌, subst, inl, inr, arith}
+use Rattle.std.proofs.lemmas.Bool.{or_parts}
 use Rattle.hol_types.specs.Tree.{TypeTree}
 use Rattle.hol_terms.specs.Nameless.{Nameless, free, free_occurrences}
 use Rattle.hol_terms.specs.Scoped.{binds}
@@ -26,7 +27,7 @@ use Rattle.hol_just.proofs.Weaker.{AreAmong, IsWeaker, valid_weaker, valid_assum
 use Rattle.hol_tac.specs.Fresh.{AreAlike, AreApart, terms_of}
 use Rattle.hol_tac.specs.Parts.{with_pieces, AreParts, ArePartsBy, Becomes}
 use Rattle.hol_tac.specs.declared.pieces.Parts.{Parts}
-use Rattle.hol_tac.proofs.TermsBy.{free_in_both, or_false}
+use Rattle.hol_tac.proofs.TermsBy.{free_in_both}
 
 -- ---- which piece is which
 
@@ -112,10 +113,10 @@ module _ (p : Nameless) (w : WaitingValue) (extra : Hyps) (moves : List Move) wh
       let here = p ∷ (w.pieces ++ w.goal.assumptions) in
       let left = with_pieces (waiting (open_with (free v) 0 x.body ∷ w.pieces) w.goal) in
       let whole : p ≡ existential x = dest_quantifier_is (codes "?") p x is in
-      let all_parts = or_false (is_free_in names v) (is_free_in ((p ∷ w.pieces) ++ goal_terms w.goal) v) (sym (free_in_both names ((p ∷ w.pieces) ++ goal_terms w.goal) v) ∙ absent) in
-      let own_parts = or_false (is_free_in (p ∷ w.pieces) v) (is_free_in (goal_terms w.goal) v) (sym (free_in_both (p ∷ w.pieces) (goal_terms w.goal) v) ∙ all_parts.1) in
-      let of_pieces = or_false (binds (free_occurrences p) v) (is_free_in w.pieces v) own_parts.0 in
-      let of_goal = or_false (binds (free_occurrences w.goal.conclusion) v) (is_free_in w.goal.assumptions v) own_parts.1 in
+      let all_parts = or_parts (is_free_in names v) (is_free_in ((p ∷ w.pieces) ++ goal_terms w.goal) v) (sym (free_in_both names ((p ∷ w.pieces) ++ goal_terms w.goal) v) ∙ absent) in
+      let own_parts = or_parts (is_free_in (p ∷ w.pieces) v) (is_free_in (goal_terms w.goal) v) (sym (free_in_both (p ∷ w.pieces) (goal_terms w.goal) v) ∙ all_parts.1) in
+      let of_pieces = or_parts (binds (free_occurrences p) v) (is_free_in w.pieces v) own_parts.0 in
+      let of_goal = or_parts (binds (free_occurrences w.goal.conclusion) v) (is_free_in w.goal.assumptions v) own_parts.1 in
       valid_assumed extra moves here w.goal.conclusion p (left ∷ []) own
       (valid_weaker (holds_given (assumed p)) extra moves (goal_at here w.goal.conclusion ∷ []) (goal_at (open_with (free v) 0 x.body ∷ here) w.goal.conclusion ∷ []) (left ∷ [])
       (record { conclusion = refl; assumptions = λ r h. elim h [ inl e ↦ inl e | inr k ↦ inr (inr k) ] }, tt)

@@ -3,8 +3,9 @@ use Rattle.std.specs.Prelude.{◌≡◌, ◌<◌, ◌+◌, ℕ, List, [], ◌∷
 use Rattle.std.proofs.Common.{ap, sym, ◌∙◌, subst, arith}
 use Rattle.std.proofs.lemmas.List.{append_assoc, append-nil, map-append}
 use Rattle.hol_terms.specs.Nameless.{Nameless}
+use Rattle.hol_match.specs.Rules.{nodes}
 use Rattle.hol_goal.specs.Goal.{GoalValue}
-use Rattle.hol_just.specs.Strip.{piece, WaitingValue, waiting, becomes, Stripped, Leaves, RunsOut, before_goals, and_also, strip_each, strip, nodes, all_nodes}
+use Rattle.hol_just.specs.Strip.{piece, WaitingValue, waiting, becomes, Stripped, Leaves, RunsOut, before_goals, and_also, strip_each, strip, all_nodes}
 use Rattle.hol_just.specs.Valid.{IsValid}
 use Rattle.hol_just.specs.Justifies.{always}
 use Rattle.hol_just.specs.declared.reason.Move.{Move}

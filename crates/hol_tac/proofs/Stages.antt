@@ -14,10 +14,11 @@ use Rattle.hol_subst.specs.Closing.{open_with}
 use Rattle.hol_subst.specs.FreeName.{has_name, is_taken, IsFreeName}
 use Rattle.hol_formulas.specs.Formula.{Abstraction, universal, dest_forall}
 use Rattle.hol_formulas.proofs.FormulaLaws.{dest_quantifier_is}
+use Rattle.hol_match.specs.Rules.{apart, nodes}
+use Rattle.hol_match.proofs.Opened.{nodes_opened}
 use Rattle.hol_just.specs.FreeNames.{free_name}
-use Rattle.hol_just.specs.MatchMp.{OpenedValue, under, apart, opened_at, opened_in, opened}
-use Rattle.hol_just.specs.Strip.{nodes}
-use Rattle.hol_just.proofs.Pieces.{some_node, opened_nodes}
+use Rattle.hol_just.specs.MatchMp.{OpenedValue, under, opened_at, opened_in, opened}
+use Rattle.hol_just.proofs.Pieces.{some_node}
 use Rattle.hol_tac.specs.Fresh.{AreAlike}
 use Rattle.hol_tac.proofs.FreshNames.{named_new, not_taken}
 use Rattle.hol_tac.proofs.TermsBy.{taken_in_both}
@@ -74,7 +75,7 @@ fewer : (body : Nameless) (x : Abstraction) (v : List ℕ × TypeTree) → dest_
 fewer body x v e =
     let is : body ≡ universal x = dest_quantifier_is (codes "!") body x e in
     let same : nodes body ≡ nodes (universal x) = ap nodes is in
-    let opened : nodes (open_with (free v) 0 x.body) ≡ nodes x.body = opened_nodes v 0 x.body in
+    let opened : nodes (open_with (free v) 0 x.body) ≡ nodes x.body = nodes_opened v 0 x.body in
     omega (arith, same, opened)
 
 taken_more : (avoid more : List Nameless) (v : List ℕ × TypeTree) → AreAlike avoid more → AreAlike (avoid ++ free v ∷ []) (free v ∷ more)

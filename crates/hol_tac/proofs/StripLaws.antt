@@ -3,6 +3,7 @@ use Rattle.std.specs.Prelude.{◌≡◌, ℕ, true, false, ◌||◌, List, [], �
 use Rattle.std.specs.Option.{option_map, option_or}
 use Rattle.std.specs.FinSet as set
 use Rattle.std.proofs.Common.{ap, sym, ◌∙◌, subst}
+use Rattle.std.proofs.lemmas.Bool.{or_parts}
 use Rattle.hol_terms.specs.Named.{Named}
 use Rattle.hol_terms.specs.Nameless.{Nameless, free, nameless, free_occurrences}
 use Rattle.hol_terms.specs.Scoped.{binds}
@@ -39,7 +40,7 @@ use Rattle.hol_tac.specs.Fresh.{AreAlike, AreApart}
 use Rattle.hol_tac.specs.Parts.{with_pieces}
 use Rattle.hol_tac.specs.Stripping.{IsStripped, KeepsValid}
 use Rattle.hol_tac.proofs.Justified.{by_nothing}
-use Rattle.hol_tac.proofs.TermsBy.{or_false, collected, taken_in_hyps}
+use Rattle.hol_tac.proofs.TermsBy.{collected, taken_in_hyps}
 
 -- ---- the answer
 
@@ -105,7 +106,7 @@ module _ (goal : GoalValue) (turns : ℕ) (r : Result Tried TacFault) where
 pub apart_of : (th : Given) (extra : Hyps) → set.is_subset extra (given_sequent th).hyps ≡ true → AreApart (theorem_terms th) extra
 apart_of th extra among v h =
     let hs = (given_sequent th).hyps in
-    let parts = or_false (binds (free_occurrences (given_sequent th).concl) v) (is_free_in (set.items hs) v) h in
+    let parts = or_parts (binds (free_occurrences (given_sequent th).concl) v) (is_free_in (set.items hs) v) h in
     let within : AreAllowed hs [] extra = λ p k. in_union_left hyps_total hyps_same hs (assumed []) p (set.is_subset-contains hyps_total extra hs among p k) in
     allowed_fresh hs [] extra v parts.1 refl within
 

@@ -1,6 +1,9 @@
 -- Templates: terms with a variable that they do not have for each occurrence of a term.
 use Rattle.std.specs.Prelude.{◌≡◌, ◌⊎◌, ℕ, ◌+◌, ◌≤◌, Bool, true, false, cond, not, ◌||◌, List, [], ◌∷◌, ◌++◌, length, codes, Some, refl}
 use Rattle.std.proofs.Common.{ap, sym, ◌∙◌, inl, inr, arith, length-append}
+use Rattle.std.proofs.lemmas.Bool.{or_parts, false_from_ne_true}
+use Rattle.std.specs.Cmp.{both_ways}
+use Rattle.hol_just.proofs.EliminationRules.{same_free}
 use Rattle.hol_types.specs.Tree.{TypeTree}
 use Rattle.hol_types.specs.Equal.{variable_eq}
 use Rattle.hol_terms.specs.Named.{Named, var, constant, comb, abs, named_type}
@@ -15,7 +18,7 @@ use Rattle.hol_subst.specs.Closing.{close, open_with}
 use Rattle.hol_subst.specs.Substitution.{term_subst}
 use Rattle.hol_subst.proofs.Closing.{IsClosed, closed_named, closed_more, close_under, close_unchanged, close_binds, open_close}
 use Rattle.hol_subst.proofs.Opening.{open_close_subst}
-use Rattle.hol_subst.proofs.Strip.{strip_close, strip_open, strip_free}
+use Rattle.hol_subst.proofs.Strip.{strip_close, strip_open}
 use Rattle.hol_formulas.specs.Formula.{quantifier_type, universal}
 use Rattle.hol_formulas.specs.Making.{mk_forall}
 use Rattle.hol_bool.specs.Rules.{over_variable}
@@ -28,19 +31,6 @@ use Rattle.hol_tac.specs.Unused.{HasNo, AreShort}
 abbrev Variable : Type 0
 Variable = List ℕ × TypeTree
 
-or_false : (a b : Bool) → (a || b) ≡ false → (a ≡ false) × (b ≡ false)
-or_false true b e = absurd cc
-or_false false b e = (refl, e)
-
-one_test : (a b : Bool) → (a ≡ true → b ≡ true) → (b ≡ true → a ≡ true) → a ≡ b
-one_test true b f g = sym (f refl)
-one_test false true f g = g refl
-one_test false false f g = refl
-
-false_of : (b : Bool) → (b ≡ true → ⊥) → b ≡ false
-false_of true h = absurd (h refl)
-false_of false h = refl
-
 -- ---- a variable that a term does not have
 
 pub shorter : (m n : ℕ) (t : Named) → m ≤ n → AreShort m t → AreShort n t
@@ -50,7 +40,7 @@ shorter m n (comb f x) l h = (shorter m n f l h.0, shorter m n x l h.1)
 shorter m n (abs u b) l h = let first : length u.0 ≤ m = h.0 in (omega (arith, l, first), shorter m n b l h.1)
 
 not_same : (u v : Variable) (n : ℕ) → length u.0 ≤ n → length v.0 ≡ n + 1 → variable_eq u v ≡ false
-not_same u v n l e = false_of (variable_eq u v) (λ h. let same : length u.0 ≡ length v.0 = ap (λ x. length x.0) ((variable_eq_decides u v).0 h) in absurd (omega (arith, l, e, same)))
+not_same u v n l e = false_from_ne_true (variable_eq u v) (λ h. let same : length u.0 ≡ length v.0 = ap (λ x. length x.0) ((variable_eq_decides u v).0 h) in absurd (omega (arith, l, e, same)))
 
 pub longer_other : (v : Variable) (n : ℕ) (t : Named) → length v.0 ≡ n + 1 → AreShort n t → HasNo v t
 longer_other v n (var u) e h = not_same u v n h e
@@ -73,12 +63,9 @@ other_absent v t h = sym (occurs_is v t) ∙ other_occurs v t h
 
 -- ---- closing and replacing
 
-same_free : (u : Variable) (m n : Nameless) → strip m ≡ strip n → binds (free_occurrences m) u ≡ binds (free_occurrences n) u
-same_free u m n e = ap (λ vs. binds vs u) (sym (strip_free m)) ∙ ap (λ t. binds (free_occurrences t) u) e ∙ ap (λ vs. binds vs u) (strip_free n)
-
 module _ (s : Nameless) (closed : IsClosed 0 s) (u : Variable) (absent : binds (free_occurrences s) u ≡ false) where
   same_test : (k : ℕ) (n : Nameless) → alpha_eq (close u k n) s ≡ alpha_eq n s
-  same_test k n = one_test (alpha_eq (close u k n) s) (alpha_eq n s) back there
+  same_test k n = both_ways (alpha_eq (close u k n) s) (alpha_eq n s) back there
     where
       there : alpha_eq n s ≡ true → alpha_eq (close u k n) s ≡ true
       there h =
@@ -103,7 +90,7 @@ module _ (s : Nameless) (closed : IsClosed 0 s) (u : Variable) (absent : binds (
         by true e true f =
             let same : u ≡ w = (variable_eq_decides u w).0 e in
             let own : (variable_eq w w || false) ≡ false = same_free w (free w) s ((alpha_eq_decides (free w) s).0 f) ∙ ap (λ x. binds (free_occurrences s) x) (sym same) ∙ absent in
-            let z : true ≡ false = sym ((variable_eq_decides w w).1 refl) ∙ (or_false (variable_eq w w) false own).0 in
+            let z : true ≡ false = sym ((variable_eq_decides w w).1 refl) ∙ (or_parts (variable_eq w w) false own).0 in
             absurd cc
         by true e false f = ap (λ b. cond b (bound k) (free w)) e
         by false e true f = closed_variable k ∙ ap (λ a. cond a (free v) (free w)) (sym f)
@@ -134,14 +121,14 @@ module _ (s : Nameless) (closed : IsClosed 0 s) (u : Variable) (absent : binds (
 
 module _ (s r : Nameless) (u : Variable) (has : binds (free_occurrences s) u ≡ true) where
   differs : (n : Nameless) → binds (free_occurrences n) u ≡ false → alpha_eq n s ≡ false
-  differs n e = false_of (alpha_eq n s) (λ h. let z : true ≡ false = sym has ∙ sym (same_free u n s ((alpha_eq_decides n s).0 h)) ∙ e in absurd cc)
+  differs n e = false_from_ne_true (alpha_eq n s) (λ h. let z : true ≡ false = sym has ∙ sym (same_free u n s ((alpha_eq_decides n s).0 h)) ∙ e in absurd cc)
 
   stays : (n : Nameless) → binds (free_occurrences n) u ≡ false → replace_each s r n ≡ n
   stays (free w) e = ap (λ b. cond b r (free w)) (differs (free w) e)
   stays (bound i) e = refl
   stays (fixed c a) e = ap (λ b. cond b r (fixed c a)) (differs (fixed c a) e)
   stays (app f x) e =
-      let parts = or_false (binds (free_occurrences f) u) (binds (free_occurrences x) u) (sym (binds_append (free_occurrences f) (free_occurrences x) u) ∙ e) in
+      let parts = or_parts (binds (free_occurrences f) u) (binds (free_occurrences x) u) (sym (binds_append (free_occurrences f) (free_occurrences x) u) ∙ e) in
       ap (λ b. cond b r (app (replace_each s r f) (replace_each s r x))) (differs (app f x) e) ∙ (λ i. app (stays f parts.0 i) (stays x parts.1 i))
   stays (lam a d n) e = ap (λ b. cond b r (lam a d (replace_each s r n))) (differs (lam a d n) e) ∙ ap (lam a d) (stays n e)
 

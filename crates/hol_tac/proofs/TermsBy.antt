@@ -1,13 +1,15 @@
 -- Choosing a variable that a goal and a theorem do not have.
-use Rattle.std.specs.Prelude.{◌≡◌, ℕ, Bool, true, false, ◌||◌, List, [], ◌∷◌, ◌++◌, map, codes, Some, refl}
+use Rattle.std.specs.Prelude.{◌≡◌, ℕ, true, false, ◌||◌, List, [], ◌∷◌, ◌++◌, map, codes, Some, refl}
 use Rattle.std.specs.List.{list_any}
 use Rattle.std.specs.FinSet as set
 use Rattle.std.proofs.Common.{ap, sym, ◌∙◌}
+use Rattle.std.proofs.lemmas.Bool.{or_parts}
+use Rattle.std.proofs.Math.Bool.{or_assoc}
+use Rattle.hol_match.proofs.OrderedHyps.{strip_has}
 use Rattle.hol_types.specs.Tree.{TypeTree}
 use Rattle.hol_terms.specs.Named.{Named}
-use Rattle.hol_terms.specs.Nameless.{Nameless, free, bound, fixed, app, lam, nameless, free_occurrences}
+use Rattle.hol_terms.specs.Nameless.{Nameless, free, nameless, free_occurrences}
 use Rattle.hol_terms.specs.Scoped.{binds}
-use Rattle.hol_terms.specs.Alpha.{strip}
 use Rattle.hol_subst.specs.FreeName.{has_name, is_taken}
 use Rattle.hol_subst.specs.Variant.{is_free_in}
 use Rattle.hol_subst.specs.Hypotheses.{Hyps, hyp_of, hyps_of}
@@ -26,23 +28,15 @@ use Rattle.hol_just.specs.Justifies.{holds_given, LeavesChosen}
 use Rattle.hol_just.specs.declared.reason.Move.{Move}
 use Rattle.hol_just.proofs.QuantifierRules.{allowed_fresh}
 
-pub or_false : (a b : Bool) → (a || b) ≡ false → (a ≡ false) × (b ≡ false)
-or_false true b e = absurd cc
-or_false false b e = (refl, e)
-
-or_again : (a b c : Bool) → (a || (b || c)) ≡ ((a || b) || c)
-or_again true b c = refl
-or_again false b c = refl
-
 -- ---- two lists of terms
 
 pub free_in_both : (ns ms : List Nameless) (v : List ℕ × TypeTree) → is_free_in (ns ++ ms) v ≡ (is_free_in ns v || is_free_in ms v)
 free_in_both [] ms v = refl
-free_in_both (n ∷ ns) ms v = ap (λ b. binds (free_occurrences n) v || b) (free_in_both ns ms v) ∙ or_again (binds (free_occurrences n) v) (is_free_in ns v) (is_free_in ms v)
+free_in_both (n ∷ ns) ms v = ap (λ b. binds (free_occurrences n) v || b) (free_in_both ns ms v) ∙ sym (or_assoc (binds (free_occurrences n) v) (is_free_in ns v) (is_free_in ms v))
 
 pub taken_in_both : (ns ms : List Nameless) (a : List ℕ) → is_taken (ns ++ ms) a ≡ (is_taken ns a || is_taken ms a)
 taken_in_both [] ms a = refl
-taken_in_both (n ∷ ns) ms a = ap (λ b. has_name a n || b) (taken_in_both ns ms a) ∙ or_again (has_name a n) (is_taken ns a) (is_taken ms a)
+taken_in_both (n ∷ ns) ms a = ap (λ b. has_name a n || b) (taken_in_both ns ms a) ∙ sym (or_assoc (has_name a n) (is_taken ns a) (is_taken ms a))
 
 -- ---- the terms of a goal and a theorem
 
@@ -79,20 +73,13 @@ collected first pushed all hyps c ns n are push copies is =
     go [] = refl
     go (p ∷ ps) = ap (λ (ms : List Nameless). nameless [] p ∷ ms) (go ps)
 
-name_stripped : (a : List ℕ) (n : Nameless) → has_name a (strip n) ≡ has_name a n
-name_stripped a (free v) = refl
-name_stripped a (bound i) = refl
-name_stripped a (fixed c s) = refl
-name_stripped a (app f x) = λ i. name_stripped a f i || name_stripped a x i
-name_stripped a (lam c s b) = name_stripped a b
-
 taken_any : (ns : List Nameless) (a : List ℕ) → is_taken ns a ≡ list_any (has_name a) ns
 taken_any [] a = refl
 taken_any (n ∷ ns) a = ap (λ b. has_name a n || b) (taken_any ns a)
 
 taken_keys : (ps : List Named) (a : List ℕ) → list_any (has_name a) (map hyp_of ps) ≡ is_taken (map (nameless []) ps) a
 taken_keys [] a = refl
-taken_keys (p ∷ ps) a = λ i. name_stripped a (nameless [] p) i || taken_keys ps a i
+taken_keys (p ∷ ps) a = λ i. strip_has a (nameless [] p) i || taken_keys ps a i
 
 pub taken_in_hyps : (hs : Hyps) (ps : List Named) (a : List ℕ) → hyps_of ps ≡ hs → is_taken (set.items hs) a ≡ is_taken (map (nameless []) ps) a
 taken_in_hyps hs ps a is =
@@ -117,9 +104,9 @@ pub chosen_valid :
 chosen_valid th goal c x v moves concl taken same absent leaves extra among allowed =
     let hs = (given_sequent th).hyps in
     let is : (given_sequent th).concl ≡ existential x = sym concl ∙ dest_quantifier_is (codes "?") c x taken in
-    let parts = or_false (is_free_in (goal_terms goal) v) (is_free_in (theorem_terms th) v) (sym (free_in_both (goal_terms goal) (theorem_terms th) v) ∙ absent) in
-    let own = or_false (binds (free_occurrences goal.conclusion) v) (is_free_in goal.assumptions v) parts.0 in
-    let others = or_false (binds (free_occurrences (given_sequent th).concl) v) (is_free_in (set.items hs) v) parts.1 in
+    let parts = or_parts (is_free_in (goal_terms goal) v) (is_free_in (theorem_terms th) v) (sym (free_in_both (goal_terms goal) (theorem_terms th) v) ∙ absent) in
+    let own = or_parts (binds (free_occurrences goal.conclusion) v) (is_free_in goal.assumptions v) parts.0 in
+    let others = or_parts (binds (free_occurrences (given_sequent th).concl) v) (is_free_in (set.items hs) v) parts.1 in
     let within : AreAllowed hs [] extra = λ p h. in_union_left hyps_total hyps_same hs (assumed []) p (set.is_subset-contains hyps_total extra hs among p h) in
     leaves extra goal.assumptions x goal.conclusion is same
     (record { of_extra = allowed_fresh hs [] extra v others.1 refl within; of_assumptions = own.1; of_conclusion = own.0 })

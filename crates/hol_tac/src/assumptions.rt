@@ -1,5 +1,5 @@
 //! The functions that take assumptions out.
-ghost use Rattle.std.specs.Prelude.{◌≡◌, ◌++◌, ◌∷◌, map, IfOk, IfSome, MatchOption, OnOk, Some, None, []};
+ghost use Rattle.std.specs.Prelude.{◌≡◌, ◌∷◌, map, IfOk, IfSome, MatchOption, Some, None, []};
 ghost use Rattle.hol_terms.specs.Named.{named_type};
 ghost use Rattle.hol_terms.specs.Nameless.{nameless};
 ghost use Rattle.hol_formulas.specs.Equation.{bool_type};
@@ -15,7 +15,7 @@ use crate::steps::leaving_one;
 use hol_formulas::mk_imp;
 use hol_goal::{Goal, TacArgs};
 use hol_just::{Just, Step, TacFault, Tried};
-use hol_terms::Term;
+use hol_terms::{Term, add_copies};
 use std::alloc::{AllocError, Global};
 
 /// UNDISCH_TAC takes the newest assumption `p` that is the term out, and leaves `p ==> w` of `w`.
@@ -74,14 +74,4 @@ fn take_out(
         left = older;
     }
     Ok(None)
-}
-
-/// Puts copies of the terms at the end.
-pub(crate) fn add_copies(to: &mut Vec<Term>, terms: &[Term]) -> Result<(), AllocError>
-    ensures { OnOk result (to.new.items ≡ to.old.items ++ terms.now) }
-{
-    for term in terms {
-        to.push(term.copy()?)?;
-    }
-    Ok(())
 }

@@ -14,15 +14,14 @@ ghost use Rattle.hol_just.specs.QuantifierTacs.{terms_by};
 ghost use Rattle.hol_just.specs.Justifies.{LeavesChosen};
 ghost use Rattle.hol_just.specs.Answering.{AnswersCode, IsJustified};
 
-use crate::assumptions::add_copies;
-use crate::quantifiers::{all_terms, at, is_free_in_goal, is_free_in_one};
+use crate::quantifiers::{all_terms, at, is_free_in_goal};
 use crate::steps::{assume, leaving_one};
 use hol_formulas::{dest_exists, occurrence};
 use hol_goal::{Goal, TacArgs};
 use hol_just::{Just, Step, TacFault, Tried};
 use hol_kernel::Given;
-use hol_subst::free_name;
-use hol_terms::{Term, TermNode, Variable, base_name};
+use hol_subst::{free_name, is_free_in_one};
+use hol_terms::{Term, TermNode, Variable, add_copies, base_name};
 use hol_types::Name;
 use std::alloc::{AllocError, Global};
 

@@ -27,9 +27,9 @@ use crate::opening::Opened;
 use crate::steps::leaving_one;
 use hol_formulas::{dest_imp, mk_exists, mk_forall};
 use hol_goal::{Goal, TacArgs};
-use hol_just::{Just, Step, TacFault, Tried, given_typed};
+use hol_just::{Just, Step, TacFault, Tried};
 use hol_kernel::Given;
-use hol_match::{Instance, term_match};
+use hol_match::{Instance, conclusion_typed, term_match};
 use hol_terms::{Term, Variable};
 use std::alloc::{AllocError, Global};
 
@@ -57,7 +57,7 @@ fn match_mp_step(alloc: Global, th: &Given, goal: &Goal) -> Result<Option<Step>,
     ensures goals { IfOk result (λ o. match_mp_tac th.now goal.now ≡ option_map (λ step. step.goals.items) o) }
     ensures valid { IfOk result (λ o. IfSome o (λ step. IsJustified (Theorem th.now) goal.now step)) }
 {
-    given_typed(th);
+    conclusion_typed(th);
     let opened = Opened::of(alloc, all_terms_by(alloc, th, goal)?, th.concl())?;
     let Some((s, t)) = dest_imp(&opened.body) else {
         return Ok(None);

@@ -11,7 +11,6 @@ ghost use Rattle.hol_just.specs.Strip.{Conjuncts, Disjuncts, Property, Kept, pla
 ghost use Rattle.hol_tac.specs.Fresh.{AreAlike, IsNewBy, abstraction_of};
 ghost use Rattle.hol_tac.specs.Parts.{AreParts, ArePartsBy, Becomes};
 
-use crate::assumptions::add_copies;
 use crate::quantifiers::at;
 use crate::steps::assume;
 use crate::waiting::Waiting;
@@ -19,7 +18,7 @@ use hol_formulas::{dest_conj, dest_disj, dest_exists, is_falsity, is_truth, occu
 use hol_goal::Goal;
 use hol_just::{Just, assumption};
 use hol_subst::free_name;
-use hol_terms::{Term, Variable, base_name};
+use hol_terms::{Term, Variable, add_copies, base_name};
 use hol_types::Name;
 use std::alloc::{AllocError, Global};
 

@@ -1,9 +1,7 @@
 //! The functions on quantifiers.
 ghost use Rattle.std.specs.Prelude.{◌≡◌, ◌∷◌, false, map, IfOk, IsErrOf, Ok, Some, []};
-ghost use Rattle.std.specs.List.{list_any};
 ghost use Rattle.hol_terms.specs.Named.{named_type};
-ghost use Rattle.hol_terms.specs.Nameless.{free, nameless, base_of, free_occurrences};
-ghost use Rattle.hol_terms.specs.Scoped.{binds};
+ghost use Rattle.hol_terms.specs.Nameless.{free, nameless, base_of};
 ghost use Rattle.hol_subst.specs.Closing.{open_with};
 ghost use Rattle.hol_subst.specs.Variant.{is_free_in};
 ghost use Rattle.hol_subst.specs.declared.error.SubstError.TheVariants as SubstError;
@@ -15,13 +13,12 @@ ghost use Rattle.hol_just.specs.Leaving.{concluding, goal_terms};
 ghost use Rattle.hol_just.specs.Justifies.{LeavesProperty, LeavesAtWitness};
 ghost use Rattle.hol_just.specs.Answering.{AnswersCode, IsJustified};
 
-use crate::assumptions::add_copies;
 use crate::steps::leaving_one;
 use hol_formulas::{dest_exists, dest_forall, occurrence};
 use hol_goal::{Goal, TacArgs};
 use hol_just::{Just, Step, TacFault, Tried};
-use hol_subst::{SubstError, free_name, vsubst};
-use hol_terms::{Term, TermNode, Variable, base_name};
+use hol_subst::{SubstError, free_name, is_free_in_one, vsubst};
+use hol_terms::{Term, TermNode, Variable, add_copies, base_name};
 use hol_types::Name;
 use std::alloc::{AllocError, Global};
 
@@ -200,16 +197,4 @@ pub(crate) fn is_free_in_goal(goal: &Goal, v: &Variable) -> bool
         return true;
     }
     is_free_in_one(goal.assumptions(), v)
-}
-
-/// Whether the variable is free in a term of the list.
-pub(crate) fn is_free_in_one(terms: &[Term], v: &Variable) -> bool
-    ensures { result ≡ list_any (λ p. binds (free_occurrences (nameless [] p)) v.now) terms.now }
-{
-    for p in terms {
-        if p.vfree_in(v) {
-            return true;
-        }
-    }
-    false
 }

@@ -6,11 +6,10 @@ ghost use Rattle.hol_formulas.specs.Equation.{bool_type};
 ghost use Rattle.hol_formulas.specs.Formula.{implication};
 ghost use Rattle.hol_just.specs.Leaving.{concluding, assuming};
 
-use crate::assumptions::add_copies;
 use hol_formulas::mk_imp;
 use hol_goal::Goal;
 use hol_just::{Just, Step};
-use hol_terms::Term;
+use hol_terms::{Term, add_copies};
 use std::alloc::{AllocError, Global};
 
 /// A step that closes the goal.

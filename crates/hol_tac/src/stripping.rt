@@ -15,7 +15,6 @@ ghost use Rattle.hol_tac.specs.Fresh.{AreAlike};
 ghost use Rattle.hol_tac.specs.Progress.{progress_value, with_next, Goes};
 ghost use Rattle.hol_tac.specs.Stripping.{IsStripped, KeepsValid};
 
-use crate::assumptions::add_copies;
 use crate::connectives::conj_tac;
 use crate::pieces::becomes;
 use crate::progress::Progress;
@@ -25,7 +24,7 @@ use hol_formulas::{dest_imp, dest_neg, is_conj, is_forall, mk_falsity};
 use hol_goal::{Goal, TacArgs};
 use hol_just::{Just, TacFault, Tried};
 use hol_kernel::Given;
-use hol_terms::Term;
+use hol_terms::{Term, add_copies};
 use std::alloc::{AllocError, Global};
 
 /// STRIP_ASSUME_TAC assumes the parts of a theorem.

@@ -8,9 +8,8 @@ ghost use Rattle.hol_just.specs.Leaving.{goal_terms};
 ghost use Rattle.hol_just.specs.Strip.{waiting};
 ghost use Rattle.hol_tac.specs.Waiting.{IsFirst};
 
-use crate::assumptions::add_copies;
 use hol_goal::Goal;
-use hol_terms::Term;
+use hol_terms::{Term, add_copies};
 use std::alloc::{AllocError, Global};
 use std::marker::Model;
 

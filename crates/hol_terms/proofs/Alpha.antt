@@ -1,7 +1,7 @@
 -- The comparison under binders that leaves out base names is the test of alpha equivalence, and this decides equality of stripped terms.
-use Rattle.std.proofs.Common.{◌≡◌, ℕ, List, [], ◌∷◌, length, refl, ap, sym, ◌∙◌, Bool, true, false, ◌&&◌, bytes_eq, arith}
-use Rattle.std.specs.Bool.{Decides}
-use Rattle.std.proofs.lemmas.Bool.Decides.{Decides-eqb}
+use Rattle.std.proofs.Common.{◌≡◌, ℕ, List, [], ◌∷◌, length, refl, ap, sym, ◌∙◌, false, ◌&&◌, bytes_eq, arith}
+use Rattle.std.specs.Bool.{Decides, one_answer}
+use Rattle.std.proofs.lemmas.Bool.Decides.{Decides-and, Decides-eqb, Decides-like}
 use Rattle.std.proofs.lemmas.Slice.Eq.{bytes_eq-Decides}
 use Rattle.hol_types.specs.Tree.{TypeTree}
 use Rattle.hol_types.specs.Equal.{type_eq}
@@ -10,50 +10,43 @@ use Rattle.hol_terms.specs.Named.{Named, var, constant, comb, abs}
 use Rattle.hol_terms.specs.Nameless.{Nameless, free, bound, fixed, app, lam, base_of, place, nameless}
 use Rattle.hol_terms.specs.Alpha.{strip, alpha_eq}
 use Rattle.hol_terms.specs.Scoped.{same_place, same_named}
-use Rattle.hol_terms.proofs.Same.{and_decides, decides_other, never, variable_eq_decides, same_place_decides, IsPlace, place_is}
+use Rattle.hol_terms.proofs.Same.{never, variable_eq_decides, same_place_decides, IsPlace, place_is}
 
 abbrev Variables : Type 0
 Variables = List (List ℕ × TypeTree)
 
 pub alpha_eq_decides : (m n : Nameless) → Decides (alpha_eq m n) (strip m ≡ strip n)
-alpha_eq_decides (free v) (free w) = decides_other _ (λ e. ap free e) (λ e. let f : v ≡ w = cc in f) (variable_eq_decides v w)
+alpha_eq_decides (free v) (free w) = Decides-like _ (λ e. ap free e) (λ e. let f : v ≡ w = cc in f) (variable_eq_decides v w)
 alpha_eq_decides (free v) (bound j) = never (λ e. absurd (cc))
 alpha_eq_decides (free v) (fixed d t) = never (λ e. absurd (cc))
 alpha_eq_decides (free v) (app g y) = never (λ e. absurd (cc))
 alpha_eq_decides (free v) (lam c t d) = never (λ e. absurd (cc))
 alpha_eq_decides (bound i) (free w) = never (λ e. absurd (cc))
-alpha_eq_decides (bound i) (bound j) = decides_other _ (λ e. ap bound e) (λ e. let f : i ≡ j = cc in f) (Decides-eqb i j)
+alpha_eq_decides (bound i) (bound j) = Decides-like _ (λ e. ap bound e) (λ e. let f : i ≡ j = cc in f) (Decides-eqb i j)
 alpha_eq_decides (bound i) (fixed d t) = never (λ e. absurd (cc))
 alpha_eq_decides (bound i) (app g y) = never (λ e. absurd (cc))
 alpha_eq_decides (bound i) (lam c t d) = never (λ e. absurd (cc))
 alpha_eq_decides (fixed c s) (free w) = never (λ e. absurd (cc))
 alpha_eq_decides (fixed c s) (bound j) = never (λ e. absurd (cc))
 alpha_eq_decides (fixed c s) (fixed d t) =
-    decides_other _ (λ p i. fixed (p.0 i) (p.1 i)) (λ e. let p : c ≡ d = cc in let q : s ≡ t = cc in (p, q))
-    (and_decides (bytes_eq c d) (type_eq s t) (bytes_eq-Decides c d) (type_cmp_decides s t))
+    Decides-like _ (λ p i. fixed (p.0 i) (p.1 i)) (λ e. let p : c ≡ d = cc in let q : s ≡ t = cc in (p, q))
+    (Decides-and (bytes_eq c d) (type_eq s t) (bytes_eq-Decides c d) (type_cmp_decides s t))
 alpha_eq_decides (fixed c s) (app g y) = never (λ e. absurd (cc))
 alpha_eq_decides (fixed c s) (lam a t d) = never (λ e. absurd (cc))
 alpha_eq_decides (app f x) (free w) = never (λ e. absurd (cc))
 alpha_eq_decides (app f x) (bound j) = never (λ e. absurd (cc))
 alpha_eq_decides (app f x) (fixed d t) = never (λ e. absurd (cc))
 alpha_eq_decides (app f x) (app g y) =
-    decides_other _ (λ p i. app (p.0 i) (p.1 i)) (λ e. let p : strip f ≡ strip g = cc in let q : strip x ≡ strip y = cc in (p, q))
-    (and_decides _ _ (alpha_eq_decides f g) (alpha_eq_decides x y))
+    Decides-like _ (λ p i. app (p.0 i) (p.1 i)) (λ e. let p : strip f ≡ strip g = cc in let q : strip x ≡ strip y = cc in (p, q))
+    (Decides-and _ _ (alpha_eq_decides f g) (alpha_eq_decides x y))
 alpha_eq_decides (app f x) (lam c t d) = never (λ e. absurd (cc))
 alpha_eq_decides (lam a s b) (free w) = never (λ e. absurd (cc))
 alpha_eq_decides (lam a s b) (bound j) = never (λ e. absurd (cc))
 alpha_eq_decides (lam a s b) (fixed d t) = never (λ e. absurd (cc))
 alpha_eq_decides (lam a s b) (app g y) = never (λ e. absurd (cc))
 alpha_eq_decides (lam a s b) (lam c t d) =
-    decides_other _ (λ p i. lam [] (p.0 i) (p.1 i)) (λ e. let p : s ≡ t = cc in let q : strip b ≡ strip d = cc in (p, q))
-    (and_decides _ _ (type_cmp_decides s t) (alpha_eq_decides b d))
-
--- two tests of one fact are one
-one_test : {P : Type 0} (a b : Bool) → Decides a P → Decides b P → a ≡ b
-one_test true true p q = refl
-one_test true false p q = sym (q.1 (p.0 refl))
-one_test false true p q = p.1 (q.0 refl)
-one_test false false p q = refl
+    Decides-like _ (λ p i. lam [] (p.0 i) (p.1 i)) (λ e. let p : s ≡ t = cc in let q : strip b ≡ strip d = cc in (p, q))
+    (Decides-and _ _ (type_cmp_decides s t) (alpha_eq_decides b d))
 
 strip_place : (n : Nameless) → IsPlace n → strip n ≡ n
 strip_place (free v) p = refl
@@ -80,8 +73,8 @@ at_places : (left : Variables) (v : List ℕ × TypeTree) (right : Variables) (w
 at_places left v right w h =
     let l : strip (place left 0 v) ≡ place left 0 v = strip_place _ (place_is left 0 v) in
     let r : strip (place right 0 w) ≡ place right 0 w = strip_place _ (place_is right 0 w) in
-    one_test _ _ (same_place_decides left v right w 0 h)
-    (decides_other _ (λ e. sym l ∙ e ∙ r) (λ e. l ∙ e ∙ sym r) (alpha_eq_decides (place left 0 v) (place right 0 w)))
+    one_answer _ _ (same_place_decides left v right w 0 h)
+    (Decides-like _ (λ e. sym l ∙ e ∙ r) (λ e. l ∙ e ∙ sym r) (alpha_eq_decides (place left 0 v) (place right 0 w)))
 
 pub alpha_under : (left : Variables) (s : Named) (right : Variables) (t : Named) → length left ≡ length right → same_named false left s right t ≡ alpha_eq (nameless left s) (nameless right t)
 alpha_under left (var v) right (var w) h = at_places left v right w h

@@ -1,5 +1,5 @@
 -- Primes at the end of a name: cutting them off leaves its base, and adding one after another comes to an end.
-use Rattle.std.proofs.Common.{◌≡◌, ◌≢◌, ℕ, zero, suc, ◌+◌, ◌-◌, ◌<◌, ◌≤◌, List, [], ◌∷◌, ◌++◌, length, length-append, take, drop, add-one, below_more, refl, ap, sym, ◌∙◌, subst, Option, Some, None, IfSome, arith, lit<}
+use Rattle.std.proofs.Common.{◌≡◌, ◌≢◌, ℕ, zero, suc, ◌+◌, ◌-◌, ◌<◌, ◌≤◌, List, [], ◌∷◌, ◌++◌, length, length-append, take, drop, add-one, below_more, refl, ap, sym, ◌∙◌, subst, Bool, true, false, cond, ◌==◌, Option, Some, None, IfSome, arith, lit<}
 use Rattle.std.proofs.lemmas.List.{take-append-drop}
 use Rattle.std.proofs.Math.Seq.{drop-length}
 use Rattle.std.proofs.lemmas.Str.Pattern.{drop_at_char}
@@ -42,6 +42,19 @@ no_more r h = by h.0 h.1 h.2
 
 pub trimmed_base : (s r : List ℕ) → IsTrimEndMatches (FindsCharSuffix 39) s r → r ≡ base_of s
 trimmed_base s r h = sym (cut_all h.0.0 s r h.0.1 ∙ no_more r h.1)
+
+-- a base name has no primes at its end
+pub base_again : (a : List ℕ) → base_of (base_of a) ≡ base_of a
+base_again [] = refl
+base_again (x ∷ xs) = by (base_of xs) (base_again xs)
+  where
+    letter : (t : Bool) → (x == 39) ≡ t → base_of (cond t [] (x ∷ [])) ≡ cond t [] (x ∷ [])
+    letter true e = refl
+    letter false e = ap (λ b. cond b [] (x ∷ [])) e
+
+    by : (b : List ℕ) → base_of b ≡ b → base_of (with_letter x b) ≡ with_letter x b
+    by [] e = letter (x == 39) refl
+    by (y ∷ ys) e = ap (with_letter x) e
 
 -- primes change no base
 pub base_with_primes : (k : ℕ) (a : List ℕ) → base_of (with_primes k a) ≡ base_of a

@@ -1,7 +1,7 @@
 -- The comparison under binders decides equality of nameless terms.
-use Rattle.std.proofs.Common.{◌≡◌, ℕ, ◌+◌, ◌<◌, List, [], ◌∷◌, length, refl, ap, sym, Bool, true, false, cond, ◌&&◌, bytes_eq, arith, subst}
+use Rattle.std.proofs.Common.{◌≡◌, ℕ, ◌+◌, ◌<◌, List, [], ◌∷◌, length, refl, ap, sym, Bool, true, false, cond, bytes_eq, arith, subst}
 use Rattle.std.specs.Bool.{Decides}
-use Rattle.std.proofs.lemmas.Bool.{and_parts, and_from}
+use Rattle.std.proofs.lemmas.Bool.Decides.{Decides-and, Decides-like}
 use Rattle.std.proofs.lemmas.Slice.Eq.{bytes_eq-Decides}
 use Rattle.hol_types.specs.Tree.{TypeTree}
 use Rattle.hol_types.specs.Equal.{type_eq, variable_eq}
@@ -13,18 +13,10 @@ use Rattle.hol_terms.specs.Scoped.{same_place, same_named}
 abbrev Variables : Type 0
 Variables = List (List ℕ × TypeTree)
 
--- both tests hold where both facts do
-pub and_decides : {P Q : Type 0} (a b : Bool) → Decides a P → Decides b Q → Decides (a && b) (P × Q)
-and_decides a b p q = (λ e. let t = and_parts a b e in (p.0 t.0, q.0 t.1), λ h. and_from a b (p.1 h.0) (q.1 h.1))
-
--- a test of one fact is a test of another that says the same
-pub decides_other : {P Q : Type 0} (b : Bool) → (P → Q) → (Q → P) → Decides b P → Decides b Q
-decides_other b f g d = (λ e. f (d.0 e), λ h. d.1 (g h))
-
 pub variable_eq_decides : (v w : List ℕ × TypeTree) → Decides (variable_eq v w) (v ≡ w)
 variable_eq_decides v w =
-    decides_other (variable_eq v w) (λ p i. (p.0 i, p.1 i)) (λ e. (ap (λ u. u.0) e, ap (λ u. u.1) e))
-    (and_decides (bytes_eq v.0 w.0) (type_eq v.1 w.1) (bytes_eq-Decides v.0 w.0) (type_cmp_decides v.1 w.1))
+    Decides-like (variable_eq v w) (λ p i. (p.0 i, p.1 i)) (λ e. (ap (λ u. u.0) e, ap (λ u. u.1) e))
+    (Decides-and (bytes_eq v.0 w.0) (type_eq v.1 w.1) (bytes_eq-Decides v.0 w.0) (type_cmp_decides v.1 w.1))
 
 -- a place under j binders or more is not the index of one of the first
 pub place_above : (env : Variables) (i j : ℕ) (v : List ℕ × TypeTree) → i < j → place env j v ≡ bound i → ⊥
@@ -43,7 +35,7 @@ pub always : {P : Type 0} → P → Decides true P
 always p = (λ e. p, λ q. refl)
 
 pub same_place_decides : (left : Variables) (v : List ℕ × TypeTree) (right : Variables) (w : List ℕ × TypeTree) (i : ℕ) → length left ≡ length right → Decides (same_place left v right w) (place left i v ≡ place right i w)
-same_place_decides [] v [] w i h = decides_other (variable_eq v w) (λ e. ap free e) (λ e. let f : v ≡ w = cc in f) (variable_eq_decides v w)
+same_place_decides [] v [] w i h = Decides-like (variable_eq v w) (λ e. ap free e) (λ e. let f : v ≡ w = cc in f) (variable_eq_decides v w)
 same_place_decides [] v (r ∷ right) w i h = absurd (omega arith)
 same_place_decides (l ∷ left) v [] w i h = absurd (omega arith)
 same_place_decides (l ∷ left) v (r ∷ right) w i h = by (variable_eq l v) (variable_eq r w) (same_place_decides left v right w (i + 1) (omega arith)) refl refl
@@ -86,24 +78,24 @@ same_named_decides left (var v) right (comb g y) h = never (not_app (place left 
 same_named_decides left (var v) right (abs w c) h = never (not_lam (place left 0 v) (base_of w.0) w.1 (nameless (w ∷ right) c) (place_is left 0 v))
 same_named_decides left (constant c s) right (var w) h = never (λ e. not_fixed _ _ _ (place_is right 0 w) (sym e))
 same_named_decides left (constant c s) right (constant d t) h =
-    decides_other _ (λ p i. fixed (p.0 i) (p.1 i)) (λ e. let p : c ≡ d = cc in let q : s ≡ t = cc in (p, q))
-    (and_decides (bytes_eq c d) (type_eq s t) (bytes_eq-Decides c d) (type_cmp_decides s t))
+    Decides-like _ (λ p i. fixed (p.0 i) (p.1 i)) (λ e. let p : c ≡ d = cc in let q : s ≡ t = cc in (p, q))
+    (Decides-and (bytes_eq c d) (type_eq s t) (bytes_eq-Decides c d) (type_cmp_decides s t))
 same_named_decides left (constant c s) right (comb g y) h = never (λ e. absurd (cc))
 same_named_decides left (constant c s) right (abs w b) h = never (λ e. absurd (cc))
 same_named_decides left (comb f x) right (var w) h = never (λ e. not_app _ _ _ (place_is right 0 w) (sym e))
 same_named_decides left (comb f x) right (constant d t) h = never (λ e. absurd (cc))
 same_named_decides left (comb f x) right (comb g y) h =
-    decides_other _ (λ p i. app (p.0 i) (p.1 i)) (λ e. let p : nameless left f ≡ nameless right g = cc in let q : nameless left x ≡ nameless right y = cc in (p, q))
-    (and_decides (same_named true left f right g) (same_named true left x right y) (same_named_decides left f right g h) (same_named_decides left x right y h))
+    Decides-like _ (λ p i. app (p.0 i) (p.1 i)) (λ e. let p : nameless left f ≡ nameless right g = cc in let q : nameless left x ≡ nameless right y = cc in (p, q))
+    (Decides-and (same_named true left f right g) (same_named true left x right y) (same_named_decides left f right g h) (same_named_decides left x right y h))
 same_named_decides left (comb f x) right (abs w c) h = never (λ e. absurd (cc))
 same_named_decides left (abs v b) right (var w) h = never (λ e. not_lam _ _ _ _ (place_is right 0 w) (sym e))
 same_named_decides left (abs v b) right (constant d t) h = never (λ e. absurd (cc))
 same_named_decides left (abs v b) right (comb g y) h = never (λ e. absurd (cc))
 same_named_decides left (abs v b) right (abs w c) h =
-    decides_other _ (λ p i. lam (p.0 i) (p.1.0 i) (p.1.1 i))
+    Decides-like _ (λ p i. lam (p.0 i) (p.1.0 i) (p.1.1 i))
     (λ e. let p : base_of v.0 ≡ base_of w.0 = cc in let q : v.1 ≡ w.1 = cc in let r : nameless (v ∷ left) b ≡ nameless (w ∷ right) c = cc in (p, (q, r)))
-    (and_decides _ _ (bytes_eq-Decides (base_of v.0) (base_of w.0))
-    (and_decides _ _ (type_cmp_decides v.1 w.1) (same_named_decides (v ∷ left) b (w ∷ right) c (omega arith))))
+    (Decides-and _ _ (bytes_eq-Decides (base_of v.0) (base_of w.0))
+    (Decides-and _ _ (type_cmp_decides v.1 w.1) (same_named_decides (v ∷ left) b (w ∷ right) c (omega arith))))
 
 pub same_terms_decides : (s t : Named) → Decides (same_named true [] s [] t) (nameless [] s ≡ nameless [] t)
 same_terms_decides s t = same_named_decides [] s [] t refl

@@ -1,12 +1,34 @@
--- The type of a term from the types of its parts, and the type of a nameless term from the named one.
-use Rattle.std.proofs.Common.{◌≡◌, ℕ, ◌+◌, List, [], ◌∷◌, map, Bool, true, false, Some, slice_get, refl, ap, sym, ◌∙◌, add-zero, add-one, zero-add, arith}
-use Rattle.std.specs.Option.{option_map}
-use Rattle.hol_types.specs.Tree.{TypeTree}
-use Rattle.hol_types.specs.Fun.{fun_type}
-use Rattle.hol_types.specs.Equal.{variable_eq}
+-- What an application of fitting types says, the type of a term from the types of its parts, and the type of a nameless term from the named one.
+use Rattle.std.proofs.Common.{◌≡◌, ℕ, ◌+◌, List, [], ◌∷◌, map, Bool, true, false, cond, bytes_eq, codes, Some, None, slice_get, refl, ap, sym, ◌∙◌, add-zero, add-one, zero-add, arith}
+use Rattle.std.specs.Option.{option_map, option_and_then}
+use Rattle.std.proofs.lemmas.Slice.Eq.{bytes_eq-Decides}
+use Rattle.hol_types.specs.Tree.{TypeTree, TypeList, TyVar, TyApp, no_types, more_types}
+use Rattle.hol_types.specs.Fun.{fun_type, both_of}
+use Rattle.hol_types.specs.Equal.{type_eq, variable_eq}
+use Rattle.hol_types.proofs.OrderLaws.{type_cmp_decides}
 use Rattle.hol_terms.specs.Named.{Named, var, constant, comb, abs, named_type, applied_type}
 use Rattle.hol_terms.specs.Nameless.{place, nameless, nameless_type}
 use Rattle.hol_terms.proofs.Same.{variable_eq_decides}
+
+-- what is applied is of a type of functions
+pub applied_is : (s t u : TypeTree) → applied_type s t ≡ Some u → s ≡ fun_type t u
+applied_is (TyVar a) t u e = absurd (cc)
+applied_is (TyApp c ts) t u e = by (bytes_eq c (codes "fun")) refl ts e
+  where
+    same : (b : Bool) (p q : TypeTree) → bytes_eq c (codes "fun") ≡ true → type_eq p t ≡ b → cond b (Some q) None ≡ Some u → TyApp c (more_types p (more_types q no_types)) ≡ fun_type t u
+    same true p q h i f = let g : q ≡ u = cc in λ j. TyApp ((bytes_eq-Decides c (codes "fun")).0 h j) (more_types ((type_cmp_decides p t).0 i j) (more_types (g j) no_types))
+    same false p q h i f = absurd (cc)
+
+    by : (b : Bool) → bytes_eq c (codes "fun") ≡ b → (us : TypeList) → option_and_then (λ p. cond (type_eq p.0 t) (Some p.1) None) (cond b (both_of us) None) ≡ Some u → TyApp c us ≡ fun_type t u
+    by true h no_types f = absurd (cc)
+    by true h (more_types p no_types) f = absurd (cc)
+    by true h (more_types p (more_types q no_types)) f = same (type_eq p t) p q h refl f
+    by true h (more_types p (more_types q (more_types r us))) f = absurd (cc)
+    by false h us f = absurd (cc)
+
+-- a function fits an argument of its domain
+pub applied_fits : (t u : TypeTree) → applied_type (fun_type t u) t ≡ Some u
+applied_fits t u = ap (λ b. cond b (Some u) None) ((type_cmp_decides t t).1 refl)
 
 pub comb_type : (f x : Named) (s t : TypeTree) → named_type f ≡ Some s → named_type x ≡ Some t → named_type (comb f x) ≡ applied_type s t
 comb_type f x s t p q = rw (p, q) refl

@@ -11,7 +11,7 @@ mod term;
 mod variable;
 
 pub use base::base_name;
-pub use lists::{add_copies, copies};
+pub use lists::{add_copies, contains, copies};
 pub use scope::{Scope, same_place, with_binders};
 pub use term::{Term, TermError, TermNode};
 pub use variable::Variable;

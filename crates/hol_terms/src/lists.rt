@@ -1,7 +1,9 @@
-//! Copies of lists of terms.
+//! Lists of terms and of variables.
 ghost use Rattle.std.specs.Prelude.{◌≡◌, ◌++◌, IfOk, OnOk};
+ghost use Rattle.hol_terms.specs.Scoped.{binds};
 
 use crate::term::Term;
+use crate::variable::Variable;
 use std::alloc::{AllocError, Global};
 
 /// Copies of the terms.
@@ -23,4 +25,16 @@ pub fn add_copies(to: &mut Vec<Term>, terms: &[Term]) -> Result<(), AllocError>
         to.push(term.copy()?)?;
     }
     Ok(())
+}
+
+/// Whether the variable is one of these.
+pub fn contains(variables: &[Variable], v: &Variable) -> bool
+    ensures { result ≡ binds variables.now v.now }
+{
+    for u in variables {
+        if u.same(v) {
+            return true;
+        }
+    }
+    false
 }

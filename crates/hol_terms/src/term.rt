@@ -14,6 +14,7 @@ ghost use Rattle.hol_terms.specs.declared.term.TermError.TheVariants.{Memory};
 
 use crate::base::base_name;
 use crate::basic::is_basic_constant;
+use crate::lists::contains;
 use crate::scope::{Scope, same_place, with_binders};
 use crate::variable::Variable;
 use hol_mark::Mark;
@@ -458,18 +459,6 @@ impl TermNode {
             TermNode::Abs(v, b) => v.ty().is_basic() && b.is_basic(),
         }
     }
-}
-
-// Whether the variable is one of these.
-fn contains(variables: &[Variable], v: &Variable) -> bool
-    ensures { result ≡ binds variables.now v.now }
-{
-    for u in variables {
-        if u.same(v) {
-            return true;
-        }
-    }
-    false
 }
 
 // Whether the names are the same but for primes at their ends.

@@ -32,12 +32,13 @@ use Rattle.hol_theory.specs.Theory.{with_item, items_of, items_in, RestsOn, entr
 use Rattle.hol_theory.specs.Adding.{CanFollow}
 use Rattle.hol_theory.specs.Making.{type_entry, constant_entry, item_entries, IsNewDefinition, IsNewTypeDefinition, EachWithin}
 use Rattle.hol_theory.proofs.Declaring.{larger_holds, larger_within, item_found}
+use Rattle.hol_theory.proofs.Entries.{each_joined}
 use Rattle.hol_theory.proofs.Items.{with_old, with_own, after_cases, own_in_basis}
 use Rattle.hol_theory.proofs.Keys.{key_itself}
 
 -- ---- entries that rest on known items
 
-each_at : (es : Entries) (f : KeyValue × EntryValue) → EachIsEntry es → Among f es → IsEntry f.0 f.1
+pub each_at : (es : Entries) (f : KeyValue × EntryValue) → EachIsEntry es → Among f es → IsEntry f.0 f.1
 each_at [] f all i = absurd i
 each_at (e ∷ es) f all (inl is) = subst (λ (g : KeyValue × EntryValue). IsEntry g.0 g.1) (sym is) all.0
 each_at (e ∷ es) f all (inr i) = each_at es f all.1 i
@@ -129,10 +130,6 @@ module _ (x : Item) (basis : Items) (legal : IsLegalSet basis) (own : Holds basi
   made_within bound within =
       within_joined bound (map (type_entry x basis) (item_types x)) (map (constant_entry x basis) (item_constants x))
       (types_within bound within (item_types x)) (constants_within bound within (item_constants x))
-
-each_joined : (es fs : Entries) → EachIsEntry es → EachIsEntry fs → EachIsEntry (es ++ fs)
-each_joined [] fs all more = more
-each_joined (e ∷ es) fs all more = (all.0, each_joined es fs all.1 more)
 
 pub each_made : (x : Item) (basis : Items) → IsLegalSet basis → Holds basis x → EachIsEntry (item_entries x basis)
 each_made x basis legal own =

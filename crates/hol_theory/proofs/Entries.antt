@@ -89,7 +89,7 @@ apart P [] f all i = absurd i
 apart P (e ∷ es) f all (inl is) = subst (λ (g : KeyValue × EntryValue). P g.0) (sym is) all.0
 apart P (e ∷ es) f all (inr i) = apart P es f all.1 i
 
-other_way : (a b : KeyValue) → key_eq a b ≡ false → key_eq b a ≡ false
+pub other_way : (a b : KeyValue) → key_eq a b ≡ false → key_eq b a ≡ false
 other_way a b e = by (key_eq b a) refl
   where
     by : (t : Bool) → key_eq b a ≡ t → t ≡ false

@@ -3,6 +3,7 @@ use Rattle.std.specs.Prelude.{◌≡◌, ◌⊎◌, Bool, true, false, cond, Lis
 use Rattle.std.proofs.Common.{ap, sym, ◌∙◌, subst, inl, inr}
 use Rattle.std.specs.FinSet as set
 use Rattle.std.specs.List.{find}
+use Rattle.std.proofs.lemmas.Bool.{false_from_ne_true}
 use mathlib.Core.Bool.{true≢false}
 use Rattle.hol_kernel.specs.Item.{Item, declared_type, declared_constant, defined_constant, defined_type, declared_axiom}
 use Rattle.hol_kernel.specs.Items.{Items, Holds, IsSubset, item_set, in_order}
@@ -149,10 +150,6 @@ same_by_name es x y k of_x of_y has_x has_y =
     let is : x ≡ y = cc in
     is
 
-pub is_false : (b : Bool) → (b ≡ true → ⊥) → b ≡ false
-is_false true n = absurd (n refl)
-is_false false n = refl
-
 module _ (whole : Entries) where
   legal_with : (items : List Item) (key : KeyValue) (value : EntryValue) → IsEntry key value → IsSubset (entry_basis value) (item_set (with_item items (own_item key value))) →
       ((x : Item) → Holds (item_set (with_item items (own_item key value))) x → IsNamedIn whole x) → IsLegal items → IsLegal (with_item items (own_item key value))
@@ -167,7 +164,7 @@ module _ (whole : Entries) where
           (λ y h. elim (in_insert_cases total only (item_set items) x y (within_of_subset (entry_basis value) (set.insert (item_set items) x) rests y h)) [ inl is ↦ inr is | inr i ↦ inl i ]) in (
             λ k has. (
               sound.0 k has,
-              λ y i. is_false (has_key y k) (λ also.
+              λ y i. false_from_ne_true (has_key y k) (λ also.
                   let is : y ≡ x = same_by_name whole y x k (named y (in_insert_old total only (item_set items) x y i)) (named x (in_insert_here total only (item_set items) x)) also has in
                   true≢false (sym (subst (λ (z : Item). Holds (item_set items) z) is i) ∙ e)),
             ),

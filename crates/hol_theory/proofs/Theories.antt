@@ -2,6 +2,7 @@
 use Rattle.std.specs.Prelude.{◌≡◌, Bool, true, false, cond, List, [], ◌∷◌, ◌++◌, Option, Some, None, is_some, Result, Ok, Err, OnOk, OnErr, refl}
 use Rattle.std.proofs.Common.{ap, sym, ◌∙◌, subst, inl, inr}
 use Rattle.std.specs.FinSet as set
+use Rattle.std.proofs.lemmas.Bool.{false_from_ne_true}
 use Rattle.indexmap.specs.IndexMap.{insert_entry, insert_all}
 use Rattle.hol_kernel.specs.Item.{Item}
 use Rattle.hol_kernel.specs.Items.{Items, Holds, IsSubset, item_set}
@@ -17,7 +18,7 @@ use Rattle.hol_theory.specs.Theory.{with_item, items_of, items_in, RestsOn, entr
 use Rattle.hol_theory.specs.Adding.{AreNew, CanFollow}
 use Rattle.hol_theory.proofs.Keys.{key_itself}
 use Rattle.hol_theory.proofs.Entries.{at_left, at_right, stands_once, each_joined, inserted_new, all_inserted_new}
-use Rattle.hol_theory.proofs.Items.{with_old, with_cases, after_cases, after_own, items_joined, rests_joined, items_legal, same_by_name, is_false}
+use Rattle.hol_theory.proofs.Items.{with_old, with_cases, after_cases, after_own, items_joined, rests_joined, items_legal, same_by_name}
 
 theory_of : (es : Entries) → EachIsEntry es → RestsOn [] es → ((x : Item) → Holds (items_in es) x → IsNamedIn es x) → IsTheory es
 theory_of es each rests named = record { each = each; legal = items_legal es each rests named; rests = rests; named = named }
@@ -90,7 +91,7 @@ module _ {A B : Type 0} where
 pub free_name_is_new : (es : Entries) (k : ItemKey) → IsTheory es → entry_at (entry_key k) es ≡ None → prelude_has k ≡ false → IsNew (items_in es) k
 free_name_is_new es k t none own = (
   own,
-  λ y h. is_false (has_key y k) (λ has.
+  λ y h. false_from_ne_true (has_key y k) (λ has.
       let r = t.named y h k has in
       let e : None ≡ Some r.0 = sym none ∙ r.1 in
       absurd (cc)),

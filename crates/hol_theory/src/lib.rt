@@ -21,4 +21,5 @@ pub use making::{
     DefinedNames, Entries, item_at, item_entries, new_axiom, new_constant, new_definition,
     new_type, new_type_definition,
 };
+pub use same::same_basis;
 pub use value::{Value, ValueNode};

@@ -43,9 +43,9 @@ fn same_item(item: &Item, basis: &Basis, other_item: &Item, other_basis: &Basis)
     item.same(other_item) && same_basis(basis, other_basis)
 }
 
-// Whether the bases have the same items.
+/// Whether the bases have the same items.
 #[tactic(auto, using(crate::proofs::Comparing::same_bases))]
-fn same_basis(left: &Basis, right: &Basis) -> bool
+pub fn same_basis(left: &Basis, right: &Basis) -> bool
     ensures { IsTrue result ↔ (left.now ≡ right.now) }
 {
     same_items(left.items(), right.items())

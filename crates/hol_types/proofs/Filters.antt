@@ -5,9 +5,7 @@ use Rattle.std.specs.Int.{bit_at}
 use Rattle.std.specs.Int.Bits.{or_zero_l, or_zero_r}
 use lib.Bits.{bit_and, bit_or}
 use Rattle.std.specs.Option.{option_and_then}
-use Rattle.std.specs.Ordering.{is_eq, ordering_then}
-use Rattle.std.specs.declared.cmp.Ordering.{Ordering}
-use Rattle.std.specs.declared.cmp.Ordering.TheVariants.{Less, Equal, Greater}
+use Rattle.std.specs.Ordering.{is_eq}
 use Rattle.std.proofs.lemmas.Map.Text.{is_eq-slice_cmp}
 use Rattle.std.proofs.lemmas.Nat.{le_or_l, le_or_r}
 use Rattle.std.proofs.lemmas.Nat.Bits.{bit_at_and, bit_at_or, bit_at-pow_same, bit_at-lt, bit_at-zero, same_from_bits}
@@ -22,7 +20,7 @@ use Rattle.hol_types.specs.Order.{name_cmp, type_cmp, types_cmp}
 use Rattle.hol_types.specs.Equal.{type_eq}
 use Rattle.hol_types.specs.Match.{match_type, match_types}
 use Rattle.hol_types.specs.Filter.{name_place, name_bit, type_filter, types_filter, pairs_filter}
-use Rattle.hol_types.proofs.OrderLaws.{type_cmp_decides}
+use Rattle.hol_types.proofs.OrderLaws.{type_cmp_decides, is_eq_then}
 use Rattle.hol_types.proofs.Steps.{next_of}
 
 -- ---- places
@@ -161,11 +159,6 @@ filters_differ s t h = by (is_eq (type_cmp s t)) refl
     by false e = refl
 
 -- a pattern without variables matches itself alone
-is_eq_then : (r s : Ordering) → is_eq (ordering_then r s) ≡ (is_eq r && is_eq s)
-is_eq_then Less s = refl
-is_eq_then Equal s = refl
-is_eq_then Greater s = refl
-
 both_conds : {A : Type 0} (a b : Bool) (o q : Option A) → cond a (cond b o q) q ≡ cond (a && b) o q
 both_conds true b o q = refl
 both_conds false b o q = refl

@@ -6,19 +6,20 @@ use Rattle.hol_types.specs.Names.{type_names, types_names, insert_name, insert_n
 use Rattle.std.proofs.Common.{sym, ap, ◌∙◌, Bool, true, false, ◌||◌, bytes_eq}
 use Rattle.std.specs.Cmp.Lexicographic.{nat_list_cmp_total}
 use Rattle.std.specs.Ordering.{ordering_reverse}
+use Rattle.std.proofs.Math.Bool.{or-false}
 use Rattle.std.specs.declared.cmp.Ordering.{Ordering}
 use Rattle.std.specs.declared.cmp.Ordering.TheVariants.{Less, Equal, Greater}
 use Rattle.hol_types.specs.Names.{placed_name, tyvars, IsBelowAll, IsAscending, is_among}
 use Rattle.hol_types.specs.Order.{name_cmp}
 use Rattle.hol_types.proofs.OrderLaws.{name_equal}
 
-pub insert_names-append : (names xs ys : List (List ℕ)) → insert_names names (xs ++ ys) ≡ insert_names (insert_names names xs) ys
-insert_names-append names [] ys = refl
-insert_names-append names (x ∷ xs) ys = insert_names-append (insert_name x names) xs ys
+pub insert_names_append : (names xs ys : List (List ℕ)) → insert_names names (xs ++ ys) ≡ insert_names (insert_names names xs) ys
+insert_names_append names [] ys = refl
+insert_names_append names (x ∷ xs) ys = insert_names_append (insert_name x names) xs ys
 
 -- one turn of the loop over the arguments
 pub add_step : (names : List (List ℕ)) (xs : List TypeTree) (i : ℕ) (x : TypeTree) → i < length xs → x ≡ get_or xs i x → insert_names names (types_names (type_list (drop i xs))) ≡ insert_names (insert_names names (type_names x)) (types_names (type_list (drop (i + 1) xs)))
-add_step names xs i x h e = rw (next_of xs i x h e) (insert_names-append names (type_names x) (types_names (type_list (drop (i + 1) xs))))
+add_step names xs i x h e = rw (next_of xs i x h e) (insert_names_append names (type_names x) (types_names (type_list (drop (i + 1) xs))))
 
 -- The collected names are in order and are those that occur.
 or_shift : (a b c : Bool) → ((a || b) || c) ≡ (b || (a || c))
@@ -45,11 +46,7 @@ among_insert a (b ∷ names) x = by (name_cmp a b) refl (among_insert a names x)
     by Greater e h = ap (λ c. bytes_eq x b || c) h ∙ or_swap (bytes_eq x b) (bytes_eq x a) (is_among names x)
 
 among_all : (names more : List (List ℕ)) (x : List ℕ) → is_among (insert_names names more) x ≡ (is_among names x || is_among more x)
-among_all names [] x = or_none (is_among names x)
-  where
-    or_none : (b : Bool) → b ≡ (b || false)
-    or_none true = refl
-    or_none false = refl
+among_all names [] x = sym (or-false (is_among names x))
 among_all names (a ∷ more) x = among_all (insert_name a names) more x ∙ ap (λ c. c || is_among more x) (among_insert a names x) ∙ or_shift (bytes_eq x a) (is_among names x) (is_among more x)
 
 pub tyvars_among : (t : TypeTree) (a : List ℕ) → is_among (tyvars t) a ≡ is_among (type_names t) a

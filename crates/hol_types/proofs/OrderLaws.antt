@@ -1,5 +1,5 @@
 -- The order of types is total, and ties at equal types alone.
-use Rattle.std.proofs.Common.{◌≡◌, ◌≢◌, ℕ, ◌+◌, min, List, [], ◌∷◌, refl, sym, ap, ◌∙◌, subst, arith, Bool, true, false}
+use Rattle.std.proofs.Common.{◌≡◌, ◌≢◌, ℕ, ◌+◌, min, List, [], ◌∷◌, refl, sym, ap, ◌∙◌, subst, arith, Bool, true, false, ◌&&◌}
 use Rattle.std.specs.Ordering.{nat_cmp, ordering_then, is_eq}
 use Rattle.std.specs.Bool.{Decides}
 use Rattle.std.specs.Cmp.{IsTotalOrder, on_total, Equal-is, nat_cmp_is}
@@ -16,6 +16,12 @@ pub then_equal : (r s : Ordering) → ordering_then r s ≡ Equal → (r ≡ Equ
 then_equal Less s e = absurd (cc)
 then_equal Equal s e = (refl, e)
 then_equal Greater s e = absurd (cc)
+
+-- whether both of two comparisons tie
+pub is_eq_then : (r s : Ordering) → is_eq (ordering_then r s) ≡ (is_eq r && is_eq s)
+is_eq_then Less s = refl
+is_eq_then Equal s = refl
+is_eq_then Greater s = refl
 
 pub name_equal : (a b : List ℕ) → name_cmp a b ≡ Equal → a ≡ b
 name_equal a b e = (bytes_eq-Decides a b).0 (sym (is_eq-slice_cmp a b) ∙ ap is_eq e)

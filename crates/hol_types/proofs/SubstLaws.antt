@@ -40,3 +40,13 @@ mutual
   types_untouched pairs (more_types t ts) h = λ i. more_types
       (type_untouched pairs t (λ a e. h a (among_append (type_names t) (types_names ts) a ∙ or_left (is_among (type_names t) a) (is_among (types_names ts) a) e)) i)
       (types_untouched pairs ts (λ a e. h a (among_append (type_names t) (types_names ts) a ∙ or_right (is_among (type_names t) a) (is_among (types_names ts) a) e)) i)
+
+mutual
+  -- no pairs leave each type as it is
+  pub subst_none : (t : TypeTree) → type_subst [] t ≡ t
+  subst_none (TyVar a) = refl
+  subst_none (TyApp c ts) = ap (TyApp c) (substs_none ts)
+
+  pub substs_none : (ts : TypeList) → types_subst [] ts ≡ ts
+  substs_none no_types = refl
+  substs_none (more_types t ts) = λ i. more_types (subst_none t i) (substs_none ts i)

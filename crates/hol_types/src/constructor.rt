@@ -5,7 +5,7 @@ ghost use Rattle.hol_types.specs.Basic.{is_basic_constructor};
 use crate::name::Name;
 
 /// Whether the constructor is one of the prelude's, and has this arity.
-pub(crate) fn is_basic_constructor(constructor: &Name, arity: usize) -> bool
+pub fn is_basic_constructor(constructor: &Name, arity: usize) -> bool
     ensures { result ≡ is_basic_constructor constructor.now arity }
 {
     match constructor.as_str() {

@@ -6,9 +6,12 @@
 mod constructor;
 mod filter;
 pub mod laws;
+mod lists;
 mod name;
 mod ty;
 
+pub use constructor::is_basic_constructor;
 pub use filter::NameFilter;
+pub use lists::{insert_name, is_among, type_in};
 pub use name::Name;
 pub use ty::{Ty, TyNode};

@@ -1,9 +1,8 @@
 //! Types, which contracts see as finite trees.
-ghost use Rattle.std.specs.Prelude.{◌≡◌, ℕ, Some, None, OnOk, length, ◌≤◌, map, if◌then◌else◌, List, ◌++◌, [], ◌∷◌, min, IfOk, IfSome, IsNone, MatchOption, IsTrue, ◌↔◌};
-ghost use Rattle.std.specs.List.{insert};
+ghost use Rattle.std.specs.Prelude.{◌≡◌, ℕ, Some, None, OnOk, map, if◌then◌else◌, List, ◌++◌, [], ◌∷◌, min, IfOk, IfSome, IsNone, MatchOption, IsTrue, ◌↔◌};
 ghost use Rattle.hol_types.specs.Tree.{TypeTree, TyVar, TyApp, type_list, type_size};
-ghost use Rattle.hol_types.specs.Subst.{type_lookup, type_for, type_subst};
-ghost use Rattle.hol_types.specs.Names.{type_names, insert_name, insert_names, tyvars, IsAscending, is_among};
+ghost use Rattle.hol_types.specs.Subst.{type_for, type_subst};
+ghost use Rattle.hol_types.specs.Names.{type_names, insert_names, tyvars, IsAscending, is_among};
 ghost use Rattle.hol_types.specs.Match.{match_type, pairs_for, IsMatchOf, HasNoMatch};
 ghost use Rattle.hol_types.specs.Order.{type_cmp};
 ghost use Rattle.hol_types.specs.Equal.{type_eq};
@@ -14,6 +13,7 @@ ghost use Rattle.hol_types.specs.Basic.{is_basic};
 
 use crate::constructor::is_basic_constructor;
 use crate::filter::NameFilter;
+use crate::lists::{insert_name, type_in};
 use crate::name::Name;
 use hol_mark::Mark;
 use std::alloc::{AllocError, Global};
@@ -226,7 +226,7 @@ impl Ty {
             return self.copy();
         }
         match &self.shared.node {
-            TyNode::Var(name) => match replacement(pairs, name) {
+            TyNode::Var(name) => match type_in(pairs, name) {
                 Some(ty) => ty.copy(),
                 None => self.copy(),
             },
@@ -323,7 +323,7 @@ impl Ty {
             return Ok(());
         }
         match &self.shared.node {
-            TyNode::Var(name) => add_name(names, name),
+            TyNode::Var(name) => insert_name(names, name),
             TyNode::App(_, args) => {
                 for arg in args {
                     arg.add_names(names)?;
@@ -364,7 +364,7 @@ impl Ty {
             return Ok(self.same(target));
         }
         match (&self.shared.node, &target.shared.node) {
-            (TyNode::Var(name), _) => match replacement(found, name) {
+            (TyNode::Var(name), _) => match type_in(found, name) {
                 Some(earlier) => Ok(earlier.same(target)),
                 None => {
                     found.push((target.copy()?, name.copy()?))?;
@@ -449,30 +449,6 @@ impl TyNode {
     }
 }
 
-// Puts the name in its place, unless it is there.
-fn add_name(names: &mut Vec<Name>, name: &Name) -> Result<(), AllocError>
-    ensures { OnOk result (names.new.items ≡ insert_name name.now names.old.items) }
-{
-    if let Some(at) = place_of(names, name) {
-        names.insert(at, name.copy()?)?;
-    }
-    Ok(())
-}
-
-// The place of a name that is not there.
-fn place_of(names: &[Name], name: &Name) -> Option<usize>
-    ensures { MatchOption result (insert_name name.now names.now ≡ names.now) (λ at. (at ≤ length names.now) × (insert_name name.now names.now ≡ insert names.now at name.now)) }
-{
-    for (i, other) in names.iter().enumerate() {
-        match name.order(other) {
-            Ordering::Less => return Some(i),
-            Ordering::Equal => return None,
-            Ordering::Greater => {}
-        }
-    }
-    Some(names.len())
-}
-
 // The pairs in the order of the names.
 fn pairs_for(
     alloc: Global,
@@ -483,23 +459,11 @@ fn pairs_for(
 {
     let mut pairs = Vec::with_capacity(alloc, names.len())?;
     for name in names {
-        let ty = match replacement(found, name) {
+        let ty = match type_in(found, name) {
             Some(ty) => ty.copy()?,
             None => Ty::var(alloc, name)?,
         };
         pairs.push((ty, name.copy()?))?;
     }
     Ok(pairs)
-}
-
-// What stands for a variable: the first pair of its name counts.
-fn replacement<'a>(pairs: &'a [(Ty, Name)], name: &Name) -> Option<&'a Ty>
-    ensures { MatchOption result (type_lookup pairs.now name.now ≡ None) (λ ty. type_lookup pairs.now name.now ≡ Some ty.now) }
-{
-    for pair in pairs {
-        if pair.1.same(name) {
-            return Some(&pair.0);
-        }
-    }
-    None
 }

@@ -5,7 +5,7 @@ use Rattle.hol_terms.proofs.Alpha.{alpha_eq_decides}
 use Rattle.hol_formulas.specs.Formula.{dest_imp}
 use Rattle.hol_kernel.specs.Theorem.{Theorem}
 use Rattle.hol_equal.proofs.Answered.{gives}
-use Rattle.hol_bool.specs.Applied.{implied}
+use Rattle.hol_equal.specs.Applied.{concluded}
 use Rattle.hol_bool.specs.Rules.{mp_of}
 use Rattle.hol_bool.proofs.ConnectiveRules.{mp_is, mp_fits, mp_gives}
 use Rattle.hol_bool.proofs.connectives.mp.Goals as goal
@@ -29,7 +29,7 @@ returns-clause-sequent c =
     let q = nameless [] c.in-Some.field-0-1.now in
     let found : dest_imp s.concl ≡ Some (p, q) = ap dest_imp (sym c.concl.ensures.concl) ∙ c.in-Some.ensures.parts in
     let same : alpha_eq p b.concl ≡ true = search rules in
-    gives B (mp_of s b) (implied s b) c.in_ok-mp.field-0 (mp_gives s b p q found same) c.in_ok-mp.ensures
+    gives B (mp_of s b) (concluded s b) c.in_ok-mp.field-0 (mp_gives s b p q found same) c.in_ok-mp.ensures
 
 pub returns-clause-basis : goal.returns-clause-basis
 returns-clause-basis c =

@@ -1,11 +1,8 @@
 use Rattle.std.proofs.Common.{[], ap, refl, ◌∙◌, ◌≡◌}
-use Rattle.hol_formulas.specs.Equation.{bool_type}
 use Rattle.hol_formulas.specs.Formula.{disjunction}
-use Rattle.hol_kernel.specs.Items.{Items}
 use Rattle.hol_kernel.specs.Sequent.{only_hyp, sequent_of}
 use Rattle.hol_kernel.specs.Theorem.{theorem_on}
-use Rattle.hol_kernel.specs.Typing.{HasType}
-use Rattle.hol_terms.specs.Nameless.{Nameless, nameless}
+use Rattle.hol_terms.specs.Nameless.{nameless}
 use Rattle.hol_equal.proofs.Outcomes.{became}
 use Rattle.hol_bool.specs.Applied.{with_right}
 use Rattle.hol_bool.proofs.Instances.{typed_at}

@@ -7,9 +7,9 @@ use Rattle.hol_kernel.specs.Sequent.{sequent_of}
 use Rattle.hol_kernel.specs.Theorem.{theorem_on}
 use Rattle.hol_kernel.specs.Typing.{HasType}
 use Rattle.hol_equal.proofs.Outcomes.{became}
-use Rattle.hol_equal.specs.Applied.{lhs, rhs}
+use Rattle.hol_equal.specs.Applied.{lhs, rhs, concluded}
 use Rattle.hol_bool.proofs.Connected.{operands_are, operands_found, operands_typed}
-use Rattle.hol_bool.specs.Applied.{by_cases, discharged, implied}
+use Rattle.hol_bool.specs.Applied.{by_cases, discharged}
 use Rattle.hol_bool.specs.Unfolded.{either}
 use Rattle.hol_bool.proofs.disjunction.disj_cases.Goals as goal
 
@@ -53,7 +53,7 @@ one_case-requires-2 c =
     let are : (nameless [] c.in-Some.p.now ≡ p) × (nameless [] c.in-Some.q.now ≡ q) = operands_are (nameless [] c.in-Some.p.now) (nameless [] c.in-Some.q.now) p q (dest_disj (nameless [] c.concl.result.now)) c.in-Some.ensures.parts (ap dest_disj (c.concl.ensures.concl ∙ c.requires.is)) in
     let types = operands_typed B (codes "\\/") p q bool_type (subst (λ (n : Nameless). HasType B n bool_type) c.requires.is c.well_typed.ensures.conclusion) in
     let own : c.in_ok-either.either ≡ theorem_on B (sequent_of s.hyps (either p q t.concl)) = c.in_ok-either.ensures ∙ (λ i. theorem_on B (sequent_of s.hyps (either (are.0 i) (are.1 i) (c.concl-2.ensures.concl i)))) in
-    let rest : c.in_ok-rest.rest ≡ theorem_on B (implied (sequent_of s.hyps (either p q t.concl)) (discharged p t)) = c.in_ok-rest.ensures ∙ (λ i. theorem_on (own i).basis (implied (own i).sequent (discharged (are.0 i) t))) in
+    let rest : c.in_ok-rest.rest ≡ theorem_on B (concluded (sequent_of s.hyps (either p q t.concl)) (discharged p t)) = c.in_ok-rest.ensures ∙ (λ i. theorem_on (own i).basis (concluded (own i).sequent (discharged (are.0 i) t))) in
     rw (rest, are.1) record { one_basis = c.requires.same_basis; typed = types.1; is = refl; fits = c.requires.fits }
 
 pub returns : goal.returns
@@ -65,7 +65,7 @@ returns c =
     let q = rhs s.concl in
     let are : (nameless [] c.in-Some.p.now ≡ p) × (nameless [] c.in-Some.q.now ≡ q) = operands_are (nameless [] c.in-Some.p.now) (nameless [] c.in-Some.q.now) p q (dest_disj (nameless [] c.concl.result.now)) c.in-Some.ensures.parts (ap dest_disj (c.concl.ensures.concl ∙ c.requires.is)) in
     let own : c.in_ok-either.either ≡ theorem_on B (sequent_of s.hyps (either p q t.concl)) = c.in_ok-either.ensures ∙ (λ i. theorem_on B (sequent_of s.hyps (either (are.0 i) (are.1 i) (c.concl-2.ensures.concl i)))) in
-    let rest : c.in_ok-rest.rest ≡ theorem_on B (implied (sequent_of s.hyps (either p q t.concl)) (discharged p t)) = c.in_ok-rest.ensures ∙ (λ i. theorem_on (own i).basis (implied (own i).sequent (discharged (are.0 i) t))) in
+    let rest : c.in_ok-rest.rest ≡ theorem_on B (concluded (sequent_of s.hyps (either p q t.concl)) (discharged p t)) = c.in_ok-rest.ensures ∙ (λ i. theorem_on (own i).basis (concluded (own i).sequent (discharged (are.0 i) t))) in
     let u = c.args.c.now.sequent in
-    became c.one_case-2.result (theorem_on c.in_ok-rest.rest.basis (implied c.in_ok-rest.rest.sequent (discharged (nameless [] c.in-Some.q.now) u))) (theorem_on B (by_cases s t u)) c.one_case-2.ensures
-    (λ i. theorem_on (rest i).basis (implied (rest i).sequent (discharged (are.1 i) u)))
+    became c.one_case-2.result (theorem_on c.in_ok-rest.rest.basis (concluded c.in_ok-rest.rest.sequent (discharged (nameless [] c.in-Some.q.now) u))) (theorem_on B (by_cases s t u)) c.one_case-2.ensures
+    (λ i. theorem_on (rest i).basis (concluded (rest i).sequent (discharged (are.1 i) u)))

@@ -7,8 +7,8 @@ use Rattle.hol_kernel.specs.Items.{Items}
 use Rattle.hol_kernel.specs.Typing.{HasType}
 use Rattle.hol_kernel.specs.Theorem.{theorem_on}
 use Rattle.hol_equal.proofs.Outcomes.{became}
-use Rattle.hol_equal.specs.Applied.{lhs, rhs}
-use Rattle.hol_bool.specs.Applied.{implied, discharged}
+use Rattle.hol_equal.specs.Applied.{lhs, rhs, concluded}
+use Rattle.hol_bool.specs.Applied.{discharged}
 use Rattle.hol_bool.proofs.disjunction.one_case.Goals as goal
 
 pub disch-requires : goal.disch-requires
@@ -34,4 +34,4 @@ returns c =
     let b = c.args.b.now.sequent in
     let p = nameless [] c.args.p.now in
     let way : c.in_ok-way.way ≡ theorem_on B (discharged p b) = c.in_ok-way.ensures ∙ (λ i. theorem_on (sym c.requires.one_basis i) (discharged p b)) in
-    became c.mp.result (theorem_on B (implied s c.in_ok-way.way.sequent)) (theorem_on B (implied s (discharged p b))) c.mp.ensures (λ i. theorem_on B (implied s (way i).sequent))
+    became c.mp.result (theorem_on B (concluded s c.in_ok-way.way.sequent)) (theorem_on B (concluded s (discharged p b))) c.mp.ensures (λ i. theorem_on B (concluded s (way i).sequent))

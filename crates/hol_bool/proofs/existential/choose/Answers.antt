@@ -1,12 +1,13 @@
+-- Of each step: that its rule applies, to terms that are well typed over the basis. Of the last: that the sequent it gives is that of the whole.
 use Rattle.std.specs.FinSet as set
 use Rattle.hol_bool.proofs.Disjunctions.{not_none}
 use Rattle.hol_bool.proofs.Typed.{domain_stands, predicate_typed}
 use Rattle.hol_bool.proofs.Witnesses.{each_closed}
-use Rattle.hol_bool.specs.Applied.{abstraction_in, abstraction_term, bound_type, chosen, implied}
+use Rattle.hol_bool.specs.Applied.{abstraction_in, abstraction_term, bound_type, chosen}
 use Rattle.hol_bool.specs.Rules.{choose_left}
 use Rattle.hol_bool.specs.Unfolded.{all_imply, each_witness, exists_in}
 use Rattle.hol_equal.proofs.Outcomes.{became}
-use Rattle.hol_equal.specs.Applied.{rand}
+use Rattle.hol_equal.specs.Applied.{rand, concluded}
 use Rattle.hol_formulas.proofs.FormulaLaws.{dest_exists_existential, dest_quantifier_is}
 use Rattle.hol_formulas.specs.Equation.{bool_type}
 use Rattle.hol_formulas.specs.Formula.{dest_exists, implication}
@@ -104,5 +105,5 @@ returns c =
     let inner : own ≡ rand s.concl = sym (ap rand whole) in
     let rule : c.in_ok-rule.rule ≡ theorem_on B (sequent_of s.hyps (implication (all_imply v.1 own t) t)) = c.in_ok-rule.ensures ∙ (λ i. theorem_on B (sequent_of s.hyps (implication (all_imply (c.ty.ensures i) (f i) (last i)) (last i)))) in
     let every : c.in_ok-every.every ≡ theorem_on B (each_witness v own b) = c.in_ok-every.ensures ∙ (λ i. theorem_on (sym c.requires.one_basis i) (each_witness v (f i) b)) in
-    became c.mp.result (theorem_on c.in_ok-rule.rule.basis (implied c.in_ok-rule.rule.sequent c.in_ok-every.every.sequent)) (theorem_on B (chosen v s b)) c.mp.ensures
+    became c.mp.result (theorem_on c.in_ok-rule.rule.basis (concluded c.in_ok-rule.rule.sequent c.in_ok-every.every.sequent)) (theorem_on B (chosen v s b)) c.mp.ensures
     (rw (rule, every) (ap (λ (u : Nameless). theorem_on B (sequent_of (set.union s.hyps (choose_left v b.hyps (abstraction_in u))) t)) inner))

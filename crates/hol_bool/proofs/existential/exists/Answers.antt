@@ -1,11 +1,12 @@
+-- Of each step: that its rule applies, to terms that are well typed over the basis. Of the last: that the sequent it gives is that of the whole.
 use Rattle.hol_bool.proofs.Disjunctions.{not_none}
 use Rattle.hol_bool.proofs.Typed.{domain_stands, predicate_typed}
-use Rattle.hol_bool.specs.Applied.{abstraction_in, bound_type, implied}
+use Rattle.hol_bool.specs.Applied.{abstraction_in, bound_type}
 use Rattle.hol_bool.specs.Unfolded.{exists_in}
 use Rattle.hol_equal.proofs.HypSets.{none_left}
 use Rattle.hol_equal.proofs.Outcomes.{became}
 use Rattle.hol_equal.proofs.Typings.{applied_typed}
-use Rattle.hol_equal.specs.Applied.{rand}
+use Rattle.hol_equal.specs.Applied.{rand, concluded}
 use Rattle.hol_formulas.proofs.FormulaLaws.{dest_exists_existential, dest_quantifier_is}
 use Rattle.hol_formulas.specs.Equation.{bool_type}
 use Rattle.hol_formulas.specs.Formula.{dest_exists, implication}
@@ -78,5 +79,5 @@ returns c =
     let f : nameless [] c.in_ok-f.f ≡ own = ap (nameless []) c.in_ok-f.ensures in
     let rule : c.in_ok-rule.rule ≡ theorem_on B (sequent_of no_hyps (implication (app own t) (exists_in v.1 own))) = c.in_ok-rule.ensures ∙ (λ i. theorem_on (c.basis.ensures i) (sequent_of no_hyps (implication (app (f i) t) (exists_in (c.ty.ensures i) (f i))))) in
     let holds : c.in_ok-holds.holds ≡ theorem_on B (sequent_of s.hyps (app own t)) = c.in_ok-holds.ensures ∙ (λ i. theorem_on B (sequent_of s.hyps (app (f i) t))) in
-    became c.mp.result (theorem_on c.in_ok-rule.rule.basis (implied c.in_ok-rule.rule.sequent c.in_ok-holds.holds.sequent)) (theorem_on B (sequent_of s.hyps e)) c.mp.ensures
+    became c.mp.result (theorem_on c.in_ok-rule.rule.basis (concluded c.in_ok-rule.rule.sequent c.in_ok-holds.holds.sequent)) (theorem_on B (sequent_of s.hyps e)) c.mp.ensures
     (rw (rule, holds) (λ i. theorem_on B (sequent_of (none_left s.hyps i) (sym whole i))))

@@ -4,8 +4,8 @@ use Rattle.hol_formulas.specs.Formula.{conjunction}
 use Rattle.hol_kernel.specs.Sequent.{sequent_of}
 use Rattle.hol_kernel.specs.Theorem.{Theorem, theorem_on}
 use Rattle.hol_equal.proofs.Outcomes.{became}
-use Rattle.hol_equal.specs.Applied.{lhs, rhs}
-use Rattle.hol_bool.specs.Applied.{implied, second_conjunct}
+use Rattle.hol_equal.specs.Applied.{lhs, rhs, concluded}
+use Rattle.hol_bool.specs.Applied.{second_conjunct}
 use Rattle.hol_bool.proofs.Chains.{is_equation, right_fits, given_back}
 use Rattle.hol_bool.proofs.implication.mp.Goals as goal
 
@@ -43,5 +43,5 @@ returns c =
     let two = conjunction l (rhs s.concl) in
     let other : c.args.b.now ≡ theorem_on B b = λ i. theorem_on (sym c.requires.one_basis i) b in
     let both : c.in_ok-both.both ≡ theorem_on B (sequent_of (set.union s.hyps b.hyps) two) = c.in_ok-both.ensures ∙ given_back B c.in_ok-own.own c.args.b.now s.hyps b.hyps two l b.concl c.requires.fits c.in_ok-own.ensures other in
-    became c.conjunct2.result (theorem_on c.in_ok-both.both.basis (second_conjunct c.in_ok-both.both.sequent)) (theorem_on B (implied s b)) c.conjunct2.ensures
+    became c.conjunct2.result (theorem_on c.in_ok-both.both.basis (second_conjunct c.in_ok-both.both.sequent)) (theorem_on B (concluded s b)) c.conjunct2.ensures
     (λ i. theorem_on (both i).basis (second_conjunct (both i).sequent))

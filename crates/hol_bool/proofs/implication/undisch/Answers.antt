@@ -7,8 +7,8 @@ use Rattle.hol_kernel.specs.Sequent.{only_hyp, sequent_of}
 use Rattle.hol_kernel.specs.Theorem.{Theorem, theorem_on}
 use Rattle.hol_kernel.specs.Typing.{HasType}
 use Rattle.hol_equal.proofs.Outcomes.{became}
-use Rattle.hol_equal.specs.Applied.{lhs, rhs}
-use Rattle.hol_bool.specs.Applied.{implied, undischarged}
+use Rattle.hol_equal.specs.Applied.{lhs, rhs, concluded}
+use Rattle.hol_bool.specs.Applied.{undischarged}
 use Rattle.hol_bool.proofs.Connected.{operands_typed, operands_are, operands_found}
 use Rattle.hol_bool.proofs.implication.undisch.Goals as goal
 
@@ -46,5 +46,5 @@ returns c =
     let r = rhs s.concl in
     let is : nameless [] c.in-Some.p.now ≡ l = (operands_are (nameless [] c.in-Some.p.now) (nameless [] c.in-Some.field-0-1.now) l r (dest_imp (nameless [] c.concl.result.now)) c.in-Some.ensures.parts (ap dest_imp (c.concl.ensures.concl ∙ c.requires.is))).0 in
     let assumed : c.in_ok-assumed.assumed ≡ theorem_on B (sequent_of (only_hyp l) l) = c.in_ok-assumed.ensures ∙ (λ i. theorem_on (c.basis.ensures i) (sequent_of (only_hyp (is i)) (is i))) in
-    became c.mp.result (theorem_on B (implied s c.in_ok-assumed.assumed.sequent)) (theorem_on B (undischarged s)) c.mp.ensures
-    (λ i. theorem_on B (implied s (assumed i).sequent))
+    became c.mp.result (theorem_on B (concluded s c.in_ok-assumed.assumed.sequent)) (theorem_on B (undischarged s)) c.mp.ensures
+    (λ i. theorem_on B (concluded s (assumed i).sequent))

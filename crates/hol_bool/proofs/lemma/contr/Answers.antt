@@ -1,15 +1,9 @@
-use Rattle.std.proofs.Common.{◌≡◌, ap, sym, ◌∙◌, subst, [], ◌∷◌, Some, refl, codes, true}
-use Rattle.std.specs.Prelude.{None, List}
+use Rattle.std.proofs.Common.{◌≡◌, ap, [], refl, codes}
 use Rattle.std.specs.FinSet as set
-use Rattle.hol_types.specs.Fun.{fun_type}
-use Rattle.hol_terms.specs.Nameless.{Nameless, nameless, fixed, app}
-use Rattle.hol_terms.specs.Alpha.{strip, alpha_eq}
-use Rattle.hol_formulas.specs.Equation.{equation, bool_type, dest_eq}
-use Rattle.hol_formulas.specs.Formula.{truth, falsity, negation, conjunction, disjunction, implication, equivalence, connective_type, quantifier_type, dest_conj, dest_imp}
-use Rattle.hol_kernel.specs.Items.{Items}
-use Rattle.hol_kernel.specs.Sequent.{no_hyps, only_hyp, sequent_of, Hyps, Sequent}
-use Rattle.hol_kernel.specs.Theorem.{Theorem, theorem_on, over}
-use Rattle.hol_kernel.specs.Typing.{HasType, is_type}
+use Rattle.hol_terms.specs.Nameless.{Nameless, nameless}
+use Rattle.hol_formulas.specs.Formula.{falsity}
+use Rattle.hol_kernel.specs.Sequent.{only_hyp, sequent_of}
+use Rattle.hol_kernel.specs.Theorem.{Theorem, theorem_on}
 use Rattle.hol_equal.proofs.Outcomes.{became}
 use Rattle.hol_bool.specs.Lemmas.{general}
 use Rattle.hol_bool.specs.Unfolded.{letter}

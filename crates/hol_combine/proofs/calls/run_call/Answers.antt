@@ -1,6 +1,6 @@
 use Rattle.std.proofs.Common.{◌≡◌, true, rules}
 use Rattle.hol_goal.specs.ArgumentsView.{args_value}
-use Rattle.hol_combine.specs.Runs.{are_assumed}
+use Rattle.hol_just.specs.Answering.{are_assumed}
 use Rattle.hol_combine.proofs.Calling.{justified_valid}
 use Rattle.hol_combine.proofs.calls.run_call.Goals as goal
 

@@ -1,4 +1,5 @@
-use Rattle.std.proofs.Common.{rules, ◌≡◌, ◌≤◌, ◌<◌, ◌+◌, ◌-◌, ◌++◌, ◌∷◌, [], ℕ, suc, true, nat_lt, codes, List, length, reverse, drop, take, IfOk, refl, sym, ap, ◌∙◌, subst, arith}
+-- Of each loop: that a round keeps what is still to come of the whole. Of each form of expression: that what its parts come to is its run.
+use Rattle.std.proofs.Common.{rules, ◌≡◌, ◌≤◌, ◌+◌, ◌-◌, ◌++◌, ◌∷◌, [], suc, true, nat_lt, codes, List, length, reverse, drop, take, IfOk, refl, sym, ap, ◌∙◌, subst, arith}
 use Rattle.std.proofs.lemmas.Bool.{and_parts}
 use Rattle.std.proofs.lemmas.Result.{err_from_is_err_and}
 use Rattle.hol_combine.specs.ExprValue.{ExprValue, Then, ThenL, OrElse, Repeat, First, Replicate, more_exprs, exprs, then_all, or_else_all, expr_nodes, exprs_nodes}
@@ -18,45 +19,38 @@ use Rattle.hol_combine.proofs.Progress.{ends_at}
 use Rattle.hol_combine.proofs.Loops.{ends_valid, goes_to_end, next_left, each_finishes, repeat_again, repeat_keeps, repeat_stops, count_starts, count_finishes, count_goes_again, list_finishes, list_fails_at, list_as_many, list_refused, refusal_is, more_fails_at, more_goes_on, popped, rounds_start, rounds_finish, rounds_again, parts_waiting, refused_left}
 use Rattle.hol_combine.proofs.running.+run.Goals as goal
 
--- src/running.rt:240:5
 pub repeat-rounds-preserved-in-Ok : goal.repeat-rounds-preserved-in-Ok
 repeat-rounds-preserved-in-Ok g t c =
     repeat_again (suits_expr c.args.part.now) c.args.ran _ (run (g.T.Tacs.table_of c.args.tacs.now) c.args.part.now) (run_falls (g.T.Tacs.table_of c.args.tacs.now) c.args.part.now) (work_value c.rounds.work) (work_value c.next.new.self) (work_value c.again.new.self) c.in-Some.goal c.in-Ok.one (c.left-left.result - 1)
     c.in-Some.ensures (omega (arith, c.left-left.ensures, c.if-left-eq0.false)) c.in-Ok.ensures.answer c.in-Ok.ensures.valid c.in-Ok.ensures.left c.in_ok-again-in-Ok.ensures c.rounds.invariant
 
--- src/running.rt:240:5
 pub repeat-rounds-preserved : goal.repeat-rounds-preserved
 repeat-rounds-preserved g t c =
     repeat_keeps (suits_expr c.args.part.now) c.args.ran _ (run (g.T.Tacs.table_of c.args.tacs.now) c.args.part.now) (run_falls (g.T.Tacs.table_of c.args.tacs.now) c.args.part.now) (work_value c.rounds.work) (work_value c.next.new.self) (work_value c.keep.new.self) c.in-Some.goal (c.left-left.result - 1) c.in-Err-Refused.after (refusal_value c.in-Err-Refused.field-0-0)
     c.in-Some.ensures (omega (arith, c.left-left.ensures, c.if-left-eq0.false)) (subst (IsError (run (g.T.Tacs.table_of c.args.tacs.now) c.args.part.now c.in-Some.goal (c.left-left.result - 1))) c.in-Err-Refused.field-0-is c.in-Err-Refused.ensures.answer)
     (refused_left (c.left-left.result - 1) c.in-Err-Refused.field-0 c.in-Err-Refused.field-0-0 c.in-Err-Refused.after c.in-Err-Refused.field-0-is c.in-Err-Refused.ensures.left) c.in_ok-keep-in-Err-Refused.ensures c.rounds.invariant
 
--- src/running.rt:254:41
 pub repeat-returns-in-Err-TurnLimit-clause-answer :
     goal.repeat-returns-in-Err-TurnLimit-clause-answer
 repeat-returns-in-Err-TurnLimit-clause-answer g t c =
     repeat_stops (suits_expr c.args.part.now) c.args.ran _ (run (g.T.Tacs.table_of c.args.tacs.now) c.args.part.now) (run_falls (g.T.Tacs.table_of c.args.tacs.now) c.args.part.now) (work_value c.rounds.work) (work_value c.next.new.self) c.in-Some.goal (c.left-left.result - 1) TurnLimit
     c.in-Some.ensures (omega (arith, c.left-left.ensures, c.if-left-eq0.false)) (subst (IsError (run (g.T.Tacs.table_of c.args.tacs.now) c.args.part.now c.in-Some.goal (c.left-left.result - 1))) c.in-Err-TurnLimit.field-0-is c.in-Err-TurnLimit.ensures.answer) c.rounds.invariant
 
--- src/running.rt:255:41
 pub repeat-returns-in-Err-LargeGoal-clause-answer :
     goal.repeat-returns-in-Err-LargeGoal-clause-answer
 repeat-returns-in-Err-LargeGoal-clause-answer g t c =
     repeat_stops (suits_expr c.args.part.now) c.args.ran _ (run (g.T.Tacs.table_of c.args.tacs.now) c.args.part.now) (run_falls (g.T.Tacs.table_of c.args.tacs.now) c.args.part.now) (work_value c.rounds.work) (work_value c.next.new.self) c.in-Some.goal (c.left-left.result - 1) LargeGoal
     c.in-Some.ensures (omega (arith, c.left-left.ensures, c.if-left-eq0.false)) (subst (IsError (run (g.T.Tacs.table_of c.args.tacs.now) c.args.part.now c.in-Some.goal (c.left-left.result - 1))) c.in-Err-LargeGoal.field-0-is c.in-Err-LargeGoal.ensures.answer) c.rounds.invariant
 
--- src/running.rt:226:1
 pub repeat-returns-clause-valid : goal.repeat-returns-clause-valid
 repeat-returns-clause-valid g t c =
     ends_valid (suits_expr c.args.part.now) c.args.ran _ (each (repeated (run (g.T.Tacs.table_of c.args.tacs.now) c.args.part.now))) (work_value c.rounds.work) (work_value c.next.new.self) c.end.result c.in_default.ensures (λ l. refl) c.end.ensures.goals c.end.ensures.just c.rounds.invariant
 
--- src/running.rt:278:9
 pub replicate-returns-then-times-eq0-clause-answer :
     goal.replicate-returns-then-times-eq0-clause-answer
 replicate-returns-then-times-eq0-clause-answer g t c =
     ap (λ n. each (replicate (run (g.T.Tacs.table_of c.args.tacs.now) c.args.part.now) n) c.args.ran.step.goals.items c.args.ran.left) c.if-times-eq0.true ∙ each_unchanged c.args.ran.step.goals.items c.args.ran.left
 
--- src/running.rt:284:5
 pub replicate-rounds-init : goal.replicate-rounds-init
 replicate-rounds-init g t c =
     let numbers : reverse c.push_each.new.numbers.items ≡ copies (length c.args.ran.step.goals.items) (c.args.times - 1) ++ [] = search rules in
@@ -65,7 +59,6 @@ replicate-rounds-init g t c =
       waiting = rounds_start c.push_each.new.numbers.items (c.args.times - 1) c.args.ran (work_value c.new-work.result) numbers c.new-work.ensures;
     }
 
--- src/running.rt:284:5
 pub replicate-rounds-preserved-then-more-eq0 : goal.replicate-rounds-preserved-then-more-eq0
 replicate-rounds-preserved-then-more-eq0 g t c =
     let was : c.rounds.rounds.items ≡ c.pop.new.self.items ++ c.in-Some-pop.more ∷ [] = search rules in
@@ -77,7 +70,6 @@ replicate-rounds-preserved-then-more-eq0 g t c =
       waiting = rounds_finish c.rounds.rounds.items c.pop.new.self.items c.in-Some-pop.more (work_value c.rounds.work) (work_value c.next.new.self) (work_value c.finish.new.self) c.in-Some.goal c.in_ok-one.one was c.rounds.invariant.waiting c.in-Some.ensures c.in_ok-finish.ensures;
     }
 
--- src/running.rt:284:5
 pub replicate-rounds-preserved : goal.replicate-rounds-preserved
 replicate-rounds-preserved g t c =
     let was : c.rounds.rounds.items ≡ c.pop.new.self.items ++ c.in-Some-pop.more ∷ [] = search rules in
@@ -91,23 +83,19 @@ replicate-rounds-preserved g t c =
       waiting = rounds_again c.rounds.rounds.items c.pop.new.self.items c.push_each-in-Some.new.numbers.items c.in-Some-pop.more (c.in-Some-pop.more - 1) (work_value c.rounds.work) (work_value c.next.new.self) (work_value c.again.new.self) c.in-Some.goal c.in_ok-one.one was made c.rounds.invariant.waiting c.in-Some.ensures c.in_ok-again.ensures;
     }
 
--- src/running.rt:263:1
 pub replicate-returns-clause-valid : goal.replicate-returns-clause-valid
 replicate-returns-clause-valid g t c =
     ends_valid (suits_expr c.args.part.now) c.args.ran _ (counted (run (g.T.Tacs.table_of c.args.tacs.now) c.args.part.now) (reverse c.rounds.rounds.items)) (work_value c.rounds.work) (work_value c.next.new.self) c.end.result c.in_default.ensures (λ l. refl) c.end.ensures.goals c.end.ensures.just c.rounds.invariant.progress
 
--- src/running.rt:136:5
 pub run_each-goals-preserved : goal.run_each-goals-preserved
 run_each-goals-preserved g t c =
     each_finishes (suits_exprs (exprs c.args.parts.now)) c.args.ran _ (run_every (g.T.Tacs.table_of c.args.tacs.now) (exprs c.args.parts.now)) (work_value c.goals.work) (work_value c.next.new.self) (work_value c.finish.new.self) c.in-Some.goal c.in_ok-part.part c.in-Some.ensures
     (subst (λ n. run_every (g.T.Tacs.table_of c.args.tacs.now) (exprs c.args.parts.now) c.in-Some.goal n ≡ Leaves c.in_ok-part.part.step.goals.items c.in_ok-part.part.left) c.left.ensures c.in_ok-part.ensures.answer) c.in_ok-part.ensures.valid (omega (arith, c.left.ensures, c.in_ok-part.ensures.left)) c.in_ok-finish.ensures c.goals.invariant
 
--- src/running.rt:122:1
 pub run_each-returns-clause-valid : goal.run_each-returns-clause-valid
 run_each-returns-clause-valid g t c =
     ends_valid (suits_exprs (exprs c.args.parts.now)) c.args.ran _ (each (run_every (g.T.Tacs.table_of c.args.tacs.now) (exprs c.args.parts.now))) (work_value c.goals.work) (work_value c.next.new.self) c.end.result c.in_default.ensures (λ l. refl) c.end.ensures.goals c.end.ensures.just c.goals.invariant
 
--- src/running.rt:163:13
 pub run_every-run_each-requires : goal.run_every-run_each-requires
 run_every-run_each-requires g t c κs within =
     let rest = take (length c.args.parts.now - 1) (drop 1 c.args.parts.now) in
@@ -116,12 +104,10 @@ run_every-run_each-requires g t c κs within =
       (within, ((split_tests (λ call. nat_lt call.index (length (g.T.Tacs.table_of c.args.tacs.now))) c.args.parts.now rest c.first-item.result is c.requires.indices).1, omega (arith, c.requires.turns, c.in_ok-ran-in-len1-up.ensures.left))),
     )
 
--- src/running.rt:144:1
 pub run_every-returns-in-len1-clause-answer : goal.run_every-returns-in-len1-clause-answer
 run_every-returns-in-len1-clause-answer g t c =
     every_only (g.T.Tacs.table_of c.args.tacs.now) c.args.parts.now c.only-item.result c.args.goal.now c.args.turns c.run_expr.result (only_one c.args.parts.now c.only-item.result (omega (arith, c.in-len1.len_at_least)) (omega (arith, c.in-len1.len_below)) c.only-item.is) c.run_expr.ensures.answer
 
--- src/running.rt:144:1
 pub run_every-returns-in_ok-ran-in-len1-up-clause-answer :
     goal.run_every-returns-in_ok-ran-in-len1-up-clause-answer
 run_every-returns-in_ok-ran-in-len1-up-clause-answer g t c =
@@ -129,7 +115,6 @@ run_every-returns-in_ok-ran-in-len1-up-clause-answer g t c =
     let is : c.args.parts.now ≡ c.first-item.result ∷ take (length c.args.parts.now - 1) (drop 1 c.args.parts.now) = split c.args.parts.now c.first-item.result (omega (arith, c.in-len1-up.len_at_least)) c.first-item.is in
     every_rest (g.T.Tacs.table_of c.args.tacs.now) c.args.parts.now rest c.first-item.result c.args.goal.now c.args.turns c.in_ok-ran-in-len1-up.ran c.run_each.result is c.in_ok-ran-in-len1-up.ensures.answer c.run_each.ensures.answer
 
--- src/running.rt:144:1
 pub run_every-returns-in_ok-ran-in-len1-up-clause-valid :
     goal.run_every-returns-in_ok-ran-in-len1-up-clause-valid
 run_every-returns-in_ok-ran-in-len1-up-clause-valid g t c =
@@ -137,13 +122,11 @@ run_every-returns-in_ok-ran-in-len1-up-clause-valid g t c =
     let is : c.args.parts.now ≡ c.first-item.result ∷ take (length c.args.parts.now - 1) (drop 1 c.args.parts.now) = split c.args.parts.now c.first-item.result (omega (arith, c.in-len1-up.len_at_least)) c.first-item.is in
     every_valid c.args.parts.now rest c.first-item.result (c.args.goal.now ∷ []) c.in_ok-ran-in-len1-up.ran c.run_each.result is c.in_ok-ran-in-len1-up.ensures.valid c.run_each.ensures.valid
 
--- src/running.rt:51:1
 pub run_expr-returns-in_ok-unchanged-in-Repeat-clause-valid : goal.run_expr-returns-in_ok-unchanged-in-Repeat-clause-valid
 run_expr-returns-in_ok-unchanged-in-Repeat-clause-valid g t c =
     let is : c.args.expr.now ≡ Repeat c.in-Repeat.part = sym c.node.ensures ∙ ap expr_of_node c.in-Repeat.is in
     repeat_valid c.args.expr.now c.in-Repeat.part c.args.goal.now c.args.turns c.in_ok-unchanged-in-Repeat.field-0 c.repeat.result (λ test h. subst (λ (e : ExprValue). all_calls test e ≡ true) is h) c.in_ok-unchanged-in-Repeat.ensures c.repeat.ensures.valid
 
--- src/running.rt:51:1
 pub run_expr-returns-in-len1-up-clause-answer : goal.run_expr-returns-in-len1-up-clause-answer
 run_expr-returns-in-len1-up-clause-answer g t c =
     let is : c.args.expr.now ≡ First (exprs c.in-First.parts.items) = sym c.node.ensures ∙ ap expr_of_node c.in-First.is in
@@ -152,7 +135,6 @@ run_expr-returns-in-len1-up-clause-answer g t c =
     let parts : c.in-First.parts.items ≡ c.first-item.result ∷ take (length c.as_slice.result.now - 1) (drop 1 c.as_slice.result.now) = sym same ∙ split c.as_slice.result.now c.first-item.result (omega (arith, c.in-len1-up.len_at_least)) c.first-item.is in
     first_runs (g.T.Tacs.table_of c.args.tacs.now) c.args.expr.now c.in-First.parts.items rest c.first-item.result c.args.goal.now c.args.turns c.run_alternatives.result is parts c.run_alternatives.ensures.answer
 
--- src/running.rt:51:1
 pub run_expr-returns-in-len1-up-clause-valid : goal.run_expr-returns-in-len1-up-clause-valid
 run_expr-returns-in-len1-up-clause-valid g t c =
     let is : c.args.expr.now ≡ First (exprs c.in-First.parts.items) = sym c.node.ensures ∙ ap expr_of_node c.in-First.is in
@@ -161,33 +143,28 @@ run_expr-returns-in-len1-up-clause-valid g t c =
     let parts : c.in-First.parts.items ≡ c.first-item.result ∷ take (length c.as_slice.result.now - 1) (drop 1 c.as_slice.result.now) = sym same ∙ split c.as_slice.result.now c.first-item.result (omega (arith, c.in-len1-up.len_at_least)) c.first-item.is in
     first_valid c.args.expr.now c.in-First.parts.items rest c.first-item.result (c.args.goal.now ∷ []) c.run_alternatives.result is parts c.run_alternatives.ensures.valid
 
--- src/running.rt:51:1
 pub run_expr-returns-in_ok-unchanged-in-Replicate-clause-answer : goal.run_expr-returns-in_ok-unchanged-in-Replicate-clause-answer
 run_expr-returns-in_ok-unchanged-in-Replicate-clause-answer g t c =
     let is : c.args.expr.now ≡ Replicate c.in-Replicate.times c.in-Replicate.part = sym c.node.ensures ∙ ap expr_of_node c.in-Replicate.is in
     kept_run (replicate (run (g.T.Tacs.table_of c.args.tacs.now) c.in-Replicate.part) c.in-Replicate.times) (run (g.T.Tacs.table_of c.args.tacs.now) c.args.expr.now c.args.goal.now c.args.turns) c.args.goal.now c.args.turns c.in_ok-unchanged-in-Replicate.field-0 c.replicate.result c.in_ok-unchanged-in-Replicate.ensures
     (ap (λ e. run (g.T.Tacs.table_of c.args.tacs.now) e c.args.goal.now c.args.turns) is) c.replicate.ensures.answer
 
--- src/running.rt:51:1
 pub run_expr-returns-in_ok-unchanged-in-Replicate-clause-valid : goal.run_expr-returns-in_ok-unchanged-in-Replicate-clause-valid
 run_expr-returns-in_ok-unchanged-in-Replicate-clause-valid g t c =
     let is : c.args.expr.now ≡ Replicate c.in-Replicate.times c.in-Replicate.part = sym c.node.ensures ∙ ap expr_of_node c.in-Replicate.is in
     repeat_valid c.args.expr.now c.in-Replicate.part c.args.goal.now c.args.turns c.in_ok-unchanged-in-Replicate.field-0 c.replicate.result (λ test h. subst (λ (e : ExprValue). all_calls test e ≡ true) is h) c.in_ok-unchanged-in-Replicate.ensures c.replicate.ensures.valid
 
--- src/running.rt:212:9
 pub run_list-returns-then-parts-len-clause-answer :
     goal.run_list-returns-then-parts-len-clause-answer
 run_list-returns-then-parts-len-clause-answer g t c =
     refusal_is (g.T.Tacs.table_of c.args.tacs.now) (run_list (g.T.Tacs.table_of c.args.tacs.now) (exprs c.args.parts.now) c.args.ran.step.goals.items c.args.ran.left) (codes "THENL") c.args.ran.left c.refused.result (list_refused (g.T.Tacs.table_of c.args.tacs.now) c.args.parts.now c.args.ran.step.goals.items c.args.ran.left (λ e. omega (arith, e, c.if-parts-len.true, c.len.ensures))) c.refused.ensures
 
--- src/running.rt:219:19
 pub run_list-run_expr-requires : goal.run_list-run_expr-requires
 run_list-run_expr-requires g t c κs within = (
   omega (arith, item_nodes c.args.parts.now c.loop-part.part-index c.part-item.result c.loop-part-test.true c.part-item.is, c.decreases),
   (within, (item_passes (λ call. nat_lt call.index (length (g.T.Tacs.table_of c.args.tacs.now))) c.args.parts.now c.loop-part.part-index c.part-item.result c.loop-part-test.true c.part-item.is c.requires.indices, omega (arith, c.requires.turns, c.left.ensures, next_left (work_value c.loop-part.work) (work_value c.next.new.self) c.in-Some.goal c.in-Some.ensures, c.loop-part.invariant.progress.left))),
 )
 
--- src/running.rt:219:19
 pub run_list-returns-in_err-one-clause-answer : goal.run_list-returns-in_err-one-clause-answer
 run_list-returns-in_err-one-clause-answer g t c =
     let first : exprs (drop c.loop-part.part-index c.args.parts.now) ≡ more_exprs c.part-item.result (exprs (drop (c.loop-part.part-index + 1) c.args.parts.now)) = drop_item c.args.parts.now c.loop-part.part-index c.part-item.result c.loop-part-test.true c.part-item.is in
@@ -196,7 +173,6 @@ run_list-returns-in_err-one-clause-answer g t c =
     rw (p.1, p.2) (list_fails_at (g.T.Tacs.table_of c.args.tacs.now) (suits_exprs (exprs c.args.parts.now)) c.args.ran c.args.parts.now (exprs (drop c.loop-part.part-index c.args.parts.now)) (exprs (drop (c.loop-part.part-index + 1) c.args.parts.now)) c.part-item.result (work_value c.loop-part.work) (work_value c.next.new.self) c.in-Some.goal c.left.result _
     same first c.in-Some.ensures c.left.ensures c.loop-part.invariant.progress c.in_err-one.ensures.answer)
 
--- src/running.rt:215:5
 pub run_list-loop-part-preserved : goal.run_list-loop-part-preserved
 run_list-loop-part-preserved g t c =
     let first : exprs (drop c.loop-part.part-index c.args.parts.now) ≡ more_exprs c.part-item.result (exprs (drop (c.loop-part.part-index + 1) c.args.parts.now)) = drop_item c.args.parts.now c.loop-part.part-index c.part-item.result c.loop-part-test.true c.part-item.is in
@@ -207,21 +183,18 @@ run_list-loop-part-preserved g t c =
       waiting = parts_waiting (work_value c.loop-part.work) (work_value c.next.new.self) (work_value c.finish.new.self) c.in-Some.goal c.in_ok-one.one c.loop-part.part-index (length c.args.parts.now) c.loop-part.invariant.waiting c.in-Some.ensures c.in_ok-finish.ensures;
     }
 
--- src/running.rt:198:1
 pub run_list-returns-clause-answer : goal.run_list-returns-clause-answer
 run_list-returns-clause-answer g t c =
     let empty : (work_value c.loop-part.work).waiting ≡ [] = no_goals (work_value c.loop-part.work).waiting (omega (arith, c.loop-part-test.false, c.loop-part.invariant.waiting)) in
     let done = ends_at (suits_exprs (exprs c.args.parts.now)) c.args.ran _ (run_each (g.T.Tacs.table_of c.args.tacs.now) (exprs (drop c.loop-part.part-index c.args.parts.now))) (work_value c.loop-part.work) empty (nothing_left (g.T.Tacs.table_of c.args.tacs.now) (exprs (drop c.loop-part.part-index c.args.parts.now))) c.loop-part.invariant.progress in
     list_as_many (g.T.Tacs.table_of c.args.tacs.now) c.args.parts.now c.args.ran.step.goals.items c.args.ran.left (omega (arith, c.if-parts-len.false, c.len.ensures)) ∙ done.0 ∙ (λ i. Leaves (sym c.end.ensures.goals i) (sym c.end.ensures.left i))
 
--- src/running.rt:198:1
 pub run_list-returns-clause-valid : goal.run_list-returns-clause-valid
 run_list-returns-clause-valid g t c =
     let empty : (work_value c.loop-part.work).waiting ≡ [] = no_goals (work_value c.loop-part.work).waiting (omega (arith, c.loop-part-test.false, c.loop-part.invariant.waiting)) in
     let done = ends_at (suits_exprs (exprs c.args.parts.now)) c.args.ran _ (run_each (g.T.Tacs.table_of c.args.tacs.now) (exprs (drop c.loop-part.part-index c.args.parts.now))) (work_value c.loop-part.work) empty (nothing_left (g.T.Tacs.table_of c.args.tacs.now) (exprs (drop c.loop-part.part-index c.args.parts.now))) c.loop-part.invariant.progress in
     goes_to_end (suits_exprs (exprs c.args.parts.now)) c.args.ran c.end.result (work_value c.loop-part.work) c.end.ensures.goals c.end.ensures.just done.1
 
--- src/running.rt:116:15
 pub run_more-run_each-requires : goal.run_more-run_each-requires
 run_more-run_each-requires g t c κs within =
     let one : c.from_ref.result.now ≡ c.part-item.result ∷ [] = search rules in (
@@ -229,7 +202,6 @@ run_more-run_each-requires g t c κs within =
       (within, (subst (λ (ts : List ExprValue). all_calls_of (λ call. nat_lt call.index (length (g.T.Tacs.table_of c.args.tacs.now))) (exprs ts) ≡ true) (sym one) (of_one (λ call. nat_lt call.index (length (g.T.Tacs.table_of c.args.tacs.now))) c.part-item.result (item_passes (λ call. nat_lt call.index (length (g.T.Tacs.table_of c.args.tacs.now))) c.args.more.now c.loop-part.part-index c.part-item.result c.loop-part-test.true c.part-item.is c.requires.indices)), omega (arith, c.requires.turns, c.loop-part.invariant.left))),
     )
 
--- src/running.rt:116:15
 pub run_more-returns-in_err-ran-clause-answer : goal.run_more-returns-in_err-ran-clause-answer
 run_more-returns-in_err-ran-clause-answer g t c =
     let one : c.from_ref.result.now ≡ c.part-item.result ∷ [] = search rules in
@@ -238,7 +210,6 @@ run_more-returns-in_err-ran-clause-answer g t c =
     rw (p.1, p.2) (more_fails_at (g.T.Tacs.table_of c.args.tacs.now) c.from_ref.result.now (exprs (drop c.loop-part.part-index c.args.more.now)) (exprs (drop (c.loop-part.part-index + 1) c.args.more.now)) c.part-item.result c.loop-part.ran.step.goals.items c.loop-part.ran.left (run_more (g.T.Tacs.table_of c.args.tacs.now) (exprs c.args.more.now) c.args.ran.step.goals.items c.args.ran.left) _
     one first c.loop-part.invariant.answer c.in_err-ran.ensures.answer)
 
--- src/running.rt:115:5
 pub run_more-loop-part-preserved : goal.run_more-loop-part-preserved
 run_more-loop-part-preserved g t c =
     let one : c.from_ref.result.now ≡ c.part-item.result ∷ [] = search rules in
@@ -250,7 +221,6 @@ run_more-loop-part-preserved g t c =
       left = omega (arith, c.loop-part.invariant.left, c.in_ok-ran.ensures.left);
     }
 
--- src/running.rt
 pub run_expr-run_then-requires : goal.run_expr-run_then-requires
 run_expr-run_then-requires g t c κs within =
     let is : c.args.expr.now ≡ then_all (Then c.in-Then.first c.in-Then.second) c.in-Then.more.items = sym c.node.ensures ∙ ap expr_of_node c.in-Then.is in
@@ -262,21 +232,18 @@ run_expr-run_then-requires g t c κs within =
       (within, (tests.0, (one_of (λ call. nat_lt call.index (length (g.T.Tacs.table_of c.args.tacs.now))) c.in-Then.second tests.1, (subst (λ (ts : List ExprValue). all_calls_of (λ call. nat_lt call.index (length (g.T.Tacs.table_of c.args.tacs.now))) (exprs ts) ≡ true) (sym more) tests.2, c.requires.turns)))),
     )
 
--- src/running.rt
 pub run_expr-returns-in-Then-clause-answer : goal.run_expr-returns-in-Then-clause-answer
 run_expr-returns-in-Then-clause-answer g t c =
     let more : c.deref.result.now ≡ c.in-Then.more.items = search rules in
     let whole : then_all (Then c.in-Then.first c.in-Then.second) c.deref.result.now ≡ c.args.expr.now = ap (then_all (Then c.in-Then.first c.in-Then.second)) more ∙ sym (ap expr_of_node c.in-Then.is) ∙ c.node.ensures in
     subst (λ (e : ExprValue). IsRun (run (g.T.Tacs.table_of c.args.tacs.now) e c.args.goal.now c.args.turns) c.run_then.result) whole c.run_then.ensures.answer
 
--- src/running.rt
 pub run_expr-returns-in-Then-clause-valid : goal.run_expr-returns-in-Then-clause-valid
 run_expr-returns-in-Then-clause-valid g t c =
     let more : c.deref.result.now ≡ c.in-Then.more.items = search rules in
     let whole : then_all (Then c.in-Then.first c.in-Then.second) c.deref.result.now ≡ c.args.expr.now = ap (then_all (Then c.in-Then.first c.in-Then.second)) more ∙ sym (ap expr_of_node c.in-Then.is) ∙ c.node.ensures in
     subst (λ (e : ExprValue). IfOk c.run_then.result (IsValidRun (suits_expr e) (c.args.goal.now ∷ []))) whole c.run_then.ensures.valid
 
--- src/running.rt
 pub run_expr-run_or_else-requires : goal.run_expr-run_or_else-requires
 run_expr-run_or_else-requires g t c κs within =
     let is : c.args.expr.now ≡ OrElse c.in-OrElse.first (or_else_all c.in-OrElse.second c.in-OrElse.more.items) = sym c.node.ensures ∙ ap expr_of_node c.in-OrElse.is in
@@ -288,7 +255,6 @@ run_expr-run_or_else-requires g t c κs within =
       (within, (whole.0, (tests.0, (subst (λ (ts : List ExprValue). all_calls_of (λ call. nat_lt call.index (length (g.T.Tacs.table_of c.args.tacs.now))) (exprs ts) ≡ true) (sym more) tests.1, c.requires.turns)))),
     )
 
--- src/running.rt
 pub run_alternatives-run_or_else-requires : goal.run_alternatives-run_or_else-requires
 run_alternatives-run_or_else-requires g t c κs within =
     let is : c.args.more.now ≡ c.next-item.result ∷ take (length c.args.more.now - 1) (drop 1 c.args.more.now) = split c.args.more.now c.next-item.result (omega (arith, c.in-len1-up.len_at_least)) c.next-item.is in
@@ -297,20 +263,17 @@ run_alternatives-run_or_else-requires g t c κs within =
       (within, (c.requires.first, (tests.0, (tests.1, c.requires.turns)))),
     )
 
--- src/running.rt
 pub run_or_else-run_alternatives-requires : goal.run_or_else-run_alternatives-requires
 run_or_else-run_alternatives-requires g t c κs within = (
   omega (arith, has_nodes c.args.first.now, c.decreases),
   (within, (c.requires.second, (c.requires.more, omega (arith, c.requires.turns, refused_left c.args.turns c.in-Err-Refused.field-0 c.in-Err-Refused.field-0-0 c.in-Err-Refused.left c.in-Err-Refused.field-0-is c.in-Err-Refused.ensures.left)))),
 )
 
--- src/running.rt
 pub run_then-returns-in_err-ran-clause-answer : goal.run_then-returns-in_err-ran-clause-answer
 run_then-returns-in_err-ran-clause-answer g t c =
     let p = err_from_is_err_and c.from_residual.result c.from_residual.ensures.1 in
     rw (p.1, p.2) (then_first (g.T.Tacs.table_of c.args.tacs.now) (then_all (Then c.args.first.now c.args.second.now) c.args.more.now) c.args.first.now c.args.second.now c.args.more.now c.args.goal.now c.args.turns _ refl c.in_err-ran.ensures.answer)
 
--- src/running.rt
 pub run_then-run_each-requires : goal.run_then-run_each-requires
 run_then-run_each-requires g t c κs within =
     let one : c.from_ref.result.now ≡ c.args.second.now ∷ [] = search rules in (
@@ -318,19 +281,16 @@ run_then-run_each-requires g t c κs within =
       (within, (subst (λ (ts : List ExprValue). all_calls_of (λ call. nat_lt call.index (length (g.T.Tacs.table_of c.args.tacs.now))) (exprs ts) ≡ true) (sym one) (of_one (λ call. nat_lt call.index (length (g.T.Tacs.table_of c.args.tacs.now))) c.args.second.now c.requires.second), omega (arith, c.requires.turns, c.in_ok-ran.ensures.left))),
     )
 
--- src/running.rt
 pub run_then-returns-in_err-next-clause-answer : goal.run_then-returns-in_err-next-clause-answer
 run_then-returns-in_err-next-clause-answer g t c =
     let one : c.from_ref.result.now ≡ c.args.second.now ∷ [] = search rules in
     let p = err_from_is_err_and c.from_residual-in_err-next.result c.from_residual-in_err-next.ensures.1 in
     rw (p.1, p.2) (then_second_of (g.T.Tacs.table_of c.args.tacs.now) (then_all (Then c.args.first.now c.args.second.now) c.args.more.now) c.args.first.now c.args.second.now c.args.more.now c.from_ref.result.now c.args.goal.now c.args.turns c.in_ok-ran.ran _ refl one c.in_ok-ran.ensures.answer c.in_err-next.ensures.answer)
 
--- src/running.rt
 pub run_then-run_more-requires : goal.run_then-run_more-requires
 run_then-run_more-requires g t c κs within =
     (omega (arith, has_nodes c.args.first.now, c.decreases), (within, (c.requires.more, omega (arith, c.requires.turns, c.in_ok-ran.ensures.left, c.in_ok-next.ensures.left))))
 
--- src/running.rt
 pub run_then-returns-clause-answer : goal.run_then-returns-clause-answer
 run_then-returns-clause-answer g t c =
     let one : c.from_ref.result.now ≡ c.args.second.now ∷ [] = search rules in
@@ -338,7 +298,6 @@ run_then-returns-clause-answer g t c =
     (subst (λ (ts : List ExprValue). each (run_every (g.T.Tacs.table_of c.args.tacs.now) (exprs ts)) c.in_ok-ran.ran.step.goals.items c.in_ok-ran.ran.left ≡ Leaves c.in_ok-next.next.step.goals.items c.in_ok-next.next.left) one c.in_ok-next.ensures.answer)
     c.run_more.ensures.answer
 
--- src/running.rt
 pub run_then-returns-clause-valid : goal.run_then-returns-clause-valid
 run_then-returns-clause-valid g t c =
     let one : c.from_ref.result.now ≡ c.args.second.now ∷ [] = search rules in
@@ -346,7 +305,6 @@ run_then-returns-clause-valid g t c =
     (subst (λ (ts : List ExprValue). GoesOnFrom (suits_exprs (exprs ts)) c.in_ok-ran.ran c.in_ok-next.next) one c.in_ok-next.ensures.valid)
     c.run_more.ensures.valid
 
--- src/running.rt
 pub run_then_list-returns-clause-valid : goal.run_then_list-returns-clause-valid
 run_then_list-returns-clause-valid g t c =
     then_list_valid (ThenL c.args.first.now (exprs c.args.parts.now)) c.args.first.now (exprs c.args.parts.now) (c.args.goal.now ∷ []) c.in_ok-ran.ran c.run_list.result refl c.in_ok-ran.ensures.valid c.run_list.ensures.valid

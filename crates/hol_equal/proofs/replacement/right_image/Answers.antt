@@ -1,3 +1,4 @@
+-- Of each step: that its rule applies, to terms that are well typed over the basis. Of the last: that the sequent it gives is that of the whole.
 use Rattle.std.proofs.Common.{◌≡◌, ap, sym, ◌∙◌, subst, [], Some, refl}
 use Rattle.hol_types.specs.Tree.{TypeTree}
 use Rattle.hol_types.specs.Fun.{fun_type}

@@ -1,6 +1,6 @@
 use Rattle.std.proofs.Common.{◌≡◌, length, true, false, arith, refl, []}
 use Rattle.hol_terms.specs.Nameless.{nameless}
-use Rattle.hol_exec.proofs.Comparing.{mapped_same, mapped_differ}
+use Rattle.hol_theory.proofs.Comparing.{mapped_same, mapped_differ}
 use Rattle.hol_exec.proofs.same.same_terms.Goals as goal
 
 pub returns-then-not-same : goal.returns-then-not-same

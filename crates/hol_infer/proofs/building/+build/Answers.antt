@@ -1,3 +1,5 @@
+-- Of each part of the term: that it is smaller, and meets what `build` asks for as the whole does. Of each form: that what is built is the
+-- term of its typing.
 use Rattle.std.proofs.Common.{◌≡◌, map, length, sym, subst, ap, ◌∙◌, rules, List, ℕ, ◌∷◌}
 use Rattle.std.proofs.lemmas.Result.{IfOk-weaker}
 use Rattle.hol_types.specs.Tree.{TypeTree}

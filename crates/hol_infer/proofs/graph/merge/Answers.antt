@@ -1,3 +1,5 @@
+-- Of each clause: where nothing is known of the lower slot, it takes the other's cell (`taken_..`); else the cells are joined, the higher slot
+-- is linked to the lower one (`linked_..`), and cells that don't join leave no solution (`clash`).
 use Rattle.std.proofs.Common.{◌≡◌, ◌∷◌, ◌∙◌, arith, rules}
 use Rattle.hol_infer.specs.Graph.{cell_at, HasNoSolution}
 use Rattle.hol_infer.specs.declared.cell.Cell.TheVariants.{Unknown}

@@ -2,14 +2,11 @@ use Rattle.hol_infer.proofs.Standing.{reading_typed}
 use Rattle.hol_infer.proofs.StandingLaws.{reading_stands, definition_stands}
 use Rattle.hol_infer.proofs.laws.readings_stand.Goals as goal
 
--- src/laws.rt:13:1
 pub returns-clause-typed : goal.returns-clause-typed
 returns-clause-typed c = reading_typed
 
--- src/laws.rt:13:1
 pub returns-clause-terms : goal.returns-clause-terms
 returns-clause-terms c = reading_stands
 
--- src/laws.rt:13:1
 pub returns-clause-definitions : goal.returns-clause-definitions
 returns-clause-definitions c = definition_stands

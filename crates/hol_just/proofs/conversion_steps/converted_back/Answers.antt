@@ -1,9 +1,9 @@
-use Rattle.std.proofs.Common.{[], ◌≡◌, ◌∙◌, sym, subst, Some}
-use Rattle.std.specs.Prelude.{IsSome, Option}
+use Rattle.std.proofs.Common.{◌≡◌, ◌∙◌, sym, subst, Some}
+use Rattle.std.specs.Prelude.{IsSome}
 use Rattle.hol_kernel.specs.Gives.{in_kernel}
 use Rattle.hol_kernel.specs.Items.{Items}
 use Rattle.hol_kernel.specs.Rules.{eq_mp_of}
-use Rattle.hol_kernel.specs.Theorem.{Theorem, over}
+use Rattle.hol_kernel.specs.Theorem.{over}
 use Rattle.hol_kernel.specs.declared.error.Rule.TheVariants as kernel
 use Rattle.hol_equal.specs.Refusals.{in_equal}
 use Rattle.hol_equal.specs.Rules.{sym_of}

@@ -1,4 +1,4 @@
-use Rattle.std.proofs.Common.{[], ◌∷◌, ◌≡◌, length, ap, sym, ◌∙◌, subst, arith, rules}
+use Rattle.std.proofs.Common.{[], ◌∷◌, ◌≡◌, ap, sym, ◌∙◌, subst, rules}
 use Rattle.std.specs.Prelude.{List, ℕ, IfOk}
 use Rattle.std.proofs.lemmas.List.{nil_from_length}
 use Rattle.hol_types.specs.Tree.{TypeTree}

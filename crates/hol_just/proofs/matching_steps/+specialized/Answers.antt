@@ -1,10 +1,10 @@
-use Rattle.std.proofs.Common.{[], ◌∷◌, ◌≡◌, length, ap, sym, ◌∙◌, subst, Some, arith, rules}
-use Rattle.std.specs.Prelude.{List, ℕ, IsSome, refl}
+use Rattle.std.proofs.Common.{[], ◌∷◌, ◌≡◌, length, ap, sym, subst, Some, arith, rules}
+use Rattle.std.specs.Prelude.{List, ℕ, IsSome}
 use Rattle.std.proofs.lemmas.Result.{IfOk-weaker}
 use Rattle.hol_types.specs.Tree.{TypeTree}
 use Rattle.hol_terms.specs.Named.{Named}
 use Rattle.hol_terms.specs.Nameless.{nameless}
-use Rattle.hol_kernel.specs.Theorem.{Theorem, over}
+use Rattle.hol_kernel.specs.Theorem.{over}
 use Rattle.hol_bool.specs.Refusals.{in_bool}
 use Rattle.hol_bool.specs.Rules.{spec_of}
 use Rattle.hol_bool.specs.declared.error.Rule.TheVariants as rule

@@ -32,7 +32,7 @@ made_in_kernel-requires c =
     let found : matched 0 concl (stays_of (map (nameless []) ps)) t ≡ Some (both (stays_of (map (nameless []) ps)) f) = search rules in
     let general : IsMostGeneral (stays_of (map (nameless []) ps)) concl t f = search rules in
     made_or_short in_kernel rule.InstType (over th.basis (inst_type_of th.basis c.types.result.now th.sequent)) c.inst_type.result
-    (inst_type_applies th t concl ps c.hyps.ensures.set c.concl.ensures.concl c.requires c.well_typed.ensures f found general c.types.result.now c.types.ensures) c.inst_type.ensures.sequent
+    (inst_type_applies th t concl ps c.hyps.ensures.set c.concl.ensures.concl c.requires f found general c.types.result.now c.types.ensures) c.inst_type.ensures.sequent
 
 pub made_in_kernel-requires-2 : goal.made_in_kernel-requires-2
 made_in_kernel-requires-2 c =
@@ -45,7 +45,7 @@ made_in_kernel-requires-2 c =
     let found : matched 0 concl (stays_of (map (nameless []) ps)) t ≡ Some (both (stays_of (map (nameless []) ps)) f) = search rules in
     let general : IsMostGeneral (stays_of (map (nameless []) ps)) concl t f = search rules in
     made_or_short in_kernel rule.Inst (over r.basis (inst_of r.basis c.terms.result.now r.sequent)) c.inst.result
-    (inst_applies th t concl ps c.hyps.ensures.set c.concl.ensures.concl c.requires c.well_typed.ensures f found general c.types.result.now c.types.ensures c.terms.result.now c.terms.ensures.terms c.terms.ensures.good r
+    (inst_applies th t concl ps c.hyps.ensures.set c.concl.ensures.concl c.requires f found general c.types.result.now c.types.ensures c.terms.result.now c.terms.ensures.terms c.terms.ensures.good r
     (gave in_kernel rule.InstType (over th.basis (inst_type_of th.basis c.types.result.now th.sequent)) c.inst_type.result r c.inst_type.ensures.sequent c.in_ok-typed.ensures)) c.inst.ensures.sequent
 
 pub returns : goal.returns
@@ -60,7 +60,7 @@ returns c =
     let general : IsMostGeneral (stays_of (map (nameless []) ps)) concl t f = search rules in
     ok_after c.made_in_kernel-2.result c.inst.result (λ new. over th.basis (instance_like th.basis t th.sequent) ≡ Some new)
     (λ new made.
-    inst_gives th t concl ps c.hyps.ensures.set c.concl.ensures.concl c.requires c.well_typed.ensures f found general c.types.result.now c.types.ensures c.terms.result.now c.terms.ensures.terms c.terms.ensures.good r
+    inst_gives th t concl ps c.hyps.ensures.set c.concl.ensures.concl c.requires f found general c.types.result.now c.types.ensures c.terms.result.now c.terms.ensures.terms c.terms.ensures.good r
     (gave in_kernel rule.InstType (over th.basis (inst_type_of th.basis c.types.result.now th.sequent)) c.inst_type.result r c.inst_type.ensures.sequent c.in_ok-typed.ensures) new
     (gave in_kernel rule.Inst (over r.basis (inst_of r.basis c.terms.result.now r.sequent)) c.inst.result new c.inst.ensures.sequent made))
     c.made_in_kernel-2.ensures

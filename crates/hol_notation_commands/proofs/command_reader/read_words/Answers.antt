@@ -1,3 +1,5 @@
+-- Wherever a reader answers: the productions from the beginning of the part (`start`) over what was read so far (`by_part`, `by_token`)
+-- lead to the whole that it gives (`arrive`), or to the word at which none goes on (`stick`, `miss`).
 use Rattle.std.proofs.Common.{map, ap, refl, ◌∙◌, sym}
 use Rattle.std.proofs.lemmas.Result.{err_from_is_err_and}
 use Rattle.hol_notation_tokens.specs.Lexeme.{seen}

@@ -1,3 +1,5 @@
+-- Wherever a reader answers: the parts that it read make the whole (the lemmas `.._found`), or the word at which a part stops is the one at
+-- which the whole stops (`.._fails`, `.._missing`).
 use Rattle.std.proofs.Common.{◌≡◌, ℕ, List, map, refl, sym, subst, ◌∙◌, Option, None, Ok}
 use Rattle.std.specs.Borrow.{Bor}
 use Rattle.std.proofs.lemmas.Result.{err_from_is_err_and}

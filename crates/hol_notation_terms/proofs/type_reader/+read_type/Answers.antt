@@ -1,3 +1,5 @@
+-- Wherever a reader answers: the parts that it read make the whole, or the word at which a part stops is the one at which the whole stops
+-- (`.._fails`, `.._missing`).
 use Rattle.std.proofs.Common.{map, refl}
 use Rattle.std.proofs.lemmas.Result.{err_from_is_err_and}
 use Rattle.hol_notation_tokens.specs.Lexeme.{seen}

@@ -1,5 +1,6 @@
 use Rattle.std.specs.FinSet as set
 use Rattle.std.proofs.Common.{◌≡◌, ◌∙◌, refl}
+use Rattle.hol_bool.proofs.Disjunctions.{one_removed}
 use Rattle.hol_terms.specs.Alpha.{strip}
 use Rattle.hol_formulas.specs.Formula.{falsity, equivalence, negation}
 use Rattle.hol_kernel.specs.Items.{no_items}
@@ -7,7 +8,7 @@ use Rattle.hol_kernel.specs.Sequent.{only_hyp}
 use Rattle.hol_kernel.specs.Theorem.{theorem_over}
 use Rattle.hol_equal.proofs.Outcomes.{became}
 use Rattle.hol_prelude.specs.Deduction.{theorem_of, theorem_under, concl_of}
-use Rattle.hol_prelude.proofs.From.{one_alone, discharged_alone, under_from}
+use Rattle.hol_prelude.proofs.From.{discharged_alone, under_from}
 use Rattle.hol_prelude.proofs.equality.is_falsity.Goals as goal
 
 pub denied_if_false-requires : goal.denied_if_false-requires
@@ -25,7 +26,7 @@ equivalent-requires c =
     let e = equivalence p falsity in
     let equal : c.in_ok-equal.equal ≡ theorem_under (negation p) e = c.in_ok-equal.ensures in
     let not : c.in_ok-not.not ≡ theorem_over no_items (set.remove (set.union (only_hyp e) hs) (strip p)) (negation p) = c.in_ok-not.ensures ∙ (λ i. theorem_over no_items (set.remove (set.union (only_hyp (concl_of (equal i))) hs) (strip p)) (negation p)) in
-    rw (equal, not) record { first = under_from (negation p) e; second = record { over = refl; alone = discharged_alone (only_hyp e) hs (strip p) (strip e) (one_alone e) c.requires.alone } }
+    rw (equal, not) record { first = under_from (negation p) e; second = record { over = refl; alone = discharged_alone (only_hyp e) hs (strip p) (strip e) (one_removed e) c.requires.alone } }
 
 pub returns : goal.returns
 returns c =

@@ -6,8 +6,7 @@ use Rattle.hol_kernel.specs.Sequent.{only_hyp, Hyps}
 use Rattle.hol_kernel.specs.Theorem.{Theorem, theorem_on, theorem_over}
 use Rattle.hol_equal.proofs.HypSets.{none_right}
 use Rattle.hol_equal.proofs.Outcomes.{became}
-use Rattle.hol_equal.specs.Applied.{lhs, rhs}
-use Rattle.hol_bool.specs.Applied.{implied}
+use Rattle.hol_equal.specs.Applied.{lhs, rhs, concluded}
 use Rattle.hol_prelude.specs.Deduction.{theorem_under, concl_of}
 use Rattle.hol_prelude.proofs.implication.from_truth_implies.Goals as goal
 
@@ -33,5 +32,5 @@ returns c =
     let p = rhs e in
     let d = implication truth p in
     let all : c.in_ok-all.all ≡ theorem_under d d = c.in_ok-all.ensures ∙ (λ i. theorem_under (c.requires.is i) (c.requires.is i)) in
-    became c.mp.result (theorem_on c.in_ok-all.all.basis (implied c.in_ok-all.all.sequent c.args.holds.now.sequent)) (theorem_under e p) c.mp.ensures
-    ((λ i. theorem_on (all i).basis (implied (all i).sequent (c.requires.holds i).sequent)) ∙ ap (λ (hs : Hyps). theorem_over no_items hs p) (none_right (only_hyp d)) ∙ (λ i. theorem_under (sym c.requires.is i) p))
+    became c.mp.result (theorem_on c.in_ok-all.all.basis (concluded c.in_ok-all.all.sequent c.args.holds.now.sequent)) (theorem_under e p) c.mp.ensures
+    ((λ i. theorem_on (all i).basis (concluded (all i).sequent (c.requires.holds i).sequent)) ∙ ap (λ (hs : Hyps). theorem_over no_items hs p) (none_right (only_hyp d)) ∙ (λ i. theorem_under (sym c.requires.is i) p))

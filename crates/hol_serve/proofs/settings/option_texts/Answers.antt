@@ -1,5 +1,5 @@
-use Rattle.std.proofs.Common.{rules, ap, ap₂, refl, codes, true, false, map, ◌≡◌, ◌∙◌, sym, Bool}
-use Rattle.std.proofs.lemmas.Bool.{true≢false}
+use Rattle.std.proofs.Common.{rules, ap, ap₂, refl, codes, true, false, map, ◌≡◌, ◌∙◌, sym}
+use Rattle.std.proofs.lemmas.Bool.{true≢false, false_from_ne_true}
 use Rattle.clap.specs.Words.{App, app_of, first_of, is_simple, found_of, rows_of, matches_of, rule_of, with_rule, takes, kind_of}
 use Rattle.clap.specs.declared.error.ErrorKind.TheVariants.{OutOfMemory}
 use Rattle.clap.proofs.OnLiterals.{clap_on_literals}
@@ -33,10 +33,6 @@ returns-in-Ok-clause-cache c =
     (c.in-Ok.ensures.matches (ap is_simple app_is ∙ simple)).0 ∙ ap (λ (a : App). matches_of a (map (λ w. w.now) c.args.words.now)) app_is in
     c.get_str-in-Ok.ensures ∙ first_value-rows (found_of c.in-Ok.matches) (codes "cache") ∙ ap (first_of (codes "cache")) rows
 
-false_unless : (b : Bool) → (b ≡ true → ⊥) → b ≡ false
-false_unless true h = absurd (h refl)
-false_unless false h = refl
-
 pub returns-clause-bad : goal.returns-clause-bad
 unfolding is_taken
 returns-clause-bad c e =
@@ -44,7 +40,7 @@ returns-clause-bad c e =
     let cache_is : rule_of c.long-cache.result ≡ cache_rule = search rules in
     let app_is : app_of c.in_ok-command.command ≡ options = c.in_ok-command.ensures.shape (search rules)
     ∙ ap₂ with_rule (c.in_ok-arg.ensures.shape (search rules) ∙ ap₂ with_rule c.new-3.ensures.app turns_is) cache_is in
-    false_unless (takes options (map (λ w. w.now) c.args.words.now)) (λ taken.
+    false_from_ne_true (takes options (map (λ w. w.now) c.args.words.now)) (λ taken.
     let none : kind_of c.in-Err.error ≡ OutOfMemory = c.in-Err.ensures.passes (ap (λ (a : App). takes a (map (λ w. w.now) c.args.words.now)) app_is ∙ taken) in
     let same : c.eq.result ≡ true = rw (c.kind.ensures ∙ none) at c.eq.ensures in
     true≢false (sym same ∙ c.if-eq.false))

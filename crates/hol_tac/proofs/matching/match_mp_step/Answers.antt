@@ -42,7 +42,7 @@ returns-clause-valid c =
     let t = nameless [] c.in-Some.t.now in
     let parts : dest_imp o.body ≡ Some (s, t) = search rules in
     let found : IsFound th g t c.in-Some-2.found = search rules in
-    justified th g o is c.given_typed.ensures.conclusion c.given_typed.ensures.hypotheses s t c.in-Some-2.found parts found c.in_ok-step.step
+    justified th g o is c.conclusion_typed.ensures s t c.in-Some-2.found parts found c.in_ok-step.step
     (λ v h. sym (c.in_ok-all_terms_by.ensures v.0) ∙ c.in_ok-opened.ensures.apart v h) c.in_ok-step.ensures.just c.in_ok-step.ensures.goals
 
 pub returns-in_default-2-clause-goals : goal.returns-in_default-2-clause-goals

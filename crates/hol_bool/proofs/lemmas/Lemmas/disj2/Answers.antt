@@ -1,28 +1,18 @@
-use Rattle.std.proofs.Common.{◌≡◌, ap, sym, ◌∙◌, subst, [], ◌∷◌, Some, refl, codes, true}
-use Rattle.std.specs.Prelude.{None, List}
+use Rattle.std.proofs.Common.{◌≡◌, ap, [], refl, true}
 use Rattle.std.specs.FinSet as set
-use Rattle.hol_types.specs.Fun.{fun_type}
-use Rattle.hol_terms.specs.Nameless.{Nameless, nameless, fixed, app}
-use Rattle.hol_terms.specs.Alpha.{strip, alpha_eq}
-use Rattle.hol_formulas.specs.Equation.{equation, bool_type, dest_eq}
-use Rattle.hol_formulas.specs.Formula.{truth, falsity, negation, conjunction, disjunction, implication, equivalence, connective_type, quantifier_type, dest_conj, dest_imp}
-use Rattle.hol_kernel.specs.Items.{Items}
-use Rattle.hol_kernel.specs.Sequent.{no_hyps, only_hyp, sequent_of, Hyps, Sequent}
-use Rattle.hol_kernel.specs.Theorem.{Theorem, theorem_on, over}
-use Rattle.hol_kernel.specs.Typing.{HasType, is_type}
-use Rattle.hol_equal.proofs.Outcomes.{became}
-use Rattle.std.specs.Prelude.{MatchOption}
-use Rattle.hol_formulas.proofs.FormulaLaws.{dest_binary_is}
-use Rattle.hol_equal.specs.Applied.{lhs, rhs}
+use Rattle.hol_terms.specs.Nameless.{nameless}
+use Rattle.hol_formulas.specs.Equation.{bool_type}
+use Rattle.hol_formulas.specs.Formula.{disjunction}
+use Rattle.hol_kernel.specs.Sequent.{only_hyp, sequent_of}
+use Rattle.hol_kernel.specs.Theorem.{theorem_on, over}
+use Rattle.hol_kernel.specs.Typing.{HasType}
 use Rattle.hol_equal.specs.Applied as made
-use Rattle.hol_bool.specs.Lemmas.{hypothesis, conclusion}
-use Rattle.hol_bool.proofs.Chains.{one_basis, eq_mp_fits, followed}
-use Rattle.hol_bool.proofs.Connected.{operands_typed}
-use Rattle.hol_bool.proofs.Instances.{typed_at, holds, refuted, gives_by}
-use Rattle.hol_bool.proofs.LemmaHypotheses.{swapped}
+use Rattle.hol_bool.specs.Lemmas.{conclusion}
+use Rattle.hol_bool.proofs.Chains.{one_basis}
+use Rattle.hol_bool.proofs.Instances.{typed_at, holds, gives_by}
 use Rattle.hol_kernel.specs.Typing.{has_type}
 use Rattle.hol_kernel.proofs.Declared.{has_type_is}
-use Rattle.hol_bool.specs.Applied.{with_left, with_right}
+use Rattle.hol_bool.specs.Applied.{with_left}
 use Rattle.hol_bool.specs.Rules.{disj2_of}
 use Rattle.hol_bool.proofs.DisjunctionRules.{disj2_none, disj2_gives}
 use Rattle.hol_bool.proofs.lemmas.Lemmas.disj2.Goals as goal

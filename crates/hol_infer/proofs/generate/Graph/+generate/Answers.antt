@@ -1,3 +1,4 @@
+-- Of each form of term: that what the calls on its parts did to the graph, one after the other, is what generating does for the whole.
 use Rattle.std.proofs.Common.{◌≡◌, sym, ap, refl, subst, length}
 use Rattle.std.proofs.lemmas.Result.{IfOk-weaker}
 use Rattle.hol_infer.specs.Generate.{IsClosedAt}

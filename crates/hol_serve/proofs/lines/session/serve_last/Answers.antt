@@ -1,13 +1,13 @@
 use Rattle.std.proofs.Common.{◌≡◌, ◌∷◌, [], false, refl}
+use Rattle.std.proofs.KnownBytes.{Appends-nil}
 use Rattle.hol_serve.specs.Lines.{unless_empty}
-use Rattle.hol_serve.proofs.Known.{appends_nothing}
 use Rattle.hol_serve.proofs.Sessions.{on_err, answers_one, part_of_one}
 use Rattle.hol_serve.proofs.lines.session.serve_last.Goals as goal
 
 pub returns-then-is_empty-clause-answered : goal.returns-then-is_empty-clause-answered
 returns-then-is_empty-clause-answered g c text h =
     let none : unless_empty text ≡ [] = rw c.if-is_empty.true at (c.is_empty.ensures text h) in
-    ([], false, appends_nothing _, rw none (refl, refl, refl))
+    ([], false, Appends-nil _, rw none (refl, refl, refl))
 
 pub returns-in_err-_closes-clause-in_part : goal.returns-in_err-_closes-clause-in_part
 returns-in_err-_closes-clause-in_part g c = on_err c.from_residual.result _ (λ text h.

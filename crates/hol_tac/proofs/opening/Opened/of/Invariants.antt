@@ -2,7 +2,7 @@ use Rattle.std.proofs.Common.{◌≡◌, ◌++◌, List, [], map, Some}
 use Rattle.hol_terms.specs.Named.{var, named_type}
 use Rattle.hol_terms.specs.Nameless.{Nameless, nameless}
 use Rattle.hol_formulas.specs.Equation.{bool_type}
-use Rattle.hol_just.specs.Strip.{nodes}
+use Rattle.hol_match.specs.Rules.{nodes}
 use Rattle.hol_tac.specs.Fresh.{AreAlike}
 use Rattle.hol_tac.proofs.Stages.{IsStage, AreApart}
 use Rattle.hol_tac.proofs.opening.Opened.of.Given as goal

@@ -1,6 +1,0 @@
-use Rattle.std.proofs.Common.{◌≡◌, drop}
-use Rattle.hol_types.specs.Names.{is_among}
-use Rattle.hol_subst.proofs.tyvars.is_among.Given as goal
-
-abbrev pub invariant-loop-other : goal.invariant-loop-other
-invariant-loop-other l = is_among l.own l.name ≡ is_among (drop l.other-index l.own) l.name
