@@ -15,8 +15,8 @@ use std::hash::{DefaultHasher, Hash, Hasher};
 use std::process::Abort;
 use std::test::Fail;
 
-// What a proof of `x = x` is.
-const PROOF: [&str; 3] = ["g REFL1 `x:A = x`", "e REFL_TAC", "qed"];
+// A `qed` that is refused, and what a proof of `x = x` is.
+const PROOF: [&str; 4] = ["qed", "g REFL1 `x:A = x`", "e REFL_TAC", "qed"];
 
 // What makes a type, a constant, an axiom and definitions.
 const MAKING: [&str; 5] = [
@@ -40,20 +40,17 @@ struct Step {
 fn carry_out(
     alloc: Global,
     setup: &Setup,
-    text: &str,
+    command: LocalCommand,
     state: &mut State,
-) -> Result<Option<Step>, Fail> {
-    let Parsed::Local(command) = parse(alloc, text)? else {
-        return Ok(None);
-    };
+) -> Result<Step, Fail> {
     let reads = Reads::of(alloc, &command, state)?;
     let outcome = run_local(alloc, setup, &command, &reads)?;
     apply(alloc, state, &outcome)?;
-    Ok(Some(Step {
+    Ok(Step {
         command,
         reads,
         outcome,
-    }))
+    })
 }
 
 fn hash_of<T: Hash>(value: &T) -> u64 {
@@ -62,25 +59,45 @@ fn hash_of<T: Hash>(value: &T) -> u64 {
     state.finish()
 }
 
+// Whether what was read is the same as its copy.
+fn are_reads_copied(alloc: Global, reads: &Reads) -> Result<bool, Fail> {
+    let copy = reads.copy(alloc)?;
+    Ok(*reads == copy && hash_of(reads) == hash_of(&copy))
+}
+
 // Whether the command, what it read and its outcome are the same as their copies.
 fn copies_are_same(alloc: Global, step: &Step) -> Result<bool, Fail> {
-    let command = step.command.copy(alloc)?;
-    let reads = step.reads.copy(alloc)?;
-    let outcome = step.outcome.copy(alloc)?;
-    Ok(
-        step.command.same(&command)
-            && step.reads == reads
-            && hash_of(&step.reads) == hash_of(&reads)
-            && step.outcome.same(&outcome),
-    )
+    if !are_reads_copied(alloc, &step.reads)? {
+        return Ok(false);
+    }
+    if !step.command.same(&step.command.copy(alloc)?) {
+        return Ok(false);
+    }
+    Ok(step.outcome.same(&step.outcome.copy(alloc)?))
 }
 
 // Whether the text is a command that is, carried out, the same as its copies.
 fn is_copied(alloc: Global, setup: &Setup, text: &str, state: &mut State) -> Result<bool, Fail> {
-    match carry_out(alloc, setup, text, state)? {
-        Some(step) => copies_are_same(alloc, &step),
-        None => Ok(false),
+    let Parsed::Local(command) = parse(alloc, text)? else {
+        return Ok(false);
+    };
+    let step = carry_out(alloc, setup, command, state)?;
+    copies_are_same(alloc, &step)
+}
+
+// Whether each of the texts is such a command.
+fn are_copied(
+    alloc: Global,
+    setup: &Setup,
+    texts: &[&str],
+    state: &mut State,
+) -> Result<bool, Fail> {
+    for text in texts {
+        if !is_copied(alloc, setup, text, state)? {
+            return Ok(false);
+        }
     }
+    Ok(true)
 }
 
 // Whether the key of a theorem of this name equals its copy, and something stands under it.
@@ -101,12 +118,8 @@ fn copies_of_steps_and_keys_are_the_same(rt: HostRuntime) -> Result<(), Fail> {
     )?;
     let setup = setup_of_one(alloc, "REFL_TAC", TacCode::ReflTac, tac)?;
     let mut state = State::new(alloc);
-    for text in ["qed", PROOF[0], PROOF[1], PROOF[2]] {
-        assert!(rt; is_copied(alloc, &setup, text, &mut state)?);
-    }
-    for text in MAKING {
-        assert!(rt; is_copied(alloc, &setup, text, &mut state)?);
-    }
+    assert!(rt; are_copied(alloc, &setup, &PROOF, &mut state)?);
+    assert!(rt; are_copied(alloc, &setup, &MAKING, &mut state)?);
     assert!(rt; stands(alloc, &state, "REFL1")? && stands(alloc, &state, "N2")?);
     Ok(())
 }
@@ -165,6 +178,6 @@ fn copies_of_reports_have_the_same_texts(rt: HostRuntime) -> Result<(), Fail> {
     )?;
     let setup = setup_of_one(alloc, "REFL_TAC", TacCode::ReflTac, tac)?;
     let mut docs = Docs::new(alloc, setup, 1);
-    insert_all(&mut docs, &["qed", PROOF[0], PROOF[1], PROOF[2]])?;
+    insert_all(&mut docs, &PROOF)?;
     expect_copies(&rt, &docs)
 }

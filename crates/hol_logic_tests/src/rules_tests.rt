@@ -87,16 +87,25 @@ fn redex(alloc: Global, t: &Term) -> Result<Term, Fail> {
     Ok(Term::comb(alloc, &Term::abs(alloc, &x, t)?, &x)?)
 }
 
+// Whether TRANS of a term's equation with itself has no hypotheses.
+fn is_equal_to_itself(alloc: Global, basis: &Basis, t: &Term) -> Result<bool, Fail> {
+    let th = Thm::refl(alloc, basis, t)?;
+    Ok(Thm::trans(alloc, &th, &th)?.hyps().is_empty())
+}
+
+// Whether BETA of a redex over the term has no hypotheses.
+fn is_contracted(alloc: Global, basis: &Basis, t: &Term) -> Result<bool, Fail> {
+    let redex = redex(alloc, t)?;
+    Ok(Thm::beta(alloc, basis, &redex)?.hyps().is_empty())
+}
+
 // It would not end in the reader's lifetime if a rule walked the tree.
 #[test]
 fn rules_do_not_walk_a_shared_term(rt: HostRuntime) -> Result<(), Fail> {
     let basis = Basis::empty(rt.alloc())?;
     let t = doubled(rt.alloc(), "p:A")?;
-    let th = Thm::refl(rt.alloc(), &basis, &t)?;
-    let th = Thm::trans(rt.alloc(), &th, &th)?;
-    assert!(rt; th.hyps().is_empty());
-    let th = Thm::beta(rt.alloc(), &basis, &redex(rt.alloc(), &t)?)?;
-    assert!(rt; th.hyps().is_empty());
+    assert!(rt; is_equal_to_itself(rt.alloc(), &basis, &t)?);
+    assert!(rt; is_contracted(rt.alloc(), &basis, &t)?);
     Ok(())
 }
 

@@ -82,17 +82,30 @@ fn under(alloc: Global, v: &str, t: &Term) -> Result<Term, Fail> {
     Ok(Term::abs(alloc, &term(alloc, v)?, t)?)
 }
 
+// Whether two terms made of the one are the same, and first of neither in the alpha order.
+fn are_the_same(alloc: Global, t: &Term) -> Result<bool, Fail> {
+    let one = pair(alloc, t)?;
+    let other = pair(alloc, t)?;
+    Ok(one.same(&other) && alpha_order(&one, &other) == Ordering::Equal)
+}
+
+// Whether they differ under binders of two names in these alone.
+fn are_alike_under_binders(alloc: Global, t: &Term) -> Result<bool, Fail> {
+    let one = under(alloc, "x:A", &pair(alloc, t)?)?;
+    let other = under(alloc, "y:A", &pair(alloc, t)?)?;
+    Ok(
+        one.alpha_equivalent(&other)
+            && !one.same(&other)
+            && alpha_order(&one, &other) == Ordering::Equal,
+    )
+}
+
 // It would not end in the reader's lifetime if a call walked the tree.
 #[test]
 fn one_node_is_not_walked_twice(rt: HostRuntime) -> Result<(), Fail> {
     let t = doubled(rt.alloc(), "p:A")?;
-    let s = pair(rt.alloc(), &t)?;
-    assert!(rt; s.same(&pair(rt.alloc(), &t)?));
-    assert_eq!(rt; alpha_order(&s, &pair(rt.alloc(), &t)?), Ordering::Equal);
-    let one = under(rt.alloc(), "x:A", &s)?;
-    let other = under(rt.alloc(), "y:A", &pair(rt.alloc(), &t)?)?;
-    assert!(rt; one.alpha_equivalent(&other) && !one.same(&other));
-    assert_eq!(rt; alpha_order(&one, &other), Ordering::Equal);
+    assert!(rt; are_the_same(rt.alloc(), &t)?);
+    assert!(rt; are_alike_under_binders(rt.alloc(), &t)?);
     Ok(())
 }
 

@@ -189,12 +189,17 @@ const REPLAYED: [(&str, &str, bool, &str); 7] = [
     ("p <=> q", "r /\\ s", false, "0 |- r /\\ s <=> r /\\ s"),
 ];
 
+// What the term comes to by the formula as a rule, as text.
+fn replayed_by(alloc: Global, p: &str, t: &str, is_once: bool) -> Result<String, Fail> {
+    let given = Given::assumed(&term(alloc, p)?)?;
+    let t = term(alloc, t)?;
+    replayed(alloc, &basis(alloc)?, &given, &t, is_once)
+}
+
 #[test]
 fn traces_are_replayed(rt: HostRuntime) -> Result<(), Fail> {
-    let alloc = rt.alloc();
     for &(p, t, is_once, wanted) in &REPLAYED {
-        let given = Given::assumed(&term(alloc, p)?)?;
-        let found = replayed(alloc, &basis(alloc)?, &given, &term(alloc, t)?, is_once)?;
+        let found = replayed_by(rt.alloc(), p, t, is_once)?;
         assert_eq!(rt; found.as_str(), wanted, "{p} {t}");
     }
     Ok(())
