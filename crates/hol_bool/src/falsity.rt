@@ -75,6 +75,22 @@ pub(crate) fn from_falsity(alloc: Global, basis: &Basis, p: &Term) -> Result<Thm
     contr(alloc, p, &assumed)
 }
 
+// `F` under the hypotheses `~p`, which is `denied`, and `p`.
+fn denied_and_assumed(
+    alloc: Global,
+    basis: &Basis,
+    denied: &Term,
+    p: &Term,
+) -> Result<Thm, AllocError>
+    requires is { nameless [] denied.now ≡ negation (nameless [] p.now) }
+    requires typed { HasType basis.now (nameless [] denied.now) bool_type }
+    requires part { HasType basis.now (nameless [] p.now) bool_type }
+    ensures { IfOk result (λ th. th ≡ theorem_on basis.now (refuted_under (sequent_of (only_hyp (nameless [] denied.now)) (nameless [] denied.now)) (nameless [] p.now))) }
+{
+    let assumed = assume(alloc, basis, denied)?;
+    refuted(alloc, &assumed, p)
+}
+
 // `p = F` under the hypothesis `~p`, which is `denied`.
 fn false_if_denied(alloc: Global, basis: &Basis, denied: &Term, p: &Term) -> Result<Thm, AllocError>
     requires is { nameless [] denied.now ≡ negation (nameless [] p.now) }
@@ -82,8 +98,7 @@ fn false_if_denied(alloc: Global, basis: &Basis, denied: &Term, p: &Term) -> Res
     requires part { HasType basis.now (nameless [] p.now) bool_type }
     ensures { IfOk result (λ th. th ≡ theorem_on basis.now (false_under (nameless [] denied.now) (nameless [] p.now))) }
 {
-    let assumed = assume(alloc, basis, denied)?;
-    let forward = refuted(alloc, &assumed, p)?;
+    let forward = denied_and_assumed(alloc, basis, denied, p)?;
     let back = from_falsity(alloc, basis, p)?;
     Thm::deduct_antisym(alloc, &back, &forward)
 }

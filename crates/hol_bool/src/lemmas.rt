@@ -118,13 +118,21 @@ impl Lemmas {
     }
 }
 
+// The formula beside the variable of the name.
+fn beside_letter(alloc: Global, p: &Term, name: &str) -> Result<(Term, Term), AllocError>
+    ensures { IfOk result (λ pair. pair ≡ (p.now, var (boolean name.now))) }
+{
+    let own = p.copy()?;
+    Ok((own, letter(alloc, name)?))
+}
+
 // The formulas beside the variables `p` and `q`.
 fn beside_letters(alloc: Global, p: &Term, q: &Term) -> Result<Vec<(Term, Term)>, AllocError>
     ensures { IfOk result (λ pairs. pairs.items ≡ (p.now, var (boolean (codes "p"))) ∷ (q.now, var (boolean (codes "q"))) ∷ []) }
 {
     let mut pairs = Vec::with_capacity(alloc, 2)?;
-    pairs.push((p.copy()?, letter(alloc, "p")?))?;
-    pairs.push((q.copy()?, letter(alloc, "q")?))?;
+    pairs.push(beside_letter(alloc, p, "p")?)?;
+    pairs.push(beside_letter(alloc, q, "q")?)?;
     Ok(pairs)
 }
 

@@ -10,6 +10,7 @@ ghost use Rattle.hol_formulas.specs.Equation.{bool_type};
 ghost use Rattle.hol_kernel.specs.Theorem.{over};
 ghost use Rattle.hol_kernel.specs.Typing.{HasType, is_type};
 ghost use Rattle.hol_kernel.specs.Gives.{Gives};
+ghost use Rattle.hol_bool.specs.Applied.{abstraction_in, abstraction_term};
 ghost use Rattle.hol_bool.specs.Rules.{spec_of, gen_of, exists_of, choose_of, choose_left};
 ghost use Rattle.hol_bool.specs.Refusals.{in_bool};
 ghost use Rattle.hol_bool.specs.declared.error.Rule.TheVariants as rule;
@@ -84,6 +85,18 @@ fn says_of(alloc: Global, a: &Thm, x: &Variable, p: &Term, t: &Term) -> Result<b
     Ok(sides.right.alpha_equivalent(a.concl()))
 }
 
+// Whether the variable is free in a hypothesis other than the abstraction's body with it for the bound one.
+fn is_free_beside(alloc: Global, v: &Variable, f: &Term, b: &Thm) -> Result<bool, AllocError>
+    requires is { nameless [] f.now ≡ abstraction_term (abstraction_in (nameless [] f.now)) }
+    requires function { HasType b.now.basis (nameless [] f.now) (fun_type v.now.1 bool_type) }
+    requires stands { is_type b.now.basis v.now.1 ≡ true }
+    ensures { IfOk result (λ is. is ≡ is_free_in (set.items (choose_left v.now b.now.sequent.hyps (abstraction_in (nameless [] f.now)))) v.now) }
+{
+    let own = occurrence(alloc, v)?;
+    let rest = witness_implies(alloc, &own, f, b)?;
+    Ok(is_free_in_hypotheses(&rest, v))
+}
+
 // Whether the variable is free in a hypothesis other than the body with it for `x`.
 fn is_free_in_left(
     alloc: Global,
@@ -97,9 +110,7 @@ fn is_free_in_left(
     ensures { IfOk result (λ is. is ≡ is_free_in (set.items (choose_left v.now b.now.sequent.hyps (record { base = base_of x.now.0; domain = x.now.1; body = nameless (x.now ∷ []) p.now }))) v.now) }
 {
     let f = Term::abstraction(alloc, x, p)?;
-    let own = occurrence(alloc, v)?;
-    let rest = witness_implies(alloc, &own, &f, b)?;
-    Ok(is_free_in_hypotheses(&rest, v))
+    is_free_beside(alloc, v, &f, b)
 }
 
 /// The rule of existence (bool.ml, EXISTS): from `p` with `t` for `x`, up to bound names, the formula `?x. p` that is handed in.

@@ -43,14 +43,21 @@ fn element(alloc: Global) -> Result<Variable, AllocError>
     variable(alloc, "x", &ty)
 }
 
+// `A->bool`.
+fn property_type(alloc: Global) -> Result<Ty, AllocError>
+    ensures { IfOk result (λ ty. ty ≡ property_type var_a) }
+{
+    let ty = element_type(alloc)?;
+    let truth = bool_type(alloc)?;
+    Ty::fun(alloc, &ty, &truth)
+}
+
 // `P:A->bool`.
 fn property(alloc: Global) -> Result<Variable, AllocError>
     ensures { IfOk result (λ v. v ≡ property) }
 {
-    let ty = element_type(alloc)?;
-    let truth = bool_type(alloc)?;
-    let predicate = Ty::fun(alloc, &ty, &truth)?;
-    variable(alloc, "P", &predicate)
+    let ty = property_type(alloc)?;
+    variable(alloc, "P", &ty)
 }
 
 // `x:A`, as a term.

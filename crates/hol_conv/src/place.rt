@@ -1,5 +1,5 @@
 //! A part of a term, and the way to it.
-ghost use Rattle.std.specs.Prelude.{◌≡◌, ◌+◌, ◌<◌, [], pred, reverse, min, IfOk, OnOk, IfSome, IfNone, IsTrue, IsFalse, MatchOption, Some, None};
+ghost use Rattle.std.specs.Prelude.{◌≡◌, ◌+◌, ◌<◌, ◌++◌, ◌∷◌, [], pred, reverse, min, IfOk, OnOk, IfSome, IfNone, IsTrue, IsFalse, MatchOption, Some, None};
 ghost use Rattle.std.specs.Option.{option_map};
 ghost use Rattle.hol_terms.specs.Named.{named_type, term_nodes};
 ghost use Rattle.hol_terms.specs.Nameless.{nameless};
@@ -8,6 +8,7 @@ ghost use Rattle.hol_conv.specs.Redexes.{contraction, depth};
 ghost use Rattle.hol_conv.specs.Turns.{turn};
 ghost use Rattle.hol_conv.specs.Tracing.{Traces, redex_givens};
 ghost use Rattle.hol_conv.specs.Places.{whole, waiting, AreWalked, Stands, Lands, Took, StepsIn, is_marked, LeadsAround, LeadsThrough};
+ghost use Rattle.hol_conv.specs.declared.frame.Step.TheVariants.{Function};
 
 use crate::frame::{After, Frame, Step};
 use crate::redexes::{Contracted, Redexes};
@@ -78,8 +79,7 @@ impl Place {
         let _ty = self.part.type_of();
         match self.part.node() {
             TermNode::Comb(f, x) => {
-                let step = Step::Function(x.copy()?);
-                let function = f.copy()?;
+                let (step, function) = to_function(f, x)?;
                 self.step_in(step, function)?;
                 Ok(true)
             }
@@ -123,15 +123,28 @@ impl Place {
             let entered = self.entered.pop();
             match frame.after(alloc, &entered, &self.part)? {
                 After::Next(frame, argument) => {
-                    self.part = argument;
-                    keep(&mut self.entered, entered)?;
-                    self.frames.push(frame)?;
+                    self.move_on(frame, argument, entered)?;
                     return Ok(true);
                 }
                 After::Around(term) => self.part = term,
             }
         }
         Ok(false)
+    }
+
+    // To the argument, within this frame; the term that was stepped into stays so, if there is one.
+    fn move_on(
+        &mut self,
+        frame: Frame,
+        argument: Term,
+        entered: Option<Term>,
+    ) -> Result<(), AllocError>
+        ensures frames { OnOk result (self.new.frames.items ≡ self.old.frames.items ++ frame ∷ []) }
+        ensures part { OnOk result (self.new.part ≡ argument) }
+    {
+        self.part = argument;
+        keep(&mut self.entered, entered)?;
+        Ok(self.frames.push(frame)?)
     }
 
     /// The size of the whole term with this part, up to 20,001.
@@ -190,6 +203,16 @@ impl Place {
         };
         Ok(())
     }
+}
+
+// The step to the function of an application of `f` to `x`, and the function.
+fn to_function(f: &Term, x: &Term) -> Result<(Step, Term), AllocError>
+    ensures step { IfOk result (λ to. to.0 ≡ Function x.now) }
+    ensures part { IfOk result (λ to. to.1 ≡ f.now) }
+{
+    let step = Step::Function(x.copy()?);
+    let function = f.copy()?;
+    Ok((step, function))
 }
 
 // Puts the term at the end, if there is one.

@@ -1,10 +1,11 @@
 //! The statements of the definitions and axioms of the prelude.
 ghost use Rattle.std.specs.Prelude.{◌≡◌, IfOk, IsSome, Some, codes};
-ghost use Rattle.hol_terms.specs.Named.{abs, named_type};
+ghost use Rattle.hol_terms.specs.Named.{abs, comb, named_type, var};
 ghost use Rattle.hol_formulas.specs.Equation.{bool_type};
 ghost use Rattle.hol_formulas.specs.Formula.{connective_type};
 ghost use Rattle.hol_formulas.specs.Constants.{binder_type, function_property_type};
-ghost use Rattle.hol_formulas.specs.Prelude.{boolean, property, function, defining, postulated};
+ghost use Rattle.hol_formulas.specs.Making.{mk_conj};
+ghost use Rattle.hol_formulas.specs.Prelude.{boolean, property, function, defining, postulated, quantifier};
 ghost use Rattle.hol_formulas.specs.Written.{sort_type, written_term};
 ghost use Rattle.hol_formulas.specs.declared.postulate.Postulate.TheVariants as postulate;
 
@@ -116,22 +117,31 @@ fn negation_definition(alloc: Global) -> Result<Term, AllocError>
     define(alloc, "~", Sort::Negation, &right)
 }
 
-// `(?!) = (\P:A->bool. (?) P /\ (!x y. P x /\ P y ==> x = y))`.
+// `?! = (\P:A->bool. (?) P /\ u)`, for what says that there is one at most.
+fn define_unique_existence(alloc: Global, at_most_once: &Written<'_>) -> Result<Term, AllocError>
+    requires { named_type (written_term at_most_once.now) ≡ Some bool_type }
+    ensures { IfOk result (λ t. t ≡ defining (codes "?!") binder_type (abs property (mk_conj (comb (quantifier (codes "?")) (var property)) (written_term at_most_once.now)))) }
+{
+    let property = Variable("P", Sort::Property);
+    let exists = Constant("?", Sort::Binder);
+    let some = Applied(&exists, &property);
+    let once = Connective("/\\", &some, at_most_once);
+    define_binder(alloc, "?!", &once)
+}
+
+// `?! = (\P:A->bool. (?) P /\ (!x y. P x /\ P y ==> x = y))`.
 fn unique_existence_definition(alloc: Global) -> Result<Term, AllocError>
     ensures { IfOk result (λ t. t ≡ postulated postulate.ExistsUniqueDef) }
 {
     let property = Variable("P", Sort::Property);
     let x = Variable("x", Sort::Element);
     let y = Variable("y", Sort::Element);
-    let exists = Constant("?", Sort::Binder);
     let both = Connective("/\\", &Applied(&property, &x), &Applied(&property, &y));
     let same = Equation(Sort::Element, &x, &y);
     let unique = Connective("==>", &both, &same);
     let of_each = Quantified("!", "y", Sort::Element, &unique);
     let of_both = Quantified("!", "x", Sort::Element, &of_each);
-    let some = Applied(&exists, &property);
-    let once = Connective("/\\", &some, &of_both);
-    define_binder(alloc, "?!", &once)
+    define_unique_existence(alloc, &of_both)
 }
 
 // `ONE_ONE = (\f:A->B. !x1 x2. f x1 = f x2 ==> x1 = x2)`.

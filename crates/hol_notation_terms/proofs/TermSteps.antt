@@ -14,7 +14,7 @@ use Rattle.hol_notation_grammar.proofs.Steps.{FailsAll, Completes, fails_node, f
 use Rattle.hol_notation_terms.specs.declared.operator.Operator.TheVariants.{Not}
 use Rattle.hol_notation_terms.specs.Text.{TypeText, VariableText, TermText, Named, Constant, Applied, Typed}
 use Rattle.hol_notation_terms.specs.Grammar.{Nonterminal, Production, parts, term_grammar, infix_at, is_infix_at, opens, closing, a_type, a_level, a_term, a_tail, a_unary, a_typed, an_arguments, an_annotation, an_atom, an_inside, a_closed, a_bound, a_variable, an_ascription, an_after_name, an_after_bound, level_zero, level_up, no_infix, infixed, negation, binding, plain, typed_term, no_argument, argument, no_annotation, annotated, identifier_atom, parenthesised, closed_term, named_bound, typed_bound, typed_variable, ascription, last_typed, name_alone, bound_body, bound_more}
-use Rattle.hol_notation_terms.specs.Value.{bind, infix_value, type_value, level_value, unary_value, typed_value, arguments_value, atom_value, inside_value, closed_value, ascription_value, variable_value, bound_value, after_name_value, after_bound_value}
+use Rattle.hol_notation_terms.specs.Value.{bind, infix_value, type_value, level_value, unary_value, typed_value, arguments_value, annotation_value, atom_value, inside_value, closed_value, ascription_value, variable_value, bound_value, after_name_value, after_bound_value}
 use Rattle.hol_notation_terms.specs.Next.{next_opens}
 use Rattle.hol_notation_terms.proofs.Picks.{pick, looks, NotInside, choose_unary, choose_atom, choose_bound, choose_after_name, choose_after_bound, infix_opens, binder_chosen, shut}
 use Rattle.hol_notation_terms.proofs.Certain.{certain, same_term, wider}
@@ -173,35 +173,46 @@ arguments_fail end words after e v f h =
     (fails_after certain a_typed an_atom (part an_arguments (part an_annotation nothing)) end words after e f.written fit_arguments f.stands f.whole
     (fails_part certain a_typed an_arguments (part an_annotation nothing) end after e fit_annotation h))
 
-pub annotation_fails : (end : ℕ) (words after rest behind : List Lexeme) (e : SyntaxError) (v w : TermText) (x : Lexeme) → IsFound atom_value words v after → IsFound (λ xs. arguments_value xs v) after w rest
-    → Taken (Is (sign Colon)) rest x behind → Failing a_type end behind e → Failing a_typed end words e
-annotation_fails end words after rest behind e v w x f g t h =
+pub annotation_fails : (end : ℕ) (words after rest : List Lexeme) (e : SyntaxError) (v w : TermText) → IsFound atom_value words v after → IsFound (λ xs. arguments_value xs v) after w rest
+    → Failing an_annotation end rest e → Failing a_typed end words e
+annotation_fails end words after rest e v w f g h =
     whole a_typed typed_term end words e tt refl
     (fails_after certain a_typed an_atom (part an_arguments (part an_annotation nothing)) end words after e f.written fit_arguments f.stands f.whole
     (fails_after certain a_typed an_arguments (part an_annotation nothing) end after rest e g.written fit_annotation g.stands g.whole
-    (final a_typed an_annotation end rest e same_term
-    (whole an_annotation annotated end rest e tt (ap (pick an_annotation) t.whole ∙ ap (λ (k : Kind). cond (opens an_annotation k) (Some annotated) (Some no_annotation)) t.is)
-    (fails_behind term_grammar an_annotation (sign Colon) (λ _. part a_type nothing) end rest behind e x t.is t.whole (final an_annotation a_type end behind e wider h))))))
+    (final a_typed an_annotation end rest e same_term h)))
 
-pub annotated_found : (words after rest behind later : List Lexeme) (v w : TermText) (ty : TypeText) (x : Lexeme) → IsFound atom_value words v after → IsFound (λ xs. arguments_value xs v) after w rest
-    → Taken (Is (sign Colon)) rest x behind → IsFound type_value behind ty later → IsFound typed_value words (Typed w ty) later
-annotated_found words after rest behind later v w ty x f g t y =
-    let e : rest ≡ x ∷ then y.written later = t.whole ∙ ap (λ (l : List Lexeme). x ∷ l) y.whole in
-    let d : after ≡ then g.written (x ∷ then y.written later) = g.whole ∙ ap (then g.written) e in
+pub typed_term_found : (words after rest later : List Lexeme) (v w u : TermText) → IsFound atom_value words v after → IsFound (λ xs. arguments_value xs v) after w rest
+    → IsFound (λ n. annotation_value n w) rest u later → IsFound typed_value words u later
+typed_term_found words after rest later v w u f g h =
+    let d : after ≡ then g.written (then h.written later) = g.whole ∙ ap (then g.written) h.whole in
     record {
-      written = node typed_term (tree f.written (tree g.written (tree (node annotated (leaf x (tree y.written done))) done)));
+      written = node typed_term (tree f.written (tree g.written (tree h.written done)));
       whole = f.whole ∙ ap (then f.written) d;
-      stands = (tt, (subst (Stands f.written) d f.stands, (subst (Stands g.written) e g.stands, ((tt, (t.is, (y.stands, tt))), tt))));
-      says = ap (λ (a : TermText). Typed a ty) (g.says ∙ ap (arguments_value g.written) f.says) ∙ ap (Typed (arguments_value g.written (atom_value f.written))) y.says;
+      stands = (tt, (subst (Stands f.written) d f.stands, (subst (Stands g.written) h.whole g.stands, (h.stands, tt))));
+      says = h.says ∙ ap (annotation_value h.written) (g.says ∙ ap (arguments_value g.written) f.says);
     }
 
-pub untyped_found : (words after rest : List Lexeme) (v w : TermText) → IsFound atom_value words v after → IsFound (λ xs. arguments_value xs v) after w rest
-    → IsNotNext (Is (sign Colon)) rest → IsFound typed_value words w rest
-untyped_found words after rest v w f g n = record {
-  written = node typed_term (tree f.written (tree g.written (tree (node no_annotation done) done)));
-  whole = f.whole ∙ ap (then f.written) g.whole;
-  stands = (tt, (subst (Stands f.written) g.whole f.stands, (g.stands, ((not_open an_annotation (sign Colon) (λ x. colon_open x.kind) rest n, tt), tt))));
-  says = g.says ∙ ap (arguments_value g.written) f.says;
+-- the type after a term
+pub annotation_type_fails : (end : ℕ) (words behind : List Lexeme) (e : SyntaxError) (x : Lexeme) → Taken (Is (sign Colon)) words x behind → Failing a_type end behind e → Failing an_annotation end words e
+annotation_type_fails end words behind e x t h =
+    whole an_annotation annotated end words e tt (ap (pick an_annotation) t.whole ∙ ap (λ (k : Kind). cond (opens an_annotation k) (Some annotated) (Some no_annotation)) t.is)
+    (fails_behind term_grammar an_annotation (sign Colon) (λ _. part a_type nothing) end words behind e x t.is t.whole (final an_annotation a_type end behind e wider h))
+
+pub annotated_found : (words behind later : List Lexeme) (w : TermText) (ty : TypeText) (x : Lexeme) → Taken (Is (sign Colon)) words x behind → IsFound type_value behind ty later
+    → IsFound (λ n. annotation_value n w) words (Typed w ty) later
+annotated_found words behind later w ty x t y = record {
+  written = node annotated (leaf x (tree y.written done));
+  whole = t.whole ∙ ap (λ (l : List Lexeme). x ∷ l) y.whole;
+  stands = (tt, (t.is, (y.stands, tt)));
+  says = ap (Typed w) y.says;
+}
+
+pub untyped_found : (words : List Lexeme) (w : TermText) → IsNotNext (Is (sign Colon)) words → IsFound (λ n. annotation_value n w) words w words
+untyped_found words w n = record {
+  written = node no_annotation done;
+  whole = refl;
+  stands = (not_open an_annotation (sign Colon) (λ x. colon_open x.kind) words n, tt);
+  says = refl;
 }
 
 -- arguments

@@ -231,6 +231,9 @@ rest_last words after rest later x y u w ts t s e f = record {
 }
 
 -- the constructors after a type
+pub postfix_at : (words rest : List Lexeme) (u v w : TypeText) → u ≡ v → IsFound (λ p. postfix_value p u) words w rest → IsFound (λ p. postfix_value p v) words w rest
+postfix_at words rest u v w e f = subst (λ (t : TypeText). IsFound (λ p. postfix_value p t) words w rest) e f
+
 pub postfix_more : (words rest later : List Lexeme) (x : Lexeme) (u v w : TypeText) → Taken (Is identifier) words x rest → v ≡ Apply x.text (more_types u no_types)
     → IsFound (λ p. postfix_value p v) rest w later → IsFound (λ p. postfix_value p u) words w later
 postfix_more words rest later x u v w t e f = record {

@@ -5,11 +5,12 @@
 ghost use Rattle.std.specs.Prelude.{◌≡◌, ◌<◌, ◌≤◌, length, map, IfOk, IfSome};
 ghost use Rattle.hol_notation_tokens.specs.Lexeme.{seen};
 ghost use Rattle.hol_notation_grammar.specs.Reading.{ReadsPart};
+ghost use Rattle.hol_notation_terms.specs.declared.operator.Operator.TheVariants.{Not};
 ghost use Rattle.hol_notation_terms.specs.Grammar.{opens, an_arguments, infix_at};
 ghost use Rattle.hol_notation_terms.specs.Next.{next_opens};
 ghost use Rattle.hol_notation_terms.specs.Inside.{ReadsOperator};
-ghost use Rattle.hol_notation_terms.specs.Text.{Constant};
-ghost use Rattle.hol_notation_terms.specs.Value.{operator_of, bind, infix_value, level_value, unary_value, typed_value, arguments_value, atom_value, inside_value, closed_value, ascription_value, variable_value, bound_value, after_name_value, after_bound_value};
+ghost use Rattle.hol_notation_terms.specs.Text.{Named, Constant, Applied};
+ghost use Rattle.hol_notation_terms.specs.Value.{operator_of, bind, infix_value, level_value, unary_value, typed_value, arguments_value, annotation_value, atom_value, inside_value, closed_value, ascription_value, variable_value, bound_value, after_name_value, after_bound_value};
 
 use crate::operator::Operator;
 use crate::pre_term::{PreTerm, PreTermNode};
@@ -57,6 +58,22 @@ fn constant(alloc: Global, kind: Kind) -> Result<PreTerm, AllocError>
     PreTerm::new(alloc, PreTermNode::Operator(operator_of(kind)))
 }
 
+// A name.
+fn named(alloc: Global, text: &str) -> Result<PreTerm, AllocError>
+    ensures { IfOk result (λ t. t ≡ Named text.now) }
+{
+    let name = String::from_str(alloc, text)?;
+    PreTerm::new(alloc, PreTermNode::Ident(name))
+}
+
+// The negation of a term.
+fn negated(alloc: Global, operand: PreTerm) -> Result<PreTerm, AllocError>
+    ensures { IfOk result (λ t. t ≡ Applied (Constant Not) operand) }
+{
+    let not = constant(alloc, Kind::Not)?;
+    PreTerm::new(alloc, PreTermNode::Apply(not, operand))
+}
+
 // An infix between two terms.
 fn infixed(alloc: Global, kind: Kind, left: PreTerm, right: PreTerm) -> Result<PreTerm, AllocError>
     ensures { IfOk result (λ t. t ≡ infix_value kind left right) }
@@ -82,6 +99,20 @@ fn bind(
             PreTermNode::Apply(constant(alloc, binder)?, abstraction),
         ),
     }
+}
+
+// A variable of this name and type, bound by a binder.
+fn bind_named(
+    alloc: Global,
+    binder: Kind,
+    name: &str,
+    annotation: Option<PreType>,
+    body: PreTerm,
+) -> Result<PreTerm, AllocError>
+    ensures { IfOk result (λ t. t ≡ bind binder (record { name = name.now; annotation = annotation }) body) }
+{
+    let name = String::from_str(alloc, name)?;
+    bind(alloc, binder, PreVariable { name, annotation }, body)
 }
 
 /// A term.
@@ -139,8 +170,7 @@ fn read_unary<'a, 't>(
     match accept(words, Class::Sign(Kind::Not)) {
         Some((_not, after)) => {
             let (operand, rest) = read_unary(alloc, after, end)?;
-            let not = constant(alloc, Kind::Not)?;
-            Ok((PreTerm::new(alloc, PreTermNode::Apply(not, operand))?, rest))
+            Ok((negated(alloc, operand)?, rest))
         }
         None => match accept(words, Class::Binder) {
             Some((binder, after)) => {
@@ -166,13 +196,27 @@ fn read_typed<'a, 't>(
     ensures shorter { IfOk result (λ x. length x.1.now < length words.now) }
 {
     let (function, after) = read_atom(alloc, words, end)?;
-    let (term, rest) = read_arguments(alloc, function, after, end)?;
-    match accept(rest, Class::Sign(Kind::Colon)) {
+    let (term, behind) = read_arguments(alloc, function, after, end)?;
+    let (typed, rest) = read_annotation(alloc, term, behind, end)?;
+    Ok((typed, rest))
+}
+
+// A term with the type that is written after it, if one is.
+fn read_annotation<'a, 't>(
+    alloc: Global,
+    term: PreTerm,
+    words: &'a [Word<'t>],
+    end: usize,
+) -> Result<(PreTerm, &'a [Word<'t>]), SyntaxError>
+    ensures reads { ReadsPart (λ n. annotation_value n term) (λ t. t) end words.now result }
+    ensures shorter { IfOk result (λ x. length x.1.now ≤ length words.now) }
+{
+    match accept(words, Class::Sign(Kind::Colon)) {
         Some((_colon, behind)) => {
-            let (ty, later) = read_type(alloc, behind, end)?;
-            Ok((PreTerm::new(alloc, PreTermNode::Typed(term, ty))?, later))
+            let (ty, rest) = read_type(alloc, behind, end)?;
+            Ok((PreTerm::new(alloc, PreTermNode::Typed(term, ty))?, rest))
         }
-        None => Ok((term, rest)),
+        None => Ok((term, words)),
     }
 }
 
@@ -218,10 +262,7 @@ fn read_atom<'a, 't>(
     ensures shorter { IfOk result (λ x. length x.1.now < length words.now) }
 {
     match accept(words, Class::Identifier) {
-        Some((name, rest)) => {
-            let text = String::from_str(alloc, name.text)?;
-            Ok((PreTerm::new(alloc, PreTermNode::Ident(text))?, rest))
-        }
+        Some((name, rest)) => Ok((named(alloc, name.text)?, rest)),
         None => {
             let (_open, inside) = expect(words, Class::Sign(Kind::Open), end)?;
             let (term, rest) = read_inside(alloc, inside, end)?;
@@ -360,21 +401,11 @@ fn read_after_name<'a, 't>(
             let (ty, behind) = read_type(alloc, after, end)?;
             let (_dot, inside) = expect(behind, Class::Sign(Kind::Dot), end)?;
             let (body, rest) = read_level(alloc, inside, end, 5)?;
-            let name = String::from_str(alloc, name)?;
-            let annotation = Some(ty);
-            Ok((
-                bind(alloc, binder, PreVariable { name, annotation }, body)?,
-                rest,
-            ))
+            Ok((bind_named(alloc, binder, name, Some(ty), body)?, rest))
         }
         None => {
             let (body, rest) = read_after_bound(alloc, binder, words, end)?;
-            let name = String::from_str(alloc, name)?;
-            let annotation = None;
-            Ok((
-                bind(alloc, binder, PreVariable { name, annotation }, body)?,
-                rest,
-            ))
+            Ok((bind_named(alloc, binder, name, None, body)?, rest))
         }
     }
 }

@@ -62,13 +62,14 @@ turns-preserved c =
     let some : 0 < c.turns.left = search rules in
     let small : term_size [] (whole gs u) ≤ 20000 = search rules in
     let lands = c.in_ok-redex.ensures.lands in
-    let whole_is = c.in_ok-put.ensures.same in
+    let whole_is = c.in_ok-take.ensures.lands.same in
     let part : Traces (redex_givens r) c.in-Some.redex.node.value m u = search rules in
-    let turned : Traces (redex_givens r) c.in_ok-turn.turn.value (whole fs n) (whole gs u) = subst (λ z. Traces (redex_givens r) c.in_ok-turn.turn.value z (whole gs u)) lands.same (c.in_ok-turn.ensures r m u lands.stands.walked part) in
-    let after : IsAfter c.turns.node.value c.in_ok-turn.turn.value c.append.new.first = subst (λ z. IsAfter z c.in_ok-turn.turn.value c.append.new.first) c.deref_mut.ensures.value (subst (λ z. IsAfter c.deref_mut.result.now z c.append.new.first) c.into_inner.ensures c.in_ok-append.ensures) in
-    let traces = after_traces (redex_givens r) c.turns.node.value c.in_ok-turn.turn.value c.append.new.first (nameless [] c.args.term.now) (whole fs n) (whole gs u) after c.turns.invariant.traces turned in
+    let told = c.in_ok-take.ensures.traces in
+    let turned : Traces (redex_givens r) told.0 (whole fs n) (whole gs u) = subst (λ z. Traces (redex_givens r) told.0 z (whole gs u)) lands.same (told.1 r m u lands.stands.walked part) in
+    let after : IsAfter c.turns.node.value told.0 c.take.new.node = subst (λ z. IsAfter z told.0 c.take.new.node) c.deref_mut.ensures.value told.2 in
+    let traces = after_traces (redex_givens r) c.turns.node.value told.0 c.take.new.node (nameless [] c.args.term.now) (whole fs n) (whole gs u) after c.turns.invariant.traces turned in
     record {
       same = c.turns.invariant.same ∙ all_more r c.turns.left (whole fs n) (whole gs u) (next_turn r fs gs n m u lands redex) some small ∙ ap (all_turns (turn (contraction r) []) (c.turns.left - 1)) (sym whole_is);
-      stands = c.in_ok-put.ensures.stands;
-      traces = subst (λ z. Traces (redex_givens r) c.append.new.first (nameless [] c.args.term.now) z) (sym whole_is) traces;
+      stands = c.in_ok-take.ensures.lands.stands;
+      traces = subst (λ z. Traces (redex_givens r) c.take.new.node (nameless [] c.args.term.now) z) (sym whole_is) traces;
     }

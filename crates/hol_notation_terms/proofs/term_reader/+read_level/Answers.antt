@@ -9,7 +9,7 @@ use Rattle.hol_notation_tokens.specs.Lexeme.{Lexeme, seen}
 use Rattle.hol_notation_grammar.specs.Terminal.{Is, IsNotNext, sign}
 use Rattle.hol_notation_grammar.specs.Class.{Taken}
 use Rattle.hol_notation_terms.specs.Inside.{OpensTerm, ReadsOperator}
-use Rattle.hol_notation_terms.proofs.TermSteps.{zero_fails, zero_found, left_fails, right_fails, right_found, alone_found, not_fails, not_found, binder_fails, binder_found, plain_fails, plain_found, function_fails, arguments_fail, annotation_fails, annotated_found, untyped_found, argument_fails, arguments_rest, arguments_found, no_arguments, atom_missing, inside_fails, name_found, inside_found, closed_fails, close_missing, closed_found, named_fails, named_found, variable_fails, after_variable_fails, typed_found, name_type_fails, dot_missing, name_body_fails, last_found, name_alone_fails, name_alone_found, body_fails, body_found, more_fails, more_found}
+use Rattle.hol_notation_terms.proofs.TermSteps.{zero_fails, zero_found, left_fails, right_fails, right_found, alone_found, not_fails, not_found, binder_fails, binder_found, plain_fails, plain_found, function_fails, arguments_fail, annotation_fails, typed_term_found, argument_fails, arguments_rest, arguments_found, no_arguments, atom_missing, inside_fails, name_found, inside_found, closed_fails, close_missing, closed_found, named_fails, named_found, variable_fails, after_variable_fails, typed_found, name_type_fails, dot_missing, name_body_fails, last_found, name_alone_fails, name_alone_found, body_fails, body_found, more_fails, more_found}
 use Rattle.hol_notation_terms.proofs.Inside.{closed_inside_fails, closed_inside_found}
 use Rattle.hol_notation_terms.proofs.term_reader.+read_level.Goals as goal
 
@@ -42,16 +42,13 @@ read_typed-returns-in_err-term-clause-reads t c =
     let p = err_from_is_err_and c.from_residual-in_err-term.result c.from_residual-in_err-term.ensures.1 in
     rw (p.1, p.2) (arguments_fail c.args.end (map seen c.args.words.now) (map seen c.in_ok-function.after.now) _ _ c.in_ok-function.ensures.reads c.in_err-term.ensures.reads)
 
-pub read_typed-returns-in_err-ty-in-Some-clause-reads : goal.read_typed-returns-in_err-ty-in-Some-clause-reads
-read_typed-returns-in_err-ty-in-Some-clause-reads t c =
-    let p = err_from_is_err_and c.from_residual-in_err-ty-in-Some.result c.from_residual-in_err-ty-in-Some.ensures.1 in
-    rw (p.1, p.2) (annotation_fails c.args.end (map seen c.args.words.now) (map seen c.in_ok-function.after.now) (map seen c.in_ok-term.rest.now) (map seen c.in-Some.behind.now) _ _ _ (seen c.in-Some._colon) c.in_ok-function.ensures.reads c.in_ok-term.ensures.reads c.in-Some.ensures.taken c.in_err-ty-in-Some.ensures.reads)
+pub read_typed-returns-in_err-typed-clause-reads : goal.read_typed-returns-in_err-typed-clause-reads
+read_typed-returns-in_err-typed-clause-reads t c =
+    let p = err_from_is_err_and c.from_residual-in_err-typed.result c.from_residual-in_err-typed.ensures.1 in
+    rw (p.1, p.2) (annotation_fails c.args.end (map seen c.args.words.now) (map seen c.in_ok-function.after.now) (map seen c.in_ok-term.behind.now) _ _ _ c.in_ok-function.ensures.reads c.in_ok-term.ensures.reads c.in_err-typed.ensures.reads)
 
-pub read_typed-returns-in_ok-new-in-Some-clause-reads : goal.read_typed-returns-in_ok-new-in-Some-clause-reads
-read_typed-returns-in_ok-new-in-Some-clause-reads t c = rw (c.in_ok-new-in-Some.ensures) (annotated_found (map seen c.args.words.now) (map seen c.in_ok-function.after.now) (map seen c.in_ok-term.rest.now) (map seen c.in-Some.behind.now) (map seen c.in_ok-ty-in-Some.later.now) _ _ _ (seen c.in-Some._colon) c.in_ok-function.ensures.reads c.in_ok-term.ensures.reads c.in-Some.ensures.taken c.in_ok-ty-in-Some.ensures.reads)
-
-pub read_typed-returns-in-None-clause-reads : goal.read_typed-returns-in-None-clause-reads
-read_typed-returns-in-None-clause-reads t c = untyped_found (map seen c.args.words.now) (map seen c.in_ok-function.after.now) (map seen c.in_ok-term.rest.now) _ _ c.in_ok-function.ensures.reads c.in_ok-term.ensures.reads c.in-None.ensures.taken
+pub read_typed-returns-clause-reads : goal.read_typed-returns-clause-reads
+read_typed-returns-clause-reads t c = typed_term_found (map seen c.args.words.now) (map seen c.in_ok-function.after.now) (map seen c.in_ok-term.behind.now) (map seen c.in_ok-typed.rest.now) _ _ _ c.in_ok-function.ensures.reads c.in_ok-term.ensures.reads c.in_ok-typed.ensures.reads
 
 pub read_atom-returns-in_err-_open-in-None-clause-reads : goal.read_atom-returns-in_err-_open-in-None-clause-reads
 read_atom-returns-in_err-_open-in-None-clause-reads t c =
@@ -63,8 +60,8 @@ read_atom-returns-in_err-term-in-None-clause-reads t c =
     let p = err_from_is_err_and c.from_residual-in_err-term-in-None.result c.from_residual-in_err-term-in-None.ensures.1 in
     rw (p.1, p.2) (inside_fails c.args.end (map seen c.args.words.now) (map seen c.in_ok-_open-in-None.inside.now) _ (seen c.in_ok-_open-in-None._open) c.in_ok-_open-in-None.ensures.taken c.in_err-term-in-None.ensures.reads)
 
-pub read_atom-returns-in_ok-new-in-Some-clause-reads : goal.read_atom-returns-in_ok-new-in-Some-clause-reads
-read_atom-returns-in_ok-new-in-Some-clause-reads t c = name_found (map seen c.args.words.now) (map seen c.in-Some.rest.now) (seen c.in-Some.name) _ c.in-Some.ensures.taken (rw (c.in_ok-new-in-Some.ensures, c.in_ok-text-in-Some.ensures.ok) refl)
+pub read_atom-returns-in_ok-named-in-Some-clause-reads : goal.read_atom-returns-in_ok-named-in-Some-clause-reads
+read_atom-returns-in_ok-named-in-Some-clause-reads t c = name_found (map seen c.args.words.now) (map seen c.in-Some.rest.now) (seen c.in-Some.name) _ c.in-Some.ensures.taken c.in_ok-named-in-Some.ensures
 
 pub read_atom-returns-in_ok-term-in-None-clause-reads : goal.read_atom-returns-in_ok-term-in-None-clause-reads
 read_atom-returns-in_ok-term-in-None-clause-reads t c = inside_found (map seen c.args.words.now) (map seen c.in_ok-_open-in-None.inside.now) (map seen c.in_ok-term-in-None.rest.now) (seen c.in_ok-_open-in-None._open) _ c.in_ok-_open-in-None.ensures.taken c.in_ok-term-in-None.ensures.reads
@@ -105,11 +102,11 @@ read_after_name-returns-in_err-body-in-None-clause-reads t c =
     let p = err_from_is_err_and c.from_residual-in_err-body-in-None.result c.from_residual-in_err-body-in-None.ensures.1 in
     rw (p.1, p.2) (name_alone_fails c.args.end (map seen c.args.words.now) _ c.in-None.ensures.taken c.in_err-body-in-None.ensures.reads)
 
-pub read_after_name-returns-in_ok-bind-in-Some-clause-reads : goal.read_after_name-returns-in_ok-bind-in-Some-clause-reads
-read_after_name-returns-in_ok-bind-in-Some-clause-reads t c = rw (c.in_ok-bind-in-Some.ensures) (last_found (map seen c.args.words.now) (map seen c.in-Some.after.now) (map seen c.in_ok-ty-in-Some.behind.now) (map seen c.in_ok-_dot-in-Some.inside.now) (map seen c.in_ok-body-in-Some.rest.now) c.args.binder (seen c.in-Some._colon) (seen c.in_ok-_dot-in-Some._dot) _ _ _ _ c.in-Some.ensures.taken c.in_ok-ty-in-Some.ensures.reads c.in_ok-_dot-in-Some.ensures.taken c.in_ok-body-in-Some.ensures.reads c.in_ok-name-in-Some.ensures.ok)
+pub read_after_name-returns-in_ok-bind_named-in-Some-clause-reads : goal.read_after_name-returns-in_ok-bind_named-in-Some-clause-reads
+read_after_name-returns-in_ok-bind_named-in-Some-clause-reads t c = rw (c.in_ok-bind_named-in-Some.ensures) (last_found (map seen c.args.words.now) (map seen c.in-Some.after.now) (map seen c.in_ok-ty-in-Some.behind.now) (map seen c.in_ok-_dot-in-Some.inside.now) (map seen c.in_ok-body-in-Some.rest.now) c.args.binder (seen c.in-Some._colon) (seen c.in_ok-_dot-in-Some._dot) c.args.name.now c.args.name.now _ _ c.in-Some.ensures.taken c.in_ok-ty-in-Some.ensures.reads c.in_ok-_dot-in-Some.ensures.taken c.in_ok-body-in-Some.ensures.reads refl)
 
-pub read_after_name-returns-in_ok-bind-in-None-clause-reads : goal.read_after_name-returns-in_ok-bind-in-None-clause-reads
-read_after_name-returns-in_ok-bind-in-None-clause-reads t c = rw (c.in_ok-bind-in-None.ensures) (name_alone_found (map seen c.args.words.now) (map seen c.in_ok-body-in-None.rest.now) c.args.binder _ _ _ c.in_ok-body-in-None.ensures.reads c.in_ok-name-in-None.ensures.ok)
+pub read_after_name-returns-in_ok-bind_named-in-None-clause-reads : goal.read_after_name-returns-in_ok-bind_named-in-None-clause-reads
+read_after_name-returns-in_ok-bind_named-in-None-clause-reads t c = rw (c.in_ok-bind_named-in-None.ensures) (name_alone_found (map seen c.args.words.now) (map seen c.in_ok-body-in-None.rest.now) c.args.binder c.args.name.now c.args.name.now _ c.in_ok-body-in-None.ensures.reads refl)
 
 pub read_bound-returns-in_err-term-in-Some-clause-reads : goal.read_bound-returns-in_err-term-in-Some-clause-reads
 read_bound-returns-in_err-term-in-Some-clause-reads t c =
@@ -195,8 +192,8 @@ read_unary-returns-in_err-term-in-None-accept-clause-reads t c =
     let p = err_from_is_err_and c.from_residual-in_err-term-in-None-accept.result c.from_residual-in_err-term-in-None-accept.ensures.1 in
     rw (p.1, p.2) (plain_fails c.args.end (map seen c.args.words.now) _ c.in-None.ensures.taken c.in-None-accept.ensures.taken c.in_err-term-in-None-accept.ensures.reads)
 
-pub read_unary-returns-in_ok-new-in-Some-clause-reads : goal.read_unary-returns-in_ok-new-in-Some-clause-reads
-read_unary-returns-in_ok-new-in-Some-clause-reads t c = rw (c.in_ok-new-in-Some.ensures, c.in_ok-not-in-Some.ensures) (not_found (map seen c.args.words.now) (map seen c.in-Some.after.now) (map seen c.in_ok-operand-in-Some.rest.now) (seen c.in-Some._not) _ c.in-Some.ensures.taken c.in_ok-operand-in-Some.ensures.reads)
+pub read_unary-returns-in_ok-negated-in-Some-clause-reads : goal.read_unary-returns-in_ok-negated-in-Some-clause-reads
+read_unary-returns-in_ok-negated-in-Some-clause-reads t c = rw (c.in_ok-negated-in-Some.ensures) (not_found (map seen c.args.words.now) (map seen c.in-Some.after.now) (map seen c.in_ok-operand-in-Some.rest.now) (seen c.in-Some._not) _ c.in-Some.ensures.taken c.in_ok-operand-in-Some.ensures.reads)
 
 pub read_unary-returns-in_ok-term-in-Some-accept-clause-reads : goal.read_unary-returns-in_ok-term-in-Some-accept-clause-reads
 read_unary-returns-in_ok-term-in-Some-accept-clause-reads t c = binder_found (map seen c.args.words.now) (map seen c.in-Some-accept.after.now) (map seen c.in_ok-term-in-Some-accept.rest.now) (seen c.in-Some-accept.binder) _ c.in-Some-accept.ensures.taken c.in_ok-term-in-Some-accept.ensures.reads

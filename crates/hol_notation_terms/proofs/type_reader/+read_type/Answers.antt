@@ -3,7 +3,7 @@
 use Rattle.std.proofs.Common.{map, refl}
 use Rattle.std.proofs.lemmas.Result.{err_from_is_err_and}
 use Rattle.hol_notation_tokens.specs.Lexeme.{seen}
-use Rattle.hol_notation_terms.proofs.TypeSteps.{type_first, type_second, type_arrow, type_alone, applied_missing, applied_type_fails, applied_list, applied_named, applied_listed, list_missing, list_second, list_rest, list_one, list_two, rest_missing, rest_name, rest_first, rest_second, rest_more, rest_last}
+use Rattle.hol_notation_terms.proofs.TypeSteps.{type_first, type_second, type_arrow, type_alone, applied_missing, applied_type_fails, applied_list, applied_named, applied_listed, list_missing, list_second, list_rest, list_one, list_two, rest_first, rest_second, rest_more}
 use Rattle.hol_notation_terms.proofs.type_reader.+read_type.Goals as goal
 
 pub read_applied-returns-in_err-_open-in-None-clause-reads : goal.read_applied-returns-in_err-_open-in-None-clause-reads
@@ -23,7 +23,7 @@ read_applied-returns-in_err-ty-in-None-clause-reads t c =
 
 pub read_applied-returns-in_ok-ty-in-Some-clause-reads : goal.read_applied-returns-in_ok-ty-in-Some-clause-reads
 read_applied-returns-in_ok-ty-in-Some-clause-reads t c =
-    applied_named (map seen c.args.words.now) (map seen c.in-Some.rest.now) (map seen c.in_ok-ty-in-Some.later.now) (seen c.in-Some.name) c.in_ok-first-in-Some.first _ c.in-Some.ensures.taken (rw (c.in_ok-first-in-Some.ensures, c.in_ok-from_str-in-Some.ensures.ok) refl) c.in_ok-ty-in-Some.ensures.found
+    applied_named (map seen c.args.words.now) (map seen c.in-Some.rest.now) (map seen c.in_ok-ty-in-Some.later.now) (seen c.in-Some.name) _ _ c.in-Some.ensures.taken refl c.in_ok-ty-in-Some.ensures.found
 
 pub read_applied-returns-in_ok-ty-in-None-clause-reads : goal.read_applied-returns-in_ok-ty-in-None-clause-reads
 read_applied-returns-in_ok-ty-in-None-clause-reads t c =
@@ -68,7 +68,7 @@ read_type_list-returns-in_ok-ty-in-Some-clause-reads t c =
 
 pub read_type_list-returns-in_ok-ty-in-None-clause-reads : goal.read_type_list-returns-in_ok-ty-in-None-clause-reads
 read_type_list-returns-in_ok-ty-in-None-clause-reads t c =
-    list_two (map seen c.args.words.now) (map seen c.in_ok-_comma-in-None.after.now) (map seen c.in_ok-second-in-None.rest.now) (map seen c.in_ok-ty-in-None.later.now) (seen c.in_ok-_comma-in-None._comma) c.args.first c.in_ok-second-in-None.second _ _ c.in_ok-_comma-in-None.ensures.taken c.in_ok-second-in-None.ensures.reads (rw (c.in_ok-push-in-None-2.ensures.items, c.in_ok-push-in-None.ensures.items, c.new-types.ensures.items) refl) c.in_ok-ty-in-None.ensures.reads
+    list_two (map seen c.args.words.now) (map seen c.in_ok-_comma-in-None.after.now) (map seen c.in_ok-second-in-None.rest.now) (map seen c.in_ok-ty-in-None.later.now) (seen c.in_ok-_comma-in-None._comma) c.args.first c.in_ok-second-in-None.second _ _ c.in_ok-_comma-in-None.ensures.taken c.in_ok-second-in-None.ensures.reads c.in_ok-types-in-None.ensures c.in_ok-ty-in-None.ensures.reads
 
 pub read_type_rest-returns-in_err-ty-in-Some-clause-reads : goal.read_type_rest-returns-in_err-ty-in-Some-clause-reads
 read_type_rest-returns-in_err-ty-in-Some-clause-reads t c =
@@ -80,20 +80,6 @@ read_type_rest-returns-in_err-all-in-Some-clause-reads t c =
     let p = err_from_is_err_and c.from_residual-in_err-all-in-Some.result c.from_residual-in_err-all-in-Some.ensures.1 in
     rw (p.1, p.2) (rest_second c.args.end (map seen c.args.words.now) (map seen c.in-Some.after.now) (map seen c.in_ok-ty-in-Some.rest.now) _ (seen c.in-Some._comma) _ c.in-Some.ensures.taken c.in_ok-ty-in-Some.ensures.reads c.in_err-all-in-Some.ensures.reads)
 
-pub read_type_rest-returns-in_err-_close-in-None-clause-reads : goal.read_type_rest-returns-in_err-_close-in-None-clause-reads
-read_type_rest-returns-in_err-_close-in-None-clause-reads t c =
-    let p = err_from_is_err_and c.from_residual-in_err-_close-in-None.result c.from_residual-in_err-_close-in-None.ensures.1 in
-    rw (p.1, p.2) (rest_missing c.args.end (map seen c.args.words.now) _ c.in-None.ensures.taken c.in_err-_close-in-None.ensures.taken)
-
-pub read_type_rest-returns-in_err-name-in-None-clause-reads : goal.read_type_rest-returns-in_err-name-in-None-clause-reads
-read_type_rest-returns-in_err-name-in-None-clause-reads t c =
-    let p = err_from_is_err_and c.from_residual-in_err-name-in-None.result c.from_residual-in_err-name-in-None.ensures.1 in
-    rw (p.1, p.2) (rest_name c.args.end (map seen c.args.words.now) (map seen c.in_ok-_close-in-None.after.now) _ (seen c.in_ok-_close-in-None._close) c.in_ok-_close-in-None.ensures.taken c.in_err-name-in-None.ensures.taken)
-
 pub read_type_rest-returns-in_ok-all-in-Some-clause-reads : goal.read_type_rest-returns-in_ok-all-in-Some-clause-reads
 read_type_rest-returns-in_ok-all-in-Some-clause-reads t c =
-    rest_more (map seen c.args.words.now) (map seen c.in-Some.after.now) (map seen c.in_ok-ty-in-Some.rest.now) (map seen c.in_ok-all-in-Some.later.now) (seen c.in-Some._comma) _ _ c.args.types.items _ c.in-Some.ensures.taken c.in_ok-ty-in-Some.ensures.reads c.in_ok-push-in-Some.ensures.items c.in_ok-all-in-Some.ensures.reads
-
-pub read_type_rest-returns-in_ok-ty-in-None-clause-reads : goal.read_type_rest-returns-in_ok-ty-in-None-clause-reads
-read_type_rest-returns-in_ok-ty-in-None-clause-reads t c =
-    rest_last (map seen c.args.words.now) (map seen c.in_ok-_close-in-None.after.now) (map seen c.in_ok-name-in-None.rest.now) (map seen c.in_ok-ty-in-None.later.now) (seen c.in_ok-_close-in-None._close) (seen c.in_ok-name-in-None.name) c.in_ok-first-in-None.first _ c.args.types.items c.in_ok-_close-in-None.ensures.taken c.in_ok-name-in-None.ensures.taken (rw (c.in_ok-first-in-None.ensures, c.in_ok-name-in-None-2.ensures.ok) refl) c.in_ok-ty-in-None.ensures.found
+    rest_more (map seen c.args.words.now) (map seen c.in-Some.after.now) (map seen c.in_ok-ty-in-Some.rest.now) (map seen c.in_ok-all-in-Some.later.now) (seen c.in-Some._comma) _ _ c.args.types.items _ c.in-Some.ensures.taken c.in_ok-ty-in-Some.ensures.reads c.in_ok-types-in-Some.ensures c.in_ok-all-in-Some.ensures.reads

@@ -1,5 +1,6 @@
-use Rattle.std.proofs.Common.{rules, ◌≡◌, [], ◌∷◌, ◌++◌, reverse, ◌∙◌, subst}
+use Rattle.std.proofs.Common.{rules, ◌≡◌, [], ◌∷◌, ◌++◌, reverse, ◌∙◌, ap, subst}
 use Rattle.hol_terms.specs.Nameless.{nameless}
+use Rattle.hol_conv.specs.declared.frame.Step.TheVariants.{Function}
 use Rattle.hol_conv.specs.declared.frame.After.TheVariants.{Next, Around}
 use Rattle.hol_conv.specs.Places.{ComesAfter, waiting}
 use Rattle.hol_conv.proofs.Places.{goes_out, less_in_argument}
@@ -13,9 +14,10 @@ returns-in-Next-clause-on c =
     let f = c.in-Some.frame in
     let k = c.in-Next.frame in
     let is : fs ≡ gs ++ f ∷ [] = search rules in
-    let pushed : c.push.new.self.items ≡ gs ++ k ∷ [] = search rules in
+    let pushed : c.move_on.new.self.frames.items ≡ gs ++ k ∷ [] = search rules in
+    let part : c.in-Next.argument ≡ c.move_on.new.self.part = search rules in
     let after : ComesAfter f c.frames.self.part (Next k c.in-Next.argument) = subst (ComesAfter f c.frames.self.part) c.in-Next.is c.in_ok-frame.ensures in
-    λ h. less_in_argument fs gs c.push.new.self.items f k c.frames.self.part c.in-Next.argument (waiting (reverse c.args.self.now.frames.items)) is pushed after.0 after.1 c.frames.invariant.waiting c.args.self.now.part
+    λ h. less_in_argument fs gs c.move_on.new.self.frames.items f k c.frames.self.part c.move_on.new.self.part (waiting (reverse c.args.self.now.frames.items)) is pushed (after.0 ∙ ap Function part) after.1 c.frames.invariant.waiting c.args.self.now.part
 
 -- the term around has no redex either
 pub frames-preserved : goal.frames-preserved
