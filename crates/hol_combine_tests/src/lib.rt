@@ -1,4 +1,4 @@
-//! Tests of runs of expressions, over a registry of eight functions. They stand in a crate of their own, since a crate with tests is proved twice.
+//! Tests of registries, and of runs of expressions over a registry of eight functions. They stand in a crate of their own, since a crate with tests is proved twice.
 #![tactic(auto)]
 
 #[cfg(test)]
@@ -9,6 +9,8 @@ mod goals;
 mod handing_tests;
 #[cfg(test)]
 mod registries;
+#[cfg(test)]
+mod registry_tests;
 #[cfg(test)]
 mod runs_tests;
 #[cfg(test)]

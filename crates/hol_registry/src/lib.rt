@@ -7,8 +7,6 @@ mod entry;
 mod error;
 mod named;
 mod registry;
-#[cfg(test)]
-mod tests;
 
 pub use entry::Entry;
 pub use error::RegistryError;

@@ -4,11 +4,10 @@ ghost use Rattle.hol_goal.specs.ArgumentsView.{args_value};
 ghost use Rattle.hol_goal.specs.declared.tac_code.TacCode.TheVariants as code;
 ghost use Rattle.hol_just.specs.Answering.{AnswersCode, IsJustified};
 
-use crate::entry::Entry;
-use crate::registry::Registry;
 use hol_formulas::mk_truth;
 use hol_goal::{Goal, TacArgs, TacCode};
 use hol_just::{Just, Step, TacFault, Tried};
+use hol_registry::{Entry, Registry};
 use std::alloc::Global;
 use std::fmt::Write;
 use std::test::Fail;
