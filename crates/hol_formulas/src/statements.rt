@@ -1,11 +1,10 @@
 //! The statements of the definitions and axioms of the prelude.
 ghost use Rattle.std.specs.Prelude.{◌≡◌, IfOk, IsSome, Some, codes};
-ghost use Rattle.hol_terms.specs.Named.{abs, comb, named_type, var};
+ghost use Rattle.hol_terms.specs.Named.{abs, named_type};
 ghost use Rattle.hol_formulas.specs.Equation.{bool_type};
 ghost use Rattle.hol_formulas.specs.Formula.{connective_type};
 ghost use Rattle.hol_formulas.specs.Constants.{binder_type, function_property_type};
-ghost use Rattle.hol_formulas.specs.Making.{mk_conj};
-ghost use Rattle.hol_formulas.specs.Prelude.{boolean, property, function, defining, postulated, quantifier};
+ghost use Rattle.hol_formulas.specs.Prelude.{boolean, property, function, defining, postulated};
 ghost use Rattle.hol_formulas.specs.Written.{sort_type, written_term};
 ghost use Rattle.hol_formulas.specs.declared.postulate.Postulate.TheVariants as postulate;
 
@@ -18,197 +17,262 @@ use crate::written::make;
 use hol_terms::Term;
 use std::alloc::{AllocError, Global};
 
+// The parts stand as constants, which a function borrows at no cost to its proof.
+
+const P: Written<'static> = Variable("p", Sort::Truth);
+
+const Q: Written<'static> = Variable("q", Sort::Truth);
+
+const R: Written<'static> = Variable("r", Sort::Truth);
+
+const X: Written<'static> = Variable("x", Sort::Element);
+
+const Y: Written<'static> = Variable("y", Sort::Element);
+
+const PROPERTY: Written<'static> = Variable("P", Sort::Property);
+
+const FUNCTION: Written<'static> = Variable("f", Sort::Function);
+
+const TRUTH: Written<'static> = Constant("T", Sort::Truth);
+
+const FALSITY: Written<'static> = Constant("F", Sort::Truth);
+
+const NOT: Written<'static> = Constant("~", Sort::Negation);
+// `P x`.
+const HOLDS: Written<'static> = Applied(&PROPERTY, &X);
+
+const IDENTITY: Written<'static> = Function("p", Sort::Truth, &P);
+
+const SAME_IDENTITY: Written<'static> = Equation(Sort::Negation, &IDENTITY, &IDENTITY);
+
 // `T = ((\p:bool. p) = (\p. p))`.
 fn truth_definition(alloc: Global) -> Result<Term, AllocError>
     ensures { IfOk result (λ t. t ≡ postulated postulate.TDef) }
 {
-    let p = Variable("p", Sort::Truth);
-    let identity = Function("p", Sort::Truth, &p);
-    let right = Equation(Sort::Negation, &identity, &identity);
-    define(alloc, "T", Sort::Truth, &right)
+    define(alloc, "T", Sort::Truth, &SAME_IDENTITY)
 }
+
+const CONNECTIVE: Written<'static> = Variable("f", Sort::Connective);
+
+const OF_TRUTH: Written<'static> = Applied(&CONNECTIVE, &TRUTH);
+
+const OF_TRUTHS: Written<'static> = Applied(&OF_TRUTH, &TRUTH);
+
+const TRUTHS: Written<'static> = Function("f", Sort::Connective, &OF_TRUTHS);
+
+const OF_FIRST: Written<'static> = Applied(&CONNECTIVE, &P);
+
+const OF_BOTH: Written<'static> = Applied(&OF_FIRST, &Q);
+
+const PAIR: Written<'static> = Function("f", Sort::Connective, &OF_BOTH);
+
+const PAIR_OF_TRUTHS: Written<'static> = Equation(Sort::OfConnective, &PAIR, &TRUTHS);
 
 // `(/\) = (\p q. (\f:bool->bool->bool. f p q) = (\f. f T T))`.
 fn conjunction_definition(alloc: Global) -> Result<Term, AllocError>
     ensures { IfOk result (λ t. t ≡ postulated postulate.AndDef) }
 {
-    let p = Variable("p", Sort::Truth);
-    let q = Variable("q", Sort::Truth);
-    let f = Variable("f", Sort::Connective);
-    let truth = Constant("T", Sort::Truth);
-    let of_truth = Applied(&f, &truth);
-    let of_truths = Applied(&of_truth, &truth);
-    let truths = Function("f", Sort::Connective, &of_truths);
-    let of_first = Applied(&f, &p);
-    let of_both = Applied(&of_first, &q);
-    let pair = Function("f", Sort::Connective, &of_both);
-    let both = Equation(Sort::OfConnective, &pair, &truths);
-    define_connective(alloc, "/\\", &both)
+    define_connective(alloc, "/\\", &PAIR_OF_TRUTHS)
 }
+
+const BOTH: Written<'static> = Connective("/\\", &P, &Q);
+
+const BOTH_IF_FIRST: Written<'static> = Equation(Sort::Truth, &BOTH, &P);
 
 // `(==>) = (\p q. p /\ q <=> p)`.
 fn implication_definition(alloc: Global) -> Result<Term, AllocError>
     ensures { IfOk result (λ t. t ≡ postulated postulate.ImpDef) }
 {
-    let p = Variable("p", Sort::Truth);
-    let q = Variable("q", Sort::Truth);
-    let both = Connective("/\\", &p, &q);
-    let implied = Equation(Sort::Truth, &both, &p);
-    define_connective(alloc, "==>", &implied)
+    define_connective(alloc, "==>", &BOTH_IF_FIRST)
 }
+
+const CONSTANTLY_TRUE: Written<'static> = Function("x", Sort::Element, &TRUTH);
+
+const EVERYWHERE: Written<'static> = Equation(Sort::Property, &PROPERTY, &CONSTANTLY_TRUE);
 
 // `(!) = (\P:A->bool. P = (\x. T))`.
 fn universal_definition(alloc: Global) -> Result<Term, AllocError>
     ensures { IfOk result (λ t. t ≡ postulated postulate.ForallDef) }
 {
-    let property = Variable("P", Sort::Property);
-    let truth = Constant("T", Sort::Truth);
-    let constantly_true = Function("x", Sort::Element, &truth);
-    let everywhere = Equation(Sort::Property, &property, &constantly_true);
-    define_binder(alloc, "!", &everywhere)
+    define_binder(alloc, "!", &EVERYWHERE)
 }
+
+const IMPLIED_HERE: Written<'static> = Connective("==>", &HOLDS, &Q);
+
+const IMPLIED_ANYWHERE: Written<'static> = Quantified("!", "x", Sort::Element, &IMPLIED_HERE);
+
+const IMPLIED: Written<'static> = Connective("==>", &IMPLIED_ANYWHERE, &Q);
+
+const SOMEWHERE: Written<'static> = Quantified("!", "q", Sort::Truth, &IMPLIED);
 
 // `(?) = (\P:A->bool. !q. (!x. P x ==> q) ==> q)`.
 fn existential_definition(alloc: Global) -> Result<Term, AllocError>
     ensures { IfOk result (λ t. t ≡ postulated postulate.ExistsDef) }
 {
-    let property = Variable("P", Sort::Property);
-    let x = Variable("x", Sort::Element);
-    let q = Variable("q", Sort::Truth);
-    let holds = Applied(&property, &x);
-    let each = Quantified("!", "x", Sort::Element, &Connective("==>", &holds, &q));
-    let implied = Connective("==>", &each, &q);
-    let somewhere = Quantified("!", "q", Sort::Truth, &implied);
-    define_binder(alloc, "?", &somewhere)
+    define_binder(alloc, "?", &SOMEWHERE)
 }
+
+const BY_FIRST: Written<'static> = Connective("==>", &P, &R);
+
+const BY_SECOND: Written<'static> = Connective("==>", &Q, &R);
+
+const REST: Written<'static> = Connective("==>", &BY_SECOND, &R);
+
+const CASES: Written<'static> = Connective("==>", &BY_FIRST, &REST);
+
+const EITHER: Written<'static> = Quantified("!", "r", Sort::Truth, &CASES);
 
 // `(\/) = (\p q. !r. (p ==> r) ==> (q ==> r) ==> r)`.
 fn disjunction_definition(alloc: Global) -> Result<Term, AllocError>
     ensures { IfOk result (λ t. t ≡ postulated postulate.OrDef) }
 {
-    let p = Variable("p", Sort::Truth);
-    let q = Variable("q", Sort::Truth);
-    let r = Variable("r", Sort::Truth);
-    let second = Connective("==>", &q, &r);
-    let rest = Connective("==>", &second, &r);
-    let first = Connective("==>", &p, &r);
-    let cases = Connective("==>", &first, &rest);
-    let either = Quantified("!", "r", Sort::Truth, &cases);
-    define_connective(alloc, "\\/", &either)
+    define_connective(alloc, "\\/", &EITHER)
 }
+
+const EVERYTHING: Written<'static> = Quantified("!", "p", Sort::Truth, &P);
 
 // `F = (!p. p)`.
 fn falsity_definition(alloc: Global) -> Result<Term, AllocError>
     ensures { IfOk result (λ t. t ≡ postulated postulate.FDef) }
 {
-    let p = Variable("p", Sort::Truth);
-    let everything = Quantified("!", "p", Sort::Truth, &p);
-    define(alloc, "F", Sort::Truth, &everything)
+    define(alloc, "F", Sort::Truth, &EVERYTHING)
 }
+
+const ABSURD: Written<'static> = Connective("==>", &P, &FALSITY);
+
+const NEGATION: Written<'static> = Function("p", Sort::Truth, &ABSURD);
 
 // `(~) = (\p. p ==> F)`.
 fn negation_definition(alloc: Global) -> Result<Term, AllocError>
     ensures { IfOk result (λ t. t ≡ postulated postulate.NotDef) }
 {
-    let p = Variable("p", Sort::Truth);
-    let falsity = Constant("F", Sort::Truth);
-    let absurd = Connective("==>", &p, &falsity);
-    let right = Function("p", Sort::Truth, &absurd);
-    define(alloc, "~", Sort::Negation, &right)
+    define(alloc, "~", Sort::Negation, &NEGATION)
 }
 
-// `?! = (\P:A->bool. (?) P /\ u)`, for what says that there is one at most.
-fn define_unique_existence(alloc: Global, at_most_once: &Written<'_>) -> Result<Term, AllocError>
-    requires { named_type (written_term at_most_once.now) ≡ Some bool_type }
-    ensures { IfOk result (λ t. t ≡ defining (codes "?!") binder_type (abs property (mk_conj (comb (quantifier (codes "?")) (var property)) (written_term at_most_once.now)))) }
-{
-    let property = Variable("P", Sort::Property);
-    let exists = Constant("?", Sort::Binder);
-    let some = Applied(&exists, &property);
-    let once = Connective("/\\", &some, at_most_once);
-    define_binder(alloc, "?!", &once)
-}
+const HOLDS_OF_OTHER: Written<'static> = Applied(&PROPERTY, &Y);
+
+const HOLDS_TWICE: Written<'static> = Connective("/\\", &HOLDS, &HOLDS_OF_OTHER);
+
+const SAME_ELEMENT: Written<'static> = Equation(Sort::Element, &X, &Y);
+
+const AT_MOST_ONE: Written<'static> = Connective("==>", &HOLDS_TWICE, &SAME_ELEMENT);
+
+const WITH_EACH: Written<'static> = Quantified("!", "y", Sort::Element, &AT_MOST_ONE);
+
+const UNIQUE: Written<'static> = Quantified("!", "x", Sort::Element, &WITH_EACH);
+
+const EXISTS: Written<'static> = Constant("?", Sort::Binder);
+
+const SOME: Written<'static> = Applied(&EXISTS, &PROPERTY);
+
+const EXACTLY_ONE: Written<'static> = Connective("/\\", &SOME, &UNIQUE);
 
 // `?! = (\P:A->bool. (?) P /\ (!x y. P x /\ P y ==> x = y))`.
 fn unique_existence_definition(alloc: Global) -> Result<Term, AllocError>
     ensures { IfOk result (λ t. t ≡ postulated postulate.ExistsUniqueDef) }
 {
-    let property = Variable("P", Sort::Property);
-    let x = Variable("x", Sort::Element);
-    let y = Variable("y", Sort::Element);
-    let both = Connective("/\\", &Applied(&property, &x), &Applied(&property, &y));
-    let same = Equation(Sort::Element, &x, &y);
-    let unique = Connective("==>", &both, &same);
-    let of_each = Quantified("!", "y", Sort::Element, &unique);
-    let of_both = Quantified("!", "x", Sort::Element, &of_each);
-    define_unique_existence(alloc, &of_both)
+    define_binder(alloc, "?!", &EXACTLY_ONE)
 }
+
+const FIRST: Written<'static> = Variable("x1", Sort::Element);
+
+const SECOND: Written<'static> = Variable("x2", Sort::Element);
+
+const OF_FIRST_ELEMENT: Written<'static> = Applied(&FUNCTION, &FIRST);
+
+const OF_SECOND_ELEMENT: Written<'static> = Applied(&FUNCTION, &SECOND);
+
+const SAME_VALUES: Written<'static> = Equation(Sort::Value, &OF_FIRST_ELEMENT, &OF_SECOND_ELEMENT);
+
+const SAME_ELEMENTS: Written<'static> = Equation(Sort::Element, &FIRST, &SECOND);
+
+const SAME_IF_VALUES_ARE: Written<'static> = Connective("==>", &SAME_VALUES, &SAME_ELEMENTS);
+
+const FOR_EACH_SECOND: Written<'static> = Quantified("!", "x2", Sort::Element, &SAME_IF_VALUES_ARE);
+
+const INJECTIVE: Written<'static> = Quantified("!", "x1", Sort::Element, &FOR_EACH_SECOND);
 
 // `ONE_ONE = (\f:A->B. !x1 x2. f x1 = f x2 ==> x1 = x2)`.
 fn injectivity_definition(alloc: Global) -> Result<Term, AllocError>
     ensures { IfOk result (λ t. t ≡ postulated postulate.OneOne) }
 {
-    let f = Variable("f", Sort::Function);
-    let x1 = Variable("x1", Sort::Element);
-    let x2 = Variable("x2", Sort::Element);
-    let same_values = Equation(Sort::Value, &Applied(&f, &x1), &Applied(&f, &x2));
-    let same = Equation(Sort::Element, &x1, &x2);
-    let injective = Connective("==>", &same_values, &same);
-    let of_each = Quantified("!", "x2", Sort::Element, &injective);
-    let of_both = Quantified("!", "x1", Sort::Element, &of_each);
-    define_property(alloc, "ONE_ONE", &of_both)
+    define_property(alloc, "ONE_ONE", &INJECTIVE)
 }
+
+const VALUE: Written<'static> = Variable("y", Sort::Value);
+
+const OF_ELEMENT: Written<'static> = Applied(&FUNCTION, &X);
+
+const IS_VALUE: Written<'static> = Equation(Sort::Value, &VALUE, &OF_ELEMENT);
+
+const OF_SOME: Written<'static> = Quantified("?", "x", Sort::Element, &IS_VALUE);
+
+const SURJECTIVE: Written<'static> = Quantified("!", "y", Sort::Value, &OF_SOME);
 
 // `ONTO = (\f:A->B. !y. ?x. y = f x)`.
 fn surjectivity_definition(alloc: Global) -> Result<Term, AllocError>
     ensures { IfOk result (λ t. t ≡ postulated postulate.Onto) }
 {
-    let f = Variable("f", Sort::Function);
-    let x = Variable("x", Sort::Element);
-    let y = Variable("y", Sort::Value);
-    let is_value = Equation(Sort::Value, &y, &Applied(&f, &x));
-    let of_some = Quantified("?", "x", Sort::Element, &is_value);
-    let of_each = Quantified("!", "y", Sort::Value, &of_some);
-    define_property(alloc, "ONTO", &of_each)
+    define_property(alloc, "ONTO", &SURJECTIVE)
 }
+
+const MAP: Written<'static> = Variable("t", Sort::Function);
+
+const MAPPED: Written<'static> = Applied(&MAP, &X);
+
+const EXPANSION: Written<'static> = Function("x", Sort::Element, &MAPPED);
+
+const SAME_MAP: Written<'static> = Equation(Sort::Function, &EXPANSION, &MAP);
+
+const ETA: Written<'static> = Quantified("!", "t", Sort::Function, &SAME_MAP);
 
 // `!t:A->B. (\x. t x) = t`.
 fn eta_axiom(alloc: Global) -> Result<Term, AllocError>
     ensures { IfOk result (λ t. t ≡ postulated postulate.EtaAx) }
 {
-    let t = Variable("t", Sort::Function);
-    let x = Variable("x", Sort::Element);
-    let expansion = Function("x", Sort::Element, &Applied(&t, &x));
-    let same = Equation(Sort::Function, &expansion, &t);
-    make(alloc, &Quantified("!", "t", Sort::Function, &same))
+    make(alloc, &ETA)
 }
+
+const SELECT: Written<'static> = Constant("@", Sort::Choice);
+
+const CHOSEN: Written<'static> = Applied(&SELECT, &PROPERTY);
+
+const HOLDS_OF_CHOSEN: Written<'static> = Applied(&PROPERTY, &CHOSEN);
+
+const CHOICE_HERE: Written<'static> = Connective("==>", &HOLDS, &HOLDS_OF_CHOSEN);
+
+const CHOICE_OF_PROPERTY: Written<'static> = Quantified("!", "x", Sort::Element, &CHOICE_HERE);
+
+const CHOICE: Written<'static> = Quantified("!", "P", Sort::Property, &CHOICE_OF_PROPERTY);
 
 // `!P (x:A). P x ==> P ((@) P)`.
 fn choice_axiom(alloc: Global) -> Result<Term, AllocError>
     ensures { IfOk result (λ t. t ≡ postulated postulate.SelectAx) }
 {
-    let property = Variable("P", Sort::Property);
-    let x = Variable("x", Sort::Element);
-    let choice = Constant("@", Sort::Choice);
-    let holds = Applied(&property, &x);
-    let chosen = Applied(&property, &Applied(&choice, &property));
-    let implied = Connective("==>", &holds, &chosen);
-    let of_each = Quantified("!", "x", Sort::Element, &implied);
-    make(alloc, &Quantified("!", "P", Sort::Property, &of_each))
+    make(alloc, &CHOICE)
 }
+
+const SUCCESSOR: Written<'static> = Variable("f", Sort::OnIndividuals);
+
+const ONE_ONE: Written<'static> = Constant("ONE_ONE", Sort::OfOnIndividuals);
+
+const IS_ONE_ONE: Written<'static> = Applied(&ONE_ONE, &SUCCESSOR);
+
+const ONTO: Written<'static> = Constant("ONTO", Sort::OfOnIndividuals);
+
+const IS_ONTO: Written<'static> = Applied(&ONTO, &SUCCESSOR);
+
+const IS_NOT_ONTO: Written<'static> = Applied(&NOT, &IS_ONTO);
+
+const IS_INFINITE: Written<'static> = Connective("/\\", &IS_ONE_ONE, &IS_NOT_ONTO);
+
+const INFINITY: Written<'static> = Quantified("?", "f", Sort::OnIndividuals, &IS_INFINITE);
 
 // `?f:ind->ind. ONE_ONE f /\ ~ONTO f`.
 fn infinity_axiom(alloc: Global) -> Result<Term, AllocError>
     ensures { IfOk result (λ t. t ≡ postulated postulate.InfinityAx) }
 {
-    let f = Variable("f", Sort::OnIndividuals);
-    let one_one = Constant("ONE_ONE", Sort::OfOnIndividuals);
-    let onto = Constant("ONTO", Sort::OfOnIndividuals);
-    let not = Constant("~", Sort::Negation);
-    let not_onto = Applied(&not, &Applied(&onto, &f));
-    let injective = Applied(&one_one, &f);
-    let both = Connective("/\\", &injective, &not_onto);
-    make(alloc, &Quantified("?", "f", Sort::OnIndividuals, &both))
+    make(alloc, &INFINITY)
 }
 
 // The definition of the constant of the name and the type as the term.
