@@ -42,7 +42,7 @@ impl Basis {
         let mut one = Vec::new(alloc);
         one.push(item)?;
         let all = merged(alloc, self.items(), &one)?;
-        Ok(Basis::made(alloc, all)?)
+        Basis::made(alloc, all)
     }
 }
 

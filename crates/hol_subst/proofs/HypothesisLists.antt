@@ -15,7 +15,7 @@ use Rattle.std.specs.Bool.{one_answer}
 use Rattle.std.proofs.lemmas.List.{take_rest, take-append-drop, map-append, nil_from_length}
 use Rattle.hol_subst.proofs.Strip.{strip_free}
 use Rattle.hol_types.specs.Tree.{TypeTree}
-use Rattle.hol_terms.specs.Nameless.{Nameless, free, nameless, free_occurrences}
+use Rattle.hol_terms.specs.Nameless.{Nameless, nameless, free_occurrences}
 use Rattle.hol_terms.specs.Scoped.{binds}
 use Rattle.hol_subst.specs.Variant.{is_free_in}
 use Rattle.hol_terms.specs.Named.{Named}

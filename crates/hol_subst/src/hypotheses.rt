@@ -84,7 +84,7 @@ impl Hypotheses {
         ensures { IfOk result (λ hyps. hyps ≡ hyps_of terms.now) }
     {
         let all = in_order(alloc, terms)?;
-        Ok(Hypotheses::made(alloc, all)?)
+        Hypotheses::made(alloc, all)
     }
 
     /// The same hypotheses.
@@ -116,13 +116,13 @@ impl Hypotheses {
     {
         let (first, second) = (self.terms(), other.terms());
         if second.is_empty() {
-            return Ok(self.copy()?);
+            return self.copy();
         }
         if first.is_empty() {
-            return Ok(other.copy()?);
+            return other.copy();
         }
         let all = merged(alloc, first, second)?;
-        Ok(Hypotheses::made(alloc, all)?)
+        Hypotheses::made(alloc, all)
     }
 
     /// The hypotheses but the one that is alpha equivalent to the term.
@@ -132,10 +132,10 @@ impl Hypotheses {
     {
         let terms = self.terms();
         if terms.is_empty() {
-            return Ok(self.copy()?);
+            return self.copy();
         }
         let rest = left_of(alloc, terms, p)?;
-        Ok(Hypotheses::made(alloc, rest)?)
+        Hypotheses::made(alloc, rest)
     }
 
     /// The hypotheses with types for their type variables, as [`crate::inst`] puts them.
@@ -199,7 +199,7 @@ fn in_order(alloc: Global, terms: &[Term]) -> Result<Vec<Term>, AllocError>
     let half = terms.len() / 2;
     let first = in_order(alloc, &terms[..half])?;
     let second = in_order(alloc, &terms[half..])?;
-    Ok(merged(alloc, &first, &second)?)
+    merged(alloc, &first, &second)
 }
 
 // Two lists in order made one, with each hypothesis of both once.

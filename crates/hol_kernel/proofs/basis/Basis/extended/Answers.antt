@@ -1,4 +1,5 @@
 use Rattle.std.proofs.Common.{◌≡◌, true, List, [], ◌∷◌, ap, sym, ◌∙◌, subst, rules}
+use Rattle.std.proofs.lemmas.Result.{IfOk-weaker}
 use Rattle.std.specs.Set.{sorted_merge}
 use Rattle.hol_kernel.specs.Item.{Item}
 use Rattle.hol_kernel.specs.Items.{Items, IsSubset}
@@ -16,16 +17,19 @@ made-requires c =
 pub returns-clause-is : goal.returns-clause-is
 returns-clause-is c =
     let one : c.deref.result.now ≡ c.args.item ∷ [] = search rules in
-    c.in_ok-made.ensures
-    ∙ extended_set c.args.self.now c.items.result.now c.in_ok-all.all.items c.args.item c.items.ensures.set c.requires.new
+    let is =
+    extended_set c.args.self.now c.items.result.now c.in_ok-all.all.items c.args.item c.items.ensures.set c.requires.new
     (c.in_ok-all.ensures ∙ ap (λ (ys : List Item). sorted_merge name_order true c.items.result.now ys) one)
+    in
+    IfOk-weaker c.made.result _ _ (λ basis e. e ∙ is) c.made.ensures
 
 pub returns-clause-larger : goal.returns-clause-larger
 returns-clause-larger c =
     let one : c.deref.result.now ≡ c.args.item ∷ [] = search rules in
     let is =
-    c.in_ok-made.ensures
-    ∙ extended_set c.args.self.now c.items.result.now c.in_ok-all.all.items c.args.item c.items.ensures.set c.requires.new
+    extended_set c.args.self.now c.items.result.now c.in_ok-all.all.items c.args.item c.items.ensures.set c.requires.new
     (c.in_ok-all.ensures ∙ ap (λ (ys : List Item). sorted_merge name_order true c.items.result.now ys) one)
     in
-    subst (λ (u : Items). IsSubset c.args.self.now u) (sym is) (subset_insert c.args.self.now c.args.item)
+    IfOk-weaker c.made.result _ _
+    (λ basis e. subst (λ (u : Items). IsSubset c.args.self.now u) (sym (e ∙ is)) (subset_insert c.args.self.now c.args.item))
+    c.made.ensures
