@@ -2,6 +2,7 @@
 ghost use Rattle.std.specs.Prelude.{◌≡◌, ℕ, List, ◌+◌, ◌++◌, ◌<◌, ◌≤◌, ◌^◌, length, IfOk, OnOk, IsTrue, min};
 ghost use Rattle.hol_types.specs.Tree.{TyVar};
 ghost use Rattle.hol_types.specs.Names.{tyvars};
+ghost use Rattle.hol_types.specs.Subst.{type_subst};
 ghost use Rattle.hol_infer.specs.Shape.{ShapeTree, Hole, Fixed, Built, shape_list, shape_size, shapes_size, fill, shape_holes, place_among, instance_shape, part_shape, AreWithin, AreSingle};
 ghost use Rattle.hol_infer.specs.Typing.{open_name};
 ghost use Rattle.hol_infer.specs.Holes.{is_hole_among, add_hole, add_holes, hole_index, open_type, AreHolesOf};
@@ -189,22 +190,34 @@ impl Shape {
                 Ty::app(alloc, name, &args)
             }
             ShapeNode::Instance(generic, base) => {
-                let names = generic.tyvars(alloc)?;
-                let mut pairs = Vec::with_capacity(alloc, names.len())?;
-                add_open_pairs(alloc, order, &names, *base, &mut pairs)?;
-                generic.subst(alloc, &pairs)
+                opened(alloc, order, generic, *base, Vec::new(alloc))
             }
             ShapeNode::Part(generic, bound, base) => {
                 let mut pairs = Vec::with_capacity(alloc, bound.len())?;
                 for pair in bound {
                     pairs.push((pair.0.ty(alloc, order)?, pair.1.copy()?))?;
                 }
-                let names = generic.tyvars(alloc)?;
-                add_open_pairs(alloc, order, &names, *base, &mut pairs)?;
-                generic.subst(alloc, &pairs)
+                opened(alloc, order, generic, *base, pairs)
             }
         }
     }
+}
+
+// The generic type with these types for some of its type variables, and for the others those of the open slots from `base` on.
+fn opened(
+    alloc: Global,
+    order: &[usize],
+    generic: &Ty,
+    base: usize,
+    bound: Vec<(Ty, Name)>,
+) -> Result<Ty, AllocError>
+    requires { base + length (tyvars generic.now) < 2 ^ 64 }
+    ensures { IfOk result (λ t. t ≡ type_subst (bound.items ++ pairs_from (open_type order.now) base (tyvars generic.now)) generic.now) }
+{
+    let mut pairs = bound;
+    let names = generic.tyvars(alloc)?;
+    add_open_pairs(alloc, order, &names, base, &mut pairs)?;
+    generic.subst(alloc, &pairs)
 }
 
 // The place of a name among the names, or their number.
