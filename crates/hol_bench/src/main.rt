@@ -23,7 +23,7 @@ use std::alloc::Global;
 use std::env;
 use std::process::ExitCode;
 
-/// What is done, on terms of which size, and how often.
+// What is done, on terms of which size, and how often.
 #[derive(Drop)]
 struct Work {
     job: String,
@@ -31,7 +31,7 @@ struct Work {
     times: u32,
 }
 
-/// The work that the program's words name.
+// The work that the program's words name.
 fn words(rt: &HostRuntime) -> Result<Work, Failure> {
     let mut words = env::args(rt)?;
     let _program = words.next();
@@ -44,7 +44,7 @@ fn words(rt: &HostRuntime) -> Result<Work, Failure> {
     Ok(Work { job, size, times })
 }
 
-/// Does the work, and answers its last result: a size, but for `order`.
+// Does the work, and answers its last result: a size, but for `order`.
 fn done(alloc: Global, work: &Work) -> Result<u32, Failure> {
     match work.job.as_str() {
         "size" | "order" => sharing(alloc, work.job.as_str(), work.size, work.times),

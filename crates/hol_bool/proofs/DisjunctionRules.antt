@@ -26,7 +26,7 @@ use Rattle.hol_kernel.specs.Widening.{IsMonotone}
 use Rattle.hol_kernel.proofs.Stands.{some_is}
 use Rattle.hol_kernel.proofs.Subsets.{within_of_subset}
 use Rattle.hol_kernel.proofs.Variables.{known_typed}
-use Rattle.hol_kernel.proofs.Weaken.{HasType-more, has_type_more}
+use Rattle.hol_kernel.proofs.Weaken.{typed_wider, has_type_more}
 use Rattle.hol_equal.proofs.Typings.{parts_typed}
 use Rattle.hol_equal.specs.Applied.{lhs, rhs, rand}
 use Rattle.hol_bool.specs.Applied.{with_right, with_left, by_cases, negated, false_of, chosen, abstraction_in}
@@ -272,6 +272,6 @@ exists_monotone e t a basis more h s is = outer (is_typed basis e) refl is
 
     outer : (k : Bool) → is_typed basis e ≡ k → cond k (option_and_then (exists_at basis e t a) (dest_exists e)) None ≡ Some s → exists_of more e t a ≡ Some s
     outer true f g =
-        ap (λ k. cond k (option_and_then (exists_at more e t a) (dest_exists e)) None) (is_typed_more basis more (HasType-more basis more (within_of_subset basis more h)) e f)
+        ap (λ k. cond k (option_and_then (exists_at more e t a) (dest_exists e)) None) (is_typed_more basis more (typed_wider basis more (within_of_subset basis more h)) e f)
         ∙ inner (dest_exists e) g
     outer false f g = absurd (cc)

@@ -8,7 +8,6 @@ ghost use Rattle.hol_conv.specs.Redexes.{contraction, depth};
 ghost use Rattle.hol_conv.specs.Turns.{turn};
 ghost use Rattle.hol_conv.specs.Tracing.{Traces, redex_givens};
 ghost use Rattle.hol_conv.specs.Places.{whole, waiting, AreWalked, Stands, Lands, Took, StepsIn, is_marked, LeadsAround, LeadsThrough};
-ghost use Rattle.hol_conv.specs.declared.frame.Step.TheVariants.{Function};
 
 use crate::frame::{After, Frame, Step};
 use crate::redexes::{Contracted, Redexes};
@@ -79,7 +78,8 @@ impl Place {
         let _ty = self.part.type_of();
         match self.part.node() {
             TermNode::Comb(f, x) => {
-                let (step, function) = to_function(f, x)?;
+                let step = Step::Function(x.copy()?);
+                let function = f.copy()?;
                 self.step_in(step, function)?;
                 Ok(true)
             }
@@ -203,16 +203,6 @@ impl Place {
         };
         Ok(())
     }
-}
-
-// The step to the function of an application of `f` to `x`, and the function.
-fn to_function(f: &Term, x: &Term) -> Result<(Step, Term), AllocError>
-    ensures step { IfOk result (λ to. to.0 ≡ Function x.now) }
-    ensures part { IfOk result (λ to. to.1 ≡ f.now) }
-{
-    let step = Step::Function(x.copy()?);
-    let function = f.copy()?;
-    Ok((step, function))
 }
 
 // Puts the term at the end, if there is one.

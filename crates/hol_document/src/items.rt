@@ -29,11 +29,11 @@ fn item_text(alloc: Global, item: &Item) -> Result<String, AllocError>
     ensures { IfOk result (λ text. string_bytes text ≡ item_text item.now) }
 {
     match item.node() {
-        ItemNode::Axiom(name, _) => Ok(tagged(alloc, "axiom:", name)?),
-        ItemNode::DeclaredConstant(name, _) => Ok(tagged(alloc, "const:", name)?),
-        ItemNode::DefinedConstant(name, _) => Ok(tagged(alloc, "def:", name)?),
-        ItemNode::DeclaredType(name, _) => Ok(tagged(alloc, "type:", name)?),
-        ItemNode::DefinedType { name, .. } => Ok(tagged(alloc, "typedef:", name)?),
+        ItemNode::Axiom(name, _) => tagged(alloc, "axiom:", name),
+        ItemNode::DeclaredConstant(name, _) => tagged(alloc, "const:", name),
+        ItemNode::DefinedConstant(name, _) => tagged(alloc, "def:", name),
+        ItemNode::DeclaredType(name, _) => tagged(alloc, "type:", name),
+        ItemNode::DefinedType { name, .. } => tagged(alloc, "typedef:", name),
     }
 }
 

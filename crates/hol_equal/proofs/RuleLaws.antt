@@ -17,7 +17,7 @@ use Rattle.hol_kernel.specs.Sequent.{Sequent, no_hyps, sequent_of}
 use Rattle.hol_kernel.specs.Typing.{type_over, is_typed, has_type}
 use Rattle.hol_kernel.specs.Widening.{IsMonotone}
 use Rattle.hol_kernel.proofs.Subsets.{within_of_subset}
-use Rattle.hol_kernel.proofs.Weaken.{HasType-more, has_type_more}
+use Rattle.hol_kernel.proofs.Weaken.{typed_wider, has_type_more}
 use Rattle.hol_equal.specs.Rules.{at_sides, ap_term_of, sides_at, ap_thm_of, alpha_of, contracted, beta_conv_of, m_with, subst_sides, subst_of}
 
 -- what is made of a term's type, and of no type nothing
@@ -26,7 +26,7 @@ typed_more basis more within g none t s e = by (type_over basis t) refl e
   where
     by : (o : Option TypeTree) → type_over basis t ≡ o → g o ≡ Some s → g (type_over more t) ≡ Some s
     by None h f = absurd (cc)
-    by (Some a) h f = ap g (HasType-more basis more within t a h) ∙ f
+    by (Some a) h f = ap g (typed_wider basis more within t a h) ∙ f
 
 pub ap_term_monotone : (f : Nameless) (a : Sequent) → IsMonotone (λ basis. ap_term_of basis f a)
 ap_term_monotone f a basis more h s e = by (dest_eq a.concl) e

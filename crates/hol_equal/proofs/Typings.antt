@@ -12,6 +12,7 @@ use Rattle.hol_kernel.specs.Items.{Items}
 use Rattle.hol_kernel.specs.Typing.{is_known, HasType}
 use Rattle.hol_kernel.proofs.Stands.{both, app_parts}
 use Rattle.hol_kernel.proofs.Variables.{typed_known, known_typed}
+pub use Rattle.hol_kernel.proofs.WellTyped.{applied_typed}
 
 module _ (items : Items) where
   -- What a well typed application says of its parts.
@@ -26,12 +27,6 @@ module _ (items : Items) where
       let known = both (is_known items f) (is_known items x) p.0 in
       let types = app_parts [] f x b p.1 in
       record { domain = types.0; function = typed_known items f (fun_type types.0 b) known.0 types.1; argument = typed_known items x types.0 known.1 types.2 }
-
-  pub applied_typed : (a b : TypeTree) (f x : Nameless) → HasType items f (fun_type a b) → HasType items x a → HasType items (app f x) b
-  applied_typed a b f x h g =
-      let p = known_typed items f (fun_type a b) h in
-      let q = known_typed items x a g in
-      typed_known items (app f x) b (λ i. p.0 i && q.0 i) (rw (p.1, q.1) (applied_fits a b))
 
   -- the sign of a well typed equation
   pub sign_typed : (a b : TypeTree) (l r : Nameless) → HasType items (equation a l r) b → HasType items (fixed (codes "=") (equality_type a)) (equality_type a)

@@ -8,7 +8,7 @@ use Rattle.hol_kernel.specs.Items.{Items, no_items, IsSubset}
 use Rattle.hol_kernel.specs.Extends.{Agree}
 use Rattle.hol_kernel.specs.Legal.{IsLegalSet}
 use Rattle.hol_kernel.proofs.Subsets.{none_within, union_subset}
-use Rattle.hol_kernel.proofs.Unions.{IsLegalSet-union}
+use Rattle.hol_kernel.proofs.Unions.{union_legal}
 use Rattle.hol_resolve.specs.Readings.{ReadingsValue}
 use Rattle.hol_theory.specs.Key.{KeyValue}
 use Rattle.hol_theory.specs.Entry.{EntryValue, AType, AConstant, ATheorem, Entries, IsEntry, entry_at, entry_basis}
@@ -70,7 +70,7 @@ module _ (es : Entries) (t : IsTheory es) (readings : ReadingsValue) where
   join_fine : (items basis : Items) → Fine items → Fine basis → Fine (set.union items basis)
   join_fine items basis h k = (
     union_subset items basis (items_in es) h.0 k.0,
-    IsLegalSet-union items basis h.1 k.1 (items_agree es items basis t h.0 k.0),
+    union_legal items basis h.1 k.1 (items_agree es items basis t h.0 k.0),
   )
 
   value_fine : (items : Items) (key : KeyValue) (o : Option EntryValue) → o ≡ entry_at key es → Fine items → Fine (with_value readings items key o)

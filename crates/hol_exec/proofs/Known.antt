@@ -25,7 +25,7 @@ use Rattle.hol_kernel.proofs.Variables.{known_typed}
 use Rattle.hol_kernel.proofs.WellTyped.{own_type_stands, old_stands, new_stands, constants}
 use Rattle.hol_kernel.proofs.Weaken.{ordered_held, is_type_more}
 use Rattle.hol_infer.specs.Resolving.{arity_of, generic_type_of}
-use Rattle.hol_infer.specs.Standing.{stands, all_stand, TermStands, AreStanding, types_count as count}
+use Rattle.hol_infer.specs.Standing.{stands, all_stand, TermStands, AreStanding}
 use Rattle.hol_theory.specs.Key.{KeyValue}
 use Rattle.hol_theory.specs.Entry.{EntryValue, AType, AConstant, ATheorem, IsConstantEntry, IsTypeEntry}
 use Rattle.hol_exec.specs.ReadsValue.{Values}
@@ -177,14 +177,10 @@ module _ (items : Items) where
   abbrev has : List ℕ → TypeTree → Bool
   has c a = has_constant items c a
 
-  counts_same : (ts : TypeList) → count ts ≡ types_count ts
-  counts_same no_types = refl
-  counts_same (more_types t ts) = ap suc (counts_same ts)
-
   mutual
     type_same : (t : TypeTree) → stands takes t ≡ is_type items t
     type_same (TyVar a) = refl
-    type_same (TyApp c ts) = λ i. has_arity items c (counts_same ts i) && types_same ts i
+    type_same (TyApp c ts) = λ i. has_arity items c (types_count ts) && types_same ts i
 
     types_same : (ts : TypeList) → all_stand takes ts ≡ are_types items ts
     types_same no_types = refl

@@ -3,7 +3,7 @@
 /// The kinds of refusals of commands. Each has a number and a text that clients see.
 #[derive(Clone, Copy, Debug, PartialEq, Eq)]
 pub enum RefusalKind {
-    /// The text is no command, or one that isn't run yet.
+    /// The text is no command.
     Syntax,
     /// The command opens a proof, imports or makes something while a proof is open.
     InProof,

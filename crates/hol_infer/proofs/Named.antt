@@ -20,6 +20,7 @@ use Rattle.hol_infer.specs.Typing.{IsTyping}
 use Rattle.hol_infer.specs.SlotTree.{SlotTree, SlotApply, SlotAbstraction, slot_nodes, typed}
 use Rattle.hol_infer.specs.Scoped.{IsFirstAt}
 use Rattle.hol_infer.specs.Solved.{IsWellTyped}
+use Rattle.hol_terms.proofs.SameNode.{variable_itself}
 
 -- ---- occurrences of variables
 
@@ -32,12 +33,6 @@ other_variable u v ne = by (bytes_eq u.0 v.0) refl
     by : (b : Bool) → bytes_eq u.0 v.0 ≡ b → variable_eq u v ≡ false
     by true e = absurd (ne ((bytes_eq-Decides u.0 v.0).0 e))
     by false e = rw e refl
-
-self_variable : (v : List ℕ × TypeTree) → variable_eq v v ≡ true
-self_variable v =
-    let p : bytes_eq v.0 v.0 ≡ true = (bytes_eq-Decides v.0 v.0).1 refl in
-    let q : type_eq v.1 v.1 ≡ true = (type_cmp_decides v.1 v.1).1 refl in
-    rw (p, q) refl
 
 place_here : (u v : List ℕ × TypeTree) (env : Env) (j : ℕ) → variable_eq u v ≡ true → place (u ∷ env) j v ≡ bound j
 place_here u v env j e = rw e refl
@@ -59,7 +54,7 @@ first_place : (env : Env) (i j : ℕ) (a : List ℕ) (v : List ℕ × TypeTree) 
 first_place [] i j a v h e = absurd h
 first_place (u ∷ env) zero j a v h e =
     let same : u ≡ v = some_same u v e in
-    place_here u v env j (subst (λ (w : List ℕ × TypeTree). variable_eq u w ≡ true) same (self_variable u)) ∙ ap bound (sym (add-zero j))
+    place_here u v env j (subst (λ (w : List ℕ × TypeTree). variable_eq u w ≡ true) same (variable_itself u)) ∙ ap bound (sym (add-zero j))
 first_place (u ∷ env) (suc i) j a v (ne, h) e =
     let named : v.0 ≡ a = first_name env i a v h e in
     let apart : u.0 ≢ v.0 = λ f. ne (f ∙ named) in

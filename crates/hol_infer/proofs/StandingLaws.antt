@@ -14,7 +14,7 @@ use Rattle.hol_infer.specs.Resolving.{arity_of, generic_type_of, ident_type, typ
 use Rattle.hol_infer.specs.Standing.{types_count, stands, all_stand, TermStands, AreStanding}
 use Rattle.hol_infer.proofs.Standing.{OptionStands, RawStands, principal_stands}
 
-count_texts : (arities : List (List ℕ × ℕ)) (ts : TypeTexts) → types_count (types_of_texts arities ts) ≡ text_count ts
+pub count_texts : (arities : List (List ℕ × ℕ)) (ts : TypeTexts) → types_count (types_of_texts arities ts) ≡ text_count ts
 count_texts arities no_texts = refl
 count_texts arities (more_texts t ts) = let r = count_texts arities ts in omega (arith, r)
 

@@ -89,7 +89,7 @@ made_or_short {R} reads rule expected (Err e) some gives = by (reads e) refl giv
     by of_memory is h = is
     by otherwise is h = absurd h
 
-some_mapped : {X Y : Type 0} (f : X → Y) (o : Option X) → IsSome (option_map f o) → IsSome o
+pub some_mapped : {X Y : Type 0} (f : X → Y) (o : Option X) → IsSome (option_map f o) → IsSome o
 some_mapped f (Some x) h = refl
 some_mapped f None h = h
 

@@ -14,10 +14,7 @@ use Rattle.hol_just.specs.Valid.{FitsAt}
 use Rattle.hol_just.specs.declared.reason.Reason.{Reason}
 use Rattle.hol_just.specs.declared.reason.Move.{Move}
 use Rattle.hol_just.proofs.Frame.{at_pre}
-
-some_mapped : {X Y : Type 0} (f : X → Y) (o : Option X) → IsSome (option_map f o) → IsSome o
-some_mapped f (Some x) h = refl
-some_mapped f None h = h
+use Rattle.hol_just.proofs.Applied.{some_mapped}
 
 -- ---- one move
 

@@ -22,7 +22,7 @@ use Rattle.hol_kernel.specs.Sequent.{Hyps, Sequent, sequent_of}
 use Rattle.hol_kernel.specs.Typing.{is_type, HasType}
 use Rattle.hol_kernel.proofs.Declared.{has_type_of}
 use Rattle.hol_kernel.proofs.HypothesisLists.{hyps_total, hyps_same}
-use Rattle.hol_kernel.proofs.Members.{Among, in_union_cases, among_from_list, from_list_among, from_list-items}
+use Rattle.hol_kernel.proofs.Members.{Among, in_union_cases, among_from_list, from_list_among, from_list_items}
 use Rattle.hol_bool.specs.Rules.{gen_of, over_variable, exists_of, exists_at}
 use Rattle.hol_goal.specs.Achieves.{assumed, Achieves, AreAllowed}
 use Rattle.hol_kernel.proofs.Variables.{variable_typed}
@@ -50,10 +50,10 @@ stripped_free v [] = refl
 stripped_free v (n ∷ ns) = λ i. binds (strip_free n i) v || stripped_free v ns i
 
 held : (hs : Hyps) (n : Nameless) → Among n (set.items hs) → set.contains hs n ≡ true
-held hs n h = subst (λ (ks : Hyps). set.contains ks n ≡ true) (from_list-items hyps_total hyps_same hs) (from_list_among hyps_total hyps_same (set.items hs) n h)
+held hs n h = subst (λ (ks : Hyps). set.contains ks n ≡ true) (from_list_items hyps_total hyps_same hs) (from_list_among hyps_total hyps_same (set.items hs) n h)
 
 listed : (hs : Hyps) (n : Nameless) → set.contains hs n ≡ true → Among n (set.items hs)
-listed hs n h = among_from_list hyps_total hyps_same (set.items hs) n (subst (λ (ks : Hyps). set.contains ks n ≡ true) (sym (from_list-items hyps_total hyps_same hs)) h)
+listed hs n h = among_from_list hyps_total hyps_same (set.items hs) n (subst (λ (ks : Hyps). set.contains ks n ≡ true) (sym (from_list_items hyps_total hyps_same hs)) h)
 
 -- a variable that is free in no assumption and no extra hypothesis is free in no hypothesis that is allowed
 pub allowed_fresh :

@@ -5,6 +5,7 @@ ghost use Rattle.hol_just.specs.declared.tried.TacFault.TheVariants.{Memory};
 use crate::just::Just;
 use hol_goal::{Goal, copies};
 use std::alloc::{AllocError, AllocFailed, Global};
+use thiserror::Error;
 
 /// The goals that are left of a goal, and why they are.
 #[derive(Drop)]
@@ -38,15 +39,19 @@ pub struct Tried {
 }
 
 /// Why a function on goals did nothing.
-#[derive(Clone, Copy, Debug, PartialEq, Eq)]
+#[derive(Clone, Copy, Debug, Error, PartialEq, Eq)]
 pub enum TacFault {
     /// The function doesn't fit the goal, or takes other arguments. The turns left.
+    #[error("the goal or the arguments don't fit")]
     Refused(u32),
     /// A turn was to be paid, and none was left.
+    #[error("no turn is left")]
     TurnLimit,
     /// A turn made a term of over 20,000 nodes.
+    #[error("a term is too large")]
     TooLarge,
     /// Memory is short.
+    #[error("no memory")]
     Memory,
 }
 

@@ -18,7 +18,7 @@ use Rattle.hol_kernel.specs.Clashing.{name_order, shared_in, unless_same, clash_
 use Rattle.hol_kernel.proofs.SortedSets.{sorted_one, sorted_merged, set_merged, union_none_right}
 use Rattle.hol_kernel.proofs.Members.{Among, among_from_list, from_list_among, itself, equal_keys, union_insert}
 use Rattle.hol_kernel.proofs.ItemOrder.{total, only, name_order_is, equal_names, merge_same}
-use Rattle.hol_kernel.proofs.Unions.{IsLegalSet-union, IsLegalSet-insert}
+use Rattle.hol_kernel.proofs.Unions.{union_legal, insert_legal}
 
 -- ---- two items
 
@@ -217,7 +217,7 @@ merged_ordered xs ys all agree e s t =
 pub storable_union : (a b : Items) (xs ys all : List Item) → item_set xs ≡ a → item_set ys ≡ b → IsLegalSet a → IsLegalSet b → IsStrictlySortedBy item_cmp xs → IsStrictlySortedBy item_cmp ys → AgreeIn xs ys → all ≡ sorted_merge name_order true xs ys → IsStorable all
 storable_union a b xs ys all p q l m s t agree e =
     record {
-      legal = subst IsLegalSet (sym (merged_set xs ys all agree e ∙ (λ i. set.union (p i) (q i)))) (IsLegalSet-union a b l m (agree_sets a b xs ys p q agree));
+      legal = subst IsLegalSet (sym (merged_set xs ys all agree e ∙ (λ i. set.union (p i) (q i)))) (union_legal a b l m (agree_sets a b xs ys p q agree));
       ordered = merged_ordered xs ys all agree e s t;
     }
 
@@ -237,6 +237,6 @@ extended_set a xs all x p new e =
 pub storable_insert : (a : Items) (xs all : List Item) (x : Item) → item_set xs ≡ a → IsLegalSet a → IsStrictlySortedBy item_cmp xs → HasNewKeys a x → IsSound a x → all ≡ sorted_merge name_order true xs (x ∷ []) → IsStorable all
 storable_insert a xs all x p l s new sound e =
     record {
-      legal = subst IsLegalSet (sym (extended_set a xs all x p new e)) (IsLegalSet-insert a x l new sound);
+      legal = subst IsLegalSet (sym (extended_set a xs all x p new e)) (insert_legal a x l new sound);
       ordered = merged_ordered xs (x ∷ []) all (agree_new a xs x p new) e s (sorted_one total x);
     }

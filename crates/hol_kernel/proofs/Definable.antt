@@ -23,7 +23,7 @@ use Rattle.hol_kernel.specs.Clashing.{is_new}
 use Rattle.hol_kernel.specs.Defining.{has_none, is_closed, are_among, is_definable}
 use Rattle.hol_kernel.proofs.Members.{in_insert_here, in_insert_old}
 use Rattle.hol_kernel.proofs.ItemOrder.{total, only}
-use Rattle.hol_kernel.proofs.Weaken.{HasType-more}
+use Rattle.hol_kernel.proofs.Weaken.{typed_wider}
 use Rattle.hol_kernel.proofs.Held.{named_of_typed}
 use Rattle.hol_kernel.proofs.Typed.{typed_type}
 use Rattle.hol_formulas.proofs.EquationTypes.{equation_right}
@@ -129,7 +129,7 @@ module _ (items more : Items) (c : List ℕ) (r : Nameless) (is : more ≡ set.i
   definition_typed a h =
       let larger : Items = set.insert items (defined_constant c r) in
       let within : IsWithin items larger = λ z i. in_insert_old total only items (defined_constant c r) z i in
-      subst (λ (s : Items). HasType s r a) (sym is) (HasType-more items larger within r a h)
+      subst (λ (s : Items). HasType s r a) (sym is) (typed_wider items larger within r a h)
 
 -- ---- the theorem
 

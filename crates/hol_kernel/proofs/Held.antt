@@ -19,7 +19,7 @@ use Rattle.hol_kernel.specs.Extends.{IsAxiomOf}
 use Rattle.hol_kernel.specs.Clashing.{axiom_at, first_of_two, axiom_in}
 use Rattle.hol_kernel.proofs.Members.{Among, in_insert_old, in_insert_cases, not_in_empty}
 use Rattle.hol_kernel.proofs.ItemOrder.{total, only}
-use Rattle.hol_kernel.proofs.Weaken.{held, ordered_held, IsSound-more, derives_more}
+use Rattle.hol_kernel.proofs.Weaken.{held, ordered_held, sound_more, derives_more}
 
 -- ---- each item meets its condition over the whole set
 
@@ -29,8 +29,8 @@ sound_in (x ∷ earlier) legal y h =
     let e : Items = item_set earlier in
     let within : IsWithin e (set.insert e x) = λ z i. in_insert_old total only e x z i in
     elim (in_insert_cases total only e x y h) [
-      | inl is ↦ subst (λ (z : Item). IsSound (set.insert e x) z) (sym is) (IsSound-more e (set.insert e x) within x legal.1)
-      | inr i ↦ IsSound-more e (set.insert e x) within y (sound_in earlier legal.2 y i)
+      | inl is ↦ subst (λ (z : Item). IsSound (set.insert e x) z) (sym is) (sound_more e (set.insert e x) within x legal.1)
+      | inr i ↦ sound_more e (set.insert e x) within y (sound_in earlier legal.2 y i)
     ]
 
 pub sound_held : (items : Items) → IsLegalSet items → (y : Item) → Holds items y → IsSound items y

@@ -81,5 +81,5 @@ module _ {K : Type 0} {R : K → K → Ordering} (o : IsTotalOrder R) (only : se
   from_list_among (x ∷ ks) q (inl e) = subst (λ (z : K). set.contains {R = R} (set.insert (set.from_list ks) x) z ≡ true) (sym e) (in_insert_here o only (set.from_list ks) x)
   from_list_among (x ∷ ks) q (inr h) = in_insert_old o only (set.from_list ks) x q (from_list_among ks q h)
 
-  pub from_list-items : (s : set.FinSet R) → set.from_list (set.items s) ≡ s
-  from_list-items s = set.same_set o only _ _ (λ q. set.contains-from_list o (set.items s) q ∙ sym (set.contains-items s q))
+  pub from_list_items : (s : set.FinSet R) → set.from_list (set.items s) ≡ s
+  from_list_items s = set.same_set o only _ _ (λ q. set.contains-from_list o (set.items s) q ∙ sym (set.contains-items s q))

@@ -16,7 +16,7 @@ use Rattle.hol_kernel.specs.Typing.{is_type, type_over, has_type, are_types_for}
 use Rattle.hol_kernel.specs.Rules.{reflexive, refl_of, assume_of, reduced, beta_at, beta_applied, beta_of, abs_sides, abs_of, inst_type_of, is_pair_at, are_pairs_over, inst_of}
 use Rattle.hol_kernel.specs.Widening.{IsMonotone}
 use Rattle.hol_kernel.proofs.Subsets.{within_of_subset}
-use Rattle.hol_kernel.proofs.Weaken.{is_type_more, HasType-more, has_type_more, all_more}
+use Rattle.hol_kernel.proofs.Weaken.{is_type_more, typed_wider, has_type_more, all_more}
 
 -- a test that holds over a larger set too
 tested : {T : Type 0} (a b : Bool) (x s : T) → (a ≡ true → b ≡ true) → cond a (Some x) None ≡ Some s → cond b (Some x) None ≡ Some s
@@ -33,7 +33,7 @@ module _ (basis more : Items) (within : IsWithin basis more) where
     where
       by : (o : Option TypeTree) → type_over basis t ≡ o → option_map f o ≡ Some s → option_map f (type_over more t) ≡ Some s
       by None h g = absurd (cc)
-      by (Some a) h g = ap (option_map f) (HasType-more basis more within t a h) ∙ g
+      by (Some a) h g = ap (option_map f) (typed_wider basis more within t a h) ∙ g
 
   beta_more : (v : List ℕ × TypeTree) (b x : Named) (s : Sequent) → beta_at basis v b x ≡ Some s → beta_at more v b x ≡ Some s
   beta_more v b (var w) s e = by (variable_eq v w) e

@@ -31,7 +31,7 @@ use Rattle.hol_kernel.proofs.ItemOrder.{total, only}
 use Rattle.hol_kernel.proofs.Members.{or_right, in_insert_here, in_insert_old, not_in_empty}
 use Rattle.hol_kernel.proofs.Stands.{both}
 use Rattle.hol_kernel.proofs.Variables.{typed_known, known_typed}
-use Rattle.hol_kernel.proofs.Weaken.{HasType-more, derives_more}
+use Rattle.hol_kernel.proofs.Weaken.{typed_wider, derives_more}
 use Rattle.hol_kernel.proofs.WellTyped.{theorem_typed}
 
 -- ---- names
@@ -117,7 +117,7 @@ module _ (items : Items) (c abs rep : List ℕ) (th : Theorem) where
     predicate_typed =
         let whole : HasType th.basis (app (nameless [] p) x) bool_type = subst (λ (n : Nameless). HasType th.basis n bool_type) m.1 (theorem_typed th derives).conclusion in
         let known = both (is_known th.basis (nameless [] p)) (is_known th.basis x) (known_typed th.basis (app (nameless [] p) x) bool_type whole).0 in
-        HasType-more th.basis items wider (nameless [] p) (fun_type s bool_type)
+        typed_wider th.basis items wider (nameless [] p) (fun_type s bool_type)
         (typed_known th.basis (nameless [] p) (fun_type s bool_type) known.0 (type_outside p ∙ has))
 
     inhabited : Derives items no_hyps (app (nameless [] p) x)
@@ -168,7 +168,7 @@ module _ (items more : Items) (c abs rep : List ℕ) (p : Nameless) (is : more �
   typed_in_more a h =
       let larger : Items = set.insert items (defined_type c abs rep p) in
       let within : IsWithin items larger = λ z i. in_insert_old total only items (defined_type c abs rep p) z i in
-      subst (λ (s : Items). HasType s p a) (sym is) (HasType-more items larger within p a h)
+      subst (λ (s : Items). HasType s p a) (sym is) (typed_wider items larger within p a h)
 
 -- ---- the theorems
 

@@ -7,7 +7,7 @@ use Rattle.hol_kernel.specs.Items.{Items, Holds, item_set}
 use Rattle.hol_kernel.specs.Signature.{ItemKey, has_key}
 use Rattle.hol_kernel.specs.Legal.{HasNewKeys, IsSound, IsLegal, IsLegalSet}
 use Rattle.hol_kernel.specs.Extends.{Agree}
-use Rattle.hol_kernel.proofs.Weaken.{IsSound-more}
+use Rattle.hol_kernel.proofs.Weaken.{sound_more}
 use Rattle.hol_kernel.proofs.SortedSets.{union_none_right}
 use Rattle.hol_kernel.proofs.Members.{in_insert_here, in_insert_old, in_insert_cases, in_union_left, in_union_right, in_union_cases, same_members, in_or_out, union_insert}
 use Rattle.hol_kernel.proofs.ItemOrder.{total, only}
@@ -52,7 +52,7 @@ joined a first legal is (x ∷ earlier) ok agree =
               | inr i ↦ (ok.0 k has).1 y i
             ],
           ),
-          IsSound-more b (item_set rest.0) (λ y i. subst (λ (s : Items). Holds s y) (sym rest.2) (in_union_right total only a b y i)) x ok.1,
+          sound_more b (item_set rest.0) (λ y i. subst (λ (s : Items). Holds s y) (sym rest.2) (in_union_right total only a b y i)) x ok.1,
           rest.1,
         ),
         ap (λ (s : Items). set.insert s x) rest.2 ∙ sym (union_insert total only a b x),
@@ -60,14 +60,14 @@ joined a first legal is (x ∷ earlier) ok agree =
     ]
 
 -- the union of two legal sets whose items agree wherever they share a name is a legal set
-pub IsLegalSet-union : (a b : Items) → IsLegalSet a → IsLegalSet b → Agree a b → IsLegalSet (set.union a b)
-IsLegalSet-union a b p q agree =
+pub union_legal : (a b : Items) → IsLegalSet a → IsLegalSet b → Agree a b → IsLegalSet (set.union a b)
+union_legal a b p q agree =
     let r = joined a p.0 p.1 p.2 q.0 q.1 (λ x y k i j. agree x y k i (subst (λ (s : Items). Holds s y) q.2 j)) in
     (r.0, r.1, r.2 ∙ ap (set.union a) q.2)
 
 -- one item more
-pub IsLegalSet-insert : (s : Items) (x : Item) → IsLegalSet s → HasNewKeys s x → IsSound s x → IsLegalSet (set.insert s x)
-IsLegalSet-insert s x p new sound = (
+pub insert_legal : (s : Items) (x : Item) → IsLegalSet s → HasNewKeys s x → IsSound s x → IsLegalSet (set.insert s x)
+insert_legal s x p new sound = (
   x ∷ p.0,
   (subst (λ (t : Items). HasNewKeys t x) (sym p.2) new, subst (λ (t : Items). IsSound t x) (sym p.2) sound, p.1),
   ap (λ (t : Items). set.insert t x) p.2,

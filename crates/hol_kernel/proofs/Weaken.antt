@@ -69,8 +69,8 @@ module _ (items more : Items) (within : IsWithin items more) where
       let q = and_parts (is_type items s) (is_known items b) p.1 in
       λ i. p.0 i && (is_type_more s q.0 i && is_known_more b q.1 i)
 
-  pub HasType-more : (t : Nameless) (a : TypeTree) → HasType items t a → HasType more t a
-  HasType-more t a h = by (is_known items t) refl h
+  pub typed_wider : (t : Nameless) (a : TypeTree) → HasType items t a → HasType more t a
+  typed_wider t a h = by (is_known items t) refl h
     where
       by : (b : Bool) → is_known items t ≡ b → cond b (nameless_type [] t) None ≡ Some a → HasType more t a
       by true e h = ap (λ b. cond b (nameless_type [] t) None) (is_known_more t e) ∙ h
@@ -81,19 +81,19 @@ module _ (items more : Items) (within : IsWithin items more) where
     where
       by : (o : Option TypeTree) → type_over items t ≡ o → is_type_at o a ≡ true → has_type more t a ≡ true
       by None p e = absurd (true≢false (sym e))
-      by (Some s) p e = ap (λ o. is_type_at o a) (HasType-more t s p) ∙ e
+      by (Some s) p e = ap (λ o. is_type_at o a) (typed_wider t s p) ∙ e
 
   pub all_more : {X : Type 0} (p q : X → Bool) → ((x : X) → p x ≡ true → q x ≡ true) → (xs : List X) → list_all p xs ≡ true → list_all q xs ≡ true
   all_more p q f [] e = refl
   all_more p q f (x ∷ xs) e = let r = and_parts (p x) (list_all p xs) e in λ i. f x r.0 i && all_more p q f xs r.1 i
 
   pub derives_more : (hs : Hyps) (c : Nameless) → Derives items hs c → Derives more hs c
-  derives_more _ _ (by_refl t a h) = by_refl t a (HasType-more t a h)
+  derives_more _ _ (by_refl t a h) = by_refl t a (typed_wider t a h)
   derives_more _ _ (by_trans hs ks a b s m n t d e same) = by_trans hs ks a b s m n t (derives_more _ _ d) (derives_more _ _ e) same
   derives_more _ _ (by_mk_comb hs ks a b f g x y d e) = by_mk_comb hs ks a b f g x y (derives_more _ _ d) (derives_more _ _ e)
   derives_more _ _ (by_abs hs a v l r stands new d) = by_abs hs a v l r (is_type_more v.1 stands) new (derives_more _ _ d)
-  derives_more _ _ (by_beta a v b h new) = by_beta a v b (HasType-more (app (lam (base_of v.0) v.1 b) (free v)) a h) new
-  derives_more _ _ (by_assume p h) = by_assume p (HasType-more p bool_type h)
+  derives_more _ _ (by_beta a v b h new) = by_beta a v b (typed_wider (app (lam (base_of v.0) v.1 b) (free v)) a h) new
+  derives_more _ _ (by_assume p h) = by_assume p (typed_wider p bool_type h)
   derives_more _ _ (by_eq_mp hs ks a l r m d e same) = by_eq_mp hs ks a l r m (derives_more _ _ d) (derives_more _ _ e) same
   derives_more _ _ (by_deduct_antisym hs ks p q d e) = by_deduct_antisym hs ks p q (derives_more _ _ d) (derives_more _ _ e)
   derives_more _ _ (by_inst_type hs p pairs ok d) =
@@ -101,25 +101,25 @@ module _ (items more : Items) (within : IsWithin items more) where
   derives_more _ _ (by_inst hs p pairs ok d) =
       by_inst hs p pairs (all_more (λ p. has_type items p.0 p.1.1) (λ p. has_type more p.0 p.1.1) (λ p. has_type_more p.0 p.1.1) pairs ok) (derives_more _ _ d)
   derives_more _ _ (by_postulate which) = by_postulate which
-  derives_more _ _ (by_axiom n p h typed) = by_axiom n p (within _ h) (HasType-more p bool_type typed)
-  derives_more _ _ (by_definition c r a h typed) = by_definition c r a (within _ h) (HasType-more r a typed)
-  derives_more _ _ (by_abs_rep c abs rep p s h typed) = by_abs_rep c abs rep p s (within _ h) (HasType-more p _ typed)
-  derives_more _ _ (by_rep_abs c abs rep p s h typed) = by_rep_abs c abs rep p s (within _ h) (HasType-more p _ typed)
+  derives_more _ _ (by_axiom n p h typed) = by_axiom n p (within _ h) (typed_wider p bool_type typed)
+  derives_more _ _ (by_definition c r a h typed) = by_definition c r a (within _ h) (typed_wider r a typed)
+  derives_more _ _ (by_abs_rep c abs rep p s h typed) = by_abs_rep c abs rep p s (within _ h) (typed_wider p _ typed)
+  derives_more _ _ (by_rep_abs c abs rep p s h typed) = by_rep_abs c abs rep p s (within _ h) (typed_wider p _ typed)
 
-  pub IsSound-more : (x : Item) → IsSound items x → IsSound more x
-  IsSound-more (declared_type c n) s = tt
-  IsSound-more (declared_constant c a) s = is_type_more a s
-  IsSound-more (defined_constant c r) s = (s.0, record { typed = HasType-more r s.0 s.1.typed; closed = s.1.closed; reflected = s.1.reflected })
-  IsSound-more (defined_type c abs rep p) s = (
+  pub sound_more : (x : Item) → IsSound items x → IsSound more x
+  sound_more (declared_type c n) s = tt
+  sound_more (declared_constant c a) s = is_type_more a s
+  sound_more (defined_constant c r) s = (s.0, record { typed = typed_wider r s.0 s.1.typed; closed = s.1.closed; reflected = s.1.reflected })
+  sound_more (defined_type c abs rep p) s = (
     s.0,
     (
       s.1.0,
       record {
         apart = s.1.1.apart;
-        typed = HasType-more p _ s.1.1.typed;
+        typed = typed_wider p _ s.1.1.typed;
         closed = s.1.1.closed;
         inhabited = derives_more _ _ s.1.1.inhabited;
       },
     ),
   )
-  IsSound-more (declared_axiom n p) s = HasType-more p bool_type s
+  sound_more (declared_axiom n p) s = typed_wider p bool_type s

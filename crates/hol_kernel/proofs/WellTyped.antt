@@ -32,7 +32,7 @@ use Rattle.hol_kernel.specs.Theorem.{Theorem, IsWellTyped}
 use Rattle.hol_formulas.specs.declared.postulate.Postulate.{Postulate}
 use Rattle.hol_formulas.specs.declared.postulate.Postulate.TheVariants.{TDef, AndDef, ImpDef, ForallDef, ExistsDef, OrDef, FDef, NotDef, ExistsUniqueDef, EtaAx, SelectAx, OneOne, Onto, InfinityAx}
 use Rattle.hol_kernel.proofs.HypothesisLists.{hyps_total, hyps_same}
-use Rattle.hol_kernel.proofs.Members.{Among, in_insert_cases, in_union_cases, not_in_empty, or_right, from_list_among, among_from_list, from_list-items}
+use Rattle.hol_kernel.proofs.Members.{Among, in_insert_cases, in_union_cases, not_in_empty, or_right, from_list_among, among_from_list, from_list_items}
 use Rattle.hol_kernel.proofs.SortedSets.{some_any}
 use Rattle.hol_formulas.proofs.PartTypes.{postulated_typed}
 use Rattle.hol_kernel.proofs.Sound.{strip_type}
@@ -75,7 +75,7 @@ module _ (items : Items) where
       let second : s.0 ≡ a = cc in
       (typed_known items l a inner.1 (t.2 ∙ ap Some first), typed_known items r a outer.1 (s.2 ∙ ap Some second))
 
-  applied_typed : (a b : TypeTree) (f x : Nameless) → HasType items f (fun_type a b) → HasType items x a → HasType items (app f x) b
+  pub applied_typed : (a b : TypeTree) (f x : Nameless) → HasType items f (fun_type a b) → HasType items x a → HasType items (app f x) b
   applied_typed a b f x h g =
       let p = known_typed items f (fun_type a b) h in
       let q = known_typed items x a g in
@@ -145,7 +145,7 @@ module _ (items : Items) where
   image_formulas f hs keeps own q h =
       let r = among_mapped (λ p. strip (f p)) (set.items hs) q (among_from_list hyps_total hyps_same (map (λ p. strip (f p)) (set.items hs)) q h) in
       let there : set.contains hs r.0 ≡ true =
-      ap (λ (s : Hyps). set.contains s r.0) (sym (from_list-items hyps_total hyps_same hs)) ∙ from_list_among hyps_total hyps_same (set.items hs) r.0 r.1 in
+      ap (λ (s : Hyps). set.contains s r.0) (sym (from_list_items hyps_total hyps_same hs)) ∙ from_list_among hyps_total hyps_same (set.items hs) r.0 r.1 in
       subst (λ (p : Nameless). HasType items p bool_type) (sym r.2) (stripped_typed (f r.0) (keeps r.0 (own r.0 there)))
 
   -- ---- the prelude

@@ -120,7 +120,7 @@ impl Given {
     {
         match self.node() {
             GivenNode::Theorem(th) => Ok(th.widen(basis)?),
-            GivenNode::Assumed(p) => Ok(Thm::assume(alloc, basis, p)?),
+            GivenNode::Assumed(p) => Thm::assume(alloc, basis, p),
         }
     }
 }

@@ -1,4 +1,4 @@
-//! Unit tests of hol_types, hol_terms, hol_subst, hol_formulas, the kernel, the derived rules and the prelude, as tables whose rows are written in the
+//! Unit tests of hol_mark, hol_types, hol_terms, hol_subst, hol_formulas, the kernel, the derived rules and the prelude, as tables whose rows are written in the
 //! notation. They stand in a crate of their own, since a crate with tests is proved twice.
 #![tactic(auto)]
 
@@ -9,6 +9,8 @@ mod bases_tests;
 pub mod chains;
 #[cfg(test)]
 mod formulas_tests;
+#[cfg(test)]
+mod marks_tests;
 #[cfg(test)]
 mod prelude_tests;
 #[cfg(test)]

@@ -60,26 +60,3 @@ impl Mark {
         }
     }
 }
-
-#[cfg(test)]
-mod tests {
-    use super::Mark;
-    use std::alloc::AllocError;
-    use std::rc::Rc;
-
-    fn marked(number: u32) -> Mark {
-        Mark::about(&number)
-    }
-
-    #[test]
-    fn one_mark_is_found_to_be_one(rt: HostRuntime) -> Result<(), AllocError> {
-        let alloc = rt.alloc();
-        let one = Rc::new(alloc, marked(7))?;
-        let copy = one.clone()?;
-        let other = Rc::new(alloc, marked(7))?;
-        assert!(rt; one.same(&copy));
-        assert!(rt; !one.same(&other));
-        assert!(rt; !other.same(&one));
-        Ok(())
-    }
-}

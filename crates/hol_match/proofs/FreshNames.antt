@@ -8,6 +8,7 @@ use Rattle.hol_terms.specs.Primes.{with_primes}
 use Rattle.hol_subst.specs.FreeName.{has_name, is_taken, IsFreeName}
 use Rattle.hol_kernel.proofs.Members.{Among}
 use Rattle.hol_match.specs.FreeNames.{count_names, count_all, untaken, free_name}
+use Rattle.hol_terms.proofs.Primes.{primes_length}
 
 -- ---- the names that occur
 
@@ -78,10 +79,6 @@ removed q (n ∷ ns) (inl e) = record { rest = ns; counted = omega arith; others
 removed q (n ∷ ns) (inr k) =
     let r = removed q ns k in
     record { rest = n ∷ r.rest; counted = omega (arith, r.counted); others = λ p apart h. elim h [ inl f ↦ inl f | inr m ↦ inr (r.others p apart m) ] }
-
-primes_length : (k : ℕ) (a : List ℕ) → length (with_primes k a) ≡ length a + k
-primes_length zero a = omega arith
-primes_length (suc k) a = let p = primes_length k a in let q = length-append (with_primes k a) (39 ∷ []) in omega (arith, p, q)
 
 apart_primes : (a : List ℕ) (j k : ℕ) → j < k → with_primes j a ≡ with_primes k a → ⊥
 apart_primes a j k l e = let p = primes_length j a in let q = primes_length k a in let same : length (with_primes j a) ≡ length (with_primes k a) = ap length e in absurd (omega (arith, l, p, q, same))

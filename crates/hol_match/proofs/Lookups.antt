@@ -8,7 +8,7 @@ use Rattle.hol_types.specs.Names.{is_among}
 use Rattle.hol_types.specs.Subst.{type_lookup}
 use Rattle.hol_types.specs.Equal.{variable_eq}
 use Rattle.hol_types.proofs.Lookups.{type_first, type_second}
-use Rattle.hol_types.proofs.Steps.{match_ends_some, match_ends_none, match_more_none}
+use Rattle.hol_types.proofs.Steps.{match_ends_some, match_ends_none, match_more_none, part_size, arguments_smaller}
 use Rattle.hol_types.proofs.Filters.{closed_match}
 use Rattle.hol_terms.specs.Named.{Named, var, constant, comb, abs, named_type}
 use Rattle.hol_terms.specs.Nameless.{Nameless, free, nameless, nameless_type}
@@ -140,14 +140,6 @@ other_variable (comb g x) v b f e = refl
 other_variable (abs w t) v b f e = refl
 
 -- ---- types
-
-pub part_size : (ts : List TypeTree) (i : ℕ) (t : TypeTree) → i < length ts → t ≡ get_or ts i t → type_size t ≤ types_size (type_list ts)
-part_size [] i t h e = absurd (omega arith)
-part_size (a ∷ ts) zero t h e = let p : t ≡ a = e in omega (arith, ap type_size p)
-part_size (a ∷ ts) (suc i) t h e = omega (arith, part_size ts i t (omega arith) e)
-
-pub arguments_smaller : (s : TypeTree) (c : List ℕ) (ts : List TypeTree) → s ≡ TyApp c (type_list ts) → types_size (type_list ts) < type_size s
-arguments_smaller s c ts e = omega (arith, ap type_size e)
 
 pub ruleset type_steps = (closed_match, arguments_smaller)
 

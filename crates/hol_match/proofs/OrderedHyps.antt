@@ -19,7 +19,7 @@ use Rattle.hol_subst.proofs.HypothesisLists.{hyps_total, hyps_same}
 use Rattle.hol_subst.proofs.SortedSets.{sorted_none, sorted_one, sorted_merged, set_merged}
 use Rattle.hol_subst.proofs.Strip.{strip_free}
 use Rattle.hol_formulas.specs.Formula.{Abstraction, dest_forall, dest_conj}
-use Rattle.hol_kernel.proofs.Members.{from_list-items}
+use Rattle.hol_kernel.proofs.Members.{from_list_items}
 use Rattle.hol_kernel.proofs.Ordered.{sorted_unique}
 use Rattle.hol_match.specs.Fixed.{add_names, fixed_names, fixed_variables, stays_of}
 use Rattle.hol_match.specs.FreeNames.{count_names, count_all, untaken, free_name}
@@ -45,7 +45,7 @@ order_set (n ∷ ns) = set_merged hyps_total hyps_same (n ∷ []) (in_order ns) 
 
 items_are : (ps : List Named) (hs : Hyps) → hyps_of ps ≡ hs → IsStrictlySortedBy nameless_cmp (map hyp_of ps) → map hyp_of ps ≡ listed hs
 items_are ps hs e o =
-    let same : set.from_list {R = nameless_cmp} (map hyp_of ps) ≡ set.from_list (listed hs) = e ∙ sym (order_set (set.items hs) ∙ from_list-items hyps_total hyps_same hs) in
+    let same : set.from_list {R = nameless_cmp} (map hyp_of ps) ≡ set.from_list (listed hs) = e ∙ sym (order_set (set.items hs) ∙ from_list_items hyps_total hyps_same hs) in
     sorted_unique hyps_total hyps_same (map hyp_of ps) (listed hs) o (order_sorted (set.items hs))
     (λ q. sym (set.contains-from_list hyps_total (map hyp_of ps) q) ∙ ap (λ (t : Hyps). set.contains t q) same ∙ set.contains-from_list hyps_total (listed hs) q)
 

@@ -11,6 +11,7 @@ use Rattle.hol_types.proofs.OrderLaws.{type_cmp_decides}
 use Rattle.hol_match.specs.Matches.{GivesTypes}
 use Rattle.hol_match.specs.Instance.{InstanceValue}
 use Rattle.hol_types.proofs.Lookups.{type_first, type_second}
+use Rattle.hol_types.proofs.MatchLaws.{lookup_after}
 
 abbrev pub Pairs : Type 0
 Pairs = List (TypeTree × List ℕ)
@@ -78,9 +79,6 @@ mutual
 abbrev pub TypesHold : Pairs → Pairs → Type 0
 TypesHold found [] = Unit {0}
 TypesHold found (p ∷ ps) = (type_lookup found p.1 ≡ Some p.0) × TypesHold found ps
-
-lookup_after : (xs : Pairs) (a : List ℕ) (t : TypeTree) → type_lookup xs a ≡ None → type_lookup (xs ++ (t, a) ∷ []) a ≡ Some t
-lookup_after xs a t e = type_second xs ((t, a) ∷ []) a e ∙ (rw ((bytes_eq-Decides a a).1 refl) refl)
 
 hold_longer : (found ys ps : Pairs) → TypesHold found ps → TypesHold (found ++ ys) ps
 hold_longer found ys [] h = tt

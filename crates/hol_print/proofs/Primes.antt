@@ -11,22 +11,18 @@ use Rattle.std.proofs.lemmas.Bool.Decides.{nat_tests}
 use Rattle.hol_types.specs.Names.{is_among}
 use Rattle.hol_terms.specs.Nameless.{with_letter, base_of}
 use Rattle.hol_terms.specs.Primes.{with_primes}
-use Rattle.hol_terms.proofs.Primes.{base_with_primes, base_again}
+use Rattle.hol_terms.proofs.Primes.{base_with_primes, base_again, primes_length}
 use Rattle.hol_print.specs.Taken.{IsTable}
 use Rattle.hol_print.specs.ShowTerm.{primed}
 
 -- ---- the base of a name with primes
-
-length_with : (k : ℕ) (a : List ℕ) → length (with_primes k a) ≡ length a + k
-length_with zero a = omega arith
-length_with (suc k) a = omega (arith, length_with k a, length-append (with_primes k a) (codes "'"))
 
 -- a name is one base with primes in one way
 same_base : (k j : ℕ) (a b : List ℕ) → base_of a ≡ a → base_of b ≡ b → with_primes k a ≡ with_primes j b → a ≡ b
 same_base k j a b p q e = sym p ∙ sym (base_with_primes k a) ∙ ap base_of e ∙ base_with_primes j b ∙ q
 
 same_primes : (k j : ℕ) (a : List ℕ) → with_primes k a ≡ with_primes j a → k ≡ j
-same_primes k j a e = let h : length (with_primes k a) ≡ length (with_primes j a) = ap length e in omega (arith, h, length_with k a, length_with j a)
+same_primes k j a e = let h : length (with_primes k a) ≡ length (with_primes j a) = ap length e in omega (arith, h, primes_length k a, primes_length j a)
 
 pub other_base : (a b : List ℕ) (k j : ℕ) → base_of a ≡ a → base_of b ≡ b → a ≢ b → with_primes k a ≢ with_primes j b
 other_base a b k j p q ne e = ne (same_base k j a b p q e)

@@ -4,6 +4,7 @@ use Rattle.hol_types.specs.Tree.{TypeTree, TypeList, TyVar, TyApp, no_types, mor
 use Rattle.hol_types.specs.Fun.{fun_type, fun_parts, both_of}
 use Rattle.std.proofs.lemmas.Slice.Eq.{bytes_eq-Decides}
 use Rattle.hol_print.specs.ShowType.{in_parentheses, is_function, show_type, show_arguments, show_others}
+use Rattle.hol_types.proofs.Steps.{part_size, arguments_smaller}
 
 abbrev Parts : Type 0
 Parts = Option (TypeTree × TypeTree)
@@ -80,15 +81,7 @@ domain_smaller s a b e = omega (arith, ap type_size (is_fun_type s a b e))
 pub range_smaller : (s a b : TypeTree) → fun_parts s ≡ Some (a, b) → type_size b < type_size s
 range_smaller s a b e = omega (arith, ap type_size (is_fun_type s a b e))
 
-pub arguments_smaller : (s : TypeTree) (c : List ℕ) (ts : List TypeTree) → s ≡ TyApp c (type_list ts) → types_size (type_list ts) < type_size s
-arguments_smaller s c ts e = omega (arith, ap type_size e)
-
 pub ruleset smaller = (domain_smaller, range_smaller, arguments_smaller)
-
-pub part_size : (ts : List TypeTree) (i : ℕ) (t : TypeTree) → i < length ts → t ≡ get_or ts i t → type_size t ≤ types_size (type_list ts)
-part_size [] i t h e = absurd (omega arith)
-part_size (a ∷ ts) zero t h e = let p : t ≡ a = e in omega (arith, ap type_size p)
-part_size (a ∷ ts) (suc i) t h e = omega (arith, part_size ts i t (omega arith) e)
 
 pub rest_size : (ts : List TypeTree) (i : ℕ) → types_size (type_list (drop i ts)) ≤ types_size (type_list ts)
 rest_size [] zero = omega arith

@@ -12,7 +12,7 @@ use Rattle.hol_subst.specs.Variant.{is_free_in}
 use Rattle.hol_kernel.specs.Given.{Given, given_sequent}
 use Rattle.hol_kernel.specs.Sequent.{Hyps}
 use Rattle.hol_subst.proofs.HypothesisLists.{hyps_total, hyps_same}
-use Rattle.hol_kernel.proofs.Members.{from_list-items}
+use Rattle.hol_kernel.proofs.Members.{from_list_items}
 use Rattle.hol_kernel.proofs.Sets.{items_empty}
 use Rattle.hol_subst.proofs.SortedSets.{union_none_left, union_none_right, set_append, any_of_set}
 use Rattle.hol_conv.specs.Traces.{is_outside}
@@ -40,7 +40,7 @@ free_any v (n ∷ ns) = ap (λ b. binds (free_occurrences n) v || b) (free_any v
 
 union_list : (hs ks : Hyps) → set.union hs ks ≡ set.from_list (set.items hs ++ set.items ks)
 union_list hs ks =
-    (λ i. set.union (sym (from_list-items hyps_total hyps_same hs) i) (sym (from_list-items hyps_total hyps_same ks) i)) ∙ sym (set_append hyps_total hyps_same (set.items hs) (set.items ks))
+    (λ i. set.union (sym (from_list_items hyps_total hyps_same hs) i) (sym (from_list_items hyps_total hyps_same ks) i)) ∙ sym (set_append hyps_total hyps_same (set.items hs) (set.items ks))
 
 free_union : (v : List ℕ × TypeTree) (hs ks : Hyps) → is_free_in (set.items (set.union hs ks)) v ≡ (is_free_in (set.items hs) v || is_free_in (set.items ks) v)
 free_union v hs ks =

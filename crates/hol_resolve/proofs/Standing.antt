@@ -9,26 +9,18 @@ use Rattle.hol_kernel.specs.Items.{Items, IsSubset, IsWithin}
 use Rattle.hol_kernel.specs.Signature.{has_arity, has_constant}
 use Rattle.hol_kernel.specs.Typing.{types_count, is_type, are_types, is_known, is_typed, type_over}
 use Rattle.hol_kernel.proofs.Subsets.{within_of_subset}
-use Rattle.hol_kernel.proofs.Weaken.{is_type_more, HasType-more}
+use Rattle.hol_kernel.proofs.Weaken.{is_type_more, typed_wider}
 use Rattle.hol_notation_terms.specs.Text.{TypeText, TypeTexts, TermText, Ident, Arrow, Apply, no_types as no_texts, more_types as more_texts}
 use Rattle.hol_infer.specs.Resolving.{arity_of, ident_type, type_of_text, types_of_texts, text_count, stands_alone, takes as takes_count, has_arities, have_arities, raw_of}
-use Rattle.hol_infer.specs.Standing.{stands, all_stand, TermStands, AreStanding, types_count as count}
+use Rattle.hol_infer.specs.Standing.{stands, all_stand, TermStands, AreStanding}
 use Rattle.hol_infer.proofs.Standing.{reading_typed}
-use Rattle.hol_infer.proofs.StandingLaws.{reading_stands}
+use Rattle.hol_infer.proofs.StandingLaws.{count_texts, reading_stands}
 use Rattle.hol_resolve.specs.declared.quotations.AnyQuotation.{AnyQuotation}
 use Rattle.hol_resolve.specs.declared.quotations.AnyQuotation.TheVariants as quoted
 use Rattle.hol_resolve.specs.Lookups.{LookupsValue}
 use Rattle.hol_resolve.specs.Reading.{ReadingValue, WrongArity, NoTyping, LargeReading, ReadsAs, IsTermReadAs, small_type}
 use Rattle.hol_resolve.specs.Readings.{QuotedValue, ATerm, AType, ReadingsValue, Attempts, reading_map, IsQuotedAs, AreAttempts, has_wrong_arity, has_no_typing, is_large, first_with, read_at, all_read, unless_large, unless_untyped, unless_wrong, AreRead}
 use Rattle.hol_resolve.specs.Over.{IsQuotedOver, AreOver}
-
-count_texts : (arities : List (List ℕ × ℕ)) (ts : TypeTexts) → types_count (types_of_texts arities ts) ≡ text_count ts
-count_texts arities no_texts = refl
-count_texts arities (more_texts t ts) = let r = count_texts arities ts in omega (arith, r)
-
-counts_same : (ts : TypeList) → count ts ≡ types_count ts
-counts_same no_types = refl
-counts_same (more_types t ts) = ap suc (counts_same ts)
 
 typed_at : (known : Bool) (o : Option TypeTree) (a : TypeTree) → known ≡ true → o ≡ Some a → is_some (cond known o None) ≡ true
 typed_at known o a k e = λ i. is_some (cond (k i) (e i) None)
@@ -67,7 +59,7 @@ module _ (basis : Items) (over : LookupsValue) (s : AreStanding (has_arity basis
   mutual
     type_same : (t : TypeTree) → stands (has_arity basis) t ≡ is_type basis t
     type_same (TyVar a) = refl
-    type_same (TyApp c ts) = λ i. has_arity basis c (counts_same ts i) && types_same ts i
+    type_same (TyApp c ts) = λ i. has_arity basis c (types_count ts) && types_same ts i
 
     types_same : (ts : TypeList) → all_stand (has_arity basis) ts ≡ are_types basis ts
     types_same no_types = refl
@@ -150,7 +142,7 @@ typed_more few more within t e = by (type_over few t) refl e
   where
     by : (o : Option TypeTree) → type_over few t ≡ o → is_some o ≡ true → is_typed more t ≡ true
     by None h g = absurd (cc)
-    by (Some a) h g = ap is_some (HasType-more few more within t a h)
+    by (Some a) h g = ap is_some (typed_wider few more within t a h)
 
 quoted_more : (few more : Items) (within : IsWithin few more) (v : QuotedValue) → IsQuotedOver few v → IsQuotedOver more v
 quoted_more few more within (ATerm t) h = typed_more few more within t h

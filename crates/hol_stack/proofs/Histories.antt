@@ -11,7 +11,7 @@ use Rattle.std.proofs.Math.Seq.{take-length}
 use Rattle.hol_kernel.specs.Theorem.{Theorem}
 use Rattle.hol_kernel.proofs.Subsets.{within_of_subset, subset_trans, within_itself}
 use Rattle.hol_just.specs.Over.{AreOver, sequents}
-use Rattle.hol_kernel.proofs.Weaken.{HasType-more}
+use Rattle.hol_kernel.proofs.Weaken.{typed_wider}
 use Rattle.hol_goal.specs.Goal.{GoalValue}
 use Rattle.hol_goal.specs.Achieves.{IsTyped}
 use Rattle.hol_just.specs.Valid.{AchieveAll}
@@ -26,12 +26,12 @@ use Rattle.hol_stack.proofs.Turns.{turned_all, reverse_taken}
 
 formulas_more : (few more : Items) → IsSubset few more → (ps : List Nameless) → AllByRecursion (λ p. HasType few p bool_type) ps → AllByRecursion (λ p. HasType more p bool_type) ps
 formulas_more few more sub [] a = tt
-formulas_more few more sub (p ∷ ps) a = (HasType-more few more (within_of_subset few more sub) p bool_type a.0, formulas_more few more sub ps a.1)
+formulas_more few more sub (p ∷ ps) a = (typed_wider few more (within_of_subset few more sub) p bool_type a.0, formulas_more few more sub ps a.1)
 
 typed_more : (few more : Items) (g : GoalValue) → IsSubset few more → IsTyped few g → IsTyped more g
 typed_more few more g sub t = record {
   assumptions = formulas_more few more sub g.assumptions t.assumptions;
-  conclusion = HasType-more few more (within_of_subset few more sub) g.conclusion bool_type t.conclusion;
+  conclusion = typed_wider few more (within_of_subset few more sub) g.conclusion bool_type t.conclusion;
 }
 
 change_typed :

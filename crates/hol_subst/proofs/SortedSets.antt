@@ -12,15 +12,11 @@ use Rattle.std.specs.List.Sorted.{IsStrictlySortedBy}
 use Rattle.std.specs.Set.{sorted_merge, merge_step}
 use Rattle.std.specs.FinSet as set
 use Rattle.std.proofs.Math.Bool.{or-false, or_assoc}
+use Rattle.hol_types.proofs.Names.{or_swap}
 
 once : (t a b : Bool) → (t || (a || b)) ≡ ((t || a) || (t || b))
 once true a b = refl
 once false a b = refl
-
-swapped : (a b c : Bool) → (a || (b || c)) ≡ (b || (a || c))
-swapped true true c = refl
-swapped true false c = refl
-swapped false b c = refl
 
 -- a key that stays does not tie with the one left out
 left_in : (k t b : Bool) → (t ≡ true → k ≡ false) → (t || (not k && b)) ≡ (not k && (t || b))
@@ -147,7 +143,7 @@ module _ {K : Type 0} {R : K → K → Ordering} (o : IsTotalOrder R) where
         by_rank (λ l. has l ≡ (has (x ∷ xs) || has (y ∷ ys))) (R x y) _ _ _
         (λ k. ap (λ b. eq_by_cmp R q x || b) (h (y ∷ ys)) ∙ sym (or_assoc (eq_by_cmp R q x) (has xs) (has (y ∷ ys))))
         (λ k. ap (λ b. eq_by_cmp R q x || b) (h ys) ∙ once (eq_by_cmp R q x) (has xs) (has ys) ∙ ap (λ t. has (x ∷ xs) || (t || has ys)) (sym (as_first x y k)))
-        (λ k. ap (λ b. eq_by_cmp R q y || b) (has_step x xs h ys) ∙ swapped (eq_by_cmp R q y) (has (x ∷ xs)) (has ys))
+        (λ k. ap (λ b. eq_by_cmp R q y || b) (has_step x xs h ys) ∙ or_swap (eq_by_cmp R q y) (has (x ∷ xs)) (has ys))
 
     has_merged : (xs ys : List K) → has (sorted_merge R true xs ys) ≡ (has xs || has ys)
     has_merged [] ys = refl

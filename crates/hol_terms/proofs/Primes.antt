@@ -84,3 +84,9 @@ primed_nearer m a b h e =
 -- the same name by another test that says the same
 pub fewest_other : (IsTaken IsOther : List ℕ → Type 0) (a r : List ℕ) → ((b : List ℕ) → IsTaken b → IsOther b) → ((b : List ℕ) → IsOther b → IsTaken b) → HasFewestPrimes IsTaken a r → HasFewestPrimes IsOther a r
 fewest_other IsTaken IsOther a r f g h = record { primes = h.primes; is = h.is; fresh = λ o. h.fresh (g r o); least = λ j l. f (with_primes j a) (h.least j l) }
+
+-- ---- how long a name with primes is
+
+pub primes_length : (k : ℕ) (a : List ℕ) → length (with_primes k a) ≡ length a + k
+primes_length zero a = omega arith
+primes_length (suc k) a = let p = primes_length k a in let q = length-append (with_primes k a) (39 ∷ []) in omega (arith, p, q)

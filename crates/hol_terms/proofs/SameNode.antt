@@ -18,7 +18,7 @@ use Rattle.hol_terms.proofs.Same.{variable_eq_decides}
 abbrev Variables : Type 0
 Variables = List (List ℕ × TypeTree)
 
-variable_itself : (v : List ℕ × TypeTree) → variable_eq v v ≡ true
+pub variable_itself : (v : List ℕ × TypeTree) → variable_eq v v ≡ true
 variable_itself v = (variable_eq_decides v v).1 refl
 
 type_itself : (t : TypeTree) → type_eq t t ≡ true

@@ -24,7 +24,7 @@ use Rattle.hol_kernel.proofs.Held.{sound_held}
 use Rattle.hol_kernel.proofs.ItemOrder.{total, only}
 use Rattle.hol_kernel.proofs.Members.{Among, in_insert_here, in_insert_old, in_insert_cases}
 use Rattle.hol_kernel.proofs.Subsets.{within_of_subset, subset_of_within}
-use Rattle.hol_kernel.proofs.Unions.{IsLegalSet-insert}
+use Rattle.hol_kernel.proofs.Unions.{insert_legal}
 use Rattle.hol_kernel.proofs.Weaken.{held, ordered_held}
 use Rattle.hol_theory.specs.declared.key.Kind.{Kind}
 use Rattle.hol_theory.specs.declared.key.Kind.TheVariants as key_kind
@@ -75,7 +75,7 @@ larger_within basis larger items x within is =
     ]))
 
 larger_legal : (basis larger : Items) (x : Item) → IsLegalSet basis → HasNewKeys basis x × IsSound basis x × (larger ≡ set.insert basis x) → IsLegalSet larger
-larger_legal basis larger x legal d = subst IsLegalSet (sym d.2) (IsLegalSet-insert basis x legal d.0 d.1)
+larger_legal basis larger x legal d = subst IsLegalSet (sym d.2) (insert_legal basis x legal d.0 d.1)
 
 pub larger_holds : (basis larger : Items) (x : Item) → larger ≡ set.insert basis x → Holds larger x
 larger_holds basis larger x is = subst (λ (s : Items). Holds s x) (sym is) (in_insert_here total only basis x)

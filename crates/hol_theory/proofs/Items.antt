@@ -14,7 +14,7 @@ use Rattle.hol_kernel.proofs.ItemOrder.{total, only}
 use Rattle.hol_kernel.proofs.Clashes.{key_itself}
 use Rattle.hol_kernel.proofs.Declared.{own_name}
 use Rattle.hol_kernel.proofs.Subsets.{within_of_subset}
-use Rattle.hol_kernel.proofs.Weaken.{IsSound-more, held}
+use Rattle.hol_kernel.proofs.Weaken.{sound_more, held}
 use Rattle.hol_theory.specs.Key.{KeyValue}
 use Rattle.hol_theory.specs.Entry.{EntryValue, AType, AConstant, ATheorem, Entries, IsEntry, EachIsEntry, entry_basis, own_item}
 use Rattle.hol_theory.specs.Theory.{with_item, items_after, items_of, items_in, RestsOn, entry_key, IsNamedIn}
@@ -109,7 +109,7 @@ sound_over basis items x legal h within =
     let r = earlier_of legal.0 legal.1 x (among_from_list total only legal.0 x (subst (λ (s : Items). Holds s x) (sym legal.2) h)) in
     let k = a_name x in (
       λ l has. (r.1 l has).0,
-      IsSound-more (item_set r.0) items
+      sound_more (item_set r.0) items
           (λ y among. elim (within y (subst (λ (s : Items). Holds s y) legal.2 (r.3 y among))) [
             | inl i ↦ i
             | inr e ↦ absurd (true≢false (sym k.1 ∙ ap (λ (z : Item). has_key z k.0) (sym e) ∙ (r.1 k.0 k.1).1 y among))

@@ -2,7 +2,7 @@
 use Rattle.std.proofs.Common.{◌≡◌, Bool, true, ◌&&◌, ℕ, ◌+◌, ◌<◌, ◌≤◌, zero, suc, List, [], ◌∷◌, length, get_or, drop, take, map, refl, ap, ◌∙◌, arith, add-one, drop-cons}
 use Rattle.std.proofs.lemmas.List.{take_all, drop_all}
 use Rattle.std.proofs.Math.Seq.{drop-nil}
-use Rattle.hol_types.specs.Tree.{TypeTree, TyVar, TyApp, no_types, more_types, type_list}
+use Rattle.hol_types.specs.Tree.{TypeTree, TyVar, TyApp, no_types, more_types, type_list, type_size, types_size}
 use Rattle.std.specs.Prelude.{Result, IfOk, Some, None}
 use Rattle.hol_types.specs.Match.{match_types}
 use Rattle.hol_types.specs.Fun.{both_of}
@@ -77,3 +77,13 @@ basic_step ts i t h e = rw (next_of ts i t h e) refl
 
 pub basic_all : (ts : List TypeTree) (i : ℕ) → length ts ≤ i → are_basic (type_list (drop i ts)) ≡ true
 basic_all ts i h = rw (drop_all i ts h) refl
+
+-- ---- sizes of arguments
+
+pub part_size : (ts : List TypeTree) (i : ℕ) (t : TypeTree) → i < length ts → t ≡ get_or ts i t → type_size t ≤ types_size (type_list ts)
+part_size [] i t h e = absurd (omega arith)
+part_size (a ∷ ts) zero t h e = let p : t ≡ a = e in omega (arith, ap type_size p)
+part_size (a ∷ ts) (suc i) t h e = omega (arith, part_size ts i t (omega arith) e)
+
+pub arguments_smaller : (s : TypeTree) (c : List ℕ) (ts : List TypeTree) → s ≡ TyApp c (type_list ts) → types_size (type_list ts) < type_size s
+arguments_smaller s c ts e = omega (arith, ap type_size e)
