@@ -6,7 +6,8 @@ use Rattle.hol_terms.specs.Named.{Named}
 use Rattle.hol_kernel.specs.Items.{IsSubset}
 use Rattle.hol_kernel.specs.Sequent.{no_hyps}
 use Rattle.hol_kernel.specs.Theorem.{Theorem}
-use Rattle.hol_prelude.specs.Statements.{prelude_statements, statement_in, stated}
+use Rattle.hol_clauses.specs.Statements.{stated}
+use Rattle.hol_prelude.specs.Statements.{prelude_statements, statement_in}
 use Rattle.hol_theory.specs.declared.key.Kind.{Kind}
 use Rattle.hol_theory.specs.declared.key.Kind.TheVariants as key_kind
 use Rattle.hol_theory.specs.Entry.{AType, AConstant, ATheorem}

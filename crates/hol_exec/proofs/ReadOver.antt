@@ -17,7 +17,8 @@ use Rattle.hol_kernel.proofs.Subsets.{within_itself, subset_trans, subset_left, 
 use Rattle.hol_kernel.proofs.Variables.{typed_known}
 use Rattle.hol_notation_terms.specs.Text.{TermText, TypeText, QuotationText, DefinitionText}
 use Rattle.hol_infer.proofs.StandingLaws.{definition_stands}
-use Rattle.hol_prelude.specs.Statements.{prelude_statements, statement_in, stated}
+use Rattle.hol_clauses.specs.Statements.{stated}
+use Rattle.hol_prelude.specs.Statements.{prelude_statements, statement_in}
 use Rattle.hol_resolve.specs.Forward.{CitedValue}
 use Rattle.hol_resolve.specs.Lookups.{LookupsValue}
 use Rattle.hol_resolve.specs.Over.{AreOver, AreWithin}

@@ -4,7 +4,8 @@ use Rattle.std.specs.Option.{option_map}
 use Rattle.std.proofs.Common.{ap, ◌∙◌, append_assoc}
 use Rattle.hol_terms.specs.Named.{Named}
 use Rattle.hol_kernel.specs.Theorem.{Theorem}
-use Rattle.hol_prelude.specs.Statements.{stated, statement_in, prelude_statements}
+use Rattle.hol_clauses.specs.Statements.{stated}
+use Rattle.hol_prelude.specs.Statements.{statement_in, prelude_statements}
 use Rattle.hol_prelude.specs.Prelude.{named_theorems, prelude_theorems, theorem_in}
 
 picked : (b : Bool) (p : Named) (o : Option Named) → cond b (Some (stated p)) (option_map stated o) ≡ option_map stated (cond b (Some p) o)

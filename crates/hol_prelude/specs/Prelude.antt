@@ -3,7 +3,8 @@ use Rattle.std.specs.Prelude.{ℕ, List, [], ◌∷◌, cond, map, bytes_eq, Opt
 use Rattle.std.specs.Coded.{Coded, coded×, coded_ℕ, coded_list}
 use Rattle.hol_terms.specs.Named.{Named}
 use Rattle.hol_kernel.specs.Theorem.{Theorem, theorem_code}
-use Rattle.hol_prelude.specs.Statements.{stated, prelude_statements}
+use Rattle.hol_clauses.specs.Statements.{stated}
+use Rattle.hol_prelude.specs.Statements.{prelude_statements}
 
 abbrev pub named_theorems : List (List ℕ × Named) → List (List ℕ × Theorem)
 named_theorems ps = map (λ p. (p.0, stated p.1)) ps

@@ -6,10 +6,9 @@ ghost use Rattle.hol_kernel.specs.Theorem.{theorem_on};
 ghost use Rattle.hol_prelude.specs.Statements.{prelude_statements, prelude_theorem, basic_rewrites};
 ghost use Rattle.hol_prelude.specs.Prelude.{named_theorems, prelude_theorems, theorem_in};
 
-use crate::deduction::truth;
-use crate::functions::{one_one, onto};
-use crate::rewrites::{
-    and_clauses, eq_clauses, imp_clauses, not_clauses_weak, or_clauses, refl_clause,
+use hol_clauses::{
+    and_clauses, eq_clauses, imp_clauses, not_clauses_weak, one_one, onto, or_clauses, refl_clause,
+    truth,
 };
 use hol_formulas::Postulate;
 use hol_kernel::Thm;

@@ -16,7 +16,7 @@ use Rattle.hol_kernel.proofs.HypothesisLists.{hyps_total, hyps_same}
 use Rattle.hol_kernel.proofs.Members.{Among, in_union_left, in_union_right, in_union_cases, not_in_empty}
 use Rattle.hol_kernel.proofs.Stands.{both}
 use Rattle.hol_kernel.proofs.Subsets.{none_within}
-use Rattle.hol_prelude.specs.Statements.{stated, refl_clause, eq_clauses, not_clauses_weak, and_clauses, or_clauses, imp_clauses}
+use Rattle.hol_clauses.specs.Statements.{stated, refl_clause, eq_clauses, not_clauses_weak, and_clauses, or_clauses, imp_clauses}
 use Rattle.hol_match.specs.Givens.{holds_given, all_hold, all_hyps}
 use Rattle.hol_match.specs.SetView.{set_givens, AreOf, AreGivenIn}
 use Rattle.hol_match.specs.declared.set_rule.SetRule.{SetRule}

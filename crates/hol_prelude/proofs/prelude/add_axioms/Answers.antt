@@ -2,7 +2,8 @@ use Rattle.std.specs.Prelude.{take, drop, refl}
 use Rattle.std.proofs.Common.{◌≡◌, ◌++◌, codes}
 use Rattle.hol_formulas.specs.Prelude.{postulated}
 use Rattle.hol_formulas.specs.declared.postulate.Postulate.TheVariants.{FDef, NotDef, ExistsUniqueDef, EtaAx, SelectAx}
-use Rattle.hol_prelude.specs.Statements.{stated, prelude_statements}
+use Rattle.hol_clauses.specs.Statements.{stated}
+use Rattle.hol_prelude.specs.Statements.{prelude_statements}
 use Rattle.hol_prelude.specs.Prelude.{named_theorems}
 use Rattle.hol_prelude.proofs.Names.{first, further, last}
 use Rattle.hol_prelude.proofs.prelude.add_axioms.Goals as goal

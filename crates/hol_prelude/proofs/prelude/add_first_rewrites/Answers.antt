@@ -1,6 +1,7 @@
 use Rattle.std.specs.Prelude.{take, drop}
 use Rattle.std.proofs.Common.{◌≡◌, ◌++◌, codes}
-use Rattle.hol_prelude.specs.Statements.{stated, prelude_statements, refl_clause, eq_clauses, not_clauses_weak}
+use Rattle.hol_clauses.specs.Statements.{stated, refl_clause, eq_clauses, not_clauses_weak}
+use Rattle.hol_prelude.specs.Statements.{prelude_statements}
 use Rattle.hol_prelude.specs.Prelude.{named_theorems}
 use Rattle.hol_prelude.proofs.Names.{first, further, last}
 use Rattle.hol_prelude.proofs.prelude.add_first_rewrites.Goals as goal

@@ -3,7 +3,8 @@ use Rattle.std.proofs.Common.{◌≡◌, ◌++◌, codes}
 use Rattle.hol_formulas.specs.Prelude.{postulated}
 use Rattle.hol_formulas.specs.Making.{mk_truth}
 use Rattle.hol_formulas.specs.declared.postulate.Postulate.TheVariants.{InfinityAx}
-use Rattle.hol_prelude.specs.Statements.{stated, prelude_statements, one_one, onto}
+use Rattle.hol_clauses.specs.Statements.{stated, one_one, onto}
+use Rattle.hol_prelude.specs.Statements.{prelude_statements}
 use Rattle.hol_prelude.specs.Prelude.{named_theorems}
 use Rattle.hol_prelude.proofs.Names.{first, further, last}
 use Rattle.hol_prelude.proofs.prelude.add_functions.Goals as goal

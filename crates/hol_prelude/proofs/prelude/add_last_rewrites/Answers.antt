@@ -1,6 +1,7 @@
 use Rattle.std.specs.Prelude.{take, drop}
 use Rattle.std.proofs.Common.{◌≡◌, ◌++◌, codes}
-use Rattle.hol_prelude.specs.Statements.{stated, prelude_statements, and_clauses, or_clauses, imp_clauses}
+use Rattle.hol_clauses.specs.Statements.{stated, and_clauses, or_clauses, imp_clauses}
+use Rattle.hol_prelude.specs.Statements.{prelude_statements}
 use Rattle.hol_prelude.specs.Prelude.{named_theorems}
 use Rattle.hol_prelude.proofs.Names.{first, further, last}
 use Rattle.hol_prelude.proofs.prelude.add_last_rewrites.Goals as goal

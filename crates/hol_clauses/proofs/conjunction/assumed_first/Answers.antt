@@ -1,0 +1,20 @@
+use Rattle.hol_kernel.specs.Theorem.{theorem_on}
+use Rattle.hol_equal.proofs.Outcomes.{became}
+use Rattle.hol_equal.specs.Applied.{lhs}
+use Rattle.hol_bool.specs.Applied.{first_conjunct}
+use Rattle.hol_clauses.specs.Deduction.{theorem_under, concl_of}
+use Rattle.hol_clauses.proofs.conjunction.assumed_first.Goals as goal
+
+pub assumed_conclusion-requires : goal.assumed_conclusion-requires
+assumed_conclusion-requires c =
+    record { over = c.requires.over }
+
+pub conjunct1-requires : goal.conjunct1-requires
+conjunct1-requires c =
+    rw c.in_ok-own.ensures record { is = c.requires.is }
+
+pub returns : goal.returns
+returns c =
+    let all = concl_of c.args.all.now in
+    became c.conjunct1.result (theorem_on c.in_ok-own.own.basis (first_conjunct c.in_ok-own.own.sequent)) (theorem_under all (lhs all)) c.conjunct1.ensures
+    (λ i. theorem_on (c.in_ok-own.ensures i).basis (first_conjunct (c.in_ok-own.ensures i).sequent))

@@ -1,0 +1,24 @@
+use Rattle.std.proofs.Common.{refl}
+use Rattle.hol_formulas.specs.Formula.{falsity, conjunction, equivalence}
+use Rattle.hol_equal.proofs.Outcomes.{became}
+use Rattle.hol_clauses.specs.Deduction.{concl_of}
+use Rattle.hol_clauses.specs.Statements.{theorem_of}
+use Rattle.hol_clauses.proofs.From.{under_from}
+use Rattle.hol_clauses.proofs.conjunction.with_falsity.Goals as goal
+
+pub absurd-requires : goal.absurd-requires
+absurd-requires c =
+    record { over = c.requires.over }
+
+pub joined_on_both_sides-requires : goal.joined_on_both_sides-requires
+joined_on_both_sides-requires c =
+    rw (c.in_ok-own.ensures, c.in_ok-any.ensures) record { own = under_from falsity falsity; implied = under_from falsity (concl_of c.args.p.now); rest = c.requires.rest }
+
+pub returns : goal.returns
+returns c =
+    let p = concl_of c.args.p.now in
+    let r = concl_of c.args.rest.now in
+    let o = concl_of c.in_ok-own.own in
+    let a = concl_of c.in_ok-any.any in
+    became c.joined_on_both_sides.result (theorem_of (conjunction (equivalence (conjunction o a) o) (conjunction (equivalence (conjunction a o) o) r))) (theorem_of (conjunction (equivalence (conjunction falsity p) falsity) (conjunction (equivalence (conjunction p falsity) falsity) r))) c.joined_on_both_sides.ensures
+    (rw (c.in_ok-own.ensures, c.in_ok-any.ensures) refl)

@@ -1,0 +1,31 @@
+use Rattle.std.proofs.Common.{◌≡◌, ◌∙◌, refl}
+use Rattle.hol_formulas.specs.Formula.{truth, equivalence}
+use Rattle.hol_kernel.specs.Items.{no_items}
+use Rattle.hol_kernel.specs.Theorem.{theorem_on, theorem_over}
+use Rattle.hol_equal.proofs.Outcomes.{became}
+use Rattle.hol_equal.specs.Applied.{lhs, rhs}
+use Rattle.hol_bool.specs.Rules.{eqt_intro_of}
+use Rattle.hol_clauses.specs.Deduction.{concl_of}
+use Rattle.hol_clauses.specs.Statements.{theorem_of}
+use Rattle.hol_clauses.proofs.equality.is_truth.Goals as goal
+
+pub turned-requires : goal.turned-requires
+turned-requires c =
+    let p = concl_of c.args.p.now in
+    let same : c.in_ok-same.same ≡ theorem_over no_items c.args.p.now.sequent.hyps (equivalence p truth) = c.in_ok-same.ensures ∙ (λ i. theorem_on (c.requires.over i) (eqt_intro_of c.args.p.now.sequent)) in
+    rw same record { over = refl; is = refl }
+
+pub chained-requires : goal.chained-requires
+chained-requires c =
+    let p = concl_of c.args.p.now in
+    let same : c.in_ok-same.same ≡ theorem_over no_items c.args.p.now.sequent.hyps (equivalence p truth) = c.in_ok-same.ensures ∙ (λ i. theorem_on (c.requires.over i) (eqt_intro_of c.args.p.now.sequent)) in
+    let back : c.in_ok-back.back ≡ theorem_of (equivalence (equivalence p truth) (equivalence truth p)) = c.in_ok-back.ensures ∙ (λ i. theorem_of (equivalence (concl_of (same i)) (equivalence (rhs (concl_of (same i))) (lhs (concl_of (same i)))))) in
+    rw (back, c.requires.is) record { first = refl; second = refl }
+
+pub returns : goal.returns
+returns c =
+    let p = concl_of c.args.p.now in
+    let same : c.in_ok-same.same ≡ theorem_over no_items c.args.p.now.sequent.hyps (equivalence p truth) = c.in_ok-same.ensures ∙ (λ i. theorem_on (c.requires.over i) (eqt_intro_of c.args.p.now.sequent)) in
+    let back : c.in_ok-back.back ≡ theorem_of (equivalence (equivalence p truth) (equivalence truth p)) = c.in_ok-back.ensures ∙ (λ i. theorem_of (equivalence (concl_of (same i)) (equivalence (rhs (concl_of (same i))) (lhs (concl_of (same i)))))) in
+    became c.chained.result (theorem_of (equivalence (lhs (concl_of c.in_ok-back.back)) (rhs (concl_of c.args.first.now)))) (theorem_of (equivalence (equivalence p truth) p)) c.chained.ensures
+    (λ i. theorem_of (equivalence (lhs (concl_of (back i))) (rhs (concl_of (c.requires.is i)))))

@@ -1,0 +1,187 @@
+//! The rewrites of `<=>`.
+ghost use Rattle.std.specs.Prelude.{◌≡◌, IfOk};
+ghost use Rattle.std.specs.FinSet as set;
+ghost use Rattle.hol_terms.specs.Alpha.{strip};
+ghost use Rattle.hol_formulas.specs.Formula.{truth, falsity, conjunction, equivalence, negation};
+ghost use Rattle.hol_kernel.specs.Items.{no_items};
+ghost use Rattle.hol_kernel.specs.Sequent.{only_hyp};
+ghost use Rattle.hol_kernel.specs.Theorem.{theorem_over};
+ghost use Rattle.hol_equal.specs.Applied.{lhs, rhs};
+ghost use Rattle.hol_clauses.specs.Deduction.{theorem_under, concl_of, IsFrom, eq_rewrites};
+ghost use Rattle.hol_clauses.specs.Statements.{theorem_of};
+
+use crate::deduction::{assumed, assumed_conclusion, both, chained, equivalent, truth};
+use crate::negation::denied;
+use hol_bool::applied::{disch, eqf_intro, eqt_intro};
+use hol_equal::applied::{eq_mp, sym};
+use hol_formulas::mk_neg;
+use hol_kernel::Thm;
+use std::alloc::{AllocError, Global};
+
+// `{p <=> q} |- q <=> p`, for what the theorem concludes.
+fn assumed_turned(alloc: Global, equal: &Thm) -> Result<Thm, AllocError>
+    requires over { equal.now.basis ≡ no_items }
+    requires is { concl_of equal.now ≡ equivalence (lhs (concl_of equal.now)) (rhs (concl_of equal.now)) }
+    ensures { IfOk result (λ th. th ≡ theorem_under (concl_of equal.now) (equivalence (rhs (concl_of equal.now)) (lhs (concl_of equal.now)))) }
+{
+    let own = assumed_conclusion(alloc, equal)?;
+    sym(alloc, &own)
+}
+
+// `(p <=> q) <=> (q <=> p)`, for the same.
+fn turned(alloc: Global, equal: &Thm) -> Result<Thm, AllocError>
+    requires over { equal.now.basis ≡ no_items }
+    requires is { concl_of equal.now ≡ equivalence (lhs (concl_of equal.now)) (rhs (concl_of equal.now)) }
+    ensures { IfOk result (λ th. th ≡ theorem_of (equivalence (concl_of equal.now) (equivalence (rhs (concl_of equal.now)) (lhs (concl_of equal.now))))) }
+{
+    let back = assumed_turned(alloc, equal)?;
+    let forward = assumed_turned(alloc, &back)?;
+    equivalent(alloc, &forward, &back)
+}
+
+// `T <=> p`, from `p`.
+fn truth_equal(alloc: Global, p: &Thm) -> Result<Thm, AllocError>
+    requires over { p.now.basis ≡ no_items }
+    ensures { IfOk result (λ th. th ≡ theorem_over no_items p.now.sequent.hyps (equivalence truth (concl_of p.now))) }
+{
+    let same = eqt_intro(alloc, p)?;
+    sym(alloc, &same)
+}
+
+// `{T <=> p} |- p`, for what the theorem concludes.
+fn from_truth_equal(alloc: Global, equal: &Thm) -> Result<Thm, AllocError>
+    requires over { equal.now.basis ≡ no_items }
+    requires is { concl_of equal.now ≡ equivalence truth (rhs (concl_of equal.now)) }
+    ensures { IfOk result (λ th. th ≡ theorem_under (concl_of equal.now) (rhs (concl_of equal.now))) }
+{
+    let holds = truth(alloc)?;
+    let all = assumed_conclusion(alloc, equal)?;
+    eq_mp(alloc, &all, &holds)
+}
+
+// `(T <=> p) <=> p`, from `p` that assumes `p` alone.
+fn truth_is(alloc: Global, p: &Thm) -> Result<Thm, AllocError>
+    requires { IsFrom (concl_of p.now) p.now }
+    ensures { IfOk result (λ th. th ≡ theorem_of (equivalence (equivalence truth (concl_of p.now)) (concl_of p.now))) }
+{
+    let back = truth_equal(alloc, p)?;
+    let own = from_truth_equal(alloc, &back)?;
+    equivalent(alloc, &back, &own)
+}
+
+// `(p <=> T) <=> p`, from a theorem that concludes `p`, and `(T <=> p) <=> p`.
+fn is_truth(alloc: Global, p: &Thm, first: &Thm) -> Result<Thm, AllocError>
+    requires over { p.now.basis ≡ no_items }
+    requires is { first.now ≡ theorem_of (equivalence (equivalence truth (concl_of p.now)) (concl_of p.now)) }
+    ensures { IfOk result (λ th. th ≡ theorem_of (equivalence (equivalence (concl_of p.now) truth) (concl_of p.now))) }
+{
+    let same = eqt_intro(alloc, p)?;
+    let back = turned(alloc, &same)?;
+    chained(alloc, &back, first)
+}
+
+// `((p <=> T) <=> p) /\ r`, from the same and `r`.
+fn is_truth_joined(alloc: Global, p: &Thm, first: &Thm, rest: &Thm) -> Result<Thm, AllocError>
+    requires over { p.now.basis ≡ no_items }
+    requires is { first.now ≡ theorem_of (equivalence (equivalence truth (concl_of p.now)) (concl_of p.now)) }
+    requires rest { rest.now ≡ theorem_of (concl_of rest.now) }
+    ensures { IfOk result (λ th. th ≡ theorem_of (conjunction (equivalence (equivalence (concl_of p.now) truth) (concl_of p.now)) (concl_of rest.now))) }
+{
+    let second = is_truth(alloc, p, first)?;
+    both(alloc, &second, rest)
+}
+
+// `((T <=> p) <=> p) /\ ((p <=> T) <=> p) /\ r`, from `p` that assumes `p` alone, and `r`.
+fn with_truth(alloc: Global, p: &Thm, rest: &Thm) -> Result<Thm, AllocError>
+    requires own { IsFrom (concl_of p.now) p.now }
+    requires rest { rest.now ≡ theorem_of (concl_of rest.now) }
+    ensures { IfOk result (λ th. th ≡ theorem_of (conjunction (equivalence (equivalence truth (concl_of p.now)) (concl_of p.now)) (conjunction (equivalence (equivalence (concl_of p.now) truth) (concl_of p.now)) (concl_of rest.now)))) }
+{
+    let first = truth_is(alloc, p)?;
+    let tail = is_truth_joined(alloc, p, &first, rest)?;
+    both(alloc, &first, &tail)
+}
+
+// `{~p} |- p <=> F`, for what the theorem concludes.
+fn false_if_denied(alloc: Global, p: &Thm) -> Result<Thm, AllocError>
+    requires over { p.now.basis ≡ no_items }
+    ensures { IfOk result (λ th. th ≡ theorem_under (negation (concl_of p.now)) (equivalence (concl_of p.now) falsity)) }
+{
+    p.well_typed();
+    let not = mk_neg(alloc, p.concl())?;
+    let own = assumed(alloc, &not)?;
+    eqf_intro(alloc, &own)
+}
+
+// `F` that assumes `p <=> F` and what `p` assumes, from a theorem that concludes this equation, and `p`.
+fn falsity_from(alloc: Global, equal: &Thm, p: &Thm) -> Result<Thm, AllocError>
+    requires over { equal.now.basis ≡ no_items }
+    requires is { concl_of equal.now ≡ equivalence (concl_of p.now) falsity }
+    requires own { p.now.basis ≡ no_items }
+    ensures { IfOk result (λ th. th ≡ theorem_over no_items (set.union (only_hyp (concl_of equal.now)) p.now.sequent.hyps) falsity) }
+{
+    let all = assumed_conclusion(alloc, equal)?;
+    eq_mp(alloc, &all, p)
+}
+
+// `~p` that assumes `p <=> F` and what `p` assumes but `p`, from the same.
+fn denied_if_false(alloc: Global, equal: &Thm, p: &Thm) -> Result<Thm, AllocError>
+    requires over { equal.now.basis ≡ no_items }
+    requires is { concl_of equal.now ≡ equivalence (concl_of p.now) falsity }
+    requires own { IsFrom (concl_of p.now) p.now }
+    ensures { IfOk result (λ th. th ≡ theorem_over no_items (set.remove (set.union (only_hyp (concl_of equal.now)) p.now.sequent.hyps) (strip (concl_of p.now))) (negation (concl_of p.now))) }
+{
+    p.well_typed();
+    let none = falsity_from(alloc, equal, p)?;
+    let implies = disch(alloc, p.concl(), &none)?;
+    denied(alloc, p, &implies)
+}
+
+// `(p <=> F) <=> ~p`, from `p` that assumes `p` alone.
+fn is_falsity(alloc: Global, p: &Thm) -> Result<Thm, AllocError>
+    requires { IsFrom (concl_of p.now) p.now }
+    ensures { IfOk result (λ th. th ≡ theorem_of (equivalence (equivalence (concl_of p.now) falsity) (negation (concl_of p.now)))) }
+{
+    let equal = false_if_denied(alloc, p)?;
+    let not = denied_if_false(alloc, &equal, p)?;
+    equivalent(alloc, &equal, &not)
+}
+
+// `(F <=> p) <=> (p <=> F)`, for what the theorem concludes.
+fn falsity_turned(alloc: Global, p: &Thm) -> Result<Thm, AllocError>
+    requires over { p.now.basis ≡ no_items }
+    ensures { IfOk result (λ th. th ≡ theorem_of (equivalence (equivalence falsity (concl_of p.now)) (equivalence (concl_of p.now) falsity))) }
+{
+    let equal = false_if_denied(alloc, p)?;
+    let back = sym(alloc, &equal)?;
+    turned(alloc, &back)
+}
+
+// `(F <=> p) <=> ~p`, from a theorem that concludes `p`, and `(p <=> F) <=> ~p`.
+fn falsity_is(alloc: Global, p: &Thm, second: &Thm) -> Result<Thm, AllocError>
+    requires over { p.now.basis ≡ no_items }
+    requires is { second.now ≡ theorem_of (equivalence (equivalence (concl_of p.now) falsity) (negation (concl_of p.now))) }
+    ensures { IfOk result (λ th. th ≡ theorem_of (equivalence (equivalence falsity (concl_of p.now)) (negation (concl_of p.now)))) }
+{
+    let first = falsity_turned(alloc, p)?;
+    chained(alloc, &first, second)
+}
+
+// `((F <=> p) <=> ~p) /\ ((p <=> F) <=> ~p)`, from `p` that assumes `p` alone.
+fn with_falsity(alloc: Global, p: &Thm) -> Result<Thm, AllocError>
+    requires { IsFrom (concl_of p.now) p.now }
+    ensures { IfOk result (λ th. th ≡ theorem_of (conjunction (equivalence (equivalence falsity (concl_of p.now)) (negation (concl_of p.now))) (equivalence (equivalence (concl_of p.now) falsity) (negation (concl_of p.now))))) }
+{
+    let right = is_falsity(alloc, p)?;
+    let left = falsity_is(alloc, p, &right)?;
+    both(alloc, &left, &right)
+}
+
+/// The rewrites of `p` beside truth values, from `{p} |- p`.
+pub(crate) fn eq_rewrites(alloc: Global, p: &Thm) -> Result<Thm, AllocError>
+    requires { IsFrom (concl_of p.now) p.now }
+    ensures { IfOk result (λ th. th ≡ theorem_of (eq_rewrites (concl_of p.now))) }
+{
+    let rest = with_falsity(alloc, p)?;
+    with_truth(alloc, p, &rest)
+}

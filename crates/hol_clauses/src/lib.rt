@@ -1,0 +1,19 @@
+//! The prelude's derived theorems: ONE_ONE, ONTO, TRUTH and the basic rewrites.
+//!
+//! Calls that answer a `Result` answer its memory error where memory is short, and nowhere else.
+#![tactic(auto)]
+
+mod conjunction;
+mod deduction;
+mod disjunction;
+mod equality;
+mod functions;
+mod implication;
+mod negation;
+mod rewrites;
+
+pub use deduction::truth;
+pub use functions::{one_one, onto};
+pub use rewrites::{
+    and_clauses, eq_clauses, imp_clauses, not_clauses_weak, or_clauses, refl_clause,
+};
