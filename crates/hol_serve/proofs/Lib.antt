@@ -4,8 +4,5 @@ pub mod Cutting
 pub mod Sessions
 pub mod Chunks
 pub mod Runs
-pub mod Literals
-pub mod Floats
-pub mod Said
 pub mod Machines
 pub mod Once

@@ -10,12 +10,13 @@ use Rattle.hol_document.specs.declared.error.Refusal.{Refusal}
 use Rattle.hol_document.specs.declared.error.DocsError.{DocsError}
 use Rattle.hol_document.specs.Documents.{Documents, TheoryText}
 use Rattle.hol_document.specs.Asked.{IfRefused}
+use Rattle.hol_wire.specs.declared.reply.Reply.{Reply}
+use Rattle.hol_wire.specs.ReplyBytes.{reply_bytes}
+use Rattle.hol_wire.specs.Requests.{RequestText, request_of}
+use Rattle.hol_wire.specs.Replies.{ReplyValue, Refused, ByDocuments, LineTooLong, NotJson, Shape, Memory, Done}
+use Rattle.hol_wire.specs.Texts.{Says}
 use Rattle.hol_serve.specs.Lines.{line_limit}
-use Rattle.hol_serve.specs.declared.lines.service.Reply.{Reply}
-use Rattle.hol_serve.specs.ReplyBytes.{reply_bytes}
-use Rattle.hol_serve.specs.Requests.{RequestText, request_of}
-use Rattle.hol_serve.specs.Replies.{ReplyValue, Refused, ByDocuments, LineTooLong, NotJson, Shape, Memory, Done}
-use Rattle.hol_serve.specs.Texts.{Says, IsServed}
+use Rattle.hol_serve.specs.Served.{IsServed}
 use Rattle.hol_serve.specs.Machine.{ReadsAs, Edits, ServesIf, too_long, no_json, served, no_memory, MayAnswer}
 
 -- what a refusal tells, where it is this one

@@ -1,12 +1,8 @@
 pub mod Lines
 pub mod Session
-pub mod ReplyBytes
-pub mod Requests
-pub mod Views
 pub mod Settings
-pub mod Replies
-pub mod Texts
 pub mod Machine
+pub mod Served
 pub mod Ending
 pub mod Begun
 pub mod BegunView

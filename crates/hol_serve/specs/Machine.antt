@@ -8,9 +8,9 @@ use Rattle.hol_document.specs.declared.error.Refusal.{Refusal}
 use Rattle.hol_document.specs.Documents.{Documents, TheoryText, with_theory, without_theory, with_command, with_text, without_command, with_theories}
 use Rattle.hol_document.specs.Asked.{Reported, BasisOf, TheoremsOf}
 use Rattle.hol_document.specs.Shown.{ShowsProved, TellsOfProved, ListsProved}
+use Rattle.hol_wire.specs.Requests.{RequestText, NewTheory, DropTheory, Insert, Replace, Remove, Report, Theorems, Basis, Close, request_of}
+use Rattle.hol_wire.specs.Replies.{LineTooLong, NotJson, Shape, ByDocuments, Memory, ReplyValue, Refused, Done, Reports, Lists, RestsOn, Closed, reply_line, closes}
 use Rattle.hol_serve.specs.Lines.{line_limit}
-use Rattle.hol_serve.specs.Requests.{RequestText, NewTheory, DropTheory, Insert, Replace, Remove, Report, Theorems, Basis, Close, request_of}
-use Rattle.hol_serve.specs.Replies.{LineTooLong, NotJson, Shape, ByDocuments, Memory, ReplyValue, Refused, Done, Reports, Lists, RestsOn, Closed, reply_line, closes}
 
 -- the line is this JSON value, as `serde_json`'s `Value` reads it
 abbrev pub ReadsAs : List ℕ → Data → Type 0

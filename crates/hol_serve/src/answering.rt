@@ -3,20 +3,20 @@
 ghost use Rattle.std.specs.Prelude.{◌≡◌, ◌≤◌, ◌⊎◌, Err, IfOk, OnOk, IfErr, OnErr, length};
 ghost use Rattle.hol_document.specs.declared.error.Refusal.{Refusal};
 ghost use Rattle.serde_json.specs.Errors.{IsMemory};
+ghost use Rattle.hol_wire.specs.Replies.{Done, Refused, ByDocuments, Memory, NotJson};
+ghost use Rattle.hol_wire.specs.ReplyBytes.{reply_bytes};
+ghost use Rattle.hol_wire.specs.Requests.{Report, Theorems, Basis};
+ghost use Rattle.hol_wire.specs.Texts.{Says};
+ghost use Rattle.hol_wire.specs.Views.{request_text};
 ghost use Rattle.hol_serve.specs.Lines.{line_limit};
 ghost use Rattle.hol_serve.specs.Machine.{MayAnswer};
-ghost use Rattle.hol_serve.specs.Replies.{Done, Refused, ByDocuments, Memory, NotJson};
-ghost use Rattle.hol_serve.specs.ReplyBytes.{reply_bytes};
-ghost use Rattle.hol_serve.specs.Requests.{Report, Theorems, Basis};
-ghost use Rattle.hol_serve.specs.Texts.{Says, IsServed};
-ghost use Rattle.hol_serve.specs.Views.{request_text};
+ghost use Rattle.hol_serve.specs.Served.{IsServed};
 
-use crate::constants::{closed, done, memory, not_json, refused, shape};
-use crate::lines::Reply;
-use crate::reading::request_of;
-use crate::replies::{lists, reports, rests_on};
-use crate::requests::Request;
 use hol_document::{DocsError, Editable, Refusal};
+use hol_wire::{
+    Reply, Request, closed, done, lists, memory, not_json, refused, reports, request_of, rests_on,
+    shape,
+};
 use serde_json::{Error, Value};
 use std::alloc::{AllocError, Global};
 

@@ -7,7 +7,7 @@ mod watched;
 mod writing;
 
 pub(crate) use line::Line;
-pub(crate) use service::{Reply, ReplyText, Service, Sink, Source};
+pub(crate) use service::{Service, Sink, Source};
 pub(crate) use session::{Fault, READ_LIMIT, run_lines};
 pub(crate) use watched::Watched;
 pub(crate) use writing::{WriteFault, write_reply};

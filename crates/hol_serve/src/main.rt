@@ -3,15 +3,11 @@
 
 mod answering;
 mod begun;
-mod constants;
 mod ending;
 mod laws;
 mod lines;
 mod meant;
 mod program;
-mod reading;
-mod replies;
-mod requests;
 mod serving;
 mod settings;
 

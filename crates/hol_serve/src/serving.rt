@@ -6,9 +6,9 @@ ghost use Rattle.hol_serve.specs.Machine.{MayAnswer};
 ghost use Rattle.hol_serve.specs.Session.{CountsUp, Finishes, StopsReading, StopsWriting};
 
 use crate::answering::answer;
-use crate::constants::line_too_long;
-use crate::lines::{Fault, Reply, Service, Sink, Source, run_lines};
+use crate::lines::{Fault, Service, Sink, Source, run_lines};
 use hol_document::Editable;
+use hol_wire::{Reply, line_too_long};
 use std::alloc::Global;
 
 // Requests in lines of JSON.

@@ -6,6 +6,7 @@ ghost use Rattle.std.specs.Io.KnownBytes.{ReadConsumes, WriteAppends};
 ghost use Rattle.hol_serve.specs.Lines.{line_limit};
 ghost use Rattle.hol_serve.specs.Session.{CountsUp};
 
+use hol_wire::Reply;
 use std::alloc::Global;
 use std::io;
 use std::io::{Read, Write};
@@ -43,27 +44,9 @@ pub(crate) trait Sink: Write {
         ensures only { IfOk result (λ count. 0 < count → has_failed self.new → has_failed self.old) };
 }
 
-/// A reply to a line.
-#[derive(Drop)]
-pub(crate) struct Reply {
-    /// Its bytes.
-    pub(crate) text: ReplyText,
-    /// Whether the session ends with it.
-    pub(crate) closes: bool,
-}
-
-/// A reply's bytes, with its newline.
-#[derive(Drop)]
-pub(crate) enum ReplyText {
-    /// The same for each request. It takes no memory.
-    Constant(&'static [u8]),
-    /// Made for one request.
-    Owned(Vec<u8>),
-}
-
 /// What answers lines over a state.
 pub(crate) trait Service<D> {
-    ghost use Rattle.hol_serve.specs.ReplyBytes.{reply_bytes};
+    ghost use Rattle.hol_wire.specs.ReplyBytes.{reply_bytes};
 
     // From the old state the line may get this reply, which closes the session or not, and leave the new one.
     ghost may_answer: { D → List ℕ → List ℕ → Bool → D → Type 0 };
@@ -77,18 +60,4 @@ pub(crate) trait Service<D> {
     fn answer_overlong(&self, state: &mut D) -> Reply
         ensures { (line : List ℕ) → line_limit < length line
             → may_answer state.old line (reply_bytes result.text) result.closes state.new };
-}
-
-impl Reply {
-    ghost use Rattle.hol_serve.specs.ReplyBytes.{reply_bytes};
-
-    /// Its bytes, with its newline.
-    pub(crate) fn as_bytes(&self) -> &[u8]
-        ensures { result.now ≡ reply_bytes self.now.text }
-    {
-        match &self.text {
-            ReplyText::Constant(text) => text,
-            ReplyText::Owned(text) => text.as_slice(),
-        }
-    }
 }

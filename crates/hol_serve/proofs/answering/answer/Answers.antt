@@ -1,5 +1,5 @@
 use Rattle.std.proofs.Common.{sym, refl, inl, inr}
-use Rattle.hol_serve.specs.Views.{request_text}
+use Rattle.hol_wire.specs.Views.{request_text}
 use Rattle.hol_serve.proofs.Machines.{empty_is_no_json, line_no_json, line_no_memory, line_shape, line_served, some_line}
 use Rattle.hol_serve.proofs.answering.answer.Goals as goal
 

@@ -1,7 +1,7 @@
 use Rattle.std.proofs.Common.{refl, Ok, Err}
 use Rattle.std.proofs.lemmas.Result.{IfOk-weaker}
-use Rattle.hol_serve.specs.Views.{items_text}
-use Rattle.hol_serve.specs.Replies.{Refused, ByDocuments, RestsOn}
+use Rattle.hol_wire.specs.Views.{items_text}
+use Rattle.hol_wire.specs.Replies.{Refused, ByDocuments, RestsOn}
 use Rattle.hol_serve.proofs.Machines.{told}
 use Rattle.hol_serve.proofs.answering.based.Goals as goal
 

@@ -1,6 +1,6 @@
 use Rattle.std.proofs.Common.{refl, Ok, Err, map, string_bytes, String, Global}
 use Rattle.std.proofs.lemmas.Result.{IfOk-weaker}
-use Rattle.hol_serve.specs.Replies.{Refused, ByDocuments, Lists}
+use Rattle.hol_wire.specs.Replies.{Refused, ByDocuments, Lists}
 use Rattle.hol_serve.proofs.Machines.{told}
 use Rattle.hol_serve.proofs.answering.listed.Goals as goal
 

@@ -1,6 +1,6 @@
 use Rattle.std.proofs.Common.{refl}
 use Rattle.std.proofs.lemmas.Result.{IfOk-weaker}
-use Rattle.hol_serve.specs.Replies.{Refused, ByDocuments, Closed}
+use Rattle.hol_wire.specs.Replies.{Refused, ByDocuments, Closed}
 use Rattle.hol_serve.proofs.Machines.{told, refused_edit, served_edit}
 use Rattle.hol_serve.proofs.answering.served.Goals as goal
 

@@ -1,9 +1,9 @@
 -- What the values of the code stand for.
 use Rattle.std.specs.Prelude.{ℕ, List, Option, String, option_map, map, string_bytes}
 use Rattle.std.specs.Global.{Vec, Global}
-use Rattle.hol_serve.specs.declared.requests.Request.{Request}
-use Rattle.hol_serve.specs.declared.requests.Request.TheVariants as code
-use Rattle.hol_serve.specs.Requests.{RequestText, NewTheory, DropTheory, Insert, Replace, Remove, Report, Theorems, Basis, Close}
+use Rattle.hol_wire.specs.declared.requests.Request.{Request}
+use Rattle.hol_wire.specs.declared.requests.Request.TheVariants as code
+use Rattle.hol_wire.specs.Requests.{RequestText, NewTheory, DropTheory, Insert, Replace, Remove, Report, Theorems, Basis, Close}
 
 abbrev pub request_text : Request → RequestText
 request_text (code.NewTheory name at) = NewTheory name.now at

@@ -1,7 +1,7 @@
 -- The bytes of a reply.
 use Rattle.std.specs.Prelude.{List, ℕ}
-use Rattle.hol_serve.specs.declared.lines.service.ReplyText.{ReplyText}
-use Rattle.hol_serve.specs.declared.lines.service.ReplyText.TheVariants.{Constant, Owned}
+use Rattle.hol_wire.specs.declared.reply.ReplyText.{ReplyText}
+use Rattle.hol_wire.specs.declared.reply.ReplyText.TheVariants.{Constant, Owned}
 
 abbrev pub reply_bytes : ReplyText → List ℕ
 reply_bytes (Constant text) = text.now

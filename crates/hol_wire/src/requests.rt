@@ -2,7 +2,7 @@
 
 /// A request to documents.
 #[derive(Clone, Copy, Drop)]
-pub(crate) enum Request<'v> {
+pub enum Request<'v> {
     /// A new theory of this name at this place among the theories.
     NewTheory {
         name: &'v str,

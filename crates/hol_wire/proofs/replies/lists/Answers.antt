@@ -1,8 +1,8 @@
 use Rattle.std.proofs.Common.{refl, map, string_bytes, String, Global}
-use Rattle.hol_serve.specs.Replies.{Lists}
-use Rattle.hol_serve.proofs.Floats.{no_list_float}
-use Rattle.hol_serve.proofs.Said.{said}
-use Rattle.hol_serve.proofs.replies.lists.Goals as goal
+use Rattle.hol_wire.specs.Replies.{Lists}
+use Rattle.hol_wire.proofs.Floats.{no_list_float}
+use Rattle.hol_wire.proofs.Said.{said}
+use Rattle.hol_wire.proofs.replies.lists.Goals as goal
 
 pub returns : goal.returns
 returns c =

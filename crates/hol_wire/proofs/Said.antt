@@ -3,10 +3,10 @@ use Rattle.std.proofs.Common.{◌≡◌, [], ◌∷◌, ◌++◌, false, ap, sym
 use Rattle.std.specs.Prelude.{Result, Ok, Err, IfOk}
 use Rattle.serde_json.specs.Data.{Data}
 use Rattle.serde_json.specs.Written.{compact_text, has_float}
-use Rattle.hol_serve.specs.declared.lines.service.Reply.{Reply}
-use Rattle.hol_serve.specs.ReplyBytes.{reply_bytes}
-use Rattle.hol_serve.specs.Replies.{ReplyValue, reply_data, closes}
-use Rattle.hol_serve.specs.Texts.{Says}
+use Rattle.hol_wire.specs.declared.reply.Reply.{Reply}
+use Rattle.hol_wire.specs.ReplyBytes.{reply_bytes}
+use Rattle.hol_wire.specs.Replies.{ReplyValue, reply_data, closes}
+use Rattle.hol_wire.specs.Texts.{Says}
 
 -- a reply that holds the text of this value's data
 pub said : {E : Type 0} (value : ReplyValue) (d : Data) (r : Result Reply E) → d ≡ reply_data value → has_float (reply_data value) ≡ false → closes value ≡ false

@@ -4,7 +4,7 @@ use Rattle.serde_json.specs.Data.{string}
 use Rattle.serde_json.specs.View.{items_of}
 use Rattle.serde_json.specs.Written.{has_float, items_have_float}
 use Rattle.hol_exec.specs.ReportValue.{ShownGoalText, ReportValue, ShowsGoals, HasMade, WasRefused}
-use Rattle.hol_serve.specs.Replies.{goal_data, report_data, Lists, RestsOn, reply_data}
+use Rattle.hol_wire.specs.Replies.{goal_data, report_data, Lists, RestsOn, reply_data}
 
 pub no_text_float : (ts : List (List ℕ)) → items_have_float (items_of (map string ts)) ≡ false
 no_text_float [] = refl

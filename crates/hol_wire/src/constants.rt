@@ -2,11 +2,11 @@
 #![tactic(auto, unfolding(crate::proofs::Literals::replies_on_literals))]
 
 ghost use Rattle.std.specs.Prelude.{◌≡◌, false};
-ghost use Rattle.hol_serve.specs.ReplyBytes.{reply_bytes};
-ghost use Rattle.hol_serve.specs.Replies.{Done, Closed, Refused, LineTooLong, NotJson, Shape, ByDocuments, Memory};
-ghost use Rattle.hol_serve.specs.Texts.{Says};
+ghost use Rattle.hol_wire.specs.ReplyBytes.{reply_bytes};
+ghost use Rattle.hol_wire.specs.Replies.{Done, Closed, Refused, LineTooLong, NotJson, Shape, ByDocuments, Memory};
+ghost use Rattle.hol_wire.specs.Texts.{Says};
 
-use crate::lines::{Reply, ReplyText};
+use crate::reply::{Reply, ReplyText};
 use hol_document::Refusal;
 
 // A reply of these bytes, after which the session goes on.
@@ -21,14 +21,14 @@ fn constant(text: &'static [u8]) -> Reply
 }
 
 /// The edit is made.
-pub(crate) fn done() -> Reply
+pub fn done() -> Reply
     ensures { Says Done result }
 {
     constant(b"{\"ok\":true}\n")
 }
 
 /// The session ends.
-pub(crate) fn closed() -> Reply
+pub fn closed() -> Reply
     ensures { Says Closed result }
 {
     Reply {
@@ -38,28 +38,28 @@ pub(crate) fn closed() -> Reply
 }
 
 /// The line is longer than 65,536 bytes.
-pub(crate) fn line_too_long() -> Reply
+pub fn line_too_long() -> Reply
     ensures { Says (Refused LineTooLong) result }
 {
     constant(b"{\"error\":1,\"ok\":false,\"text\":\"line too long\"}\n")
 }
 
 /// The line is no JSON.
-pub(crate) fn not_json() -> Reply
+pub fn not_json() -> Reply
     ensures { Says (Refused NotJson) result }
 {
     constant(b"{\"error\":2,\"ok\":false,\"text\":\"not JSON\"}\n")
 }
 
 /// The line is no object with an op that is known and its keys.
-pub(crate) fn shape() -> Reply
+pub fn shape() -> Reply
     ensures { Says (Refused Shape) result }
 {
     constant(b"{\"error\":3,\"ok\":false,\"text\":\"shape\"}\n")
 }
 
 /// The documents refuse the request.
-pub(crate) fn refused(refusal: Refusal) -> Reply
+pub fn refused(refusal: Refusal) -> Reply
     ensures { Says (Refused (ByDocuments refusal)) result }
 {
     match refusal {
@@ -80,7 +80,7 @@ pub(crate) fn refused(refusal: Refusal) -> Reply
 }
 
 /// A growth was refused.
-pub(crate) fn memory() -> Reply
+pub fn memory() -> Reply
     ensures { Says (Refused Memory) result }
 {
     constant(b"{\"error\":9,\"ok\":false,\"text\":\"memory\"}\n")

@@ -7,12 +7,12 @@ ghost use Rattle.serde_json.specs.Data.{array};
 ghost use Rattle.serde_json.specs.Written.{compact_text, has_float};
 ghost use Rattle.hol_exec.specs.ReportValue.{ShowsGoals, HasMade, WasRefused};
 ghost use Rattle.hol_exec.specs.ReportView.{report_value, shown_goal_text};
-ghost use Rattle.hol_serve.specs.ReplyBytes.{reply_bytes};
-ghost use Rattle.hol_serve.specs.Replies.{Reports, Lists, RestsOn, texts_data, goal_data, report_data, items_data, reply_data};
-ghost use Rattle.hol_serve.specs.Texts.{Says};
-ghost use Rattle.hol_serve.specs.Views.{items_text};
+ghost use Rattle.hol_wire.specs.ReplyBytes.{reply_bytes};
+ghost use Rattle.hol_wire.specs.Replies.{Reports, Lists, RestsOn, texts_data, goal_data, report_data, items_data, reply_data};
+ghost use Rattle.hol_wire.specs.Texts.{Says};
+ghost use Rattle.hol_wire.specs.Views.{items_text};
 
-use crate::lines::{Reply, ReplyText};
+use crate::reply::{Reply, ReplyText};
 use hol_exec::{RefusalKind, Report, ShownGoal};
 use serde_json::{Value, json};
 use std::alloc::{AllocError, Global};
@@ -94,7 +94,7 @@ fn report_value(alloc: Global, report: Report) -> Result<Value, AllocError>
 }
 
 /// The reply to `report`.
-pub(crate) fn reports(alloc: Global, report: Report) -> Result<Reply, AllocError>
+pub fn reports(alloc: Global, report: Report) -> Result<Reply, AllocError>
     ensures { IfOk result (Says (Reports (report_value report))) }
 {
     let value = report_value(alloc, report)?;
@@ -109,7 +109,7 @@ fn theorems_value(alloc: Global, texts: Vec<String>) -> Result<Value, AllocError
 }
 
 /// The reply to `theorems`.
-pub(crate) fn lists(alloc: Global, texts: Vec<String>) -> Result<Reply, AllocError>
+pub fn lists(alloc: Global, texts: Vec<String>) -> Result<Reply, AllocError>
     ensures { IfOk result (Says (Lists (map string_bytes texts.items))) }
 {
     let value = theorems_value(alloc, texts)?;
@@ -133,7 +133,7 @@ fn basis_value(alloc: Global, items: Option<Vec<String>>) -> Result<Value, Alloc
 }
 
 /// The reply to `basis`.
-pub(crate) fn rests_on(alloc: Global, items: Option<Vec<String>>) -> Result<Reply, AllocError>
+pub fn rests_on(alloc: Global, items: Option<Vec<String>>) -> Result<Reply, AllocError>
     ensures { IfOk result (Says (RestsOn (items_text items))) }
 {
     let value = basis_value(alloc, items)?;

@@ -2,8 +2,8 @@
 
 ghost use Rattle.std.specs.Prelude.{◌≡◌, option_map, codes};
 ghost use Rattle.serde_json.specs.View.{view};
-ghost use Rattle.hol_serve.specs.Requests.{Insert, Replace, Remove, Report, text_at, number_at, new_theory_of, drop_theory_of, text_at_place, at_place, theorems_of, basis_of, request_for, request_of};
-ghost use Rattle.hol_serve.specs.Views.{request_text};
+ghost use Rattle.hol_wire.specs.Requests.{Insert, Replace, Remove, Report, text_at, number_at, new_theory_of, drop_theory_of, text_at_place, at_place, theorems_of, basis_of, request_for, request_of};
+ghost use Rattle.hol_wire.specs.Views.{request_text};
 
 use crate::requests::Request;
 use serde_json::Value;
@@ -88,7 +88,7 @@ fn basis_of<'v>(value: &'v Value) -> Option<Request<'v>>
 
 /// The request, or none where the value is no object, the op is unknown, or a key is missing or of the wrong kind.
 /// Other keys are ignored.
-pub(crate) fn request_of<'v>(value: &'v Value) -> Option<Request<'v>>
+pub fn request_of<'v>(value: &'v Value) -> Option<Request<'v>>
     ensures { option_map request_text result ≡ request_of (view value.now) }
 {
     match text_at(value, "op")? {

@@ -1,0 +1,5 @@
+pub mod Requests
+pub mod Replies
+pub mod ReplyBytes
+pub mod Texts
+pub mod Views
