@@ -140,6 +140,7 @@ def doubling(count):
     return "g N `" + r" /\ ".join(rf"x{k} = (\g. g x{k - 1} x{k - 1})" for k in range(1, count + 1)) + "`"
 
 
+TURN_LIMIT, TOO_LARGE = (f'{{"arg":"","ok":true,"refusal":{no},"text":"{text}"}}' for no, text in ((18, "turn limit"), (13, "too large")))
 SHAPE, NOT_JSON = '{"error":3,"ok":false,"text":"shape"}', '{"error":2,"ok":false,"text":"not JSON"}'
 UNKNOWN, LONG = '{"error":4,"ok":false,"text":"unknown theory"}', '{"error":1,"ok":false,"text":"line too long"}'
 SHAPES = r"""{"op":"x"}
@@ -211,12 +212,33 @@ def of_a_long_reply():
     return report_on("tells of goals in over 65,536 bytes", f"g N `{equations}`", f'{{"goals":[{{"asl":[],"free":[{free}],"goal":"{shown}"}}],"ok":true}}')
 
 
+def of_many_goals(turns, want):
+    """1,999 rounds of REPEAT and as many calls: one of each for each conjunction, and for each goal that is left."""
+    session = Session(f"splits 999 conjunctions, {turns} turns", ["--turns", str(turns)])
+    session.theory("A", ["g N `T" + r" /\ T" * 999 + "`", "e REPEAT CONJ_TAC"])
+    session.add(request("report", theory="A", at=1), want)
+    return session
+
+
+def of_large_goals():
+    """A goal is too large with its assumptions; that of SUBGOAL_THEN is, before a turn is to be paid."""
+    session, large = Session("stops at goals over 20,000 nodes", ["--turns", "1"]), "p" + r" /\ p" * 1_399
+    steps = [f"e ALL_TAC THEN SUBGOAL_THEN `{large}` ACCEPT_TAC", "e FIRST_ASSUM ASSUME_TAC", "e FIRST_ASSUM ASSUME_TAC ORELSE ALL_TAC"]
+    session.theory("A", [f"g N `{large} ==> q`", "e DISCH_TAC", *steps])
+    for at in range(2, 5):
+        session.add(request("report", theory="A", at=at), TOO_LARGE)
+    return session
+
+
 def generated():
     binders = "!" + " ".join(f"x{k}" for k in range(300)) + ". x0"
     yield report_on("accepts a reading of 18,208 nodes", doubling(8), re.compile(r'{"goals":\[{"asl":\[\],'))
-    yield report_on("refuses a reading over 20,000 nodes", doubling(9), '{"arg":"","ok":true,"refusal":13,"text":"too large"}')
+    yield report_on("refuses a reading over 20,000 nodes", doubling(9), TOO_LARGE)
     yield report_on("reads and shows 300 binders", f"g N `{binders}`", f'{{"goals":[{{"asl":[],"free":[],"goal":"{binders}"}}],"ok":true}}')
     yield report_on("runs a long chain", "e ALL_TAC" + " THEN ALL_TAC" * 1000, '{"goals":[{"asl":[],"free":["p:bool"],"goal":"p"}],"ok":true}')
+    yield of_many_goals(3_998, '{"goals":[' + ",".join(['{"asl":[],"free":[],"goal":"T"}'] * 1000) + '],"ok":true}')
+    yield of_many_goals(3_997, TURN_LIMIT)
+    yield of_large_goals()
     yield of_a_long_reply()
     yield of_no_requests()
     yield of_lengths()
