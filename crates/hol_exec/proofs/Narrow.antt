@@ -11,8 +11,8 @@ use Rattle.hol_kernel.proofs.Members.{or_right}
 use Rattle.hol_notation_terms.specs.declared.operator.Operator.{Operator}
 use Rattle.hol_notation_terms.specs.declared.operator.Operator.TheVariants.{Iff, Implies, Or, And, Equals, Not, ForAll, Exists, ExistsUnique, Choice}
 use Rattle.hol_notation_terms.specs.Text.{VariableText, RightSideText, DefinitionText, TermText, Named, Constant, Applied, Abstraction, Typed}
-use Rattle.hol_infer.specs.Raw.{RawTree, RawConstant, RawFree, RawApply, RawAbstraction, RawAnnotated}
-use Rattle.hol_infer.specs.Typing.{IsTyping}
+use Rattle.hol_typing.specs.Raw.{RawTree, RawConstant, RawFree, RawApply, RawAbstraction, RawAnnotated}
+use Rattle.hol_typing.specs.Typing.{IsTyping}
 use Rattle.hol_infer.specs.Reading.{IsReading}
 use Rattle.hol_infer.specs.Resolving.{generic_type_of, name_index, resolved, identifier, resolved_sign, sign, operator_raw, raw_of, type_of_text, annotated, at_bool, right_raw, value_raw, without, definition_raw}
 use Rattle.hol_exec.specs.Occurring.{constant_occurs}

@@ -3,7 +3,7 @@ use Rattle.std.specs.Prelude.{◌≡◌, Bool, true, false, [], refl}
 use Rattle.std.proofs.Common.{ap, sym, ◌∙◌}
 use Rattle.hol_terms.specs.Nameless.{Nameless}
 use Rattle.hol_notation_terms.specs.Text.{TermText}
-use Rattle.hol_infer.specs.Raw.{RawTree}
+use Rattle.hol_typing.specs.Raw.{RawTree}
 use Rattle.hol_infer.specs.Resolving.{raw_of, term_has_arities}
 use Rattle.hol_infer.proofs.Unique.{one_reading as one_term, reading_typable, reading_not_large, large_typable}
 use Rattle.hol_resolve.specs.Lookups.{LookupsValue}

@@ -2,7 +2,7 @@
 use Rattle.std.proofs.Common.{◌≡◌, ℕ, ◌+◌, ◌/◌, ◌%◌, zero, suc, List, [], ◌∷◌, drop, refl, sym, ◌∙◌, ap, arith, Bool, true, false, cond, ◌==◌, nat_lt, decimal}
 use Rattle.std.specs.Fmt.{digits, digits_onto, digit_glyph}
 use Rattle.std.proofs.lemmas.Bool.{ltb-true, ne_eqb}
-use Rattle.hol_infer.specs.Typing.{IsOpen}
+use Rattle.hol_typing.specs.Typing.{IsOpen}
 use Rattle.hol_infer.specs.Resolving.{begins_with_mark, written_variable}
 
 -- a digit is no `?`

@@ -5,19 +5,19 @@ use Rattle.std.specs.List.{All}
 use Rattle.std.proofs.lemmas.Fmt.{decimal_injective}
 use Rattle.std.proofs.lemmas.List.Elements.{All-nil, All-cons}
 use Rattle.std.proofs.lemmas.Slice.Eq.{bytes_eq-Decides}
-use Rattle.hol_infer.proofs.Extending.{app_same, lam_same, lookup_for, lookup_none}
+use Rattle.hol_typing.proofs.Extending.{app_same, lam_same, lookup_for, lookup_none}
 use Rattle.hol_types.specs.Tree.{TypeTree, TyApp, more_types}
 use Rattle.hol_types.specs.Subst.{type_lookup, type_subst, types_subst}
 use Rattle.hol_types.specs.Names.{type_names, types_names}
 use Rattle.hol_terms.specs.Nameless.{free, fixed, base_of}
-use Rattle.hol_infer.specs.Typing.{open_name, IsOpen, instantiate_types}
+use Rattle.hol_typing.specs.Typing.{open_name, IsOpen, instantiate_types}
 use Rattle.hol_infer.specs.Reading.{occurring_tyvars, ComeInOrder}
-use Rattle.hol_infer.specs.Shape.{ShapeTree, ShapeList, Hole, Fixed, Built, no_shapes, more_shapes, fill, fills, shape_holes, shapes_holes}
-use Rattle.hol_infer.specs.SlotTree.{SlotTree, SlotBound, SlotConstant, SlotFree, SlotApply, SlotAbstraction, typed}
-use Rattle.hol_infer.specs.Found.{shape_at, types_at, HasRigidNames, HaveRigidNames}
-use Rattle.hol_infer.specs.Holes.{is_hole_among, add_hole, add_holes, hole_index, open_type}
-use Rattle.hol_infer.specs.Solved.{term_holes}
-use Rattle.hol_infer.proofs.Holes.{add_holes_append, added_there}
+use Rattle.hol_typing.specs.Shape.{ShapeTree, ShapeList, Hole, Fixed, Built, no_shapes, more_shapes, fill, fills, shape_holes, shapes_holes}
+use Rattle.hol_typing.specs.SlotTree.{SlotTree, SlotBound, SlotConstant, SlotFree, SlotApply, SlotAbstraction, typed}
+use Rattle.hol_typing.specs.Found.{shape_at, types_at, HasRigidNames, HaveRigidNames}
+use Rattle.hol_typing.specs.Holes.{is_hole_among, add_hole, add_holes, hole_index, open_type}
+use Rattle.hol_typing.specs.Solved.{term_holes}
+use Rattle.hol_typing.proofs.Holes.{add_holes_append, added_there}
 
 -- ---- open names
 

@@ -4,18 +4,18 @@ use Rattle.std.proofs.lemmas.Bool.{cases_eq}
 use Rattle.hol_types.specs.Tree.{TypeTree, TypeList, TyVar, TyApp, no_types, more_types}
 use Rattle.hol_terms.specs.Nameless.{Nameless}
 use Rattle.hol_terms.specs.Size.{term_size}
-use Rattle.hol_infer.specs.Raw.{RawTree, RawBound, RawConstant, RawFree, RawApply, RawAbstraction, RawAnnotated}
-use Rattle.hol_infer.specs.Typing.{open_name, IsPrincipal}
+use Rattle.hol_typing.specs.Raw.{RawTree, RawBound, RawConstant, RawFree, RawApply, RawAbstraction, RawAnnotated}
+use Rattle.hol_typing.specs.Typing.{open_name, IsPrincipal}
 use Rattle.hol_infer.specs.Reading.{IsReading, HasLargeReading, ComeInOrder, occurring_tyvars}
-use Rattle.hol_infer.specs.Shape.{ShapeTree, ShapeList, Hole, Fixed, Built, no_shapes, more_shapes}
-use Rattle.hol_infer.specs.SlotTree.{SlotTree, SlotBound, SlotConstant, SlotFree, SlotApply, SlotAbstraction, typed, AreSlotsIn}
-use Rattle.hol_infer.specs.Scoped.{IsFirstAt, IsScoped, HasRigidAnnotations, IsRigid, HasNoOpenName, HaveNoOpenName}
-use Rattle.hol_infer.specs.Generate.{IsClosedAt, IsRigidOption, IsRigidBut, AreRigidBut}
-use Rattle.hol_infer.specs.Found.{shape_at, types_at, AreHolesBelow, AllHolesBelow}
-use Rattle.hol_infer.specs.Holes.{add_holes, open_type, is_hole_among, hole_index}
-use Rattle.hol_infer.specs.Solved.{IsGeneralTyping, term_holes, slot_term_size, IsWellTyped}
+use Rattle.hol_typing.specs.Shape.{ShapeTree, ShapeList, Hole, Fixed, Built, no_shapes, more_shapes}
+use Rattle.hol_typing.specs.SlotTree.{SlotTree, SlotBound, SlotConstant, SlotFree, SlotApply, SlotAbstraction, typed, AreSlotsIn}
+use Rattle.hol_typing.specs.Scoped.{IsFirstAt, IsScoped, HasRigidAnnotations, IsRigid, HasNoOpenName, HaveNoOpenName}
+use Rattle.hol_typing.specs.Generate.{IsClosedAt, IsRigidOption, IsRigidBut, AreRigidBut}
+use Rattle.hol_typing.specs.Found.{shape_at, types_at, AreHolesBelow, AllHolesBelow}
+use Rattle.hol_typing.specs.Holes.{add_holes, open_type, is_hole_among, hole_index}
+use Rattle.hol_typing.specs.Solved.{IsGeneralTyping, term_holes, slot_term_size, IsWellTyped}
 use Rattle.hol_infer.proofs.Naming.{pairs_of, pairs_open, AreHolesIn, AllHolesIn, AreTermHolesIn, instance_of, term_in_order, term_covered, grows_self, among_before, among_last}
-use Rattle.hol_infer.proofs.Named.{typing_type}
+use Rattle.hol_typing.proofs.Named.{typing_type}
 use Rattle.hol_infer.proofs.Sizes.{typed_size}
 
 -- with an order that has all the open slots, the typing is a most general one

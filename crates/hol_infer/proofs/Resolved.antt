@@ -10,10 +10,10 @@ use Rattle.hol_types.specs.Names.{is_among}
 use Rattle.hol_notation_terms.specs.declared.operator.Operator.{Operator}
 use Rattle.hol_notation_terms.specs.declared.operator.Operator.TheVariants.{Iff, Implies, Or, And, Equals, Not, ForAll, Exists, ExistsUnique, Choice}
 use Rattle.hol_notation_terms.specs.Text.{TypeText, TypeTexts, Ident, Arrow, Apply, no_types as no_texts, more_types as more_texts, type_texts, type_nodes, types_nodes, TermText, VariableText, RightSideText, DefinitionText, Named, Constant, Applied, Abstraction, Typed}
-use Rattle.hol_infer.specs.Raw.{RawTree, RawFree, RawApply}
-use Rattle.hol_infer.specs.Scoped.{IsFirstAt, IsScoped, HasNoOpenName, HaveNoOpenName, IsRigid, HasRigidAnnotations}
+use Rattle.hol_typing.specs.Raw.{RawTree, RawFree, RawApply}
+use Rattle.hol_typing.specs.Scoped.{IsFirstAt, IsScoped, HasNoOpenName, HaveNoOpenName, IsRigid, HasRigidAnnotations}
 use Rattle.hol_infer.specs.Resolving.{arity_of, generic_type_of, ident_type, type_of_text, types_of_texts, text_count, has_arities, have_arities, bool_type, name_index, resolved, identifier, resolved_sign, sign, operator_raw, raw_of, takes, annotated, at_bool, value_raw, without, definition_raw}
-use Rattle.hol_infer.proofs.Instances.{turned}
+use Rattle.hol_typing.proofs.Instances.{turned}
 use Rattle.hol_infer.proofs.Marks.{written_rigid}
 
 -- ---- scopes

@@ -4,12 +4,12 @@ use Rattle.hol_types.specs.Tree.{TypeTree, TypeList, TyVar, TyApp, no_types, mor
 use Rattle.hol_types.specs.Subst.{type_for, type_subst, types_subst}
 use Rattle.hol_terms.specs.Nameless.{Nameless, free, bound, fixed, app, lam}
 use Rattle.hol_terms.specs.Size.{term_size, size_at}
-use Rattle.hol_infer.specs.Raw.{RawTree}
-use Rattle.hol_infer.specs.Typing.{instantiate_types, IsInstanceOf, IsPrincipal}
-use Rattle.hol_infer.specs.Shape.{ShapeTree, ShapeList, Hole, Fixed, Built, no_shapes, more_shapes, shape_size, shapes_size, fill, fills}
-use Rattle.hol_infer.specs.SlotTree.{SlotTree, SlotBound, SlotConstant, SlotFree, SlotApply, SlotAbstraction, typed}
-use Rattle.hol_infer.specs.Found.{shape_at, types_at}
-use Rattle.hol_infer.specs.Solved.{slot_size_of, slot_term_size}
+use Rattle.hol_typing.specs.Raw.{RawTree}
+use Rattle.hol_typing.specs.Typing.{instantiate_types, IsInstanceOf, IsPrincipal}
+use Rattle.hol_typing.specs.Shape.{ShapeTree, ShapeList, Hole, Fixed, Built, no_shapes, more_shapes, shape_size, shapes_size, fill, fills}
+use Rattle.hol_typing.specs.SlotTree.{SlotTree, SlotBound, SlotConstant, SlotFree, SlotApply, SlotAbstraction, typed}
+use Rattle.hol_typing.specs.Found.{shape_at, types_at}
+use Rattle.hol_typing.specs.Solved.{slot_size_of, slot_term_size}
 
 -- type variables for open slots leave the size
 mutual

@@ -10,11 +10,11 @@ use Rattle.hol_types.specs.Fun.{fun_type}
 use Rattle.hol_types.specs.Subst.{type_lookup, type_for, type_subst, types_subst}
 use Rattle.hol_terms.specs.Nameless.{Nameless, free, bound, fixed, app, lam, base_of, nameless_type}
 use Rattle.hol_terms.proofs.Primes.{base_again}
-use Rattle.hol_infer.specs.Raw.{RawTree, RawBound, RawConstant, RawFree, RawApply, RawAbstraction, RawAnnotated}
-use Rattle.hol_infer.specs.Typing.{IsTyping, IsPrincipal, Meets, instantiate_types}
+use Rattle.hol_typing.specs.Raw.{RawTree, RawBound, RawConstant, RawFree, RawApply, RawAbstraction, RawAnnotated}
+use Rattle.hol_typing.specs.Typing.{IsTyping, IsPrincipal, Meets, instantiate_types}
 use Rattle.hol_infer.specs.Reading.{IsReading}
 use Rattle.hol_infer.specs.Standing.{types_count, stands, all_stand, TermStands}
-use Rattle.hol_infer.proofs.Named.{typing_type}
+use Rattle.hol_typing.proofs.Named.{typing_type}
 
 -- ---- types with a variable in the place of each part whose constructor takes another number of arguments
 

@@ -8,7 +8,7 @@ use Rattle.hol_terms.specs.Nameless.{Nameless}
 use Rattle.hol_notation_terms.specs.declared.operator.Operator.{Operator}
 use Rattle.hol_notation_terms.specs.declared.operator.Operator.TheVariants.{Iff, Implies, Or, And, Equals, Not, ForAll, Exists, ExistsUnique, Choice}
 use Rattle.hol_notation_terms.specs.Text.{TypeText, TypeTexts, Ident, Arrow, Apply, no_types as no_texts, more_types as more_texts, VariableText, RightSideText, DefinitionText, TermText, Named, Constant, Applied, Abstraction, Typed}
-use Rattle.hol_infer.specs.Raw.{RawTree}
+use Rattle.hol_typing.specs.Raw.{RawTree}
 use Rattle.hol_infer.specs.Reading.{IsReading}
 use Rattle.hol_infer.specs.Resolving.{arity_of, generic_type_of, ident_type, type_of_text, types_of_texts, text_count, stands_alone, takes as takes_count, has_arities, have_arities, option_has_arities, term_has_arities, name_index, resolved, identifier, resolved_sign, sign, operator_raw, raw_of, annotated, at_bool, value_raw, value_has_arities, definition_has_arities, without, definition_raw}
 use Rattle.hol_infer.specs.Standing.{types_count, stands, all_stand, TermStands, AreStanding}

@@ -11,8 +11,8 @@ use Rattle.hol_types.specs.Subst.{type_lookup, type_for, type_subst, types_subst
 use Rattle.hol_types.specs.Names.{type_names, types_names}
 use Rattle.hol_terms.specs.Nameless.{Nameless, free, bound, fixed, app, lam}
 use Rattle.hol_terms.specs.Size.{term_size}
-use Rattle.hol_infer.specs.Raw.{RawTree}
-use Rattle.hol_infer.specs.Typing.{open_name, IsOpen, HasNoTyping, instantiate_types}
+use Rattle.hol_typing.specs.Raw.{RawTree}
+use Rattle.hol_typing.specs.Typing.{open_name, IsOpen, HasNoTyping, instantiate_types}
 use Rattle.hol_infer.specs.Reading.{occurring_tyvars, ComeInOrder, IsReading, HasLargeReading}
 use Rattle.hol_infer.proofs.Sizes.{principal_sizes}
 

@@ -5,8 +5,8 @@ use Rattle.std.specs.Prelude.{◌≡◌, ◌<◌, ◌+◌, ◌⊎◌, ℕ, List,
 use Rattle.hol_types.specs.Names.{type_names}
 use Rattle.hol_terms.specs.Nameless.{Nameless, free, bound, fixed, app, lam}
 use Rattle.hol_terms.specs.Size.{term_size}
-use Rattle.hol_infer.specs.Raw.{RawTree}
-use Rattle.hol_infer.specs.Typing.{open_name, IsOpen, IsPrincipal}
+use Rattle.hol_typing.specs.Raw.{RawTree}
+use Rattle.hol_typing.specs.Typing.{open_name, IsOpen, IsPrincipal}
 
 -- the type variables as they occur, each as often as it does
 abbrev pub occurring_tyvars : Nameless → List (List ℕ)

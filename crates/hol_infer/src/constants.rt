@@ -1,14 +1,13 @@
 //! The constants that stand, with what is known of the variables of their generic types.
 ghost use Rattle.std.specs.Prelude.{◌≡◌, ◌<◌, [], length, IfOk, IfErr, IfSome, OnOk, true, false};
-ghost use Rattle.hol_infer.specs.RawView.{raw_tree};
+ghost use Rattle.hol_typing.specs.RawView.{raw_tree};
 ghost use Rattle.hol_infer.specs.Resolving.{term_has_arities, raw_of, definition_has_arities, definition_raw};
 
 use crate::definition::resolve_definition;
-use crate::raw::RawTerm;
 use crate::resolving::{Names, ResolveError, resolve};
-use crate::scheme::{Scheme, Variables};
 use hol_notation_terms::{Definition, PreTerm, PreTermNode};
 use hol_types::{Name, Ty};
+use hol_typing::{RawTerm, Scheme, Variables};
 use std::alloc::{AllocError, Global};
 
 // The constants, of whose types' variables nothing is known yet.

@@ -1,18 +1,17 @@
 //! Definitions as they are written.
 ghost use Rattle.std.specs.Prelude.{◌≡◌, [], IfOk, IfErr, IsOkUnless, true, false};
 ghost use Rattle.hol_notation_terms.specs.declared.operator.Operator.TheVariants.{Equals};
-ghost use Rattle.hol_infer.specs.Raw.{RawApply, RawFree};
+ghost use Rattle.hol_typing.specs.Raw.{RawApply, RawFree};
 ghost use Rattle.hol_infer.specs.NamesView.{scope_names};
-ghost use Rattle.hol_infer.specs.RawView.{raw_tree};
+ghost use Rattle.hol_typing.specs.RawView.{raw_tree};
 ghost use Rattle.hol_infer.specs.Resolving.{annotated, at_bool, right_raw, value_raw, right_has_arities, value_has_arities, definition_has_arities, without, operator_raw, definition_raw};
 
-use crate::raw::RawTerm;
 use crate::resolving::{
     Names, ResolveError, applied, operator, over, resolve, resolve_annotation, truth_type,
 };
-use crate::scheme::Scheme;
 use hol_notation_terms::{Definition, Operator, PreVariable, RightSide};
 use hol_types::{Name, Ty};
+use hol_typing::{RawTerm, Scheme};
 use std::alloc::{AllocError, Global};
 
 // The term with the type that is written for it, if there is one.

@@ -4,7 +4,7 @@ ghost use Rattle.hol_types.specs.Tree.{type_size};
 ghost use Rattle.hol_terms.specs.Nameless.{nameless};
 ghost use Rattle.hol_terms.specs.Size.{term_size};
 ghost use Rattle.hol_infer.specs.Resolving.{type_of_text, has_arities, term_has_arities, raw_of, definition_has_arities, definition_raw};
-ghost use Rattle.hol_infer.specs.Typing.{HasNoTyping};
+ghost use Rattle.hol_typing.specs.Typing.{HasNoTyping};
 ghost use Rattle.hol_infer.specs.Reading.{IsReading, HasLargeReading};
 
 use crate::constants::{resolved, resolved_definition};

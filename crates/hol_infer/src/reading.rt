@@ -2,21 +2,19 @@
 ghost use Rattle.std.specs.Prelude.{◌≡◌, ◌≤◌, [], IfOk, IfErr, IsOkUnless};
 ghost use Rattle.hol_terms.specs.Nameless.{nameless};
 ghost use Rattle.hol_terms.specs.Size.{term_size};
-ghost use Rattle.hol_infer.specs.Raw.{RawTree};
-ghost use Rattle.hol_infer.specs.RawView.{raw_tree, slot_tree};
-ghost use Rattle.hol_infer.specs.Scoped.{IsScoped, HasRigidAnnotations};
-ghost use Rattle.hol_infer.specs.Typing.{HasNoTyping};
+ghost use Rattle.hol_typing.specs.Raw.{RawTree};
+ghost use Rattle.hol_typing.specs.RawView.{raw_tree, slot_tree};
+ghost use Rattle.hol_typing.specs.Scoped.{IsScoped, HasRigidAnnotations};
+ghost use Rattle.hol_typing.specs.Typing.{HasNoTyping};
 ghost use Rattle.hol_infer.specs.Reading.{IsReading, HasLargeReading};
-ghost use Rattle.hol_infer.specs.Solved.{IsGeneralTyping, slot_term_size};
+ghost use Rattle.hol_typing.specs.Solved.{IsGeneralTyping, slot_term_size};
 ghost use Rattle.hol_infer.specs.declared.reading.ReadingError.TheVariants.{Memory};
 
-use crate::building::{add_term_holes, build};
-use crate::fault::Fault;
-use crate::principal::{Typed, principal, size};
-use crate::raw::RawTerm;
-use crate::shape::{Shape, TOO_LARGE};
-use crate::skeleton::{self, Skeleton};
 use hol_terms::{Scope, Term, TermError};
+use hol_typing::{
+    Fault, RawTerm, Scope as SlotScope, Shape, Skeleton, TOO_LARGE, Typed, add_term_holes, build,
+    principal_typing, size,
+};
 use std::alloc::Global;
 use thiserror::Error;
 
@@ -67,7 +65,7 @@ fn reading_of(alloc: Global, typed: &Typed) -> Result<Term, ReadingError>
     ensures no_untypable { IfErr result (λ e. e ≡ ReadingError.Untypable → ⊥) }
     ensures too_large { IfErr result (λ e. e ≡ ReadingError.TooLarge → (raw : RawTree) → IsGeneralTyping raw typed.now.shapes.items (slot_tree typed.now.skeleton) → HasLargeReading raw) }
 {
-    let outermost = skeleton::Scope::Outermost;
+    let outermost = SlotScope::Outermost;
     if size(&typed.shapes, &outermost, &typed.skeleton) >= TOO_LARGE {
         return Err(ReadingError::TooLarge);
     }
@@ -87,7 +85,7 @@ pub(crate) fn read(alloc: Global, term: &RawTerm) -> Result<Term, ReadingError>
     ensures untypable { IfErr result (λ e. e ≡ ReadingError.Untypable → HasNoTyping (raw_tree term.now)) }
     ensures too_large { IfErr result (λ e. e ≡ ReadingError.TooLarge → HasLargeReading (raw_tree term.now)) }
 {
-    match principal(alloc, term) {
+    match principal_typing(alloc, term) {
         Ok(typed) => reading_of(alloc, &typed),
         Err(Fault::Untypable) => Err(ReadingError::Untypable),
         Err(Fault::Memory) => Err(ReadingError::Memory),

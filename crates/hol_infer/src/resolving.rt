@@ -2,17 +2,16 @@
 ghost use Rattle.std.specs.Prelude.{◌≡◌, codes, IfOk, IfErr, IsOkUnless, MatchOption, Some, None, true, false};
 ghost use Rattle.hol_types.specs.Tree.{TyApp, type_list};
 ghost use Rattle.hol_types.specs.Fun.{fun_type};
-ghost use Rattle.hol_infer.specs.RawView.{raw_tree};
+ghost use Rattle.hol_typing.specs.RawView.{raw_tree};
 ghost use Rattle.hol_infer.specs.NamesView.{scope_names};
 ghost use Rattle.hol_infer.specs.Resolving.{arity_of, generic_type_of, ident_type, begins_with_mark, written_variable, stands_alone, takes, type_of_text, has_arities, option_has_arities, term_has_arities, name_index, identifier, sign, bool_type, operator_raw, raw_of};
 ghost use Rattle.std.specs.Option.{option_map};
 ghost use Rattle.hol_infer.specs.declared.resolving.ResolveError.TheVariants.{Memory};
-ghost use Rattle.hol_infer.specs.Raw.{RawConstant, RawApply, RawAbstraction, RawAnnotated};
+ghost use Rattle.hol_typing.specs.Raw.{RawConstant, RawApply, RawAbstraction, RawAnnotated};
 
-use crate::raw::RawTerm;
-use crate::scheme::{Scheme, Variables};
 use hol_notation_terms::{Operator, PreTerm, PreTermNode, PreType, PreTypeNode, PreVariable};
 use hol_types::{Name, Ty};
+use hol_typing::{RawTerm, Scheme, Variables};
 use std::alloc::{AllocError, AllocFailed, Global};
 
 /// Why identifiers are not resolved.

@@ -5,9 +5,9 @@ use Rattle.hol_types.specs.Tree.{TypeTree, type_size}
 use Rattle.hol_terms.specs.Nameless.{Nameless}
 use Rattle.hol_terms.specs.Size.{term_size}
 use Rattle.hol_notation_terms.specs.Text.{TypeText, TermText}
-use Rattle.hol_infer.specs.Raw.{RawTree}
+use Rattle.hol_typing.specs.Raw.{RawTree}
 use Rattle.hol_infer.specs.Resolving.{raw_of, type_of_text, has_arities, term_has_arities}
-use Rattle.hol_infer.specs.Typing.{HasNoTyping}
+use Rattle.hol_typing.specs.Typing.{HasNoTyping}
 use Rattle.hol_infer.specs.Reading.{IsReading, HasLargeReading}
 use Rattle.hol_resolve.specs.Lookups.{LookupsValue}
 

@@ -2,7 +2,7 @@ use Rattle.std.proofs.Common.{◌∙◌, [], ap, refl}
 use Rattle.std.proofs.lemmas.Result.{IfOk-weaker}
 use Rattle.hol_notation_terms.specs.Text.{DefinitionText}
 use Rattle.hol_notation_terms.specs.declared.operator.Operator.TheVariants.{Equals}
-use Rattle.hol_infer.specs.RawView.{raw_tree}
+use Rattle.hol_typing.specs.RawView.{raw_tree}
 use Rattle.hol_infer.specs.Resolving.{without, operator_raw}
 use Rattle.hol_infer.proofs.Resolved.{definition_built}
 use Rattle.hol_infer.proofs.definition.resolve_definition.Goals as goal

@@ -2,7 +2,7 @@ use Rattle.std.proofs.Common.{◌≡◌, ◌∙◌, ℕ, List, [], ap, sym, true
 use Rattle.std.proofs.lemmas.Result.{IfOk-weaker, IfErr-weaker}
 use Rattle.hol_types.specs.Tree.{TypeTree}
 use Rattle.hol_notation_terms.specs.Text.{VariableText, DefinitionText}
-use Rattle.hol_infer.specs.RawView.{raw_tree}
+use Rattle.hol_typing.specs.RawView.{raw_tree}
 use Rattle.hol_infer.specs.declared.resolving.ResolveError.TheVariants.{Arity}
 use Rattle.hol_infer.specs.Resolving.{value_raw, value_has_arities, definition_has_arities, without}
 use Rattle.hol_infer.proofs.definition.resolve_parameters.Goals as goal

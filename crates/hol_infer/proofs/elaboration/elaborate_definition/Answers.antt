@@ -1,6 +1,6 @@
 use Rattle.std.proofs.Common.{[], subst, sym}
-use Rattle.hol_infer.specs.Raw.{RawTree}
-use Rattle.hol_infer.specs.Scoped.{IsScoped, HasRigidAnnotations}
+use Rattle.hol_typing.specs.Raw.{RawTree}
+use Rattle.hol_typing.specs.Scoped.{IsScoped, HasRigidAnnotations}
 use Rattle.hol_infer.proofs.Resolved.{definition_scoped, definition_rigid}
 use Rattle.hol_infer.proofs.elaboration.elaborate_definition.Goals as goal
 

@@ -2,11 +2,11 @@ use Rattle.std.proofs.Common.{◌≡◌, ◌<◌, ◌^◌, [], ap, ◌∙◌, le
 use Rattle.std.proofs.lemmas.Result.{IfOk-weaker}
 use Rattle.hol_terms.specs.Nameless.{nameless}
 use Rattle.hol_terms.specs.Size.{term_size}
-use Rattle.hol_infer.specs.RawView.{slot_tree}
-use Rattle.hol_infer.specs.Holes.{add_holes, open_type}
-use Rattle.hol_infer.specs.Solved.{term_holes}
-use Rattle.hol_infer.specs.SlotTree.{typed}
-use Rattle.hol_infer.specs.Found.{types_at}
+use Rattle.hol_typing.specs.RawView.{slot_tree}
+use Rattle.hol_typing.specs.Holes.{add_holes, open_type}
+use Rattle.hol_typing.specs.Solved.{term_holes}
+use Rattle.hol_typing.specs.SlotTree.{typed}
+use Rattle.hol_typing.specs.Found.{types_at}
 use Rattle.hol_infer.proofs.Readings.{well_typed_whole, reading_of, reading_same, size_of}
 use Rattle.hol_infer.proofs.reading.named.Goals as goal
 

@@ -1,10 +1,10 @@
 use Rattle.std.proofs.lemmas.Result.{IfOk-weaker, IfErr-weaker}
-use Rattle.hol_infer.specs.RawView.{raw_tree}
+use Rattle.hol_typing.specs.RawView.{raw_tree}
 use Rattle.hol_infer.proofs.Readings.{closed_whole}
 use Rattle.hol_infer.proofs.reading.read.Goals as goal
 
-pub principal-requires : goal.principal-requires
-principal-requires c = closed_whole (raw_tree c.args.term.now) c.requires.scoped c.requires.rigid
+pub principal_typing-requires : goal.principal_typing-requires
+principal_typing-requires c = closed_whole (raw_tree c.args.term.now) c.requires.scoped c.requires.rigid
 
 pub returns-in-Ok-clause-reading : goal.returns-in-Ok-clause-reading
 returns-in-Ok-clause-reading c = IfOk-weaker c.reading_of.result _ _ (λ t reads. reads (raw_tree c.args.term.now) c.in-Ok.ensures.general) c.reading_of.ensures.reading

@@ -1,7 +1,7 @@
 use Rattle.std.proofs.Common.{◌<◌, [], List, sym, subst, rules}
-use Rattle.hol_infer.specs.Shape.{ShapeTree}
-use Rattle.hol_infer.specs.RawView.{slot_tree}
-use Rattle.hol_infer.specs.Solved.{IsGeneralTyping, slot_term_size}
+use Rattle.hol_typing.specs.Shape.{ShapeTree}
+use Rattle.hol_typing.specs.RawView.{slot_tree}
+use Rattle.hol_typing.specs.Solved.{IsGeneralTyping, slot_term_size}
 use Rattle.hol_infer.proofs.Readings.{large_of}
 use Rattle.hol_infer.proofs.reading.reading_of.Goals as goal
 

@@ -1,0 +1,17 @@
+pub mod Raw
+pub mod Typing
+pub mod Shape
+pub mod Holes
+pub mod ShapeCode
+pub mod ShapeView
+pub mod ShapeFalls
+pub mod Graph
+pub mod Numbering
+pub mod Found
+pub mod SlotTree
+pub mod RawView
+pub mod Scoped
+pub mod Generate
+pub mod Linear
+pub mod Expanding
+pub mod Solved
