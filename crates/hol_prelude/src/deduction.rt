@@ -8,7 +8,7 @@ ghost use Rattle.hol_kernel.specs.Typing.{HasType};
 ghost use Rattle.hol_equal.specs.Applied.{lhs, rhs};
 ghost use Rattle.hol_prelude.specs.Deduction.{theorem_of, theorem_under, concl_of, IsFrom};
 
-use hol_bool::applied::{self, conj, contr, eqt_intro};
+use hol_derived::applied::{self, conj, contr, eqt_intro};
 use hol_equal::applied::{assume, trans};
 use hol_formulas::mk_falsity;
 use hol_kernel::{Basis, Thm};

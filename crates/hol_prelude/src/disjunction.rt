@@ -6,7 +6,7 @@ ghost use Rattle.hol_equal.specs.Applied.{lhs, rhs};
 ghost use Rattle.hol_prelude.specs.Deduction.{theorem_of, theorem_under, concl_of, IsFrom, disj_rewrites};
 
 use crate::deduction::{absurd, assumed_conclusion, assumed_falsity, both, equivalent, truth};
-use hol_bool::applied::{disj_cases, disj1, disj2};
+use hol_derived::applied::{disj_cases, disj1, disj2};
 use hol_kernel::Thm;
 use std::alloc::{AllocError, Global};
 

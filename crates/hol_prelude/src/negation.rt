@@ -7,7 +7,7 @@ ghost use Rattle.hol_equal.specs.Applied.{rhs};
 ghost use Rattle.hol_prelude.specs.Deduction.{theorem_of, concl_of};
 
 use crate::deduction::chained;
-use hol_bool::unfold;
+use hol_derived::unfold;
 use hol_equal::applied::{eq_mp, sym};
 use hol_formulas::bool_type;
 use hol_kernel::{Postulate, Thm};

@@ -8,7 +8,7 @@ use Rattle.hol_kernel.specs.Theorem.{theorem_on}
 use Rattle.hol_equal.proofs.Outcomes.{became}
 use Rattle.hol_prelude.specs.Deduction.{theorem_of, concl_of}
 use Rattle.hol_subst.proofs.Closing.{closed_named, shift_whole}
-use Rattle.hol_bool.specs.Applied.{unfolded}
+use Rattle.hol_derived.specs.Applied.{unfolded}
 use Rattle.hol_prelude.proofs.negation.negation_unfolded.Goals as goal
 
 pub unfold-requires : goal.unfold-requires
