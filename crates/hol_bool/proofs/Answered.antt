@@ -1,20 +1,16 @@
--- What the rules answer, from what the code tested.
-use Rattle.std.specs.Prelude.{◌≡◌, ℕ, Bool, true, false, cond, not, ◌&&◌, List, Some, None}
+-- What specialization answers, from what the code tested.
+use Rattle.std.specs.Prelude.{◌≡◌, Bool, true, false, cond, Some, None}
 use Rattle.std.specs.Option.{option_and_then}
-use Rattle.std.specs.FinSet as set
 use Rattle.std.proofs.Common.{ap, sym, ◌∙◌}
-use Rattle.hol_types.specs.Tree.{TypeTree}
-use Rattle.hol_terms.specs.Named.{var}
 use Rattle.hol_terms.specs.Nameless.{Nameless}
 use Rattle.hol_subst.specs.Closing.{open_with}
-use Rattle.hol_subst.specs.Variant.{is_free_in}
 use Rattle.hol_formulas.specs.Formula.{Abstraction, universal, dest_forall}
 use Rattle.hol_formulas.proofs.FormulaLaws.{dest_forall_universal}
 use Rattle.hol_kernel.specs.Items.{Items}
 use Rattle.hol_kernel.specs.Sequent.{Sequent, sequent_of}
-use Rattle.hol_kernel.specs.Typing.{is_type, has_type}
-use Rattle.hol_bool.specs.Applied.{specialized, generalized, abstraction_in}
-use Rattle.hol_bool.specs.Rules.{spec_of, gen_of}
+use Rattle.hol_kernel.specs.Typing.{has_type}
+use Rattle.hol_derived.specs.Applied.{specialized, abstraction_in}
+use Rattle.hol_bool.specs.Rules.{spec_of}
 use Rattle.hol_equal.specs.Applied.{rand}
 
 module _ (basis : Items) (t : Nameless) (a : Sequent) where
@@ -36,16 +32,3 @@ module _ (basis : Items) (t : Nameless) (a : Sequent) where
 
     pub is_universal : a.concl ≡ universal (abstraction_in (rand a.concl))
     is_universal = is ∙ ap (λ c. universal (abstraction_in (rand c))) (sym is)
-
-module _ (basis : Items) (v : List ℕ × TypeTree) (a : Sequent) where
-  pub gen_untyped : is_type basis v.1 ≡ false → gen_of basis (var v) a ≡ None
-  gen_untyped e = ap (λ k. cond (k && not (is_free_in (set.items a.hyps) v)) (Some (generalized v a)) None) e
-
-  gen_at : is_type basis v.1 ≡ true → (k : Bool) → is_free_in (set.items a.hyps) v ≡ k → gen_of basis (var v) a ≡ cond (not k) (Some (generalized v a)) None
-  gen_at stands k e = λ i. cond (stands i && not (e i)) (Some (generalized v a)) None
-
-  pub gen_captured : is_type basis v.1 ≡ true → is_free_in (set.items a.hyps) v ≡ true → gen_of basis (var v) a ≡ None
-  gen_captured stands e = gen_at stands true e
-
-  pub gen_gives : is_type basis v.1 ≡ true → is_free_in (set.items a.hyps) v ≡ false → gen_of basis (var v) a ≡ Some (generalized v a)
-  gen_gives stands e = gen_at stands false e

@@ -1,20 +1,18 @@
 -- What the rules of conjunction and implication answer, from what the code tested.
-use Rattle.std.specs.Prelude.{◌≡◌, ℕ, Bool, true, false, cond, List, codes, Option, Some, None, is_some, refl}
-use Rattle.std.specs.Option.{option_map, option_and_then}
+use Rattle.std.specs.Prelude.{◌≡◌, ℕ, true, false, List, codes, Option, Some, None, is_some, refl}
+use Rattle.std.specs.Option.{option_map}
 use Rattle.std.specs.FinSet as set
 use Rattle.std.proofs.Common.{ap, sym, ◌∙◌}
 use mathlib.Core.Bool.{true≢false}
 use Rattle.hol_terms.specs.Nameless.{Nameless}
-use Rattle.hol_terms.specs.Alpha.{strip, alpha_eq}
-use Rattle.hol_formulas.specs.Equation.{bool_type}
+use Rattle.hol_terms.specs.Alpha.{strip}
 use Rattle.hol_formulas.specs.Formula.{connective_type, connected, conjunction, implication, dest_binary, dest_conj, dest_imp, is_conj, is_imp}
 use Rattle.hol_formulas.proofs.FormulaLaws.{dest_binary_is}
-use Rattle.hol_kernel.specs.Items.{Items}
 use Rattle.hol_kernel.specs.Sequent.{only_hyp, Sequent, sequent_of}
-use Rattle.hol_kernel.specs.Typing.{has_type}
-use Rattle.hol_equal.specs.Applied.{lhs, rhs, concluded}
-use Rattle.hol_bool.specs.Applied.{first_conjunct, second_conjunct, discharged, undischarged}
-use Rattle.hol_bool.specs.Rules.{conjunct1_of, conjunct2_of, mp_of, disch_of, undisch_of}
+use Rattle.hol_equal.specs.Applied.{lhs, rhs}
+use Rattle.hol_derived.specs.Applied.{first_conjunct, second_conjunct, undischarged}
+use Rattle.hol_derived.proofs.RuleAnswers.{mp_none, mp_other, disch_none}
+use Rattle.hol_bool.specs.Rules.{conjunct1_of, conjunct2_of, undisch_of}
 
 module _ (c : List ℕ) (t : Nameless) where
   operands : (x : Nameless × Nameless) → dest_binary c connective_type t ≡ Some x → t ≡ connected c (lhs t) (rhs t)
@@ -64,36 +62,11 @@ module _ (a : Sequent) where
   pub undisch_gives : is_imp a.concl ≡ true → undisch_of a ≡ Some (undischarged a)
   undisch_gives e = ap (λ c. option_map (λ p. sequent_of (set.union a.hyps (only_hyp p.0)) p.1) (dest_imp c)) (is_implication a.concl e)
 
-module _ (a b : Sequent) where
-  pub mp_none : dest_imp a.concl ≡ None → mp_of a b ≡ None
-  mp_none e = ap (option_and_then (λ p. cond (alpha_eq p.0 b.concl) (Some (sequent_of (set.union a.hyps b.hyps) p.1)) None)) e
+module _ (a b : Sequent) (p q : Nameless) (is : dest_imp a.concl ≡ Some (p, q)) where
+  pub mp_is : a.concl ≡ implication (lhs a.concl) (rhs a.concl)
+  mp_is = operands (codes "==>") a.concl (p, q) is
 
-  module _ (p q : Nameless) (is : dest_imp a.concl ≡ Some (p, q)) where
-    implies : a.concl ≡ implication p q
-    implies = dest_binary_is (codes "==>") connective_type a.concl (p, q) is
-
-    pub mp_is : a.concl ≡ implication (lhs a.concl) (rhs a.concl)
-    mp_is = operands (codes "==>") a.concl (p, q) is
-
-    pub mp_fits : strip p ≡ strip b.concl → strip (lhs a.concl) ≡ strip b.concl
-    mp_fits e = ap (λ t. strip (lhs t)) implies ∙ e
-
-    mp_at : (k : Bool) → alpha_eq p b.concl ≡ k → mp_of a b ≡ cond k (Some (sequent_of (set.union a.hyps b.hyps) q)) None
-    mp_at k e =
-        ap (option_and_then (λ p. cond (alpha_eq p.0 b.concl) (Some (sequent_of (set.union a.hyps b.hyps) p.1)) None)) is
-        ∙ ap (λ k. cond k (Some (sequent_of (set.union a.hyps b.hyps) q)) None) e
-
-    pub mp_other : alpha_eq p b.concl ≡ false → mp_of a b ≡ None
-    mp_other e = mp_at false e
-
-    pub mp_gives : alpha_eq p b.concl ≡ true → mp_of a b ≡ Some (concluded a b)
-    mp_gives e = mp_at true e ∙ ap (λ t. Some (sequent_of (set.union a.hyps b.hyps) (rhs t))) (sym implies)
-
-module _ (basis : Items) (p : Nameless) (a : Sequent) where
-  pub disch_none : has_type basis p bool_type ≡ false → disch_of basis p a ≡ None
-  disch_none e = ap (λ k. cond k (Some (discharged p a)) None) e
-
-  pub disch_gives : has_type basis p bool_type ≡ true → disch_of basis p a ≡ Some (discharged p a)
-  disch_gives e = ap (λ k. cond k (Some (discharged p a)) None) e
+  pub mp_fits : strip p ≡ strip b.concl → strip (lhs a.concl) ≡ strip b.concl
+  mp_fits e = ap (λ t. strip (lhs t)) (dest_binary_is (codes "==>") connective_type a.concl (p, q) is) ∙ e
 
 pub ruleset refusals = (conjunct1_none, conjunct2_none, undisch_none, mp_none, mp_other, disch_none)

@@ -18,7 +18,7 @@ use Rattle.hol_subst.specs.Closing.{open_with}
 use Rattle.hol_subst.specs.Variant.{is_free_in}
 use Rattle.hol_formulas.specs.Equation.{bool_type}
 use Rattle.hol_formulas.specs.Formula.{Abstraction, connective_type, negation_type, quantifier_type, falsity, disjunction, implication, negation, equivalence, existential, is_falsity, is_disj, is_neg, dest_disj, dest_imp, dest_neg, dest_exists}
-use Rattle.hol_formulas.proofs.FormulaLaws.{is_constant_is, dest_unary_is, dest_binary_is, dest_quantifier_is}
+use Rattle.hol_formulas.proofs.FormulaLaws.{dest_unary_is, dest_binary_is, dest_quantifier_is}
 use Rattle.hol_kernel.specs.Items.{Items}
 use Rattle.hol_kernel.specs.Sequent.{Sequent, sequent_of}
 use Rattle.hol_kernel.specs.Typing.{HasType, type_over, is_typed, has_type}
@@ -29,8 +29,9 @@ use Rattle.hol_kernel.proofs.Variables.{known_typed}
 use Rattle.hol_kernel.proofs.Weaken.{typed_wider, has_type_more}
 use Rattle.hol_equal.proofs.Typings.{parts_typed}
 use Rattle.hol_equal.specs.Applied.{lhs, rhs, rand}
-use Rattle.hol_bool.specs.Applied.{with_right, with_left, by_cases, negated, false_of, chosen, abstraction_in}
-use Rattle.hol_bool.specs.Rules.{choose_left, choose_at, choose_of, exists_at, exists_of, disj1_of, disj2_of, disj_cases_at, disj_cases_of, contr_of, not_intro_of, eqf_intro_of}
+use Rattle.hol_derived.specs.Applied.{with_right, with_left, by_cases, false_of, chosen, abstraction_in}
+use Rattle.hol_derived.proofs.RuleAnswers.{disj1_none, disj2_none, contr_other, contr_none, not_intro_none, not_intro_other, denies, and_none}
+use Rattle.hol_bool.specs.Rules.{choose_left, choose_at, choose_of, exists_at, exists_of, disj1_of, disj2_of, disj_cases_at, disj_cases_of, contr_of, eqf_intro_of}
 
 -- ---- formulas that were tested
 
@@ -63,31 +64,11 @@ module _ (t : Nameless) where
       by None h = refl
       by (Some x) h = absurd (true≢false h)
 
-  pub is_false : is_falsity t ≡ true → t ≡ falsity
-  is_false e = is_constant_is (codes "F") bool_type t e
-
-and_none : {A : Type 0} (x : A) (k : Bool) → cond (k && false) (Some x) None ≡ None
-and_none x true = refl
-and_none x false = refl
-
 none_twice : {A : Type 0} (k : Bool) → cond {A = Option A} k None None ≡ None
 none_twice true = refl
 none_twice false = refl
 
 -- ---- disjunction
-
-module _ (basis : Items) (a : Sequent) (q : Nameless) where
-  pub disj1_none : has_type basis q bool_type ≡ false → disj1_of basis a q ≡ None
-  disj1_none e = ap (λ k. cond k (Some (with_right a q)) None) e
-
-  pub disj1_gives : has_type basis q bool_type ≡ true → disj1_of basis a q ≡ Some (with_right a q)
-  disj1_gives e = ap (λ k. cond k (Some (with_right a q)) None) e
-
-  pub disj2_none : has_type basis q bool_type ≡ false → disj2_of basis q a ≡ None
-  disj2_none e = ap (λ k. cond k (Some (with_left q a)) None) e
-
-  pub disj2_gives : has_type basis q bool_type ≡ true → disj2_of basis q a ≡ Some (with_left q a)
-  disj2_gives e = ap (λ k. cond k (Some (with_left q a)) None) e
 
 module _ (a b c : Sequent) where
   pub disj_cases_none : is_disj a.concl ≡ false → disj_cases_of a b c ≡ None
@@ -104,16 +85,6 @@ module _ (a b c : Sequent) where
 
 -- ---- falsity
 
-module _ (basis : Items) (p : Nameless) (a : Sequent) where
-  pub contr_other : is_falsity a.concl ≡ false → contr_of basis p a ≡ None
-  contr_other e = ap (λ k. cond (k && has_type basis p bool_type) (Some (sequent_of a.hyps p)) None) e
-
-  pub contr_none : has_type basis p bool_type ≡ false → contr_of basis p a ≡ None
-  contr_none e = ap (λ k. cond (is_falsity a.concl && k) (Some (sequent_of a.hyps p)) None) e ∙ and_none (sequent_of a.hyps p) (is_falsity a.concl)
-
-  pub contr_gives : is_falsity a.concl ≡ true → has_type basis p bool_type ≡ true → contr_of basis p a ≡ Some (sequent_of a.hyps p)
-  contr_gives f e = λ i. cond (f i && e i) (Some (sequent_of a.hyps p)) None
-
 module _ (a : Sequent) where
   pub eqf_none : is_neg a.concl ≡ false → eqf_intro_of a ≡ None
   eqf_none e = ap (option_map (λ p. sequent_of a.hyps (equivalence p falsity))) (no_negation a.concl e)
@@ -123,28 +94,9 @@ module _ (a : Sequent) where
 
 -- ---- negation
 
-module _ (a : Sequent) where
-  pub not_intro_none : dest_imp a.concl ≡ None → not_intro_of a ≡ None
-  not_intro_none e = ap (option_and_then (λ p. cond (is_falsity p.1) (Some (sequent_of a.hyps (negation p.0))) None)) e
-
-  module _ (p q : Nameless) (found : dest_imp a.concl ≡ Some (p, q)) where
-    not_intro_at : (k : Bool) → is_falsity q ≡ k → not_intro_of a ≡ cond k (Some (sequent_of a.hyps (negation p))) None
-    not_intro_at k e =
-        ap (option_and_then (λ p. cond (is_falsity p.1) (Some (sequent_of a.hyps (negation p.0))) None)) found
-        ∙ ap (λ k. cond k (Some (sequent_of a.hyps (negation p))) None) e
-
-    pub not_intro_other : is_falsity q ≡ false → not_intro_of a ≡ None
-    not_intro_other e = not_intro_at false e
-
-    module _ (falsehood : is_falsity q ≡ true) where
-      denies : a.concl ≡ implication p falsity
-      denies = dest_binary_is (codes "==>") connective_type a.concl (p, q) found ∙ ap (implication p) (is_false q falsehood)
-
-      pub not_intro_is : a.concl ≡ implication (lhs a.concl) falsity
-      not_intro_is = denies ∙ ap (λ t. implication (lhs t) falsity) (sym denies)
-
-      pub not_intro_gives : not_intro_of a ≡ Some (negated a)
-      not_intro_gives = not_intro_at true falsehood ∙ ap (λ t. Some (sequent_of a.hyps (negation (lhs t)))) (sym denies)
+module _ (a : Sequent) (p q : Nameless) (found : dest_imp a.concl ≡ Some (p, q)) (falsehood : is_falsity q ≡ true) where
+  pub not_intro_is : a.concl ≡ implication (lhs a.concl) falsity
+  not_intro_is = let is : a.concl ≡ implication p falsity = denies a p q found falsehood in is ∙ ap (λ t. implication (lhs t) falsity) (sym is)
 
 -- ---- existence
 

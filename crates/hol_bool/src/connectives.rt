@@ -7,8 +7,8 @@ ghost use Rattle.hol_bool.specs.Rules.{conjunct1_of, conjunct2_of, mp_of, disch_
 ghost use Rattle.hol_bool.specs.Refusals.{in_bool};
 ghost use Rattle.hol_bool.specs.declared.error.Rule.TheVariants as rule;
 
-use crate::applied;
 use crate::error::{BoolError, Rule};
+use hol_derived::applied;
 use hol_formulas::{dest_imp, is_conj, is_disj, is_falsity, is_imp, is_neg};
 use hol_kernel::Thm;
 use hol_terms::Term;

@@ -10,16 +10,13 @@ ghost use Rattle.hol_formulas.specs.Equation.{bool_type};
 ghost use Rattle.hol_kernel.specs.Theorem.{over};
 ghost use Rattle.hol_kernel.specs.Typing.{HasType, is_type};
 ghost use Rattle.hol_kernel.specs.Gives.{Gives};
-ghost use Rattle.hol_bool.specs.Applied.{abstraction_in, abstraction_term};
+ghost use Rattle.hol_derived.specs.Applied.{abstraction_in, abstraction_term};
 ghost use Rattle.hol_bool.specs.Rules.{spec_of, gen_of, exists_of, choose_of, choose_left};
 ghost use Rattle.hol_bool.specs.Refusals.{in_bool};
 ghost use Rattle.hol_bool.specs.declared.error.Rule.TheVariants as rule;
 
-use crate::applied;
-use crate::equations::contracted;
 use crate::error::{BoolError, Rule};
-use crate::existential::witness_implies;
-use crate::universal::forall_of;
+use hol_derived::{applied, contracted, forall_of, witness_implies};
 use hol_equal::applied::sides_of;
 use hol_formulas::{dest_exists, occurrence};
 use hol_kernel::{Basis, Thm};

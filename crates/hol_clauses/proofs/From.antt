@@ -2,13 +2,13 @@
 use Rattle.std.specs.Prelude.{◌≡◌, true, false, not, ◌&&◌, ◌||◌, Bool, refl}
 use Rattle.std.specs.FinSet as set
 use Rattle.std.proofs.Common.{ap, sym, ◌∙◌}
-use Rattle.hol_bool.proofs.Disjunctions.{one_removed}
+use Rattle.hol_derived.proofs.Disjunctions.{one_removed}
 use Rattle.hol_terms.specs.Nameless.{Nameless}
 use Rattle.hol_terms.specs.Alpha.{strip}
 use Rattle.hol_kernel.specs.Sequent.{Hyps, no_hyps}
 use Rattle.hol_kernel.specs.Theorem.{Theorem, theorem_over}
 use Rattle.hol_equal.proofs.HypSets.{none_left, none_without}
-use Rattle.hol_bool.proofs.HypLaws.{is, has, same, in_union, in_rest}
+use Rattle.hol_derived.proofs.HypLaws.{is, has, same, in_union, in_rest}
 use Rattle.hol_clauses.specs.Deduction.{theorem_under, IsFrom}
 use Rattle.hol_clauses.specs.Statements.{theorem_of}
 

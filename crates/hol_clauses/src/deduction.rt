@@ -9,7 +9,7 @@ ghost use Rattle.hol_equal.specs.Applied.{lhs, rhs};
 ghost use Rattle.hol_clauses.specs.Deduction.{theorem_under, concl_of, IsFrom};
 ghost use Rattle.hol_clauses.specs.Statements.{theorem_of};
 
-use hol_bool::applied::{self, conj, contr, eqt_intro};
+use hol_derived::applied::{self, conj, contr, eqt_intro};
 use hol_equal::applied::{assume, trans};
 use hol_formulas::mk_falsity;
 use hol_kernel::{Basis, Thm};

@@ -7,7 +7,7 @@ ghost use Rattle.hol_clauses.specs.Deduction.{theorem_under, concl_of, IsFrom, d
 ghost use Rattle.hol_clauses.specs.Statements.{theorem_of};
 
 use crate::deduction::{absurd, assumed_conclusion, assumed_falsity, both, equivalent, truth};
-use hol_bool::applied::{disj_cases, disj1, disj2};
+use hol_derived::applied::{disj_cases, disj1, disj2};
 use hol_kernel::Thm;
 use std::alloc::{AllocError, Global};
 

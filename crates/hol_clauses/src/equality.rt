@@ -12,7 +12,7 @@ ghost use Rattle.hol_clauses.specs.Statements.{theorem_of};
 
 use crate::deduction::{assumed, assumed_conclusion, both, chained, equivalent, truth};
 use crate::negation::denied;
-use hol_bool::applied::{disch, eqf_intro, eqt_intro};
+use hol_derived::applied::{disch, eqf_intro, eqt_intro};
 use hol_equal::applied::{eq_mp, sym};
 use hol_formulas::mk_neg;
 use hol_kernel::Thm;

@@ -8,12 +8,12 @@ ghost use Rattle.hol_formulas.specs.Prelude.{function, statement_of};
 ghost use Rattle.hol_kernel.specs.Items.{no_items};
 ghost use Rattle.hol_kernel.specs.Rules.{postulate_of};
 ghost use Rattle.hol_kernel.specs.Theorem.{theorem_on};
-ghost use Rattle.hol_bool.specs.Applied.{defining, unfolded};
+ghost use Rattle.hol_derived.specs.Applied.{defining, unfolded};
 ghost use Rattle.hol_clauses.specs.Deduction.{concl_of};
 ghost use Rattle.hol_clauses.specs.Statements.{stated, one_one, onto};
 
-use hol_bool::applied::generalize;
-use hol_bool::unfold;
+use hol_derived::applied::generalize;
+use hol_derived::unfold;
 use hol_formulas::{Postulate, bool_type, function_type, occurrence, variable};
 use hol_kernel::Thm;
 use hol_terms::Variable;

@@ -10,7 +10,7 @@ use crate::deduction::{
     absurd, assumed_conclusion, assumed_falsity, both, equivalent, holds, truth,
 };
 use crate::negation::negation_unfolded;
-use hol_bool::applied::{disch, mp};
+use hol_derived::applied::{disch, mp};
 use hol_equal::applied::sym;
 use hol_kernel::Thm;
 use std::alloc::{AllocError, Global};

@@ -8,7 +8,7 @@ ghost use Rattle.hol_clauses.specs.Deduction.{concl_of};
 ghost use Rattle.hol_clauses.specs.Statements.{theorem_of};
 
 use crate::deduction::chained;
-use hol_bool::unfold;
+use hol_derived::unfold;
 use hol_equal::applied::{eq_mp, sym};
 use hol_formulas::bool_type;
 use hol_kernel::{Postulate, Thm};

@@ -7,7 +7,7 @@ ghost use Rattle.hol_formulas.specs.Prelude.{boolean, element};
 ghost use Rattle.hol_kernel.specs.Items.{no_items};
 ghost use Rattle.hol_kernel.specs.Typing.{is_type};
 ghost use Rattle.hol_kernel.specs.Theorem.{theorem_on};
-ghost use Rattle.hol_bool.specs.Applied.{generalized};
+ghost use Rattle.hol_derived.specs.Applied.{generalized};
 ghost use Rattle.hol_clauses.specs.Deduction.{theorem_under, concl_of};
 ghost use Rattle.hol_clauses.specs.Statements.{theorem_of, stated, refl_clause, eq_clauses, not_clauses_weak, and_clauses, or_clauses, imp_clauses};
 
@@ -17,7 +17,7 @@ use crate::disjunction::disj_rewrites;
 use crate::equality::eq_rewrites;
 use crate::implication::{always, imp_rewrites, truth_implies};
 use crate::negation::denial;
-use hol_bool::applied::{eqt_intro, generalize};
+use hol_derived::applied::{eqt_intro, generalize};
 use hol_equal::applied::refl;
 use hol_formulas::{bool_type, occurrence, type_variable, variable};
 use hol_kernel::{Basis, Thm};

@@ -24,8 +24,8 @@ use Rattle.hol_kernel.proofs.Stands.{fun_parts_stand, type_stands}
 use Rattle.hol_kernel.proofs.Variables.{known_typed, variable_typed}
 use Rattle.hol_kernel.proofs.WellTyped.{sides_typed}
 use Rattle.hol_equal.specs.Applied.{body, range_of}
-use Rattle.hol_bool.specs.Applied.{defining, unfolded, generalized}
-use Rattle.hol_bool.proofs.Disjunctions.{free_in_none as none_free, not_none}
+use Rattle.hol_derived.specs.Applied.{defining, unfolded, generalized}
+use Rattle.hol_derived.proofs.Disjunctions.{free_in_none as none_free, not_none}
 use Rattle.hol_definition.specs.ForAll.{for_all}
 use Rattle.hol_definition.proofs.Closing.{bound_over}
 

@@ -7,11 +7,11 @@ ghost use Rattle.hol_formulas.specs.Equation.{equation};
 ghost use Rattle.hol_kernel.specs.Sequent.{no_hyps, sequent_of};
 ghost use Rattle.hol_kernel.specs.Theorem.{theorem_on, theorem_over};
 ghost use Rattle.hol_kernel.specs.Typing.{HasType};
-ghost use Rattle.hol_bool.specs.Applied.{defining, unfolded};
+ghost use Rattle.hol_derived.specs.Applied.{defining, unfolded};
 ghost use Rattle.hol_definition.specs.ForAll.{for_all};
 
-use hol_bool::applied::generalize;
-use hol_bool::unfold;
+use hol_derived::applied::generalize;
+use hol_derived::unfold;
 use hol_formulas::dest_eq;
 use hol_kernel::Thm;
 use hol_subst::variant;

@@ -7,8 +7,8 @@ ghost use Rattle.hol_just.specs.Over.{Infers};
 
 use crate::cursor::Cursor;
 use crate::refusals::{made_in_equal, made_in_kernel};
-use hol_bool::applied::truth;
 use hol_conv::Trace;
+use hol_derived::applied::truth;
 use hol_equal::sym;
 use hol_kernel::Thm;
 use hol_replay::replay;

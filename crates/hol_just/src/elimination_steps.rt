@@ -7,7 +7,8 @@ ghost use Rattle.hol_just.specs.Over.{Infers};
 
 use crate::cursor::Cursor;
 use crate::refusals::made_in_bool;
-use hol_bool::{Lemmas, choose, disj_cases, spec};
+use hol_bool::{choose, disj_cases, spec};
+use hol_derived::Lemmas;
 use hol_kernel::Thm;
 use hol_terms::Term;
 use std::alloc::{AllocError, Global};

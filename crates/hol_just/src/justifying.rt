@@ -10,7 +10,7 @@ use crate::cursor::Cursor;
 use crate::just::Just;
 use crate::reason::Move;
 use crate::steps::infer;
-use hol_bool::Lemmas;
+use hol_derived::Lemmas;
 use hol_kernel::{Basis, Thm};
 use std::alloc::{AllocError, Global};
 

@@ -18,7 +18,7 @@ use crate::equal_steps::{cut, replacement, symmetry};
 use crate::matching_steps::matching;
 use crate::reason::Reason;
 use crate::refusals::made_in_kernel;
-use hol_bool::Lemmas;
+use hol_derived::Lemmas;
 use hol_kernel::{Given, Thm};
 use hol_terms::Term;
 use std::alloc::{AllocError, Global};

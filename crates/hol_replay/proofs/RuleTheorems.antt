@@ -32,9 +32,9 @@ use Rattle.hol_kernel.proofs.Sound.{sides_is}
 use Rattle.hol_kernel.proofs.Variables.{known_typed, variable_typed}
 use Rattle.hol_equal.specs.Unrefused.{IsUnrefused}
 use Rattle.hol_equal.specs.Applied.{lhs, rhs, rand, body}
-use Rattle.hol_bool.specs.Applied.{abstraction_in, bound_type, specialized, first_conjunct, second_conjunct, false_of, generalized as generalized_sequent}
-use Rattle.hol_bool.specs.Rules.{eqt_intro_of}
-use Rattle.hol_bool.proofs.Typed.{predicate_typed, domain_stands}
+use Rattle.hol_derived.specs.Applied.{abstraction_in, bound_type, specialized, first_conjunct, second_conjunct, false_of, generalized as generalized_sequent}
+use Rattle.hol_derived.specs.Rules.{eqt_intro_of}
+use Rattle.hol_derived.proofs.Typed.{predicate_typed, domain_stands}
 use Rattle.hol_conv.proofs.RuleTypes.{variables_stand}
 use Rattle.hol_match.specs.Rules.{RuleValue, rule, single_rule, equation_rule, statement_rule, is_determined, generalized, pattern_variables}
 use Rattle.hol_match.specs.Givens.{holds_given}

@@ -10,7 +10,7 @@ ghost use Rattle.hol_match.specs.declared.rule_step.RuleStep.TheVariants.{At};
 ghost use Rattle.hol_replay.specs.RuleTheorems.{IsRuleTheorem};
 ghost use Rattle.hol_replay.specs.RuleSteps.{IsSame, IsStepped, IsFollowed, AreGeneral, IsEquation, is_taken};
 
-use hol_bool::applied::{conjunct1, conjunct2, eqf_intro, eqt_intro, generalize, spec};
+use hol_derived::applied::{conjunct1, conjunct2, eqf_intro, eqt_intro, generalize, spec};
 use hol_equal::applied::{sides_of, unrefused};
 use hol_formulas::{dest_neg, occurrence};
 use hol_kernel::{Basis, Given, Thm};

@@ -21,8 +21,8 @@ use Rattle.hol_subst.proofs.Opening.{open_close_subst}
 use Rattle.hol_subst.proofs.Strip.{strip_close, strip_open}
 use Rattle.hol_formulas.specs.Formula.{quantifier_type, universal}
 use Rattle.hol_formulas.specs.Making.{mk_forall}
-use Rattle.hol_bool.specs.Rules.{over_variable}
-use Rattle.hol_bool.proofs.Bodies.{open_whole}
+use Rattle.hol_derived.specs.Rules.{over_variable}
+use Rattle.hol_derived.proofs.Bodies.{open_whole}
 use Rattle.hol_kernel.proofs.Sound.{strip_type}
 use Rattle.hol_just.specs.Replacing.{replace_each}
 use Rattle.hol_just.proofs.Replacing.{replaced_after}

@@ -11,7 +11,7 @@ use Rattle.hol_subst.specs.Substitution.{variable_inst}
 use Rattle.hol_formulas.specs.Formula.{quantifier_type, existential}
 use Rattle.hol_formulas.specs.Making.{mk_forall, mk_exists}
 use Rattle.hol_formulas.proofs.EquationTypes.{type_eq_itself}
-use Rattle.hol_bool.specs.Rules.{over_variable}
+use Rattle.hol_derived.specs.Rules.{over_variable}
 use Rattle.hol_just.specs.Matching.{bound_variables}
 use Rattle.hol_just.specs.MatchMp.{undetermined, existentials}
 use Rattle.hol_just.proofs.MatchChain.{exists_made}

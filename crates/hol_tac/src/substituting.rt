@@ -9,7 +9,7 @@ ghost use Rattle.hol_formulas.specs.Equation.{dest_eq};
 ghost use Rattle.hol_formulas.specs.Formula.{universal};
 ghost use Rattle.hol_kernel.specs.Given.{given_sequent};
 ghost use Rattle.hol_kernel.specs.Sequent.{Hyps};
-ghost use Rattle.hol_bool.specs.Rules.{over_variable};
+ghost use Rattle.hol_derived.specs.Rules.{over_variable};
 ghost use Rattle.hol_goal.specs.Achieves.{AreAllowed};
 ghost use Rattle.hol_goal.specs.ArgumentsView.{args_value};
 ghost use Rattle.hol_goal.specs.declared.tac_code.TacCode.TheVariants as code;

@@ -2,7 +2,7 @@ use Rattle.std.proofs.Common.{◌≡◌, ap, true, rules}
 use Rattle.hol_formulas.specs.Formula.{is_conj}
 use Rattle.hol_kernel.specs.Theorem.{Theorem}
 use Rattle.hol_equal.proofs.Answered.{gives}
-use Rattle.hol_bool.specs.Applied.{second_conjunct}
+use Rattle.hol_derived.specs.Applied.{second_conjunct}
 use Rattle.hol_bool.specs.Rules.{conjunct2_of}
 use Rattle.hol_bool.proofs.ConnectiveRules.{is_conjunction, conjunct2_gives}
 use Rattle.hol_bool.proofs.connectives.conjunct2.Goals as goal

@@ -1,4 +1,4 @@
-use Rattle.hol_bool.proofs.DisjunctionRules.{contr_gives, is_false}
+use Rattle.hol_derived.proofs.RuleAnswers.{contr_gives, is_false}
 use Rattle.hol_bool.specs.Rules.{contr_of}
 use Rattle.hol_equal.proofs.Answered.{gives}
 use Rattle.hol_formulas.specs.Equation.{bool_type}

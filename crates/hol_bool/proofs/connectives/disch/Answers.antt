@@ -5,9 +5,9 @@ use Rattle.hol_kernel.specs.Theorem.{Theorem}
 use Rattle.hol_kernel.specs.Typing.{has_type}
 use Rattle.hol_kernel.proofs.Declared.{has_type_is}
 use Rattle.hol_equal.proofs.Answered.{gives}
-use Rattle.hol_bool.specs.Applied.{discharged}
+use Rattle.hol_derived.specs.Applied.{discharged}
 use Rattle.hol_bool.specs.Rules.{disch_of}
-use Rattle.hol_bool.proofs.ConnectiveRules.{disch_gives}
+use Rattle.hol_derived.proofs.RuleAnswers.{disch_gives}
 use Rattle.hol_bool.proofs.connectives.disch.Goals as goal
 
 pub disch-requires : goal.disch-requires

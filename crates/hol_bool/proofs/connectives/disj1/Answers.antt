@@ -1,5 +1,5 @@
-use Rattle.hol_bool.proofs.DisjunctionRules.{disj1_gives}
-use Rattle.hol_bool.specs.Applied.{with_right}
+use Rattle.hol_derived.proofs.RuleAnswers.{disj1_gives}
+use Rattle.hol_derived.specs.Applied.{with_right}
 use Rattle.hol_bool.specs.Rules.{disj1_of}
 use Rattle.hol_equal.proofs.Answered.{gives}
 use Rattle.hol_formulas.specs.Equation.{bool_type}

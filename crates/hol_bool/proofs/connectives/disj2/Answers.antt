@@ -1,5 +1,5 @@
-use Rattle.hol_bool.proofs.DisjunctionRules.{disj2_gives}
-use Rattle.hol_bool.specs.Applied.{with_left}
+use Rattle.hol_derived.proofs.RuleAnswers.{disj2_gives}
+use Rattle.hol_derived.specs.Applied.{with_left}
 use Rattle.hol_bool.specs.Rules.{disj2_of}
 use Rattle.hol_equal.proofs.Answered.{gives}
 use Rattle.hol_formulas.specs.Equation.{bool_type}

@@ -1,5 +1,5 @@
 use Rattle.hol_bool.proofs.DisjunctionRules.{disj_cases_gives, is_disjunction}
-use Rattle.hol_bool.specs.Applied.{by_cases}
+use Rattle.hol_derived.specs.Applied.{by_cases}
 use Rattle.hol_bool.specs.Rules.{disj_cases_of}
 use Rattle.hol_equal.proofs.Answered.{gives}
 use Rattle.hol_formulas.specs.Formula.{is_disj}

@@ -7,7 +7,8 @@ use Rattle.hol_kernel.specs.Theorem.{Theorem}
 use Rattle.hol_equal.proofs.Answered.{gives}
 use Rattle.hol_equal.specs.Applied.{concluded}
 use Rattle.hol_bool.specs.Rules.{mp_of}
-use Rattle.hol_bool.proofs.ConnectiveRules.{mp_is, mp_fits, mp_gives}
+use Rattle.hol_bool.proofs.ConnectiveRules.{mp_is, mp_fits}
+use Rattle.hol_derived.proofs.RuleAnswers.{mp_gives}
 use Rattle.hol_bool.proofs.connectives.mp.Goals as goal
 
 pub mp-requires : goal.mp-requires

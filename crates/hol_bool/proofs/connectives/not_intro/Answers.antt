@@ -1,5 +1,6 @@
-use Rattle.hol_bool.proofs.DisjunctionRules.{not_intro_gives, not_intro_is}
-use Rattle.hol_bool.specs.Applied.{negated}
+use Rattle.hol_bool.proofs.DisjunctionRules.{not_intro_is}
+use Rattle.hol_derived.proofs.RuleAnswers.{not_intro_gives}
+use Rattle.hol_derived.specs.Applied.{negated}
 use Rattle.hol_bool.specs.Rules.{not_intro_of}
 use Rattle.hol_equal.proofs.Answered.{gives}
 use Rattle.hol_formulas.specs.Formula.{dest_imp, is_falsity}

@@ -2,7 +2,7 @@ use Rattle.std.proofs.Common.{◌≡◌, ap, true, rules}
 use Rattle.hol_formulas.specs.Formula.{is_imp}
 use Rattle.hol_kernel.specs.Theorem.{Theorem}
 use Rattle.hol_equal.proofs.Answered.{gives}
-use Rattle.hol_bool.specs.Applied.{undischarged}
+use Rattle.hol_derived.specs.Applied.{undischarged}
 use Rattle.hol_bool.specs.Rules.{undisch_of}
 use Rattle.hol_bool.proofs.ConnectiveRules.{is_implication, undisch_gives}
 use Rattle.hol_bool.proofs.connectives.undisch.Goals as goal

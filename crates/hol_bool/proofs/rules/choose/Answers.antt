@@ -1,7 +1,7 @@
 use Rattle.std.specs.FinSet as set
 use Rattle.hol_bool.proofs.DisjunctionRules.{choose_gives, existential_is, existential_shape, fresh, inner_is}
-use Rattle.hol_bool.proofs.Typed.{domain_stands, predicate_typed}
-use Rattle.hol_bool.specs.Applied.{abstraction_in, chosen}
+use Rattle.hol_derived.proofs.Typed.{domain_stands, predicate_typed}
+use Rattle.hol_derived.specs.Applied.{abstraction_in, chosen}
 use Rattle.hol_bool.specs.Rules.{choose_left, choose_of}
 use Rattle.hol_equal.proofs.Answered.{gives}
 use Rattle.hol_equal.specs.Applied.{rand}

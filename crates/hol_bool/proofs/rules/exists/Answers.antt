@@ -1,6 +1,6 @@
 use Rattle.hol_bool.proofs.DisjunctionRules.{existential_is, existential_shape, existential_typed, exists_gives, inner_is}
-use Rattle.hol_bool.proofs.Typed.{predicate_typed}
-use Rattle.hol_bool.specs.Applied.{abstraction_in}
+use Rattle.hol_derived.proofs.Typed.{predicate_typed}
+use Rattle.hol_derived.specs.Applied.{abstraction_in}
 use Rattle.hol_bool.specs.Rules.{exists_of}
 use Rattle.hol_equal.proofs.Answered.{gives}
 use Rattle.hol_equal.specs.Applied.{rand}

@@ -3,8 +3,8 @@ use Rattle.std.proofs.Common.{◌≡◌, ap, ◌∙◌, true, false, rules}
 use Rattle.hol_terms.specs.Named.{var, Named}
 use Rattle.hol_kernel.specs.Typing.{is_type}
 use Rattle.hol_kernel.specs.Theorem.{Theorem}
-use Rattle.hol_bool.specs.Applied.{generalized}
-use Rattle.hol_bool.proofs.Answered.{gen_gives}
+use Rattle.hol_derived.specs.Applied.{generalized}
+use Rattle.hol_derived.proofs.RuleAnswers.{gen_gives}
 use Rattle.hol_equal.proofs.Answered.{gives}
 use Rattle.hol_bool.specs.Rules.{gen_of}
 use Rattle.hol_subst.specs.Variant.{is_free_in}

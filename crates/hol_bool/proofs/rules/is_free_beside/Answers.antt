@@ -1,5 +1,5 @@
 use Rattle.std.specs.FinSet as set
-use Rattle.hol_bool.specs.Applied.{abstraction_in}
+use Rattle.hol_derived.specs.Applied.{abstraction_in}
 use Rattle.hol_bool.specs.Rules.{choose_left}
 use Rattle.hol_equal.proofs.Typings.{applied_typed}
 use Rattle.hol_formulas.specs.Equation.{bool_type}

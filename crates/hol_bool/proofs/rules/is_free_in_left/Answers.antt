@@ -1,6 +1,6 @@
 use Rattle.std.specs.FinSet as set
 use Rattle.std.specs.Prelude.{Bool, IfOk}
-use Rattle.hol_bool.specs.Applied.{abstraction_in}
+use Rattle.hol_derived.specs.Applied.{abstraction_in}
 use Rattle.hol_bool.specs.Rules.{choose_left}
 use Rattle.hol_subst.specs.Variant.{is_free_in}
 use Rattle.hol_terms.specs.Nameless.{Nameless, base_of, lam, nameless}

@@ -5,7 +5,7 @@ use Rattle.hol_formulas.specs.Formula.{universal, Abstraction}
 use Rattle.hol_kernel.specs.Typing.{HasType, has_type}
 use Rattle.hol_kernel.specs.Theorem.{Theorem}
 use Rattle.hol_equal.specs.Applied.{rand}
-use Rattle.hol_bool.specs.Applied.{specialized, bound_type}
+use Rattle.hol_derived.specs.Applied.{specialized, bound_type}
 use Rattle.hol_bool.proofs.Answered.{spec_gives, is_universal}
 use Rattle.hol_equal.proofs.Answered.{gives}
 use Rattle.hol_kernel.proofs.Declared.{has_type_is}

@@ -1,7 +1,7 @@
 use Rattle.hol_kernel.specs.Theorem.{theorem_on}
 use Rattle.hol_equal.proofs.Outcomes.{became}
 use Rattle.hol_equal.specs.Applied.{lhs}
-use Rattle.hol_bool.specs.Applied.{first_conjunct}
+use Rattle.hol_derived.specs.Applied.{first_conjunct}
 use Rattle.hol_clauses.specs.Deduction.{theorem_under, concl_of}
 use Rattle.hol_clauses.proofs.conjunction.assumed_first.Goals as goal
 

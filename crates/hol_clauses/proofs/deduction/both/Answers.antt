@@ -6,7 +6,7 @@ use Rattle.hol_kernel.specs.Sequent.{no_hyps, Hyps}
 use Rattle.hol_kernel.specs.Theorem.{theorem_on, theorem_over}
 use Rattle.hol_equal.proofs.HypSets.{none_left}
 use Rattle.hol_equal.proofs.Outcomes.{became}
-use Rattle.hol_bool.specs.Rules.{conj_of}
+use Rattle.hol_derived.specs.Rules.{conj_of}
 use Rattle.hol_clauses.specs.Deduction.{concl_of}
 use Rattle.hol_clauses.specs.Statements.{theorem_of}
 use Rattle.hol_clauses.proofs.deduction.both.Goals as goal

@@ -6,7 +6,7 @@ use Rattle.hol_kernel.specs.Sequent.{Hyps, no_hyps, only_hyp}
 use Rattle.hol_kernel.specs.Theorem.{theorem_on, theorem_over}
 use Rattle.hol_equal.proofs.HypSets.{none_right}
 use Rattle.hol_equal.proofs.Outcomes.{became}
-use Rattle.hol_bool.specs.Applied.{by_cases}
+use Rattle.hol_derived.specs.Applied.{by_cases}
 use Rattle.hol_clauses.specs.Deduction.{theorem_under, concl_of}
 use Rattle.hol_clauses.proofs.disjunction.from_either.Goals as goal
 

@@ -9,7 +9,7 @@ use Rattle.hol_kernel.specs.Sequent.{only_hyp}
 use Rattle.hol_kernel.specs.Typing.{HasType}
 use Rattle.hol_kernel.specs.Theorem.{theorem_on, theorem_over}
 use Rattle.hol_equal.proofs.Outcomes.{became}
-use Rattle.hol_bool.specs.Applied.{discharged}
+use Rattle.hol_derived.specs.Applied.{discharged}
 use Rattle.hol_clauses.specs.Deduction.{concl_of}
 use Rattle.hol_clauses.proofs.equality.denied_if_false.Goals as goal
 

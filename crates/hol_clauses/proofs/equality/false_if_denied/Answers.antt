@@ -6,7 +6,7 @@ use Rattle.hol_kernel.specs.Items.{Items, no_items}
 use Rattle.hol_kernel.specs.Typing.{HasType}
 use Rattle.hol_kernel.specs.Theorem.{theorem_on}
 use Rattle.hol_equal.proofs.Outcomes.{became}
-use Rattle.hol_bool.specs.Applied.{false_of}
+use Rattle.hol_derived.specs.Applied.{false_of}
 use Rattle.hol_clauses.specs.Deduction.{theorem_under, concl_of}
 use Rattle.hol_equal.proofs.Typings.{applied_typed}
 use Rattle.hol_formulas.specs.Formula.{negation_type}

@@ -1,6 +1,6 @@
 use Rattle.std.specs.FinSet as set
 use Rattle.std.proofs.Common.{◌≡◌, ◌∙◌, refl}
-use Rattle.hol_bool.proofs.Disjunctions.{one_removed}
+use Rattle.hol_derived.proofs.Disjunctions.{one_removed}
 use Rattle.hol_terms.specs.Alpha.{strip}
 use Rattle.hol_formulas.specs.Formula.{falsity, equivalence, negation}
 use Rattle.hol_kernel.specs.Items.{no_items}

@@ -4,7 +4,7 @@ use Rattle.hol_kernel.specs.Items.{no_items}
 use Rattle.hol_kernel.specs.Theorem.{theorem_on, theorem_over}
 use Rattle.hol_equal.proofs.Outcomes.{became}
 use Rattle.hol_equal.specs.Applied.{lhs, rhs}
-use Rattle.hol_bool.specs.Rules.{eqt_intro_of}
+use Rattle.hol_derived.specs.Rules.{eqt_intro_of}
 use Rattle.hol_clauses.specs.Deduction.{concl_of}
 use Rattle.hol_clauses.specs.Statements.{theorem_of}
 use Rattle.hol_clauses.proofs.equality.is_truth.Goals as goal

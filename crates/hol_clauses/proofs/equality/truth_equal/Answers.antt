@@ -6,7 +6,7 @@ use Rattle.hol_kernel.specs.Theorem.{theorem_on, theorem_over}
 use Rattle.hol_equal.proofs.Applies.{sym_yes}
 use Rattle.hol_equal.proofs.Outcomes.{became}
 use Rattle.hol_equal.specs.Applied.{symmetric}
-use Rattle.hol_bool.specs.Rules.{eqt_intro_of}
+use Rattle.hol_derived.specs.Rules.{eqt_intro_of}
 use Rattle.hol_clauses.specs.Deduction.{concl_of}
 use Rattle.hol_clauses.proofs.equality.truth_equal.Goals as goal
 

@@ -3,7 +3,7 @@ use Rattle.hol_terms.specs.Nameless.{free}
 use Rattle.hol_kernel.specs.Items.{no_items}
 use Rattle.hol_kernel.specs.Theorem.{theorem_on}
 use Rattle.hol_equal.proofs.Outcomes.{became}
-use Rattle.hol_bool.specs.Applied.{unfolded}
+use Rattle.hol_derived.specs.Applied.{unfolded}
 use Rattle.hol_kernel.specs.Rules.{postulate_of}
 use Rattle.hol_formulas.specs.Prelude.{function}
 use Rattle.hol_clauses.proofs.functions.at_function.Goals as goal

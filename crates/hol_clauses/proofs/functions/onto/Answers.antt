@@ -2,8 +2,8 @@ use Rattle.std.proofs.Common.{refl}
 use Rattle.hol_kernel.specs.Theorem.{theorem_on}
 use Rattle.hol_equal.proofs.Outcomes.{became}
 use Rattle.hol_clauses.specs.Statements as statements
-use Rattle.hol_bool.specs.Applied.{generalized}
-use Rattle.hol_bool.proofs.Disjunctions.{free_in_none as none_free}
+use Rattle.hol_derived.specs.Applied.{generalized}
+use Rattle.hol_derived.proofs.Disjunctions.{free_in_none as none_free}
 use Rattle.hol_formulas.specs.Prelude.{function}
 use Rattle.hol_clauses.proofs.functions.onto.Goals as goal
 

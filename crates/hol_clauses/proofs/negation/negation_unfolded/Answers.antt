@@ -9,7 +9,7 @@ use Rattle.hol_equal.proofs.Outcomes.{became}
 use Rattle.hol_clauses.specs.Deduction.{concl_of}
 use Rattle.hol_clauses.specs.Statements.{theorem_of}
 use Rattle.hol_subst.proofs.Closing.{closed_named, shift_whole}
-use Rattle.hol_bool.specs.Applied.{unfolded}
+use Rattle.hol_derived.specs.Applied.{unfolded}
 use Rattle.hol_clauses.proofs.negation.negation_unfolded.Goals as goal
 
 pub unfold-requires : goal.unfold-requires

@@ -3,8 +3,8 @@ use Rattle.hol_formulas.specs.Prelude.{boolean}
 use Rattle.hol_kernel.specs.Items.{no_items}
 use Rattle.hol_kernel.specs.Theorem.{theorem_on}
 use Rattle.hol_equal.proofs.Outcomes.{became}
-use Rattle.hol_bool.specs.Applied.{generalized}
-use Rattle.hol_bool.proofs.Disjunctions.{free_in_none as none_free}
+use Rattle.hol_derived.specs.Applied.{generalized}
+use Rattle.hol_derived.proofs.Disjunctions.{free_in_none as none_free}
 use Rattle.hol_clauses.proofs.rewrites.for_truth_values.Goals as goal
 
 pub generalize-requires : goal.generalize-requires

@@ -3,7 +3,7 @@ use Rattle.hol_formulas.specs.Equation.{equation}
 use Rattle.hol_formulas.specs.Formula.{truth, equivalence}
 use Rattle.hol_kernel.specs.Theorem.{theorem_on}
 use Rattle.hol_equal.proofs.Outcomes.{became}
-use Rattle.hol_bool.specs.Rules.{eqt_intro_of}
+use Rattle.hol_derived.specs.Rules.{eqt_intro_of}
 use Rattle.hol_clauses.specs.Statements.{theorem_of}
 use Rattle.hol_clauses.proofs.rewrites.itself_holds.Goals as goal
 

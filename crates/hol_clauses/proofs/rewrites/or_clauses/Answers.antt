@@ -4,7 +4,7 @@ use Rattle.hol_formulas.specs.Prelude.{boolean}
 use Rattle.hol_kernel.specs.Items.{no_items}
 use Rattle.hol_kernel.specs.Theorem.{theorem_on}
 use Rattle.hol_equal.proofs.Outcomes.{became}
-use Rattle.hol_bool.specs.Applied.{generalized}
+use Rattle.hol_derived.specs.Applied.{generalized}
 use Rattle.hol_clauses.specs.Deduction.{concl_of, disj_rewrites}
 use Rattle.hol_clauses.specs.Statements.{theorem_of}
 use Rattle.hol_clauses.specs.Statements as statements

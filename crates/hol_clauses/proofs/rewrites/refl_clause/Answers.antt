@@ -7,10 +7,10 @@ use Rattle.hol_formulas.specs.Formula.{truth, equivalence}
 use Rattle.hol_formulas.specs.Prelude.{element}
 use Rattle.hol_kernel.specs.Theorem.{theorem_on}
 use Rattle.hol_equal.proofs.Outcomes.{became}
-use Rattle.hol_bool.specs.Applied.{generalized}
+use Rattle.hol_derived.specs.Applied.{generalized}
 use Rattle.hol_clauses.specs.Statements.{theorem_of}
 use Rattle.hol_clauses.specs.Statements as statements
-use Rattle.hol_bool.proofs.Disjunctions.{free_in_none as none_free}
+use Rattle.hol_derived.proofs.Disjunctions.{free_in_none as none_free}
 use Rattle.hol_clauses.proofs.rewrites.refl_clause.Goals as goal
 
 pub itself_holds-requires : goal.itself_holds-requires

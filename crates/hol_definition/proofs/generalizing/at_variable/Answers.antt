@@ -3,7 +3,7 @@ use Rattle.std.proofs.lemmas.Result.{IfOk-weaker}
 use Rattle.hol_terms.specs.Nameless.{Nameless, nameless}
 use Rattle.hol_kernel.specs.Theorem.{theorem_on}
 use Rattle.hol_kernel.specs.Typing.{HasType}
-use Rattle.hol_bool.specs.Applied.{unfolded}
+use Rattle.hol_derived.specs.Applied.{unfolded}
 use Rattle.hol_definition.proofs.generalizing.at_variable.Goals as goal
 
 pub unfold-requires-clause-typed : goal.unfold-requires-clause-typed

@@ -3,7 +3,7 @@ use Rattle.hol_terms.specs.Named.{var}
 use Rattle.hol_terms.specs.View.{named_of}
 use Rattle.hol_terms.specs.Nameless.{free, nameless, nameless_type}
 use Rattle.hol_formulas.specs.Formula.{universal}
-use Rattle.hol_bool.specs.Rules.{over_variable}
+use Rattle.hol_derived.specs.Rules.{over_variable}
 use Rattle.hol_kernel.specs.Sequent.{no_hyps}
 use Rattle.hol_goal.specs.declared.tac_args.TacArgs.TheVariants as args
 use Rattle.hol_just.specs.Leaving.{concluding}

@@ -1,0 +1,169 @@
+-- Hypotheses that the derivations of the rules of falsity, disjunction and existence leave, and the body of the definition of \/ at closed terms.
+use Rattle.std.specs.Prelude.{◌≡◌, ℕ, true, false, not, ◌&&◌, ◌||◌, Bool, List, [], ◌∷◌, codes, Some, None, refl}
+use Rattle.std.specs.Cmp.{Equal-is}
+use Rattle.std.specs.FinSet as set
+use Rattle.std.proofs.Common.{ap, sym, ◌∙◌}
+use mathlib.Core.Bool.{true≢false}
+use Rattle.hol_types.specs.Tree.{TypeTree}
+use Rattle.hol_types.specs.Fun.{fun_type}
+use Rattle.hol_terms.specs.Named.{Named, var}
+use Rattle.hol_terms.specs.Nameless.{Nameless, nameless, free, bound, fixed, app, lam, free_occurrences}
+use Rattle.hol_terms.specs.Alpha.{strip}
+use Rattle.hol_terms.specs.Scoped.{binds}
+use Rattle.hol_subst.specs.AlphaOrder.{nameless_cmp}
+use Rattle.hol_subst.specs.Closing.{open_with}
+use Rattle.hol_subst.specs.Variant.{is_free_in}
+use Rattle.hol_subst.proofs.Closing.{IsClosed, shift_whole}
+use Rattle.hol_formulas.specs.Equation.{bool_type}
+use Rattle.hol_formulas.specs.Formula.{disjunction, implication, universal}
+use Rattle.hol_formulas.specs.Prelude.{boolean}
+use Rattle.hol_kernel.specs.Items.{Items}
+use Rattle.hol_kernel.specs.Sequent.{Hyps, no_hyps, only_hyp}
+use Rattle.hol_kernel.specs.Typing.{HasType}
+use Rattle.hol_kernel.proofs.HypothesisLists.{hyps_same, free_in_hyps}
+use Rattle.hol_kernel.proofs.Stands.{some_is}
+use Rattle.hol_kernel.proofs.Variables.{known_typed}
+use Rattle.hol_equal.proofs.Typings.{parts_typed}
+use Rattle.hol_derived.specs.Unfolded.{either, either_for_all, letter, side_name, reached_from}
+use Rattle.hol_derived.specs.declared.disjunction.Side.{Side}
+use Rattle.hol_derived.specs.declared.disjunction.Side.TheVariants.{Left, Right}
+use Rattle.hol_derived.proofs.Bodies.{open_whole}
+use Rattle.hol_derived.proofs.HypLaws.{is, has, same, in_union, in_rest, in_one, in_none}
+
+pub not_none : {A : Type 0} (x : A) → Some x ≡ None → ⊥
+not_none x e = absurd (cc)
+
+-- ---- types of parts
+
+module _ (basis : Items) where
+  -- the argument of a constant
+  pub argument_typed : (c : List ℕ) (d r b : TypeTree) (x : Nameless) → HasType basis (app (fixed c (fun_type d r)) x) b → HasType basis x d
+  argument_typed c d r b x h =
+      let p = parts_typed basis (fixed c (fun_type d r)) x b h in
+      let q = known_typed basis (fixed c (fun_type d r)) (fun_type p.domain b) p.function in
+      let is : fun_type d r ≡ fun_type p.domain b = some_is (fun_type d r) (fun_type p.domain b) q.1 in
+      let same : p.domain ≡ d = cc in
+      p.argument ∙ ap Some same
+
+-- ---- EQF_INTRO
+
+denied_ways : (h d f p : Bool) → (h || (not d && ((not f && (f || false)) || (not p && ((d || false) || (p || false)))))) ≡ h
+denied_ways true d f p = refl
+denied_ways false true f p = refl
+denied_ways false false true true = refl
+denied_ways false false true false = refl
+denied_ways false false false true = refl
+denied_ways false false false false = refl
+
+pub denied : (hs : Hyps) (d p f : Nameless) → set.union hs (set.remove (set.union (set.remove (only_hyp f) (strip f)) (set.remove (set.union (only_hyp d) (only_hyp p)) (strip p))) (strip d)) ≡ hs
+denied hs d p f =
+    same _ hs
+    (λ q.
+    in_union hs (set.remove (set.union (set.remove (only_hyp f) (strip f)) (set.remove (set.union (only_hyp d) (only_hyp p)) (strip p))) (strip d)) q
+    ∙ ap (λ b. has hs q || b)
+    (in_rest (set.union (set.remove (only_hyp f) (strip f)) (set.remove (set.union (only_hyp d) (only_hyp p)) (strip p))) (strip d) q
+    ∙ ap (λ b. not (is q (strip d)) && b)
+    (in_union (set.remove (only_hyp f) (strip f)) (set.remove (set.union (only_hyp d) (only_hyp p)) (strip p)) q
+    ∙ (λ i.
+    (in_rest (only_hyp f) (strip f) q ∙ ap (λ b. not (is q (strip f)) && b) (in_one f q)) i
+    || (in_rest (set.union (only_hyp d) (only_hyp p)) (strip p) q
+    ∙ ap (λ b. not (is q (strip p)) && b) (in_union (only_hyp d) (only_hyp p) q ∙ (λ j. in_one d q j || in_one p q j))) i)))
+    ∙ denied_ways (has hs q) (is q (strip d)) (is q (strip f)) (is q (strip p)))
+
+-- ---- the definition of \/
+
+-- \q r. (u ==> r) ==> (q ==> r) ==> r
+abbrev pub or_half : Nameless → Nameless
+or_half u = lam (codes "q") bool_type (universal (record { base = codes "r"; domain = bool_type; body = either u (bound 1) (bound 0) }))
+
+module _ (p q : Nameless) (c : IsClosed 0 p) (d : IsClosed 0 q) where
+  pub first_opened : open_with p 0 (or_half (bound 2)) ≡ or_half p
+  first_opened = ap or_half (shift_whole 2 0 p c)
+
+  pub second_opened : open_with q 0 (universal (record { base = codes "r"; domain = bool_type; body = either p (bound 1) (bound 0) })) ≡ universal (either_for_all p q)
+  second_opened = λ i. universal (either_for_all (open_whole q 1 p c i) (shift_whole 1 0 q d i))
+
+  pub either_opened : (r : Nameless) → IsClosed 0 r → open_with r 0 (either p q (bound 0)) ≡ either p q r
+  either_opened r e = λ i. either (open_whole r 0 p c i) (open_whole r 0 q d i) (shift_whole 0 0 r e i)
+
+  -- !q. p ==> p \/ q at q, and !q. q ==> p \/ q
+  pub left_opened : open_with q 0 (implication p (disjunction p (bound 0))) ≡ implication p (disjunction p q)
+  left_opened = λ i. implication (open_whole q 0 p c i) (disjunction (open_whole q 0 p c i) (shift_whole 0 0 q d i))
+
+  pub right_opened : open_with q 0 (implication (bound 0) (disjunction p (bound 0))) ≡ implication q (disjunction p q)
+  right_opened = λ i. implication (shift_whole 0 0 q d i) (disjunction (open_whole q 0 p c i) (shift_whole 0 0 q d i))
+
+abbrev pub left_at : Nameless → Nameless
+left_at p = universal (record { base = codes "q"; domain = bool_type; body = implication p (disjunction p (bound 0)) })
+
+abbrev pub right_at : Nameless → Nameless
+right_at p = universal (record { base = codes "q"; domain = bool_type; body = implication (bound 0) (disjunction p (bound 0)) })
+
+-- ---- hypotheses of the derivation of a disjunction
+
+-- a term that is a is not b, where a is not b
+pub apart : (a b q : Nameless) → is a b ≡ false → is q a ≡ true → is q b ≡ false
+apart a b q d e = ap (λ (k : Nameless). is k b) (hyps_same q a ((Equal-is (nameless_cmp q a)).0 e)) ∙ d
+
+left_ways : (f s x : Bool) → (x ≡ true → f ≡ false) → (x ≡ true → s ≡ false) → (not f && (not s && ((f || false) || (x || false)))) ≡ (x || false)
+left_ways true s true h g = absurd (true≢false (h refl))
+left_ways true s false h g = refl
+left_ways false true true h g = absurd (true≢false (g refl))
+left_ways false true false h g = refl
+left_ways false false x h g = refl
+
+right_ways : (f s x : Bool) → (x ≡ true → f ≡ false) → (x ≡ true → s ≡ false) → (not f && (not s && ((s || false) || (x || false)))) ≡ (x || false)
+right_ways true s true h g = absurd (true≢false (h refl))
+right_ways true s false h g = refl
+right_ways false true true h g = absurd (true≢false (g refl))
+right_ways false true false h g = refl
+right_ways false false x h g = refl
+
+-- hs without f and s, where hs are i and x
+two_removed : (i x f s q : Nameless) → has (set.remove (set.remove (set.union (only_hyp i) (only_hyp x)) (strip s)) (strip f)) q ≡ (not (is q (strip f)) && (not (is q (strip s)) && ((is q (strip i) || false) || (is q (strip x) || false))))
+two_removed i x f s q =
+    in_rest (set.remove (set.union (only_hyp i) (only_hyp x)) (strip s)) (strip f) q
+    ∙ ap (λ b. not (is q (strip f)) && b)
+    (in_rest (set.union (only_hyp i) (only_hyp x)) (strip s) q ∙ ap (λ b. not (is q (strip s)) && b) (in_union (only_hyp i) (only_hyp x) q ∙ (λ j. in_one i q j || in_one x q j)))
+
+-- p ==> r, q ==> r
+abbrev implies_r : List ℕ → Nameless
+implies_r name = implication (letter name) (letter (codes "r"))
+
+pub side_left : (side : Side) → set.remove (set.remove (reached_from (side_name side)).hyps (strip (implication (letter (codes "q")) (letter (codes "r"))))) (strip (implication (letter (codes "p")) (letter (codes "r")))) ≡ only_hyp (letter (side_name side))
+side_left Left =
+    same _ _
+    (λ q.
+    two_removed (implies_r (codes "p")) (letter (codes "p")) (implies_r (codes "p")) (implies_r (codes "q")) q
+    ∙ left_ways (is q (strip (implies_r (codes "p")))) (is q (strip (implies_r (codes "q")))) (is q (letter (codes "p"))) (apart (letter (codes "p")) (strip (implies_r (codes "p"))) q refl)
+    (apart (letter (codes "p")) (strip (implies_r (codes "q"))) q refl)
+    ∙ sym (in_one (letter (codes "p")) q))
+side_left Right =
+    same _ _
+    (λ q.
+    two_removed (implies_r (codes "q")) (letter (codes "q")) (implies_r (codes "p")) (implies_r (codes "q")) q
+    ∙ right_ways (is q (strip (implies_r (codes "p")))) (is q (strip (implies_r (codes "q")))) (is q (letter (codes "q"))) (apart (letter (codes "q")) (strip (implies_r (codes "p"))) q refl)
+    (apart (letter (codes "q")) (strip (implies_r (codes "q"))) q refl)
+    ∙ sym (in_one (letter (codes "q")) q))
+
+removed_ways : (p : Bool) → (not p && (p || false)) ≡ false
+removed_ways true = refl
+removed_ways false = refl
+
+pub one_removed : (p : Nameless) → set.remove (only_hyp p) (strip p) ≡ no_hyps
+one_removed p =
+    same _ _
+    (λ q.
+    in_rest (only_hyp p) (strip p) q ∙ ap (λ b. not (is q (strip p)) && b) (in_one p q) ∙ removed_ways (is q (strip p)) ∙ sym (in_none q))
+
+-- ---- variables that are free in hypotheses
+
+pub free_in_none : (v : List ℕ × TypeTree) → is_free_in (set.items no_hyps) v ≡ false
+free_in_none v = free_in_hyps no_hyps [] v refl
+
+pub free_in_one : (t : Named) (v : List ℕ × TypeTree) → is_free_in (set.items (only_hyp (nameless [] t))) v ≡ (binds (free_occurrences (nameless [] t)) v || false)
+free_in_one t v = free_in_hyps (only_hyp (nameless [] t)) (t ∷ []) v refl
+
+pub side_absent : (side : Side) → is_free_in (set.items (only_hyp (letter (side_name side)))) (boolean (codes "r")) ≡ false
+side_absent Left = free_in_one (var (boolean (codes "p"))) (boolean (codes "r"))
+side_absent Right = free_in_one (var (boolean (codes "q"))) (boolean (codes "r"))

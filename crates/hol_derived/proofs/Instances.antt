@@ -1,0 +1,146 @@
+-- Instances of the general theorems.
+use Rattle.std.specs.Prelude.{◌≡◌, Result, Ok, Err, IfOk, true, cond, ◌&&◌, [], ◌∷◌, codes, Option, Some, None, unwrap_or, IsSome, is_some, Bool, false, refl}
+use Rattle.std.specs.FinSet as set
+use Rattle.std.proofs.Common.{ap, sym, ◌∙◌}
+use mathlib.Core.Bool.{true≢false}
+use Rattle.hol_types.specs.Tree.{TypeTree}
+use Rattle.hol_types.specs.Fun.{fun_type}
+use Rattle.hol_terms.specs.Named.{Named, var}
+use Rattle.hol_terms.specs.Nameless.{Nameless, free, fixed, app, nameless}
+use Rattle.hol_terms.specs.Alpha.{strip}
+use Rattle.hol_subst.specs.Shift.{shift}
+use Rattle.hol_subst.specs.Substitution.{term_subst, types_inst}
+use Rattle.hol_subst.proofs.Closing.{IsClosed, shift_whole, eq_same}
+use Rattle.hol_subst.proofs.SortedSets.{map_of_set}
+use Rattle.hol_formulas.specs.Equation.{bool_type, equation}
+use Rattle.hol_formulas.specs.Formula.{quantifier_type, truth, falsity, negation, conjunction, disjunction, implication, equivalence}
+use Rattle.hol_formulas.specs.Constants.{var_a}
+use Rattle.hol_formulas.specs.Prelude.{boolean}
+use Rattle.hol_formulas.proofs.EquationTypes.{type_eq_itself}
+use Rattle.hol_kernel.specs.Items.{Items}
+use Rattle.hol_kernel.specs.Sequent.{Hyps, no_hyps, only_hyp, hyps_image, Sequent, sequent_of}
+use Rattle.hol_kernel.specs.Typing.{is_type_at, type_over, HasType}
+use Rattle.hol_kernel.specs.Theorem.{Theorem, theorem_on, over}
+use Rattle.hol_kernel.specs.Rules.{sequent_image, inst_of}
+use Rattle.hol_kernel.proofs.HypothesisLists.{hyps_total, hyps_same}
+use Rattle.hol_equal.proofs.HypSets.{none_right}
+use Rattle.hol_derived.specs.Applied.{constantly_true}
+use Rattle.hol_derived.specs.Unfolded.{letter, predicate}
+use Rattle.hol_derived.specs.Lemmas.{hypothesis, conclusion, lemma_at, general, put, put_predicate}
+use Rattle.hol_derived.specs.declared.lemma.Lemma.{Lemma}
+use Rattle.hol_derived.specs.declared.lemma.Lemma.TheVariants.{EqtIntro, Conj, Conjunct1, Conjunct2, Mp, Disch, Disj1, Disj2, Contr, NotIntro, Gen}
+use Rattle.hol_derived.proofs.Disjunctions.{one_removed}
+
+-- what a map makes of one hypothesis
+image_one : (f : Nameless → Nameless) (h : Nameless) → hyps_image f (only_hyp h) ≡ set.insert no_hyps (strip (f (strip h)))
+image_one f h = map_of_set hyps_total hyps_same (λ k. strip (f k)) (strip h ∷ [])
+
+-- ---- formulas for the variables p and q
+
+module _ (p q : Nameless) (c : IsClosed 0 p) (d : IsClosed 0 q) where
+  given : Nameless → Nameless
+  given t = term_subst ((p, boolean (codes "p")) ∷ (q, boolean (codes "q")) ∷ []) 0 t
+
+  first : shift 0 0 p ≡ p
+  first = shift_whole 0 0 p c
+
+  second : shift 0 0 q ≡ q
+  second = shift_whole 0 0 q d
+
+  assumed_is : (which : Lemma) → strip (given (strip (hypothesis which (letter (codes "p")) (letter (codes "q"))))) ≡ strip (hypothesis which p q)
+  unfolding given
+  assumed_is EqtIntro = ap strip first
+  assumed_is Conj = ap strip second
+  assumed_is Conjunct1 = λ i. strip (conjunction (first i) (second i))
+  assumed_is Conjunct2 = λ i. strip (conjunction (first i) (second i))
+  assumed_is Mp = ap strip first
+  assumed_is Disch = λ i. strip (equivalence (conjunction (first i) (second i)) (first i))
+  assumed_is Disj1 = ap strip first
+  assumed_is Disj2 = ap strip second
+  assumed_is Contr = refl
+  assumed_is NotIntro = λ i. strip (implication (first i) falsity)
+  assumed_is Gen = refl
+
+  concluded_is : (which : Lemma) → given (conclusion which (letter (codes "p")) (letter (codes "q"))) ≡ conclusion which p q
+  unfolding given
+  concluded_is EqtIntro = λ i. equivalence (first i) truth
+  concluded_is Conj = λ i. equivalence (first i) (conjunction (first i) (second i))
+  concluded_is Conjunct1 = first
+  concluded_is Conjunct2 = second
+  concluded_is Mp = λ i. equivalence (implication (first i) (second i)) (second i)
+  concluded_is Disch = λ i. implication (first i) (second i)
+  concluded_is Disj1 = λ i. disjunction (first i) (second i)
+  concluded_is Disj2 = λ i. disjunction (first i) (second i)
+  concluded_is Contr = first
+  concluded_is NotIntro = λ i. negation (first i)
+  concluded_is Gen = refl
+
+  pub instance_is : (which : Lemma) → put p q (general which) ≡ lemma_at which p q
+  unfolding given
+  instance_is which =
+      λ i. sequent_of ((image_one given (hypothesis which (letter (codes "p")) (letter (codes "q"))) ∙ ap (λ k. set.insert no_hyps k) (assumed_is which)) i) (concluded_is which i)
+
+-- the instance applies
+pub formulas_fit : (basis : Items) (p q : Named) (s : Sequent) → HasType basis (nameless [] p) bool_type → HasType basis (nameless [] q) bool_type → inst_of basis ((p, var (boolean (codes "p"))) ∷ (q, var (boolean (codes "q"))) ∷ []) s ≡ Some (put (nameless [] p) (nameless [] q) s)
+formulas_fit basis p q s typed also =
+    λ i. cond (is_type_at (typed i) bool_type && (is_type_at (also i) bool_type && true)) (Some (put (nameless [] p) (nameless [] q) s)) None
+
+-- ---- a predicate for P
+
+-- f for P, of properties of what has the type a
+abbrev pub with_property : TypeTree → Nameless → Sequent → Sequent
+with_property a f s = sequent_image (term_subst ((f, (codes "P", fun_type a bool_type)) ∷ []) 0) s
+
+pub property_fits : (basis : Items) (a : TypeTree) (f : Named) (s : Sequent) → HasType basis (nameless [] f) (fun_type a bool_type) → inst_of basis ((f, var (codes "P", fun_type a bool_type)) ∷ []) s ≡ Some (with_property a (nameless [] f) s)
+property_fits basis a f s typed =
+    (λ i. cond (is_type_at (typed i) (fun_type a bool_type) && true) (Some (with_property a (nameless [] f) s)) None)
+    ∙ ap (λ k. cond (k && true) (Some (with_property a (nameless [] f) s)) None) (type_eq_itself (fun_type a bool_type))
+
+module _ (a : TypeTree) (f : Nameless) (c : IsClosed 0 f) where
+  at : Nameless → Nameless
+  at t = term_subst ((f, (codes "P", fun_type a bool_type)) ∷ []) 0 t
+
+  -- P at the type
+  at_type : Nameless
+  at_type = free (codes "P", fun_type a bool_type)
+
+  found : at at_type ≡ f
+  unfolding at at_type
+  found = ap (λ k. shift 0 0 (unwrap_or (cond k (Some f) None) (free (codes "P", fun_type a bool_type)))) (eq_same (codes "P", fun_type a bool_type)) ∙ shift_whole 0 0 f c
+
+  pub generalization_is :
+      put_predicate a f (general Gen) ≡ sequent_of (only_hyp (equation (fun_type a bool_type) f (constantly_true a))) (app (fixed (codes "!") (quantifier_type a)) f)
+  unfolding at at_type
+  generalization_is =
+      (λ i. sequent_of (hyps_image at (image_one (types_inst ((a, codes "A") ∷ [])) (equation (fun_type var_a bool_type) predicate (constantly_true var_a)) i)) (app (fixed (codes "!") (quantifier_type a)) (found i)))
+      ∙ (λ i. sequent_of ((image_one at (equation (fun_type a bool_type) at_type (constantly_true a))) i) (app (fixed (codes "!") (quantifier_type a)) f))
+      ∙ (λ i. sequent_of (only_hyp (equation (fun_type a bool_type) (found i) (constantly_true a))) (app (fixed (codes "!") (quantifier_type a)) f))
+
+-- ---- what is left of hypotheses
+
+-- the hypothesis of an instance is what the premise says
+pub proved : (hs : Hyps) (h p : Nameless) → only_hyp h ≡ only_hyp p → set.union hs (set.remove (only_hyp h) (strip p)) ≡ hs
+proved hs h p is = ap (λ (ks : Hyps). set.union hs (set.remove ks (strip p))) is ∙ ap (λ (ks : Hyps). set.union hs ks) (one_removed p) ∙ none_right hs
+
+-- ---- rules that apply
+
+-- what gives something was not found false
+pub holds : {A : Type 0} (o : Option A) (k : Bool) → IsSome o → (k ≡ false → o ≡ None) → k ≡ true
+holds o true some f = refl
+holds o false some f = absurd (true≢false (sym some ∙ ap is_some (f refl)))
+
+pub fails : {A : Type 0} (o : Option A) (k : Bool) → IsSome o → (k ≡ true → o ≡ None) → k ≡ false
+fails o false some f = refl
+fails o true some f = absurd (true≢false (sym some ∙ ap is_some (f refl)))
+
+pub refuted : {A : Type 0} (o : Option A) → IsSome o → o ≡ None → ⊥
+refuted o some is = true≢false (sym some ∙ ap is_some is)
+
+-- what a rule that applies gives
+pub gives_by : {E : Type 0} (r : Result Theorem E) (t : Theorem) (basis : Items) (o : Option Sequent) (s : Sequent) → IfOk r (λ th. th ≡ t) → t ≡ theorem_on basis s → o ≡ Some s → IfOk r (λ th. over basis o ≡ Some th)
+gives_by (Ok th) t basis o s given is gives = ap (over basis) gives ∙ ap Some (sym (given ∙ is))
+gives_by (Err e) t basis o s given is gives = given
+
+-- over the same items, what is the same term has its type
+pub typed_at : (own basis : Items) (u t : Nameless) → own ≡ basis → u ≡ t → HasType basis t bool_type → HasType own u bool_type
+typed_at own basis u t same is typed = λ i. (ap (λ (b : Items). type_over b u) same ∙ ap (λ (n : Nameless). type_over basis n) is ∙ typed) i

@@ -1,0 +1,10 @@
+pub mod HypLaws
+pub mod Disjunctions
+pub mod Witnesses
+pub mod Typed
+pub mod Bodies
+pub mod Connected
+pub mod Chains
+pub mod RuleAnswers
+pub mod Instances
+pub mod LemmaHypotheses

@@ -1,0 +1,64 @@
+-- The general theorems of the rules, of formulas p and q (bool.ml keeps each beside its rule, as pth): what each assumes, and what it concludes.
+use Rattle.std.specs.Prelude.{◌≡◌, List, [], ◌∷◌, codes}
+use Rattle.std.specs.List.{AllByRecursion}
+use Rattle.hol_types.specs.Tree.{TypeTree}
+use Rattle.hol_types.specs.Fun.{fun_type}
+use Rattle.hol_terms.specs.Nameless.{Nameless, fixed, app}
+use Rattle.hol_formulas.specs.Equation.{bool_type, equation}
+use Rattle.hol_formulas.specs.Formula.{quantifier_type, truth, falsity, negation, conjunction, disjunction, implication, equivalence}
+use Rattle.hol_formulas.specs.Constants.{var_a}
+use Rattle.hol_formulas.specs.Prelude.{boolean}
+use Rattle.hol_subst.specs.Substitution.{term_subst, types_inst}
+use Rattle.hol_kernel.specs.Items.{Items}
+use Rattle.hol_kernel.specs.Rules.{sequent_image}
+use Rattle.hol_kernel.specs.Theorem.{Theorem, theorem_on}
+use Rattle.hol_kernel.specs.Sequent.{only_hyp, Sequent, sequent_of}
+use Rattle.hol_derived.specs.Applied.{constantly_true}
+use Rattle.hol_derived.specs.Unfolded.{letter, predicate}
+use Rattle.hol_derived.specs.declared.lemma.Lemma.{Lemma}
+use Rattle.hol_derived.specs.declared.lemma.Lemma.TheVariants.{EqtIntro, Conj, Conjunct1, Conjunct2, Mp, Disch, Disj1, Disj2, Contr, NotIntro, Gen}
+
+abbrev pub hypothesis : Lemma → Nameless → Nameless → Nameless
+hypothesis EqtIntro p q = p
+hypothesis Conj p q = q
+hypothesis Conjunct1 p q = conjunction p q
+hypothesis Conjunct2 p q = conjunction p q
+hypothesis Mp p q = p
+hypothesis Disch p q = equivalence (conjunction p q) p
+hypothesis Disj1 p q = p
+hypothesis Disj2 p q = q
+hypothesis Contr p q = falsity
+hypothesis NotIntro p q = implication p falsity
+hypothesis Gen p q = equation (fun_type var_a bool_type) predicate (constantly_true var_a)
+
+abbrev pub conclusion : Lemma → Nameless → Nameless → Nameless
+conclusion EqtIntro p q = equivalence p truth
+conclusion Conj p q = equivalence p (conjunction p q)
+conclusion Conjunct1 p q = p
+conclusion Conjunct2 p q = q
+conclusion Mp p q = equivalence (implication p q) q
+conclusion Disch p q = implication p q
+conclusion Disj1 p q = disjunction p q
+conclusion Disj2 p q = disjunction p q
+conclusion Contr p q = p
+conclusion NotIntro p q = negation p
+conclusion Gen p q = app (fixed (codes "!") (quantifier_type var_a)) predicate
+
+abbrev pub lemma_at : Lemma → Nameless → Nameless → Sequent
+lemma_at which p q = sequent_of (only_hyp (hypothesis which p q)) (conclusion which p q)
+
+-- the general theorem itself, of the variables p and q of type bool
+abbrev pub general : Lemma → Sequent
+general which = lemma_at which (letter (codes "p")) (letter (codes "q"))
+
+-- the theorems that were made, each with its name, are those of a basis
+abbrev pub AreGeneral : Items → List (Lemma × Theorem) → Type 0
+AreGeneral basis made = AllByRecursion (λ e. e.1 ≡ theorem_on basis (general e.0)) made
+
+-- p and q for the variables of these names, in a sequent
+abbrev pub put : Nameless → Nameless → Sequent → Sequent
+put p q a = sequent_image (term_subst ((p, boolean (codes "p")) ∷ (q, boolean (codes "q")) ∷ []) 0) a
+
+-- a predicate f on the type a for P:A->bool, in a sequent
+abbrev pub put_predicate : TypeTree → Nameless → Sequent → Sequent
+put_predicate a f s = sequent_image (term_subst ((f, (codes "P", fun_type a bool_type)) ∷ []) 0) (sequent_image (types_inst ((a, codes "A") ∷ [])) s)

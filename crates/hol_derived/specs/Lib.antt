@@ -1,0 +1,4 @@
+pub mod Rules
+pub mod Applied
+pub mod Unfolded
+pub mod Lemmas

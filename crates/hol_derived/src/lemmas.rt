@@ -1,0 +1,177 @@
+//! General theorems over one basis, each made when it is first used, and instances of them.
+ghost use Rattle.std.specs.Prelude.{◌≡◌, ◌∷◌, [], true, IfOk, IfSome, codes, Ok};
+ghost use Rattle.hol_terms.specs.Named.{var};
+ghost use Rattle.hol_types.specs.Fun.{fun_type};
+ghost use Rattle.hol_terms.specs.Nameless.{nameless};
+ghost use Rattle.hol_formulas.specs.Equation.{bool_type};
+ghost use Rattle.hol_formulas.specs.Prelude.{boolean};
+ghost use Rattle.hol_subst.specs.Substitution.{term_subst};
+ghost use Rattle.hol_kernel.specs.Rules.{sequent_image};
+ghost use Rattle.hol_kernel.specs.Sequent.{only_hyp, sequent_of};
+ghost use Rattle.hol_kernel.specs.Theorem.{theorem_on};
+ghost use Rattle.hol_kernel.specs.Typing.{HasType, is_type};
+ghost use Rattle.hol_derived.specs.Lemmas.{hypothesis, conclusion, lemma_at, general, put, put_predicate};
+
+use crate::lemma::{Lemma, derived};
+use crate::letters::letter;
+use hol_equal::applied::{inst_type, prove_hyp, unrefused};
+use hol_formulas::{bool_type, occurrence, variable};
+use hol_kernel::{Basis, Thm};
+use hol_terms::Term;
+use hol_types::Ty;
+use std::alloc::{AllocError, Global};
+use std::marker::Model;
+
+/// The general theorems of the rules over one basis. Each is derived when a rule first needs it, and then kept, so that who uses many rules pays for their
+/// derivations once.
+#[derive(Drop)]
+pub struct Lemmas {
+    basis: Basis,
+    made: Vec<(Lemma, Thm)>,
+}
+
+impl Model for Lemmas {
+    ghost use Rattle.hol_kernel.specs.Items.{Items, items_code};
+    ghost use Rattle.hol_derived.specs.Lemmas.{AreGeneral};
+
+    ghost Value = { Items };
+
+    ghost coded = { items_code };
+
+    ghost view = { λ l. l.basis };
+
+    ghost invariant = { λ l. AreGeneral l.basis l.made.items };
+}
+
+impl Lemmas {
+    /// Those of the basis, none of them made yet.
+    pub fn new(alloc: Global, basis: &Basis) -> Result<Lemmas, AllocError>
+        ensures { IfOk result (λ lemmas. lemmas ≡ basis.now) }
+    {
+        let made = Vec::new(alloc);
+        Ok(Lemmas {
+            basis: basis.copy()?,
+            made,
+        })
+    }
+
+    // The general theorem, if it was made.
+    fn find(&self, which: Lemma) -> Option<&Thm>
+        ensures { IfSome result (λ th. th.now ≡ theorem_on self.now (general which)) }
+    {
+        for entry in &self.made {
+            if entry.0 == which {
+                return Some(&entry.1);
+            }
+        }
+        None
+    }
+
+    /// The general theorem.
+    pub(crate) fn get(&mut self, alloc: Global, which: Lemma) -> Result<Thm, AllocError>
+        ensures is { IfOk result (λ th. th ≡ theorem_on self.old (general which)) }
+        ensures kept { self.new ≡ self.old }
+    {
+        if let Some(th) = self.find(which) {
+            return th.copy();
+        }
+        let th = derived(alloc, &self.basis, which)?;
+        self.made.push((which, th.copy()?))?;
+        Ok(th)
+    }
+
+    /// An instance of the general theorem.
+    pub(crate) fn instance(
+        &mut self,
+        alloc: Global,
+        which: Lemma,
+        p: &Term,
+        q: &Term,
+    ) -> Result<Thm, AllocError>
+        requires first { HasType self.old (nameless [] p.now) bool_type }
+        requires second { HasType self.old (nameless [] q.now) bool_type }
+        ensures is { IfOk result (λ th. th ≡ theorem_on self.old (lemma_at which (nameless [] p.now) (nameless [] q.now))) }
+        ensures kept { self.new ≡ self.old }
+    {
+        let own = self.get(alloc, which)?;
+        with_formulas(alloc, &own, p, q)
+    }
+
+    /// What an instance of the general theorem concludes from the premise, which is what it assumes.
+    pub(crate) fn follow(
+        &mut self,
+        alloc: Global,
+        which: Lemma,
+        p: &Term,
+        q: &Term,
+        premise: &Thm,
+    ) -> Result<Thm, AllocError>
+        requires over { self.old ≡ premise.now.basis }
+        requires first { HasType self.old (nameless [] p.now) bool_type }
+        requires second { HasType self.old (nameless [] q.now) bool_type }
+        requires proved { only_hyp (hypothesis which (nameless [] p.now) (nameless [] q.now)) ≡ only_hyp premise.now.sequent.concl }
+        ensures is { IfOk result (λ th. th ≡ theorem_on self.old (sequent_of premise.now.sequent.hyps (conclusion which (nameless [] p.now) (nameless [] q.now)))) }
+        ensures kept { self.new ≡ self.old }
+    {
+        let own = self.instance(alloc, which, p, q)?;
+        prove_hyp(alloc, premise, &own)
+    }
+}
+
+// The formula beside the variable of the name.
+fn beside_letter(alloc: Global, p: &Term, name: &str) -> Result<(Term, Term), AllocError>
+    ensures { IfOk result (λ pair. pair ≡ (p.now, var (boolean name.now))) }
+{
+    let own = p.copy()?;
+    Ok((own, letter(alloc, name)?))
+}
+
+// The formulas beside the variables `p` and `q`.
+fn beside_letters(alloc: Global, p: &Term, q: &Term) -> Result<Vec<(Term, Term)>, AllocError>
+    ensures { IfOk result (λ pairs. pairs.items ≡ (p.now, var (boolean (codes "p"))) ∷ (q.now, var (boolean (codes "q"))) ∷ []) }
+{
+    let mut pairs = Vec::with_capacity(alloc, 2)?;
+    pairs.push(beside_letter(alloc, p, "p")?)?;
+    pairs.push(beside_letter(alloc, q, "q")?)?;
+    Ok(pairs)
+}
+
+// INST: the theorem with the formulas for the variables `p` and `q`.
+fn with_formulas(alloc: Global, a: &Thm, p: &Term, q: &Term) -> Result<Thm, AllocError>
+    requires first { HasType a.now.basis (nameless [] p.now) bool_type }
+    requires second { HasType a.now.basis (nameless [] q.now) bool_type }
+    ensures { IfOk result (λ th. th ≡ theorem_on a.now.basis (put (nameless [] p.now) (nameless [] q.now) a.now.sequent)) }
+{
+    let pairs = beside_letters(alloc, p, q)?;
+    unrefused(Thm::inst(alloc, &pairs, a))
+}
+
+// `P`, of properties of what has the type.
+fn property_at(alloc: Global, ty: &Ty) -> Result<Term, AllocError>
+    ensures { IfOk result (λ t. t ≡ var (codes "P", fun_type ty.now bool_type)) }
+{
+    let truth = bool_type(alloc)?;
+    let own = Ty::fun(alloc, ty, &truth)?;
+    let v = variable(alloc, "P", &own)?;
+    occurrence(alloc, &v)
+}
+
+// INST: the theorem with the predicate for `P`, of properties of what has the type.
+fn with_property(alloc: Global, a: &Thm, ty: &Ty, f: &Term) -> Result<Thm, AllocError>
+    requires function { HasType a.now.basis (nameless [] f.now) (fun_type ty.now bool_type) }
+    ensures { IfOk result (λ th. th ≡ theorem_on a.now.basis (sequent_image (term_subst ((nameless [] f.now, (codes "P", fun_type ty.now bool_type)) ∷ []) 0) a.now.sequent)) }
+{
+    let mut pairs = Vec::new(alloc);
+    pairs.push((f.copy()?, property_at(alloc, ty)?))?;
+    unrefused(Thm::inst(alloc, &pairs, a))
+}
+
+/// INST_TYPE and INST: the theorem with the type for `A`, and the predicate on it for `P`.
+pub(crate) fn with_predicate(alloc: Global, a: &Thm, ty: &Ty, f: &Term) -> Result<Thm, AllocError>
+    requires stands { is_type a.now.basis ty.now ≡ true }
+    requires function { HasType a.now.basis (nameless [] f.now) (fun_type ty.now bool_type) }
+    ensures { IfOk result (λ th. th ≡ theorem_on a.now.basis (put_predicate ty.now (nameless [] f.now) a.now.sequent)) }
+{
+    let own = inst_type(alloc, ty, "A", a)?;
+    with_property(alloc, &own, ty, f)
+}

@@ -1,0 +1,232 @@
+//! That what holds of something exists: `!P x. P x ==> (?) P`.
+ghost use Rattle.std.specs.Prelude.{◌≡◌, [], true, codes, IfOk, Some};
+ghost use Rattle.std.specs.FinSet as set;
+ghost use Rattle.hol_types.specs.Fun.{fun_type};
+ghost use Rattle.hol_terms.specs.Named.{var, named_type};
+ghost use Rattle.hol_terms.specs.Nameless.{nameless, app};
+ghost use Rattle.hol_formulas.specs.Constants.{var_a};
+ghost use Rattle.hol_formulas.specs.Equation.{bool_type};
+ghost use Rattle.hol_formulas.specs.Formula.{implication, universal};
+ghost use Rattle.hol_formulas.specs.Making.{mk_imp, mk_forall};
+ghost use Rattle.hol_formulas.specs.Prelude.{boolean, element, of_element, property, property_type};
+ghost use Rattle.hol_kernel.specs.Sequent.{no_hyps, only_hyp, sequent_of};
+ghost use Rattle.hol_kernel.specs.Theorem.{theorem_on};
+ghost use Rattle.hol_kernel.specs.Typing.{HasType, is_type};
+ghost use Rattle.hol_derived.specs.Applied.{generalized};
+ghost use Rattle.hol_derived.specs.Unfolded.{letter, exists_in, exists_unfolded, implied_by_all, predicate, of_witness, all_witnesses, followed, witnessed};
+
+use crate::equations::eq_mp_sym;
+use crate::existential::exists_at;
+use crate::implication::{disch, mp};
+use crate::letters::{for_every, letter};
+use crate::universal::{generalize, spec};
+use hol_equal::applied::{assume, inst_type};
+use hol_formulas::{bool_type, mk_forall, mk_imp, occurrence, variable};
+use hol_kernel::{Basis, Thm};
+use hol_terms::{Term, Variable};
+use hol_types::{Name, Ty};
+use std::alloc::{AllocError, Global};
+
+/// The type variable `A`.
+pub(crate) fn element_type(alloc: Global) -> Result<Ty, AllocError>
+    ensures { IfOk result (λ ty. ty ≡ var_a) }
+{
+    let name = Name::new(alloc, "A")?;
+    Ty::var(alloc, &name)
+}
+
+// `x:A`.
+fn element(alloc: Global) -> Result<Variable, AllocError>
+    ensures { IfOk result (λ v. v ≡ element (codes "x")) }
+{
+    let ty = element_type(alloc)?;
+    variable(alloc, "x", &ty)
+}
+
+// `A->bool`.
+fn property_type(alloc: Global) -> Result<Ty, AllocError>
+    ensures { IfOk result (λ ty. ty ≡ property_type var_a) }
+{
+    let ty = element_type(alloc)?;
+    let truth = bool_type(alloc)?;
+    Ty::fun(alloc, &ty, &truth)
+}
+
+// `P:A->bool`.
+fn property(alloc: Global) -> Result<Variable, AllocError>
+    ensures { IfOk result (λ v. v ≡ property) }
+{
+    let ty = property_type(alloc)?;
+    variable(alloc, "P", &ty)
+}
+
+// `x:A`, as a term.
+fn element_term(alloc: Global) -> Result<Term, AllocError>
+    ensures is { IfOk result (λ t. t ≡ var (element (codes "x"))) }
+    ensures typed { IfOk result (λ t. named_type t ≡ Some var_a) }
+{
+    let x = element(alloc)?;
+    occurrence(alloc, &x)
+}
+
+/// `P:A->bool`, as a term.
+pub(crate) fn property_term(alloc: Global) -> Result<Term, AllocError>
+    ensures is { IfOk result (λ t. t ≡ var property) }
+    ensures typed { IfOk result (λ t. named_type t ≡ Some (property_type var_a)) }
+{
+    let p = property(alloc)?;
+    occurrence(alloc, &p)
+}
+
+// `P x`.
+fn of_element(alloc: Global) -> Result<Term, AllocError>
+    ensures is { IfOk result (λ t. t ≡ of_element (codes "x")) }
+    ensures typed { IfOk result (λ t. named_type t ≡ Some bool_type) }
+{
+    let p = property_term(alloc)?;
+    let x = element_term(alloc)?;
+    Term::application(alloc, &p, &x)
+}
+
+// `P x ==> q`.
+fn implies_letter(alloc: Global) -> Result<Term, AllocError>
+    ensures is { IfOk result (λ t. t ≡ mk_imp (of_element (codes "x")) (var (boolean (codes "q")))) }
+    ensures typed { IfOk result (λ t. named_type t ≡ Some bool_type) }
+{
+    let holds = of_element(alloc)?;
+    let q = letter(alloc, "q")?;
+    mk_imp(alloc, &holds, &q)
+}
+
+// `!x. P x ==> q`.
+fn all_imply(alloc: Global) -> Result<Term, AllocError>
+    ensures { IfOk result (λ t. t ≡ mk_forall (element (codes "x")) (mk_imp (of_element (codes "x")) (var (boolean (codes "q"))))) }
+{
+    let body = implies_letter(alloc)?;
+    let x = element(alloc)?;
+    mk_forall(alloc, &x, &body)
+}
+
+// `!x. P x ==> q` under the hypothesis `!x. P x ==> q`.
+fn assumed_rule(alloc: Global, basis: &Basis) -> Result<Thm, AllocError>
+    ensures { IfOk result (λ th. th ≡ theorem_on basis.now (sequent_of (only_hyp all_witnesses) all_witnesses)) }
+{
+    let all = all_imply(alloc)?;
+    assume(alloc, basis, &all)
+}
+
+// From `!x. P x ==> q`, `P x ==> q`.
+fn rule_at(alloc: Global, basis: &Basis) -> Result<Thm, AllocError>
+    ensures { IfOk result (λ th. th ≡ theorem_on basis.now (sequent_of (only_hyp all_witnesses) (implication of_witness (letter (codes "q"))))) }
+{
+    let rule = assumed_rule(alloc, basis)?;
+    let x = element_term(alloc)?;
+    spec(alloc, &x, &rule)
+}
+
+// `P x` under the hypothesis `P x`.
+fn assumed_witness(alloc: Global, basis: &Basis) -> Result<Thm, AllocError>
+    ensures { IfOk result (λ th. th ≡ theorem_on basis.now (sequent_of (only_hyp of_witness) of_witness)) }
+{
+    let witness = of_element(alloc)?;
+    assume(alloc, basis, &witness)
+}
+
+// From `!x. P x ==> q` and `P x`, `q`.
+fn reached(alloc: Global, basis: &Basis) -> Result<Thm, AllocError>
+    ensures { IfOk result (λ th. th ≡ theorem_on basis.now followed) }
+{
+    let rule = rule_at(alloc, basis)?;
+    let holds = assumed_witness(alloc, basis)?;
+    mp(alloc, &rule, &holds)
+}
+
+// From `P x`, `(!x. P x ==> q) ==> q`.
+fn reached_from_rule(alloc: Global, basis: &Basis) -> Result<Thm, AllocError>
+    ensures { IfOk result (λ th. th ≡ theorem_on basis.now (sequent_of (only_hyp of_witness) (implication all_witnesses (letter (codes "q"))))) }
+{
+    let holds = reached(alloc, basis)?;
+    let all = all_imply(alloc)?;
+    disch(alloc, &all, &holds)
+}
+
+// From `P x`, `!q. (!x. P x ==> q) ==> q`.
+fn implied(alloc: Global, basis: &Basis) -> Result<Thm, AllocError>
+    ensures { IfOk result (λ th. th ≡ theorem_on basis.now (sequent_of (only_hyp of_witness) (universal (implied_by_all var_a predicate)))) }
+{
+    let implies = reached_from_rule(alloc, basis)?;
+    for_every(alloc, "q", &implies)
+}
+
+// What the definition of `?` says of `P`.
+fn exists_at_property(alloc: Global, basis: &Basis) -> Result<Thm, AllocError>
+    ensures { IfOk result (λ th. th ≡ theorem_on basis.now (exists_unfolded var_a predicate)) }
+{
+    let ty = element_type(alloc)?;
+    let p = property_term(alloc)?;
+    exists_at(alloc, basis, &ty, &p)
+}
+
+// From what the definition of `?` says of `P`, `(?) P`.
+fn folded(alloc: Global, a: &Thm) -> Result<Thm, AllocError>
+    requires is { a.now.sequent.concl ≡ universal (implied_by_all var_a predicate) }
+    ensures { IfOk result (λ th. th ≡ theorem_on a.now.basis (sequent_of a.now.sequent.hyps (exists_in var_a predicate))) }
+{
+    let own = exists_at_property(alloc, a.basis())?;
+    eq_mp_sym(alloc, &own, a)
+}
+
+// `(?) P` under the hypothesis `P x`.
+fn from_witness(alloc: Global, basis: &Basis) -> Result<Thm, AllocError>
+    ensures { IfOk result (λ th. th ≡ theorem_on basis.now (sequent_of (only_hyp of_witness) (exists_in var_a predicate))) }
+{
+    let every = implied(alloc, basis)?;
+    folded(alloc, &every)
+}
+
+// `P x ==> (?) P`.
+fn witness_implies(alloc: Global, basis: &Basis) -> Result<Thm, AllocError>
+    ensures { IfOk result (λ th. th ≡ theorem_on basis.now (sequent_of no_hyps (implication of_witness (exists_in var_a predicate)))) }
+{
+    let holds = from_witness(alloc, basis)?;
+    let witness = of_element(alloc)?;
+    disch(alloc, &witness, &holds)
+}
+
+// `!x. P x ==> (?) P`.
+fn each_witness(alloc: Global, basis: &Basis) -> Result<Thm, AllocError>
+    ensures { IfOk result (λ th. th ≡ theorem_on basis.now (generalized (element (codes "x")) (sequent_of no_hyps (implication of_witness (exists_in var_a predicate))))) }
+{
+    let implies = witness_implies(alloc, basis)?;
+    let x = element(alloc)?;
+    generalize(alloc, &x, &implies)
+}
+
+// `!P x. P x ==> (?) P`, at the type.
+fn witnessed(alloc: Global, basis: &Basis, ty: &Ty) -> Result<Thm, AllocError>
+    requires { is_type basis.now ty.now ≡ true }
+    ensures { IfOk result (λ th. th ≡ theorem_on basis.now (sequent_of no_hyps (witnessed ty.now))) }
+{
+    let inner = each_witness(alloc, basis)?;
+    let p = property(alloc)?;
+    let general = generalize(alloc, &p, &inner)?;
+    inst_type(alloc, ty, "A", &general)
+}
+
+/// `f t ==> (?) f`.
+pub(crate) fn witness_rule(
+    alloc: Global,
+    basis: &Basis,
+    ty: &Ty,
+    f: &Term,
+    t: &Term,
+) -> Result<Thm, AllocError>
+    requires stands { is_type basis.now ty.now ≡ true }
+    requires function { HasType basis.now (nameless [] f.now) (fun_type ty.now bool_type) }
+    requires argument { HasType basis.now (nameless [] t.now) ty.now }
+    ensures { IfOk result (λ th. th ≡ theorem_on basis.now (sequent_of no_hyps (implication (app (nameless [] f.now) (nameless [] t.now)) (exists_in ty.now (nameless [] f.now))))) }
+{
+    let general = witnessed(alloc, basis, ty)?;
+    let at = spec(alloc, f, &general)?;
+    spec(alloc, t, &at)
+}
