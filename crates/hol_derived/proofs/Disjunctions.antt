@@ -7,7 +7,7 @@ use mathlib.Core.Bool.{true≢false}
 use Rattle.hol_types.specs.Tree.{TypeTree}
 use Rattle.hol_types.specs.Fun.{fun_type}
 use Rattle.hol_terms.specs.Named.{Named, var}
-use Rattle.hol_terms.specs.Nameless.{Nameless, nameless, free, bound, fixed, app, lam, free_occurrences}
+use Rattle.hol_terms.specs.Nameless.{Nameless, nameless, bound, fixed, app, lam, free_occurrences}
 use Rattle.hol_terms.specs.Alpha.{strip}
 use Rattle.hol_terms.specs.Scoped.{binds}
 use Rattle.hol_subst.specs.AlphaOrder.{nameless_cmp}

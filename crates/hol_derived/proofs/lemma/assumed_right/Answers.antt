@@ -1,6 +1,5 @@
 use Rattle.std.proofs.Common.{◌≡◌, ap, sym, ◌∙◌, subst, [], Some, refl}
 use Rattle.std.specs.Prelude.{None}
-use Rattle.std.specs.FinSet as set
 use Rattle.hol_terms.specs.Nameless.{Nameless, nameless}
 use Rattle.hol_formulas.specs.Equation.{equation, bool_type, dest_eq}
 use Rattle.hol_formulas.specs.Formula.{equivalence}

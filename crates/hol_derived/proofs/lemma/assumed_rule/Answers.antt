@@ -1,5 +1,4 @@
 use Rattle.std.proofs.Common.{◌≡◌, ap, [], refl, codes}
-use Rattle.std.specs.FinSet as set
 use Rattle.hol_terms.specs.Nameless.{Nameless, nameless}
 use Rattle.hol_formulas.specs.Formula.{implication}
 use Rattle.hol_kernel.specs.Sequent.{only_hyp, sequent_of}

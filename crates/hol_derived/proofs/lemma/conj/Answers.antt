@@ -1,5 +1,4 @@
-use Rattle.std.proofs.Common.{sym, codes}
-use Rattle.std.specs.FinSet as set
+use Rattle.std.proofs.Common.{codes}
 use Rattle.hol_formulas.specs.Equation.{bool_type}
 use Rattle.hol_formulas.specs.Formula.{conjunction}
 use Rattle.hol_kernel.specs.Sequent.{only_hyp}

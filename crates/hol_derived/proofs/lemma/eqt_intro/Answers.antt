@@ -1,5 +1,4 @@
 use Rattle.std.proofs.Common.{◌≡◌, ap, ◌∙◌, [], refl, codes}
-use Rattle.std.specs.FinSet as set
 use Rattle.hol_terms.specs.Nameless.{nameless}
 use Rattle.hol_formulas.specs.Formula.{truth, equivalence}
 use Rattle.hol_kernel.specs.Sequent.{sequent_of, Hyps}

@@ -1,5 +1,4 @@
 use Rattle.std.proofs.Common.{ap, sym, ◌∙◌, codes}
-use Rattle.std.specs.FinSet as set
 use Rattle.hol_formulas.specs.Formula.{implication, equivalence}
 use Rattle.hol_kernel.specs.Sequent.{sequent_of, Hyps}
 use Rattle.hol_kernel.specs.Theorem.{Theorem, theorem_on}

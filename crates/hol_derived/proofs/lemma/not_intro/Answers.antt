@@ -1,5 +1,4 @@
 use Rattle.std.proofs.Common.{◌≡◌, ap, ◌∙◌, [], refl, codes}
-use Rattle.std.specs.FinSet as set
 use Rattle.hol_terms.specs.Nameless.{nameless}
 use Rattle.hol_kernel.specs.Sequent.{only_hyp, sequent_of}
 use Rattle.hol_kernel.specs.Theorem.{Theorem, theorem_on}

@@ -1,6 +1,5 @@
 use Rattle.std.proofs.Common.{◌≡◌, ap, ◌∙◌, [], ◌∷◌, Some, codes}
 use Rattle.std.specs.Prelude.{List}
-use Rattle.std.specs.FinSet as set
 use Rattle.hol_terms.specs.Nameless.{nameless}
 use Rattle.hol_terms.specs.Named.{Named, var}
 use Rattle.hol_formulas.specs.Prelude.{boolean}

@@ -1,14 +1,12 @@
 use Rattle.std.proofs.Common.{◌≡◌, ap, ◌∙◌, [], refl}
-use Rattle.std.specs.FinSet as set
 use Rattle.hol_terms.specs.Nameless.{nameless}
 use Rattle.hol_formulas.specs.Equation.{bool_type}
 use Rattle.hol_formulas.specs.Formula.{conjunction, equivalence}
 use Rattle.hol_kernel.specs.Sequent.{only_hyp, sequent_of, Hyps}
-use Rattle.hol_kernel.specs.Theorem.{Theorem, theorem_on, over}
+use Rattle.hol_kernel.specs.Theorem.{Theorem, theorem_on}
 use Rattle.hol_equal.proofs.Outcomes.{became}
 use Rattle.hol_equal.specs.Applied as made
-use Rattle.hol_derived.specs.Lemmas.{conclusion}
-use Rattle.hol_derived.proofs.Chains.{one_basis, eq_mp_fits, followed}
+use Rattle.hol_derived.proofs.Chains.{eq_mp_fits, followed}
 use Rattle.hol_derived.proofs.Instances.{typed_at}
 use Rattle.hol_derived.proofs.LemmaHypotheses.{swapped}
 use Rattle.hol_derived.specs.Rules.{conj_of}

@@ -1,5 +1,4 @@
 use Rattle.std.proofs.Common.{◌≡◌, ap, sym, ◌∙◌, subst, [], Some, refl, codes}
-use Rattle.std.specs.FinSet as set
 use Rattle.hol_terms.specs.Nameless.{Nameless, nameless}
 use Rattle.hol_formulas.specs.Equation.{bool_type}
 use Rattle.hol_formulas.specs.Formula.{conjunction, connective_type, dest_conj}
@@ -7,9 +6,6 @@ use Rattle.hol_kernel.specs.Sequent.{only_hyp, sequent_of}
 use Rattle.hol_kernel.specs.Theorem.{theorem_on, over}
 use Rattle.hol_kernel.specs.Typing.{HasType}
 use Rattle.hol_formulas.proofs.FormulaLaws.{dest_binary_is}
-use Rattle.hol_equal.specs.Applied as made
-use Rattle.hol_derived.specs.Lemmas.{conclusion}
-use Rattle.hol_derived.proofs.Chains.{one_basis}
 use Rattle.hol_derived.proofs.Connected.{operands_typed}
 use Rattle.hol_derived.proofs.Instances.{typed_at, refuted, gives_by}
 use Rattle.std.specs.Option.{option_map}

@@ -1,12 +1,9 @@
 use Rattle.std.proofs.Common.{◌≡◌, ap, sym, [], refl, true}
-use Rattle.std.specs.FinSet as set
 use Rattle.hol_terms.specs.Nameless.{nameless}
 use Rattle.hol_formulas.specs.Equation.{bool_type}
 use Rattle.hol_kernel.specs.Sequent.{only_hyp, sequent_of}
 use Rattle.hol_kernel.specs.Theorem.{theorem_on, over}
 use Rattle.hol_kernel.specs.Typing.{HasType}
-use Rattle.hol_equal.specs.Applied as made
-use Rattle.hol_derived.proofs.Chains.{one_basis}
 use Rattle.hol_derived.proofs.Instances.{typed_at, holds, gives_by}
 use Rattle.hol_formulas.specs.Formula.{is_falsity}
 use Rattle.hol_kernel.specs.Typing.{has_type}

@@ -1,13 +1,9 @@
 use Rattle.std.proofs.Common.{◌≡◌, ap, sym, ◌∙◌, [], refl, true}
-use Rattle.std.specs.FinSet as set
 use Rattle.hol_terms.specs.Nameless.{nameless}
 use Rattle.hol_formulas.specs.Equation.{bool_type}
 use Rattle.hol_formulas.specs.Formula.{conjunction, implication, equivalence}
 use Rattle.hol_kernel.specs.Sequent.{only_hyp, sequent_of}
 use Rattle.hol_kernel.specs.Theorem.{Theorem, theorem_on, over}
-use Rattle.hol_equal.specs.Applied as made
-use Rattle.hol_derived.specs.Lemmas.{conclusion}
-use Rattle.hol_derived.proofs.Chains.{one_basis}
 use Rattle.hol_derived.proofs.Instances.{typed_at, holds, gives_by}
 use Rattle.hol_kernel.specs.Typing.{has_type}
 use Rattle.hol_kernel.proofs.Declared.{has_type_is}

@@ -1,8 +1,7 @@
 use Rattle.std.proofs.Common.{◌≡◌, ap, sym, ◌∙◌, []}
-use Rattle.std.specs.FinSet as set
 use Rattle.hol_terms.specs.Nameless.{nameless}
 use Rattle.hol_kernel.specs.Sequent.{sequent_of, Hyps}
-use Rattle.hol_kernel.specs.Theorem.{Theorem, theorem_on, over}
+use Rattle.hol_kernel.specs.Theorem.{Theorem, theorem_on}
 use Rattle.hol_equal.proofs.Outcomes.{became}
 use Rattle.hol_equal.specs.Rules.{prove_hyp_of}
 use Rattle.hol_derived.specs.Lemmas.{hypothesis, conclusion, lemma_at}

@@ -1,6 +1,5 @@
 use Rattle.std.proofs.Common.{◌≡◌, ap, sym, ◌∙◌, subst, [], Some, codes}
 use Rattle.std.specs.Prelude.{None}
-use Rattle.std.specs.FinSet as set
 use Rattle.hol_types.specs.Fun.{fun_type}
 use Rattle.hol_terms.specs.Nameless.{Nameless, nameless, fixed, app}
 use Rattle.hol_formulas.specs.Equation.{equation, bool_type, dest_eq}

@@ -1,5 +1,4 @@
 use Rattle.std.proofs.Common.{◌∙◌, refl, codes}
-use Rattle.std.specs.FinSet as set
 use Rattle.hol_terms.specs.Nameless.{fixed, app}
 use Rattle.hol_formulas.specs.Formula.{quantifier_type}
 use Rattle.hol_kernel.specs.Sequent.{sequent_of}

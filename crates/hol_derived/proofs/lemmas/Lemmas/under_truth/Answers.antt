@@ -1,11 +1,10 @@
 use Rattle.std.proofs.Common.{◌≡◌, ap, ◌∙◌, []}
-use Rattle.std.specs.FinSet as set
 use Rattle.hol_types.specs.Fun.{fun_type}
 use Rattle.hol_terms.specs.Nameless.{nameless}
 use Rattle.hol_formulas.specs.Equation.{equation, bool_type}
 use Rattle.hol_formulas.specs.Formula.{truth, equivalence}
 use Rattle.hol_kernel.specs.Sequent.{only_hyp, sequent_of}
-use Rattle.hol_kernel.specs.Theorem.{theorem_on, over}
+use Rattle.hol_kernel.specs.Theorem.{theorem_on}
 use Rattle.hol_equal.proofs.Outcomes.{became}
 use Rattle.hol_subst.specs.Closing.{bind}
 use Rattle.hol_equal.proofs.Applies.{abs_yes}

@@ -9,8 +9,7 @@ use Rattle.hol_kernel.specs.Theorem.{Theorem, theorem_on, over}
 use Rattle.hol_kernel.specs.Typing.{HasType}
 use Rattle.hol_formulas.proofs.FormulaLaws.{dest_binary_is}
 use Rattle.hol_equal.specs.Applied as made
-use Rattle.hol_derived.specs.Lemmas.{conclusion}
-use Rattle.hol_derived.proofs.Chains.{one_basis, eq_mp_fits, followed}
+use Rattle.hol_derived.proofs.Chains.{eq_mp_fits, followed}
 use Rattle.hol_derived.proofs.Connected.{operands_typed}
 use Rattle.hol_derived.proofs.Instances.{typed_at, refuted, gives_by}
 use Rattle.hol_derived.proofs.LemmaHypotheses.{swapped}

@@ -5,8 +5,6 @@ use Rattle.hol_formulas.specs.Formula.{conjunction}
 use Rattle.hol_kernel.specs.Sequent.{only_hyp, sequent_of}
 use Rattle.hol_kernel.specs.Theorem.{Theorem, theorem_on}
 use Rattle.hol_equal.proofs.Outcomes.{became}
-use Rattle.hol_equal.specs.Applied as made
-use Rattle.hol_derived.proofs.Chains.{one_basis}
 use Rattle.hol_derived.specs.Rules.{conj_of}
 use Rattle.hol_derived.proofs.lemmas.Lemmas.with_assumed.Goals as goal
 

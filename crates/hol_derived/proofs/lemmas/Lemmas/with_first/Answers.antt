@@ -4,10 +4,8 @@ use Rattle.hol_terms.specs.Nameless.{nameless}
 use Rattle.hol_terms.specs.Alpha.{strip}
 use Rattle.hol_formulas.specs.Formula.{conjunction, equivalence}
 use Rattle.hol_kernel.specs.Sequent.{only_hyp, sequent_of, Hyps}
-use Rattle.hol_kernel.specs.Theorem.{theorem_on, over}
+use Rattle.hol_kernel.specs.Theorem.{theorem_on}
 use Rattle.hol_equal.proofs.Outcomes.{became}
-use Rattle.hol_equal.specs.Applied as made
-use Rattle.hol_derived.specs.Lemmas.{conclusion}
 use Rattle.hol_derived.proofs.Chains.{one_basis}
 use Rattle.hol_derived.proofs.Instances.{typed_at}
 use Rattle.hol_kernel.specs.Rules.{deduct_antisym_of}
