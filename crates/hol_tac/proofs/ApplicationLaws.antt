@@ -1,57 +1,25 @@
--- Equations of applications.
-use Rattle.std.specs.Prelude.{◌≡◌, List, [], ◌∷◌, Some, None}
-use Rattle.std.specs.Option.{option_map, option_and_then}
+-- What is left of equations of applications, and that it is justified.
+use Rattle.std.specs.Prelude.{◌≡◌, List, [], ◌∷◌, Some}
+use Rattle.std.specs.Option.{option_map}
 use Rattle.std.proofs.Common.{ap, sym, ◌∙◌, subst}
 use Rattle.hol_kernel.proofs.Stands.{some_is}
 use Rattle.hol_types.specs.Tree.{TypeTree}
 use Rattle.hol_types.specs.Fun.{fun_type}
-use Rattle.hol_terms.specs.Named.{Named, comb, named_type}
+use Rattle.hol_terms.specs.Named.{Named, named_type}
 use Rattle.hol_terms.specs.Nameless.{Nameless, nameless, nameless_type}
 use Rattle.hol_terms.specs.Alpha.{strip}
 use Rattle.hol_terms.proofs.Typing.{type_outside}
-use Rattle.hol_formulas.specs.Equation.{Sides, dest_comb, dest_eq, equation}
+use Rattle.hol_formulas.specs.Equation.{equation}
 use Rattle.hol_formulas.proofs.TakingApart.{applied_parts}
 use Rattle.hol_kernel.specs.Sequent.{Hyps}
-use Rattle.hol_kernel.proofs.Sound.{strip_type, sides_is}
+use Rattle.hol_kernel.proofs.Sound.{strip_type}
 use Rattle.hol_goal.specs.Goal.{GoalValue}
 use Rattle.hol_just.specs.Valid.{IsValid}
-use Rattle.hol_just.specs.EquationTacs.{equating, only, both, of_applications}
+use Rattle.hol_just.specs.EquationTacs.{equating, only, both}
 use Rattle.hol_just.specs.Leaving.{concluding}
 use Rattle.hol_just.specs.Justifies.{goal_at, always, SplitsApplications, LeavesArguments, LeavesFunctions}
 use Rattle.hol_just.specs.declared.reason.Move.{Move}
-use Rattle.hol_tac.specs.Applications.{OnApplications, HasNoApplications, AreApplications}
-
--- ---- taken apart
-
-module _ (goal : GoalValue) (w : Nameless) (same : w ≡ goal.conclusion) where
-  pub no_equation : dest_eq w ≡ None → HasNoApplications goal
-  no_equation e on = ap (option_and_then (λ s. option_and_then (λ p. option_and_then (on p) (dest_comb s.right)) (dest_comb s.left))) (ap dest_eq (sym same) ∙ e)
-
-  module _ (x : Sides) (is : dest_eq w ≡ Some x) where
-    taken : (on : OnApplications) → of_applications on goal ≡ option_and_then (λ p. option_and_then (on p) (dest_comb x.right)) (dest_comb x.left)
-    taken on = ap (option_and_then (λ s. option_and_then (λ p. option_and_then (on p) (dest_comb s.right)) (dest_comb s.left))) (ap dest_eq (sym same) ∙ is)
-
-    pub no_left : dest_comb x.left ≡ None → HasNoApplications goal
-    no_left e on = taken on ∙ ap (option_and_then (λ p. option_and_then (on p) (dest_comb x.right))) e
-
-    pub no_right : (p : Nameless × Nameless) → dest_comb x.left ≡ Some p → dest_comb x.right ≡ None → HasNoApplications goal
-    no_right p e f on = taken on ∙ ap (option_and_then (λ q. option_and_then (on q) (dest_comb x.right))) e ∙ ap (option_and_then (on p)) f
-
-    pub both_sides :
-        (l r f a g b : Named) → x.left ≡ nameless [] l → x.right ≡ nameless [] r → l ≡ comb f a → r ≡ comb g b → named_type l ≡ Some x.sides_type → named_type r ≡ Some x.sides_type →
-        AreApplications goal f a g b
-    both_sides l r f a g b left right lefts rights l_typed r_typed =
-        let p : x.left ≡ nameless [] (comb f a) = left ∙ ap (nameless []) lefts in
-        let q : x.right ≡ nameless [] (comb g b) = right ∙ ap (nameless []) rights in
-        record {
-          range = x.sides_type;
-          is = sym same ∙ sides_is w x is ∙ (λ i. equation x.sides_type (p i) (q i));
-          left = ap named_type (sym lefts) ∙ l_typed;
-          right = ap named_type (sym rights) ∙ r_typed;
-          meaning = λ on.
-              taken on
-              ∙ (λ i. option_and_then (λ s. option_and_then (on s) (dest_comb (q i))) (dest_comb (p i)));
-        }
+use Rattle.hol_steps.specs.Applications.{AreApplications}
 
 -- ---- types
 

@@ -1,5 +1,5 @@
 -- Steps are justified by the validity of their moves, for each kind of arguments.
-use Rattle.std.specs.Prelude.{◌≡◌, true, List, [], ◌∷◌, Result, Ok, Err, IfOk}
+use Rattle.std.specs.Prelude.{◌≡◌, true, List, [], ◌∷◌}
 use Rattle.std.specs.FinSet as set
 use Rattle.std.proofs.Common.{sym, subst}
 use Rattle.hol_terms.specs.Named.{Named}
@@ -85,8 +85,3 @@ module _ (goal : GoalValue) (step : Step) (moves : List Move) (left : List GoalV
       (subst (λ (hs : Hyps). IsValid (holds_term (nameless [] t)) hs step.just (goal ∷ []) step.goals.items) (none_left extra over.among)
       (subst (λ (ms : List Move). IsValid (holds_term (nameless [] t)) no_hyps ms (goal ∷ []) step.goals.items) (sym kept)
       (subst (λ (gs : List GoalValue). IsValid (holds_term (nameless [] t)) no_hyps moves (goal ∷ []) gs) (sym leaves) valid))))
-
--- what is true of the moves that a step was made of is true of its own
-pub step_keeps : {E : Type 0} (r : Result Step E) (P : List Move → Type 0) (moves : List Move) → P moves → IfOk r (λ step. step.just ≡ moves) → IfOk r (λ step. P step.just)
-step_keeps (Ok step) P moves p h = subst P (sym h) p
-step_keeps (Err e) P moves p h = h

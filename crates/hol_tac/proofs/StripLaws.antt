@@ -36,11 +36,11 @@ use Rattle.hol_just.specs.declared.tried.Tried.{Tried}
 use Rattle.hol_just.specs.declared.tried.TacFault.{TacFault}
 use Rattle.hol_just.specs.declared.tried.TacFault.TheVariants.{Refused, TurnLimit, TooLarge, Memory}
 use Rattle.hol_just.proofs.QuantifierRules.{allowed_fresh}
-use Rattle.hol_tac.specs.Fresh.{AreAlike, AreApart}
-use Rattle.hol_tac.specs.Parts.{with_pieces}
-use Rattle.hol_tac.specs.Stripping.{IsStripped, KeepsValid}
+use Rattle.hol_steps.specs.Fresh.{AreAlike, AreApart}
+use Rattle.hol_steps.specs.Parts.{with_pieces}
+use Rattle.hol_steps.specs.Stripping.{IsStripped, KeepsValid}
 use Rattle.hol_tac.proofs.Justified.{by_nothing}
-use Rattle.hol_tac.proofs.TermsBy.{collected, taken_in_hyps}
+use Rattle.hol_steps.proofs.TermsBy.{collected, taken_in_hyps}
 
 -- ---- the answer
 

@@ -11,17 +11,11 @@ mod connectives;
 mod converting;
 mod equations;
 mod matching;
-mod opening;
-mod pieces;
-mod progress;
 mod quantifiers;
-mod replacing;
 mod rewriting;
-mod steps;
 mod stripping;
 mod substituting;
 mod trivial;
-mod waiting;
 
 pub use applications::{ap_term_tac, ap_thm_tac, mk_comb_tac};
 pub use assumptions::undisch_tac;

@@ -7,15 +7,15 @@ ghost use Rattle.hol_goal.specs.Formulas.{AreFormulas};
 ghost use Rattle.hol_goal.specs.declared.tac_code.TacCode.TheVariants as code;
 ghost use Rattle.hol_just.specs.ConversionTacs.{basic, rewritten_by, rewritten_once_by, converted};
 ghost use Rattle.hol_just.specs.Answering.{IsAnswered, AnswersCode, IsJustified};
-ghost use Rattle.hol_tac.specs.Converting.{LeadsBy};
+ghost use Rattle.hol_steps.specs.Converting.{LeadsBy};
 
-use crate::converting::converted;
 use hol_conv::{once, rewrite};
 use hol_goal::{Goal, TacArgs};
 use hol_just::{TacFault, Tried, assumption};
 use hol_kernel::{Given, Thm};
 use hol_match::RuleSet;
 use hol_prelude::Prelude;
+use hol_steps::converted;
 use hol_terms::Term;
 use hol_types::Name;
 use std::alloc::{AllocError, Global};

@@ -1,7 +1,7 @@
 //! The functions that strip.
-ghost use Rattle.std.specs.Prelude.{◌≡◌, ◌∷◌, List, map, IfOk, Some, []};
+ghost use Rattle.std.specs.Prelude.{◌≡◌, ◌∷◌, map, IfOk, Some, []};
 ghost use Rattle.hol_terms.specs.Named.{named_type};
-ghost use Rattle.hol_terms.specs.Nameless.{Nameless, nameless};
+ghost use Rattle.hol_terms.specs.Nameless.{nameless};
 ghost use Rattle.hol_formulas.specs.Equation.{bool_type};
 ghost use Rattle.hol_formulas.specs.Formula.{falsity, dest_imp, dest_neg};
 ghost use Rattle.hol_kernel.specs.Given.{given_sequent};
@@ -11,19 +11,16 @@ ghost use Rattle.hol_goal.specs.declared.tac_code.TacCode.TheVariants as code;
 ghost use Rattle.hol_just.specs.Leaving.{concluding, theorem_terms};
 ghost use Rattle.hol_just.specs.Strip.{waiting, strip};
 ghost use Rattle.hol_just.specs.Answering.{AnswersCode, IsJustified};
-ghost use Rattle.hol_tac.specs.Fresh.{AreAlike};
-ghost use Rattle.hol_tac.specs.Progress.{progress_value, with_next, Goes};
-ghost use Rattle.hol_tac.specs.Stripping.{IsStripped, KeepsValid};
+ghost use Rattle.hol_steps.specs.Fresh.{AreAlike};
+ghost use Rattle.hol_steps.specs.Stripping.{IsStripped};
 
 use crate::connectives::conj_tac;
-use crate::pieces::becomes;
-use crate::progress::Progress;
 use crate::quantifiers::gen_tac;
-use crate::waiting::Waiting;
 use hol_formulas::{dest_imp, dest_neg, is_conj, is_forall, mk_falsity};
 use hol_goal::{Goal, TacArgs};
 use hol_just::{Just, TacFault, Tried};
 use hol_kernel::Given;
+use hol_steps::{Waiting, strip};
 use hol_terms::{Term, add_copies};
 use std::alloc::{AllocError, Global};
 
@@ -112,45 +109,4 @@ fn strip_neg(alloc: Global, goal: &Goal, p: &Term, turns: u32) -> Result<Tried, 
     let left = goal.with_conclusion(alloc, &mk_falsity(alloc)?)?;
     let first = Waiting::one(alloc, p, left)?;
     strip(alloc, &[], before, first, turns)
-}
-
-// Strips the pieces, one after the other, to which the moves led. Names of new variables are those of none of the others.
-fn strip(
-    alloc: Global,
-    others: &[Term],
-    before: Just,
-    first: Waiting,
-    turns: u32,
-) -> Result<Tried, TacFault>
-    ensures answer { (names : List Nameless) → AreAlike (map (nameless []) others.now) names → IsStripped (strip names first turns) result }
-    ensures valid { (names : List Nameless) → AreAlike (map (nameless []) others.now) names → IfOk result (λ tried. KeepsValid names before first tried.step) }
-{
-    let mut progress = Progress::new(alloc, before, first, turns)?;
-    'pieces: while let Some(next) = progress.next() {
-        if !go_on(alloc, others, next, &mut progress)? {
-            return Err(TacFault::TurnLimit);
-        }
-    }
-    Ok(progress.end())
-}
-
-// Strips the first piece of what was taken. Whether there was a turn for it.
-fn go_on(
-    alloc: Global,
-    others: &[Term],
-    next: Waiting,
-    progress: &mut Progress,
-) -> Result<bool, AllocError>
-    ensures { IfOk result (λ going. (names : List Nameless) → AreAlike (map (nameless []) others.now) names → Goes names (with_next next (progress_value progress.old)) (progress_value progress.new) going) }
-{
-    let mut next = next;
-    let Some(piece) = next.take() else {
-        progress.finish(next.into_goal())?;
-        return Ok(true);
-    };
-    let Some(parts) = becomes(alloc, others, &piece, next, progress.left())? else {
-        return Ok(false);
-    };
-    progress.again(parts)?;
-    Ok(true)
 }

@@ -4,9 +4,9 @@ ghost use Rattle.hol_goal.specs.ArgumentsView.{args_value};
 ghost use Rattle.hol_goal.specs.declared.tac_code.TacCode.TheVariants as code;
 ghost use Rattle.hol_just.specs.Answering.{AnswersCode, IsJustified};
 
-use crate::steps::leaving_one;
 use hol_goal::{Goal, TacArgs};
 use hol_just::{Just, TacFault, Tried};
+use hol_steps::leaving_one;
 use std::alloc::Global;
 
 /// ALL_TAC leaves the goal as it is.

@@ -6,7 +6,7 @@ use Rattle.hol_just.specs.FreeNames.{free_name}
 use Rattle.hol_just.specs.QuantifierTacs.{terms_by, assuming_of}
 use Rattle.hol_formulas.specs.Formula.{Abstraction}
 use Rattle.hol_tac.proofs.Justified.{by_theorem_among}
-use Rattle.hol_tac.proofs.TermsBy.{chosen_valid}
+use Rattle.hol_tac.proofs.ChoosingLaws.{chosen_valid}
 use Rattle.hol_tac.proofs.choosing.choose_tac.Goals as goal
 
 pub returns-clause-valid : goal.returns-clause-valid

@@ -6,7 +6,7 @@ use Rattle.hol_formulas.specs.Formula.{Abstraction}
 use Rattle.hol_goal.specs.declared.tac_args.TacArgs.TheVariants as args
 use Rattle.hol_just.specs.QuantifierTacs.{assuming_of}
 use Rattle.hol_tac.proofs.Justified.{by_term_and_theorem}
-use Rattle.hol_tac.proofs.TermsBy.{chosen_valid}
+use Rattle.hol_tac.proofs.ChoosingLaws.{chosen_valid}
 use Rattle.hol_tac.proofs.choosing.x_choose_tac.Goals as goal
 
 pub returns-clause-valid : goal.returns-clause-valid

@@ -4,7 +4,7 @@ use Rattle.hol_terms.specs.Nameless.{base_of}
 use Rattle.hol_subst.specs.Closing.{open_with}
 use Rattle.hol_just.specs.Leaving.{concluding}
 use Rattle.hol_tac.proofs.Justified.{by_term}
-use Rattle.hol_tac.proofs.Instances.{exists_valid}
+use Rattle.hol_tac.proofs.QuantifierLaws.{exists_valid}
 use Rattle.hol_tac.proofs.quantifiers.exists_tac.Goals as goal
 
 pub returns-clause-valid : goal.returns-clause-valid

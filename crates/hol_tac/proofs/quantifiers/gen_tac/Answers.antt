@@ -4,7 +4,7 @@ use Rattle.hol_subst.specs.Closing.{open_with}
 use Rattle.hol_just.specs.FreeNames.{free_name}
 use Rattle.hol_just.specs.Leaving.{concluding, goal_terms}
 use Rattle.hol_tac.proofs.Justified.{by_nothing}
-use Rattle.hol_tac.proofs.Instances.{gen_valid}
+use Rattle.hol_tac.proofs.QuantifierLaws.{gen_valid}
 use Rattle.hol_tac.proofs.quantifiers.gen_tac.Goals as goal
 
 pub returns-clause-valid : goal.returns-clause-valid

@@ -6,7 +6,7 @@ use Rattle.hol_subst.specs.Closing.{open_with}
 use Rattle.hol_just.specs.Leaving.{concluding}
 use Rattle.hol_goal.specs.declared.tac_args.TacArgs.TheVariants as args
 use Rattle.hol_tac.proofs.Justified.{by_term}
-use Rattle.hol_tac.proofs.Instances.{x_gen_valid}
+use Rattle.hol_tac.proofs.QuantifierLaws.{x_gen_valid}
 use Rattle.hol_tac.proofs.quantifiers.x_gen_tac.Goals as goal
 
 pub returns-clause-valid : goal.returns-clause-valid

@@ -1,6 +1,6 @@
 use Rattle.std.proofs.Common.{IfOk, ap, subst}
 use Rattle.hol_goal.specs.ArgumentsView.{args_value}
-use Rattle.hol_tac.specs.Converting.{LeadsBy}
+use Rattle.hol_steps.specs.Converting.{LeadsBy}
 use Rattle.hol_tac.proofs.GivenTo.{justified_alone}
 use Rattle.hol_tac.proofs.rewriting.pure_rewrite_tac.Goals as goal
 

@@ -1,7 +1,7 @@
 use Rattle.std.proofs.Common.{◌∙◌, ◌++◌, IfOk, ap, subst}
 use Rattle.hol_goal.specs.ArgumentsView.{args_value}
 use Rattle.hol_just.specs.ConversionTacs.{basic}
-use Rattle.hol_tac.specs.Converting.{LeadsBy}
+use Rattle.hol_steps.specs.Converting.{LeadsBy}
 use Rattle.hol_tac.proofs.GivenTo.{basic_beside, justified_beside}
 use Rattle.hol_tac.proofs.rewriting.rewrite_tac.Goals as goal
 

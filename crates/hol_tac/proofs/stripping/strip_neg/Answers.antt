@@ -7,7 +7,7 @@ use Rattle.hol_just.specs.Leaving.{concluding}
 use Rattle.hol_just.specs.Strip.{WaitingValue, waiting, strip}
 use Rattle.hol_just.specs.Answering.{IsJustified}
 use Rattle.hol_goal.specs.Arguments.{Nothing}
-use Rattle.hol_tac.specs.Stripping.{IsStripped, KeepsValid}
+use Rattle.hol_steps.specs.Stripping.{IsStripped, KeepsValid}
 use Rattle.hol_tac.proofs.Valid.{disch_neg_valid}
 use Rattle.hol_tac.proofs.StripLaws.{each_ok, antecedent_valid}
 use Rattle.hol_tac.proofs.stripping.strip_neg.Goals as goal

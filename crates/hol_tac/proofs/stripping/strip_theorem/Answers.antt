@@ -7,8 +7,8 @@ use Rattle.hol_just.specs.Leaving.{theorem_terms}
 use Rattle.hol_just.specs.Strip.{WaitingValue, waiting, strip}
 use Rattle.hol_just.specs.Answering.{IsJustified}
 use Rattle.hol_goal.specs.Arguments.{Theorem}
-use Rattle.hol_tac.specs.Fresh.{AreAlike}
-use Rattle.hol_tac.specs.Stripping.{IsStripped, KeepsValid}
+use Rattle.hol_steps.specs.Fresh.{AreAlike}
+use Rattle.hol_steps.specs.Stripping.{IsStripped, KeepsValid}
 use Rattle.hol_tac.proofs.StripLaws.{each_ok, theorem_valid}
 use Rattle.hol_tac.proofs.stripping.strip_theorem.Goals as goal
 

@@ -9,7 +9,7 @@ use Rattle.hol_goal.specs.declared.tac_args.TacArgs.TheVariants as args
 use Rattle.hol_just.specs.Leaving.{concluding}
 use Rattle.hol_just.specs.Replacing.{replace_each}
 use Rattle.hol_tac.proofs.Justified.{by_pair}
-use Rattle.hol_tac.proofs.Templates.{may_generalize}
+use Rattle.hol_tac.proofs.Generalizing.{may_generalize}
 use Rattle.hol_tac.proofs.substituting.spec_tac.Goals as goal
 
 pub returns-clause-valid : goal.returns-clause-valid

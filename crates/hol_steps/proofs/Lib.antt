@@ -1,0 +1,17 @@
+pub mod Kept
+pub mod ApplicationLaws
+pub mod Instances
+pub mod AssumptionLaws
+pub mod FreshNames
+pub mod TermsBy
+pub mod Templates
+pub mod PieceLaws
+pub mod ProgressLaws
+pub mod WaitingLaws
+pub mod NewBy
+pub mod UnderWay
+pub mod GivenAmong
+pub mod ConvertedGoals
+pub mod Stages
+pub mod Undetermined
+pub mod MatchMpLaws

@@ -1,0 +1,76 @@
+-- What is stripped goes on: it comes to the same, is lighter, and its moves stay valid.
+use Rattle.std.specs.Prelude.{◌≡◌, ◌<◌, ◌+◌, ℕ, List, [], ◌∷◌, ◌++◌, map, length, reverse, Some, None, refl}
+use Rattle.std.proofs.Common.{ap, sym, ◌∙◌, subst, arith}
+use Rattle.std.proofs.lemmas.List.{append_assoc, append-nil, map-append}
+use Rattle.hol_terms.specs.Nameless.{Nameless}
+use Rattle.hol_match.specs.Rules.{nodes}
+use Rattle.hol_goal.specs.Goal.{GoalValue}
+use Rattle.hol_just.specs.Strip.{piece, WaitingValue, waiting, becomes, Stripped, Leaves, RunsOut, before_goals, and_also, strip_each, strip, all_nodes}
+use Rattle.hol_just.specs.Valid.{IsValid}
+use Rattle.hol_just.specs.Justifies.{always}
+use Rattle.hol_just.specs.declared.reason.Move.{Move}
+use Rattle.hol_just.proofs.Pieces.{weight, all_weights, parts_of, parts_fewer, is_compound, before_none, before_both, next_parts, next_none}
+use Rattle.hol_just.proofs.Validity.{valid_at, valid_under}
+use Rattle.hol_steps.specs.Parts.{with_pieces, AreParts}
+use Rattle.hol_steps.specs.Progress.{ProgressValue, started, with_next, finished, again, comes_to, all_goals, GoesOn}
+use Rattle.hol_steps.specs.declared.pieces.Parts.{Parts}
+
+-- ---- what was taken has no pieces
+
+pub done_goes :
+    (names : List Nameless) (w after : WaitingValue) (p new : ProgressValue) (goal : GoalValue) → w.pieces ≡ [] → after ≡ w → goal ≡ after.goal → new ≡ finished p goal →
+    GoesOn names (with_next w p) new
+done_goes names w after p new goal none kept same is =
+    subst (λ (q : ProgressValue). GoesOn names (with_next w p) q) (sym (is ∙ ap (finished p) (same ∙ ap (λ v. v.goal) kept)))
+    (subst (λ (v : WaitingValue). GoesOn names (with_next v p) (finished p w.goal)) (λ i. waiting (sym none i) w.goal)
+    (record {
+      same = before_both p.done (w.goal ∷ []) (strip_each (strip names) p.waiting p.left);
+      lighter = omega arith;
+      valid = λ suits extra start apart v. subst (λ (gs : List GoalValue). IsValid suits extra p.moves start gs) (sym (append_assoc p.done (w.goal ∷ []) (map with_pieces p.waiting))) v;
+    }))
+
+-- ---- a piece was taken
+
+weights_append : (vs ws : List WaitingValue) → all_weights (vs ++ ws) ≡ all_weights vs + all_weights ws
+weights_append [] ws = omega arith
+weights_append (v ∷ vs) ws = let r = weights_append vs ws in omega (arith, r)
+
+module _ (names : List Nameless) (n : Nameless) (rest w : WaitingValue) (p : ProgressValue) (taken : w ≡ waiting (n ∷ rest.pieces) rest.goal) where
+  pub parts_go : (turns : ℕ) (parts : Parts) (new : ProgressValue) → turns ≡ p.left → AreParts names n rest turns (piece rest.goal n) parts → new ≡ again p (reverse parts.waiting.items) parts.just parts.left → GoesOn names (with_next w p) new
+  parts_go turns parts new of_turns become is =
+      let vs = reverse parts.waiting.items in
+      let here = becomes names n rest.pieces rest.goal (piece rest.goal n) p.left in
+      let now : here ≡ Some (vs, parts.left) = ap (becomes names n rest.pieces rest.goal (piece rest.goal n)) (sym of_turns) ∙ become.is in
+      let fewer : all_weights (parts_of here) < weight (nodes n + all_nodes rest.pieces) = (parts_fewer names n rest.pieces rest.goal p.left (piece rest.goal n) (is_compound n rest.goal)).weights in
+      let all : all_weights (parts_of here) ≡ all_weights vs = ap (λ o. all_weights (parts_of o)) now in
+      let both = weights_append vs p.waiting in
+      subst (λ (q : ProgressValue). GoesOn names (with_next w p) q) (sym is)
+      (subst (λ (v : WaitingValue). GoesOn names (with_next v p) (again p vs parts.just parts.left)) (sym taken)
+      (record {
+        same = ap (before_goals p.done) (sym (next_parts names p.waiting p.left n rest.pieces rest.goal vs parts.left now));
+        lighter = omega (arith, fewer, all, both);
+        valid = λ suits extra start apart v.
+            subst (λ (gs : List GoalValue). IsValid suits extra (again p vs parts.just parts.left).moves start (p.done ++ gs)) (sym (map-append with_pieces vs p.waiting))
+            (valid_at suits extra p.moves parts.just start p.done (with_pieces (waiting (n ∷ rest.pieces) rest.goal) ∷ []) (map with_pieces vs) (map with_pieces p.waiting) (length p.done) refl v
+            (valid_under always suits extra parts.just (with_pieces (waiting (n ∷ rest.pieces) rest.goal) ∷ []) (map with_pieces vs) (λ basis suit. refl) (become.valid extra apart)));
+      }))
+
+  pub none_goes : (turns : ℕ) → turns ≡ p.left → becomes names n rest.pieces rest.goal (piece rest.goal n) turns ≡ None → comes_to names (with_next w p) ≡ RunsOut
+  none_goes turns of_turns is =
+      ap (λ (v : WaitingValue). comes_to names (with_next v p)) taken
+      ∙ ap (before_goals p.done) (next_none names p.waiting p.left n rest.pieces rest.goal (ap (becomes names n rest.pieces rest.goal (piece rest.goal n)) (sym of_turns) ∙ is))
+
+-- ---- the first and the last
+
+also_none : (s : Stripped) → and_also s (λ t. Leaves [] t) ≡ s
+also_none (Leaves goals turns) = λ i. Leaves (append-nil goals i) turns
+also_none RunsOut = refl
+
+pub start_same : (names : List Nameless) (moves : List Move) (w : WaitingValue) (turns : ℕ) (p : ProgressValue) → p ≡ started moves w turns → comes_to names p ≡ strip names w turns
+start_same names moves w turns p is = ap (comes_to names) is ∙ before_none (and_also (strip names w turns) (λ t. Leaves [] t)) ∙ also_none (strip names w turns)
+
+pub end_same : (names : List Nameless) (p : ProgressValue) → p.waiting ≡ [] → comes_to names p ≡ Leaves p.done p.left
+end_same names p none = (λ i. before_goals p.done (strip_each (strip names) (none i) p.left)) ∙ (λ i. Leaves (append-nil p.done i) p.left)
+
+pub end_goals : (p : ProgressValue) → p.waiting ≡ [] → all_goals p ≡ p.done
+end_goals p none = (λ i. p.done ++ map with_pieces (none i)) ∙ append-nil p.done

@@ -1,0 +1,15 @@
+use Rattle.std.proofs.Common.{◌≡◌, [], Some, length}
+use Rattle.hol_terms.specs.Named.{named_type}
+use Rattle.hol_terms.specs.Nameless.{nameless}
+use Rattle.hol_formulas.specs.Equation.{bool_type}
+use Rattle.hol_just.specs.MatchMp.{existentials}
+use Rattle.hol_steps.proofs.matching.existentials.Given as goal
+
+abbrev pub invariant-variables : goal.invariant-variables
+invariant-variables l = record {
+  is : existentials l.left (nameless [] l.whole) ≡ existentials l.variables (nameless [] l.p);
+  typed : named_type l.whole ≡ Some bool_type;
+}
+
+abbrev pub decreases-variables : goal.decreases-variables
+decreases-variables l = length l.left

@@ -1,0 +1,34 @@
+-- What the code says of variables that are new to terms and to pieces that wait. Only its clauses speak of it.
+use Rattle.std.specs.Prelude.{◌≡◌, ℕ, false, List, [], ◌∷◌, ◌++◌}
+use Rattle.std.specs.FinSet as set
+use Rattle.hol_types.specs.Tree.{TypeTree}
+use Rattle.hol_terms.specs.Named.{Named}
+use Rattle.hol_terms.specs.Nameless.{Nameless, nameless, base_of}
+use Rattle.hol_subst.specs.FreeName.{is_taken}
+use Rattle.hol_subst.specs.Variant.{is_free_in}
+use Rattle.hol_formulas.specs.Formula.{Abstraction}
+use Rattle.hol_kernel.specs.Sequent.{Hyps}
+use Rattle.hol_just.specs.FreeNames.{free_name}
+use Rattle.hol_just.specs.Leaving.{goal_terms}
+use Rattle.hol_just.specs.Strip.{WaitingValue}
+
+-- they have the same names
+abbrev pub AreAlike : List Nameless → List Nameless → Type 0
+AreAlike ns ms = (a : List ℕ) → is_taken ns a ≡ is_taken ms a
+
+-- a variable that is not free in the terms is not free in an extra hypothesis
+abbrev pub AreApart : List Nameless → Hyps → Type 0
+AreApart names extra = (v : List ℕ × TypeTree) → is_free_in names v ≡ false → is_free_in (set.items extra) v ≡ false
+
+-- what is said of the variable x
+abbrev pub abstraction_of : List ℕ × TypeTree → Named → Abstraction
+abstraction_of x p = record { base = base_of x.0; domain = x.1; body = nameless (x ∷ []) p }
+
+-- the terms, the pieces p and then those of w, and the goal
+abbrev pub terms_of : List Nameless → Nameless → WaitingValue → List Nameless
+terms_of names p w = names ++ ((p ∷ w.pieces) ++ goal_terms w.goal)
+
+-- v has the type of x, and its base with the fewest primes that make it the name of nothing in them
+pub record IsNewBy (names : List Nameless) (p : Nameless) (w : WaitingValue) (x v : List ℕ × TypeTree) : Type 0 where
+  pub is : v ≡ (free_name (terms_of names p w) (base_of x.0), x.1)
+  pub absent : is_free_in (terms_of names p w) v ≡ false

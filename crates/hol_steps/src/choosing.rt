@@ -1,0 +1,100 @@
+//! Steps that assume what a theorem says to exist.
+ghost use Rattle.std.specs.Prelude.{◌≡◌, ◌∷◌, ℕ, List, false, map, IfOk, Some, []};
+ghost use Rattle.hol_subst.specs.FreeName.{is_taken};
+ghost use Rattle.hol_terms.specs.Named.{named_type};
+ghost use Rattle.hol_terms.specs.Nameless.{free, nameless, base_of};
+ghost use Rattle.hol_subst.specs.Closing.{open_with};
+ghost use Rattle.hol_subst.specs.Variant.{is_free_in};
+ghost use Rattle.hol_formulas.specs.Equation.{bool_type};
+ghost use Rattle.hol_just.specs.FreeNames.{free_name};
+ghost use Rattle.hol_just.specs.Leaving.{assuming};
+ghost use Rattle.hol_just.specs.QuantifierTacs.{terms_by};
+ghost use Rattle.hol_just.specs.Justifies.{LeavesChosen};
+
+use crate::quantifiers::{all_terms, at, is_free_in_goal};
+use crate::steps::{assume, leaving_one};
+use hol_formulas::occurrence;
+use hol_goal::Goal;
+use hol_just::{Just, Step};
+use hol_kernel::Given;
+use hol_subst::{free_name, is_free_in_one};
+use hol_terms::{Term, Variable, add_copies, base_name};
+use hol_types::Name;
+use std::alloc::{AllocError, Global};
+
+/// The step to the goal with the property at a new variable assumed.
+pub fn choose_step(
+    alloc: Global,
+    th: &Given,
+    goal: &Goal,
+    x: &Variable,
+    p: &Term,
+) -> Result<Step, AllocError>
+    requires body { named_type p.now ≡ Some bool_type }
+    ensures goals { IfOk result (λ step. step.goals.items ≡ assuming goal.now (open_with (free (free_name (terms_by th.now goal.now) (base_of x.now.0), x.now.1)) 0 (nameless (x.now ∷ []) p.now)) goal.now.conclusion ∷ []) }
+    ensures just { IfOk result (λ step. LeavesChosen (free_name (terms_by th.now goal.now) (base_of x.now.0), x.now.1) th.now step.just) }
+    ensures absent { IfOk result (λ step. is_free_in (terms_by th.now goal.now) (free_name (terms_by th.now goal.now) (base_of x.now.0), x.now.1) ≡ false) }
+{
+    let v = chosen_variable(alloc, th, goal, x)?;
+    x_choose_step(alloc, th, goal, x, p, &v)
+}
+
+// A variable of the type of `x` whose name is its base with the fewest primes that make it new.
+fn chosen_variable(
+    alloc: Global,
+    th: &Given,
+    goal: &Goal,
+    x: &Variable,
+) -> Result<Variable, AllocError>
+    ensures is { IfOk result (λ v. v ≡ (free_name (terms_by th.now goal.now) (base_of x.now.0), x.now.1)) }
+    ensures absent { IfOk result (λ v. is_free_in (terms_by th.now goal.now) (free_name (terms_by th.now goal.now) (base_of x.now.0), x.now.1) ≡ false) }
+{
+    let avoid = all_terms_by(alloc, th, goal)?;
+    let base = Name::new(alloc, base_name(x.name().as_str()))?;
+    let name = free_name(alloc, avoid.as_slice(), &base)?;
+    Variable::new(&name, x.ty())
+}
+
+/// Copies of all terms of the goal and the theorem.
+pub(crate) fn all_terms_by(alloc: Global, th: &Given, goal: &Goal) -> Result<Vec<Term>, AllocError>
+    ensures { IfOk result (λ terms. (a : List ℕ) → is_taken (map (nameless []) terms.items) a ≡ is_taken (terms_by th.now goal.now) a) }
+{
+    let mut terms = all_terms(alloc, goal)?;
+    terms.push(th.concl().copy()?)?;
+    add_copies(&mut terms, th.hyps())?;
+    Ok(terms)
+}
+
+/// The step to the goal with the property at the variable assumed.
+pub fn x_choose_step(
+    alloc: Global,
+    th: &Given,
+    goal: &Goal,
+    x: &Variable,
+    p: &Term,
+    v: &Variable,
+) -> Result<Step, AllocError>
+    requires same { v.now.1 ≡ x.now.1 }
+    requires body { named_type p.now ≡ Some bool_type }
+    ensures goals { IfOk result (λ step. step.goals.items ≡ assuming goal.now (open_with (free v.now) 0 (nameless (x.now ∷ []) p.now)) goal.now.conclusion ∷ []) }
+    ensures just { IfOk result (λ step. LeavesChosen v.now th.now step.just) }
+{
+    let variable = occurrence(alloc, v)?;
+    let chosen = at(alloc, x, p, &variable)?;
+    let left = assume(alloc, goal, &chosen, goal.conclusion())?;
+    let just = Just::choose_tac(alloc, v, th)?;
+    leaving_one(alloc, left, just)
+}
+
+/// Whether the variable is free in the goal or the theorem.
+pub fn is_free_by(th: &Given, goal: &Goal, v: &Variable) -> bool
+    ensures { result ≡ is_free_in (terms_by th.now goal.now) v.now }
+{
+    if is_free_in_goal(goal, v) {
+        return true;
+    }
+    if th.concl().vfree_in(v) {
+        return true;
+    }
+    is_free_in_one(th.hyps(), v)
+}

@@ -1,0 +1,166 @@
+//! The step that matches the conclusion.
+ghost use Rattle.std.specs.Prelude.{◌≡◌, ◌∷◌, ◌++◌, [], map, IfOk, IfSome, OnOk, MatchOption, Some, None};
+ghost use Rattle.std.specs.Option.{option_map};
+ghost use Rattle.std.specs.FinSet as set;
+ghost use Rattle.hol_terms.specs.Named.{named_type};
+ghost use Rattle.hol_terms.specs.Nameless.{nameless};
+ghost use Rattle.hol_subst.specs.Substitution.{variable_inst};
+ghost use Rattle.hol_formulas.specs.Equation.{bool_type};
+ghost use Rattle.hol_formulas.specs.Formula.{dest_forall};
+ghost use Rattle.hol_kernel.specs.Given.{given_sequent};
+ghost use Rattle.hol_match.specs.Instance.{instantiated};
+ghost use Rattle.hol_match.specs.Fixed.{stays_of};
+ghost use Rattle.hol_match.specs.Matches as matches;
+ghost use Rattle.hol_match.specs.Matching.{matched};
+ghost use Rattle.hol_goal.specs.Arguments.{Theorem};
+ghost use Rattle.hol_just.specs.Leaving.{concluding};
+ghost use Rattle.hol_just.specs.Matching.{bound_variables};
+ghost use Rattle.hol_just.specs.MatchMp.{undetermined, existentials, premise_at, match_mp_tac};
+ghost use Rattle.hol_just.specs.Justifies.{LeavesPremise};
+ghost use Rattle.hol_just.specs.Answering.{IsJustified};
+ghost use Rattle.hol_steps.specs.Matching.{IsFound};
+
+use crate::choosing::all_terms_by;
+use crate::opening::Opened;
+use crate::steps::leaving_one;
+use hol_formulas::{dest_imp, mk_exists, mk_forall};
+use hol_goal::Goal;
+use hol_just::{Just, Step};
+use hol_kernel::Given;
+use hol_match::{Instance, conclusion_typed, term_match};
+use hol_terms::{Term, Variable};
+use std::alloc::{AllocError, Global};
+
+/// The step to the premise at the match, where the theorem is an implication under its outer quantifiers and matches.
+pub fn match_mp_step(alloc: Global, th: &Given, goal: &Goal) -> Result<Option<Step>, AllocError>
+    ensures goals { IfOk result (λ o. match_mp_tac th.now goal.now ≡ option_map (λ step. step.goals.items) o) }
+    ensures valid { IfOk result (λ o. IfSome o (λ step. IsJustified (Theorem th.now) goal.now step)) }
+{
+    conclusion_typed(th);
+    let opened = Opened::of(alloc, all_terms_by(alloc, th, goal)?, th.concl())?;
+    let Some((s, t)) = dest_imp(&opened.body) else {
+        return Ok(None);
+    };
+    let Some(found) = matching_instance(alloc, th, goal, t)? else {
+        return Ok(None);
+    };
+    let step = premise_step(alloc, th, goal, &opened, s, t, &found)?;
+    Ok(Some(step))
+}
+
+// The instance of the term that is the conclusion. What the theorem's hypotheses have stays.
+fn matching_instance(
+    alloc: Global,
+    th: &Given,
+    goal: &Goal,
+    t: &Term,
+) -> Result<Option<Instance>, AllocError>
+    ensures { IfOk result (λ o. MatchOption o (matched 0 (nameless [] t.now) (stays_of (set.items (given_sequent th.now).hyps)) goal.now.conclusion ≡ None) (λ f. IsFound th.now goal.now (nameless [] t.now) f)) }
+{
+    term_match(alloc, th.hyps(), t, goal.conclusion())
+}
+
+// The step to the premise `s` at the instance, for some values of the variables that `t` lacks.
+fn premise_step(
+    alloc: Global,
+    th: &Given,
+    goal: &Goal,
+    opened: &Opened,
+    s: &Term,
+    t: &Term,
+    found: &Instance,
+) -> Result<Step, AllocError>
+    requires premise { named_type s.now ≡ Some bool_type }
+    requires body { named_type opened.now.body ≡ Some bool_type }
+    requires last { dest_forall (nameless [] opened.now.body) ≡ None }
+    requires instance { matches.IsWellTyped found.now }
+    ensures goals { IfOk result (λ step. step.goals.items ≡ concluding goal.now (premise_at opened.now.variables.items (nameless [] s.now, nameless [] t.now) found.now) ∷ []) }
+    ensures just { IfOk result (λ step. LeavesPremise th.now opened.now.variables.items (map (variable_inst found.now.types) (undetermined (nameless [] s.now) (nameless [] t.now) opened.now.variables.items)) (instantiated found.now 0 (nameless [] s.now)) goal.now.conclusion step.just) }
+{
+    let variables = undetermined(alloc, &opened.variables, s, t, found)?;
+    let formula = universals(alloc, &opened.variables, &opened.body)?;
+    let premise = at_instance(alloc, found, s)?;
+    let whole = existentials(alloc, &variables, &premise)?;
+    let left = goal.with_conclusion(alloc, &whole)?;
+    let just = Just::match_mp_tac(alloc, th, &formula, &variables, &premise, goal.conclusion())?;
+    leaving_one(alloc, left, just)
+}
+
+// The formula at the instance.
+fn at_instance(alloc: Global, found: &Instance, s: &Term) -> Result<Term, AllocError>
+    requires premise { named_type s.now ≡ Some bool_type }
+    requires instance { matches.IsWellTyped found.now }
+    ensures is { IfOk result (λ p. nameless [] p ≡ instantiated found.now 0 (nameless [] s.now)) }
+    ensures typed { IfOk result (λ p. named_type p ≡ Some bool_type) }
+{
+    found.apply(alloc, s)
+}
+
+// Those of the variables that `s` has and `t` lacks, of the types that they have at the instance.
+fn undetermined(
+    alloc: Global,
+    variables: &[Variable],
+    s: &Term,
+    t: &Term,
+    found: &Instance,
+) -> Result<Vec<Variable>, AllocError>
+    ensures { IfOk result (λ rest. rest.items ≡ map (variable_inst found.now.types) (undetermined (nameless [] s.now) (nameless [] t.now) variables.now)) }
+{
+    let mut rest = Vec::new(alloc);
+    for v in variables {
+        add_undetermined(alloc, &mut rest, v, s, t, found)?;
+    }
+    Ok(rest)
+}
+
+// Puts the variable at the end, of the type that it has at the instance, where `s` has it and `t` lacks it.
+fn add_undetermined(
+    alloc: Global,
+    rest: &mut Vec<Variable>,
+    v: &Variable,
+    s: &Term,
+    t: &Term,
+    found: &Instance,
+) -> Result<(), AllocError>
+    ensures { OnOk result (rest.new.items ≡ rest.old.items ++ map (variable_inst found.now.types) (undetermined (nameless [] s.now) (nameless [] t.now) (v.now ∷ []))) }
+{
+    if !s.vfree_in(v) {
+        return Ok(());
+    }
+    if t.vfree_in(v) {
+        return Ok(());
+    }
+    let ty = v.ty().subst(alloc, found.types())?;
+    let own = Variable::new(v.name(), &ty)?;
+    rest.push(own)?;
+    Ok(())
+}
+
+// That p holds for some values of the variables.
+fn existentials(alloc: Global, variables: &[Variable], p: &Term) -> Result<Term, AllocError>
+    requires { named_type p.now ≡ Some bool_type }
+    ensures is { IfOk result (λ r. nameless [] r ≡ existentials variables.now (nameless [] p.now)) }
+    ensures typed { IfOk result (λ r. named_type r ≡ Some bool_type) }
+{
+    let mut whole = p.copy()?;
+    let mut left = variables;
+    'variables: while let Some((v, outer)) = left.split_last() {
+        whole = mk_exists(alloc, v, &whole)?;
+        left = outer;
+    }
+    Ok(whole)
+}
+
+// The formula for all values of the variables.
+fn universals(alloc: Global, variables: &[Variable], p: &Term) -> Result<Term, AllocError>
+    requires { named_type p.now ≡ Some bool_type }
+    ensures { IfOk result (λ r. bound_variables r ≡ variables.now ++ bound_variables p.now) }
+{
+    let mut whole = p.copy()?;
+    let mut left = variables;
+    'variables: while let Some((v, outer)) = left.split_last() {
+        whole = mk_forall(alloc, v, &whole)?;
+        left = outer;
+    }
+    Ok(whole)
+}

@@ -1,0 +1,61 @@
+//! A theorem's outer quantifiers taken off.
+ghost use Rattle.std.specs.Prelude.{◌≡◌, ℕ, true, false, List, [], map, IfOk, Some, None};
+ghost use Rattle.hol_types.specs.Tree.{TypeTree};
+ghost use Rattle.hol_terms.specs.Named.{named_type};
+ghost use Rattle.hol_terms.specs.Nameless.{Nameless, nameless, base_of};
+ghost use Rattle.hol_terms.specs.Scoped.{binds};
+ghost use Rattle.hol_subst.specs.FreeName.{is_taken};
+ghost use Rattle.hol_formulas.specs.Equation.{bool_type};
+ghost use Rattle.hol_formulas.specs.Formula.{dest_forall};
+ghost use Rattle.hol_just.specs.FreeNames.{free_name};
+ghost use Rattle.hol_just.specs.MatchMp.{opened};
+ghost use Rattle.hol_steps.specs.Fresh.{AreAlike};
+
+use crate::quantifiers::at;
+use hol_formulas::{dest_forall, occurrence};
+use hol_subst::free_name;
+use hol_terms::{Term, Variable, base_name};
+use hol_types::Name;
+use std::alloc::{AllocError, Global};
+
+/// What stands under the outer quantifiers of a formula, and the variables that they bind, the outermost first. Each is called by a name
+/// that no other one has, and none of the terms that were to be avoided.
+#[derive(Drop)]
+pub(crate) struct Opened {
+    pub(crate) variables: Vec<Variable>,
+    pub(crate) body: Term,
+}
+
+impl Opened {
+    /// The formula's outer quantifiers taken off.
+    pub(crate) fn of(alloc: Global, avoid: Vec<Term>, p: &Term) -> Result<Opened, AllocError>
+        requires { named_type p.now ≡ Some bool_type }
+        ensures opened { IfOk result (λ o. (names : List Nameless) → AreAlike (map (nameless []) avoid.items) names → opened names (nameless [] p.now) ≡ record { variables = o.variables.items; body = nameless [] o.body }) }
+        ensures apart { IfOk result (λ o. (v : List ℕ × TypeTree) → binds o.variables.items v ≡ true → is_taken (map (nameless []) avoid.items) v.0 ≡ false) }
+        ensures typed { IfOk result (λ o. named_type o.body ≡ Some bool_type) }
+        ensures last { IfOk result (λ o. dest_forall (nameless [] o.body) ≡ None) }
+    {
+        let mut avoid = avoid;
+        let mut variables = Vec::new(alloc);
+        let mut body = p.copy()?;
+        'binders: while let Some((x, q)) = dest_forall(&body) {
+            let v = apart(alloc, &avoid, x)?;
+            let variable = occurrence(alloc, &v)?;
+            let inner = at(alloc, x, q, &variable)?;
+            avoid.push(variable)?;
+            variables.push(v)?;
+            body = inner;
+        }
+        Ok(Opened { variables, body })
+    }
+}
+
+// The variable, whose name is its base with the fewest primes that make it no name of the terms.
+fn apart(alloc: Global, avoid: &[Term], x: &Variable) -> Result<Variable, AllocError>
+    ensures is { IfOk result (λ v. (names : List Nameless) → AreAlike (map (nameless []) avoid.now) names → v ≡ (free_name names (base_of x.now.0), x.now.1)) }
+    ensures absent { IfOk result (λ v. is_taken (map (nameless []) avoid.now) v.0 ≡ false) }
+{
+    let base = Name::new(alloc, base_name(x.name().as_str()))?;
+    let name = free_name(alloc, avoid, &base)?;
+    Variable::new(&name, x.ty())
+}
