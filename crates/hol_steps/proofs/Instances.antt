@@ -4,7 +4,7 @@ use Rattle.std.specs.List.{list_any}
 use Rattle.std.proofs.Common.{ap, sym, ◌∙◌, subst, inl, inr}
 use Rattle.hol_types.specs.Tree.{TypeTree}
 use Rattle.hol_terms.specs.Named.{Named, var, named_type}
-use Rattle.hol_terms.specs.Nameless.{Nameless, free, nameless, nameless_type, free_occurrences}
+use Rattle.hol_terms.specs.Nameless.{Nameless, nameless, nameless_type, free_occurrences}
 use Rattle.hol_terms.specs.Scoped.{binds}
 use Rattle.hol_terms.proofs.Typing.{type_under, type_outside}
 use Rattle.hol_subst.specs.Closing.{open_with}

@@ -1,5 +1,5 @@
 -- What is true of the moves that a step was made of is true of its own.
-use Rattle.std.specs.Prelude.{◌≡◌, true, List, Result, Ok, Err, IfOk}
+use Rattle.std.specs.Prelude.{◌≡◌, List, Result, Ok, Err, IfOk}
 use Rattle.std.proofs.Common.{sym, subst}
 use Rattle.hol_just.specs.declared.reason.Move.{Move}
 use Rattle.hol_just.specs.declared.tried.Step.{Step}
