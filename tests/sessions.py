@@ -230,16 +230,39 @@ def of_large_goals():
     return session
 
 
+def of_texts_at_limits():
+    """Texts of 4,096 tokens, or a few less, or of 200 brackets that are open; and texts of one more, each with the place where it is refused."""
+    session, goals = Session("reads texts at the limits on tokens and brackets"), '{"goals":[{"asl":[],"free":[%s],"goal":"%s"}],"ok":true}'
+    arrows, parameters = "A" + "->A" * 2045, " ".join(f"x{k}" for k in range(4089))
+    nested = "~(!x. p <=> " * 199 + "~(!x. p <=> x)" + ")" * 199
+    alone = [("g N `" + "~" * 4091 + "p`", TOO_LARGE)]
+    alone += [("g N `" + "!x. " * 1363 + "x`", goals % ("", "!" + " ".join(["x"] * 1363) + ". x"))]
+    alone += [("g N `" + "(~ !x. p = " * 200 + "x" + ")" * 200 + "`", goals % ('"p:bool"', nested))]
+    alone += [(f"new_constant c `:{arrows}`", f'{{"made":["const c:{arrows}"],"ok":true}}')]
+    alone += [(f"new_definition D `c {parameters} = c`", '{"arg":"17","ok":true,"refusal":7,"text":"untypable"}')]
+    beyond = [("g N `" + "(" * 201, 205), ("e A [" + "(" * 200, 204), ("e" + " x" * 4096, 8192), ("e A `" + "~" * 4093 + "x`", 4098)]
+    alone += [(text, f'{{"arg":"{place}","ok":true,"refusal":1,"text":"syntax"}}') for text, place in beyond]
+    run = ["e ALL_TAC" + " THEN ALL_TAC" * 2047, "e ALL_TAC" + " ORELSE ALL_TAC" * 2047]
+    run += ["e EVERY [ALL_TAC" + "; ALL_TAC" * 2045 + "]", "e " + "(TRY " * 200 + "NO_TAC" + ")" * 200]
+    cases = [([text], reply) for text, reply in alone] + [(["g N `p:bool`", text], goals % ('"p:bool"', "p")) for text in run]
+    for number, (commands, reply) in enumerate(cases):
+        session.theory(f"A{number}", commands)
+        session.add(request("report", theory=f"A{number}", at=len(commands) - 1), reply)
+    return session
+
+
 def generated():
     binders = "!" + " ".join(f"x{k}" for k in range(300)) + ". x0"
     yield report_on("accepts a reading of 18,208 nodes", doubling(8), re.compile(r'{"goals":\[{"asl":\[\],'))
     yield report_on("refuses a reading over 20,000 nodes", doubling(9), TOO_LARGE)
+    yield report_on("refuses a reading of 2^300 nodes at once", doubling(300), TOO_LARGE)
     yield report_on("reads and shows 300 binders", f"g N `{binders}`", f'{{"goals":[{{"asl":[],"free":[],"goal":"{binders}"}}],"ok":true}}')
     yield report_on("runs a long chain", "e ALL_TAC" + " THEN ALL_TAC" * 1000, '{"goals":[{"asl":[],"free":["p:bool"],"goal":"p"}],"ok":true}')
     yield of_many_goals(3_998, '{"goals":[' + ",".join(['{"asl":[],"free":[],"goal":"T"}'] * 1000) + '],"ok":true}')
     yield of_many_goals(3_997, TURN_LIMIT)
     yield of_large_goals()
     yield of_a_long_reply()
+    yield of_texts_at_limits()
     yield of_no_requests()
     yield of_lengths()
     yield of_limits()

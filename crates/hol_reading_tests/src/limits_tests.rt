@@ -1,0 +1,77 @@
+//! Texts at the limits on tokens and brackets: each is read, copied, compared, hashed and dropped, in the call stack of a program's main thread.
+use crate::commands_tests::are_alike;
+use hol_notation::{SyntaxError, lex};
+use std::alloc::{AllocError, Global};
+use std::test::Fail;
+
+// How often two parts of a text stand; and what stands before, the first part, what stands between, the second part, and what stands behind.
+type Row = (usize, [&'static str; 5]);
+
+// Each text has the 4,096 tokens that a text may have, or a few less, or the 200 brackets that may be open.
+static MANY: [Row; 14] = [
+    (4091, ["g N `", "~", "p", "", "`"]),
+    (2045, ["g N `", "p = ", "p", "", "`"]),
+    (2045, ["g N `", "p <=> ", "p", "", "`"]),
+    (1363, ["g N `", "!x. ", "x", "", "`"]),
+    (4092, ["g N `", "f ", "", "", "`"]),
+    (4089, ["g N `!", "x ", ". x", "", "`"]),
+    (200, ["g N `", "(~ !x. p = ", "x", ")", "`"]),
+    (2045, ["new_constant c `:A", "->A", "", "", "`"]),
+    (4090, ["new_constant c `:A", " list", "", "", "`"]),
+    (2047, ["e A", " THEN A", "", "", ""]),
+    (2047, ["e A", " ORELSE A", "", "", ""]),
+    (4094, ["e A", " B", "", "", ""]),
+    (2045, ["e EVERY [A", "; A", "", "", "]"]),
+    (200, ["e ", "(REPEAT ", "A", ")", ""]),
+];
+
+fn text_of(alloc: Global, row: &Row) -> Result<String, AllocError> {
+    let (count, [before, first, between, second, behind]) = *row;
+    let firsts = first.repeat(alloc, count)?;
+    let seconds = second.repeat(alloc, count)?;
+    format!(in alloc; "{before}{firsts}{between}{seconds}{behind}")
+}
+
+fn is_read(alloc: Global, row: &Row) -> Result<bool, SyntaxError> {
+    let text = text_of(alloc, row)?;
+    are_alike(alloc, text.as_str(), text.as_str())
+}
+
+#[test]
+fn reads_texts_of_many_tokens(rt: HostRuntime) -> Result<(), Fail> {
+    for row in &MANY {
+        assert!(rt; is_read(rt.alloc(), row)?, "{}", row.1[1]);
+    }
+    Ok(())
+}
+
+// The number of the text's tokens, or 10,000 and the place where it is refused.
+fn lexed(alloc: Global, text: &str) -> Option<usize> {
+    match lex(alloc, text) {
+        Ok(tokens) => Some(tokens.len()),
+        Err(SyntaxError::Syntax(place)) => Some(10_000 + place),
+        Err(SyntaxError::Memory) => None,
+    }
+}
+
+fn is_lexed(alloc: Global, row: &(Row, usize)) -> Result<bool, AllocError> {
+    let text = text_of(alloc, &row.0)?;
+    Ok(lexed(alloc, text.as_str()) == Some(row.1))
+}
+
+// Brackets are not counted.
+static LEXED: [(Row, usize); 5] = [
+    ((0, [" g N `x /\\ y'`;", "", "", "", ""]), 8),
+    ((0, ["x # y", "", "", "", ""]), 10_002),
+    ((300, ["", "(", "", "", ""]), 300),
+    ((4096, ["", "x ", "", "", ""]), 4096),
+    ((4097, ["", "x ", "", "", ""]), 18_192),
+];
+
+#[test]
+fn lexes(rt: HostRuntime) -> Result<(), Fail> {
+    for row in &LEXED {
+        assert!(rt; is_lexed(rt.alloc(), row)?, "{}", row.1);
+    }
+    Ok(())
+}
