@@ -1,8 +1,2 @@
 pub mod Registering
-pub mod Known
-pub mod Cutting
-pub mod Sessions
-pub mod Chunks
-pub mod Runs
-pub mod Machines
 pub mod Once

@@ -7,9 +7,9 @@ use Rattle.hol_document.proofs.Unique.{one_answer}
 use Rattle.hol_document.proofs.Bases.{one_basis_answer, one_list_answer}
 use Rattle.hol_wire.specs.Requests.{RequestText, NewTheory, DropTheory, Insert, Replace, Remove, Report, Theorems, Basis, Close, request_of}
 use Rattle.hol_wire.specs.Replies.{Memory, ReplyValue, Refused, Reports, Lists, RestsOn}
-use Rattle.hol_serve.specs.Lines.{line_limit}
+use Rattle.hol_session.specs.Lines.{line_limit}
 use Rattle.serde_json.specs.Data.{Data}
-use Rattle.hol_serve.specs.Machine.{ReadsAs, Machine, too_long, no_json, served, no_memory, Edits, reply_to, Serves, ServesIf}
+use Rattle.hol_session.specs.Machine.{ReadsAs, Machine, too_long, no_json, served, no_memory, Edits, reply_to, Serves, ServesIf}
 
 edits_once : (old : Documents) (r : Result (List TheoryText) Refusal) (a b : ReplyValue) (m n : Documents) → Edits old r a m → Edits old r b n → (a ≡ b) × (m ≡ n)
 edits_once old (Ok theories) a b m n h k = (h.0 ∙ sym k.0, h.1 ∙ sym k.1)

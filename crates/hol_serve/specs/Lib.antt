@@ -1,8 +1,4 @@
-pub mod Lines
-pub mod Session
 pub mod Settings
-pub mod Machine
-pub mod Served
-pub mod Ending
+pub mod WordsEnding
 pub mod Begun
 pub mod BegunView

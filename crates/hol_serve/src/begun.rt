@@ -6,18 +6,17 @@ ghost use Rattle.hol_exec.specs.SetupView.{setup_value};
 ghost use Rattle.hol_registry.specs.RegistryView.{name, row};
 ghost use Rattle.hol_serve.specs.Begun.{tacs, begun_by};
 ghost use Rattle.hol_serve.specs.BegunView.{row_of, names_differ};
-ghost use Rattle.hol_serve.specs.Lines.{read_limit};
-ghost use Rattle.hol_serve.specs.Machine.{MayAnswer};
-ghost use Rattle.hol_serve.specs.Session.{CountsUp, Finishes, StopsReading, StopsWriting};
+ghost use Rattle.hol_session.specs.Lines.{read_limit};
+ghost use Rattle.hol_session.specs.Machine.{MayAnswer};
+ghost use Rattle.hol_session.specs.Session.{CountsUp, Finishes, StopsReading, StopsWriting};
 
-use crate::lines::{Fault, Sink, Source};
 use crate::meant::Meant;
-use crate::serving::run;
 use hol_document::Docs;
 use hol_exec::Setup;
 use hol_goal::{Goal, TacArgs, TacCode};
 use hol_prelude::Prelude;
 use hol_registry::{Entry, Registry, RegistryError};
+use hol_session::{Fault, Sink, Source, run};
 use std::alloc::{AllocError, Global};
 use std::rc::Rc;
 

@@ -2,7 +2,7 @@
 ghost use Rattle.std.specs.Prelude.{◌≡◌, ◌⊎◌, ℕ, List};
 ghost use Rattle.hol_document.specs.Documents.{Documents};
 ghost use Rattle.hol_wire.specs.Replies.{ReplyValue, Refused, Memory};
-ghost use Rattle.hol_serve.specs.Machine.{Machine};
+ghost use Rattle.hol_session.specs.Machine.{Machine};
 
 /// The machine answers a line in one way at most, and leaves the same documents, but for want of memory.
 pub(crate) fn one_answer_or_memory()

@@ -1,19 +1,15 @@
 //! The program: lines of requests on standard input, a reply a line on standard output.
 #![tactic(auto)]
 
-mod answering;
 mod begun;
-mod ending;
 mod laws;
-mod lines;
 mod meant;
 mod program;
-mod serving;
 mod settings;
 
-use crate::lines::Watched;
 use crate::program::program;
 use crate::settings::Words;
+use hol_session::Watched;
 use std::alloc::Global;
 use std::process::ExitCode;
 use std::{env, io};

@@ -2,17 +2,16 @@
 
 ghost use Rattle.std.specs.Prelude.{◌≡◌, ◌≢◌, ◌⊎◌, ◌≤◌, Err, IfOk, IsOkAnd, OnOk, map};
 ghost use Rattle.hol_serve.specs.Begun.{Begins};
-ghost use Rattle.hol_serve.specs.Ending.{Tells};
-ghost use Rattle.hol_serve.specs.Lines.{read_limit};
-ghost use Rattle.hol_serve.specs.Machine.{MayAnswer};
-ghost use Rattle.hol_serve.specs.Session.{CountsUp, Finishes, StopsReading, StopsWriting};
+ghost use Rattle.hol_session.specs.Ending.{Tells};
+ghost use Rattle.hol_session.specs.Lines.{read_limit};
+ghost use Rattle.hol_session.specs.Machine.{MayAnswer};
+ghost use Rattle.hol_session.specs.Session.{CountsUp, Finishes, StopsReading, StopsWriting};
 ghost use Rattle.hol_serve.specs.Settings.{AreBad};
-ghost use Rattle.hol_serve.specs.declared.ending.Ending.TheVariants as ending;
+ghost use Rattle.hol_session.specs.declared.ending.Ending.TheVariants as ending;
 
 use crate::begun::serve_begun;
-use crate::ending::Ending;
-use crate::lines::{Fault, Sink, Source, write_reply};
 use crate::settings::{Words, settings};
+use hol_session::{Ending, Fault, Sink, Source, write_reply};
 use std::alloc::Global;
 
 // Serves the reader's lines as the words say, over documents that begin so.

@@ -5,6 +5,7 @@ ghost use Rattle.hol_serve.specs.Settings.{is_taken, option_text, IsValue, IsOut
 
 use clap::error::ErrorKind;
 use clap::{Arg, Command};
+use hol_session::Ending;
 use std::alloc::{AllocError, Global};
 use thiserror::Error;
 
@@ -31,6 +32,20 @@ impl From<AllocError> for Words {
 
     fn from(_refused: AllocError) -> Words {
         Words::Memory
+    }
+}
+
+impl From<Words> for Ending {
+    ghost use Rattle.std.specs.Prelude.{◌≡◌};
+    ghost use Rattle.hol_serve.specs.WordsEnding.{words_ending};
+
+    ghost from_gives = { λ words e. e ≡ words_ending words };
+
+    fn from(words: Words) -> Ending {
+        match words {
+            Words::Bad => Ending::BadWords,
+            Words::Memory => Ending::Memory,
+        }
     }
 }
 

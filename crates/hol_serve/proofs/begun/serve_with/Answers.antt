@@ -2,8 +2,8 @@ use Rattle.std.proofs.Common.{◌∙◌, ap, []}
 use Rattle.std.proofs.lemmas.Result.{on_ok_weaker}
 use Rattle.hol_serve.specs.Begun.{begun_by}
 use Rattle.hol_serve.specs.BegunView.{names_differ}
-use Rattle.hol_serve.specs.Machine.{MayAnswer}
-use Rattle.hol_serve.specs.Session.{Finishes, StopsReading, StopsWriting}
+use Rattle.hol_session.specs.Machine.{MayAnswer}
+use Rattle.hol_session.specs.Session.{Finishes, StopsReading, StopsWriting}
 use Rattle.hol_serve.proofs.Registering.{names_of_rows, names_plain, rows_taken, begins}
 use Rattle.hol_serve.proofs.begun.serve_with.Goals as goal
 

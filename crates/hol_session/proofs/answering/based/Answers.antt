@@ -1,0 +1,14 @@
+use Rattle.std.proofs.Common.{refl, Ok, Err}
+use Rattle.std.proofs.lemmas.Result.{IfOk-weaker}
+use Rattle.hol_wire.specs.Views.{items_text}
+use Rattle.hol_wire.specs.Replies.{Refused, ByDocuments, RestsOn}
+use Rattle.hol_session.proofs.Machines.{told}
+use Rattle.hol_session.proofs.answering.based.Goals as goal
+
+pub returns-in-Ok : goal.returns-in-Ok
+returns-in-Ok g c = IfOk-weaker c.rests_on.result _ _ (λ reply says.
+    (RestsOn (items_text c.in-Ok.items), says, (Ok (items_text c.in-Ok.items), c.in-Ok.ensures.ok, c.in-Ok.ensures.proved, refl, refl))) c.rests_on.ensures
+
+pub returns-in-Err : goal.returns-in-Err
+returns-in-Err g c = IfOk-weaker c.refusal_reply.result _ _ (λ reply (refusal, is, says).
+    (Refused (ByDocuments refusal), says, (Err refusal, told _ c.in-Err.error refusal is c.in-Err.ensures.refused, tt, refl, refl))) c.refusal_reply.ensures.refused

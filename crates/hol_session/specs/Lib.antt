@@ -1,0 +1,5 @@
+pub mod Lines
+pub mod Session
+pub mod Machine
+pub mod Served
+pub mod Ending

@@ -1,0 +1,13 @@
+//! Sessions: lines of a reader, each answered over documents by a line on a writer.
+//!
+//! A call that answers a `Result` answers its memory error where memory is short, and nowhere else.
+#![tactic(auto)]
+
+mod answering;
+mod ending;
+mod lines;
+mod serving;
+
+pub use ending::Ending;
+pub use lines::{Fault, Sink, Source, Watched, WriteFault, write_reply};
+pub use serving::run;
