@@ -99,6 +99,11 @@ class Session:
                     return int(line.split()[1])
         return 0
 
+    def processor(self):
+        """The processor time that the program has taken so far, in seconds."""
+        with open("/proc/%d/schedstat" % self.process.pid) as status:
+            return int(status.read().split()[0]) / 1e9
+
     def close(self):
         self.process.stdin.close()
         self.process.stdout.close()

@@ -3,7 +3,7 @@
 
     python3 bench/inference.py --program PATH [--rounds N] [--seconds N]
 
-PATH is the built program, crates/hol_infer_bench/out/hol_infer_bench. Each job is done at a quarter of its size and at its whole size:
+PATH is the built program, crates/hol_bench/out/hol_bench. Each job is done at a quarter of its size and at its whole size:
 
   itself     c of the type A0->..->A1999->bool, applied to itself 4,080 times
   argument   the same c as each of 4,080 arguments of a variable
@@ -61,11 +61,11 @@ SIZES = {"itself": 4080, "argument": 4080, "applied": 1000, "repeated": 1000, "c
 
 def run(program, words, seconds):
     """The answer of one run, its processor time and its memory in megabytes."""
-    child = subprocess.Popen([program, *words, "1"], stdout=subprocess.PIPE, text=True,
+    child = subprocess.Popen([program, "infer", *words], stdout=subprocess.PIPE, stderr=subprocess.STDOUT, text=True,
                              preexec_fn=lambda: resource.setrlimit(resource.RLIMIT_CPU, (seconds, seconds)))
-    answer = child.stdout.read().strip()
-    _, status, used = os.wait4(child.pid, 0)
-    return answer if status == 0 else "not done", used.ru_utime + used.ru_stime, used.ru_maxrss / 1024
+    answer = child.stdout.read().strip().replace("hol_bench: ", "")
+    _, _, used = os.wait4(child.pid, 0)
+    return answer or "not done", used.ru_utime + used.ru_stime, used.ru_maxrss / 1024
 
 
 def main():

@@ -1,5 +1,5 @@
 #!/usr/bin/env python3
-"""How many rules of the kernel, derived rules, functions on goals, justifications and substitutions are done in a second, and what is asked of shared types.
+"""How many rules of the kernel and substitutions are done in a second, and what is asked of shared types.
 
     python3 bench/kernel.py --program PATH [--rounds N] [--only PREFIX]
 
@@ -7,20 +7,6 @@ PATH is the built program, crates/hol_bench/out/hol_bench. Its jobs:
 
   refl, trans, mk_comb, beta, inst, inst_type
             a rule over the basis without items, on a term of so many applications, of 5 nodes each
-  sym, ap_term, alpha, beta_conv, prove_hyp, spec, generalize, exists, choose, conj, conjunct1, conjunct2, mp, disch, undisch, disj1, disj2, disj_cases, contr, eqt_intro,
-  eqf_intro
-            a derived rule over the basis without items, of the equation t = t, where t has so many applications, and of what the rule takes of it
-  many_RULE the same of t = t from so many hypotheses, where t has 4 applications
-  NAME_tac  a function on a goal that is made of t = t, where t has so many applications; the answer is the size of the goal, 0 where the function is refused (no_tac)
-  justify_rules
-            the theorem of t = t from its justification, for a tree t of pairs with 2 to so many leaves: each move is a rule of the kernel, made at the last open goal;
-            the answer is the number of moves
-  justify   the same of a conjunction of 2 to so many leaves !x. F \\/ !x. F \\/ .. x = x: all moves but those of the leaves are derived rules
-  justify_rules_in_turn, justify_in_turn
-            each move is made at the next open goal, so that nearly all leaves are open at once
-  justify_rules_apart, justify_apart
-            each move is made far from the one before
-  prelude   the prelude's 21 theorems are derived; the answer is the size of AND_CLAUSES
   tower     a variable under so many applications is replaced: the whole term is made anew
   beside    a variable beside so many applications, in which it does not occur: these keep their nodes
   captures  a variable under so many binders, all of whose variables are free in the term that comes in: each binder is renamed
@@ -30,7 +16,7 @@ PATH is the built program, crates/hol_bench/out/hol_bench. Its jobs:
   size      the sizes of 60 types, whose trees have 2, 4, .. 2 to the 60 leaves over 60 shared nodes
   order     the orders of these types against a type variable
 
-Each line has the size that the job is given, its answer (the nodes of the result or the conclusion, 20,001 for more; of the last two a sum), and how many
+Each line has the size that the job is given, its answer (the nodes of the result or the conclusion, 20,001 for more; of the last two the sum of the sizes, and how many come after the variable), and how many
 times it is done in a second of processor time. The times are medians of the rounds, less those of a run that prepares the same and does nothing. A round
 does the job so often that it takes at least a third of a second, so that starting the program doesn't show.
 
@@ -44,35 +30,8 @@ import statistics
 import subprocess
 
 RULES = ("refl", "trans", "mk_comb", "beta", "inst", "inst_type")
-DERIVED = (
-    "sym", "ap_term", "alpha", "beta_conv", "prove_hyp", "spec", "generalize", "exists", "choose", "conj", "conjunct1", "conjunct2", "mp",
-    "disch", "undisch", "disj1", "disj2", "disj_cases", "contr", "eqt_intro", "eqf_intro",
-)
-TACS = (
-    "all", "no", "refl", "accept", "conj", "contr", "disj1", "disj2", "mp", "eq", "ap_term", "ap_thm", "mk_comb", "undisch", "exists", "gen", "x_gen",
-)
 HEIGHTS = ((4, 20000), (40, 2000), (400, 200))
-DERIVED_HEIGHTS = ((1, 1000), (19, 200), (199, 20))
-# Functions whose goal has t = t twice.
-DOUBLED = ("conj", "disj1", "disj2", "eq", "undisch")
-HYPOTHESES = ((10, 500), (100, 50), (1000, 5))
-# The goal has about 100 or 10,000 nodes.
-TAC_HEIGHTS = ((9, 20000), (990, 200))
-DOUBLE_HEIGHTS = ((4, 20000), (498, 200))
-JOBS = tuple((rule, height, times) for rule in RULES for height, times in HEIGHTS) + tuple(
-    (rule, height, times) for rule in DERIVED for height, times in DERIVED_HEIGHTS
-) + tuple(
-    (f"many_{rule}", count, times) for rule in DERIVED for count, times in HYPOTHESES
-) + tuple(
-    (f"{tac}_tac", height, times) for tac in TACS for height, times in (DOUBLE_HEIGHTS if tac in DOUBLED else TAC_HEIGHTS)
-) + (
-    ("prelude", 0, 100),
-    ("justify_rules", 10, 20),
-    ("justify_rules_in_turn", 10, 20),
-    ("justify_rules_apart", 10, 20),
-    ("justify", 10, 1),
-    ("justify_in_turn", 10, 1),
-    ("justify_apart", 10, 1),
+JOBS = tuple((rule, height, times) for rule in RULES for height, times in HEIGHTS) + (
     ("tower", 200, 5000),
     ("tower", 3990, 200),
     ("beside", 200, 200000),
@@ -89,12 +48,12 @@ JOBS = tuple((rule, height, times) for rule in RULES for height, times in HEIGHT
 )
 
 
-def processor_seconds(program, job, size, times):
-    """The processor time of one run, and its answer."""
+def processor_seconds(program, *words):
+    """The processor time of one run by these words, and its answer."""
     before = resource.getrusage(resource.RUSAGE_CHILDREN)
-    done = subprocess.run([program, job, str(size), str(times)], check=True, capture_output=True, text=True)
+    done = subprocess.run([program, *map(str, words)], check=True, capture_output=True, text=True)
     after = resource.getrusage(resource.RUSAGE_CHILDREN)
-    return after.ru_utime + after.ru_stime - before.ru_utime - before.ru_stime, done.stdout.split(":")[1].split()[0]
+    return after.ru_utime + after.ru_stime - before.ru_utime - before.ru_stime, done.stdout.strip()
 
 
 def enough(program, job, size, times):
@@ -122,12 +81,12 @@ def main():
     parser.add_argument("--only", default="", help="the jobs whose names begin so")
     given = parser.parse_args()
     program = os.path.abspath(given.program)
-    print(f"{'job':22}{'size':>6}{'answer':>11}{'a second':>12}{'ms':>12}")
+    print(f"{'job':14}{'size':>6}{'answer':>11}{'a second':>12}{'ms':>12}")
     for job, size, times in JOBS:
         if not job.startswith(given.only):
             continue
         done, answer = rate(program, job, size, times, given.rounds)
-        print(f"{job:22}{size:6}{answer:>11}{done:12,.0f}{1000 / done:12.4f}")
+        print(f"{job:14}{size:6}{answer:>11}{done:12,.0f}{1000 / done:12.4f}")
 
 
 if __name__ == "__main__":

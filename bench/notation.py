@@ -3,7 +3,7 @@
 
     python3 bench/notation.py --program PATH [--rounds N]
 
-PATH is the built program, crates/hol_notation_bench/out/hol_notation_bench. Its texts have so many tokens, or a few less, of one kind:
+PATH is the built program, crates/hol_bench/out/hol_bench. Its texts have so many tokens, or a few less, of one kind:
 
   brackets   variables as arguments, each inside as many brackets as may be open
   arguments  arguments of a variable
@@ -22,12 +22,45 @@ Needs Python 3.8 and Linux, and nothing else.
 
 import argparse
 import os
+import re
 import statistics
 
 from kernel import processor_seconds
 
-KINDS = ("brackets", "arguments", "binders", "variables", "right", "prefix", "then", "types")
+# What stands before the part that is repeated, the part, and what stands behind.
+KINDS = {
+    "arguments": ("g N `f", " x", "`"),
+    "binders": ("g N `", "!x. ", "x`"),
+    "variables": ("g N `!x", " x", ". x`"),
+    "right": ("g N `", "p = ", "p`"),
+    "prefix": ("g N `", "~", "p`"),
+    "then": ("e A", " THEN A", ""),
+    "types": ("g N `x:A", "->A", "`"),
+}
 SIZES = ((100, 20000), (1000, 2000), (4000, 500))
+OPEN = 200
+TOKEN = re.compile(r"[A-Za-z]+|->|[^\sA-Za-z]")
+
+
+def count(text):
+    return len(TOKEN.findall(text))
+
+
+def brackets(size):
+    """A variable's arguments, each inside as many brackets as may be open, the last one inside what is left."""
+    text, left = "g N `f", size - 5
+    while left > 0:
+        depth = min((left - 1) // 2, OPEN)
+        text += " " + "(" * depth + "x" + ")" * depth
+        left -= 2 * depth + 1
+    return text + "`"
+
+
+def text(kind, size):
+    if kind == "brackets":
+        return brackets(size)
+    before, part, behind = KINDS[kind]
+    return before + part * ((size - count(before + behind)) // count(part)) + behind
 
 
 def main():
@@ -37,11 +70,11 @@ def main():
     given = parser.parse_args()
     program = os.path.abspath(given.program)
     print(f"{'kind':10}{'size':>6}{'tokens':>8}{'tokens a second':>17}")
-    for kind in KINDS:
+    for kind in ("brackets", *KINDS):
         for size, times in SIZES:
-            runs = [processor_seconds(program, kind, size, times) for _ in range(given.rounds)]
-            seconds = statistics.median(run[0] for run in runs)
-            tokens = int(runs[0][1])
+            command = text(kind, size)
+            seconds = statistics.median(processor_seconds(program, "read", command, times)[0] for _ in range(given.rounds))
+            tokens = count(command)
             print(f"{kind:10}{size:6}{tokens:8}{tokens * times / seconds:17,.0f}")
 
 

@@ -1,9 +1,8 @@
 //! Why nothing was timed.
 
-use hol_bool::BoolError;
-use hol_equal::EqualError;
-use hol_just::TacFault;
+use hol_infer::ReadingError;
 use hol_kernel::KernelError;
+use hol_notation_tokens::SyntaxError;
 use hol_subst::SubstError;
 use hol_terms::TermError;
 use std::alloc::{AllocError, AllocFailed};
@@ -11,11 +10,14 @@ use std::io;
 use thiserror::Error;
 
 /// Why nothing was timed.
-#[derive(Clone, Copy, Debug, Drop, PartialEq, Eq, Error)]
+#[derive(Debug, Drop, Error)]
 pub(crate) enum Failure {
-    /// The words are not a job, a size and a number of times.
-    #[error("words: JOB SIZE TIMES")]
+    /// The words are not a job and what it takes.
+    #[error("words: JOB SIZE TIMES, read COMMAND TIMES, or infer TYPE TERM")]
     Words,
+    /// The term has no reading.
+    #[error("{0}")]
+    NoReading(ReadingError),
     /// A call was refused, or memory was.
     #[error("refused")]
     Refused,
@@ -45,27 +47,21 @@ impl From<KernelError> for Failure {
     }
 }
 
-impl From<EqualError> for Failure {
-    fn from(_e: EqualError) -> Failure {
-        Failure::Refused
-    }
-}
-
-impl From<BoolError> for Failure {
-    fn from(_e: BoolError) -> Failure {
-        Failure::Refused
-    }
-}
-
-impl From<TacFault> for Failure {
-    fn from(_e: TacFault) -> Failure {
-        Failure::Refused
-    }
-}
-
 impl From<SubstError> for Failure {
     fn from(_e: SubstError) -> Failure {
         Failure::Refused
+    }
+}
+
+impl From<SyntaxError> for Failure {
+    fn from(_e: SyntaxError) -> Failure {
+        Failure::Refused
+    }
+}
+
+impl From<ReadingError> for Failure {
+    fn from(e: ReadingError) -> Failure {
+        Failure::NoReading(e)
     }
 }
 

@@ -1,21 +1,18 @@
-//! Does one call of the crates below so many times on terms of a size, so that a clock outside can time it: `hol_bench JOB SIZE TIMES`.
+//! Does one call of the crates below so many times, so that a clock outside can time it. Its words: `JOB SIZE TIMES`, for terms of a size;
+//! `read COMMAND TIMES`, for a command that is written; or `infer TYPE TERM`, to find the types of a term once. It answers a number.
 #![tactic(auto)]
 
-mod derived;
+mod calls;
 mod failure;
-mod formulas;
-mod goals;
-mod justifying;
-mod proving;
+mod inference;
 mod rules;
 mod sharing;
 mod substitution;
 mod terms;
 
-use crate::derived::derived;
+use crate::calls::Call;
 use crate::failure::Failure;
-use crate::goals::goals;
-use crate::justifying::justifying;
+use crate::inference::inference;
 use crate::rules::rules;
 use crate::sharing::sharing;
 use crate::substitution::substitution;
@@ -23,56 +20,41 @@ use std::alloc::Global;
 use std::env;
 use std::process::ExitCode;
 
-// What is done, on terms of which size, and how often.
-#[derive(Drop)]
-struct Work {
-    job: String,
-    size: u32,
-    times: u32,
-}
-
-// The work that the program's words name.
-fn words(rt: &HostRuntime) -> Result<Work, Failure> {
-    let mut words = env::args(rt)?;
-    let _program = words.next();
-    let (Some(job), Some(size), Some(times)) = (words.next(), words.next(), words.next()) else {
-        return Err(Failure::Words);
-    };
-    let (Ok(size), Ok(times)) = (size.as_str().parse(), times.as_str().parse()) else {
-        return Err(Failure::Words);
-    };
-    Ok(Work { job, size, times })
-}
-
-// Does the work, and answers its last result: a size, but for `order`.
-fn done(alloc: Global, work: &Work) -> Result<u32, Failure> {
-    match work.job.as_str() {
-        "size" | "order" => sharing(alloc, work.job.as_str(), work.size, work.times),
+// Does the job on terms of the size, and answers its last result.
+fn done(alloc: Global, job: &str, size: u32, times: u32) -> Result<u32, Failure> {
+    match job {
+        "size" | "order" => sharing(alloc, job, size, times),
         "tower" | "beside" | "captures" | "types" | "types_beside" => {
-            substitution(alloc, work.job.as_str(), work.size, work.times)
+            substitution(alloc, job, size, times)
         }
-        "refl" | "trans" | "mk_comb" | "beta" | "inst" | "inst_type" => {
-            rules(alloc, work.job.as_str(), work.size, work.times)
-        }
-        job => above(alloc, job, work.size, work.times),
+        _ => rules(alloc, job, size, times),
     }
 }
 
-// What stands on the kernel.
-fn above(alloc: Global, job: &str, size: u32, times: u32) -> Result<u32, Failure> {
-    if job.ends_with("_tac") {
-        return goals(alloc, job, size, times);
+// What the program's words ask for: a number.
+fn answer(alloc: Global, words: &[String]) -> Result<u32, Failure> {
+    let [_program, job, first, second] = words else {
+        return Err(Failure::Words);
+    };
+    if job.as_str() == "infer" {
+        return inference(alloc, first.as_str(), second.as_str());
     }
-    if job.starts_with("justify") {
-        return justifying(alloc, job, size, times);
+    let Ok(times) = second.as_str().parse() else {
+        return Err(Failure::Words);
+    };
+    if job.as_str() == "read" {
+        return Call::Read(first.as_str()).timed(alloc, times);
     }
-    derived(alloc, job, size, times)
+    let Ok(size) = first.as_str().parse() else {
+        return Err(Failure::Words);
+    };
+    done(alloc, job.as_str(), size, times)
 }
 
 fn report(rt: &HostRuntime) -> Result<(), Failure> {
-    let work = words(rt)?;
-    let answer = done(rt.alloc(), &work)?;
-    println!(rt; "{} {} {}: {answer}", work.job, work.size, work.times)?;
+    let words = env::args(rt)?.collect::<Vec<String>>(rt.alloc())?;
+    let number = answer(rt.alloc(), &words)?;
+    println!(rt; "{number}")?;
     Ok(())
 }
 

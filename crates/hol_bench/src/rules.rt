@@ -1,122 +1,116 @@
 //! The rules of the kernel, over the basis without items.
 ghost use Rattle.std.specs.Prelude.{◌≡◌, IfOk};
+ghost use Rattle.std.specs.Coded.{Coded-set};
+ghost use Rattle.hol_kernel.specs.Items.{items_code};
 
+use crate::calls::Call;
 use crate::failure::Failure;
-use crate::terms::{redex, tower, type_pair, unary, variable_of_a};
-use hol_kernel::{Basis, Thm};
+use crate::inference::term;
+use crate::terms::{tower, type_pair};
+use hol_kernel::{Basis, KernelError, Thm};
 use hol_terms::Term;
 use hol_types::{Name, Ty};
 use std::alloc::Global;
 
+/// Two theorems over one basis.
+#[derive(Clone, Copy)]
+pub(crate) struct Two<'a> {
+    first: &'a Thm,
+    second: &'a Thm,
+    ghost one_basis: { first.now.basis ≡ second.now.basis } by { Coded-set items_code first.now.basis second.now.basis },
+}
+
+/// A rule, with what it takes.
+#[derive(Clone, Copy)]
+pub(crate) enum Rule<'a> {
+    /// REFL of the term, over the basis.
+    Refl(&'a Basis, &'a Term),
+    /// TRANS of the theorem and itself.
+    Trans(&'a Thm),
+    /// MK_COMB of the two.
+    MkComb(Two<'a>),
+    /// BETA of the term, over the basis.
+    Beta(&'a Basis, &'a Term),
+    /// INST of the theorem.
+    Inst(&'a [(Term, Term)], &'a Thm),
+    /// INST_TYPE of the theorem.
+    InstType(&'a [(Ty, Name)], &'a Thm),
+}
+
+impl Rule<'_> {
+    /// The theorem that the rule gives.
+    pub(crate) fn theorem(&self, alloc: Global) -> Result<Thm, KernelError> {
+        match self {
+            Rule::Refl(basis, t) => Thm::refl(alloc, basis, t),
+            Rule::Trans(th) => Thm::trans(alloc, th, th),
+            Rule::MkComb(two) => Thm::mk_comb(alloc, two.first, two.second),
+            Rule::Beta(basis, t) => Thm::beta(alloc, basis, t),
+            Rule::Inst(pairs, th) => Thm::inst(alloc, pairs, th),
+            Rule::InstType(pairs, th) => Thm::inst_type(alloc, pairs, th),
+        }
+    }
+}
+
 /// Uses a rule so many times, and answers the size of the last conclusion.
 ///
-/// The terms are towers of so many applications, of 5 nodes each. `refl`: of a tower. `trans`: of `t = t` and `t = t`.
+/// The terms t are towers of so many applications, of 5 nodes each. `refl`: of a tower. `trans`: of `t = t` and `t = t`.
 /// `mk_comb`: of `f = f` and `t = t`. `beta`: of `(\x. t) x`. `inst`: y for x in `t = t`. `inst_type`: B for A in `t = t`.
 pub(crate) fn rules(alloc: Global, job: &str, height: u32, times: u32) -> Result<u32, Failure> {
-    let basis = Basis::empty(alloc)?;
-    let t = tower(alloc, "x", height)?;
+    let t = tower(alloc, "x:A", height)?;
+    let th = equation(alloc, &t)?;
+    used(alloc, job, &t, &th, times)
+}
+
+// Uses a rule on t or on the theorem `t = t`.
+fn used(alloc: Global, job: &str, t: &Term, th: &Thm, times: u32) -> Result<u32, Failure> {
     match job {
-        "refl" => reflexivity(alloc, &basis, &t, times),
-        "trans" => transitivity(alloc, &basis, &t, times),
-        "mk_comb" => congruence(alloc, &basis, &t, times),
-        "beta" => beta(alloc, &basis, &t, times),
-        "inst" => instance(alloc, &basis, &t, times),
-        "inst_type" => type_instance(alloc, &basis, &t, times),
+        "refl" => Call::Rule(Rule::Refl(th.basis(), t)).timed(alloc, times),
+        "trans" => Call::Rule(Rule::Trans(th)).timed(alloc, times),
+        "mk_comb" => congruence(alloc, th, times),
+        "beta" => beta(alloc, th.basis(), t, times),
+        "inst" => instance(alloc, th, times),
+        "inst_type" => type_instance(alloc, th, times),
         _ => Err(Failure::Words),
     }
 }
 
-// The theorem that the term equals itself. The functions that follow say nothing of what the rules promise, so that their loops are cheap to prove.
+fn congruence(alloc: Global, second: &Thm, times: u32) -> Result<u32, Failure> {
+    let f = term(alloc, "f:A->A")?;
+    let first = &reflexive(alloc, second.basis(), &f)?;
+    Call::Rule(Rule::MkComb(Two { first, second })).timed(alloc, times)
+}
+
+fn beta(alloc: Global, basis: &Basis, t: &Term, times: u32) -> Result<u32, Failure> {
+    let redex = redex(alloc, t)?;
+    Call::Rule(Rule::Beta(basis, &redex)).timed(alloc, times)
+}
+
+fn instance(alloc: Global, th: &Thm, times: u32) -> Result<u32, Failure> {
+    let pairs = [(term(alloc, "y:A")?, term(alloc, "x:A")?)];
+    Call::Rule(Rule::Inst(&pairs, th)).timed(alloc, times)
+}
+
+fn type_instance(alloc: Global, th: &Thm, times: u32) -> Result<u32, Failure> {
+    let pairs = type_pair(alloc, "A")?;
+    Call::Rule(Rule::InstType(&pairs, th)).timed(alloc, times)
+}
+
+// The theorem `t = t` over the basis without items.
+fn equation(alloc: Global, t: &Term) -> Result<Thm, Failure> {
+    let basis = Basis::empty(alloc)?;
+    reflexive(alloc, &basis, t)
+}
+
+// The theorem that the term equals itself.
 fn reflexive(alloc: Global, basis: &Basis, t: &Term) -> Result<Thm, Failure>
     ensures { IfOk result (λ th. th.basis ≡ basis.now) }
 {
     Ok(Thm::refl(alloc, basis, t)?)
 }
 
-fn chained(alloc: Global, th: &Thm) -> Result<u32, Failure> {
-    Ok(Thm::trans(alloc, th, th)?.concl().size())
-}
-
-fn combined(alloc: Global, f: &Thm, x: &Thm) -> Result<u32, Failure>
-    requires { f.now.basis ≡ x.now.basis }
-{
-    Ok(Thm::mk_comb(alloc, f, x)?.concl().size())
-}
-
-fn reduced(alloc: Global, basis: &Basis, applied: &Term) -> Result<u32, Failure> {
-    Ok(Thm::beta(alloc, basis, applied)?.concl().size())
-}
-
-fn with_terms(alloc: Global, pairs: &[(Term, Term)], th: &Thm) -> Result<u32, Failure> {
-    Ok(Thm::inst(alloc, pairs, th)?.concl().size())
-}
-
-fn with_types(alloc: Global, pairs: &[(Ty, Name)], th: &Thm) -> Result<u32, Failure> {
-    Ok(Thm::inst_type(alloc, pairs, th)?.concl().size())
-}
-
-fn reflexivity(alloc: Global, basis: &Basis, t: &Term, times: u32) -> Result<u32, Failure> {
-    let mut size = 0;
-    for _ in 0..times {
-        size = reflexive(alloc, basis, t)?.concl().size();
-    }
-    Ok(size)
-}
-
-fn transitivity(alloc: Global, basis: &Basis, t: &Term, times: u32) -> Result<u32, Failure> {
-    let th = reflexive(alloc, basis, t)?;
-    let mut size = 0;
-    for _ in 0..times {
-        size = chained(alloc, &th)?;
-    }
-    Ok(size)
-}
-
-fn congruence(alloc: Global, basis: &Basis, t: &Term, times: u32) -> Result<u32, Failure> {
-    let f = unary(alloc)?;
-    let functions = reflexive(alloc, basis, &f)?;
-    let arguments = reflexive(alloc, basis, t)?;
-    let mut size = 0;
-    for _ in 0..times {
-        size = combined(alloc, &functions, &arguments)?;
-    }
-    Ok(size)
-}
-
-fn beta(alloc: Global, basis: &Basis, t: &Term, times: u32) -> Result<u32, Failure> {
-    let applied = redex(alloc, t)?;
-    let mut size = 0;
-    for _ in 0..times {
-        size = reduced(alloc, basis, &applied)?;
-    }
-    Ok(size)
-}
-
-// y for x.
-fn term_pairs(alloc: Global) -> Result<Vec<(Term, Term)>, Failure> {
-    let y = variable_of_a(alloc, "y")?;
-    let x = variable_of_a(alloc, "x")?;
-    let mut pairs = Vec::new(alloc);
-    pairs.push((y, x))?;
-    Ok(pairs)
-}
-
-fn instance(alloc: Global, basis: &Basis, t: &Term, times: u32) -> Result<u32, Failure> {
-    let pairs = term_pairs(alloc)?;
-    let th = reflexive(alloc, basis, t)?;
-    let mut size = 0;
-    for _ in 0..times {
-        size = with_terms(alloc, &pairs, &th)?;
-    }
-    Ok(size)
-}
-
-fn type_instance(alloc: Global, basis: &Basis, t: &Term, times: u32) -> Result<u32, Failure> {
-    let pairs = type_pair(alloc, "A")?;
-    let th = reflexive(alloc, basis, t)?;
-    let mut size = 0;
-    for _ in 0..times {
-        size = with_types(alloc, &pairs, &th)?;
-    }
-    Ok(size)
+// `(\x. t) x`, for x of the type A.
+fn redex(alloc: Global, t: &Term) -> Result<Term, Failure> {
+    let x = term(alloc, "x:A")?;
+    let function = Term::abs(alloc, &x, t)?;
+    Ok(Term::comb(alloc, &function, &x)?)
 }

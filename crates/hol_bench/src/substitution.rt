@@ -1,17 +1,15 @@
 //! Substitution of terms and of types: over a whole term, beside a part that it leaves as it is, and through binders that capture.
 
+use crate::calls::Call;
 use crate::failure::Failure;
-use crate::terms::{
-    binary, numbered, pair, tower, type_pair, type_variable, variable, variable_of_a,
-};
-use hol_subst::{inst, vsubst};
+use crate::inference::term;
+use crate::terms::{tower, type_pair};
 use hol_terms::Term;
-use hol_types::{Name, Ty};
 use std::alloc::Global;
 
 /// Does a job of substitution so many times, and answers the size of the last result.
 ///
-/// `tower`: x under so many applications. `beside`: x beside so many applications in which it does not occur. `captures`: z under so
+/// `tower`: x under so many applications. `beside`: x beside so many applications in which it does not occur. `captures`: x under so
 /// many binders, whose variables are all free in the term that comes in. `types`: a type for that of x and of all applications to it.
 /// `types_beside`: a type for that of a variable beside so many applications in which it does not occur.
 pub(crate) fn substitution(
@@ -20,116 +18,69 @@ pub(crate) fn substitution(
     size: u32,
     times: u32,
 ) -> Result<u32, Failure> {
+    let t = subject(alloc, job, size)?;
     match job {
-        "tower" => in_tower(alloc, size, times),
-        "beside" => in_one_side(alloc, size, times),
-        "captures" => through_binders(alloc, size, times),
-        "types" => of_all_types(alloc, size, times),
-        "types_beside" => of_one_type(alloc, size, times),
+        "types" => retyped(alloc, &t, "A", times),
+        "types_beside" => retyped(alloc, &t, "C", times),
+        _ => replaced(alloc, job, size, &t, times),
+    }
+}
+
+// The term with the new one for x.
+fn replaced(alloc: Global, job: &str, size: u32, t: &Term, times: u32) -> Result<u32, Failure> {
+    let pairs = [(new_term(alloc, job, size)?, term(alloc, "x:A")?)];
+    Call::Vsubst(&pairs, t).timed(alloc, times)
+}
+
+// The term that comes in.
+fn new_term(alloc: Global, job: &str, size: u32) -> Result<Term, Failure> {
+    match job {
+        "captures" => layers(alloc, "(g:A->A->A)", size),
+        _ => term(alloc, "(f:A->A) y"),
+    }
+}
+
+// The term with B for a type variable.
+fn retyped(alloc: Global, t: &Term, name: &str, times: u32) -> Result<u32, Failure> {
+    let pairs = type_pair(alloc, name)?;
+    Call::Inst(&pairs, t).timed(alloc, times)
+}
+
+// The term in which something is replaced.
+fn subject(alloc: Global, job: &str, size: u32) -> Result<Term, Failure> {
+    match job {
+        "tower" | "types" => tower(alloc, "x:A", size),
+        "beside" => beside(alloc, "(g:A->A->A) x", size),
+        "types_beside" => beside(alloc, "(g:C->A->A) x", size),
+        "captures" => layers(alloc, "", size),
         _ => Err(Failure::Words),
     }
 }
 
-fn in_tower(alloc: Global, size: u32, times: u32) -> Result<u32, Failure> {
-    let t = tower(alloc, "x", size)?;
-    let new = tower(alloc, "y", 1)?;
-    replaced(alloc, &t, "x", &new, times)
-}
-
-fn in_one_side(alloc: Global, size: u32, times: u32) -> Result<u32, Failure> {
-    let t = beside(alloc, size)?;
-    let new = tower(alloc, "y", 1)?;
-    replaced(alloc, &t, "x", &new, times)
-}
-
-fn through_binders(alloc: Global, size: u32, times: u32) -> Result<u32, Failure> {
-    let t = binders(alloc, size)?;
-    let new = captured(alloc, size)?;
-    replaced(alloc, &t, "z", &new, times)
-}
-
-fn of_all_types(alloc: Global, size: u32, times: u32) -> Result<u32, Failure> {
-    let t = tower(alloc, "x", size)?;
-    retyped(alloc, &t, "A", times)
-}
-
-fn of_one_type(alloc: Global, size: u32, times: u32) -> Result<u32, Failure> {
-    let t = beside_another_type(alloc, size)?;
-    retyped(alloc, &t, "C", times)
-}
-
-// The sizes of what substitution gives: these two say nothing of what it promises, so that the loops over them are cheap to prove.
-fn substituted(alloc: Global, pairs: &[(Term, Term)], t: &Term) -> Result<u32, Failure> {
-    Ok(vsubst(alloc, pairs, t)?.size())
-}
-
-fn instantiated(alloc: Global, pairs: &[(Ty, Name)], t: &Term) -> Result<u32, Failure> {
-    Ok(inst(alloc, pairs, t)?.size())
-}
-
-// The term with the new one for a variable of the type A, so many times.
-fn replaced(alloc: Global, t: &Term, name: &str, new: &Term, times: u32) -> Result<u32, Failure> {
-    let pairs = term_pair(alloc, name, new)?;
-    let mut size = 0;
-    for _ in 0..times {
-        size = substituted(alloc, &pairs, t)?;
-    }
-    Ok(size)
-}
-
-fn term_pair(alloc: Global, name: &str, new: &Term) -> Result<Vec<(Term, Term)>, Failure> {
-    let x = variable_of_a(alloc, name)?;
-    let mut pairs = Vec::new(alloc);
-    pairs.push((new.copy()?, x))?;
-    Ok(pairs)
-}
-
-// The term with B for a type variable, so many times.
-fn retyped(alloc: Global, t: &Term, name: &str, times: u32) -> Result<u32, Failure> {
-    let pairs = type_pair(alloc, name)?;
-    let mut size = 0;
-    for _ in 0..times {
-        size = instantiated(alloc, &pairs, t)?;
-    }
-    Ok(size)
-}
-
-// A variable of the type C beside a term in whose types C does not occur.
-fn beside_another_type(alloc: Global, size: u32) -> Result<Term, Failure> {
-    let half = applied_to_another_type(alloc)?;
-    let other = tower(alloc, "z", size)?;
+// A function that is written, at a tower.
+fn beside(alloc: Global, function: &str, size: u32) -> Result<Term, Failure> {
+    let half = term(alloc, function)?;
+    let other = tower(alloc, "z:A", size)?;
     Ok(Term::comb(alloc, &half, &other)?)
 }
 
-// The function of two arguments at a variable of the type C.
-fn applied_to_another_type(alloc: Global) -> Result<Term, Failure> {
-    let c = type_variable(alloc, "C")?;
-    let g = binary(alloc, &c)?;
-    let x = variable(alloc, "x", &c)?;
-    Ok(Term::comb(alloc, &g, &x)?)
-}
-
-// x beside a term in which it does not occur.
-fn beside(alloc: Global, size: u32) -> Result<Term, Failure> {
-    let x = tower(alloc, "x", 0)?;
-    let other = tower(alloc, "z", size)?;
-    pair(alloc, &x, &other)
-}
-
-// `\y0 y1 ... z`
-fn binders(alloc: Global, count: u32) -> Result<Term, Failure> {
-    let mut t = variable_of_a(alloc, "z")?;
+// `g y0 (g y1 (.. x))` for a function that is written, or `\y0 y1 ... x` for none.
+fn layers(alloc: Global, function: &str, count: u32) -> Result<Term, Failure> {
+    let mut t = term(alloc, "x:A")?;
     for number in 0..count {
-        t = Term::abs(alloc, &numbered(alloc, number)?, &t)?;
+        let y = numbered(alloc, function, number)?;
+        let around = if function.is_empty() {
+            Term::abs(alloc, &y, &t)
+        } else {
+            Term::comb(alloc, &y, &t)
+        };
+        t = around?;
     }
     Ok(t)
 }
 
-// A term in which all of y0, y1, .. are free.
-fn captured(alloc: Global, count: u32) -> Result<Term, Failure> {
-    let mut t = variable_of_a(alloc, "x")?;
-    for number in 0..count {
-        t = pair(alloc, &numbered(alloc, number)?, &t)?;
-    }
-    Ok(t)
+// The variable of a number, of the type A, behind the function.
+fn numbered(alloc: Global, function: &str, number: u32) -> Result<Term, Failure> {
+    let text = format!(in alloc; "{function} (y{number}:A)")?;
+    term(alloc, text.as_str())
 }
