@@ -1,4 +1,4 @@
-//! Tests of documents over a registry of one function: copies, and functions under names of their own. They stand in a crate of their own, since a
+//! Unit tests of what the program doesn't show: copies of values, and registries under other names. They stand in a crate of their own, since a
 //! crate with tests is proved twice.
 #![tactic(auto)]
 
@@ -7,4 +7,4 @@ mod copies_tests;
 #[cfg(test)]
 mod registries_tests;
 #[cfg(test)]
-mod setups;
+mod steps;
