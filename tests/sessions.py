@@ -140,7 +140,7 @@ def doubling(count):
     return "g N `" + r" /\ ".join(rf"x{k} = (\g. g x{k - 1} x{k - 1})" for k in range(1, count + 1)) + "`"
 
 
-TURN_LIMIT, TOO_LARGE = (f'{{"arg":"","ok":true,"refusal":{no},"text":"{text}"}}' for no, text in ((18, "turn limit"), (13, "too large")))
+TURN_LIMIT, TOO_LARGE = '{"arg":"","ok":true,"refusal":18,"text":"turn limit"}', '{"arg":"","ok":true,"refusal":13,"text":"too large"}'
 SHAPE, NOT_JSON = '{"error":3,"ok":false,"text":"shape"}', '{"error":2,"ok":false,"text":"not JSON"}'
 UNKNOWN, LONG = '{"error":4,"ok":false,"text":"unknown theory"}', '{"error":1,"ok":false,"text":"line too long"}'
 SHAPES = r"""{"op":"x"}
