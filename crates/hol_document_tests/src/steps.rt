@@ -140,35 +140,46 @@ fn is_run(
     is_carried_out(alloc, setup, command, &reads, step, state)
 }
 
-// The same from the command's text.
+// The same from what a text is read as.
+fn is_read(
+    alloc: Global,
+    setup: &Setup,
+    parsed: Parsed,
+    step: &Step,
+    state: &mut State,
+) -> Result<bool, AllocError> {
+    match parsed {
+        Parsed::Local(command) => is_run(alloc, setup, &command, step, state),
+        Parsed::Direct(_) => Ok(false),
+    }
+}
+
 fn is_met(
     alloc: Global,
     setup: &Setup,
     step: &Step,
     state: &mut State,
 ) -> Result<bool, AllocError> {
-    match parse(alloc, step.0)? {
-        Parsed::Local(command) => is_run(alloc, setup, &command, step, state),
-        Parsed::Direct(_) => Ok(false),
-    }
+    is_read(alloc, setup, parse(alloc, step.0)?, step, state)
 }
 
-fn are_met(
+// The command of the first step of which this is not so, or nothing.
+fn unmet(
     alloc: Global,
     setup: &Setup,
     steps: &[Step],
     state: &mut State,
-) -> Result<bool, AllocError> {
+) -> Result<&'static str, AllocError> {
     for step in steps {
         if !is_met(alloc, setup, step, state)? {
-            return Ok(false);
+            return Ok(step.0);
         }
     }
-    Ok(true)
+    Ok("")
 }
 
-/// Whether each of the steps is so.
-pub(crate) fn are_all_met(alloc: Global, setup: &Setup) -> Result<bool, AllocError> {
+/// The command of the first step that isn't met, or nothing.
+pub(crate) fn first_unmet(alloc: Global, setup: &Setup) -> Result<&'static str, AllocError> {
     let mut state = State::new(alloc);
-    are_met(alloc, setup, &STEPS, &mut state)
+    unmet(alloc, setup, &STEPS, &mut state)
 }
