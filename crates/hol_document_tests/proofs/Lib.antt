@@ -1,1 +1,3 @@
 pub mod Applied
+pub mod Declared
+pub mod Reduced

@@ -20,37 +20,67 @@ fn never(args: &TacArgs, goal: &Goal, turns: u32) -> Result<Tried, TacFault>
     Err(TacFault::Refused(turns))
 }
 
-// Whether names are found as a whole, of STOPS and STOP.
-fn finds(registry: &Registry) -> bool {
-    registry.find("STOP") == Some(1) && registry.find("STOPPED").is_none()
-}
-
-// What is not so of a registry of STOPS and STOP, or nothing.
-fn amiss(alloc: Global, registry: Registry) -> Result<&'static str, AllocError> {
-    if !finds(&registry) {
-        return Ok("find");
-    }
-    let setup = Setup::new(alloc, registry, 10)?;
-    first_unmet(alloc, &setup)
-}
-
-// The same of one of functions under these names. Where STOP stands twice, this is told.
-fn told(alloc: Global, names: &[&str]) -> Result<&'static str, AllocError> {
+// A registry of NO_TAC under these names, or the name that stands twice.
+fn registered(
+    alloc: Global,
+    names: &[&str],
+) -> Result<Result<Registry, RegistryError>, AllocError> {
     let mut entries = Vec::new(alloc);
     for name in names {
         let name = String::from_str(alloc, name)?;
         entries.push(Entry::new(name, TacCode::NoTac, Box::new(alloc, never)?))?;
     }
-    match Registry::new(entries) {
-        Ok(registry) => amiss(alloc, registry),
-        Err(RegistryError::Twice(name)) if name.as_str() == "STOP" => Ok("STOP twice"),
-        Err(RegistryError::Twice(_)) => Ok("another twice"),
+    Ok(Registry::new(entries))
+}
+
+// Where a name stands in a registry of these names.
+fn found(alloc: Global, names: &[&str], name: &str) -> Result<Option<usize>, Fail> {
+    match registered(alloc, names)? {
+        Ok(registry) => Ok(registry.find(name)),
+        Err(RegistryError::Twice(_)) => Err("a name stands twice".into()),
     }
 }
 
 #[test]
-fn functions_have_names_of_their_own(rt: HostRuntime) -> Result<(), Fail> {
-    assert_eq!(rt; told(rt.alloc(), &["STOPS", "STOP"])?, "");
-    assert_eq!(rt; told(rt.alloc(), &["STOPS", "STOP", "STOP"])?, "STOP twice");
+fn names_are_found_as_a_whole(rt: HostRuntime) -> Result<(), Fail> {
+    let names = ["STOPS", "", "stop", "STOP"];
+    assert_eq!(rt; found(rt.alloc(), &names, "STOP")?, Some(3));
+    assert_eq!(rt; found(rt.alloc(), &names, "")?, Some(1));
+    assert_eq!(rt; found(rt.alloc(), &names, "STOPPED")?, None);
+    assert_eq!(rt; found(rt.alloc(), &names[..2], "stops")?, None);
+    Ok(())
+}
+
+// The name that stands twice among these, or nothing.
+fn twice(alloc: Global, names: &[&str]) -> Result<Option<String>, AllocError> {
+    match registered(alloc, names)? {
+        Ok(_) => Ok(None),
+        Err(RegistryError::Twice(name)) => Ok(Some(name)),
+    }
+}
+
+#[test]
+fn no_name_stands_twice(rt: HostRuntime) -> Result<(), Fail> {
+    let stop = twice(rt.alloc(), &["STOPS", "STOP", "STOP"])?;
+    assert!(rt; matches!(stop, Some(name) if name.as_str() == "STOP"));
+    let nothing = twice(rt.alloc(), &["", "STOP", ""])?;
+    assert!(rt; matches!(nothing, Some(name) if name.is_empty()));
+    Ok(())
+}
+
+// The command of the first step that isn't met where NO_TAC is registered as STOP, or nothing.
+fn amiss(alloc: Global) -> Result<&'static str, Fail> {
+    match registered(alloc, &["STOP"])? {
+        Ok(registry) => {
+            let setup = Setup::new(alloc, registry, 10)?;
+            Ok(first_unmet(alloc, &setup)?)
+        }
+        Err(RegistryError::Twice(_)) => Err("a name stands twice".into()),
+    }
+}
+
+#[test]
+fn a_function_is_refused_by_its_name(rt: HostRuntime) -> Result<(), Fail> {
+    assert_eq!(rt; amiss(rt.alloc())?, "");
     Ok(())
 }

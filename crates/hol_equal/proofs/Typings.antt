@@ -7,7 +7,6 @@ use Rattle.hol_terms.specs.Named.{Named, comb, named_type}
 use Rattle.hol_terms.specs.Nameless.{Nameless, fixed, app, nameless}
 use Rattle.hol_terms.proofs.Typing.{type_outside}
 use Rattle.hol_formulas.specs.Equation.{equality_type, equation}
-use Rattle.hol_formulas.proofs.EquationTypes.{applied_fits}
 use Rattle.hol_kernel.specs.Items.{Items}
 use Rattle.hol_kernel.specs.Typing.{is_known, HasType}
 use Rattle.hol_kernel.proofs.Stands.{both, app_parts}

@@ -36,7 +36,7 @@ fn outcome(alloc: Global, steps: &str) -> Result<String, Fail> {
 }
 
 // The steps, and whether they are taken. A type is defined by the names of its two constants and a premise.
-const STEPS: [(&str, &str); 11] = [
+static STEPS: [(&str, &str); 11] = [
     ("type list 1", "taken"),
     ("type fun 2", "Refused(DeclareType)"),
     ("constant c bool | constant c bool", "Refused(DeclareConst)"),
@@ -71,7 +71,7 @@ fn steps_are_taken_or_refused(rt: HostRuntime) -> Result<(), Fail> {
 }
 
 // Which theorem, and what it is.
-const THEOREMS: [(&str, &str); 5] = [
+static THEOREMS: [(&str, &str); 5] = [
     ("definition", "|- (c:A->A) = (\\x. x)"),
     ("axiom", "|- p:bool"),
     ("no axiom", "Refused(AxiomOf)"),
@@ -220,7 +220,7 @@ fn stands(alloc: Global, step: Step<'_>, text: &str) -> Result<bool, Fail> {
 }
 
 // Terms, and whether each stands over the basis of a constant `c` of any type.
-const TERMS: [(&str, bool); 13] = [
+static TERMS: [(&str, bool); 13] = [
     ("x:foo", false),
     ("c:bool", true),
     ("(~):bool->bool", true),
@@ -252,7 +252,7 @@ fn is_constant(alloc: Global, own: Option<&(Name, Ty)>, row: &str) -> Result<boo
     Ok(own.0.as_str() == name && own.1.same(&ty(alloc, text)?))
 }
 
-const CONSTANTS: [&str; 13] = [
+static CONSTANTS: [&str; 13] = [
     "= of A->A->bool",
     "@ of (A->bool)->A",
     "T of bool",

@@ -39,7 +39,7 @@ fn is_joined(sign: &str, t: &Term) -> bool {
 }
 
 // A sign, and what it makes of `T` and `F`.
-const CONNECTIVES: [(&str, &str); 4] = [
+static CONNECTIVES: [(&str, &str); 4] = [
     ("/\\", "T /\\ F"),
     ("\\/", "T \\/ F"),
     ("==>", "T ==> F"),

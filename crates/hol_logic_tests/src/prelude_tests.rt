@@ -27,7 +27,7 @@ fn is_stated(alloc: Global, prelude: &Prelude, command: &str) -> Result<bool, Fa
 }
 
 // The prelude of the page on the notation.
-const STATEMENTS: [&str; 21] = [
+static STATEMENTS: [&str; 21] = [
     "g T_DEF `T = ((\\p:bool. p) = (\\p. p))`",
     "g AND_DEF `(/\\) = (\\p q. (\\f:bool->bool->bool. f p q) = (\\f. f T T))`",
     "g IMP_DEF `(==>) = (\\p q. p /\\ q <=> p)`",
@@ -69,7 +69,7 @@ fn is_named(prelude: &Prelude, entry: &(Name, Thm), name: &str) -> bool {
             .is_some_and(|th| says(&entry.1, th.concl()))
 }
 
-const REWRITES: [&str; 6] = [
+static REWRITES: [&str; 6] = [
     "REFL_CLAUSE",
     "EQ_CLAUSES",
     "NOT_CLAUSES_WEAK",

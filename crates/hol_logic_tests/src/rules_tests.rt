@@ -23,7 +23,7 @@ fn unmet(alloc: Global, rows: &[Row]) -> Result<String, Fail> {
     Ok(String::new(alloc))
 }
 
-const KERNEL: [Row; 19] = [
+static KERNEL: [Row; 19] = [
     ("REFL", "p:bool", "", "|- p:bool = p"),
     ("REFL", "x:foo", "", "Refused(Refl)"),
     ("ASSUME", "p:bool", "", "p:bool |- p:bool"),
@@ -109,7 +109,7 @@ fn rules_do_not_walk_a_shared_term(rt: HostRuntime) -> Result<(), Fail> {
     Ok(())
 }
 
-const EQUATIONS: [Row; 13] = [
+static EQUATIONS: [Row; 13] = [
     ("SYM", "", "q:bool = p", "q:bool = p |- p:bool = q"),
     ("SYM", "", "p:bool", "Refused(Sym)"),
     (
@@ -161,7 +161,7 @@ fn rules_of_equations(rt: HostRuntime) -> Result<(), Fail> {
     Ok(())
 }
 
-const QUANTIFIERS: [Row; 11] = [
+static QUANTIFIERS: [Row; 11] = [
     ("SPEC", "p:bool", "!x. x", "!x. x |- p:bool"),
     ("SPEC", "f:bool->bool", "!x. x", "Refused(Spec)"),
     ("GEN", "q:bool", "p:bool", "p:bool |- !q:bool. p"),
@@ -201,7 +201,7 @@ fn rules_of_quantifiers(rt: HostRuntime) -> Result<(), Fail> {
     Ok(())
 }
 
-const CONNECTIVES: [Row; 26] = [
+static CONNECTIVES: [Row; 26] = [
     ("EQT_INTRO", "", "p:bool", "p:bool |- p <=> T"),
     ("CONJ", "", "p:bool | q:bool", "p:bool, q:bool |- p /\\ q"),
     ("CONJUNCT1", "", "p /\\ q", "p /\\ q |- p:bool"),
@@ -252,7 +252,7 @@ fn rules_of_connectives(rt: HostRuntime) -> Result<(), Fail> {
 }
 
 // Each as HOL Light states it.
-const POSTULATES: [(Postulate, &str); 14] = [
+static POSTULATES: [(Postulate, &str); 14] = [
     (Postulate::TDef, "|- T = ((\\p:bool. p) = (\\p. p))"),
     (
         Postulate::AndDef,
@@ -342,7 +342,7 @@ fn given(alloc: Global, text: &str) -> Result<Made<Thm>, Fail> {
 }
 
 // A term, and its assumption or why there is none.
-const GIVEN: [(&str, &str); 3] = [
+static GIVEN: [(&str, &str); 3] = [
     ("p:bool", "p:bool |- p:bool"),
     ("x:ind", "Refused(Assume)"),
     ("x:foo = x", "Refused(Assume)"),

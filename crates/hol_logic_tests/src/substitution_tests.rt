@@ -16,7 +16,7 @@ fn compared(alloc: Global, s: &str, t: &str) -> Result<(Ordering, bool), Fail> {
 }
 
 // What comes before what.
-const ORDERED: [(&str, &str, &str); 6] = [
+static ORDERED: [(&str, &str, &str); 6] = [
     ("constants before bound variables", "\\x:A. c:A", "\\x:A. x"),
     ("bound variables before free ones", "\\x:A. x", "\\x:A. a:A"),
     ("free variables before applications", "z:A", "(\\x:A. x) z"),
@@ -90,7 +90,7 @@ fn instance(alloc: Global, names: &str, v: &str, body: &str) -> Result<Term, Fai
 }
 
 // What it is, the type variables, the abstraction, and its instance.
-const CAPTURES: [(&str, &str, &str, &str, &str, &str); 4] = [
+static CAPTURES: [(&str, &str, &str, &str, &str, &str); 4] = [
     ("x is captured", "A B", "x:A", "x:B", "x':bool", "x:bool"),
     (
         "nothing is captured",
@@ -173,7 +173,7 @@ fn is_replaced(alloc: Global, t: &str, new: &str, wanted: &str) -> Result<bool, 
 }
 
 // What it is, the term, what is put for `y`, and what that makes.
-const REPLACED: [(&str, &str, &str, &str); 3] = [
+static REPLACED: [(&str, &str, &str, &str); 3] = [
     ("x is captured", "\\x:A. y:A", "x:A", "\\x':A. x:A"),
     ("nothing is captured", "\\x:A. y:A", "z:A", "\\x:A. z:A"),
     (

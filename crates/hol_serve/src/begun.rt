@@ -1,5 +1,5 @@
 //! Sessions over documents that begin without theories.
-ghost use Rattle.std.specs.Prelude.{◌≡◌, ◌≢◌, ◌⊎◌, ◌≤◌, [], true, Err, IfOk, OnOk, map};
+ghost use Rattle.std.specs.Prelude.{◌≡◌, ◌≢◌, ◌⊎◌, ◌≤◌, true, Err, IfOk, OnOk, map};
 ghost use Rattle.hol_document.specs.Documents.{Documents};
 ghost use Rattle.hol_goal.specs.TacNames.{tac_name};
 ghost use Rattle.hol_exec.specs.SetupView.{setup_value};

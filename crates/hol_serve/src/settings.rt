@@ -1,6 +1,6 @@
 //! The words of the program.
 
-ghost use Rattle.std.specs.Prelude.{◌≡◌, ◌≤◌, ◌<◌, ◌^◌, map, false, true, codes, IfOk, IfSome, IsNone, Err, option_map};
+ghost use Rattle.std.specs.Prelude.{◌≡◌, ◌≤◌, ◌<◌, ◌^◌, map, false, codes, IfOk, IfSome, IsNone, Err, option_map};
 ghost use Rattle.hol_serve.specs.Settings.{is_taken, option_text, IsValue, IsOutside, AreBad};
 
 use clap::error::ErrorKind;

@@ -5,7 +5,7 @@ use Rattle.std.proofs.lemmas.Bool.{or_parts}
 use Rattle.hol_match.proofs.Apartness.{name_free}
 use Rattle.hol_types.specs.Tree.{TypeTree}
 use Rattle.hol_terms.specs.Named.{Named}
-use Rattle.hol_terms.specs.Nameless.{Nameless, nameless, free}
+use Rattle.hol_terms.specs.Nameless.{Nameless, nameless}
 use Rattle.hol_terms.specs.Primes.{HasFewestPrimes}
 use Rattle.hol_subst.specs.FreeName.{has_name, is_taken, IsFreeName}
 use Rattle.hol_subst.specs.Variant.{is_free_in}

@@ -1,6 +1,6 @@
 //! The loop: lines of a reader, answered on a writer.
 
-ghost use Rattle.std.specs.Prelude.{◌≡◌, ◌≢◌, ◌⊎◌, ◌≤◌, ◌++◌, ℕ, List, [], Bool, true, false, length, Ok, Err, IfOk, OnOk, OnErr};
+ghost use Rattle.std.specs.Prelude.{◌≡◌, ◌≢◌, ◌⊎◌, ◌++◌, ℕ, List, [], Bool, true, false, Ok, Err, IfOk, OnOk, OnErr};
 ghost use Rattle.std.specs.Io.KnownBytes.{Appends};
 ghost use Rattle.hol_session.specs.Lines.{StandsFor, ended_lines, begun_line, unless_empty, read_limit};
 ghost use Rattle.hol_session.specs.Session.{Answers, AnswersInPart, CountsUp, Finishes, StopsReading, StopsWriting};

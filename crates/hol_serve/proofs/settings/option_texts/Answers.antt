@@ -1,4 +1,4 @@
-use Rattle.std.proofs.Common.{rules, ap, ap₂, refl, codes, true, false, map, ◌≡◌, ◌∙◌, sym}
+use Rattle.std.proofs.Common.{rules, ap, ap₂, refl, codes, true, map, ◌≡◌, ◌∙◌, sym}
 use Rattle.std.proofs.lemmas.Bool.{true≢false, false_from_ne_true}
 use Rattle.clap.specs.Words.{App, app_of, first_of, is_simple, found_of, rows_of, matches_of, rule_of, with_rule, takes, kind_of}
 use Rattle.clap.specs.declared.error.ErrorKind.TheVariants.{OutOfMemory}
