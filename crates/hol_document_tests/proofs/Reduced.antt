@@ -1,5 +1,5 @@
 -- A reduction that came to an end has its theorem.
-use Rattle.std.proofs.Common.{◌≡◌, ℕ, [], sym, subst, refl, true, false, Option, Some, None}
+use Rattle.std.proofs.Common.{◌≡◌, ℕ, [], sym, subst, refl, true, Option, Some, None}
 use Rattle.std.specs.Prelude.{IsSome, is_some, Ok}
 use Rattle.std.specs.Option.{option_map}
 use Rattle.std.proofs.lemmas.Bool.{false≢true}

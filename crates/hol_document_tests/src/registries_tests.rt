@@ -33,21 +33,25 @@ fn registered(
     Ok(Registry::new(entries))
 }
 
-// Where a name stands in a registry of these names.
-fn found(alloc: Global, names: &[&str], name: &str) -> Result<Option<usize>, Fail> {
-    match registered(alloc, names)? {
-        Ok(registry) => Ok(registry.find(name)),
-        Err(RegistryError::Twice(_)) => Err("a name stands twice".into()),
+// Whether names are found as a whole, where `STOPS`, nothing, `stop` and `STOP` are registered.
+fn finds(registry: &Registry) -> bool {
+    registry.find("STOP") == Some(3)
+        && registry.find("") == Some(1)
+        && registry.find("STOPPED").is_none()
+        && registry.find("stops").is_none()
+}
+
+// Whether the registry of these can be made, and finds them so.
+fn are_found(alloc: Global) -> Result<bool, AllocError> {
+    match registered(alloc, &["STOPS", "", "stop", "STOP"])? {
+        Ok(registry) => Ok(finds(&registry)),
+        Err(RegistryError::Twice(_)) => Ok(false),
     }
 }
 
 #[test]
 fn names_are_found_as_a_whole(rt: HostRuntime) -> Result<(), Fail> {
-    let names = ["STOPS", "", "stop", "STOP"];
-    assert_eq!(rt; found(rt.alloc(), &names, "STOP")?, Some(3));
-    assert_eq!(rt; found(rt.alloc(), &names, "")?, Some(1));
-    assert_eq!(rt; found(rt.alloc(), &names, "STOPPED")?, None);
-    assert_eq!(rt; found(rt.alloc(), &names[..2], "stops")?, None);
+    assert!(rt; are_found(rt.alloc())?);
     Ok(())
 }
 
@@ -59,12 +63,19 @@ fn twice(alloc: Global, names: &[&str]) -> Result<Option<String>, AllocError> {
     }
 }
 
+fn is_name(found: &Option<String>, name: &str) -> bool {
+    match found {
+        Some(found) => found.as_str() == name,
+        None => false,
+    }
+}
+
 #[test]
 fn no_name_stands_twice(rt: HostRuntime) -> Result<(), Fail> {
     let stop = twice(rt.alloc(), &["STOPS", "STOP", "STOP"])?;
-    assert!(rt; matches!(stop, Some(name) if name.as_str() == "STOP"));
-    let nothing = twice(rt.alloc(), &["", "STOP", ""])?;
-    assert!(rt; matches!(nothing, Some(name) if name.is_empty()));
+    assert!(rt; is_name(&stop, "STOP"));
+    let empty = twice(rt.alloc(), &["", "STOP", ""])?;
+    assert!(rt; is_name(&empty, ""));
     Ok(())
 }
 

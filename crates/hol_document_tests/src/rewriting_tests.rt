@@ -1,4 +1,8 @@
 //! Where a rule of a set stands, how deep the set's outlines go, and the theorem of a beta reduction.
+ghost use Rattle.std.specs.Prelude.{◌≡◌, IfOk, Some};
+ghost use Rattle.hol_terms.specs.Named.{named_type};
+ghost use Rattle.hol_formulas.specs.Equation.{bool_type};
+
 use hol_conv::{ConvError, beta_all};
 use hol_formulas::{bool_type, dest_eq, mk_conj, mk_iff, mk_neg, occurrence, variable};
 use hol_kernel::{Basis, Given, KernelError, Thm};
@@ -9,13 +13,18 @@ use std::alloc::{AllocError, Global};
 use std::fmt::Write;
 use std::test::Fail;
 
-fn letter(alloc: Global, name: &str) -> Result<Variable, AllocError> {
+// The variable `p`.
+fn letter(alloc: Global) -> Result<Variable, AllocError>
+    ensures { IfOk result (λ v. v.1 ≡ bool_type) }
+{
     let ty = bool_type(alloc)?;
-    variable(alloc, name, &ty)
+    variable(alloc, "p", &ty)
 }
 
-fn formula(alloc: Global, name: &str) -> Result<Term, AllocError> {
-    let v = letter(alloc, name)?;
+fn formula(alloc: Global) -> Result<Term, AllocError>
+    ensures { IfOk result (λ p. named_type p ≡ Some bool_type) }
+{
+    let v = letter(alloc)?;
     occurrence(alloc, &v)
 }
 
@@ -33,25 +42,62 @@ fn told(alloc: Global, set: &RuleSet) -> Result<String, Fail> {
     Ok(text)
 }
 
-// The same of the rules of two assumed formulas.
-fn told_of(alloc: Global, first: &Term, second: &Term) -> Result<String, Fail> {
+// The rules of two assumed formulas.
+fn assumed(alloc: Global, first: &Term, second: &Term) -> Result<RuleSet, KernelError> {
     let mut thms = Vec::new(alloc);
     thms.push(Given::assumed(first)?)?;
     thms.push(Given::assumed(second)?)?;
-    told(alloc, &RuleSet::new(alloc, &thms)?)
+    Ok(RuleSet::new(alloc, &thms)?)
+}
+
+// Whether this is told of the rules of two assumed formulas.
+fn is_told(alloc: Global, first: &Term, second: &Term, wanted: &str) -> Result<bool, Fail> {
+    let set = assumed(alloc, first, second)?;
+    let found = told(alloc, &set)?;
+    Ok(found.as_str() == wanted)
+}
+
+// `p /\ ~p`.
+fn contradiction(alloc: Global, p: &Term) -> Result<Term, AllocError>
+    requires { named_type p.now ≡ Some bool_type }
+    ensures { IfOk result (λ q. named_type q ≡ Some bool_type) }
+{
+    let not_p = mk_neg(alloc, p)?;
+    mk_conj(alloc, p, &not_p)
+}
+
+// `p /\ ~p` is two rules with a variable to the left.
+fn are_parts_told(alloc: Global, p: &Term) -> Result<bool, Fail>
+    requires { named_type p.now ≡ Some bool_type }
+{
+    let both = contradiction(alloc, p)?;
+    is_told(alloc, &both, p, "1: 0 0 0 1 1 0")
+}
+
+// `~p <=> p` is one with a negation there.
+fn is_negation_told(alloc: Global, p: &Term) -> Result<bool, Fail>
+    requires { named_type p.now ≡ Some bool_type }
+{
+    let not_p = mk_neg(alloc, p)?;
+    let rule = mk_iff(alloc, &not_p, p)?;
+    is_told(alloc, &rule, p, "2: 0 0 1 0")
+}
+
+// `p /\ ~p <=> p` is one with a conjunction there.
+fn is_conjunction_told(alloc: Global, p: &Term) -> Result<bool, Fail>
+    requires { named_type p.now ≡ Some bool_type }
+{
+    let both = contradiction(alloc, p)?;
+    let rule = mk_iff(alloc, &both, p)?;
+    is_told(alloc, p, &rule, "3: 0 0 1 0")
 }
 
 #[test]
 fn rules_tell_where_they_stand(rt: HostRuntime) -> Result<(), Fail> {
-    let alloc = rt.alloc();
-    let (p, q) = (formula(alloc, "p")?, formula(alloc, "q")?);
-    let not_q = mk_neg(alloc, &q)?;
-    let both = mk_conj(alloc, &p, &not_q)?;
-    let equal = mk_iff(alloc, &not_q, &p)?;
-    let deeper = mk_iff(alloc, &both, &q)?;
-    assert_eq!(rt; told_of(alloc, &both, &q)?.as_str(), "1: 0 0 0 1 1 0");
-    assert_eq!(rt; told_of(alloc, &equal, &p)?.as_str(), "2: 0 0 1 0");
-    assert_eq!(rt; told_of(alloc, &p, &deeper)?.as_str(), "3: 0 0 1 0");
+    let p = formula(rt.alloc())?;
+    assert!(rt; are_parts_told(rt.alloc(), &p)?);
+    assert!(rt; is_negation_told(rt.alloc(), &p)?);
+    assert!(rt; is_conjunction_told(rt.alloc(), &p)?);
     Ok(())
 }
 
@@ -87,13 +133,16 @@ fn is_reduced(
     Ok(is_reduction(&th, redex, t))
 }
 
+fn is_redex_reduced(alloc: Global, v: &Variable, t: &Term) -> Result<bool, Fail> {
+    let redex = redex(alloc, v, t)?;
+    let basis = Basis::empty(alloc)?;
+    Ok(is_reduced(alloc, &basis, &redex, t, 1)?)
+}
+
 #[test]
 fn a_redex_has_its_theorem(rt: HostRuntime) -> Result<(), Fail> {
-    let alloc = rt.alloc();
-    let v = letter(alloc, "p")?;
-    let t = occurrence(alloc, &v)?;
-    let redex = redex(alloc, &v, &t)?;
-    let basis = Basis::empty(alloc)?;
-    assert!(rt; is_reduced(alloc, &basis, &redex, &t, 1)?);
+    let v = letter(rt.alloc())?;
+    let t = occurrence(rt.alloc(), &v)?;
+    assert!(rt; is_redex_reduced(rt.alloc(), &v, &t)?);
     Ok(())
 }

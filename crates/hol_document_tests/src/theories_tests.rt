@@ -1,64 +1,82 @@
 //! Theories that are made by calls: an entry is added once, and a theory is imported into one that has nothing else under its keys.
-ghost use Rattle.std.specs.Prelude.{◌≡◌};
-
-use hol_kernel::Basis;
-use hol_theory::{Env, EnvError, new_type};
+use hol_kernel::{Basis, KernelError};
+use hol_theory::{Env, EnvError, Key, new_type};
 use hol_types::Name;
 use std::alloc::Global;
 use std::test::Fail;
 
-// What an entry was refused for: the name that is taken, or the name under which another value stands.
-fn told(alloc: Global, answer: Result<(), EnvError>) -> Result<String, Fail> {
+// A name, an arity, and what adding or importing a type constructor of these comes to.
+type Row = (&'static str, u32, &'static str);
+
+static ADDED: [Row; 3] = [("t", 1, "done"), ("t", 2, "taken"), ("u", 2, "done")];
+
+static IMPORTED: [Row; 4] = [
+    ("t", 1, "done"),
+    ("u", 2, "done"),
+    ("u", 2, "done"),
+    ("u", 0, "clash"),
+];
+
+fn of_name(key: &Key, name: &str, told: &'static str) -> &'static str {
+    if key.name() == name {
+        return told;
+    }
+    "another name"
+}
+
+// Whether it was done, or why it was refused by that name.
+fn told(answer: Result<(), EnvError>, name: &str) -> &'static str {
     match answer {
-        Ok(()) => Ok(String::from_str(alloc, "done")?),
-        Err(EnvError::Taken(key)) => Ok(format!(in alloc; "taken {}", key.name())?),
-        Err(EnvError::ImportClash(key)) => Ok(format!(in alloc; "clash {}", key.name())?),
-        Err(EnvError::Memory) => Err("no memory".into()),
+        Ok(()) => "done",
+        Err(EnvError::Taken(key)) => of_name(&key, name, "taken"),
+        Err(EnvError::ImportClash(key)) => of_name(&key, name, "clash"),
+        Err(EnvError::Memory) => "no memory",
     }
 }
 
-// Adds a type constructor of that arity, declared over no items.
-#[tactic(auto, using(crate::proofs::Declared::type_follows))]
-fn add_type(alloc: Global, env: &mut Env, name: &str, arity: u32) -> Result<String, Fail> {
-    let name = Name::new(alloc, name)?;
-    let (key, value) = new_type(alloc, &Basis::empty(alloc)?, &name, arity)?;
-    told(alloc, env.add(&key, &value))
+// Adds the row's type constructor, declared over no items.
+fn added(alloc: Global, env: &mut Env, row: &Row) -> Result<&'static str, KernelError> {
+    let name = Name::new(alloc, row.0)?;
+    let (key, value) = new_type(alloc, &Basis::empty(alloc)?, &name, row.1)?;
+    Ok(told(env.add(&key, &value), row.0))
 }
 
-// A theory of one type constructor.
-fn theory(alloc: Global, name: &str, arity: u32) -> Result<Env, Fail> {
+// Imports a theory of the row's type constructor alone.
+fn imported(alloc: Global, env: &mut Env, row: &Row) -> Result<&'static str, KernelError> {
+    let mut other = Env::new(alloc);
+    added(alloc, &mut other, row)?;
+    Ok(told(env.import(&other), row.0))
+}
+
+// Whether the rows are met one after the other, and leave two entries.
+fn are_added(alloc: Global) -> Result<bool, KernelError> {
     let mut env = Env::new(alloc);
-    add_type(alloc, &mut env, name, arity)?;
-    Ok(env)
+    for row in &ADDED {
+        if added(alloc, &mut env, row)? != row.2 {
+            return Ok(false);
+        }
+    }
+    Ok(env.len() == 2)
 }
 
 #[test]
 fn an_entry_is_added_once(rt: HostRuntime) -> Result<(), Fail> {
-    let alloc = rt.alloc();
-    let mut env = Env::new(alloc);
-    assert_eq!(rt; add_type(alloc, &mut env, "t", 1)?.as_str(), "done");
-    assert_eq!(rt; add_type(alloc, &mut env, "t", 2)?.as_str(), "taken t");
-    assert_eq!(rt; add_type(alloc, &mut env, "u", 2)?.as_str(), "done");
-    assert_eq!(rt; env.len(), 2);
+    assert!(rt; are_added(rt.alloc())?);
     Ok(())
+}
+
+fn are_imported(alloc: Global) -> Result<bool, KernelError> {
+    let mut env = Env::new(alloc);
+    for row in &IMPORTED {
+        if imported(alloc, &mut env, row)? != row.2 {
+            return Ok(false);
+        }
+    }
+    Ok(env.len() == 2)
 }
 
 #[test]
 fn theories_are_imported(rt: HostRuntime) -> Result<(), Fail> {
-    let alloc = rt.alloc();
-    let mut env = theory(alloc, "t", 1)?;
-    assert_eq!(rt;
-        told(alloc, env.import(&theory(alloc, "u", 2)?))?.as_str(),
-        "done"
-    );
-    assert_eq!(rt;
-        told(alloc, env.import(&theory(alloc, "t", 1)?))?.as_str(),
-        "done"
-    );
-    assert_eq!(rt;
-        told(alloc, env.import(&theory(alloc, "u", 0)?))?.as_str(),
-        "clash u"
-    );
-    assert_eq!(rt; env.len(), 2);
+    assert!(rt; are_imported(rt.alloc())?);
     Ok(())
 }
