@@ -4,8 +4,8 @@ A file holds sessions. A session begins with a line 'FORM: NAME' and ends with t
 
 lines:      '> ' a request, '< ' the reply that is wanted.
 in turn:    '> ' a command, put at the end of a theory; '< ' the report that is wanted on the last one. '--' begins another theory.
-each:       ': ' commands that stand before; '> ' a command that is put after these alone; '< ' the report that is wanted on each
-            command since the last such line.
+each:       ': ' commands that stand before; '> ' a command that is put after these alone, or some with ' ;; ' between them; '< ' the report
+            that is wanted on the last command of each such line since the last '< '.
 
 'turns: N' below the first line runs it with '--turns N'. '#' begins a comment. Expected replies come from docs/PROTOCOL.md, RFC 8259
 and HOL Light."""
@@ -43,8 +43,11 @@ class Session:
         for at, command in enumerate(commands):
             self.add(request("insert", theory=name, at=at, text=command), OK)
 
-    def faults(self, program):
-        ran = subprocess.run([program, *self.words], input=b"\n".join(self.sent) + b"\n", stdout=subprocess.PIPE, timeout=60)
+    def faults(self, program, seconds):
+        try:
+            ran = subprocess.run([program, *self.words], input=b"\n".join(self.sent) + b"\n", stdout=subprocess.PIPE, timeout=seconds)
+        except subprocess.TimeoutExpired:
+            return [f"no end in {seconds} seconds"]
         replies = ran.stdout.decode().split("\n")
         found = [] if ran.returncode == 0 else [f"status {ran.returncode}"]
         wanted = [want for want in self.want if want != ""]
@@ -70,8 +73,9 @@ def of_each(name, words, lines):
                 if number % 64 == 0 and number:
                     for at in range(number - 64, number):
                         session.add(request("drop_theory", name=f"A{at}"), OK)
-                session.theory(f"A{number}", [*before, command])
-                session.add(request("report", theory=f"A{number}", at=len(before)), rest)
+                texts = [*before, *command.split(" ;; ")]
+                session.theory(f"A{number}", texts)
+                session.add(request("report", theory=f"A{number}", at=len(texts) - 1), rest)
                 number += 1
             commands = []
     return session
@@ -272,13 +276,14 @@ def main():
     words = argparse.ArgumentParser(description="runs the sessions of tests/sessions over the built program")
     words.add_argument("--program", default=str(BUILT))
     words.add_argument("--only", default="", help="sessions whose name has this in it")
+    words.add_argument("--seconds", type=int, default=60, help="for each session; a program with checks at run time takes long")
     given = words.parse_args()
     every = [session for file in sorted((HERE / "sessions").glob("*.txt")) for session in read(file)] + [*generated()]
     passed = failed = 0
     for session in every:
         if given.only not in session.name:
             continue
-        found = session.faults(given.program)
+        found = session.faults(given.program, given.seconds)
         passed, failed = passed + (not found), failed + bool(found)
         if found:
             print(f"FAILED {session.name}")
@@ -287,4 +292,5 @@ def main():
     return 1 if failed or not passed else 0
 
 
-sys.exit(main())
+if __name__ == "__main__":
+    sys.exit(main())
