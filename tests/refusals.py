@@ -62,7 +62,7 @@ def functions():
 def needed():
     """What has to have a line, with the least number of lines."""
     for name, kind, places, pays in functions():
-        yield from [(name, 6, 1), (name, 17, max(places, 1)), (name, 13, 1)]
+        yield from [(name, 6, 1), (name, 17, places), (name, 13, 1)]
         yield from [(name, 15, 1)] if kind in THEOREMS else []
         yield from [(name, 18, 1)] if pays else []
     rules = found(r'ForwardRule::\w+ => "(\w+)"', "src/forward_rule.rt", 8)
@@ -78,16 +78,21 @@ def needed():
     yield from [("a line", f"error {number}", 1) for number in (1, 2, 3, 9)]
 
 
+def asked_of(line):
+    """The request of a line, or an empty one."""
+    try:
+        asked = json.loads(line)
+    except ValueError:
+        asked = None
+    return asked if isinstance(asked, dict) else {}
+
+
 def refused_in(session):
     """The replies of a session that refuse."""
     theories = {}
     for line, want in zip(session.sent, session.want):
-        try:
-            asked = json.loads(line)
-            op, at = asked["op"], asked.get("at")
-        except (ValueError, TypeError, KeyError):
-            asked, op, at = {}, None, None
-        name = asked.get("theory", asked.get("name"))
+        asked = asked_of(line)
+        op, at, name = asked.get("op"), asked.get("at"), asked.get("theory", asked.get("name"))
         reply = json.loads(want) if isinstance(want, str) and want else {}
         if "error" in reply:
             yield Shown(session.name, f"error {reply['error']}", "", (line.decode(errors="replace"),))
@@ -107,13 +112,13 @@ def rows():
     """The lines of the table."""
     for line in TABLE.read_text().splitlines():
         if line and not line.startswith("#"):
-            parts = [part.strip() for part in line.split(" | ")]
+            parts = [part.strip() for part in line.split("|")]
             number = int(parts[1]) if parts[1].isdigit() else parts[1]
             yield Row(parts[0], number, *parts[2:], *[""] * (6 - len(parts)))
 
 
 def is_like(text, pattern):
-    return text.startswith(pattern[:-2]) if pattern.endswith("..") else text == pattern
+    return re.fullmatch(".*".join(map(re.escape, pattern.split(".."))), text, re.S)
 
 
 def names(row, shown):
@@ -138,11 +143,11 @@ def is_of(row, words, tacticals):
 def key_of(shown, names_of_parts):
     """What a reply refuses, by the words of the table, and the number."""
     if isinstance(shown.number, str):
-        op = re.search(r'"op":\s*"(\w+)"', shown.commands[0])
-        return (op[1] if op and op[1] in REQUESTS and shown.number > "error 2" else "a line", shown.number)
+        op = asked_of(shown.commands[0]).get("op")
+        return (op if op in REQUESTS else "a line", shown.number)
     if shown.number in BY_NAME or shown.number == 6 and shown.arg in names_of_parts:
         return (shown.arg, shown.number)
-    word = (shown.commands[-1].split() or [""])[0]
+    word = re.match(r"\w*", shown.commands[-1])[0]
     return (word if word in COMMANDS else "a text", shown.number)
 
 
