@@ -144,7 +144,7 @@ def key_of(shown, names_of_parts):
     """What a reply refuses, by the words of the table, and the number."""
     if isinstance(shown.number, str):
         op = asked_of(shown.commands[0]).get("op")
-        return (op if op in REQUESTS else "a line", shown.number)
+        return (op if op in REQUESTS and shown.number not in ("error 1", "error 2") else "a line", shown.number)
     if shown.number in BY_NAME or shown.number == 6 and shown.arg in names_of_parts:
         return (shown.arg, shown.number)
     word = re.match(r"\w*", shown.commands[-1])[0]
