@@ -5,7 +5,8 @@ other, that refuses it by this number and with this arg. '..' at the end of a co
 the refusal of a request. 'what | never N | | why' says that nothing is refused so. That the program gives these reports is what tests/sessions.py runs.
 
 What can be refused is taken from the sources: the functions on goals and their arguments, the places where each refuses and those that pay turns by
-themselves, the tacticals, the rules, the commands, the requests; so whatever is added there lacks its lines until they stand."""
+themselves, the tacticals, the rules, the commands, the requests; so whatever is added there lacks its lines until they stand. Of each word of the
+language a session has an accepted command too: no contract says that there is memory, so a body that gives up is caught by that alone."""
 
 import collections
 import json
@@ -20,7 +21,7 @@ CRATES = HERE.parent / "crates"
 TABLE = HERE / "refusals.txt"
 
 Row = collections.namedtuple("Row", "what number arg why session commands")
-# A reply that refuses: the commands of the theory up to the one that is refused, or the request itself.
+# What a reply is about: the commands of the theory up to the one that is reported, or the request itself; no number where that is accepted.
 Shown = collections.namedtuple("Shown", "session number arg commands")
 
 THEOREMS = ("Theorem", "TermAndTheorem", "Theorems")
@@ -87,8 +88,8 @@ def asked_of(line):
     return asked if isinstance(asked, dict) else {}
 
 
-def refused_in(session):
-    """The replies of a session that refuse."""
+def shown_in(session):
+    """The reports of a session, and its other replies that refuse."""
     theories = {}
     for line, want in zip(session.sent, session.want):
         asked = asked_of(line)
@@ -98,6 +99,8 @@ def refused_in(session):
             yield Shown(session.name, f"error {reply['error']}", "", (line.decode(errors="replace"),))
         elif "refusal" in reply:
             yield Shown(session.name, reply["refusal"], reply["arg"], tuple(theories[name][: at + 1]))
+        elif "goals" in reply or "made" in reply:
+            yield Shown(session.name, None, "", tuple(theories[name][: at + 1]))
         elif op in ("new_theory", "drop_theory"):
             theories[name] = []
         elif op == "insert":
@@ -151,10 +154,24 @@ def key_of(shown, names_of_parts):
     return (word if word in COMMANDS else "a text", shown.number)
 
 
+def words_accepted(shown):
+    """The words of the commands that are accepted; before a `qed` those are that no report refuses."""
+    refused = {(it.session, it.commands) for it in shown if it.number}
+    words = set()
+    for it in shown:
+        if not it.number:
+            first = 0 if it.commands[-1] == "qed" else len(it.commands) - 1
+            for at in range(first, len(it.commands)):
+                if (it.session, it.commands[: at + 1]) not in refused:
+                    words.update(re.findall(r"\w+", it.commands[at]))
+    return words
+
+
 def faults():
     """For each thing that is checked what is wrong with it, or None."""
     every = [session for file in sorted((HERE / "sessions").glob("*.txt")) for session in sessions.read(file)] + [*sessions.generated()]
-    replies = [shown for session in every for shown in refused_in(session)]
+    shown = [it for session in every for it in shown_in(session)]
+    replies = [it for it in shown if it.number]
     table, need = [*rows()], [*needed()]
     counts = collections.Counter((row.what, row.number) for row in table)
     tacticals = {what for what, number, _ in need if number == 17} - {name for name, *_ in functions()}
@@ -168,13 +185,16 @@ def faults():
         elif not is_of(row, COMMANDS, tacticals):
             yield f"{told}\n  its commands are not about it"
         else:
-            yield None if any(names(row, shown) for shown in replies) else f"{told}\n  no such session, or no such report in it"
+            yield None if any(names(row, it) for it in replies) else f"{told}\n  no such session, or no such report in it"
     for row, times in collections.Counter(row[:3] + row[4:] for row in table if not str(row.number).startswith("never ")).items():
         yield f"{row}\n  stands {times} times" if times > 1 else None
     for what, number, least in need:
         has = counts[what, number]
         yield None if has >= least or counts[what, f"never {number}"] else f"{what} | {number}\n  has {has} lines of at least {least}"
-    for key in sorted({key_of(shown, parts) for shown in replies}, key=str):
+    accepted = words_accepted(shown)
+    for word in sorted({what for what, number, _ in need if not isinstance(number, str)} - {"NO_TAC"}):
+        yield None if word in accepted else f"{word}\n  stands in no command that a session has accepted"
+    for key in sorted({key_of(it, parts) for it in replies}, key=str):
         yield None if counts[key] else f"{key[0]} | {key[1]}\n  is shown by a session and has no line"
 
 
