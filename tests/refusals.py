@@ -36,7 +36,7 @@ COMMANDS = {
 }
 REQUESTS = {
     "new_theory": (3, 5, 6, 7, 8), "drop_theory": (3, 4), "insert": (3, 4, 7, 8), "replace": (3, 4, 7), "remove": (3, 4, 7), "report": (3, 4, 7),
-    "theorems": (3, 4), "basis": (3, 4), "close": (),
+    "theorems": (3, 4), "basis": (3, 4), "stats": (), "close": (),
 }
 # What an `e` is refused by under the name of a part of it.
 BY_NAME = (14, 15, 17)
@@ -75,9 +75,9 @@ def needed():
         if word not in rules:
             yield from [Need(word, number) for number in (13, 17, 18, *((6,) if word in HANDING else ()))]
     for word in found(r'"(\w+)" => CommandWord::', "src/word.rt", 12):
-        yield from [Need(word, number) for number in COMMANDS[word]]
+        yield from [Need(word, number) for number in COMMANDS.get(word, (1,))]
     for op in found(r'"(\w+)" => (?:\w+\(value\)|Some\(Request::\w+\)),', "src/reading.rt", 9):
-        yield from [Need(op, f"error {number}") for number in REQUESTS[op]]
+        yield from [Need(op, f"error {number}") for number in REQUESTS.get(op, (3,))]
     yield from [Need("a line", f"error {number}") for number in (1, 2, 3, 9)]
 
 
@@ -149,7 +149,7 @@ def key_of(shown, names_of_parts):
     """What a reply refuses, by the words of the table, and the number."""
     if isinstance(shown.number, str):
         op = asked_of(shown.commands[0]).get("op")
-        return (op if op in REQUESTS and shown.number not in ("error 1", "error 2") else "a line", shown.number)
+        return (op if REQUESTS.get(op) and shown.number not in ("error 1", "error 2") else "a line", shown.number)
     if shown.number in BY_NAME or shown.number == 6 and shown.arg in names_of_parts:
         return (shown.arg, shown.number)
     word = re.match(r"\w*", shown.commands[-1])[0]

@@ -27,6 +27,19 @@ def request(op, **more):
     return json.dumps({"op": op, **more}, ensure_ascii=False)
 
 
+def shows(goal, *free):
+    """The report on one goal without assumptions."""
+    return json.dumps({"goals": [{"asl": [], "free": list(free), "goal": goal}], "ok": True}, separators=(",", ":"))
+
+
+def makes(*texts):
+    return json.dumps({"made": list(texts), "ok": True}, separators=(",", ":"))
+
+
+def refuses(number, text, arg=""):
+    return json.dumps({"arg": arg, "ok": True, "refusal": number, "text": text}, separators=(",", ":"))
+
+
 class Session:
     """A name, the program's words, the bytes to send, and for each line the reply that is wanted, or a pattern of it; "" where there is none."""
 
@@ -144,7 +157,7 @@ def doubling(count):
     return "g N `" + r" /\ ".join(rf"x{k} = (\g. g x{k - 1} x{k - 1})" for k in range(1, count + 1)) + "`"
 
 
-TURN_LIMIT, TOO_LARGE = '{"arg":"","ok":true,"refusal":18,"text":"turn limit"}', '{"arg":"","ok":true,"refusal":13,"text":"too large"}'
+TURN_LIMIT, TOO_LARGE = refuses(18, "turn limit"), refuses(13, "too large")
 SHAPE, NOT_JSON = '{"error":3,"ok":false,"text":"shape"}', '{"error":2,"ok":false,"text":"not JSON"}'
 UNKNOWN, LONG = '{"error":4,"ok":false,"text":"unknown theory"}', '{"error":1,"ok":false,"text":"line too long"}'
 SHAPES = r"""{"op":"x"}
@@ -237,19 +250,6 @@ def of_sizes():
     for number, (commands, want) in enumerate(cases):
         report_of(session, number, commands, want)
     return session
-
-
-def shows(goal, *free):
-    """The report on one goal without assumptions."""
-    return json.dumps({"goals": [{"asl": [], "free": list(free), "goal": goal}], "ok": True}, separators=(",", ":"))
-
-
-def makes(*texts):
-    return json.dumps({"made": list(texts), "ok": True}, separators=(",", ":"))
-
-
-def refuses(number, text, arg=""):
-    return json.dumps({"arg": arg, "ok": True, "refusal": number, "text": text}, separators=(",", ":"))
 
 
 def of_binders(count):
