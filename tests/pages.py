@@ -339,6 +339,18 @@ def missing_paths(page, text):
             yield f"there is no {path}"
 
 
+def stale_quotes(page, text):
+    """Fenced code that begins with a comment that is a file's path: its other lines stand in that file, in this order."""
+    for block in re.findall(r"^```\w+\n(.*?)^```", text, re.M | re.S):
+        first, *quoted = block.splitlines()
+        if match := re.fullmatch(r"(?://|--) ((?:crates|tests)/\S+)", first):
+            lines = iter((ROOT / match.group(1)).read_text(encoding="utf-8").splitlines() if (ROOT / match.group(1)).is_file() else ())
+            for line in quoted:
+                if line not in lines:
+                    yield f"{match.group(1)} has no such line, or not there: {line}"
+                    break
+
+
 def check(name, faults):
     found = list(faults)
     for fault in found:
@@ -364,7 +376,7 @@ def page_checks():
     pages = sorted(p for folder in (".", "docs", "bench", "examples", "tests", "clients") for p in (ROOT / folder).glob("*.md"))
     for page in pages:
         text = page.read_text(encoding="utf-8")
-        for name, faults in (("lines", long_lines), ("links", broken_links), ("paths", missing_paths)):
+        for name, faults in (("lines", long_lines), ("links", broken_links), ("paths", missing_paths), ("quotes", stale_quotes)):
             yield check(f"{page.relative_to(ROOT)}, {name}", faults(page, text))
     size = README.stat().st_size
     yield check("README.md, size", [f"{size} bytes, and at most {LARGEST_README}"] if size > LARGEST_README else [])
