@@ -13,6 +13,7 @@ import dataclasses
 import pathlib
 import re
 import sys
+import tempfile
 
 import antt
 
@@ -332,8 +333,10 @@ def broken_links(page, text):
 
 
 def missing_paths(page, text):
-    """Paths from the top of the repository; NAME and * stand for any name. What is built has `out` in its path."""
-    for path in re.findall(r"(?<![\w/.-])((?:crates|docs|tests|bench|examples|clients)/[\w./*+-]*)", text):
+    """Paths from the top of the repository, or from crates/ to a crate's files; NAME and * stand for any name. What is built has `out` in its path."""
+    paths = re.findall(r"(?<![\w/.-])((?:crates|docs|tests|bench|examples|clients)/[\w./*+-]*)", text)
+    paths += [f"crates/{path}" for path in re.findall(r"(?<![\w/.-])(hol_\w+/(?:src|specs|proofs)/[\w./*]*)", text)]
+    for path in paths:
         path = path.rstrip(".-")
         if "/out/" not in path and not any(ROOT.glob(re.sub(r"\bNAME\b", "*", path.rstrip("/")))):
             yield f"there is no {path}"
@@ -349,6 +352,41 @@ def stale_quotes(page, text):
                 if line not in lines:
                     yield f"{match.group(1)} has no such line, or not there: {line}"
                     break
+
+
+# What the reader has to tell apart: a file of definitions, and what each of them names. Another file, `Other.antt`, has `a`, `b` and `data c`, whose
+# case is `d`, and `data e`, whose case is `b2`.
+READER = (
+    ("use Rattle.x.specs.Other.{a, b}\npub f : a\nf = λ b. b", "f: a"),  # bound by λ
+    ("use Rattle.x.specs.Other.{a, b, c}\npub f : (a : c) → a\nf = b", "f: b c"),  # by a telescope
+    ("use Rattle.x.specs.Other.{a, b}\npub f : (x : a) × (b x)\nf = (λ a. a, a)", "f: a b"),  # up to a comma
+    ("use Rattle.x.specs.Other.{a, c, d}\npub f : c → c\nf d = a\nf a = a", "f: a c"),  # by a pattern, but a case isn't
+    ("use Rattle.x.specs.Other.{a, b, c}\npub f : c\nf = let a : c = b in a", "f: b c"),  # by let
+    ("use Rattle.x.specs.Other.{a, b, c}\npub record r : Type 0 where\n  pub a : c\n  pub z : a", "r: c"),  # by a field before
+    ("use Rattle.x.specs.Other.{a, b, c}\npub f : c\nf = record { a = b; c = b }", "f: b c"),  # a field's label is no name
+    ("use Rattle.x.specs.Other.{a, b as z}\npub f : a\nf = z.a", "f: a b"),  # nor what stands behind a dot
+    ("use Rattle.x.specs.Other as o\npub f : o.c\nf = o.e.b2", "f: c e"),  # a module's words, and a case behind its type
+    ("use Rattle.x.specs.Passed.{a2}\npub f : a2\nf = a2 -- b", "f: a"),  # what another file passes on; comments
+    ("use Rattle.x.specs.Other.{a, b, c}\nmodule _ (b : c) where\n  pub f : a\n  f = b", "f: a c"),  # by a section, which each of it has
+    ("use Rattle.x.specs.Other.{a, b}\nabbrev mutual\n  pub f : a\n  f = g\n\n  pub g : b\n  g = f", "f: a g; g: b f"),
+    ("use Rattle.x.specs.Other.{a, c, d}\npub f : c → a\nf x = elim x as (λ _. a) [ d ↦ a | a ↦ a ]", "f: a c"),
+)
+
+
+def reader_faults():
+    """Where the reader names other words than READER says."""
+    other = "pub a : Type 0\na = ⊥\npub b : Type 0\nb = ⊥\npub data c : Type 0 where\n  d : c\npub data e : Type 0 where\n  b2 : e\n"
+    for text, want in READER:
+        with tempfile.TemporaryDirectory() as folder:
+            specs = pathlib.Path(folder) / "x" / "specs"
+            specs.mkdir(parents=True)
+            for name, content in (("Lib", ""), ("Other", other), ("Passed", "pub use Rattle.x.specs.Other.{a as a2}\n"), ("File", text + "\n")):
+                (specs / f"{name}.antt").write_text(content, encoding="utf-8")
+            library = antt.Library(pathlib.Path(folder))
+            definitions = library.modules["x.specs.File"].definitions.values()
+            got = "; ".join(f"{d.name}: {' '.join(sorted(n.name for n in library.named_by(d)[0]))}" for d in definitions)
+        if got != want:
+            yield f"{text!r} gives {got}, and not {want}"
 
 
 def check(name, faults):
@@ -388,6 +426,7 @@ def main():
     write = parser.parse_args().write
     results = []
     try:
+        results.append(check("reader", reader_faults()))
         results += definitions_checks(write)
     except antt.Unread as error:
         results.append(check("definitions", [error]))
