@@ -106,7 +106,7 @@ def count(number, word):
 
 
 def as_sentence(text):
-    return text if text[-1] in ".:" else text + "."
+    return text if text.endswith((".", ":")) else (text or "(no sentence)") + "."
 
 
 # ---- the definitions
