@@ -47,6 +47,15 @@ local function run()
   vim.cmd('silent undo')
   keep('and is back after undo', count(6))
 
+  vim.cmd('write | edit')
+  vim.api.nvim_win_set_cursor(0, { 3, 0 })
+  vim.cmd('doautocmd CursorMoved')
+  keep('after :edit they are there again', count(6))
+  vim.api.nvim_buf_set_text(0, 2, 2, 2, 9, { 'ALL_TAC' })
+  keep('and an edit is followed', count(5))
+  vim.cmd('silent undo')
+  keep('and back', count(6))
+
   local paste = {}
   for number = 1, 125 do
     vim.list_extend(paste, { 'g P' .. number .. ' `x = x`;;', 'e ALL_TAC;;', 'e REFL_TAC;;', 'qed;;' })

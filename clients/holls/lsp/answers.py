@@ -6,6 +6,7 @@ from dataclasses import dataclass, replace
 from typing import TYPE_CHECKING, Any, Callable, Dict, List, Optional
 
 from holls import protocol, words
+from holls.files import File
 from holls.lsp import features, goals
 from holls.lsp.workspace import Document
 
@@ -95,14 +96,13 @@ class Answers:
             return known
         if self.bridge.workspace.documents.get(document.uri) is not document:
             return goals.State(number, None, None, ["the file was closed"], False)
-        session = self.bridge.session
-        failure = session.failure if session else self.bridge.failure
+        server = self.bridge.server_of(document)
+        failure = server.failure if server else self.bridge.failure
         if failure:
             return goals.State(number, None, None, ["hol_serve isn't running: " + failure], False)
-        if session is None:
-            return None
-        self.bridge.sweep.prefer([known])
-        session.pump()
+        if server is not None and server.session is not None:
+            server.sweep.prefer([known])
+            server.session.pump()
         return None
 
     def _goals(self, number: Any, params: Params) -> Optional[Answered]:
@@ -148,8 +148,8 @@ class Answers:
 
     def _has_basis(self, document: Document, name: str, basis: List[Optional[str]]) -> bool:
         """Whether the words on a theorem's basis are there; they are asked for once."""
-        session = self.bridge.session
-        if session is None or session.failure:
+        server = self.bridge.server_of(document)
+        if server is None or server.session is None or server.failure:
             return True
         if not basis:
             basis.append(None)
@@ -162,15 +162,20 @@ class Answers:
             items = reply.items if isinstance(reply, protocol.Items) else None
             then("(what it rests on isn't known)" if items is None else words.rests(items))
 
-        self.bridge.session.ask(protocol.line({"op": "basis", "theory": document.file.theory.name, "name": name}), answer)
+        self.bridge.server_of(document).session.ask(protocol.line({"op": "basis", "theory": document.file.theory.name, "name": name}), answer)
 
     def _definition(self, _: Any, params: Params) -> Answered:
         document = self.document(params)
-        found = features.definition(self.bridge.sweep.files, document.file, document.place(params["position"]))
+        found = features.definition(self._files(document), document.file, document.place(params["position"]))
         if found is None:
             return Answered(None)
         owners = [other.uri for other in self.bridge.workspace.documents.values() if other.file is found[0]]
         return Answered({"uri": owners[0] if owners else "file://" + found[0].path, "range": found[1]})
+
+    def _files(self, document: Document) -> List[File]:
+        """The files of a document's project that are sent."""
+        server = self.bridge.server_of(document)
+        return server.files if server else [document.file]
 
     def _completion(self, _: Any, params: Params) -> Answered:
         document = self.document(params)
