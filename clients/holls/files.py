@@ -3,7 +3,7 @@
 from __future__ import annotations
 
 import os
-from typing import List, Optional, Tuple
+from typing import Any, List, Optional, Tuple
 
 from holls import notation, protocol
 from holls.places import Lines
@@ -22,6 +22,7 @@ class File:
     """A file. Each command has a place in the theory, unless it is too long or one too many.
 
     `blemishes` come from the file alone, `context` from what stands beside it; with `is_shadowed` another file is its theory.
+    `written` is what the module `names` keeps of it.
     """
 
     def __init__(self, path: str) -> None:
@@ -30,6 +31,7 @@ class File:
         self.blemishes: List[Blemish] = []
         self.context: List[Blemish] = []
         self.is_shadowed = False
+        self.written: Optional[Tuple[Cut, List[Any]]] = None
         self._slots: List[Optional[int]] = []
         self.take("")
 

@@ -60,6 +60,10 @@ class Project:
         """All files of the project."""
         return sorted(path for found in self._paths.values() for path in found)
 
+    def names(self) -> List[str]:
+        """The theories that have a file."""
+        return sorted(self._paths)
+
     def _read(self) -> None:
         path = os.path.join(self.root, PROJECT_FILE)
         self.folders = [self.root]

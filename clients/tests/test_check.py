@@ -22,7 +22,7 @@ class Checking(unittest.TestCase):
             (self.folder / name).write_bytes(content if isinstance(content, bytes) else content.encode())
         program = fake(self.folder, *server)
         done = subprocess.run(
-            [sys.executable, str(HOLLS), "check", "--server", program, *words, *files], cwd=self.folder, capture_output=True, timeout=60)
+            [sys.executable, str(HOLLS), "check", "--server", program, *words, *files], cwd=self.folder, capture_output=True, timeout=240)
         self.assertNotIn(b"Traceback", done.stderr + done.stdout)
         return done.returncode, done.stdout.decode(), done.stderr.decode()
 
@@ -113,7 +113,7 @@ class Checking(unittest.TestCase):
 class Examples(unittest.TestCase):
     def test_the_first_examples_check(self):
         files = [str(ROOT / "examples" / "theories" / (name + ".hol")) for name in ("first", "functions", "tacticals")]
-        done = subprocess.run([sys.executable, str(HOLLS), "check", "--server", str(BUILT), "--axioms", *files], capture_output=True, timeout=60)
+        done = subprocess.run([sys.executable, str(HOLLS), "check", "--server", str(BUILT), "--axioms", *files], capture_output=True, timeout=240)
         self.assertEqual((done.returncode, done.stderr), (0, b""), done.stdout.decode())
 
 

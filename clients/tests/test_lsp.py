@@ -16,7 +16,7 @@ from holls.lsp import wire
 from tests.fake_server import Documents
 from tests.helpers import BUILT, HOLLS, ROOT, fake, proofs
 
-SECONDS = 30
+SECONDS = 120
 
 
 class Editor:
@@ -149,16 +149,16 @@ class Bridging(unittest.TestCase):
 
     def test_an_edit_sends_what_changed_and_mends_what_is_said(self):
         editor = self.editor()
-        editor.open(self.uri, proofs(250))
-        editor.until(lambda: len(self.requests()) == 3 + 1 + 1000 + 1000)
+        editor.open(self.uri, proofs(100))
+        editor.until(lambda: len(self.requests()) == 3 + 1 + 499 + 400)  # Three ask what is served; 99 are hidden.
         before = len(self.edits())
-        editor.change(self.uri, 2, "NO", ((5 * 100 + 1, 2), (5 * 100 + 1, 5)))
-        editor.until(lambda: any(line == 501 and severity == 1 for line, severity, _ in editor.said(self.uri)))
+        editor.change(self.uri, 2, "NO", ((5 * 50 + 1, 2), (5 * 50 + 1, 5)))
+        editor.until(lambda: any(line == 251 and severity == 1 for line, severity, _ in editor.said(self.uri)))
         self.assertEqual(self.edits()[before:], ["replace"])
-        editor.until(lambda: len(self.requests()) > 2030)
-        asked = [request["at"] for request in self.requests() if request["op"] == "report"][1000:1020]
-        self.assertEqual((min(asked), max(asked)), (401, 420))  # What stands above the edit is known, and what is seen comes first.
-        editor.change(self.uri, 3, "ALL", ((501, 2), (501, 4)))
+        editor.until(lambda: len(self.requests()) > 925)
+        asked = [request["at"] for request in self.requests() if request["op"] == "report"][400:420]
+        self.assertEqual((min(asked), max(asked)), (251, 274))  # What stands above the edit is known, and what is seen comes first.
+        editor.change(self.uri, 3, "ALL", ((251, 2), (251, 4)))
         editor.until(lambda: editor.said(self.uri) == [])
         self.assertEqual(editor.versions[self.uri], 3)
 
@@ -266,13 +266,28 @@ class Bridging(unittest.TestCase):
         self.assertEqual([(found["startLine"], found["endLine"]) for found in foldings], [(2, 5), (7, 10), (0, 1)])
         at = dict(document, position={"line": 7, "character": 3})
         self.assertEqual(editor.ask("textDocument/definition", at)["range"]["start"], {"line": 7, "character": 2})
+        at = dict(document, position={"line": 8, "character": 3})
         labels = [found["label"] for found in editor.ask("textDocument/completion", at)]
-        self.assertLess({"N0", "CONJ_TAC", "qed", "TRUTH"}, set(labels))
-        hover = editor.ask("textDocument/hover", dict(document, position={"line": 5, "character": 1}))
+        self.assertLess({"N0", "CONJ_TAC", "THEN", "TRUTH"}, set(labels))
+        hover = self.hover(editor, 5, 1)
         self.assertEqual(hover["contents"]["value"], "```hol\nthm N0 |- f x = f x\nrests on no axioms or definitions of its own\n```")
+        hover = self.hover(editor, 2, 3)
+        self.assertEqual(hover["contents"]["value"], "```hol\nN0: |- f x = f x\n```\n\ntheorem of A\n\nrests on no axioms or definitions of its own")
+        hover = editor.ask("textDocument/hover", dict(document, position={"line": 3, "character": 4}))
+        self.assertIn("Fits any goal and leaves it as it is.", hover["contents"]["value"])
+        symbols = editor.ask("workspace/symbol", {"query": "n1"})
+        self.assertEqual([(found["name"], found["containerName"]) for found in symbols], [("N1", "A")])
         self.assertEqual(editor.goals(self.uri, 10, 1)["messages"], ["thm N1 |- f x = f x"])
         lenses = editor.ask("textDocument/codeLens", document)
         self.assertEqual(editor.ask("codeLens/resolve", lenses[1])["command"]["title"], "rests on no axioms or definitions of its own")
+
+    def hover(self, editor, line, column):
+        """A hover that has what a theorem rests on, which one that comes too early lacks."""
+        until = time.monotonic() + SECONDS
+        while True:
+            found = editor.ask("textDocument/hover", {"textDocument": {"uri": self.uri}, "position": {"line": line, "character": column}})
+            if "rests on" in found["contents"]["value"] or time.monotonic() > until:
+                return found
 
     def test_a_long_term_is_shown_in_part(self):
         editor = self.editor()
@@ -318,7 +333,7 @@ class Bridging(unittest.TestCase):
         editor.open(other, "import C;;\nimport D;;\n")
         editor.until(lambda: [found[0] for found in editor.said(other)] == [1])
         (self.folder / "hol-project.json").write_text('{"folders": "library"}')
-        editor.until(lambda: [found[:2] for found in editor.said(other)][:2] == [(0, 1), (0, 1)])
+        editor.until(lambda: [found[:2] for found in editor.said(other)]== [(0, 1), (1, 1)])
         self.assertIn("hol-project.json can't be read", editor.published[other][0]["message"])
         self.assertEqual(editor.end(), 0)
 

@@ -40,7 +40,7 @@ class InNeovim(unittest.TestCase):
                      XDG_STATE_HOME=str(folder), XDG_DATA_HOME=str(folder), XDG_CONFIG_HOME=str(folder))
         words = [NVIM, "--headless", "-u", "NONE", "-i", "NONE", "--cmd", "set rtp^=%s noswapfile" % (CLIENTS / "neovim"),
                  "-S", str(CLIENTS / "tests" / "neovim.lua")]
-        done = subprocess.run(words, env=given, cwd=folder, capture_output=True, timeout=200)
+        done = subprocess.run(words, env=given, cwd=folder, capture_output=True, timeout=280)
         self.assertTrue((folder / "results").exists(), done.stderr.decode())
         return json.loads((folder / "results").read_text())
 

@@ -2,19 +2,26 @@
 
 from __future__ import annotations
 
+import time
 from dataclasses import dataclass, replace
 from typing import TYPE_CHECKING, Any, Callable, Dict, List, Optional
 
 from holls import protocol, words
 from holls.files import File
-from holls.lsp import features, goals
+from holls.lsp import completion, features, goals, hovering, lookup
+from holls.lsp.navigation import Navigation
 from holls.lsp.workspace import Document
+from holls.manual import COMMANDS
+from holls.names import THEOREM
 
 if TYPE_CHECKING:
     from holls.lsp.bridge import Bridge
 
 INTERNAL = -32603
 """The protocol's number of an error in the server itself."""
+
+BASIS_SECONDS = 1.0
+"""So long a hover waits for what a theorem rests on."""
 
 Params = Dict[str, Any]
 
@@ -28,10 +35,11 @@ class Answered:
 
 @dataclass
 class Waiter:
-    """A request that is answered once reports are there. `attempt` answers None as long as it isn't."""
+    """A request that is answered once reports are there. `attempt` answers None as long as it isn't; after `until` it asks for less."""
 
     number: Any
     attempt: Callable[[], Optional[Answered]]
+    until: Optional[float] = None
 
 
 class BadParams(Exception):
@@ -44,9 +52,11 @@ class Answers:
     def __init__(self, bridge: "Bridge") -> None:
         self.bridge = bridge
         self.waiters: List[Waiter] = []
+        self.navigation = Navigation(bridge.workspace)
         self.served: Dict[str, Callable[[Any, Params], Optional[Answered]]] = {
             "textDocument/hover": self._hover, "proof/goals": self._goals, "textDocument/definition": self._definition,
-            "textDocument/completion": self._completion, "textDocument/codeLens": self._lenses, "codeLens/resolve": self._resolve,
+            "textDocument/references": self._references, "textDocument/documentLink": self._links,
+            "workspace/symbol": self._all_symbols, "textDocument/completion": self._completion, "textDocument/codeLens": self._lenses, "codeLens/resolve": self._resolve,
             "textDocument/documentSymbol": self._symbols, "textDocument/foldingRange": self._foldings,
         }
 
@@ -83,11 +93,16 @@ class Answers:
     def _foldings(self, _: Any, params: Params) -> Answered:
         return Answered(features.foldings(self.document(params).file))
 
-    def _wait(self, number: Any, attempt: Callable[[], Optional[Answered]]) -> Optional[Answered]:
+    def _wait(self, number: Any, attempt: Callable[[], Optional[Answered]], until: Optional[float] = None) -> Optional[Answered]:
         done = attempt()
         if done is None:
-            self.waiters.append(Waiter(number, attempt))
+            self.waiters.append(Waiter(number, attempt, until))
         return done
+
+    def times(self) -> List[float]:
+        """When a request that waits is to be tried again, whatever comes."""
+        now = time.monotonic()
+        return [waiter.until for waiter in self.waiters if waiter.until is not None and waiter.until > now]
 
     def _state(self, document: Document, number: Optional[int]) -> Optional[goals.State]:
         """The state after a command; None while a report is missing, which is then asked for before all others."""
@@ -127,24 +142,39 @@ class Answers:
         return self._wait(number, attempt)
 
     def _hover(self, number: Any, params: Params) -> Optional[Answered]:
+        """A name's meaning with what it rests on, if that is known soon; elsewhere the goals after the command."""
         document = self.document(params)
         place = document.place(params["position"])
         basis: List[Optional[str]] = []
+        until = time.monotonic() + BASIS_SECONDS
 
         def attempt() -> Optional[Answered]:
             file = document.file
-            at = file.number_at(place)
-            if at is None or not file.covers(at, place):
-                return Answered(None)
-            state = self._state(document, at)
-            name = features.theorem(file, at) if state else None
-            if state is None or name and not self._has_basis(document, name, basis):
-                return None
-            rests = basis[-1] + "\n" if name and basis and basis[-1] else ""
-            shown = {"kind": "markdown", "value": "```hol\n%s%s```" % (goals.text(state), rests)}
-            return Answered({"contents": shown, "range": features.span(file, file.commands[at].start, file.commands[at].end)})
+            word = lookup.word(self._files(document), file, place)
+            known = word.known if word else None
+            if word and word.name not in COMMANDS and (word.entry or word.theory or known or word.is_quoted):
+                if known and known.kind == THEOREM and known.file and known.is_made and time.monotonic() < until:
+                    if not self._has_basis(document, known.name, basis):
+                        return None
+                text = hovering.of_word(file, word, basis[-1] if basis else None)
+                if text:
+                    return _hover_of(file, text, word.start, word.end)
+            return self._hover_goals(document, place, basis, until)
 
-        return self._wait(number, attempt)
+        return self._wait(number, attempt, until)
+
+    def _hover_goals(self, document: Document, place: int, basis: List[Optional[str]], until: float) -> Optional[Answered]:
+        """The goals after the command at a place, or the theorem that it made."""
+        file = document.file
+        at = file.number_at(place)
+        if at is None or not file.covers(at, place):
+            return Answered(None)
+        state = self._state(document, at)
+        name = features.theorem(file, at) if state else None
+        if state is None or name and time.monotonic() < until and not self._has_basis(document, name, basis):
+            return None
+        rests = basis[-1] + "\n" if name and basis and basis[-1] else ""
+        return _hover_of(file, hovering.fenced(goals.text(state) + rests), file.commands[at].start, file.commands[at].end)
 
     def _has_basis(self, document: Document, name: str, basis: List[Optional[str]]) -> bool:
         """Whether the words on a theorem's basis are there; they are asked for once."""
@@ -166,11 +196,21 @@ class Answers:
 
     def _definition(self, _: Any, params: Params) -> Answered:
         document = self.document(params)
-        found = features.definition(self._files(document), document.file, document.place(params["position"]))
-        if found is None:
-            return Answered(None)
-        owners = [other.uri for other in self.bridge.workspace.documents.values() if other.file is found[0]]
-        return Answered({"uri": owners[0] if owners else "file://" + found[0].path, "range": found[1]})
+        return Answered(self.navigation.definition(document, self._files(document), document.place(params["position"])))
+
+    def _references(self, _: Any, params: Params) -> Answered:
+        document = self.document(params)
+        with_definition = bool((params.get("context") or {}).get("includeDeclaration", True))
+        place = document.place(params["position"])
+        return Answered(self.navigation.references(document, self._files(document), place, with_definition))
+
+    def _links(self, _: Any, params: Params) -> Answered:
+        document = self.document(params)
+        return Answered(self.navigation.links(document, self._files(document)))
+
+    def _all_symbols(self, _: Any, params: Params) -> Answered:
+        sent = [server.files for server in self.bridge.servers.values()]
+        return Answered(self.navigation.symbols(str(params["query"]), sent))
 
     def _files(self, document: Document) -> List[File]:
         """The files of a document's project that are sent."""
@@ -179,7 +219,9 @@ class Answers:
 
     def _completion(self, _: Any, params: Params) -> Answered:
         document = self.document(params)
-        return Answered(features.completions(document.file, document.place(params["position"])))
+        files = self._files(document)
+        theories = list(dict.fromkeys([file.theory.name for file in files] + document.project.names()))
+        return Answered(completion.at(files, theories, document.file, document.place(params["position"])))
 
     def _lenses(self, _: Any, params: Params) -> Answered:
         document = self.document(params)
@@ -196,3 +238,7 @@ class Answers:
             return Answered(dict(params, command={"title": title, "command": ""}))
 
         return self._wait(number, attempt)
+
+
+def _hover_of(file: File, text: str, start: int, end: int) -> Answered:
+    return Answered({"contents": {"kind": "markdown", "value": text}, "range": features.span(file, start, end)})

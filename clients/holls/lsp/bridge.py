@@ -31,7 +31,10 @@ CAPABILITIES = {
     "documentSymbolProvider": True,
     "foldingRangeProvider": True,
     "definitionProvider": True,
-    "completionProvider": {},
+    "completionProvider": {"triggerCharacters": ["\\"]},
+    "referencesProvider": True,
+    "workspaceSymbolProvider": True,
+    "documentLinkProvider": {},
     "codeLensProvider": {"resolveProvider": True},
     "executeCommandProvider": {"commands": ["holls.restart"]},
 }
@@ -86,7 +89,7 @@ class Bridge:
     def _patience(self) -> Optional[float]:
         """How long nothing has to be done."""
         now = time.monotonic()
-        times = self.publisher.times() + ([self._look_at] if self.workspace.documents else [])
+        times = self.publisher.times() + self.answers.times() + ([self._look_at] if self.workspace.documents else [])
         waits = [max(0.0, moment - now) for moment in times if moment is not None]
         return min(waits + [wait for server in self.servers.values() for wait in server.patience()], default=None)
 

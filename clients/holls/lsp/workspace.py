@@ -4,7 +4,7 @@ from __future__ import annotations
 
 import os
 from dataclasses import dataclass
-from typing import Any, Dict, List, Optional, Tuple, Union
+from typing import Any, Dict, List, Optional, Sequence, Tuple, Union
 from urllib.parse import unquote, urlparse
 
 from holls import files, graph, places, protocol
@@ -77,6 +77,7 @@ class Workspace:
         self.documents: Dict[str, Document] = {}
         self.projects = Projects()
         self._loaded: Dict[str, Tuple[int, File]] = {}
+        self._looked_at: Dict[str, Tuple[int, File]] = {}
         self._imported: Dict[str, Versions] = {}
 
     def open(self, uri: str, version: Optional[int], text: str) -> Document:
@@ -116,6 +117,34 @@ class Workspace:
             admitted[root] = self._sent(own, used)
         self._loaded = {path: loaded for path, loaded in self._loaded.items() if path in used}
         return admitted
+
+    def look(self, project: Project, name: str) -> Optional[File]:
+        """The file of a theory of a project, as it is open or on disk; None where there is none."""
+        path = project.find(name)
+        return None if isinstance(path, list) else self._at(path)
+
+    def every_file(self, project: Project, sent: Sequence[File]) -> List[File]:
+        """All files of a project: those that are open or sent, and the others on disk."""
+        known = {os.path.abspath(file.path): file for file in sent if self.projects.of(file.path) is project}
+        known.update((os.path.abspath(document.file.path), document.file) for document in self.documents.values() if document.project is project)
+        others = [self._at(path) for path in project.paths() if os.path.abspath(path) not in known]
+        return list(known.values()) + [file for file in others if file is not None]
+
+    def _at(self, path: str) -> Optional[File]:
+        """The file at a path."""
+        opened = next((document.file for document in self.documents.values() if os.path.abspath(document.file.path) == path), None)
+        if opened:
+            return opened
+        moment = changed(path)
+        if path in self._loaded and self._loaded[path][0] == moment:
+            return self._loaded[path][1]
+        if path not in self._looked_at or self._looked_at[path][0] != moment:
+            try:
+                with open(path, "rb") as stream:
+                    self._looked_at[path] = moment, files.read(path, stream.read())
+            except OSError:
+                return None
+        return self._looked_at[path][1]
 
     def _sent(self, own: List[File], used: List[str]) -> List[File]:
         """The files of a project that are sent; `used` takes the paths of those that were read."""
