@@ -106,7 +106,7 @@ class _Worker:
         if len(files) > protocol.THEORIES:
             return "%s hangs together with %d files by imports, and a server holds %d theories" % (
                 unit.file.path, len(files), protocol.THEORIES)
-        self.standing = self._joined(unit, files)
+        self.standing = joined(self.standing if self.root == unit.root else [], files)
         self.root = unit.root
         self.sweep.begin([unit.file])
         self.session.want([file.theory for file in self.standing])
@@ -117,13 +117,6 @@ class _Worker:
             self._wait(lambda: self.unanswered == 0)
         lost = [_lost(unit.file)] + unknown
         return self.session.failure or next(filter(None, lost), None)
-
-    def _joined(self, unit: Unit, files: List[File]) -> List[File]:
-        """The files that are to stand: those that do, where these are of the same project and all are few enough, and the unit's."""
-        kept = [file for file in self.standing if file not in files] if self.root == unit.root else []
-        if len(kept) + len(files) > protocol.THEORIES:
-            kept = []
-        return graph.ordered(kept + files) if kept else files
 
     def _wait(self, is_done: Callable[[], bool]) -> None:
         while not self.session.failure and not is_done():
@@ -151,6 +144,12 @@ class _Worker:
 
         self.unanswered += 1
         self.session.ask(protocol.line({"op": "basis", "theory": unit.file.theory.name, "name": name}), answer)
+
+
+def joined(standing: List[File], files: List[File]) -> List[File]:
+    """The files that are to stand in a server, in order: these, and those that do where all are few enough."""
+    kept = [file for file in standing if file not in files]
+    return graph.ordered(kept + files) if kept and len(kept) + len(files) <= protocol.THEORIES else files
 
 
 def _lost(file: File) -> Optional[str]:

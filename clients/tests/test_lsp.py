@@ -157,7 +157,7 @@ class Bridging(unittest.TestCase):
         self.assertEqual(self.edits()[before:], ["replace"])
         editor.until(lambda: len(self.requests()) > 925)
         asked = [request["at"] for request in self.requests() if request["op"] == "report"][400:420]
-        self.assertEqual((min(asked), max(asked)), (251, 274))  # What stands above the edit is known, and what is seen comes first.
+        self.assertEqual((min(asked), max(asked)), (251, 275))  # What stands above the edit is known, and what is seen comes first.
         editor.change(self.uri, 3, "ALL", ((251, 2), (251, 4)))
         editor.until(lambda: editor.said(self.uri) == [])
         self.assertEqual(editor.versions[self.uri], 3)

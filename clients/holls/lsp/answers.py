@@ -13,6 +13,7 @@ from holls.lsp.navigation import Navigation
 from holls.lsp.workspace import Document
 from holls.manual import COMMANDS
 from holls.names import THEOREM
+from holls.search import BadQuery
 
 if TYPE_CHECKING:
     from holls.lsp.bridge import Bridge
@@ -56,7 +57,7 @@ class Answers:
         self.served: Dict[str, Callable[[Any, Params], Optional[Answered]]] = {
             "textDocument/hover": self._hover, "proof/goals": self._goals, "textDocument/definition": self._definition,
             "textDocument/references": self._references, "textDocument/documentLink": self._links,
-            "workspace/symbol": self._all_symbols, "textDocument/completion": self._completion, "textDocument/codeLens": self._lenses, "codeLens/resolve": self._resolve,
+            "workspace/symbol": self._all_symbols, "hol/search": self._search, "textDocument/completion": self._completion, "textDocument/codeLens": self._lenses, "codeLens/resolve": self._resolve,
             "textDocument/documentSymbol": self._symbols, "textDocument/foldingRange": self._foldings,
         }
 
@@ -207,6 +208,13 @@ class Answers:
     def _links(self, _: Any, params: Params) -> Answered:
         document = self.document(params)
         return Answered(self.navigation.links(document, self._files(document)))
+
+    def _search(self, _: Any, params: Params) -> Answered:
+        sent = [server.files for server in self.bridge.servers.values()]
+        try:
+            return Answered(self.navigation.search(str(params["query"]), bool(params.get("conclusion")), sent))
+        except BadQuery as error:
+            raise BadParams(str(error)) from None
 
     def _all_symbols(self, _: Any, params: Params) -> Answered:
         sent = [server.files for server in self.bridge.servers.values()]

@@ -5,7 +5,7 @@ from __future__ import annotations
 from pathlib import Path
 from typing import Any, Dict, List, Optional, Sequence
 
-from holls import names
+from holls import names, search
 from holls.files import File
 from holls.lsp import features, lookup
 from holls.lsp.workspace import Document, Workspace
@@ -19,6 +19,7 @@ class Navigation:
 
     def __init__(self, workspace: Workspace) -> None:
         self.workspace = workspace
+        self.index = search.Index()
 
     def uri(self, file: File) -> str:
         """A file's address."""
@@ -68,15 +69,29 @@ class Navigation:
 
     def symbols(self, query: str, servers: Sequence[Sequence[File]]) -> List[Dict[str, Any]]:
         """The names of all projects that have a query's letters in their order; those that begin with it first."""
-        projects = {document.project.root: document.project for document in self.workspace.documents.values()}
-        sent = [file for files in servers for file in files]
-        every = {file.path: file for project in projects.values() for file in self.workspace.every_file(project, sent)}
         wanted = query.lower()
-        found = [one for file in every.values() for one in names.known(file) if _has_letters(one.name.lower(), wanted)]
+        found = [one for file in self._every(servers) for one in names.known(file) if _has_letters(one.name.lower(), wanted)]
         found.sort(key=lambda one: (not one.name.lower().startswith(wanted), wanted not in one.name.lower(), one.name))
         return [{
             "name": one.name, "kind": features.KINDS.get(one.kind, features.FUNCTION), "containerName": one.origin,
             "location": self.location(one.file, *names.name_range(one))} for one in found[:MOST]]
+
+
+    def search(self, query: str, of_conclusion: bool, servers: Sequence[Sequence[File]]) -> List[Dict[str, Any]]:
+        """The theorems that a query finds in all projects and in the prelude, the best first."""
+        asked = search.query(query, of_conclusion)
+        known = names.PRELUDE + [one for file in self._every(servers) for one in names.known(file)]
+        found = []
+        for one in self.index.find(asked, known):
+            result = {"name": one.name, "statement": one.shown, "theory": one.origin, "isMade": one.is_made}
+            found.append(dict(result, location=self.location(one.file, *names.name_range(one))) if one.file else result)
+        return found
+
+    def _every(self, servers: Sequence[Sequence[File]]) -> List[File]:
+        """The files of all projects."""
+        projects = {document.project.root: document.project for document in self.workspace.documents.values()}
+        sent = [file for files in servers for file in files]
+        return list({file.path: file for project in projects.values() for file in self.workspace.every_file(project, sent)}.values())
 
 
 def _has_letters(name: str, wanted: str) -> bool:
