@@ -26,13 +26,18 @@ class Severity(IntEnum):
 
 @dataclass(frozen=True)
 class Finding:
-    """Something to say of a range of the file. `is_open` marks a proof that is never ended; `fix` says what could be done."""
+    """Something to say of a range of the file. `is_open` marks a proof that is never ended.
+
+    `number` is the command that it is about, where it is about one, and `refusal` its refusal, where that is what is told.
+    """
 
     start: int
     end: int
     severity: Severity
     text: str
     is_open: bool = False
+    number: Optional[int] = None
+    refusal: Optional[Refusal] = None
 
 
 @dataclass
@@ -120,7 +125,8 @@ class _Walk:
         elif cause is not None:
             text = "%s (after the error on line %d)" % (text, self.line(cause))
         severity = Severity.ERROR if cause is None else Severity.NOTE
-        self.findings.append(Finding(command.place(start), max(command.place(end), command.place(start) + 1), severity, text))
+        first, last = command.place(start), max(command.place(end), command.place(start) + 1)
+        self.findings.append(Finding(first, last, severity, text, number=number, refusal=refusal))
 
     def is_told(self, number: int, refusal: Refusal) -> bool:
         """Whether an import's refusal is told by what stands beside the file: no file of that name, or a circle."""
@@ -155,7 +161,7 @@ class _Walk:
         """Says something of a command's first word."""
         command = self.file.commands[number]
         end = command.place(len(command.word)) if command.word else command.start + 1
-        self.findings.append(Finding(command.start, end, severity, text, is_open))
+        self.findings.append(Finding(command.start, end, severity, text, is_open, number))
 
     def line(self, number: int) -> int:
         """The line of a command, from 1."""

@@ -8,7 +8,7 @@ from typing import TYPE_CHECKING, Any, Callable, Dict, List, Optional
 
 from holls import protocol, words
 from holls.files import File
-from holls.lsp import completion, features, goals, hovering, lookup
+from holls.lsp import completion, features, goals, helping, hovering, lookup
 from holls.lsp.navigation import Navigation
 from holls.lsp.workspace import Document
 from holls.manual import COMMANDS
@@ -57,7 +57,8 @@ class Answers:
         self.served: Dict[str, Callable[[Any, Params], Optional[Answered]]] = {
             "textDocument/hover": self._hover, "proof/goals": self._goals, "textDocument/definition": self._definition,
             "textDocument/references": self._references, "textDocument/documentLink": self._links,
-            "workspace/symbol": self._all_symbols, "hol/search": self._search, "textDocument/completion": self._completion, "textDocument/codeLens": self._lenses, "codeLens/resolve": self._resolve,
+            "workspace/symbol": self._all_symbols, "hol/search": self._search,
+            "textDocument/codeAction": self._actions, "textDocument/signatureHelp": self._signature, "textDocument/completion": self._completion, "textDocument/codeLens": self._lenses, "codeLens/resolve": self._resolve,
             "textDocument/documentSymbol": self._symbols, "textDocument/foldingRange": self._foldings,
         }
 
@@ -208,6 +209,17 @@ class Answers:
     def _links(self, _: Any, params: Params) -> Answered:
         document = self.document(params)
         return Answered(self.navigation.links(document, self._files(document)))
+
+    def _actions(self, _: Any, params: Params) -> Answered:
+        document = self.document(params)
+        start, end = (document.place(params["range"][side]) for side in ("start", "end"))
+        files = self._files(document)
+        every = self.bridge.workspace.every_file(document.project, files)
+        return Answered(helping.actions(document.file, document.uri, files, every, start, end))
+
+    def _signature(self, _: Any, params: Params) -> Answered:
+        document = self.document(params)
+        return Answered(helping.signature(document.file, document.place(params["position"])))
 
     def _search(self, _: Any, params: Params) -> Answered:
         sent = [server.files for server in self.bridge.servers.values()]

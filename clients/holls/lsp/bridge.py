@@ -33,6 +33,8 @@ CAPABILITIES = {
     "definitionProvider": True,
     "completionProvider": {"triggerCharacters": ["\\"]},
     "referencesProvider": True,
+    "codeActionProvider": {"codeActionKinds": ["quickfix"]},
+    "signatureHelpProvider": {"triggerCharacters": [" ", "(", "[", "`"]},
     "workspaceSymbolProvider": True,
     "documentLinkProvider": {},
     "codeLensProvider": {"resolveProvider": True},

@@ -22,10 +22,11 @@ def span(file: File, start: int, end: int) -> Dict[str, Any]:
 
 def diagnostics(file: File) -> List[Dict[str, Any]]:
     """The file's findings."""
-    return [_diagnostic(file, finding) for finding in findings(file)]
+    return [diagnostic(file, finding) for finding in findings(file)]
 
 
-def _diagnostic(file: File, finding: Finding) -> Dict[str, Any]:
+def diagnostic(file: File, finding: Finding) -> Dict[str, Any]:
+    """A finding as the protocol has it."""
     end = min(finding.end, len(file.lines.text))
     where = span(file, min(finding.start, end), end)
     return {"range": where, "severity": int(finding.severity), "source": "hol", "message": finding.text}
