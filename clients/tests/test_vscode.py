@@ -9,7 +9,7 @@ import sys
 import tempfile
 import unittest
 
-from tests.helpers import CLIENTS, EDITS, HOLLS, fake
+from tests.helpers import CLIENTS, HOLLS, fake
 
 NODE = shutil.which("node")
 
@@ -18,13 +18,13 @@ NODE = shutil.which("node")
 class InVSCode(unittest.TestCase):
     def test_what_a_user_does(self):
         with tempfile.TemporaryDirectory() as name:
-            program = fake(pathlib.Path(name), "--serve", EDITS)
+            program = fake(pathlib.Path(name))
             command = [sys.executable, str(HOLLS), "lsp", "--server", program]
             given = dict(os.environ, COMMAND=json.dumps(command), TEXT="g A `p /\\ q`;;\ne CONJ_TAC;;\ne FOO_TAC;;\n")
             done = subprocess.run([NODE, str(CLIENTS / "tests" / "vscode.js")], env=given, capture_output=True, timeout=120)
         self.assertEqual(done.returncode, 0, done.stderr.decode())
         found = json.loads(done.stdout)
-        self.assertEqual(found["before"], [[2, 0, "there is no function on goals FOO_TAC; did you mean NO_TAC?"]])
+        self.assertEqual(found["before"], [[2, 0, "there is no function on goals FOO_TAC"]])
         self.assertTrue(found["goals"].startswith("goal 1 of 2\n  p : bool\n"))
         self.assertEqual(found["after"], [[0, 1, "the proof of A is never ended: add qed;; or oops;;"]])
         self.assertTrue(found["hover"].startswith("```hol\ngoal 1 of 2"))
