@@ -1,11 +1,12 @@
 """Checks the table of all refusals, tests/refusals.txt, against the sessions and the sources.
 
 A line of the table is 'what | number | arg | why | session | commands': the session has a report on the last of these commands, put one after the
-other, that refuses it by this number and with this arg. '..' at the end of a command stands for the rest of it, 'error N' in place of a number for
-the refusal of a request. 'what | never N | | why' says that nothing is refused so. That the program gives these reports is what tests/sessions.py runs.
+other, that refuses it by this number and with this arg. '..' stands for any part of a command, 'error N' in place of a number for the refusal of a
+request. 'what | never N | | why' says that nothing is refused so. That the program gives these reports is what tests/sessions.py runs.
 
 What can be refused is taken from the sources: the functions on goals and their arguments, the places where each refuses and those that pay turns by
-themselves, the tacticals, the rules, the commands, the requests; so whatever is added there lacks its lines until they stand."""
+themselves, the tacticals, the rules, the commands, the requests; so whatever is added there lacks its lines until they stand. Of each word of the
+language a session has an accepted command too: no contract says that there is memory, so a body that gives up is caught by that alone."""
 
 import collections
 import json
@@ -20,8 +21,10 @@ CRATES = HERE.parent / "crates"
 TABLE = HERE / "refusals.txt"
 
 Row = collections.namedtuple("Row", "what number arg why session commands")
-# A reply that refuses: the commands of the theory up to the one that is refused, or the request itself.
+# What a reply is about: the commands of the theory up to the one that is reported, or the request itself; no number where that is accepted.
 Shown = collections.namedtuple("Shown", "session number arg commands")
+# So many lines of this number, or one that says that there are none; where so many places of the sources refuse, just so many.
+Need = collections.namedtuple("Need", "what number places", defaults=(0,))
 
 THEOREMS = ("Theorem", "TermAndTheorem", "Theorems")
 HANDING = ("DISCH_THEN", "POP_ASSUM", "FIRST_ASSUM", "SUBGOAL_THEN")
@@ -60,22 +63,22 @@ def functions():
 
 
 def needed():
-    """What has to have a line, with the least number of lines."""
+    """What has to have lines."""
     for name, kind, places, pays in functions():
-        yield from [(name, 6, 1), (name, 17, places), (name, 13, 1)]
-        yield from [(name, 15, 1)] if kind in THEOREMS else []
-        yield from [(name, 18, 1)] if pays else []
+        yield from [Need(name, 6), Need(name, 13), Need(name, 17, places) if places else Need(name, "never 17")]
+        yield from [Need(name, 15)] if kind in THEOREMS else []
+        yield from [Need(name, 18)] if pays else []
     rules = found(r'ForwardRule::\w+ => "(\w+)"', "src/forward_rule.rt", 8)
     for rule in rules:
-        yield from [(rule, 13, 1), (rule, 14, 1)]
+        yield from [Need(rule, 13), Need(rule, 14)]
     for word in found(r'"(\w+)" => Lead::', "src/lead.rt", 21):
         if word not in rules:
-            yield from [(word, number, 1) for number in (13, 17, 18, *((6,) if word in HANDING else ()))]
+            yield from [Need(word, number) for number in (13, 17, 18, *((6,) if word in HANDING else ()))]
     for word in found(r'"(\w+)" => CommandWord::', "src/word.rt", 12):
-        yield from [(word, number, 1) for number in COMMANDS[word]]
+        yield from [Need(word, number) for number in COMMANDS[word]]
     for op in found(r'"(\w+)" => (?:\w+\(value\)|Some\(Request::\w+\)),', "src/reading.rt", 9):
-        yield from [(op, f"error {number}", 1) for number in REQUESTS[op]]
-    yield from [("a line", f"error {number}", 1) for number in (1, 2, 3, 9)]
+        yield from [Need(op, f"error {number}") for number in REQUESTS[op]]
+    yield from [Need("a line", f"error {number}") for number in (1, 2, 3, 9)]
 
 
 def asked_of(line):
@@ -87,8 +90,8 @@ def asked_of(line):
     return asked if isinstance(asked, dict) else {}
 
 
-def refused_in(session):
-    """The replies of a session that refuse."""
+def shown_in(session):
+    """The reports of a session, and its other replies that refuse."""
     theories = {}
     for line, want in zip(session.sent, session.want):
         asked = asked_of(line)
@@ -98,6 +101,8 @@ def refused_in(session):
             yield Shown(session.name, f"error {reply['error']}", "", (line.decode(errors="replace"),))
         elif "refusal" in reply:
             yield Shown(session.name, reply["refusal"], reply["arg"], tuple(theories[name][: at + 1]))
+        elif "goals" in reply or "made" in reply:
+            yield Shown(session.name, None, "", tuple(theories[name][: at + 1]))
         elif op in ("new_theory", "drop_theory"):
             theories[name] = []
         elif op == "insert":
@@ -151,31 +156,59 @@ def key_of(shown, names_of_parts):
     return (word if word in COMMANDS else "a text", shown.number)
 
 
+def words_accepted(shown):
+    """The words of the commands that are accepted; before a `qed` those are that no report refuses."""
+    refused = {(it.session, it.commands) for it in shown if it.number}
+    words = set()
+    for it in shown:
+        if not it.number:
+            first = 0 if it.commands[-1] == "qed" else len(it.commands) - 1
+            for at in range(first, len(it.commands)):
+                if (it.session, it.commands[: at + 1]) not in refused:
+                    words.update(re.findall(r"\w+", it.commands[at]))
+    return words
+
+
+def faults_of_rows(table, replies, tacticals):
+    """For each line what is wrong with it, or None."""
+    counts = collections.Counter((row.what, str(row.number)) for row in table)
+    copies = collections.Counter(row._replace(why="") for row in table)
+    for row in table:
+        told = "\n  ".join((" | ".join(str(it) for it in row), ""))
+        never = str(row.number).startswith("never ")
+        if copies[row._replace(why="")] > 1:
+            yield told + "stands more than once"
+        elif never:
+            yield told + "has lines all the same" if counts[row.what, row.number.removeprefix("never ")] else None
+        elif not is_of(row, COMMANDS, tacticals):
+            yield told + "its commands are not about it"
+        else:
+            yield None if any(names(row, it) for it in replies) else told + "no such session, or no such report in it"
+
+
+def faults_of_needs(table, need):
+    """For each thing that has to have lines what it lacks, or None."""
+    counts = collections.Counter((row.what, row.number) for row in table)
+    for what, number, places in need:
+        has = counts[what, number] or (counts[what, f"never {number}"] if not places else 0)
+        yield None if has >= max(places, 1) else f"{what} | {number}\n  has {has} lines of at least {max(places, 1)}"
+
+
 def faults():
     """For each thing that is checked what is wrong with it, or None."""
     every = [session for file in sorted((HERE / "sessions").glob("*.txt")) for session in sessions.read(file)] + [*sessions.generated()]
-    replies = [shown for session in every for shown in refused_in(session)]
+    shown = [it for session in every for it in shown_in(session)]
+    replies = [it for it in shown if it.number]
     table, need = [*rows()], [*needed()]
-    counts = collections.Counter((row.what, row.number) for row in table)
-    tacticals = {what for what, number, _ in need if number == 17} - {name for name, *_ in functions()}
-    parts = {what for what, number, _ in need if number in (6, 14, 17)}
-    for row in table:
-        told = " | ".join(str(it) for it in row)
-        if str(row.number).startswith("never "):
-            number = row.number.removeprefix("never ")
-            number = int(number) if number.isdigit() else number
-            yield f"{told}\n  has lines all the same" if counts[row.what, number] else None
-        elif not is_of(row, COMMANDS, tacticals):
-            yield f"{told}\n  its commands are not about it"
-        else:
-            yield None if any(names(row, shown) for shown in replies) else f"{told}\n  no such session, or no such report in it"
-    for row, times in collections.Counter(row[:3] + row[4:] for row in table if not str(row.number).startswith("never ")).items():
-        yield f"{row}\n  stands {times} times" if times > 1 else None
-    for what, number, least in need:
-        has = counts[what, number]
-        yield None if has >= least or counts[what, f"never {number}"] else f"{what} | {number}\n  has {has} lines of at least {least}"
-    for key in sorted({key_of(shown, parts) for shown in replies}, key=str):
-        yield None if counts[key] else f"{key[0]} | {key[1]}\n  is shown by a session and has no line"
+    parts = {it.what for it in need if it.number in (6, 14, 17)}
+    tacticals = {it.what for it in need if it.number == 17} - {name for name, *_ in functions()}
+    yield from faults_of_rows(table, replies, tacticals)
+    yield from faults_of_needs(table, need)
+    for key in sorted({key_of(it, parts) for it in replies}, key=str):
+        yield None if key in {(row.what, row.number) for row in table} else f"{key[0]} | {key[1]}\n  is shown by a session and has no line"
+    accepted = words_accepted(shown)
+    for word in sorted({it.what for it in need if isinstance(it.number, int)} - {"NO_TAC"}):
+        yield None if word in accepted else f"{word}\n  stands in no command that a session has accepted"
 
 
 def main():
