@@ -160,10 +160,16 @@ class Answers:
                         return None
                 text = hovering.of_word(file, word, basis[-1] if basis else None)
                 if text:
-                    return _hover_of(file, text, word.start, word.end)
+                    return _hover_of(file, text + (self._goals_there(file, place) if word.entry else ""), word.start, word.end)
             return self._hover_goals(document, place, basis, until)
 
         return self._wait(number, attempt, until)
+
+    @staticmethod
+    def _goals_there(file: File, place: int) -> str:
+        """The goals after the command at a place, if they are known."""
+        known = goals.state(file, file.number_at(place))
+        return "\n\n" + hovering.fenced(goals.text(known)) if isinstance(known, goals.State) else ""
 
     def _hover_goals(self, document: Document, place: int, basis: List[Optional[str]], until: float) -> Optional[Answered]:
         """The goals after the command at a place, or the theorem that it made."""
