@@ -12,8 +12,9 @@ from dataclasses import dataclass
 from typing import Callable, Deque, FrozenSet, List, Optional, Tuple, Union
 
 from holls import protocol
+from holls.difference import INSERT
 from holls.server import Ended, Line, NoServer, Server
-from holls.theory import Change, Entry, Standing, Theory
+from holls.theory import DROP, NEW, Change, Entry, Standing, Theory
 
 SLOW_SECONDS = 5.0
 """A report that takes longer is marked."""
@@ -74,6 +75,15 @@ class Session:
         """Asks something beside the reports, once the server is in step. The answer is Lost where the server ends before."""
         self._questions.append((request, answer))
         self.pump()
+
+    def ask_beside(self, theory: str, commands: List[str], answer: Answer) -> None:
+        """Asks for the report on the last of some commands, in a theory of their own that stands behind all others for so long."""
+        edits = [{"op": INSERT, "theory": theory, "at": at, "text": text} for at, text in enumerate(commands)]
+        first = {"op": NEW, "name": theory, "at": len(self.theories)}
+        for request in [first] + edits:
+            self.ask(protocol.line(request), lambda _: None)
+        self.ask(protocol.line({"op": "report", "theory": theory, "at": len(commands) - 1}), answer)
+        self.ask(protocol.line({"op": DROP, "name": theory}), lambda _: None)
 
     def pump(self) -> None:
         """Sends what can be sent now."""

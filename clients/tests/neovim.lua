@@ -56,6 +56,11 @@ local function run()
   vim.cmd('silent undo')
   keep('and back', count(6))
 
+  vim.cmd('HolSearch eta')
+  results.search = { reached = vim.wait(seconds * 1000, function() return #vim.fn.getqflist() > 0 end, 20), said = {} }
+  results.found = vim.fn.getqflist()[1].text
+  vim.cmd('cclose')
+
   local paste = {}
   for number = 1, 125 do
     vim.list_extend(paste, { 'g P' .. number .. ' `x = x`;;', 'e ALL_TAC;;', 'e REFL_TAC;;', 'qed;;' })

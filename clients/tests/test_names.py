@@ -6,7 +6,7 @@ import re
 import tempfile
 import unittest
 
-from holls import manual, notation, protocol
+from holls import binders, manual, notation, protocol
 from holls.lsp import completion, hovering, lookup
 from holls.lsp.navigation import Navigation
 from holls.lsp.workspace import Workspace
@@ -74,7 +74,7 @@ class InAProject(unittest.TestCase):
 
     def hover(self, text, more=1):
         word = lookup.word(self.files, self.document.file, C.index(text) + more)
-        return hovering.of_word(self.document.file, word, None)
+        return hovering.of_word(word, None)
 
     def test_a_hover_gives_statement_and_type_and_what_a_function_does(self):
         self.assertEqual(self.hover("ONCE;;"), "```hol\nONCE: |- x = x /\\ y = y\n```\n\ntheorem of A")
@@ -83,12 +83,12 @@ class InAProject(unittest.TestCase):
         self.assertIn("c : A->bool", self.hover("c x", 0))
         self.assertIn("Closes the goal that the theorem concludes.", self.hover("ACCEPT_TAC"))
         word = lookup.word(self.files, self.document.file, C.index("B;;"))
-        self.assertEqual(hovering.of_word(self.document.file, word, None), "the theory B")
+        self.assertEqual(hovering.of_word(word, None), "the theory B")
 
     def test_a_prelude_theorem_has_its_statement(self):
         document = self.workspace.open((self.folder / "P.hol").as_uri(), 1, "g A `T`;; e ACCEPT_TAC TRUTH;; e REWRITE_TAC [ETA_AX];;")
         word = lookup.word([document.file], document.file, document.file.lines.text.index("ETA_AX"))
-        self.assertIn("ETA_AX: |- !t:A->B. (\\x. t x) = t", hovering.of_word(document.file, word, None))
+        self.assertIn("ETA_AX: |- !t:A->B. (\\x. t x) = t", hovering.of_word(word, None))
 
     def target(self, text, more=0):
         found = self.navigation.definition(self.document, self.files, C.index(text) + more)
@@ -115,6 +115,26 @@ class InAProject(unittest.TestCase):
         self.assertIn("ELSE", [one["name"] for one in self.navigation.symbols("els", [self.files])])
         links = self.navigation.links(self.document, self.files)
         self.assertEqual([(one["range"]["start"], one["target"][-5:]) for one in links], [({"line": 0, "character": 7}, "B.hol")])
+
+
+class TypesOfVariables(unittest.TestCase):
+    def asked(self, text, at):
+        found = binders.question(text, text.index(at))
+        return found and found[len("g holls_whole `(\\holls_whole. T) ("):-len(")`")].replace("holls_", "")
+
+    def test_the_variable_is_marked_where_it_is_bound(self):
+        text = "g A `!x:A. P x ==> (?y. R x y) /\\ Q`"
+        self.assertEqual(self.asked(text, "x y"), "!x:A. (\\unused:bool.  P x ==> (?y. R x y) /\\ Q) (mark x)")
+        self.assertEqual(self.asked(text, "y)"), "!x:A. P x ==> (?y. (\\unused:bool.  R x y) (mark y)) /\\ Q")
+        self.assertEqual(self.asked(text, "Q"), "(\\unused:bool. !x:A. P x ==> (?y. R x y) /\\ Q) (mark Q)")
+        self.assertEqual(self.asked("g A `!(x:A->B) y z. x y = z`", "z."), "!(x:A->B) y z. (\\unused:bool.  x y = z) (mark z)")
+        self.assertEqual(self.asked("g A `(!x. P x) ==> x`", "x`"), "(\\unused:bool. (!x. P x) ==> x) (mark x)")
+        self.assertIsNone(self.asked("g A `!x:A->B. T`", "A->"))
+        self.assertIsNone(self.asked("g A `x`", "A"))
+
+    def test_the_type_is_that_of_the_marks_argument(self):
+        for free, said in (("A->bool", "A"), ("(A->B)->bool", "A->B"), ("(A->B) list->bool", "(A->B) list"), ("A", None)):
+            self.assertEqual(binders.answer(("P:bool", "holls_mark:" + free)), said)
 
 
 class Manual(unittest.TestCase):

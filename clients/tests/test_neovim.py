@@ -28,6 +28,7 @@ class InNeovim(unittest.TestCase):
         self.assertEqual(found.pop("failure", None), None)
         window = found.pop("window")
         self.assertTrue(window.startswith("goal 1 of 2\n  p : bool\n"), window)
+        self.assertEqual(found.pop("found"), "ETA_AX |- !t:A->B. (\\x. t x) = t  (the prelude)")
         for step, seen in found.items():
             self.assertTrue(seen["reached"], (step, seen["said"]))
         places = [said[:2] for said in found["six things to say"]["said"]]

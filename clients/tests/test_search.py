@@ -40,7 +40,7 @@ class Queries(unittest.TestCase):
         self.assertEqual(found("a = b ==> a = b"), [])
         self.assertEqual(found("assoc `_ = _`"), ["ADD_ASSOC"])
         self.assertEqual(found("?z. _"), ["DEEP"])
-        self.assertEqual(found("!z. Q z \\\\/ _"), [])
+        self.assertEqual(found("!z. Q z \\/ _"), [])
         for bad in ("_ /\\", "`_` `_`", "(_", "!. _", "_ ; _ = _"):
             with self.assertRaises(search.BadQuery):
                 found(bad)

@@ -6,7 +6,7 @@ import time
 from dataclasses import dataclass, replace
 from typing import TYPE_CHECKING, Any, Callable, Dict, List, Optional
 
-from holls import protocol, words
+from holls import binders, protocol, words
 from holls.files import File
 from holls.lsp import completion, features, goals, helping, hovering, lookup
 from holls.lsp.navigation import Navigation
@@ -153,17 +153,37 @@ class Answers:
         def attempt() -> Optional[Answered]:
             file = document.file
             word = lookup.word(self._files(document), file, place)
-            known = word.known if word else None
-            if word and word.name not in COMMANDS and (word.entry or word.theory or known or word.is_quoted):
-                if known and known.kind == THEOREM and known.file and known.is_made and time.monotonic() < until:
-                    if not self._has_basis(document, known.name, basis):
-                        return None
-                text = hovering.of_word(file, word, basis[-1] if basis else None)
+            if word and word.name not in COMMANDS and (word.entry or word.theory or word.known or word.is_quoted):
+                if time.monotonic() < until and not self._has_more(document, word, basis):
+                    return None
+                text = hovering.of_word(word, basis[-1] if basis else None)
                 if text:
-                    return _hover_of(file, text, word.start, word.end)
+                    return _hover_of(file, text + (self._goals_there(file, place) if word.entry else ""), word.start, word.end)
             return self._hover_goals(document, place, basis, until)
 
         return self._wait(number, attempt, until)
+
+    def _has_more(self, document: Document, word: lookup.Word, more: List[Optional[str]]) -> bool:
+        """Whether there is what can be asked of a name: on what a theorem rests, or the type of a variable."""
+        known = word.known
+        if known is not None:
+            is_asked = known.kind == THEOREM and known.file is not None and known.is_made
+            return not is_asked or self._has_basis(document, known.name, more)
+        server = self.bridge.server_of(document)
+        question = binders.question(word.command.text, word.command.offset(word.start)) if word.is_quoted else None
+        if question is None or server is None or server.session is None or server.failure:
+            return True
+        if not more:
+            more.append(None)
+            server.session.ask_beside(
+                "holls_types", ["import " + document.file.theory.name, question], lambda reply: more.append(_type(reply)))
+        return len(more) > 1
+
+    @staticmethod
+    def _goals_there(file: File, place: int) -> str:
+        """The goals after the command at a place, if they are known."""
+        known = goals.state(file, file.number_at(place))
+        return "\n\n" + hovering.fenced(goals.text(known)) if isinstance(known, goals.State) else ""
 
     def _hover_goals(self, document: Document, place: int, basis: List[Optional[str]], until: float) -> Optional[Answered]:
         """The goals after the command at a place, or the theorem that it made."""
@@ -258,6 +278,11 @@ class Answers:
             return Answered(dict(params, command={"title": title, "command": ""}))
 
         return self._wait(number, attempt)
+
+
+def _type(reply: object) -> Optional[str]:
+    """The type that a question's report tells."""
+    return binders.answer(reply.goals[0].free) if isinstance(reply, protocol.Goals) and reply.goals else None
 
 
 def _hover_of(file: File, text: str, start: int, end: int) -> Answered:

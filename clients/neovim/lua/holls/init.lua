@@ -135,6 +135,30 @@ function M.restart()
   end
 end
 
+-- Finds theorems by parts of names or by a pattern of what they state; the quickfix list takes them, the best first.
+function M.search(query)
+  if not client() then
+    return
+  end
+  client().request('hol/search', { query = query }, function(failure, result)
+    if failure then
+      vim.notify((failure.message or 'no answer'):gsub('^.*: ', ''), vim.log.levels.WARN)
+      return
+    end
+    local items = {}
+    for _, one in ipairs(result) do
+      local place = one.location
+      table.insert(items, {
+        filename = place and vim.uri_to_fname(place.uri) or nil, lnum = place and place.range.start.line + 1 or nil,
+        col = place and place.range.start.character + 1 or nil,
+        text = one.name .. ' |- ' .. one.statement .. (place and '' or '  (the prelude)'),
+      })
+    end
+    vim.fn.setqflist({}, ' ', { title = 'HolSearch ' .. query, items = items })
+    vim.cmd(#items > 0 and 'botright copen' or "echo 'no theorem found'")
+  end, 0)
+end
+
 local function config()
   local command = settings.command or { here .. '/bin/holls', 'lsp' }
   return {
@@ -174,6 +198,10 @@ local function keys()
   map('<LocalLeader>g', M.toggle, 'goal window')
   map('K', vim.lsp.buf.hover, 'goals after the command')
   map('gd', vim.lsp.buf.definition, 'where the name is made')
+  map('gr', vim.lsp.buf.references, 'where the name is used')
+  map('<LocalLeader>a', vim.lsp.buf.code_action, 'what could be done about the error')
+  map('<LocalLeader>w', vim.lsp.buf.workspace_symbol, 'a name of the project')
+  vim.keymap.set('i', '<C-s>', vim.lsp.buf.signature_help, { buffer = true, silent = true, desc = 'arguments of the function' })
   map('<LocalLeader>d', vim.diagnostic.open_float, 'the error in full')
   map(']d', vim.diagnostic.goto_next, 'next error')
   map('[d', vim.diagnostic.goto_prev, 'error before')
@@ -183,8 +211,9 @@ end
 function M.detach()
   local buffer = vim.api.nvim_get_current_buf()
   pcall(vim.api.nvim_del_augroup_by_name, 'holls_' .. buffer)
-  pcall(vim.api.nvim_buf_del_user_command, buffer, 'HolGoals')
-  pcall(vim.api.nvim_buf_del_user_command, buffer, 'HolRestart')
+  for _, name in ipairs({ 'HolGoals', 'HolSearch', 'HolRestart' }) do
+    pcall(vim.api.nvim_buf_del_user_command, buffer, name)
+  end
   vim.api.nvim_buf_clear_namespace(buffer, unknown, 0, -1)
   if client() and vim.lsp.buf_is_attached(buffer, client_id) then
     vim.lsp.buf_detach_client(buffer, client_id)
@@ -217,6 +246,7 @@ function M.attach()
   vim.api.nvim_create_autocmd('QuitPre', { group = group, buffer = buffer, callback = close_with_last })
   vim.api.nvim_create_autocmd({ 'CursorHold', 'BufEnter', 'WinScrolled' }, { group = group, buffer = buffer, callback = M.tell_view })
   vim.api.nvim_buf_create_user_command(buffer, 'HolGoals', M.toggle, {})
+  vim.api.nvim_buf_create_user_command(buffer, 'HolSearch', function(given) M.search(given.args) end, { nargs = '+' })
   vim.api.nvim_buf_create_user_command(buffer, 'HolRestart', function()
     if client() then M.restart() else M.attach() end
   end, {})
