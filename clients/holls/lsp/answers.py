@@ -21,8 +21,8 @@ if TYPE_CHECKING:
 INTERNAL = -32603
 """The protocol's number of an error in the server itself."""
 
-BASIS_SECONDS = 1.0
-"""So long a hover waits for what a theorem rests on."""
+BASIS_SECONDS = 5.0
+"""So long a hover waits for what a theorem rests on, or for a type; then it shows the rest."""
 
 Params = Dict[str, Any]
 
