@@ -15,6 +15,7 @@ pub mod QuantifierTacs
 pub mod Strip
 pub mod ConversionTacs
 pub mod MatchMp
+pub mod Openings
 pub mod Tac
 pub mod Answering
 pub mod TraceTypes
