@@ -31,11 +31,12 @@ all_if f (v ∷ vs) h = λ i. h v (or_left (variable_eq v v) (binds vs v) (eq_sa
 
 all_tells : (f : Variable → Bool) (vs : List Variable) → list_all f vs ≡ true → (v : Variable) → binds vs v ≡ true → f v ≡ true
 all_tells f [] h v e = absurd (cc)
-all_tells f (w ∷ vs) h v e = by (variable_eq w v) refl e (and_parts (f w) (list_all f vs) h)
+all_tells f (w ∷ vs) h v e = by (variable_eq w v) refl e (and_parts (f w) (list_all f vs) h) (λ k g. all_tells f vs k v g)
   where
-    by : (b : Bool) → variable_eq w v ≡ b → (b || binds vs v) ≡ true → (f w ≡ true) × (list_all f vs ≡ true) → f v ≡ true
-    by true q g k = ap f (sym ((variable_eq_decides w v).0 q)) ∙ k.0
-    by false q g k = all_tells f vs k.1 v g
+    by :
+        (b : Bool) → variable_eq w v ≡ b → (b || binds vs v) ≡ true → (f w ≡ true) × (list_all f vs ≡ true) → (list_all f vs ≡ true → binds vs v ≡ true → f v ≡ true) → f v ≡ true
+    by true q g k later = ap f (sym ((variable_eq_decides w v).0 q)) ∙ k.0
+    by false q g k later = later k.1 g
 
 -- ---- those of them that are not among others
 

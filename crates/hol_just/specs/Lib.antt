@@ -13,6 +13,7 @@ pub mod EquationTacs
 pub mod ConnectiveTacs
 pub mod QuantifierTacs
 pub mod Strip
+pub mod Weights
 pub mod ConversionTacs
 pub mod MatchMp
 pub mod Openings

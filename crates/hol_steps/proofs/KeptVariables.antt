@@ -1,19 +1,19 @@
 -- What a theorem's own variables become that a match doesn't determine.
-use Rattle.std.specs.Prelude.{◌≡◌, ℕ, Bool, true, false, cond, ◌||◌, List, [], ◌∷◌, ◌++◌, map, Option, Some, None, refl}
-use Rattle.std.specs.List.{AllByRecursion, filter, zip}
+use Rattle.std.specs.Prelude.{◌≡◌, ℕ, Bool, true, false, cond, ◌&&◌, ◌||◌, List, [], ◌∷◌, ◌++◌, map, Option, Some, None, Result, Ok, Err, OnOk, refl}
+use Rattle.std.specs.List.{AllByRecursion, filter, zip, list_any}
 use Rattle.std.specs.FinSet as set
 use Rattle.std.proofs.Common.{ap, sym, ◌∙◌, subst}
 use Rattle.std.proofs.lemmas.Bool.{or_left, or_right}
-use Rattle.std.proofs.lemmas.List.{append_assoc, map-append}
+use Rattle.std.proofs.lemmas.List.{append-nil, append_assoc, map-append}
 use Rattle.hol_types.specs.Tree.{TypeTree}
 use Rattle.hol_types.specs.Equal.{variable_eq}
 use Rattle.hol_types.specs.Subst.{type_for, type_subst}
 use Rattle.hol_terms.specs.Named.{Named, var}
-use Rattle.hol_terms.specs.Nameless.{Nameless, free, nameless, nameless_type}
+use Rattle.hol_terms.specs.Nameless.{Nameless, free, nameless, nameless_type, free_occurrences}
 use Rattle.hol_terms.specs.Primes.{HasFewestPrimes}
 use Rattle.hol_terms.specs.Scoped.{binds}
 use Rattle.hol_terms.proofs.Same.{variable_eq_decides}
-use Rattle.hol_subst.specs.FreeName.{is_taken}
+use Rattle.hol_subst.specs.FreeName.{is_taken, IsFreeName}
 use Rattle.hol_subst.specs.Hypotheses.{Hyps, hyps_of}
 use Rattle.hol_subst.specs.Substitution.{term_lookup, variable_inst}
 use Rattle.hol_subst.specs.Variant.{is_free_in}
@@ -30,6 +30,7 @@ use Rattle.hol_just.specs.MatchMp.{is_undetermined, own_name, kept}
 use Rattle.hol_just.proofs.MatchApart.{free_listed}
 use Rattle.hol_steps.specs.Fresh.{AreAlike, HaveSame}
 use Rattle.hol_steps.specs.Matching.{kept_of, IsKept}
+use Rattle.hol_steps.proofs.Instances.{free_in_list}
 use Rattle.hol_steps.proofs.TermsBy.{free_in_both, taken_in_both, taken_in_hyps}
 
 abbrev Variable : Type 0
@@ -177,3 +178,50 @@ module _ (s t : Nameless) where
         ∙ sym (append_assoc a.terms ((free (own_name ns (p.0.0, own)), (p.1.0, own)) ∷ []) (kept a.types (ns ++ free (own_name ns (p.0.0, own)) ∷ []) rest))
         ∙ (λ i. (sym is i).terms ++ kept a.types (sym longer i) rest);
   }
+
+  -- the first of those that are left is done
+  pub kept_next :
+      (types : List (TypeTree × List ℕ)) (all : List (Nameless × (List ℕ × TypeTree))) (own vs apart us : List (List ℕ × TypeTree)) (v u : List ℕ × TypeTree) (ns ms : List Nameless) (a b : InstanceValue) → own ≡ v ∷ vs → apart ≡ u ∷ us →
+      a.types ≡ types → IsKept s t (v, u) ns ms a b → all ≡ a.terms ++ kept_of s t types ns (zip own apart) → all ≡ b.terms ++ kept_of s t types ms (zip vs us)
+  kept_next types all own vs apart us v u ns ms a b is are same k h =
+      h ∙ (λ i. a.terms ++ kept_of s t (sym same i) ns (zip (is i) (are i))) ∙ k.goes (zip vs us) ∙ ap (λ (ts : List (TypeTree × List ℕ)). b.terms ++ kept_of s t ts ms (zip vs us)) same
+
+  -- none is left
+  pub kept_last :
+      (types : List (TypeTree × List ℕ)) (all : List (Nameless × (List ℕ × TypeTree))) (own apart : List (List ℕ × TypeTree)) (ns : List Nameless) (a : InstanceValue) → own ≡ [] → a.types ≡ types →
+      all ≡ a.terms ++ kept_of s t types ns (zip own apart) → a ≡ instance_of types all
+  kept_last types all own apart ns a none same h =
+      let ended : all ≡ a.terms = h ∙ ap (λ (vs : List (List ℕ × TypeTree)). a.terms ++ kept_of s t types ns (zip vs apart)) none ∙ append-nil a.terms in
+      λ i. instance_of (same i) (sym ended i)
+
+  pub kept_short :
+      (types : List (TypeTree × List ℕ)) (all : List (Nameless × (List ℕ × TypeTree))) (own apart : List (List ℕ × TypeTree)) (ns : List Nameless) (a : InstanceValue) → apart ≡ [] → a.types ≡ types →
+      all ≡ a.terms ++ kept_of s t types ns (zip own apart) → a ≡ instance_of types all
+  kept_short types all own apart ns a none same h =
+      let ended : all ≡ a.terms = h ∙ ap (λ (vs : List (List ℕ × TypeTree)). a.terms ++ kept_of s t types ns (zip own vs)) none ∙ by own ∙ append-nil a.terms in
+      λ i. instance_of (same i) (sym ended i)
+    where
+      by : (vs : List (List ℕ × TypeTree)) → a.terms ++ kept_of s t types ns (zip vs []) ≡ a.terms ++ []
+      by [] = refl
+      by (v ∷ vs) = refl
+
+-- ---- what calls say
+
+pub own_is_kept : (terms : List Named) (v : List ℕ × TypeTree) → false ≡ list_any (λ p. binds (free_occurrences (nameless [] p)) v) terms → v ≡ own_name (map (nameless []) terms) v
+own_is_kept terms v e =
+    sym (ap (λ b. cond b (free_name (map (nameless []) terms) v.0, v.1) v) (sym (free_in_list terms v) ∙ sym e))
+
+pub own_is_new :
+    (terms : List Named) (v : List ℕ × TypeTree) (other : List ℕ) → true ≡ list_any (λ p. binds (free_occurrences (nameless [] p)) v) terms → IsFreeName (map (nameless []) terms) v.0 other →
+    (other, v.1) ≡ own_name (map (nameless []) terms) v
+own_is_new terms v other e fewest =
+    (λ i. (is_free_name (map (nameless []) terms) v.0 other fewest i, v.1)) ∙ sym (ap (λ b. cond b (free_name (map (nameless []) terms) v.0, v.1) v) (sym (free_in_list terms v) ∙ sym e))
+
+pub terms_longer : (avoid new : List Named) (term : Named) (v w : List ℕ × TypeTree) → new ≡ avoid ++ term ∷ [] → term ≡ var v → v ≡ w → map (nameless []) new ≡ map (nameless []) avoid ++ free w ∷ []
+terms_longer avoid new term v w push is same =
+    ap (map (nameless [])) push ∙ map-append (nameless []) avoid (term ∷ []) ∙ ap (λ (p : Named). map (nameless []) avoid ++ nameless [] p ∷ []) is
+    ∙ ap (λ (u : List ℕ × TypeTree). map (nameless []) avoid ++ free u ∷ []) same
+
+pub on_ok_both : {X E A B C : Type 0} (r : Result X E) → (A → B → C) → OnOk r A → OnOk r B → OnOk r C
+on_ok_both (Ok x) f a b = f a b
+on_ok_both (Err e) f a b = tt

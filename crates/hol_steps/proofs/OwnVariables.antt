@@ -82,9 +82,23 @@ free_stays th v h = by (is_free_in (set.items (given_sequent th).hyps) v) refl
 
 -- ---- variables that are apart
 
+in_terms : (th : Given) (goal : GoalValue) (v : Variable) → is_free_in (set.items (given_sequent th).hyps) v ≡ true → is_free_in (terms_by th goal) v ≡ true
+in_terms th goal v h =
+    free_in_both (goal_terms goal) (theorem_terms th) v
+    ∙ or_right (is_free_in (goal_terms goal) v) (is_free_in (theorem_terms th) v)
+    (or_right (binds (free_occurrences (given_sequent th).concl) v) (is_free_in (set.items (given_sequent th).hyps) v) h)
+
+-- a variable whose name the terms don't have has not the name of one that stays
+pub not_of_hyps :
+    (th : Given) (goal : GoalValue) (v w : List ℕ × TypeTree) → is_taken (terms_by th goal) v.0 ≡ false → v.0 ≡ w.0 → is_free_in (set.items (given_sequent th).hyps) w ≡ true → ⊥
+not_of_hyps th goal v w new same stays =
+    let one : (v.0, w.1) ≡ w = λ i. (same i, w.1) in
+    let none : true ≡ false = sym (in_terms th goal w stays) ∙ ap (is_free_in (terms_by th goal)) (sym one) ∙ not_free (terms_by th goal) v.0 w.1 new in
+    absurd (cc)
+
 module _ (th : Given) (goal : GoalValue) (vs : List Variable) (body : Nameless)
-  (new : (v : List ℕ × TypeTree) → binds vs v ≡ true → is_taken (terms_by th goal) v.0 ≡ false) (differ : DifferInNames vs)
-  (within : (v : List ℕ × TypeTree) → binds (free_occurrences body) v ≡ true → (binds vs v || binds (free_occurrences (generalized_concl th)) v) ≡ true) where
+    (new : (v : List ℕ × TypeTree) → binds vs v ≡ true → is_taken (terms_by th goal) v.0 ≡ false) (differ : DifferInNames vs)
+    (within : (v : List ℕ × TypeTree) → binds (free_occurrences body) v ≡ true → (binds vs v || binds (free_occurrences (generalized_concl th)) v) ≡ true) where
   -- a variable of the body is one of those that were called apart, or stays
   called_apart : (v : Variable) → binds (free_occurrences body) v ≡ true → is_free_in (set.items (given_sequent th).hyps) v ≡ false → binds vs v ≡ true
   called_apart v h none = by (binds vs v) refl (within v h)
@@ -93,19 +107,6 @@ module _ (th : Given) (goal : GoalValue) (vs : List Variable) (body : Nameless)
       by true e g = e
       by false e g = let stays : true ≡ false = sym (free_stays th v g) ∙ none in absurd (cc)
 
-  in_terms : (v : Variable) → is_free_in (set.items (given_sequent th).hyps) v ≡ true → is_free_in (terms_by th goal) v ≡ true
-  in_terms v h =
-      free_in_both (goal_terms goal) (theorem_terms th) v
-      ∙ or_right (is_free_in (goal_terms goal) v) (is_free_in (theorem_terms th) v)
-      (or_right (binds (free_occurrences (given_sequent th).concl) v) (is_free_in (set.items (given_sequent th).hyps) v) h)
-
-  -- none of them has the name of one that stays
-  not_of_hyps : (v w : Variable) → binds vs v ≡ true → v.0 ≡ w.0 → is_free_in (set.items (given_sequent th).hyps) w ≡ true → ⊥
-  not_of_hyps v w h same stays =
-      let one : (v.0, w.1) ≡ w = λ i. (same i, w.1) in
-      let none : true ≡ false = sym (in_terms w stays) ∙ ap (is_free_in (terms_by th goal)) (sym one) ∙ not_free (terms_by th goal) v.0 w.1 (new v h) in
-      absurd (cc)
-
   pub opened_is_apart : is_apart (set.items (given_sequent th).hyps) body ≡ true
   opened_is_apart =
       apart_is (set.items (given_sequent th).hyps) body
@@ -113,7 +114,7 @@ module _ (th : Given) (goal : GoalValue) (vs : List Variable) (body : Nameless)
     where
       by :
           (v w : Variable) → binds vs v ≡ true → v.0 ≡ w.0 → (b c : Bool) → binds (free_occurrences body) w ≡ b → is_free_in (set.items (given_sequent th).hyps) w ≡ c → (b || c) ≡ true → v.1 ≡ w.1
-      by v w h same b true q r g = absurd (not_of_hyps v w h same r)
+      by v w h same b true q r g = absurd (not_of_hyps th goal v w (new v h) same r)
       by v w h same true false q r g = ap (λ (z : Variable). z.1) (differ v w h (called_apart w q r) same)
       by v w h same false false q r g = absurd (cc)
 

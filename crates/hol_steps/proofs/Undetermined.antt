@@ -1,6 +1,6 @@
 -- The variables that a match does not determine, and quantifiers over variables, one after the other.
 use Rattle.std.specs.Prelude.{◌≡◌, ℕ, zero, suc, ◌+◌, ◌<◌, ◌≤◌, Bool, true, false, cond, List, [], ◌∷◌, ◌++◌, map, length, drop, get_or, refl}
-use Rattle.std.proofs.Common.{ap, sym, ◌∙◌}
+use Rattle.std.proofs.Common.{ap, sym, ◌∙◌, arith}
 use Rattle.std.proofs.lemmas.List.{append-nil, append_assoc, drop_all}
 use Rattle.hol_types.specs.Tree.{TypeTree}
 use Rattle.hol_types.proofs.Steps.{next_of}
@@ -74,12 +74,16 @@ forall_next left outer all v whole new p is made h =
 pub rest_next : {A B : Type 0} (own vs : List A) (v : A) (rest us all : List B) (u : B) (first : List A) → own ≡ v ∷ vs → rest ≡ u ∷ us → drop (length own) rest ≡ drop (length first) all → drop (length vs) us ≡ drop (length first) all
 rest_next own vs v rest us all u first is are h = sym (λ i. drop (length (is i)) (are i)) ∙ h
 
-pub rest_none : {A B : Type 0} (own : List A) (rest all : List B) (first : List A) → rest ≡ [] → drop (length own) rest ≡ drop (length first) all → rest ≡ drop (length first) all
-rest_none own rest all first none h = none ∙ sym (drop_nil (length own)) ∙ ap (drop (length own)) (sym none) ∙ h
+rest_itself : {A B : Type 0} (own : List A) (rest : List B) → length rest ≡ 0 → rest ≡ drop (length own) rest
+rest_itself {A} {B} own rest empty = by rest (length own) empty
   where
-    drop_nil : (n : ℕ) → drop n [] ≡ []
-    drop_nil zero = refl
-    drop_nil (suc n) = refl
+    by : (us : List B) (n : ℕ) → length us ≡ 0 → us ≡ drop n us
+    by [] zero e = refl
+    by [] (suc n) e = refl
+    by (u ∷ us) n e = absurd (omega (arith, e))
+
+pub rest_none : {A B : Type 0} (own : List A) (rest all : List B) (first : List A) → rest ≡ [] → drop (length own) rest ≡ drop (length first) all → rest ≡ drop (length first) all
+rest_none own rest all first none h = let empty : length rest ≡ 0 = ap length none in rest_itself own rest empty ∙ h
 
 pub rest_all : {A B : Type 0} (own : List A) (rest all : List B) (first : List A) → own ≡ [] → drop (length own) rest ≡ drop (length first) all → rest ≡ drop (length first) all
 rest_all own rest all first none h = sym (ap (λ ns. drop (length ns) rest) none) ∙ h

@@ -1,15 +1,16 @@
 -- What the code says of instances that it finds, and of a theorem, generalized over its own variables. Only private clauses speak of it.
-use Rattle.std.specs.Prelude.{◌≡◌, ◌++◌, ℕ, true, false, List, [], ◌∷◌, map, Some}
+use Rattle.std.specs.Prelude.{◌≡◌, IsTrue, ◌++◌, ℕ, true, false, List, [], ◌∷◌, map, Some}
 use Rattle.std.specs.List.{AllByRecursion, filter}
 use Rattle.std.specs.FinSet as set
 use Rattle.hol_types.specs.Tree.{TypeTree}
 use Rattle.hol_terms.specs.Named.{Named}
 use Rattle.hol_terms.specs.Nameless.{Nameless, nameless}
 use Rattle.hol_subst.specs.Variant.{is_free_in}
+use Rattle.hol_formulas.specs.Equation.{bool_type}
 use Rattle.hol_kernel.specs.Given.{Given, given_sequent}
 use Rattle.hol_kernel.specs.Items.{Items}
 use Rattle.hol_kernel.specs.Sequent.{Hyps, hyps_of, sequent_of}
-use Rattle.hol_kernel.specs.Typing.{is_type}
+use Rattle.hol_kernel.specs.Typing.{is_type, HasType}
 use Rattle.hol_match.specs.Instance.{InstanceValue, both}
 use Rattle.hol_match.specs.Fixed.{stays_of}
 use Rattle.hol_match.specs.Givens.{holds_given}
@@ -42,6 +43,7 @@ pub record IsGeneralized (th g : Given) : Type 0 where
 pub record LeavesByGeneral (th : Given) (vs us : List (List ℕ × TypeTree)) (p w : Nameless) (moves : List Move) : Type 0 where
   pub general : Given
   pub is : IsGeneralized th general
+  pub formula : (basis : Items) → IsTrue (holds_given general basis) → HasType basis (given_sequent general).concl bool_type
   pub leaves : LeavesPremise general vs us p w moves
 
 -- ---- variables that stay as they are
@@ -54,4 +56,4 @@ kept_of s t types terms ps = kept types terms (filter (λ p. is_undetermined s t
 pub record IsKept (s t : Nameless) (p : (List ℕ × TypeTree) × (List ℕ × TypeTree)) (old_terms new_terms : List Nameless) (old new : InstanceValue) : Type 0 where
   pub types : new.types ≡ old.types
   pub goes :
-    (ps : List ((List ℕ × TypeTree) × (List ℕ × TypeTree))) → old.terms ++ kept_of s t old.types old_terms (p ∷ ps) ≡ new.terms ++ kept_of s t old.types new_terms ps
+      (ps : List ((List ℕ × TypeTree) × (List ℕ × TypeTree))) → old.terms ++ kept_of s t old.types old_terms (p ∷ ps) ≡ new.terms ++ kept_of s t old.types new_terms ps

@@ -46,7 +46,11 @@ pub(crate) fn opened_apart(
 }
 
 /// The formula for all values of the variables.
-pub(crate) fn universals(alloc: Global, variables: &[Variable], p: &Term) -> Result<Term, AllocError>
+pub(crate) fn universals(
+    alloc: Global,
+    variables: &[Variable],
+    p: &Term,
+) -> Result<Term, AllocError>
     requires { named_type p.now ≡ Some bool_type }
     ensures bound { IfOk result (λ r. bound_variables r ≡ variables.now ++ bound_variables p.now) }
     ensures is { IfOk result (λ r. nameless [] r ≡ universals variables.now (nameless [] p.now)) }

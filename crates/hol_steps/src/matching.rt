@@ -114,8 +114,16 @@ fn leaving_premise(
     let whole = existentials(alloc, variables, premise)?;
     let left = goal.with_conclusion(alloc, &whole)?;
     let general = generalized(alloc, th, own)?;
+    conclusion_typed(&general);
     let formula = universals(alloc, &opened.variables, &opened.body)?;
-    let just = Just::match_mp_tac(alloc, &general, &formula, variables, premise, goal.conclusion())?;
+    let just = Just::match_mp_tac(
+        alloc,
+        &general,
+        &formula,
+        variables,
+        premise,
+        goal.conclusion(),
+    )?;
     leaving_one(alloc, left, just)
 }
 

@@ -15,7 +15,9 @@ use Rattle.hol_just.proofs.MatchApplied.{apart_there, found_there, inst_type_app
 use Rattle.hol_just.proofs.matching_steps.instance_like.Goals as goal
 
 pub term_match-requires : goal.term_match-requires
-term_match-requires c = apart_there c.args.th.now (nameless [] c.args.t.now) (nameless [] c.concl.result.now) c.hyps.result.now c.hyps.ensures.set c.concl.ensures.concl c.requires
+term_match-requires c = record {
+  apart = apart_there c.args.th.now (nameless [] c.args.t.now) (nameless [] c.concl.result.now) c.hyps.result.now c.hyps.ensures.set c.concl.ensures.concl c.requires;
+}
 
 pub unreachable-requires : goal.unreachable-requires
 unreachable-requires c =
