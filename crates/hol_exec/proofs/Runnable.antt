@@ -19,7 +19,7 @@ use Rattle.hol_combine.specs.Suits.{all_calls, all_calls_of, written, written_ar
 use Rattle.hol_resolve.specs.Over.{AreOver}
 use Rattle.hol_resolve.specs.Readings.{term_at}
 use Rattle.hol_resolve.specs.Steps.{IsTermOver}
-use Rattle.hol_resolve.specs.Forms.{WrittenValue, arguments_given, written_as}
+use Rattle.hol_resolve.specs.Forms.{WrittenArgsValue, arguments_given, written_as}
 use Rattle.hol_resolve.specs.declared.refusal.Refusal.{Refusal}
 use Rattle.hol_resolve.proofs.Over.{term_over}
 use Rattle.hol_resolve.proofs.Suiting.{Each as EachWritten, Suits, given_suit}
@@ -105,10 +105,10 @@ module _ (context : ContextValue) where
   abbrev rows : ℕ
   rows = length context.table
 
-  called_within : (role : Role) (call : CallText) (index : ℕ) (code : TacCode) (w : WrittenValue) → called context.table role call context.cited ≡ Some (Registered index code, w) → index < rows
+  called_within : (role : Role) (call : CallText) (index : ℕ) (code : TacCode) (w : WrittenArgsValue) → called context.table role call context.cited ≡ Some (Registered index code, w) → index < rows
   called_within role call index code w e = by (registered call.name context.table) refl e
     where
-      with : (c : CalledValue) (o : Option WrittenValue) → option_map (λ (x : WrittenValue). (c, x)) o ≡ Some (Registered index code, w) → c ≡ Registered index code
+      with : (c : CalledValue) (o : Option WrittenArgsValue) → option_map (λ (x : WrittenArgsValue). (c, x)) o ≡ Some (Registered index code, w) → c ≡ Registered index code
       with c None e = absurd (cc)
       with c (Some x) e = cc
 
@@ -126,7 +126,7 @@ module _ (context : ContextValue) where
   whole_index : (call : CallText) → Each (λ c. IsIndex c ≡ true) (resolved_whole context call)
   whole_index call = by (called context.table Whole call context.cited) refl
     where
-      by : (o : Option (CalledValue × WrittenValue)) → called context.table Whole call context.cited ≡ o → Each (λ c. IsIndex c ≡ true) (resolved_call context call.name o)
+      by : (o : Option (CalledValue × WrittenArgsValue)) → called context.table Whole call context.cited ≡ o → Each (λ c. IsIndex c ≡ true) (resolved_call context call.name o)
       by None e = tt
       by (Some (Registered index code, w)) e =
           of_mapped (λ a. Unit {0}) (λ c. IsIndex c ≡ true) _ (λ a h. lt-ltb index rows (called_within Whole call index code w e)) (given context call.name w) (any_given (given context call.name w))
@@ -134,7 +134,7 @@ module _ (context : ContextValue) where
   handing_index : (call : CallText) → Each (λ tac. IsIndex (written tac) ≡ true) (resolved_handing context call)
   handing_index call = by (called context.table TheoremTactic call context.cited) refl
     where
-      by : (o : Option (CalledValue × WrittenValue)) → called context.table TheoremTactic call context.cited ≡ o → Each (λ tac. IsIndex (written tac) ≡ true) (resolved_theorem_tac context call.name o)
+      by : (o : Option (CalledValue × WrittenArgsValue)) → called context.table TheoremTactic call context.cited ≡ o → Each (λ tac. IsIndex (written tac) ≡ true) (resolved_theorem_tac context call.name o)
       by None e = tt
       by (Some (Registered index code, w)) e =
           of_mapped (λ a. Unit {0}) (λ tac. IsIndex (written tac) ≡ true) _ (λ a h. lt-ltb index rows (called_within TheoremTactic call index code w e)) (given context call.name w) (any_given (given context call.name w))
@@ -145,7 +145,7 @@ module _ (context : ContextValue) where
     abbrev IsSuited : CallValue → Bool
     IsSuited call = suits call.args context.basis
 
-    all_suit : (name : List ℕ) (w : WrittenValue) → Each (Suits context.basis) (given context name w)
+    all_suit : (name : List ℕ) (w : WrittenArgsValue) → Each (Suits context.basis) (given context name w)
     all_suit name w = by (arguments_given context.basis (cited_theorems context.cited) context.readings w) (given_suit context.basis context.readings over (cited_theorems context.cited) w)
       where
         by : (r : Result TacArgsValue Refusal) → EachWritten (Suits context.basis) r → Each (Suits context.basis) (named_result name r)
@@ -155,7 +155,7 @@ module _ (context : ContextValue) where
     whole_suited : (call : CallText) → Each (λ c. IsSuited c ≡ true) (resolved_whole context call)
     whole_suited call = by (called context.table Whole call context.cited)
       where
-        by : (o : Option (CalledValue × WrittenValue)) → Each (λ c. IsSuited c ≡ true) (resolved_call context call.name o)
+        by : (o : Option (CalledValue × WrittenArgsValue)) → Each (λ c. IsSuited c ≡ true) (resolved_call context call.name o)
         by None = tt
         by (Some (Registered index code, w)) = of_mapped (Suits context.basis) (λ c. IsSuited c ≡ true) _ (λ a h. h) (given context call.name w) (all_suit call.name w)
 
@@ -170,7 +170,7 @@ module _ (context : ContextValue) where
     handing_suited : (call : CallText) → Each (λ tac. IsSuited (written tac) ≡ true) (resolved_handing context call)
     handing_suited call = by (called context.table TheoremTactic call context.cited)
       where
-        by : (o : Option (CalledValue × WrittenValue)) → Each (λ tac. IsSuited (written tac) ≡ true) (resolved_theorem_tac context call.name o)
+        by : (o : Option (CalledValue × WrittenArgsValue)) → Each (λ tac. IsSuited (written tac) ≡ true) (resolved_theorem_tac context call.name o)
         by None = tt
         by (Some (Registered index code, w)) = of_mapped (Suits context.basis) (λ tac. IsSuited (written tac) ≡ true) _ before (given context call.name w) (all_suit call.name w)
 

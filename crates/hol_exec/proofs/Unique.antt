@@ -4,8 +4,8 @@ use Rattle.std.proofs.Common.{ap, sym, ◌∙◌}
 use Rattle.hol_notation_terms.specs.Text.{QuotationText}
 use Rattle.hol_notation_tactics.specs.Parts.{parts_of}
 use Rattle.hol_notation_tactics.specs.Text.{TacText}
-use Rattle.hol_notation_commands.specs.Reading.{Reads, Breaks, ReadText}
-pub use Rattle.hol_notation_commands.proofs.OneReading.{one_reading as one_text}
+use Rattle.hol_notation_commands.specs.Reading.{Reads, Breaks, ReadText, IsRead}
+use Rattle.hol_notation_commands.proofs.OneReading.{one_reading as one_command}
 use Rattle.hol_exec.specs.Setup.{SetupValue}
 use Rattle.hol_notation_commands.specs.Text.{LocalText, Goal, Apply, Qed, Make, Local, Direct}
 use Rattle.hol_resolve.specs.Lookups.{LookupsValue}
@@ -25,6 +25,11 @@ use Rattle.hol_exec.specs.Local.{opens_read, IsOpening, resolved_outcome, IsAppl
 use Rattle.hol_exec.specs.At.{IsOutcome}
 use Rattle.hol_exec.proofs.Readings.{one_reading}
 use Rattle.hol_exec.proofs.UniqueMade.{one_making}
+
+-- ---- texts
+
+pub one_text : (text : List ℕ) (a b : ReadText) → IsRead text a → IsRead text b → a ≡ b
+one_text = one_command
 
 -- ---- what is quoted
 

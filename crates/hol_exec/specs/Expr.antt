@@ -18,7 +18,7 @@ use Rattle.hol_combine.specs.ExprValue as expr
 use Rattle.hol_resolve.specs.Forward.{rule_word}
 use Rattle.hol_resolve.specs.Quotations.{quotations_in}
 use Rattle.hol_resolve.specs.Readings.{ReadingsValue, AreRead, term_at}
-use Rattle.hol_resolve.specs.Forms.{WrittenValue, arguments_given}
+use Rattle.hol_resolve.specs.Forms.{WrittenArgsValue, arguments_given}
 use Rattle.hol_resolve.specs.declared.refusal.Refusal.{Refusal}
 use Rattle.hol_resolve.specs.declared.refusal.Refusal.TheVariants as resolving
 use Rattle.hol_notation_tactics.specs.declared.parts.Role.{Role}
@@ -127,18 +127,18 @@ pub record ContextValue : Type 0 where
   pub basis : Items
 
 -- the arguments of a call by its name, over a basis, as the quotations are read
-abbrev pub arguments_for : Items → Values → ReadingsValue → List ℕ → WrittenValue → Result TacArgsValue RefusedValue
+abbrev pub arguments_for : Items → Values → ReadingsValue → List ℕ → WrittenArgsValue → Result TacArgsValue RefusedValue
 arguments_for basis cited readings name written = named_result name (arguments_given basis (cited_theorems cited) readings written)
 
 module _ (context : ContextValue) where
-  abbrev pub given : List ℕ → WrittenValue → Result TacArgsValue RefusedValue
+  abbrev pub given : List ℕ → WrittenArgsValue → Result TacArgsValue RefusedValue
   given name written = arguments_for context.basis context.cited context.readings name written
 
-  abbrev pub resolved_call : List ℕ → Option (CalledValue × WrittenValue) → Result CallValue RefusedValue
+  abbrev pub resolved_call : List ℕ → Option (CalledValue × WrittenArgsValue) → Result CallValue RefusedValue
   resolved_call name None = Err (refusal.UnknownTac, name)
   resolved_call name (Some (Registered index code, written)) = mapped (λ a. record { index = index; name = name; args = a }) (given name written)
 
-  abbrev pub resolved_theorem_tac : List ℕ → Option (CalledValue × WrittenValue) → Result TheoremTacValue RefusedValue
+  abbrev pub resolved_theorem_tac : List ℕ → Option (CalledValue × WrittenArgsValue) → Result TheoremTacValue RefusedValue
   resolved_theorem_tac name None = Err (refusal.UnknownTac, name)
   resolved_theorem_tac name (Some (Registered index code, written)) = mapped (λ a. record { index = index; name = name; term = term_before a }) (given name written)
 

@@ -8,7 +8,7 @@ use Rattle.hol_goal.specs.declared.tac_args.ArgumentKind.{ArgumentKind}
 use Rattle.hol_goal.specs.declared.tac_args.ArgumentKind.TheVariants as takes
 use Rattle.hol_goal.specs.declared.tac_code.TacCode.{TacCode}
 use Rattle.hol_registry.specs.Table.{index_of}
-use Rattle.hol_resolve.specs.Forms.{WrittenValue, written_as}
+use Rattle.hol_resolve.specs.Forms.{WrittenArgsValue, written_as}
 use Rattle.hol_notation_tactics.specs.declared.parts.Role.{Role}
 use Rattle.hol_notation_tactics.specs.declared.parts.Role.TheVariants.{Whole, TheoremTactic}
 use Rattle.hol_exec.specs.ReadsValue.{Values}
@@ -45,10 +45,10 @@ named name None cited = None
 named name (Some c) cited = Some c
 
 -- it with the arguments that are written, where they are of its kind
-abbrev pub fitting : Option CalledValue → Role → List ArgumentText → Option (CalledValue × WrittenValue)
+abbrev pub fitting : Option CalledValue → Role → List ArgumentText → Option (CalledValue × WrittenArgsValue)
 fitting None role arguments = None
 fitting (Some c) role arguments = option_map (λ w. (c, w)) (option_and_then (λ kind. written_as kind arguments) (kind_for role (kind_of c)))
 
 -- what a call of the role calls, with its arguments, where the name stands for something and these are of its kind
-abbrev pub called : List (List ℕ × TacCode) → Role → CallText → Values → Option (CalledValue × WrittenValue)
+abbrev pub called : List (List ℕ × TacCode) → Role → CallText → Values → Option (CalledValue × WrittenArgsValue)
 called table role call cited = fitting (named call.name (registered call.name table) cited) role call.arguments

@@ -28,7 +28,7 @@ use hol_kernel::{Basis, Thm};
 use hol_notation_tactics as written;
 use hol_notation_tactics::{Role, TacExpr, TacExprNode};
 use hol_notation_terms::Quotation;
-use hol_resolve::{Readings, Refusal, Written, arguments_given};
+use hol_resolve::{Readings, Refusal, WrittenArgs, arguments_given};
 use hol_terms::Term;
 use hol_types::Name;
 use std::alloc::{AllocError, Global};
@@ -323,7 +323,7 @@ fn arguments(
     alloc: Global,
     context: &Context<'_>,
     call: &written::TacCall,
-    written: Written<'_>,
+    written: WrittenArgs<'_>,
 ) -> Result<TacArgs, Unresolved>
     requires { IsContext context.now }
     ensures { AreArgumentsFound (arguments_for context.now.basis.now context.now.reads.now.cited (readings_value context.now.readings.now) call.now.name (written_value written.entry)) result }

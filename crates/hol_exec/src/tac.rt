@@ -9,7 +9,7 @@ use crate::reads::Reads;
 use crate::registered::Registered;
 use hol_goal::ArgumentKind;
 use hol_notation_tactics::{Role, TacCall};
-use hol_resolve::{Written, written_as};
+use hol_resolve::{WrittenArgs, written_as};
 
 /// What a name calls.
 #[derive(Clone, Copy)]
@@ -58,7 +58,7 @@ pub(crate) fn called<'a, N: LooksUp>(
     role: Role,
     call: &'a TacCall,
     reads: &Reads,
-) -> Option<(Callee, Written<'a>)>
+) -> Option<(Callee, WrittenArgs<'a>)>
     ensures { option_map called_with result ≡ called (N.LooksUp.table_of names.now) role call.now reads.now.cited }
 {
     let callee = named(names, call, reads)?;

@@ -25,7 +25,7 @@ use Rattle.hol_resolve.specs.Over.{AreOver}
 use Rattle.hol_resolve.specs.Steps.{IsTermOver}
 use Rattle.hol_resolve.specs.Written.{result_map, result_both, read_or_wrong, term_given, theorem_given, theorems_given}
 use Rattle.hol_resolve.specs.Forms as forms
-use Rattle.hol_resolve.specs.Forms.{WrittenValue, arguments_given}
+use Rattle.hol_resolve.specs.Forms.{WrittenArgsValue, arguments_given}
 use Rattle.hol_resolve.proofs.Over.{term_over}
 
 -- what is answered, if anything is, has the property
@@ -79,7 +79,7 @@ module _ (basis : Items) where
           joined OnBasis AllOn AllOn (λ g gs. g ∷ gs) (λ g gs h k. and_from (holds_given g basis) (list_all (λ g. holds_given g basis) gs) h k)
           (theorem_given basis cited readings th) (theorems_given basis cited readings ths) (theorem_on_basis th) (theorems_on_basis ths)
 
-      pub given_suit : (w : WrittenValue) → Each Suits (arguments_given basis cited readings w)
+      pub given_suit : (w : WrittenArgsValue) → Each Suits (arguments_given basis cited readings w)
       given_suit forms.Nothing = refl
       given_suit (forms.Term t) = mapped Typed Suits args.Term (λ x h. h) (term_given readings t) (term_typed t)
       given_suit (forms.Pair s t) = joined Typed Typed Suits args.Pair (λ x y h k. and_from (is_typed basis x) (is_typed basis y) h k) (term_given readings s) (term_given readings t) (term_typed s) (term_typed t)
@@ -88,7 +88,7 @@ module _ (basis : Items) where
           joined Typed OnBasis Suits args.TermAndTheorem (λ x g h k. and_from (is_typed basis x) (holds_given g basis) h k) (term_given readings t) (theorem_given basis cited readings th) (term_typed t) (theorem_on_basis th)
       given_suit (forms.Theorems ths) = mapped AllOn Suits args.Theorems (λ gs h. h) (theorems_given basis cited readings ths) (theorems_on_basis ths)
 
-      pub forms_suit : (w : WrittenValue) (r : Result TacArgs Refusal) → result_map args_value r ≡ arguments_given basis cited readings w → IfOk r (λ v. IsTrue (suits (args_value v) basis))
+      pub forms_suit : (w : WrittenArgsValue) (r : Result TacArgs Refusal) → result_map args_value r ≡ arguments_given basis cited readings w → IfOk r (λ v. IsTrue (suits (args_value v) basis))
       forms_suit w r e = by r (subst (Each Suits) (sym e) (given_suit w))
         where
           by : (r : Result TacArgs Refusal) → Each Suits (result_map args_value r) → IfOk r (λ v. IsTrue (suits (args_value v) basis))

@@ -15,13 +15,13 @@ use Rattle.hol_resolve.specs.Readings.{ReadingsValue}
 use Rattle.hol_resolve.specs.Forward.{CitedValue}
 use Rattle.hol_resolve.specs.Written.{result_map, result_both, term_given, theorem_given, theorems_given}
 
-pub data WrittenValue : Type 0 where
-  Nothing : WrittenValue
-  Term : QuotationText → WrittenValue
-  Pair : QuotationText → QuotationText → WrittenValue
-  Theorem : ThmText → WrittenValue
-  TermAndTheorem : QuotationText → ThmText → WrittenValue
-  Theorems : List ThmText → WrittenValue
+pub data WrittenArgsValue : Type 0 where
+  Nothing : WrittenArgsValue
+  Term : QuotationText → WrittenArgsValue
+  Pair : QuotationText → QuotationText → WrittenArgsValue
+  Theorem : ThmText → WrittenArgsValue
+  TermAndTheorem : QuotationText → ThmText → WrittenArgsValue
+  Theorems : List ThmText → WrittenArgsValue
 
 abbrev pub a_term : ArgumentText → Option QuotationText
 a_term (text.Term t) = Some t
@@ -35,19 +35,19 @@ a_theorem (text.Theorem th) = Some th
 a_theorem (text.Pair s t) = None
 a_theorem (text.Theorems ths) = None
 
-abbrev pub a_pair : ArgumentText → Option WrittenValue
+abbrev pub a_pair : ArgumentText → Option WrittenArgsValue
 a_pair (text.Term t) = None
 a_pair (text.Theorem th) = None
 a_pair (text.Pair s t) = Some (Pair s t)
 a_pair (text.Theorems ths) = None
 
-abbrev pub a_list : ArgumentText → Option WrittenValue
+abbrev pub a_list : ArgumentText → Option WrittenArgsValue
 a_list (text.Term t) = None
 a_list (text.Theorem th) = None
 a_list (text.Pair s t) = None
 a_list (text.Theorems ths) = Some (Theorems ths)
 
-abbrev pub none_of : List ArgumentText → Option WrittenValue
+abbrev pub none_of : List ArgumentText → Option WrittenArgsValue
 none_of [] = Some Nothing
 none_of (a ∷ arguments) = None
 
@@ -56,12 +56,12 @@ the_one [] = None
 the_one (a ∷ []) = Some a
 the_one (a ∷ b ∷ arguments) = None
 
-abbrev pub two_of : List ArgumentText → Option WrittenValue
+abbrev pub two_of : List ArgumentText → Option WrittenArgsValue
 two_of [] = None
 two_of (a ∷ arguments) = option_and_then (λ t. option_map (TermAndTheorem t) (option_and_then a_theorem (the_one arguments))) (a_term a)
 
 -- what is written as arguments of a kind, if it is of it
-abbrev pub written_as : ArgumentKind → List ArgumentText → Option WrittenValue
+abbrev pub written_as : ArgumentKind → List ArgumentText → Option WrittenArgsValue
 written_as takes.Nothing arguments = none_of arguments
 written_as takes.Term arguments = option_map Term (option_and_then a_term (the_one arguments))
 written_as takes.Pair arguments = option_and_then a_pair (the_one arguments)
@@ -71,7 +71,7 @@ written_as takes.Theorems arguments = option_and_then a_list (the_one arguments)
 
 -- what they come to
 module _ (basis : Items) (cited : CitedValue) (readings : ReadingsValue) where
-  abbrev pub arguments_given : WrittenValue → Result TacArgsValue Refusal
+  abbrev pub arguments_given : WrittenArgsValue → Result TacArgsValue Refusal
   arguments_given Nothing = Ok args.Nothing
   arguments_given (Term t) = result_map args.Term (term_given readings t)
   arguments_given (Pair s t) = result_both args.Pair (term_given readings s) (term_given readings t)

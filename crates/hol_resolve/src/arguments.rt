@@ -13,7 +13,7 @@ ghost use Rattle.hol_resolve.specs.Written.{result_map, result_both, term_given,
 use crate::readings::Readings;
 use crate::refusal::Refusal;
 use crate::theorems::theorem_written;
-use crate::written::Written;
+use crate::written::WrittenArgs;
 use hol_goal::TacArgs;
 use hol_kernel::{Basis, Given, Thm};
 use hol_notation_tactics::ThmExpr;
@@ -25,7 +25,7 @@ use std::alloc::{AllocError, Global};
 /// What the arguments come to, over a basis that contains those of the theorems that are cited by their names, and over which the readings stand.
 pub fn arguments_given(
     alloc: Global,
-    written: Written<'_>,
+    written: WrittenArgs<'_>,
     cited: &[(Name, Thm)],
     readings: &Readings,
     basis: &Basis,
@@ -43,7 +43,7 @@ type Arguments = Result<TacArgs, Refusal>;
 
 fn of_form(
     alloc: Global,
-    written: Written<'_>,
+    written: WrittenArgs<'_>,
     cited: &[(Name, Thm)],
     readings: &Readings,
     basis: &Basis,
@@ -53,22 +53,22 @@ fn of_form(
     ensures { IfOk result (λ r. result_map args_value r ≡ arguments_given basis.now cited.now (readings_value readings.now) (written_value written.entry)) }
 {
     match written {
-        Written::Nothing => Ok(Ok(TacArgs::Nothing)),
-        Written::Term(term) => match term_given(term, readings)? {
+        WrittenArgs::Nothing => Ok(Ok(TacArgs::Nothing)),
+        WrittenArgs::Term(term) => match term_given(term, readings)? {
             Ok(term) => Ok(Ok(TacArgs::Term(term))),
             Err(refusal) => Ok(Err(refusal)),
         },
-        Written::Pair(first, second) => pair_given(first, second, readings),
-        Written::Theorem(theorem) => {
+        WrittenArgs::Pair(first, second) => pair_given(first, second, readings),
+        WrittenArgs::Theorem(theorem) => {
             match theorem_given(alloc, theorem, cited, readings, basis)? {
                 Ok(th) => Ok(Ok(TacArgs::Theorem(th))),
                 Err(refusal) => Ok(Err(refusal)),
             }
         }
-        Written::TermAndTheorem(term, theorem) => {
+        WrittenArgs::TermAndTheorem(term, theorem) => {
             with_theorem(alloc, term, theorem, cited, readings, basis)
         }
-        Written::Theorems(theorems) => {
+        WrittenArgs::Theorems(theorems) => {
             match theorems_given(alloc, theorems, cited, readings, basis)? {
                 Ok(ths) => Ok(Ok(TacArgs::Theorems(ths))),
                 Err(refusal) => Ok(Err(refusal)),

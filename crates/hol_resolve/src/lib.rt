@@ -30,4 +30,4 @@ pub use reading_all::read_quotations;
 pub use readings::{Quoted, Readings};
 pub use refusal::Refusal;
 pub use theorems::theorem_written;
-pub use written::{Written, written_as};
+pub use written::{WrittenArgs, written_as};

@@ -10,7 +10,7 @@ use hol_notation_terms::Quotation;
 
 /// Arguments as they are written, of one of the kinds.
 #[derive(Clone, Copy)]
-pub enum Written<'a> {
+pub enum WrittenArgs<'a> {
     /// None.
     Nothing,
     /// A term.
@@ -26,24 +26,24 @@ pub enum Written<'a> {
 }
 
 /// The arguments as those of the kind, if they are of it.
-pub fn written_as(kind: ArgumentKind, arguments: &[TacArg]) -> Option<Written<'_>>
+pub fn written_as(kind: ArgumentKind, arguments: &[TacArg]) -> Option<WrittenArgs<'_>>
     ensures { option_map written_value result ≡ written_as kind arguments.now }
 {
     match kind {
         ArgumentKind::Nothing => none_of(arguments),
-        ArgumentKind::Term => Some(Written::Term(a_term(the_one(arguments)?)?)),
+        ArgumentKind::Term => Some(WrittenArgs::Term(a_term(the_one(arguments)?)?)),
         ArgumentKind::Pair => a_pair(the_one(arguments)?),
-        ArgumentKind::Theorem => Some(Written::Theorem(a_theorem(the_one(arguments)?)?)),
+        ArgumentKind::Theorem => Some(WrittenArgs::Theorem(a_theorem(the_one(arguments)?)?)),
         ArgumentKind::TermAndTheorem => two_of(arguments),
         ArgumentKind::Theorems => a_list(the_one(arguments)?),
     }
 }
 
-fn none_of(arguments: &[TacArg]) -> Option<Written<'_>>
+fn none_of(arguments: &[TacArg]) -> Option<WrittenArgs<'_>>
     ensures { option_map written_value result ≡ none_of arguments.now }
 {
     match arguments {
-        [] => Some(Written::Nothing),
+        [] => Some(WrittenArgs::Nothing),
         [_, ..] => None,
     }
 }
@@ -58,14 +58,14 @@ fn the_one(arguments: &[TacArg]) -> Option<&TacArg>
     }
 }
 
-fn two_of(arguments: &[TacArg]) -> Option<Written<'_>>
+fn two_of(arguments: &[TacArg]) -> Option<WrittenArgs<'_>>
     ensures { option_map written_value result ≡ two_of arguments.now }
 {
     match arguments {
         [first, rest @ ..] => {
             let term = a_term(first)?;
             let theorem = a_theorem(the_one(rest)?)?;
-            Some(Written::TermAndTheorem(term, theorem))
+            Some(WrittenArgs::TermAndTheorem(term, theorem))
         }
         [] => None,
     }
@@ -89,20 +89,20 @@ fn a_theorem(argument: &TacArg) -> Option<&ThmExpr>
     }
 }
 
-fn a_pair(argument: &TacArg) -> Option<Written<'_>>
+fn a_pair(argument: &TacArg) -> Option<WrittenArgs<'_>>
     ensures { option_map written_value result ≡ a_pair argument.now }
 {
     match argument.node() {
-        TacArgNode::Pair(first, second) => Some(Written::Pair(first, second)),
+        TacArgNode::Pair(first, second) => Some(WrittenArgs::Pair(first, second)),
         TacArgNode::Term(_) | TacArgNode::Theorem(_) | TacArgNode::Theorems(_) => None,
     }
 }
 
-fn a_list(argument: &TacArg) -> Option<Written<'_>>
+fn a_list(argument: &TacArg) -> Option<WrittenArgs<'_>>
     ensures { option_map written_value result ≡ a_list argument.now }
 {
     match argument.node() {
-        TacArgNode::Theorems(theorems) => Some(Written::Theorems(theorems)),
+        TacArgNode::Theorems(theorems) => Some(WrittenArgs::Theorems(theorems)),
         TacArgNode::Term(_) | TacArgNode::Theorem(_) | TacArgNode::Pair(_, _) => None,
     }
 }
