@@ -2,7 +2,7 @@
 use Rattle.std.specs.Prelude.{◌≡◌, [], Some}
 use Rattle.std.proofs.Common.{ap}
 use Rattle.hol_exec.specs.Setup.{SetupValue}
-use Rattle.hol_exec.specs.Parsed.{LocalText, Local}
+use Rattle.hol_exec.specs.CommandText.{LocalText, Local}
 use Rattle.hol_exec.specs.StateValue.{StateValue}
 use Rattle.hol_exec.specs.ReadsValue.{ReadsValue, reads_of}
 use Rattle.hol_exec.specs.OutcomeValue.{OutcomeValue}

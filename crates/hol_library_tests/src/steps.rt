@@ -1,10 +1,11 @@
-//! Steps over a set-up, each compared with the copies of its command, of what it reads, of its outcome and of the report on it.
+//! Steps over a set-up, each compared with the copies of what its command reads and of its outcome.
 ghost use Rattle.std.specs.Prelude.{◌≡◌};
-ghost use Rattle.hol_exec.specs.ParsedView.{local_text};
+ghost use Rattle.hol_exec.specs.CommandView.{local_text};
 ghost use Rattle.hol_exec.specs.ReadsValue.{reads_of, AreKeyed};
 
 use hol_exec::{
-    LocalCommand, Outcome, Parsed, Reads, Report, Setup, State, apply, parse, report_of, run_local,
+    CommandNode, LocalCommand, Outcome, Parsed, Reads, Report, Setup, State, apply, parse,
+    report_of, run_local,
 };
 use std::alloc::{AllocError, Global};
 use std::hash::{DefaultHasher, Hash, Hasher};
@@ -38,10 +39,6 @@ fn is_same<T: Drop + Hash + PartialEq>(value: &T, copy: T) -> bool {
     *value == copy && hash_of(value) == hash_of(&copy)
 }
 
-fn is_command_copied(alloc: Global, command: &LocalCommand) -> Result<bool, AllocError> {
-    Ok(is_same(command, command.copy(alloc)?))
-}
-
 fn are_reads_copied(alloc: Global, reads: &Reads) -> Result<bool, AllocError> {
     Ok(is_same(reads, reads.copy(alloc)?))
 }
@@ -55,7 +52,7 @@ fn is_outcome_copied(alloc: Global, outcome: &Outcome) -> Result<bool, AllocErro
 fn first_told(report: &Report) -> (u8, &str) {
     match report {
         Report::Goals(goals) => match goals.as_slice() {
-            [goal, ..] => (0, goal.conclusion.as_str()),
+            [goal, ..] => (0, goal.goal.as_str()),
             [] => (0, ""),
         },
         Report::Made(texts) => match texts.as_slice() {
@@ -66,11 +63,10 @@ fn first_told(report: &Report) -> (u8, &str) {
     }
 }
 
-// Whether a copy of the report tells of the step.
-fn is_told(alloc: Global, report: &Report, step: &Step) -> Result<bool, AllocError> {
-    let copy = report.copy(alloc)?;
-    let (number, text) = first_told(&copy);
-    Ok(number == step.1 && text == step.2)
+// Whether the report tells of the step.
+fn is_told(report: &Report, step: &Step) -> bool {
+    let (number, text) = first_told(report);
+    number == step.1 && text == step.2
 }
 
 // The same of the report on the outcome.
@@ -81,33 +77,23 @@ fn is_reported(
     state: &State,
 ) -> Result<bool, AllocError> {
     let report = report_of(alloc, outcome, state)?;
-    is_told(alloc, &report, step)
+    Ok(is_told(&report, step))
 }
 
-// Whether the command, what it read and its outcome are the same as their copies.
-fn is_copied(
-    alloc: Global,
-    command: &LocalCommand,
-    reads: &Reads,
-    outcome: &Outcome,
-) -> Result<bool, AllocError> {
-    Ok(
-        is_command_copied(alloc, command)?
-            && are_reads_copied(alloc, reads)?
-            && is_outcome_copied(alloc, outcome)?,
-    )
+// Whether what a command read and its outcome are the same as their copies.
+fn is_copied(alloc: Global, reads: &Reads, outcome: &Outcome) -> Result<bool, AllocError> {
+    Ok(are_reads_copied(alloc, reads)? && is_outcome_copied(alloc, outcome)?)
 }
 
 // The same, and the report tells of the step.
 fn is_shown(
     alloc: Global,
-    command: &LocalCommand,
     reads: &Reads,
     outcome: &Outcome,
     step: &Step,
     state: &State,
 ) -> Result<bool, AllocError> {
-    Ok(is_copied(alloc, command, reads, outcome)? && is_reported(alloc, outcome, step, state)?)
+    Ok(is_copied(alloc, reads, outcome)? && is_reported(alloc, outcome, step, state)?)
 }
 
 // The same of the outcome, which is carried out.
@@ -125,7 +111,7 @@ fn is_carried_out(
 {
     let outcome = run_local(alloc, setup, command, reads)?;
     apply(alloc, state, &outcome)?;
-    is_shown(alloc, command, reads, &outcome, step, state)
+    is_shown(alloc, reads, &outcome, step, state)
 }
 
 // The same from what the command reads.
@@ -148,9 +134,12 @@ fn is_read(
     step: &Step,
     state: &mut State,
 ) -> Result<bool, AllocError> {
-    match parsed {
-        Parsed::Local(command) => is_run(alloc, setup, &command, step, state),
-        Parsed::Direct(_) => Ok(false),
+    let Parsed::Read(command) = parsed else {
+        return Ok(false);
+    };
+    match command.node() {
+        CommandNode::Local(command) => is_run(alloc, setup, command, step, state),
+        CommandNode::Direct(_) => Ok(false),
     }
 }
 
