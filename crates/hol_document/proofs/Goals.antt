@@ -9,7 +9,8 @@ use Rattle.hol_goal.specs.Goal.{GoalValue}
 use Rattle.hol_stack.specs.StackValue.{StepValue}
 use Rattle.hol_exec.specs.Local.{finished, finishes}
 use Rattle.hol_exec.specs.OutcomeValue.{OutcomeValue, Opens, Leaves, Undoes, Rotates, Makes, Refuses, stepped_in, without_newest, undone_in, rotated_in, after}
-use Rattle.hol_exec.specs.Parsed.{ParsedValue, Local, Direct, Goal, Apply, Qed, Make}
+use Rattle.hol_exec.specs.Reading.{ReadText, Reads, Breaks}
+use Rattle.hol_exec.specs.CommandText.{Local, Direct, Goal, Apply, Qed, Make}
 use Rattle.hol_exec.specs.ReadsValue.{ReadsValue, ClosingValue, closing_of, reads_of, AreReads}
 use Rattle.hol_exec.specs.Setup.{SetupValue}
 use Rattle.hol_exec.specs.StateValue.{ProofValue, StateValue, EndedTheory, start}
@@ -56,17 +57,18 @@ qed_finishes before (Some p) k =
     elim (nat_eq (length p.newest.goals) 0) as (λ (t : Bool). MakesFinished before (cond t (finished c) (Refuses refusal.GoalsRemain [])))
     [ true ↦ (record { name = p.name; under = refl; goal = sym k; without_hypotheses = refl }, tt) | false ↦ tt ]
 
-pub row_finishes : (setup : SetupValue) (earlier : List EndedTheory) (before : List Row) (s : StateValue) (value : ParsedValue) (reads : Option ReadsValue) (outcome : OutcomeValue)
+pub row_finishes : (setup : SetupValue) (earlier : List EndedTheory) (before : List Row) (s : StateValue) (value : ReadText) (reads : Option ReadsValue) (outcome : OutcomeValue)
     → AreReads value s reads → IsOutcome setup earlier s value reads outcome → goal_of s.proof ≡ open_goal None before → FinishesBy before value outcome
-row_finishes setup earlier before s (Local (Goal name quotation)) reads outcome are h k = tt
-row_finishes setup earlier before s (Local (Apply call)) reads outcome are h k = tt
-row_finishes setup earlier before s (Local Qed) None outcome are h k = absurd h
-row_finishes setup earlier before s (Local Qed) (Some reads) outcome are h k =
+row_finishes setup earlier before s (Reads (Local (Goal name quotation))) reads outcome are h k = tt
+row_finishes setup earlier before s (Reads (Local (Apply call))) reads outcome are h k = tt
+row_finishes setup earlier before s (Reads (Local Qed)) None outcome are h k = absurd h
+row_finishes setup earlier before s (Reads (Local Qed)) (Some reads) outcome are h k =
     let same : reads ≡ reads_of Qed s = cc in
     let is : outcome ≡ finishes (closing_of s.proof) = rw same at h in
     rw is (qed_finishes before s.proof k)
-row_finishes setup earlier before s (Local (Make making)) reads outcome are h k = tt
-row_finishes setup earlier before s (Direct command) reads outcome are h k = tt
+row_finishes setup earlier before s (Reads (Local (Make making))) reads outcome are h k = tt
+row_finishes setup earlier before s (Reads (Direct command)) reads outcome are h k = tt
+row_finishes setup earlier before s (Breaks place) reads outcome are h k = tt
 
 -- the state that rows lead to has their open goal
 leads_goal : (setup : SetupValue) (earlier : List EndedTheory) (goal : Option (List ℕ × Nameless)) (s : StateValue) (texts : List (List ℕ)) (rows : List Row) (last : StateValue)

@@ -7,7 +7,8 @@ use Rattle.std.proofs.lemmas.Grind.{common_steps}
 use Rattle.hol_exec.specs.Setup.{SetupValue}
 use Rattle.hol_exec.specs.At.{IsOutcome, IsOutcomeAt}
 use Rattle.hol_exec.specs.OutcomeValue.{OutcomeValue, after, MakesTheorems}
-use Rattle.hol_exec.specs.Parsed.{ParsedValue, IsParsed}
+use Rattle.hol_exec.specs.CommandText.{CommandText}
+use Rattle.hol_exec.specs.Reading.{ReadText, Reads, IsRead}
 use Rattle.hol_exec.specs.ReadsValue.{reads_at}
 use Rattle.hol_theory.specs.Key.{KeyValue, theorem_key}
 use Rattle.hol_theory.specs.Entry.{EntryValue, Entries, entry_at}
@@ -26,8 +27,8 @@ use Rattle.hol_document.proofs.Goals.{next_finishes}
 use Rattle.hol_document.proofs.Made.{entries_made}
 
 -- the outcome of what a text is, is that of a row
-pub row_of : (setup : SetupValue) (earlier : List EndedTheory) (s : StateValue) (text : List ℕ) (value : ParsedValue) (outcome : OutcomeValue)
-    → IsParsed text value → IsOutcome setup earlier s value (reads_at value s) outcome → HasOutcome setup earlier s text outcome
+pub row_of : (setup : SetupValue) (earlier : List EndedTheory) (s : StateValue) (text : List ℕ) (value : ReadText) (outcome : OutcomeValue)
+    → IsRead text value → IsOutcome setup earlier s value (reads_at value s) outcome → HasOutcome setup earlier s text outcome
 row_of setup earlier s text value outcome parsed gets =
     (record { value = value; reads = reads_at value s; outcome = outcome }, record { parsed = parsed; read = refl; gets = gets }, refl)
 
@@ -80,10 +81,15 @@ ends_next setup theories i theory ends ends' s h is (runs, are, same) (rows, lea
     )
 
 -- the outcome of what a text is, where it is known to be that, is that of a row
-pub rows_of : {E : Type 0} (setup : SetupValue) (earlier : List EndedTheory) (s : StateValue) (text : List ℕ) (value known : ParsedValue) (r : Result OutcomeValue E)
-    → IsParsed text value → value ≡ known → IfOk r (IsOutcome setup earlier s known (reads_at known s)) → IfOk r (HasOutcome setup earlier s text)
+pub rows_of : {E : Type 0} (setup : SetupValue) (earlier : List EndedTheory) (s : StateValue) (text : List ℕ) (value known : ReadText) (r : Result OutcomeValue E)
+    → IsRead text value → value ≡ known → IfOk r (IsOutcome setup earlier s known (reads_at known s)) → IfOk r (HasOutcome setup earlier s text)
 rows_of setup earlier s text value known (Ok outcome) parsed is gets = row_of setup earlier s text value outcome parsed (rw is gets)
 rows_of setup earlier s text value known (Err e) parsed is gets = tt
+
+-- the outcome of a command, where it is known what it is
+pub command_gets : {E : Type 0} (setup : SetupValue) (earlier : List EndedTheory) (s : StateValue) (command known : CommandText) (r : Result OutcomeValue E)
+    → command ≡ known → IfOk r (IsOutcome setup earlier s (Reads known) (reads_at (Reads known) s)) → IfOk r (IsOutcome setup earlier s (Reads command) (reads_at (Reads command) s))
+command_gets setup earlier s command known r is h = rw is h
 
 -- one theory's end more
 pub end_pushed : (ends ends' : List End) (e : End) (name : List ℕ) → ends' ≡ ends ++ e ∷ [] → string_bytes e.name ≡ name

@@ -3,22 +3,22 @@
 -- Source: this project.
 use Rattle.std.specs.Prelude.{◌≡◌, ℕ, List, [], ◌∷◌, ◌++◌, Option}
 use Rattle.hol_exec.specs.Setup.{SetupValue}
-use Rattle.hol_exec.specs.Parsed.{ParsedValue, IsParsed}
+use Rattle.hol_exec.specs.Reading.{ReadText, IsRead}
 use Rattle.hol_exec.specs.StateValue.{StateValue, EndedTheory, start}
 use Rattle.hol_exec.specs.ReadsValue.{ReadsValue, AreReads}
 use Rattle.hol_exec.specs.OutcomeValue.{OutcomeValue, after}
 use Rattle.hol_exec.specs.At.{IsOutcome}
 use Rattle.hol_document.specs.Documents.{TheoryText, Documents}
 
--- what running a text comes to: what it is to the engine, what that reads, and its outcome from these
+-- what running a text comes to: what it reads as, what that reads of the state, and its outcome from these
 pub record Row : Type 0 where
-  pub value : ParsedValue
+  pub value : ReadText
   pub reads : Option ReadsValue
   pub outcome : OutcomeValue
 
 -- the row of a text at a state
 pub record IsRow (setup : SetupValue) (earlier : List EndedTheory) (s : StateValue) (text : List ℕ) (row : Row) : Type 0 where
-  pub parsed : IsParsed text row.value
+  pub parsed : IsRead text row.value
   pub read : AreReads row.value s row.reads
   pub gets : IsOutcome setup earlier s row.value row.reads row.outcome
 

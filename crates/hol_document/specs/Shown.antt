@@ -6,7 +6,8 @@ use Rattle.std.specs.List.{All, Contains}
 use Rattle.hol_terms.specs.Nameless.{Nameless}
 use Rattle.hol_kernel.specs.Sequent.{no_hyps}
 use Rattle.hol_kernel.specs.Theorem.{Theorem}
-use Rattle.hol_exec.specs.Parsed.{ParsedValue, Local, Direct, Goal, Apply, Qed, Make}
+use Rattle.hol_exec.specs.Reading.{ReadText, Reads, Breaks}
+use Rattle.hol_exec.specs.CommandText.{Local, Direct, Goal, Apply, Qed, Make}
 use Rattle.hol_theory.specs.Key.{KeyValue, theorem_key}
 use Rattle.hol_theory.specs.Entry.{EntryValue, AType, AConstant, ATheorem, Entries}
 use Rattle.hol_theory.specs.Theory.{IsTheory}
@@ -58,12 +59,13 @@ MakesFinished rows (Makes entries) = EachFinished rows entries
 MakesFinished rows (Refuses kind arg) = Unit {0}
 
 -- the same of the outcome of a `qed`, of other commands nothing
-abbrev pub FinishesBy : List Row → ParsedValue → OutcomeValue → Type 0
-FinishesBy rows (Local (Goal name quotation)) outcome = Unit {0}
-FinishesBy rows (Local (Apply call)) outcome = Unit {0}
-FinishesBy rows (Local Qed) outcome = MakesFinished rows outcome
-FinishesBy rows (Local (Make making)) outcome = Unit {0}
-FinishesBy rows (Direct command) outcome = Unit {0}
+abbrev pub FinishesBy : List Row → ReadText → OutcomeValue → Type 0
+FinishesBy rows (Reads (Local (Goal name quotation))) outcome = Unit {0}
+FinishesBy rows (Reads (Local (Apply call))) outcome = Unit {0}
+FinishesBy rows (Reads (Local Qed)) outcome = MakesFinished rows outcome
+FinishesBy rows (Reads (Local (Make making))) outcome = Unit {0}
+FinishesBy rows (Reads (Direct command)) outcome = Unit {0}
+FinishesBy rows (Breaks place) outcome = Unit {0}
 
 -- each of the rows that is a `qed` made the theorem of the last `g` that the rows before it accepted
 abbrev pub EachFinishes : List Row → List Row → Type 0

@@ -1,7 +1,10 @@
 //! Running documents afresh.
 ghost use Rattle.std.specs.Prelude.{◌≡◌, ◌<◌, ◌++◌, IfOk, OnOk, Some, length, map, string_bytes, slice_index_or};
 ghost use Rattle.std.specs.Option.{option_map};
+ghost use Rattle.hol_exec.specs.At.{IsOutcome};
 ghost use Rattle.hol_exec.specs.OutcomeValue.{after};
+ghost use Rattle.hol_exec.specs.Reading.{Reads};
+ghost use Rattle.hol_exec.specs.ReadsValue.{reads_at};
 ghost use Rattle.hol_exec.specs.ReportView.{report_value};
 ghost use Rattle.hol_exec.specs.SetupView.{setup_value};
 ghost use Rattle.hol_document.specs.Asked.{BasisTexts, theorem_texts, theorem_texts_of};
@@ -15,8 +18,8 @@ use crate::items::item_texts;
 use crate::line::Line;
 use crate::theory::Theory;
 use hol_exec::{
-    Outcome, Parsed, Reads, Report, Setup, State, apply, direct, entry_text, promise_each,
-    report_of, run_local,
+    Command, CommandNode, Outcome, Parsed, Reads, Report, Setup, State, apply, direct, entry_text,
+    promise_each, report_of, run_local, unread,
 };
 use hol_theory::{Env, Key, Kind, Value, ValueNode};
 use std::alloc::{AllocError, Global};
@@ -32,11 +35,27 @@ fn outcome_of(
     ensures { IfOk result (HasOutcome (setup_value setup.now) (map end_value earlier.now) state.now line.now) }
 {
     match line.parsed() {
-        Parsed::Local(command) => {
+        Parsed::Read(command) => outcome_of_command(alloc, setup, earlier, command, state),
+        Parsed::Unread(place) => unread(alloc, *place),
+    }
+}
+
+// The outcome of a command at a state.
+fn outcome_of_command(
+    alloc: Global,
+    setup: &Setup,
+    earlier: &[End],
+    command: &Command,
+    state: &State,
+) -> Result<Outcome, AllocError>
+    ensures { IfOk result (IsOutcome (setup_value setup.now) (map end_value earlier.now) state.now (Reads command.now) (reads_at (Reads command.now) state.now)) }
+{
+    match command.node() {
+        CommandNode::Local(command) => {
             let reads = Reads::of(alloc, command, state)?;
             run_local(alloc, setup, command, &reads)
         }
-        Parsed::Direct(command) => direct(alloc, command, state, earlier),
+        CommandNode::Direct(command) => direct(alloc, command, state, earlier),
     }
 }
 

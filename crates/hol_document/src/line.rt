@@ -1,13 +1,13 @@
 //! A command's text.
 ghost use Rattle.std.specs.Prelude.{◌≡◌, IfOk};
-ghost use Rattle.hol_exec.specs.Parsed.{IsParsed};
+ghost use Rattle.hol_exec.specs.Reading.{IsRead};
 ghost use Rattle.hol_exec.specs.ParsedView.{parsed_value};
 
 use hol_exec::{Parsed, parse};
 use std::alloc::{AllocError, Global};
 use std::marker::Model;
 
-/// A command's text, with what it is to the engine.
+/// A command's text, with what it reads as.
 #[derive(Drop)]
 pub(crate) struct Line {
     text: String,
@@ -16,14 +16,14 @@ pub(crate) struct Line {
 
 impl Model for Line {
     ghost use Rattle.std.specs.Prelude.{ℕ, List, string_bytes};
-    ghost use Rattle.hol_exec.specs.Parsed.{IsParsed};
+    ghost use Rattle.hol_exec.specs.Reading.{IsRead};
     ghost use Rattle.hol_exec.specs.ParsedView.{parsed_value};
 
     ghost Value = { List ℕ };
 
     ghost view = { λ l. string_bytes l.text };
 
-    ghost invariant = { λ l. IsParsed (string_bytes l.text) (parsed_value l.parsed) };
+    ghost invariant = { λ l. IsRead (string_bytes l.text) (parsed_value l.parsed) };
 }
 
 impl Line {
@@ -36,9 +36,9 @@ impl Line {
         Ok(Line { text, parsed })
     }
 
-    /// What the text is to the engine.
+    /// What the text reads as.
     pub(crate) fn parsed(&self) -> &Parsed
-        ensures { IsParsed self.now (parsed_value result.now) }
+        ensures { IsRead self.now (parsed_value result.now) }
     {
         &self.parsed
     }

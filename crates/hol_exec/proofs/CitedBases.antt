@@ -14,12 +14,12 @@ use Rattle.hol_theory.specs.Key.{KeyValue}
 use Rattle.hol_theory.specs.Entry.{EntryValue, AType, AConstant, ATheorem, Entries, IsEntry, entry_at, entry_basis}
 use Rattle.hol_theory.specs.Theory.{items_in, IsTheory}
 use Rattle.hol_theory.proofs.Theories.{items_agree}
-use Rattle.hol_exec.specs.Parsed.{LocalText}
+use Rattle.hol_notation_commands.specs.Text.{LocalText}
 use Rattle.hol_exec.specs.Keys.{cited_keys, made_keys}
 use Rattle.hol_exec.specs.ReadsValue.{Values, ReadsValue, AreKeyed, values_of}
 use Rattle.hol_exec.specs.Resolved.{occurs_in, with_value, with_values, resolved_basis}
 use Rattle.hol_exec.specs.Valid.{StandIn, AreOfTheory}
-use Rattle.hol_exec.proofs.Entries.{entry_within, entry_is}
+use Rattle.hol_theory.proofs.Standing.{entry_within, entry_is}
 
 -- ---- what is read
 

@@ -20,8 +20,9 @@ use Rattle.hol_kernel.specs.Typing.{is_type_at}
 use Rattle.hol_kernel.proofs.Members.{Among}
 use Rattle.hol_kernel.proofs.Subsets.{none_within}
 use Rattle.hol_notation_terms.specs.Text.{QuotationText, DefinitionText}
+use Rattle.hol_notation_tactics.specs.Parts.{parts_of}
 use Rattle.hol_notation_tactics.specs.Text.{TacText}
-use Rattle.hol_notation_commands.specs.Text.{TypeDefinitionText}
+use Rattle.hol_notation_commands.specs.Text.{TypeDefinitionText, MakingText, NewType, NewConstant, NewAxiom, NewDefinition, NewBasicTypeDefinition, LocalText, Goal, Apply, Qed, Make, DirectText, Back, Rotate, Oops, Import, Local, Direct}
 use Rattle.hol_goal.specs.Goal.{GoalValue}
 use Rattle.hol_stack.specs.StackValue.{StepValue}
 use Rattle.hol_combine.specs.ExprValue.{ExprValue}
@@ -40,17 +41,18 @@ use Rattle.hol_theory.proofs.Entries.{new_of}
 use Rattle.hol_theory.proofs.Imports.{missing_among, missing_follows}
 use Rattle.hol_theory.proofs.Declaring.{type_follows as new_type_follows, constant_follows as new_constant_follows, axiom_follows as new_axiom_follows}
 use Rattle.hol_theory.proofs.Defining.{within_follow, definition_follows, type_follows as type_definition_follows}
+use Rattle.hol_theory.proofs.Standing.{entry_within}
 use Rattle.hol_exec.specs.declared.refusal.RefusalKind.{RefusalKind}
 use Rattle.hol_exec.specs.declared.refusal.RefusalKind.TheVariants as refusal
 use Rattle.hol_exec.specs.Setup.{SetupValue}
-use Rattle.hol_exec.specs.Parsed.{MakingText, NewType, NewConstant, NewAxiom, NewDefinition, NewBasicTypeDefinition, LocalText, Goal, Apply, Qed, Make, DirectText, Unread, Back, Rotate, Oops, Import, ParsedValue, Local, Direct}
-use Rattle.hol_exec.specs.Keys.{keys_of_type, keys_of_term, keys_of_tactic, keys_of_definition, made_by_making}
+use Rattle.hol_notation_commands.specs.Reading.{ReadText, Reads, Breaks}
+use Rattle.hol_exec.specs.Keys.{keys_of_type, keys_of_term, keys_in, keys_of_definition, made_by_making}
 use Rattle.hol_exec.specs.StateValue.{ProofValue, StateValue, EndedTheory, AreTheories}
 use Rattle.hol_exec.specs.ReadsValue.{ReadsValue, ClosingValue, values_of, reads_of, closing_of, AreReads}
 use Rattle.hol_exec.specs.Lookups.{lookups_of}
 use Rattle.hol_exec.specs.Resolved.{theorem_at, resolved_basis}
 use Rattle.hol_exec.specs.Standing.{is_standing, first_taken}
-use Rattle.hol_exec.specs.Expr.{RefusedValue, ResolutionValue, Resolved, Unresolved, formulas_of, first_not_bool, named_refusals, first_refusal, resolved_expr, resolution_of, resolved_formulas, resolved_read, IsResolvedPast}
+use Rattle.hol_exec.specs.Expr.{RefusedValue, ResolutionValue, Resolved, Unresolved, formulas_in, first_not_bool, named_refusals, first_refusal, resolved_expr, resolution_of, resolved_formulas, resolved_read, IsResolvedPast}
 use Rattle.hol_exec.specs.OutcomeValue.{OutcomeValue, Opens, Leaves, Undoes, Rotates, Makes, Refuses, without_newest}
 use Rattle.hol_exec.specs.Defining.{first_free, first_unreflected}
 use Rattle.hol_definition.specs.ForAll.{for_all}
@@ -60,7 +62,7 @@ use Rattle.hol_exec.specs.Local.{opens, opens_read, IsOpening, refused_outcome, 
 use Rattle.hol_exec.specs.At.{undoes_to, undoes, rotates_goals, rotates, drops, imports_theory, imports_from, entries_named, direct, IsOutcome, IsOutcomeAt}
 use Rattle.hol_exec.specs.Valid.{IsFreeFor, IsProofWithin}
 use Rattle.hol_exec.proofs.CitedBases.{values_stand, resolved_fine}
-use Rattle.hol_exec.proofs.Entries.{entry_within, newest_within}
+use Rattle.hol_exec.proofs.Entries.{newest_within}
 use Rattle.hol_exec.proofs.ReadOver.{prelude_within}
 
 -- a proof that goes back a step keeps its name
@@ -162,7 +164,7 @@ module _ (es : Entries) (t : IsTheory es) where
       resting basis (resolved_expr (record { table = setup.table; cited = values_of es keys; readings = readings; basis = basis }) tactic) (resolved_within es keys readings t)
 
   resting_read : (setup : SetupValue) (tactic : TacText) (keys : List KeyValue) (r : Result ReadingsValue Refusal) → Rests (resolved_read setup tactic (values_of es keys) r)
-  resting_read setup tactic keys (Ok readings) = resting_formulas setup tactic keys readings (first_not_bool readings (formulas_of tactic))
+  resting_read setup tactic keys (Ok readings) = resting_formulas setup tactic keys readings (first_not_bool readings (formulas_in (parts_of tactic)))
   resting_read setup tactic keys (Err r) = tt
 
   resting_past : (setup : SetupValue) (tactic : TacText) (keys : List KeyValue) (o : Option (RefusalKind × List ℕ)) (r : ResolutionValue) → IsResolvedPast setup tactic (values_of es keys) o r → Rests r
@@ -174,7 +176,7 @@ applying_fits s false setup tactic o t h = subst (Fits s.entries) (sym h) tt
 applying_fits s true setup tactic o t h =
     subst (Fits s.entries) (sym h.2)
     (resolving s.entries t setup (reads_of (Apply tactic) s).goal h.0
-    (resting_past s.entries t setup tactic (keys_of_tactic tactic) (first_refusal (named_refusals setup tactic (values_of s.entries (keys_of_tactic tactic)))) h.0 h.1))
+    (resting_past s.entries t setup tactic (keys_in (parts_of tactic)) (first_refusal (named_refusals setup tactic (values_of s.entries (keys_in (parts_of tactic))))) h.0 h.1))
 
 -- ---- `qed`
 
@@ -384,7 +386,7 @@ local_fits setup (Apply tactic) s o t free within h = applying_fits s _ setup ta
 local_fits setup Qed s o t free within h = subst (Fits s.entries) (sym h) (finishing s.entries s.proof free within)
 local_fits setup (Make making) s o t free within h = making_fits s _ making o t h
 
--- ---- what is answered directly
+-- ---- what is answered from the state
 
 undoing : (es : Entries) (o : Option ProofValue) → Fits es (undoes o)
 undoing es None = tt
@@ -427,7 +429,6 @@ importing_outside name es o true t = tt
 importing_outside name es o false t = importing_named name es o t
 
 direct_fits : (command : DirectText) (s : StateValue) (earlier : List EndedTheory) → AreTheories earlier → Fits s.entries (direct command s earlier)
-direct_fits (Unread place) s earlier t = tt
 direct_fits Back s earlier t = undoing s.entries s.proof
 direct_fits (Rotate times) s earlier t = rotating s.entries times s.proof
 direct_fits Oops s earlier t = dropping s.entries s.proof
@@ -439,12 +440,14 @@ direct_fits (Import name) s earlier t = importing_outside name s.entries (entrie
 abbrev pub IsKept : StateValue → Type 0
 IsKept s = IsTheory s.entries × IsFreeFor s.entries s.proof × IsProofWithin s.entries s.proof
 
-outcome_fits : (setup : SetupValue) (earlier : List EndedTheory) (s : StateValue) (value : ParsedValue) (reads : Option ReadsValue) (o : OutcomeValue) → IsKept s → AreTheories earlier →
+outcome_fits : (setup : SetupValue) (earlier : List EndedTheory) (s : StateValue) (value : ReadText) (reads : Option ReadsValue) (o : OutcomeValue) → IsKept s → AreTheories earlier →
     AreReads value s reads → IsOutcome setup earlier s value reads o → Fits s.entries o
-outcome_fits setup earlier s (Local command) None o kept t are h = absurd h
-outcome_fits setup earlier s (Local command) (Some reads) o kept t are h = let same : reads ≡ reads_of command s = cc in local_fits setup command s o kept.0 kept.1 kept.2 (rw same at h)
-outcome_fits setup earlier s (Direct command) None o kept t are h = subst (Fits s.entries) (sym h) (direct_fits command s earlier t)
-outcome_fits setup earlier s (Direct command) (Some reads) o kept t are h = absurd h
+outcome_fits setup earlier s (Reads (Local command)) None o kept t are h = absurd h
+outcome_fits setup earlier s (Reads (Local command)) (Some reads) o kept t are h = let same : reads ≡ reads_of command s = cc in local_fits setup command s o kept.0 kept.1 kept.2 (rw same at h)
+outcome_fits setup earlier s (Reads (Direct command)) None o kept t are h = subst (Fits s.entries) (sym h) (direct_fits command s earlier t)
+outcome_fits setup earlier s (Reads (Direct command)) (Some reads) o kept t are h = absurd h
+outcome_fits setup earlier s (Breaks place) None o kept t are h = subst (Fits s.entries) (sym h) tt
+outcome_fits setup earlier s (Breaks place) (Some reads) o kept t are h = absurd h
 
 fits_at : (s : StateValue) (o : OutcomeValue) → IsKept s → IsOutcomeAt s o → Fits s.entries o
 fits_at s o kept h = outcome_fits h.setup h.earlier s h.value h.reads o kept h.theories h.read h.gets

@@ -5,7 +5,6 @@ pub mod Narrow
 pub mod ReadOver
 pub mod CitedTheorem
 pub mod NewNames
-pub mod Arity
 pub mod Defined
 pub mod Variables
 pub mod MadeDefinitions

@@ -38,11 +38,10 @@ use Rattle.hol_kernel.proofs.Subsets.{within_itself}
 use Rattle.hol_kernel.proofs.TypeDefinitions.{type_defined}
 use Rattle.hol_kernel.proofs.Variables.{typed_known}
 use Rattle.hol_equal.specs.Applied.{rand}
-use Rattle.hol_notation_commands.specs.Text.{TypeDefinitionText}
+use Rattle.hol_notation_commands.specs.Text.{TypeDefinitionText, NewBasicTypeDefinition}
 use Rattle.hol_theory.specs.Key.{KeyValue, key_eq, type_key, constant_key, theorem_key}
 use Rattle.hol_theory.specs.Theory.{items_in}
 use Rattle.hol_theory.proofs.Keys.{key_itself}
-use Rattle.hol_exec.specs.Parsed.{NewBasicTypeDefinition}
 use Rattle.hol_exec.specs.Keys.{made_by_making}
 use Rattle.hol_exec.specs.ReadsValue.{Values}
 use Rattle.hol_exec.specs.Standing.{is_standing, first_taken}

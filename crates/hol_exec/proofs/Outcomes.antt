@@ -2,20 +2,21 @@
 use Rattle.std.proofs.Common.{◌≡◌, ℕ, List, [], ◌∷◌, refl, ap, subst, Bool, true, false, cond, decimal, nat_eq}
 use Rattle.std.specs.Prelude.{Option, Some, None, IfSome, is_some}
 use Rattle.hol_terms.specs.Nameless.{Nameless, nameless_type}
-use Rattle.hol_notation_terms.specs.Text.{QuotationText}
+use Rattle.hol_notation_terms.specs.Text.{QuotationText, DefinitionText}
 use Rattle.hol_notation_tactics.specs.Text.{TacText}
 use Rattle.hol_kernel.specs.Items.{Items}
-use Rattle.hol_formulas.specs.Equation.{bool_type}
+use Rattle.hol_formulas.specs.Equation.{bool_type, dest_comb}
 use Rattle.hol_kernel.specs.Typing.{is_type_at}
 use Rattle.hol_goal.specs.Goal.{GoalValue}
 use Rattle.hol_just.specs.declared.reason.Move.{Move}
 use Rattle.hol_stack.specs.StackValue.{StepValue}
 use Rattle.hol_theory.specs.Adding.{first_clash}
-use Rattle.hol_theory.specs.Entry.{Entries}
+use Rattle.hol_theory.specs.Entry.{Entries, EntryValue}
 use Rattle.hol_theory.specs.Key.{KeyValue}
 use Rattle.hol_exec.specs.Setup.{SetupValue}
-use Rattle.hol_exec.specs.Parsed.{MakingText, NewType, NewConstant, NewAxiom, NewDefinition, NewBasicTypeDefinition, LocalText, Goal, Apply, Qed, Make, DirectText, Unread, Back, Rotate, Oops, Import, ParsedValue, Local, Direct}
-use Rattle.hol_resolve.specs.Reading.{ReadingValue, WrongArity, NoTyping, LargeReading, ReadsAs}
+use Rattle.hol_notation_commands.specs.Text.{MakingText, NewType, NewConstant, NewAxiom, NewDefinition, NewBasicTypeDefinition, LocalText, Goal, Apply, Qed, Make, DirectText, Back, Rotate, Oops, Import, Local, Direct, TypeDefinitionText}
+use Rattle.hol_notation_commands.specs.Reading.{ReadText, Reads, Breaks}
+use Rattle.hol_resolve.specs.Reading.{ReadingValue, WrongArity, NoTyping, LargeReading, ReadsAs, type_reading}
 use Rattle.hol_exec.specs.StateValue.{ProofValue, StateValue, EndedTheory}
 use Rattle.hol_exec.specs.ReadsValue.{ReadsValue, ClosingValue, reads_of, AreReads, first_goal}
 use Rattle.hol_exec.specs.OutcomeValue.{OutcomeValue, Leaves, Makes, Refuses, MakesTheorems}
@@ -28,14 +29,9 @@ use Rattle.hol_exec.specs.Lookups.{lookups_of}
 use Rattle.hol_exec.specs.Defining.{first_free, first_unreflected}
 use Rattle.hol_equal.specs.Applied.{rand}
 use Rattle.hol_exec.specs.Making.{UnlessTaken, taken, MakesOne, MakesConstantOf, StatesAxiom, MakesAxiomOf, MakesDefined, UnlessOpen, MakesDefinitionOf, UnlessFree, MakesTypeBy, MakesTypeOf, MakesTypeFrom, IsMade, IsMaking, formula_basis}
-use Rattle.hol_theory.specs.Entry.{EntryValue}
 use Rattle.hol_kernel.specs.Theorem.{Theorem}
-use Rattle.hol_formulas.specs.Equation.{dest_comb}
 use Rattle.hol_types.specs.Tree.{TypeTree}
-use Rattle.hol_resolve.specs.Reading.{type_reading}
 use Rattle.hol_resolve.specs.Readings.{ATerm}
-use Rattle.hol_notation_terms.specs.Text.{DefinitionText}
-use Rattle.hol_notation_commands.specs.Text.{TypeDefinitionText}
 use Rattle.hol_theory.proofs.Theories.{items_agree}
 use Rattle.hol_exec.specs.Standing.{first_taken}
 use Rattle.hol_combine.specs.ExprValue.{ExprValue}
@@ -175,7 +171,7 @@ module _ (goal : GoalValue) (goals : List GoalValue) (basis : Items) where
   local_first setup Qed s h = absurd (finish_none (reads_of Qed s).closing h)
   local_first setup (Make making) s h = absurd (making_none _ making (reads_of (Make making) s) h)
 
-  -- nothing that is answered directly takes a step
+  -- nothing that is answered from the state takes a step
   undoing_none : (o : Option ProofValue) → Leaves goal goals basis ≡ undoes o → ⊥
   undoing_none None e = absurd (cc)
   undoing_none (Some p) e = by p.earlier e
@@ -212,18 +208,19 @@ module _ (goal : GoalValue) (goals : List GoalValue) (basis : Items) where
       by false e = found (entries_named name earlier) e
 
   direct_none : (command : DirectText) (s : StateValue) (earlier : List EndedTheory) → Leaves goal goals basis ≡ direct command s earlier → ⊥
-  direct_none (Unread place) s earlier e = absurd (cc)
   direct_none Back s earlier e = undoing_none s.proof e
   direct_none (Rotate times) s earlier e = rotating_none times s.proof e
   direct_none Oops s earlier e = dropping_none s.proof e
   direct_none (Import name) s earlier e = importing_none name s earlier e
 
-  outcome_first : (setup : SetupValue) (earlier : List EndedTheory) (s : StateValue) (value : ParsedValue) (reads : Option ReadsValue) →
+  outcome_first : (setup : SetupValue) (earlier : List EndedTheory) (s : StateValue) (value : ReadText) (reads : Option ReadsValue) →
       AreReads value s reads → IsOutcome setup earlier s value reads (Leaves goal goals basis) → first_goal s.proof ≡ Some goal
-  outcome_first setup earlier s (Local command) None are h = absurd h
-  outcome_first setup earlier s (Local command) (Some reads) are h = let same : reads ≡ reads_of command s = cc in local_first setup command s (rw same at h)
-  outcome_first setup earlier s (Direct command) None are h = absurd (direct_none command s earlier h)
-  outcome_first setup earlier s (Direct command) (Some reads) are h = absurd h
+  outcome_first setup earlier s (Reads (Local command)) None are h = absurd h
+  outcome_first setup earlier s (Reads (Local command)) (Some reads) are h = let same : reads ≡ reads_of command s = cc in local_first setup command s (rw same at h)
+  outcome_first setup earlier s (Reads (Direct command)) None are h = absurd (direct_none command s earlier h)
+  outcome_first setup earlier s (Reads (Direct command)) (Some reads) are h = absurd h
+  outcome_first setup earlier s (Breaks place) None are h = absurd (cc)
+  outcome_first setup earlier s (Breaks place) (Some reads) are h = absurd h
 
 pub can_step : (s : StateValue) (outcome : OutcomeValue) → IsKept s → IsOutcomeAt s outcome → (goal : GoalValue) (goals : List GoalValue) (basis : Items) (moves : List Move) → outcome ≡ Leaves goal goals basis → IsLeft basis moves goal goals → IfSome s.proof (CanStep basis moves goals)
 can_step s outcome kept h goal goals basis moves e left = by s.proof refl

@@ -2,11 +2,12 @@
 use Rattle.std.specs.Prelude.{◌≡◌, ℕ, List, Some, None, Result, Ok, Err, IfOk, string_bytes}
 use Rattle.std.proofs.Common.{ap, sym, ◌∙◌, subst}
 use Rattle.hol_kernel.specs.Items.{Items}
+use Rattle.hol_notation_tactics.specs.Parts.{parts_of, calls_in}
 use Rattle.hol_notation_tactics.specs.Text.{TacText}
 use Rattle.hol_resolve.specs.declared.quotations.AnyQuotation.{AnyQuotation}
 use Rattle.hol_resolve.specs.declared.refusal.Refusal.{Refusal}
 use Rattle.hol_resolve.specs.Lookups.{LookupsValue}
-use Rattle.hol_resolve.specs.Quotations.{quotations_of}
+use Rattle.hol_resolve.specs.Quotations.{quotations_in}
 use Rattle.hol_resolve.specs.Readings.{ReadingsValue, AreRead}
 use Rattle.hol_exec.specs.declared.refusal.RefusalKind.TheVariants as refusal
 use Rattle.hol_exec.specs.Setup.{SetupValue}
@@ -15,7 +16,7 @@ use Rattle.hol_exec.specs.ReadsValue.{Values}
 use Rattle.hol_exec.specs.Resolved.{cited_theorems, occurs_in, resolved_basis}
 use Rattle.hol_exec.specs.Standing.{first_unknown}
 use Rattle.hol_combine.specs.ExprValue.{ExprValue}
-use Rattle.hol_exec.specs.Expr.{RefusedValue, ResolutionValue, Resolved, Unresolved, calls_of, first_unfit, resolved_expr, refused_resolution, resolution_of, resolved_formulas, resolved_read, IsResolvedFitting, IsResolution}
+use Rattle.hol_exec.specs.Expr.{RefusedValue, ResolutionValue, Resolved, Unresolved, first_unfit, resolved_expr, refused_resolution, resolution_of, resolved_formulas, resolved_read, IsResolvedFitting, IsResolution}
 use Rattle.hol_exec.specs.ExprView.{resolution_value, IsRefusal, IsFault, IsUnresolved}
 use Rattle.hol_exec.specs.declared.resolution.Resolution.{Resolution}
 use Rattle.hol_exec.specs.declared.unresolved.Unresolved.{Unresolved as Fault}
@@ -32,18 +33,18 @@ module _ (setup : SetupValue) (cited : Values) where
     pub unknown_theorem : (name : List ℕ) (r : ResolutionValue) → first_unknown cited ≡ Some name → r ≡ Unresolved refusal.UnknownTheorem name → IsResolution setup tactic cited r
     unknown_theorem name r e f = rw e f
 
-    pub unknown_tac : (name : List ℕ) (r : ResolutionValue) → first_unknown cited ≡ None → first_unfit setup (calls_of tactic) cited ≡ Some name → r ≡ Unresolved refusal.UnknownTac name → IsResolution setup tactic cited r
+    pub unknown_tac : (name : List ℕ) (r : ResolutionValue) → first_unknown cited ≡ None → first_unfit setup (calls_in (parts_of tactic)) cited ≡ Some name → r ≡ Unresolved refusal.UnknownTac name → IsResolution setup tactic cited r
     unknown_tac name r e f g = rw (e, f) g
 
-    pub fitting : (r : ResolutionValue) → first_unknown cited ≡ None → first_unfit setup (calls_of tactic) cited ≡ None → IsResolvedFitting setup tactic cited r → IsResolution setup tactic cited r
+    pub fitting : (r : ResolutionValue) → first_unknown cited ≡ None → first_unfit setup (calls_in (parts_of tactic)) cited ≡ None → IsResolvedFitting setup tactic cited r → IsResolution setup tactic cited r
     fitting r e f h = rw (e, f) h
 
   -- ---- past the readings
 
-  pub past_readings : (tactic : TacText) (over : LookupsValue) (quoted : List AnyQuotation) (own read : Result ReadingsValue Refusal) (r : ResolutionValue) → over ≡ lookups_of cited → quoted ≡ quotations_of tactic
+  pub past_readings : (tactic : TacText) (over : LookupsValue) (quoted : List AnyQuotation) (own read : Result ReadingsValue Refusal) (r : ResolutionValue) → over ≡ lookups_of cited → quoted ≡ quotations_in (parts_of tactic)
       → AreRead over quoted own → own ≡ read → r ≡ resolved_read setup tactic cited read → IsResolvedFitting setup tactic cited r
   past_readings tactic over quoted own read r e f h same is =
-      (read, subst (λ (w : Result ReadingsValue Refusal). AreRead (lookups_of cited) (quotations_of tactic) w) same (rw (e, f) at h), is)
+      (read, subst (λ (w : Result ReadingsValue Refusal). AreRead (lookups_of cited) (quotations_in (parts_of tactic)) w) same (rw (e, f) at h), is)
 
   -- ---- past the formulas
 

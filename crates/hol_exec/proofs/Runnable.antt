@@ -1,5 +1,6 @@
 -- What is resolved can be run: its calls are of registered functions, and the basis suits what they are given.
-use Rattle.std.specs.Prelude.{◌≡◌, ◌<◌, ℕ, Bool, true, false, cond, nat_lt, [], length, decimal, Option, Some, None, is_some, Result, Ok, Err, refl}
+use Rattle.std.specs.Prelude.{◌≡◌, ◌<◌, ℕ, List, Bool, true, false, cond, nat_lt, [], length, decimal, Option, Some, None, is_some, Result, Ok, Err, refl}
+use Rattle.std.specs.Option.{option_map, option_and_then}
 use Rattle.std.proofs.Common.{ap, ◌∙◌, subst}
 use Rattle.std.proofs.lemmas.Bool.{and_from, lt-ltb}
 use Rattle.hol_terms.specs.Nameless.{Nameless, nameless_type}
@@ -8,27 +9,26 @@ use Rattle.hol_kernel.specs.Items.{Items}
 use Rattle.hol_kernel.specs.Given.{assumed as assume}
 use Rattle.hol_kernel.specs.Typing.{is_type_at, is_typed, is_known}
 use Rattle.hol_notation_tactics.specs.Text.{CallText, TacText, TacTexts, Call, Then, ThenL, OrElse, Repeat, Try, Changed, Every, First, Replicate, DischThen, PopAssum, FirstAssum, SubgoalThen, no_tacs, more_tacs}
-use Rattle.hol_goal.specs.Arguments.{TacArgsValue, Nothing, Term, Pair, Theorem, TermAndTheorem, Theorems, arguments_of}
-use Rattle.hol_goal.specs.declared.tac_args.ArgumentKind.{ArgumentKind}
+use Rattle.hol_goal.specs.Arguments.{TacArgsValue, Nothing, Term, Pair, Theorem, TermAndTheorem, Theorems}
 use Rattle.hol_goal.specs.declared.tac_code.TacCode.{TacCode}
 use Rattle.hol_just.specs.Answering.{suits}
 use Rattle.hol_just.specs.Justifies.{holds_given}
-use Rattle.hol_combine.specs.ExprValue.{CallValue, TheoremTacValue, ExprValue, ExprValues, no_exprs, more_exprs}
+use Rattle.hol_combine.specs.ExprValue.{CallValue, TheoremTacValue, ExprValue, ExprValues, more_exprs}
 use Rattle.hol_combine.specs.ExprValue as expr
 use Rattle.hol_combine.specs.Suits.{all_calls, all_calls_of, written, written_args, by_subgoal}
 use Rattle.hol_resolve.specs.Over.{AreOver}
 use Rattle.hol_resolve.specs.Readings.{term_at}
 use Rattle.hol_resolve.specs.Steps.{IsTermOver}
-use Rattle.hol_resolve.specs.Written.{arguments_written}
+use Rattle.hol_resolve.specs.Forms.{WrittenArgsValue, arguments_given, written_as}
 use Rattle.hol_resolve.specs.declared.refusal.Refusal.{Refusal}
 use Rattle.hol_resolve.proofs.Over.{term_over}
-use Rattle.hol_resolve.proofs.Suiting.{Each as EachWritten, Suits, written_suit}
-use Rattle.hol_exec.specs.declared.tac.CallRole.{CallRole}
-use Rattle.hol_exec.specs.declared.tac.CallRole.TheVariants.{Whole, TheoremTactic}
+use Rattle.hol_resolve.proofs.Suiting.{Each as EachWritten, Suits, given_suit}
+use Rattle.hol_notation_tactics.specs.declared.parts.Role.{Role}
+use Rattle.hol_notation_tactics.specs.declared.parts.Role.TheVariants.{Whole, TheoremTactic}
 use Rattle.hol_exec.specs.declared.refusal.RefusalKind.TheVariants as refusal
 use Rattle.hol_exec.specs.Resolved.{cited_theorems}
-use Rattle.hol_exec.specs.Expr.{RefusedValue, ContextValue, mapped, both, named_result, term_before, kind_before, formula, given, resolved_call, resolved_theorem_tac, resolved_whole, resolved_handing, resolved_expr, resolved_exprs}
-use Rattle.hol_exec.specs.Tac.{CalledValue, Registered, kind_of, fits, named, fitting, registered, called}
+use Rattle.hol_exec.specs.Expr.{RefusedValue, ContextValue, mapped, both, named_result, term_before, formula, given, resolved_call, resolved_theorem_tac, resolved_whole, resolved_handing, resolved_expr, resolved_exprs}
+use Rattle.hol_exec.specs.Tac.{CalledValue, Registered, kind_of, kind_for, named, fitting, registered, called}
 use Rattle.hol_exec.specs.Valid.{IsRunnableExpr}
 use Rattle.hol_exec.proofs.Rows.{registered_within}
 
@@ -105,43 +105,39 @@ module _ (context : ContextValue) where
   abbrev rows : ℕ
   rows = length context.table
 
-  called_within : (role : CallRole) (call : CallText) (index : ℕ) (code : TacCode) → called context.table role call context.cited ≡ Some (Registered index code) → index < rows
-  called_within role call index code e = by (registered call.name context.table) refl e
+  called_within : (role : Role) (call : CallText) (index : ℕ) (code : TacCode) (w : WrittenArgsValue) → called context.table role call context.cited ≡ Some (Registered index code, w) → index < rows
+  called_within role call index code w e = by (registered call.name context.table) refl e
     where
-      fit : (b : Bool) (c : CalledValue) → cond b (Some c) None ≡ Some (Registered index code) → c ≡ Registered index code
-      fit true c e = cc
-      fit false c e = absurd (cc)
+      with : (c : CalledValue) (o : Option WrittenArgsValue) → option_map (λ (x : WrittenArgsValue). (c, x)) o ≡ Some (Registered index code, w) → c ≡ Registered index code
+      with c None e = absurd (cc)
+      with c (Some x) e = cc
 
-      by : (o : Option CalledValue) → registered call.name context.table ≡ o → fitting (named call.name o context.cited) role call.arguments ≡ Some (Registered index code) → index < rows
+      by : (o : Option CalledValue) → registered call.name context.table ≡ o → fitting (named call.name o context.cited) role call.arguments ≡ Some (Registered index code, w) → index < rows
       by None f e = absurd (cc)
-      by (Some c) f e = registered_within call.name context.table index code (f ∙ ap Some (fit (fits (kind_of c) role call.arguments) c e))
+      by (Some c) f e = registered_within call.name context.table index code (f ∙ ap Some (with c (option_and_then (λ kind. written_as kind call.arguments) (kind_for role (kind_of c))) e))
 
   abbrev IsIndex : CallValue → Bool
   IsIndex call = nat_lt call.index rows
 
+  any_given : (r : Result TacArgsValue RefusedValue) → Each (λ a. Unit {0}) r
+  any_given (Ok a) = tt
+  any_given (Err x) = tt
+
   whole_index : (call : CallText) → Each (λ c. IsIndex c ≡ true) (resolved_whole context call)
   whole_index call = by (called context.table Whole call context.cited) refl
     where
-      by : (o : Option CalledValue) → called context.table Whole call context.cited ≡ o → Each (λ c. IsIndex c ≡ true) (resolved_call context call o)
+      by : (o : Option (CalledValue × WrittenArgsValue)) → called context.table Whole call context.cited ≡ o → Each (λ c. IsIndex c ≡ true) (resolved_call context call.name o)
       by None e = tt
-      by (Some (Registered index code)) e =
-          of_mapped (λ a. Unit {0}) (λ c. IsIndex c ≡ true) _ (λ a h. lt-ltb index rows (called_within Whole call index code e)) (given context call (arguments_of code)) (any (given context call (arguments_of code)))
-        where
-          any : (r : Result TacArgsValue RefusedValue) → Each (λ a. Unit {0}) r
-          any (Ok a) = tt
-          any (Err x) = tt
+      by (Some (Registered index code, w)) e =
+          of_mapped (λ a. Unit {0}) (λ c. IsIndex c ≡ true) _ (λ a h. lt-ltb index rows (called_within Whole call index code w e)) (given context call.name w) (any_given (given context call.name w))
 
   handing_index : (call : CallText) → Each (λ tac. IsIndex (written tac) ≡ true) (resolved_handing context call)
   handing_index call = by (called context.table TheoremTactic call context.cited) refl
     where
-      by : (o : Option CalledValue) → called context.table TheoremTactic call context.cited ≡ o → Each (λ tac. IsIndex (written tac) ≡ true) (resolved_theorem_tac context call o)
+      by : (o : Option (CalledValue × WrittenArgsValue)) → called context.table TheoremTactic call context.cited ≡ o → Each (λ tac. IsIndex (written tac) ≡ true) (resolved_theorem_tac context call.name o)
       by None e = tt
-      by (Some (Registered index code)) e =
-          of_mapped (λ a. Unit {0}) (λ tac. IsIndex (written tac) ≡ true) _ (λ a h. lt-ltb index rows (called_within TheoremTactic call index code e)) (given context call (kind_before (arguments_of code))) (any (given context call (kind_before (arguments_of code))))
-        where
-          any : (r : Result TacArgsValue RefusedValue) → Each (λ a. Unit {0}) r
-          any (Ok a) = tt
-          any (Err x) = tt
+      by (Some (Registered index code, w)) e =
+          of_mapped (λ a. Unit {0}) (λ tac. IsIndex (written tac) ≡ true) _ (λ a h. lt-ltb index rows (called_within TheoremTactic call index code w e)) (given context call.name w) (any_given (given context call.name w))
 
   -- ---- the basis
 
@@ -149,19 +145,19 @@ module _ (context : ContextValue) where
     abbrev IsSuited : CallValue → Bool
     IsSuited call = suits call.args context.basis
 
-    all_suit : (call : CallText) (kind : ArgumentKind) → Each (Suits context.basis) (given context call kind)
-    all_suit call kind = by (arguments_written context.basis (cited_theorems context.cited) context.readings kind call.arguments) (written_suit context.basis context.readings over (cited_theorems context.cited) kind call.arguments)
+    all_suit : (name : List ℕ) (w : WrittenArgsValue) → Each (Suits context.basis) (given context name w)
+    all_suit name w = by (arguments_given context.basis (cited_theorems context.cited) context.readings w) (given_suit context.basis context.readings over (cited_theorems context.cited) w)
       where
-        by : (r : Result TacArgsValue Refusal) → EachWritten (Suits context.basis) r → Each (Suits context.basis) (named_result call.name r)
+        by : (r : Result TacArgsValue Refusal) → EachWritten (Suits context.basis) r → Each (Suits context.basis) (named_result name r)
         by (Ok a) h = h
         by (Err x) h = tt
 
     whole_suited : (call : CallText) → Each (λ c. IsSuited c ≡ true) (resolved_whole context call)
     whole_suited call = by (called context.table Whole call context.cited)
       where
-        by : (o : Option CalledValue) → Each (λ c. IsSuited c ≡ true) (resolved_call context call o)
+        by : (o : Option (CalledValue × WrittenArgsValue)) → Each (λ c. IsSuited c ≡ true) (resolved_call context call.name o)
         by None = tt
-        by (Some (Registered index code)) = of_mapped (Suits context.basis) (λ c. IsSuited c ≡ true) _ (λ a h. h) (given context call (arguments_of code)) (all_suit call (arguments_of code))
+        by (Some (Registered index code, w)) = of_mapped (Suits context.basis) (λ c. IsSuited c ≡ true) _ (λ a h. h) (given context call.name w) (all_suit call.name w)
 
     before : (a : TacArgsValue) → Suits context.basis a → suits (written_args (term_before a)) context.basis ≡ true
     before Nothing h = refl
@@ -174,10 +170,9 @@ module _ (context : ContextValue) where
     handing_suited : (call : CallText) → Each (λ tac. IsSuited (written tac) ≡ true) (resolved_handing context call)
     handing_suited call = by (called context.table TheoremTactic call context.cited)
       where
-        by : (o : Option CalledValue) → Each (λ tac. IsSuited (written tac) ≡ true) (resolved_theorem_tac context call o)
+        by : (o : Option (CalledValue × WrittenArgsValue)) → Each (λ tac. IsSuited (written tac) ≡ true) (resolved_theorem_tac context call.name o)
         by None = tt
-        by (Some (Registered index code)) =
-            of_mapped (Suits context.basis) (λ tac. IsSuited (written tac) ≡ true) _ before (given context call (kind_before (arguments_of code))) (all_suit call (kind_before (arguments_of code)))
+        by (Some (Registered index code, w)) = of_mapped (Suits context.basis) (λ tac. IsSuited (written tac) ≡ true) _ before (given context call.name w) (all_suit call.name w)
 
     abbrev IsFormula : Nameless → Type 0
     IsFormula p = holds_given (assume p) context.basis ≡ true

@@ -1,15 +1,16 @@
--- A text is one thing, and has one outcome at a state.
+-- A text reads as one thing, and has one outcome at a state.
 use Rattle.std.specs.Prelude.{◌≡◌, ℕ, List, [], ◌∷◌, Bool, true, false, Option, Some, None, Result, refl}
-use Rattle.std.proofs.Common.{ap, sym, ◌∙◌, inl, inr}
+use Rattle.std.proofs.Common.{ap, sym, ◌∙◌}
 use Rattle.hol_notation_terms.specs.Text.{QuotationText}
+use Rattle.hol_notation_tactics.specs.Parts.{parts_of}
 use Rattle.hol_notation_tactics.specs.Text.{TacText}
-use Rattle.hol_notation_commands.specs.Reading.{Reads, Breaks}
+use Rattle.hol_notation_commands.specs.Reading.{Reads, Breaks, ReadText, IsRead}
 use Rattle.hol_notation_commands.proofs.OneReading.{one_reading as one_command}
 use Rattle.hol_exec.specs.Setup.{SetupValue}
-use Rattle.hol_exec.specs.Parsed.{LocalText, Goal, Apply, Qed, Make, ParsedValue, Local, Direct, Unread, IsParsed, parsed}
+use Rattle.hol_notation_commands.specs.Text.{LocalText, Goal, Apply, Qed, Make, Local, Direct}
 use Rattle.hol_resolve.specs.Lookups.{LookupsValue}
 use Rattle.hol_resolve.specs.Reading.{ReadingValue}
-use Rattle.hol_resolve.specs.Quotations.{quotations_of}
+use Rattle.hol_resolve.specs.Quotations.{quotations_in}
 use Rattle.hol_resolve.specs.Readings.{QuotedValue, ATerm, ReadingsValue, Attempts, reading_map, IsQuotedAs, AreAttempts, read_all, AreRead}
 use Rattle.hol_resolve.specs.declared.quotations.AnyQuotation.{AnyQuotation}
 use Rattle.hol_resolve.specs.declared.quotations.AnyQuotation.TheVariants as quoted
@@ -27,17 +28,8 @@ use Rattle.hol_exec.proofs.UniqueMade.{one_making}
 
 -- ---- texts
 
-pub one_text : (text : List ℕ) (a b : ParsedValue) → IsParsed text a → IsParsed text b → a ≡ b
-one_text text a b (inl p) (inl q) =
-    let e : Reads p.command ≡ Reads q.command = one_command text (Reads p.command) (Reads q.command) p.written q.written in
-    let same : p.command ≡ q.command = cc in
-    p.is ∙ ap parsed same ∙ sym q.is
-one_text text a b (inl p) (inr q) = let e : Reads p.command ≡ Breaks q.place = one_command text (Reads p.command) (Breaks q.place) p.written q.breaks in absurd (cc)
-one_text text a b (inr p) (inl q) = let e : Breaks p.place ≡ Reads q.command = one_command text (Breaks p.place) (Reads q.command) p.breaks q.written in absurd (cc)
-one_text text a b (inr p) (inr q) =
-    let e : Breaks p.place ≡ Breaks q.place = one_command text (Breaks p.place) (Breaks q.place) p.breaks q.breaks in
-    let same : p.place ≡ q.place = cc in
-    p.is ∙ ap (λ place. Direct (Unread place)) same ∙ sym q.is
+pub one_text : (text : List ℕ) (a b : ReadText) → IsRead text a → IsRead text b → a ≡ b
+one_text = one_command
 
 -- ---- what is quoted
 
@@ -65,7 +57,7 @@ one_all_read over qs a b p q = p.2 ∙ ap read_all (one_attempts over qs p.0 q.0
 module _ (setup : SetupValue) (cited : Values) where
   one_fitting : (tactic : TacText) (a b : ResolutionValue) → IsResolvedFitting setup tactic cited a → IsResolvedFitting setup tactic cited b → a ≡ b
   one_fitting tactic a b p q =
-      p.2 ∙ ap (resolved_read setup tactic cited) (one_all_read (lookups_of cited) (quotations_of tactic) p.0 q.0 p.1 q.1) ∙ sym q.2
+      p.2 ∙ ap (resolved_read setup tactic cited) (one_all_read (lookups_of cited) (quotations_in (parts_of tactic)) p.0 q.0 p.1 q.1) ∙ sym q.2
 
   one_past : (tactic : TacText) (o : Option (RefusalKind × List ℕ)) (a b : ResolutionValue) → IsResolvedPast setup tactic cited o a → IsResolvedPast setup tactic cited o b → a ≡ b
   one_past tactic (Some refused) a b p q = p ∙ sym q
@@ -89,9 +81,11 @@ one_local setup (Apply tactic) reads a b p q = one_applying reads.in_proof setup
 one_local setup Qed reads a b p q = p ∙ sym q
 one_local setup (Make making) reads a b p q = one_making reads.in_proof making reads a b p q
 
-pub one_outcome : (setup : SetupValue) (earlier : List EndedTheory) (s : StateValue) (value : ParsedValue) (reads : Option ReadsValue) (a b : OutcomeValue) →
+pub one_outcome : (setup : SetupValue) (earlier : List EndedTheory) (s : StateValue) (value : ReadText) (reads : Option ReadsValue) (a b : OutcomeValue) →
     IsOutcome setup earlier s value reads a → IsOutcome setup earlier s value reads b → a ≡ b
-one_outcome setup earlier s (Local command) None a b p q = absurd p
-one_outcome setup earlier s (Local command) (Some reads) a b p q = one_local setup command reads a b p q
-one_outcome setup earlier s (Direct command) None a b p q = p ∙ sym q
-one_outcome setup earlier s (Direct command) (Some reads) a b p q = absurd p
+one_outcome setup earlier s (Reads (Local command)) None a b p q = absurd p
+one_outcome setup earlier s (Reads (Local command)) (Some reads) a b p q = one_local setup command reads a b p q
+one_outcome setup earlier s (Reads (Direct command)) None a b p q = p ∙ sym q
+one_outcome setup earlier s (Reads (Direct command)) (Some reads) a b p q = absurd p
+one_outcome setup earlier s (Breaks place) None a b p q = p ∙ sym q
+one_outcome setup earlier s (Breaks place) (Some reads) a b p q = absurd p

@@ -17,13 +17,12 @@ use Rattle.hol_kernel.proofs.Variables.{known_typed}
 use Rattle.hol_equal.specs.Applied.{rand}
 use Rattle.hol_definition.specs.ForAll.{for_all}
 use Rattle.hol_notation_terms.specs.Text.{DefinitionText}
-use Rattle.hol_notation_commands.specs.Text.{TypeDefinitionText}
+use Rattle.hol_notation_commands.specs.Text.{TypeDefinitionText, MakingText, NewType, NewConstant, NewAxiom, NewDefinition, NewBasicTypeDefinition}
 use Rattle.hol_infer.specs.Resolving.{definition_has_arities, definition_raw}
 use Rattle.hol_resolve.specs.Reading.{ReadingValue, WrongArity, NoTyping, LargeReading, ReadsAs, type_reading}
 use Rattle.hol_theory.specs.Key.{KeyValue, type_key, constant_key, theorem_key}
 use Rattle.hol_theory.specs.Entry.{EntryValue, AType, AConstant, ATheorem, Entries}
 use Rattle.hol_theory.specs.Making.{IsNewType, IsNewConstant, IsNewAxiom, IsNewTypeDefinition, item_entries}
-use Rattle.hol_exec.specs.Parsed.{MakingText, NewType, NewConstant, NewAxiom, NewDefinition, NewBasicTypeDefinition}
 use Rattle.hol_exec.specs.ReadsValue.{ReadsValue}
 use Rattle.hol_exec.specs.Lookups.{lookups_of}
 use Rattle.hol_exec.specs.Resolved.{cited_theorem}

@@ -21,7 +21,7 @@ use Rattle.hol_exec.specs.ReadsValue.{Values, ReadsValue}
 use Rattle.hol_exec.specs.Resolved.{resolved_basis}
 use Rattle.hol_exec.specs.OutcomeValue.{OutcomeValue, Makes, Refuses}
 use Rattle.hol_exec.specs.Making.{UnlessTaken, MakesOne, UnlessOpen, IsMade, IsMaking}
-use Rattle.hol_exec.specs.Parsed.{MakingText}
+use Rattle.hol_notation_commands.specs.Text.{MakingText}
 
 module _ {E : Type 0} (result : Result OutcomeValue E) (taken : Option KeyValue) (Made : OutcomeValue → Type 0) where
   pub taken_refused : (key : KeyValue) → Some key ≡ taken → IfOk result (λ outcome. outcome ≡ Refuses refusal.NameTaken (key_text key)) → IfOk result (UnlessTaken taken Made)

@@ -1,4 +1,4 @@
--- The outcome of what a text is, at a state, from what it reads of that.
+-- The outcome of what a text reads as, at a state, from what that reads of it.
 use Rattle.std.specs.Prelude.{◌≡◌, ℕ, List, [], ◌∷◌, cond, bytes_eq, Option, Some, None, is_some, decimal}
 use Rattle.hol_goal.specs.Goal.{GoalValue}
 use Rattle.hol_stack.specs.StackValue.{StepValue}
@@ -7,7 +7,8 @@ use Rattle.hol_theory.specs.Entry.{Entries}
 use Rattle.hol_theory.specs.Key.{KeyValue, key_text}
 use Rattle.hol_exec.specs.declared.refusal.RefusalKind.TheVariants as refusal
 use Rattle.hol_exec.specs.Setup.{SetupValue}
-use Rattle.hol_exec.specs.Parsed.{DirectText, Unread, Back, Rotate, Oops, Import, ParsedValue, Local, Direct}
+use Rattle.hol_notation_commands.specs.Text.{DirectText, Back, Rotate, Oops, Import, Local, Direct}
+use Rattle.hol_notation_commands.specs.Reading.{ReadText, Reads, Breaks}
 use Rattle.hol_exec.specs.StateValue.{ProofValue, StateValue, EndedTheory, AreTheories}
 use Rattle.hol_exec.specs.ReadsValue.{ReadsValue, AreReads}
 use Rattle.hol_exec.specs.OutcomeValue.{OutcomeValue, Undoes, Rotates, Makes, Refuses}
@@ -58,27 +59,28 @@ imports_theory name entries (Some theory) = imports_from entries theory (first_c
 abbrev pub imports : List ℕ → StateValue → List EndedTheory → OutcomeValue
 imports name s earlier = cond (is_some s.proof) (Refuses refusal.InProof []) (imports_theory name s.entries (entries_named name earlier))
 
--- ---- the outcome of what is answered directly, from the state and from the theories that stand earlier
+-- ---- the outcome of what is answered from the state and from the theories that stand earlier
 abbrev pub direct : DirectText → StateValue → List EndedTheory → OutcomeValue
-direct (Unread place) s earlier = Refuses refusal.Syntax (decimal place)
 direct Back s earlier = undoes s.proof
 direct (Rotate times) s earlier = rotates times s.proof
 direct Oops s earlier = drops s.proof
 direct (Import name) s earlier = imports name s earlier
 
--- the outcome of what a text is, from its reads: what is answered directly has none
-abbrev pub IsOutcome : SetupValue → List EndedTheory → StateValue → ParsedValue → Option ReadsValue → OutcomeValue → Type 0
-IsOutcome setup earlier s (Local command) None outcome = ⊥
-IsOutcome setup earlier s (Local command) (Some reads) outcome = IsLocalOutcome setup command reads outcome
-IsOutcome setup earlier s (Direct command) None outcome = outcome ≡ direct command s earlier
-IsOutcome setup earlier s (Direct command) (Some reads) outcome = ⊥
+-- the outcome of what a text reads as, from its reads: a text that breaks, and what is answered from the state, have none
+abbrev pub IsOutcome : SetupValue → List EndedTheory → StateValue → ReadText → Option ReadsValue → OutcomeValue → Type 0
+IsOutcome setup earlier s (Reads (Local command)) None outcome = ⊥
+IsOutcome setup earlier s (Reads (Local command)) (Some reads) outcome = IsLocalOutcome setup command reads outcome
+IsOutcome setup earlier s (Reads (Direct command)) None outcome = outcome ≡ direct command s earlier
+IsOutcome setup earlier s (Reads (Direct command)) (Some reads) outcome = ⊥
+IsOutcome setup earlier s (Breaks place) None outcome = outcome ≡ Refuses refusal.Syntax (decimal place)
+IsOutcome setup earlier s (Breaks place) (Some reads) outcome = ⊥
 
 -- an outcome that the state may get, where what stands earlier are theories
 pub record IsOutcomeAt (s : StateValue) (outcome : OutcomeValue) : Type 0 where
   pub setup : SetupValue
   pub earlier : List EndedTheory
   pub theories : AreTheories earlier
-  pub value : ParsedValue
+  pub value : ReadText
   pub reads : Option ReadsValue
   pub read : AreReads value s reads
   pub gets : IsOutcome setup earlier s value reads outcome

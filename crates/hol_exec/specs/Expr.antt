@@ -1,27 +1,28 @@
 -- Expressions of functions on goals, as they are written, and what they resolve to. How they run is hol_combine's.
 -- Sources: the tactics and tacticals of the HOL Light Reference Manual; the order of refusals is this project's.
-use Rattle.std.specs.Prelude.{◌≡◌, ℕ, List, [], ◌∷◌, ◌++◌, Bool, false, cond, decimal, Option, Some, None, is_some, Result, Ok, Err}
+use Rattle.std.specs.Prelude.{◌≡◌, ℕ, List, [], ◌∷◌, Bool, false, cond, decimal, Option, Some, None, is_some, Result, Ok, Err}
 use Rattle.hol_terms.specs.Nameless.{Nameless, nameless_type}
 use Rattle.hol_formulas.specs.Equation.{bool_type}
 use Rattle.hol_kernel.specs.Items.{Items}
 use Rattle.hol_kernel.specs.Typing.{is_type_at}
 use Rattle.hol_notation_terms.specs.Text.{QuotationText}
+use Rattle.hol_notation_tactics.specs.Parts.{parts_of, calls_in}
+use Rattle.hol_notation_tactics.specs.declared.parts.Part.{Part}
+use Rattle.hol_notation_tactics.specs.declared.parts.Part.TheVariants as part
 use Rattle.hol_notation_tactics.specs.Text.{CallText, TacText, TacTexts, Call, Then, ThenL, OrElse, Repeat, Try, Changed, Every, First, Replicate, DischThen, PopAssum, FirstAssum, SubgoalThen, no_tacs, more_tacs}
-use Rattle.hol_goal.specs.Arguments.{TacArgsValue, arguments_of}
+use Rattle.hol_goal.specs.Arguments.{TacArgsValue}
 use Rattle.hol_goal.specs.Arguments as args
-use Rattle.hol_goal.specs.declared.tac_args.ArgumentKind.{ArgumentKind}
 use Rattle.hol_goal.specs.declared.tac_code.TacCode.{TacCode}
-use Rattle.hol_goal.specs.declared.tac_args.ArgumentKind.TheVariants as takes
 use Rattle.hol_combine.specs.ExprValue.{CallValue, TheoremTacValue, ExprValue, ExprValues, no_exprs, more_exprs}
 use Rattle.hol_combine.specs.ExprValue as expr
 use Rattle.hol_resolve.specs.Forward.{rule_word}
-use Rattle.hol_resolve.specs.Quotations.{quotations_of}
+use Rattle.hol_resolve.specs.Quotations.{quotations_in}
 use Rattle.hol_resolve.specs.Readings.{ReadingsValue, AreRead, term_at}
-use Rattle.hol_resolve.specs.Written.{arguments_written}
+use Rattle.hol_resolve.specs.Forms.{WrittenArgsValue, arguments_given}
 use Rattle.hol_resolve.specs.declared.refusal.Refusal.{Refusal}
 use Rattle.hol_resolve.specs.declared.refusal.Refusal.TheVariants as resolving
-use Rattle.hol_exec.specs.declared.tac.CallRole.{CallRole}
-use Rattle.hol_exec.specs.declared.tac.CallRole.TheVariants.{Whole, TheoremTactic}
+use Rattle.hol_notation_tactics.specs.declared.parts.Role.{Role}
+use Rattle.hol_notation_tactics.specs.declared.parts.Role.TheVariants.{Whole, TheoremTactic}
 use Rattle.hol_exec.specs.declared.refusal.RefusalKind.{RefusalKind}
 use Rattle.hol_exec.specs.declared.refusal.RefusalKind.TheVariants as refusal
 use Rattle.hol_exec.specs.Setup.{SetupValue}
@@ -38,30 +39,8 @@ pub data ResolutionValue : Type 0 where
   Resolved : ExprValue → Items → ResolutionValue
   Unresolved : RefusalKind → List ℕ → ResolutionValue
 
--- the calls in what is written, from left to right, each with its role: by itself, or as a theorem tactic
-abbrev mutual
-  pub calls_of : TacText → List (CallRole × CallText)
-  calls_of (Call call) = (Whole, call) ∷ []
-  calls_of (Then t u) = calls_of t ++ calls_of u
-  calls_of (ThenL t us) = calls_of t ++ calls_of_each us
-  calls_of (OrElse t u) = calls_of t ++ calls_of u
-  calls_of (Repeat t) = calls_of t
-  calls_of (Try t) = calls_of t
-  calls_of (Changed t) = calls_of t
-  calls_of (Every ts) = calls_of_each ts
-  calls_of (First ts) = calls_of_each ts
-  calls_of (Replicate n t) = calls_of t
-  calls_of (DischThen call) = (TheoremTactic, call) ∷ []
-  calls_of (PopAssum call) = (TheoremTactic, call) ∷ []
-  calls_of (FirstAssum call) = (TheoremTactic, call) ∷ []
-  calls_of (SubgoalThen p call) = (TheoremTactic, call) ∷ []
-
-  pub calls_of_each : TacTexts → List (CallRole × CallText)
-  calls_of_each no_tacs = []
-  calls_of_each (more_tacs t ts) = calls_of t ++ calls_of_each ts
-
 -- the name of the first call whose name stands for nothing, or whose arguments aren't of its kind
-abbrev pub first_unfit : SetupValue → List (CallRole × CallText) → Values → Option (List ℕ)
+abbrev pub first_unfit : SetupValue → List (Role × CallText) → Values → Option (List ℕ)
 first_unfit setup [] cited = None
 first_unfit setup ((role, call) ∷ calls) cited = cond (is_some (called setup.table role call cited)) (first_unfit setup calls cited) (Some call.name)
 
@@ -73,34 +52,21 @@ refused_name kind (Some name) = Some (kind, name)
 -- what is refused of the names, in order: an unknown theorem; a call that doesn't fit
 abbrev pub named_refusals : SetupValue → TacText → Values → List (Option (RefusalKind × List ℕ))
 named_refusals setup tactic cited =
-    refused_name refusal.UnknownTheorem (first_unknown cited) ∷ refused_name refusal.UnknownTac (first_unfit setup (calls_of tactic) cited) ∷ []
+    refused_name refusal.UnknownTheorem (first_unknown cited) ∷ refused_name refusal.UnknownTac (first_unfit setup (calls_in (parts_of tactic)) cited) ∷ []
 
 abbrev pub first_refusal : List (Option (RefusalKind × List ℕ)) → Option (RefusalKind × List ℕ)
 first_refusal [] = None
 first_refusal (None ∷ more) = first_refusal more
 first_refusal (Some refused ∷ more) = Some refused
 
--- the quotations that SUBGOAL_THEN takes, from left to right
-abbrev mutual
-  pub formulas_of : TacText → List QuotationText
-  formulas_of (Call call) = []
-  formulas_of (Then t u) = formulas_of t ++ formulas_of u
-  formulas_of (ThenL t us) = formulas_of t ++ formulas_of_each us
-  formulas_of (OrElse t u) = formulas_of t ++ formulas_of u
-  formulas_of (Repeat t) = formulas_of t
-  formulas_of (Try t) = formulas_of t
-  formulas_of (Changed t) = formulas_of t
-  formulas_of (Every ts) = formulas_of_each ts
-  formulas_of (First ts) = formulas_of_each ts
-  formulas_of (Replicate n t) = formulas_of t
-  formulas_of (DischThen call) = []
-  formulas_of (PopAssum call) = []
-  formulas_of (FirstAssum call) = []
-  formulas_of (SubgoalThen p call) = p ∷ []
-
-  pub formulas_of_each : TacTexts → List QuotationText
-  formulas_of_each no_tacs = []
-  formulas_of_each (more_tacs t ts) = formulas_of t ++ formulas_of_each ts
+-- the quotations that SUBGOAL_THEN takes
+abbrev pub formulas_in : List Part → List QuotationText
+formulas_in [] = []
+formulas_in (part.Term t ∷ parts) = formulas_in parts
+formulas_in (part.Type a ∷ parts) = formulas_in parts
+formulas_in (part.Theorem name ∷ parts) = formulas_in parts
+formulas_in (part.Call role call ∷ parts) = formulas_in parts
+formulas_in (part.Formula p ∷ parts) = p ∷ formulas_in parts
 
 -- a reading is of type bool
 abbrev pub is_formula : Option Nameless → Bool
@@ -148,15 +114,6 @@ term_before (args.Theorem th) = None
 term_before (args.TermAndTheorem t th) = None
 term_before (args.Theorems ths) = None
 
--- the kind of arguments without the theorem that comes last
-abbrev pub kind_before : ArgumentKind → ArgumentKind
-kind_before takes.Nothing = takes.Nothing
-kind_before takes.Term = takes.Term
-kind_before takes.Pair = takes.Pair
-kind_before takes.Theorem = takes.Nothing
-kind_before takes.TermAndTheorem = takes.Term
-kind_before takes.Theorems = takes.Theorems
-
 -- the reading of a quotation that SUBGOAL_THEN takes
 abbrev pub formula : ℕ → Option Nameless → Result Nameless RefusedValue
 formula place None = Err (refusal.NotBool, decimal place)
@@ -169,28 +126,27 @@ pub record ContextValue : Type 0 where
   pub readings : ReadingsValue
   pub basis : Items
 
--- the arguments of a call, over a basis, as the quotations are read
-abbrev pub arguments_for : Items → Values → ReadingsValue → CallText → ArgumentKind → Result TacArgsValue RefusedValue
-arguments_for basis cited readings call kind = named_result call.name (arguments_written basis (cited_theorems cited) readings kind call.arguments)
+-- the arguments of a call by its name, over a basis, as the quotations are read
+abbrev pub arguments_for : Items → Values → ReadingsValue → List ℕ → WrittenArgsValue → Result TacArgsValue RefusedValue
+arguments_for basis cited readings name written = named_result name (arguments_given basis (cited_theorems cited) readings written)
 
 module _ (context : ContextValue) where
-  abbrev pub given : CallText → ArgumentKind → Result TacArgsValue RefusedValue
-  given call kind = arguments_for context.basis context.cited context.readings call kind
+  abbrev pub given : List ℕ → WrittenArgsValue → Result TacArgsValue RefusedValue
+  given name written = arguments_for context.basis context.cited context.readings name written
 
-  abbrev pub resolved_call : CallText → Option CalledValue → Result CallValue RefusedValue
-  resolved_call call None = Err (refusal.UnknownTac, call.name)
-  resolved_call call (Some (Registered index code)) = mapped (λ a. record { index = index; name = call.name; args = a }) (given call (arguments_of code))
+  abbrev pub resolved_call : List ℕ → Option (CalledValue × WrittenArgsValue) → Result CallValue RefusedValue
+  resolved_call name None = Err (refusal.UnknownTac, name)
+  resolved_call name (Some (Registered index code, written)) = mapped (λ a. record { index = index; name = name; args = a }) (given name written)
 
-  abbrev pub resolved_theorem_tac : CallText → Option CalledValue → Result TheoremTacValue RefusedValue
-  resolved_theorem_tac call None = Err (refusal.UnknownTac, call.name)
-  resolved_theorem_tac call (Some (Registered index code)) =
-      mapped (λ a. record { index = index; name = call.name; term = term_before a }) (given call (kind_before (arguments_of code)))
+  abbrev pub resolved_theorem_tac : List ℕ → Option (CalledValue × WrittenArgsValue) → Result TheoremTacValue RefusedValue
+  resolved_theorem_tac name None = Err (refusal.UnknownTac, name)
+  resolved_theorem_tac name (Some (Registered index code, written)) = mapped (λ a. record { index = index; name = name; term = term_before a }) (given name written)
 
   abbrev pub resolved_whole : CallText → Result CallValue RefusedValue
-  resolved_whole call = resolved_call call (called context.table Whole call context.cited)
+  resolved_whole call = resolved_call call.name (called context.table Whole call context.cited)
 
   abbrev pub resolved_handing : CallText → Result TheoremTacValue RefusedValue
-  resolved_handing call = resolved_theorem_tac call (called context.table TheoremTactic call context.cited)
+  resolved_handing call = resolved_theorem_tac call.name (called context.table TheoremTactic call context.cited)
 
   abbrev mutual
     pub resolved_expr : TacText → Result ExprValue RefusedValue
@@ -231,13 +187,13 @@ resolved_formulas setup tactic cited readings None =
 
 -- what is written, by what its quotations read as
 abbrev pub resolved_read : SetupValue → TacText → Values → Result ReadingsValue Refusal → ResolutionValue
-resolved_read setup tactic cited (Ok readings) = resolved_formulas setup tactic cited readings (first_not_bool readings (formulas_of tactic))
+resolved_read setup tactic cited (Ok readings) = resolved_formulas setup tactic cited readings (first_not_bool readings (formulas_in (parts_of tactic)))
 resolved_read setup tactic cited (Err r) = refused_resolution (refused_by [] r)
 
 -- past what is refused of names: all that is quoted is read before anything is resolved
 abbrev pub IsResolvedFitting : SetupValue → TacText → Values → ResolutionValue → Type 0
 IsResolvedFitting setup tactic cited resolution =
-    (readings : Result ReadingsValue Refusal) × AreRead (lookups_of cited) (quotations_of tactic) readings × (resolution ≡ resolved_read setup tactic cited readings)
+    (readings : Result ReadingsValue Refusal) × AreRead (lookups_of cited) (quotations_in (parts_of tactic)) readings × (resolution ≡ resolved_read setup tactic cited readings)
 
 abbrev pub IsResolvedPast : SetupValue → TacText → Values → Option (RefusalKind × List ℕ) → ResolutionValue → Type 0
 IsResolvedPast setup tactic cited (Some refused) resolution = resolution ≡ refused_resolution refused

@@ -1,7 +1,10 @@
+pub use Rattle.hol_notation_commands.specs.Text as CommandText
+pub use Rattle.hol_notation_commands.specs.CommandView
+pub use Rattle.hol_notation_commands.specs.Reading
+pub use Rattle.hol_print.specs.ShowGoal
 pub mod Occurring
 pub mod Setup
 pub mod SetupView
-pub mod Parsed
 pub mod ParsedView
 pub mod Keys
 pub mod StateValue
@@ -24,7 +27,6 @@ pub mod At
 pub mod Valid
 pub mod Codes
 pub mod SameReads
-pub mod SameCommand
 pub mod ReportValue
 pub mod ReportView
 pub mod ReportOf

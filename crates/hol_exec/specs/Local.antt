@@ -18,7 +18,7 @@ use Rattle.hol_exec.specs.declared.refusal.RefusalKind.TheVariants as refusal
 use Rattle.hol_theory.specs.Key.{KeyValue, theorem_key, key_text}
 use Rattle.hol_theory.specs.Entry.{ATheorem}
 use Rattle.hol_exec.specs.Setup.{SetupValue}
-use Rattle.hol_exec.specs.Parsed.{LocalText, Goal, Apply, Qed, Make}
+use Rattle.hol_notation_commands.specs.Text.{LocalText, Goal, Apply, Qed, Make}
 use Rattle.hol_exec.specs.ReadsValue.{ReadsValue, ClosingValue}
 use Rattle.hol_exec.specs.Lookups.{lookups_of}
 use Rattle.hol_exec.specs.Resolved.{resolved_basis}

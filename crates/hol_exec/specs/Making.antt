@@ -12,14 +12,13 @@ use Rattle.hol_kernel.specs.Sequent.{no_hyps}
 use Rattle.hol_kernel.specs.Theorem.{Theorem, theorem_over}
 use Rattle.hol_kernel.specs.Typing.{is_type_at}
 use Rattle.hol_notation_terms.specs.Text.{QuotationText, TypeQuotationText, DefinitionText}
-use Rattle.hol_notation_commands.specs.Text.{TypeDefinitionText}
+use Rattle.hol_notation_commands.specs.Text.{TypeDefinitionText, MakingText, NewType, NewConstant, NewAxiom, NewDefinition, NewBasicTypeDefinition}
 use Rattle.hol_resolve.specs.Reading.{ReadingValue, WrongArity, NoTyping, LargeReading, ReadsAs, IsTermReadAs, type_reading}
 use Rattle.hol_resolve.specs.Readings.{ATerm, AType}
 use Rattle.hol_theory.specs.Key.{KeyValue, theorem_key, key_text}
 use Rattle.hol_theory.specs.Entry.{EntryValue, ATheorem, Entries}
 use Rattle.hol_theory.specs.Making.{IsNewType, IsNewConstant, IsNewAxiom, IsNewDefinition, IsNewTypeDefinition}
 use Rattle.hol_exec.specs.declared.refusal.RefusalKind.TheVariants as refusal
-use Rattle.hol_exec.specs.Parsed.{MakingText, NewType, NewConstant, NewAxiom, NewDefinition, NewBasicTypeDefinition}
 use Rattle.hol_exec.specs.ReadsValue.{ReadsValue}
 use Rattle.hol_exec.specs.Lookups.{lookups_of}
 use Rattle.hol_exec.specs.Resolved.{cited_theorem, resolved_basis}

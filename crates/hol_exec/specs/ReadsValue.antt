@@ -8,7 +8,8 @@ use Rattle.hol_goal.specs.Goal.{GoalValue}
 use Rattle.hol_theory.specs.Key.{KeyValue}
 use Rattle.hol_theory.specs.Entry.{Entries, EntryValue, entry_at}
 use Rattle.hol_exec.specs.StateValue.{ProofValue, StateValue, open_goals}
-use Rattle.hol_exec.specs.Parsed.{LocalText, Goal, Apply, Qed, Make, ParsedValue, Local, Direct}
+use Rattle.hol_notation_commands.specs.Text.{LocalText, Goal, Apply, Qed, Make, Local, Direct}
+use Rattle.hol_notation_commands.specs.Reading.{ReadText, Reads, Breaks}
 use Rattle.hol_exec.specs.Keys.{cited_keys, made_keys}
 
 -- what `qed` reads of the open proof
@@ -71,11 +72,12 @@ pub record AreKeyed (command : LocalText) (reads : ReadsValue) : Type 0 where
   pub cited : keys_of reads.cited ≡ cited_keys command
   pub made : keys_of reads.made ≡ made_keys command
 
--- what is read by what a text is: nothing where it is answered directly
-abbrev pub reads_at : ParsedValue → StateValue → Option ReadsValue
-reads_at (Local command) s = Some (reads_of command s)
-reads_at (Direct command) s = None
+-- what is read by what a text reads as: nothing where it breaks, or is answered from the state
+abbrev pub reads_at : ReadText → StateValue → Option ReadsValue
+reads_at (Reads (Local command)) s = Some (reads_of command s)
+reads_at (Reads (Direct command)) s = None
+reads_at (Breaks place) s = None
 
--- these are the reads of what a text is, at a state
-abbrev pub AreReads : ParsedValue → StateValue → Option ReadsValue → Type 0
+-- these are the reads of what a text reads as, at a state
+abbrev pub AreReads : ReadText → StateValue → Option ReadsValue → Type 0
 AreReads value s reads = reads ≡ reads_at value s

@@ -6,18 +6,14 @@ use Rattle.hol_theory.specs.Key.{KeyValue}
 use Rattle.hol_theory.specs.Entry.{EntryValue, AType, AConstant, ATheorem}
 use Rattle.hol_exec.specs.StateValue.{StateValue, open_goals}
 use Rattle.hol_exec.specs.OutcomeValue.{OutcomeValue, Opens, Leaves, Undoes, Rotates, Makes, Refuses}
-use Rattle.hol_exec.specs.ReportValue.{ShownGoalText, ReportValue, ShowsGoals, HasMade, WasRefused}
+use Rattle.hol_exec.specs.ReportValue.{ReportValue, ShowsGoals, HasMade, WasRefused}
 use Rattle.hol_print.specs.ShowTerm.{show}
 use Rattle.hol_print.specs.ShowType.{show_type}
-use Rattle.hol_print.specs.ShowGoal.{show_goal}
+use Rattle.hol_print.specs.ShowGoal.{GoalText, show_goal}
 
 -- a goal's texts
-abbrev pub shown_goal : GoalValue → ShownGoalText
-shown_goal goal = let shown = show_goal goal.assumptions goal.conclusion in record {
-  assumptions = shown.asl;
-  free_variables = shown.free;
-  conclusion = shown.goal;
-}
+abbrev pub shown_goal : GoalValue → GoalText
+shown_goal goal = show_goal goal.assumptions goal.conclusion
 
 -- `|- p`
 abbrev pub theorem_text : Nameless → List ℕ

@@ -1,15 +1,16 @@
--- Calls of functions on goals, as they are written: what a name calls, and whether arguments are of its kind. What each function leaves of a goal is said by
--- its code, in hol_just.
-use Rattle.std.specs.Prelude.{ℕ, List, [], ◌∷◌, Bool, true, false, cond, slice_get, Option, Some, None}
-use Rattle.std.specs.Option.{option_and_then}
-use Rattle.hol_notation_tactics.specs.Text.{ArgumentText, Term, Theorem, Pair, Theorems, CallText}
+-- Calls of functions on goals, as they are written: what a name calls, and the arguments of its kind. What each function leaves of a goal is said by its code, in
+-- hol_just.
+use Rattle.std.specs.Prelude.{ℕ, List, slice_get, Option, Some, None}
+use Rattle.std.specs.Option.{option_map, option_and_then}
+use Rattle.hol_notation_tactics.specs.Text.{ArgumentText, CallText}
 use Rattle.hol_goal.specs.Arguments.{arguments_of}
 use Rattle.hol_goal.specs.declared.tac_args.ArgumentKind.{ArgumentKind}
 use Rattle.hol_goal.specs.declared.tac_args.ArgumentKind.TheVariants as takes
 use Rattle.hol_goal.specs.declared.tac_code.TacCode.{TacCode}
 use Rattle.hol_registry.specs.Table.{index_of}
-use Rattle.hol_exec.specs.declared.tac.CallRole.{CallRole}
-use Rattle.hol_exec.specs.declared.tac.CallRole.TheVariants.{Whole, TheoremTactic}
+use Rattle.hol_resolve.specs.Forms.{WrittenArgsValue, written_as}
+use Rattle.hol_notation_tactics.specs.declared.parts.Role.{Role}
+use Rattle.hol_notation_tactics.specs.declared.parts.Role.TheVariants.{Whole, TheoremTactic}
 use Rattle.hol_exec.specs.ReadsValue.{Values}
 
 -- what a name calls: the registered function at an index of the table, with its code
@@ -20,62 +21,15 @@ pub data CalledValue : Type 0 where
 abbrev pub kind_of : CalledValue → ArgumentKind
 kind_of (Registered index code) = arguments_of code
 
--- ---- the forms of arguments
-
-abbrev pub is_term : ArgumentText → Bool
-is_term (Term t) = true
-is_term (Theorem th) = false
-is_term (Pair s t) = false
-is_term (Theorems ths) = false
-
-abbrev pub is_theorem : ArgumentText → Bool
-is_theorem (Term t) = false
-is_theorem (Theorem th) = true
-is_theorem (Pair s t) = false
-is_theorem (Theorems ths) = false
-
-abbrev pub is_pair : ArgumentText → Bool
-is_pair (Term t) = false
-is_pair (Theorem th) = false
-is_pair (Pair s t) = true
-is_pair (Theorems ths) = false
-
-abbrev pub is_theorems : ArgumentText → Bool
-is_theorems (Term t) = false
-is_theorems (Theorem th) = false
-is_theorems (Pair s t) = false
-is_theorems (Theorems ths) = true
-
--- no argument, one of a form, or two of two forms
-abbrev pub is_none : List ArgumentText → Bool
-is_none [] = true
-is_none (a ∷ arguments) = false
-
-abbrev pub is_one : (ArgumentText → Bool) → List ArgumentText → Bool
-is_one form [] = false
-is_one form (a ∷ []) = form a
-is_one form (a ∷ b ∷ arguments) = false
-
-abbrev pub are_two : (ArgumentText → Bool) → (ArgumentText → Bool) → List ArgumentText → Bool
-are_two form next [] = false
-are_two form next (a ∷ arguments) = cond (form a) (is_one next arguments) false
-
--- ---- calls
-
--- whether arguments, as they are written, are of a kind; a theorem tactic's last argument, a theorem, is left out
-abbrev pub fits : ArgumentKind → CallRole → List ArgumentText → Bool
-fits takes.Nothing Whole arguments = is_none arguments
-fits takes.Nothing TheoremTactic arguments = false
-fits takes.Term Whole arguments = is_one is_term arguments
-fits takes.Term TheoremTactic arguments = false
-fits takes.Pair Whole arguments = is_one is_pair arguments
-fits takes.Pair TheoremTactic arguments = false
-fits takes.Theorem Whole arguments = is_one is_theorem arguments
-fits takes.Theorem TheoremTactic arguments = is_none arguments
-fits takes.TermAndTheorem Whole arguments = are_two is_term is_theorem arguments
-fits takes.TermAndTheorem TheoremTactic arguments = is_one is_term arguments
-fits takes.Theorems Whole arguments = is_one is_theorems arguments
-fits takes.Theorems TheoremTactic arguments = false
+-- the kind of what is written as arguments of a kind: a theorem tactic's last argument, a theorem, is left out
+abbrev pub kind_for : Role → ArgumentKind → Option ArgumentKind
+kind_for Whole kind = Some kind
+kind_for TheoremTactic takes.Nothing = None
+kind_for TheoremTactic takes.Term = None
+kind_for TheoremTactic takes.Pair = None
+kind_for TheoremTactic takes.Theorem = Some takes.Nothing
+kind_for TheoremTactic takes.TermAndTheorem = Some takes.Term
+kind_for TheoremTactic takes.Theorems = None
 
 abbrev pub at_row : ℕ → Option (List ℕ × TacCode) → Option CalledValue
 at_row index None = None
@@ -90,10 +44,11 @@ abbrev pub named : List ℕ → Option CalledValue → Values → Option CalledV
 named name None cited = None
 named name (Some c) cited = Some c
 
-abbrev pub fitting : Option CalledValue → CallRole → List ArgumentText → Option CalledValue
+-- it with the arguments that are written, where they are of its kind
+abbrev pub fitting : Option CalledValue → Role → List ArgumentText → Option (CalledValue × WrittenArgsValue)
 fitting None role arguments = None
-fitting (Some c) role arguments = cond (fits (kind_of c) role arguments) (Some c) None
+fitting (Some c) role arguments = option_map (λ w. (c, w)) (option_and_then (λ kind. written_as kind arguments) (kind_for role (kind_of c)))
 
--- what a call of the role calls, where the name stands for something and the arguments are of its kind
-abbrev pub called : List (List ℕ × TacCode) → CallRole → CallText → Values → Option CalledValue
+-- what a call of the role calls, with its arguments, where the name stands for something and these are of its kind
+abbrev pub called : List (List ℕ × TacCode) → Role → CallText → Values → Option (CalledValue × WrittenArgsValue)
 called table role call cited = fitting (named call.name (registered call.name table) cited) role call.arguments

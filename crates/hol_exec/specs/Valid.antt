@@ -12,7 +12,7 @@ use Rattle.hol_kernel.specs.Items.{Items, IsSubset}
 use Rattle.hol_kernel.specs.Extends.{Agree}
 use Rattle.hol_kernel.specs.Legal.{IsNew}
 use Rattle.hol_kernel.specs.Signature.{type_key, constant_key}
-use Rattle.hol_notation_commands.specs.Text.{TypeDefinitionText}
+use Rattle.hol_notation_commands.specs.Text.{TypeDefinitionText, NewBasicTypeDefinition}
 use Rattle.hol_kernel.specs.Sequent.{no_hyps}
 use Rattle.hol_kernel.specs.Typing.{HasType}
 use Rattle.hol_formulas.specs.Equation.{bool_type}
@@ -29,7 +29,6 @@ use Rattle.hol_exec.specs.declared.resolution.Resolution.TheVariants as resoluti
 use Rattle.hol_exec.specs.declared.outcome.Change.{Change}
 use Rattle.hol_exec.specs.declared.outcome.Change.TheVariants.{Opens, Leaves, Undoes, Rotates, Makes, Refuses}
 use Rattle.hol_exec.specs.Setup.{SetupValue}
-use Rattle.hol_exec.specs.Parsed.{NewBasicTypeDefinition}
 use Rattle.hol_exec.specs.Keys.{made_by_making}
 use Rattle.hol_theory.specs.Key.{key_eq, theorem_key}
 use Rattle.hol_theory.specs.Entry.{Entries, EachIsEntry, entry_at}

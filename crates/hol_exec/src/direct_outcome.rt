@@ -1,15 +1,15 @@
 //! What is answered directly.
 ghost use Rattle.std.specs.Prelude.{◌≡◌, IfOk, MatchOption, None, Some, map};
 ghost use Rattle.hol_exec.specs.StateValue.{EndedTheory, AreTheories};
-ghost use Rattle.hol_exec.specs.ParsedView.{direct_text};
+ghost use Rattle.hol_notation_commands.specs.CommandView.{direct_text};
 ghost use Rattle.hol_exec.specs.At.{direct, undoes, rotates, drops, imports, imports_from, entries_named};
 ghost use Rattle.hol_theory.specs.Adding.{first_clash};
 
 use crate::outcome::Outcome;
-use crate::parsed::DirectCommand;
 use crate::refusal::RefusalKind;
-use crate::refused::{refused, refused_at};
+use crate::refused::refused;
 use crate::state::State;
+use hol_notation_commands::DirectCommand;
 use std::alloc::{AllocError, Global};
 
 /// A theory that stands earlier: its name, and its last state.
@@ -45,7 +45,6 @@ pub fn direct<T: Ended>(
     ensures { IfOk result (λ outcome. outcome ≡ direct (direct_text command.now) state.now (map T.ended earlier.now)) }
 {
     match command {
-        DirectCommand::Unread(place) => refused_at(alloc, RefusalKind::Syntax, *place),
         DirectCommand::Back => Ok(undoes(alloc, state)),
         DirectCommand::Rotate(times) => Ok(rotates(alloc, state, *times)),
         DirectCommand::Oops => Ok(drops(alloc, state)),

@@ -8,26 +8,27 @@ ghost use Rattle.hol_combine.specs.ExprView.{call_value, theorem_tac_value, expr
 ghost use Rattle.hol_notation_tactics.specs.Text.{tac_texts, Then, OrElse};
 ghost use Rattle.hol_resolve.specs.Over.{AreOver, AreWithin};
 ghost use Rattle.hol_resolve.specs.Readings.{term_at};
+ghost use Rattle.hol_resolve.specs.FormsView.{written_value};
 ghost use Rattle.hol_resolve.specs.ReadingView.{list_value, readings_value};
-ghost use Rattle.hol_exec.specs.Expr.{both, mapped, named_result, refused_by, term_before, kind_before, formula, arguments_for, resolved_call, resolved_theorem_tac, resolved_whole, resolved_handing, resolved_expr, resolved_exprs};
+ghost use Rattle.hol_exec.specs.Expr.{both, mapped, named_result, refused_by, term_before, formula, arguments_for, resolved_call, resolved_theorem_tac, resolved_whole, resolved_handing, resolved_expr, resolved_exprs};
 ghost use Rattle.hol_exec.specs.ContextView.{context_value, IsContext};
 ghost use Rattle.hol_exec.specs.ExprView.{IsFound, IsFault, IsRefusal, IsCallFound, IsTheoremTacFound, AreArgumentsFound, IsNodeFound, ArePartsFound, IsChainFound, AreAlternativesFound, handed};
 ghost use Rattle.hol_exec.specs.Resolved.{cited_theorems};
 ghost use Rattle.hol_exec.specs.Valid.{IsRunnableExpr};
 
-use crate::names::Names;
+use crate::looks_up::LooksUp;
 use crate::reading::is_statement;
 use crate::reads::Reads;
 use crate::refusal::RefusalKind;
-use crate::tac::{CallRole, Callee, called};
+use crate::tac::{Callee, called};
 use crate::unresolved::Unresolved;
 use hol_combine::{Expr, ExprNode, Formula, Handing, TacCall, TheoremTac};
-use hol_goal::{ArgumentKind, TacArgs};
+use hol_goal::TacArgs;
 use hol_kernel::{Basis, Thm};
 use hol_notation_tactics as written;
-use hol_notation_tactics::{TacExpr, TacExprNode};
+use hol_notation_tactics::{Role, TacExpr, TacExprNode};
 use hol_notation_terms::Quotation;
-use hol_resolve::{Readings, Refusal, arguments_written};
+use hol_resolve::{Readings, Refusal, WrittenArgs, arguments_given};
 use hol_terms::Term;
 use hol_types::Name;
 use std::alloc::{AllocError, Global};
@@ -47,14 +48,14 @@ pub(crate) struct Context<'a> {
 
 /// Resolves an expression.
 #[cycle(resolve_expr)]
-pub(crate) fn resolve_expr<N: Names>(
+pub(crate) fn resolve_expr<N: LooksUp>(
     alloc: Global,
     names: &N,
     context: &Context<'_>,
     tactic: &TacExpr,
 ) -> Result<Expr, Unresolved>
     requires { IsContext context.now }
-    ensures { IsFound (resolved_expr (context_value (N.Names.table_of names.now) context.now) tactic.now) result }
+    ensures { IsFound (resolved_expr (context_value (N.LooksUp.table_of names.now) context.now) tactic.now) result }
 {
     let node = resolve_node(alloc, names, context, tactic)?;
     Ok(Expr::new(alloc, node)?)
@@ -62,14 +63,14 @@ pub(crate) fn resolve_expr<N: Names>(
 
 // Resolves the top node of an expression.
 #[cycle(resolve_expr)]
-fn resolve_node<N: Names>(
+fn resolve_node<N: LooksUp>(
     alloc: Global,
     names: &N,
     context: &Context<'_>,
     tactic: &TacExpr,
 ) -> Result<ExprNode, Unresolved>
     requires { IsContext context.now }
-    ensures { IsNodeFound (resolved_expr (context_value (N.Names.table_of names.now) context.now) tactic.now) result }
+    ensures { IsNodeFound (resolved_expr (context_value (N.LooksUp.table_of names.now) context.now) tactic.now) result }
 {
     match tactic.node() {
         TacExprNode::Call(call) => Ok(ExprNode::Call(resolve_call(alloc, names, context, call)?)),
@@ -108,14 +109,14 @@ fn resolve_node<N: Names>(
 
 // Resolves each in turn.
 #[cycle(resolve_expr)]
-fn resolve_each<N: Names>(
+fn resolve_each<N: LooksUp>(
     alloc: Global,
     names: &N,
     context: &Context<'_>,
     tactics: &[TacExpr],
 ) -> Result<Vec<Expr>, Unresolved>
     requires { IsContext context.now }
-    ensures { ArePartsFound (resolved_exprs (context_value (N.Names.table_of names.now) context.now) (tac_texts tactics.now)) result }
+    ensures { ArePartsFound (resolved_exprs (context_value (N.LooksUp.table_of names.now) context.now) (tac_texts tactics.now)) result }
 {
     let mut parts = Vec::new(alloc);
     for tactic in tactics {
@@ -126,7 +127,7 @@ fn resolve_each<N: Names>(
 
 // Resolves `first THEN second`. A chain, which is written from the left, becomes a list.
 #[cycle(resolve_expr)]
-fn resolve_then<N: Names>(
+fn resolve_then<N: LooksUp>(
     alloc: Global,
     names: &N,
     context: &Context<'_>,
@@ -134,7 +135,7 @@ fn resolve_then<N: Names>(
     second: &TacExpr,
 ) -> Result<ExprNode, Unresolved>
     requires { IsContext context.now }
-    ensures { IsNodeFound (resolved_expr (context_value (N.Names.table_of names.now) context.now) (Then first.now second.now)) result }
+    ensures { IsNodeFound (resolved_expr (context_value (N.LooksUp.table_of names.now) context.now) (Then first.now second.now)) result }
 {
     let mut parts = Vec::new(alloc);
     push_then(alloc, names, context, &mut parts, first)?;
@@ -146,7 +147,7 @@ fn resolve_then<N: Names>(
 
 // Adds the parts of a chain of THEN, resolved.
 #[cycle(resolve_expr)]
-fn push_then<N: Names>(
+fn push_then<N: LooksUp>(
     alloc: Global,
     names: &N,
     context: &Context<'_>,
@@ -154,7 +155,7 @@ fn push_then<N: Names>(
     tactic: &TacExpr,
 ) -> Result<(), Unresolved>
     requires { IsContext context.now }
-    ensures { IsChainFound (resolved_expr (context_value (N.Names.table_of names.now) context.now) tactic.now) parts.old.items parts.new.items result }
+    ensures { IsChainFound (resolved_expr (context_value (N.LooksUp.table_of names.now) context.now) tactic.now) parts.old.items parts.new.items result }
 {
     match tactic.node() {
         TacExprNode::Then(first, second) => {
@@ -181,7 +182,7 @@ fn push_then<N: Names>(
 
 // Resolves `first ORELSE second`. A chain, which is written from the right, becomes a list.
 #[cycle(resolve_expr)]
-fn resolve_or_else<N: Names>(
+fn resolve_or_else<N: LooksUp>(
     alloc: Global,
     names: &N,
     context: &Context<'_>,
@@ -189,7 +190,7 @@ fn resolve_or_else<N: Names>(
     second: &TacExpr,
 ) -> Result<ExprNode, Unresolved>
     requires { IsContext context.now }
-    ensures { IsNodeFound (resolved_expr (context_value (N.Names.table_of names.now) context.now) (OrElse first.now second.now)) result }
+    ensures { IsNodeFound (resolved_expr (context_value (N.LooksUp.table_of names.now) context.now) (OrElse first.now second.now)) result }
 {
     let head = resolve_expr(alloc, names, context, first)?;
     let mut parts = Vec::new(alloc);
@@ -200,7 +201,7 @@ fn resolve_or_else<N: Names>(
 
 // Adds the parts of a chain of ORELSE, resolved.
 #[cycle(resolve_expr)]
-fn push_or_else<N: Names>(
+fn push_or_else<N: LooksUp>(
     alloc: Global,
     names: &N,
     context: &Context<'_>,
@@ -208,7 +209,7 @@ fn push_or_else<N: Names>(
     tactic: &TacExpr,
 ) -> Result<(), Unresolved>
     requires { IsContext context.now }
-    ensures { AreAlternativesFound (resolved_expr (context_value (N.Names.table_of names.now) context.now) tactic.now) parts.old.items parts.new.items result }
+    ensures { AreAlternativesFound (resolved_expr (context_value (N.LooksUp.table_of names.now) context.now) tactic.now) parts.old.items parts.new.items result }
 {
     match tactic.node() {
         TacExprNode::OrElse(first, second) => {
@@ -234,7 +235,7 @@ fn push_or_else<N: Names>(
 }
 
 // Resolves a function that a theorem is handed to.
-fn hand<N: Names>(
+fn hand<N: LooksUp>(
     alloc: Global,
     names: &N,
     context: &Context<'_>,
@@ -242,69 +243,56 @@ fn hand<N: Names>(
     call: &written::TacCall,
 ) -> Result<ExprNode, Unresolved>
     requires { IsContext context.now }
-    ensures { IsNodeFound (handed handing (resolved_handing (context_value (N.Names.table_of names.now) context.now) call.now)) result }
+    ensures { IsNodeFound (handed handing (resolved_handing (context_value (N.LooksUp.table_of names.now) context.now) call.now)) result }
 {
     let tac = resolve_theorem_tac(alloc, names, context, call)?;
     Ok(ExprNode::Hand(handing, tac))
 }
 
 // Resolves a call: what it calls, and its arguments.
-fn resolve_call<N: Names>(
+fn resolve_call<N: LooksUp>(
     alloc: Global,
     names: &N,
     context: &Context<'_>,
     call: &written::TacCall,
 ) -> Result<TacCall, Unresolved>
     requires { IsContext context.now }
-    ensures { IsCallFound (resolved_whole (context_value (N.Names.table_of names.now) context.now) call.now) result }
+    ensures { IsCallFound (resolved_whole (context_value (N.LooksUp.table_of names.now) context.now) call.now) result }
 {
-    let Some(callee) = called(names, CallRole::Whole, call, context.reads) else {
+    let Some((callee, written)) = called(names, Role::Whole, call, context.reads) else {
         return Err(unknown(alloc, call)?);
     };
     match callee {
         Callee::Registered(tac) => Ok(TacCall {
             index: tac.index,
             name: String::from_str(alloc, call.name.as_str())?,
-            args: arguments(alloc, context, call, tac.code.arguments())?,
+            args: arguments(alloc, context, call, written)?,
         }),
     }
 }
 
 // Resolves a function whose last argument, a theorem, is left out.
-fn resolve_theorem_tac<N: Names>(
+fn resolve_theorem_tac<N: LooksUp>(
     alloc: Global,
     names: &N,
     context: &Context<'_>,
     call: &written::TacCall,
 ) -> Result<TheoremTac, Unresolved>
     requires { IsContext context.now }
-    ensures { IsTheoremTacFound (resolved_handing (context_value (N.Names.table_of names.now) context.now) call.now) result }
+    ensures { IsTheoremTacFound (resolved_handing (context_value (N.LooksUp.table_of names.now) context.now) call.now) result }
 {
-    let Some(callee) = called(names, CallRole::TheoremTactic, call, context.reads) else {
+    let Some((callee, written)) = called(names, Role::TheoremTactic, call, context.reads) else {
         return Err(unknown(alloc, call)?);
     };
     match callee {
         Callee::Registered(tac) => {
-            let kind = kind_before(tac.code.arguments());
-            let args = arguments(alloc, context, call, kind)?;
+            let args = arguments(alloc, context, call, written)?;
             Ok(TheoremTac {
                 index: tac.index,
                 name: String::from_str(alloc, call.name.as_str())?,
                 term: term_before(args),
             })
         }
-    }
-}
-
-// The kind of arguments without the theorem that comes last.
-fn kind_before(kind: ArgumentKind) -> ArgumentKind
-    ensures { result ≡ kind_before kind }
-{
-    match kind {
-        ArgumentKind::Nothing | ArgumentKind::Theorem => ArgumentKind::Nothing,
-        ArgumentKind::Term | ArgumentKind::TermAndTheorem => ArgumentKind::Term,
-        ArgumentKind::Pair => ArgumentKind::Pair,
-        ArgumentKind::Theorems => ArgumentKind::Theorems,
     }
 }
 
@@ -330,20 +318,19 @@ fn unknown(alloc: Global, call: &written::TacCall) -> Result<Unresolved, AllocEr
     Ok(Unresolved::Refused(RefusalKind::UnknownTac, name))
 }
 
-// The arguments of a call, which are of the kind.
+// The arguments of a call, as they are written.
 fn arguments(
     alloc: Global,
     context: &Context<'_>,
     call: &written::TacCall,
-    kind: ArgumentKind,
+    written: WrittenArgs<'_>,
 ) -> Result<TacArgs, Unresolved>
     requires { IsContext context.now }
-    ensures { AreArgumentsFound (arguments_for context.now.basis.now context.now.reads.now.cited (readings_value context.now.readings.now) call.now kind) result }
+    ensures { AreArgumentsFound (arguments_for context.now.basis.now context.now.reads.now.cited (readings_value context.now.readings.now) call.now.name (written_value written.entry)) result }
 {
-    match arguments_written(
+    match arguments_given(
         alloc,
-        kind,
-        &call.arguments,
+        written,
         context.theorems,
         context.readings,
         context.basis,

@@ -1,16 +1,11 @@
 //! The keys that a command cites and makes.
 ghost use Rattle.std.specs.Prelude.{◌≡◌, ◌++◌, ◌∷◌, [], IfOk, OnOk, map};
-ghost use Rattle.hol_notation_tactics.specs.Text.{tac_texts};
-ghost use Rattle.hol_exec.specs.Parsed.{NewBasicTypeDefinition};
-ghost use Rattle.hol_exec.specs.ParsedView.{local_text, making_text};
-ghost use Rattle.hol_exec.specs.Keys.{keys_of_type, keys_of_types, keys_of_annotation, keys_of_term, keys_of_pairs, keys_of_theorem, keys_of_theorems, keys_of_argument, keys_of_arguments, keys_of_call, keys_of_tactic, keys_of_tactics, keys_of_parameters, keys_of_definition, cited_by_making, made_by_making, cited_keys, made_keys};
+ghost use Rattle.hol_notation_commands.specs.Text.{NewBasicTypeDefinition};
+ghost use Rattle.hol_notation_commands.specs.CommandView.{local_text, making_text};
+ghost use Rattle.hol_exec.specs.Keys.{keys_of_type, keys_of_types, keys_of_annotation, keys_of_term, keys_in, keys_of_parameters, keys_of_definition, cited_by_making, made_by_making, cited_keys, made_keys};
 
-use crate::making::Making;
-use crate::parsed::LocalCommand;
-use hol_notation_commands::TypeDefinition;
-use hol_notation_tactics::{
-    TacArg, TacArgNode, TacCall, TacExpr, TacExprNode, ThmExpr, ThmExprNode, TypePair,
-};
+use hol_notation_commands::{LocalCommand, Making, TypeDefinition};
+use hol_notation_tactics::{Part, parts_of};
 use hol_notation_terms::{Definition, PreTerm, PreTermNode, PreType, PreTypeNode, PreVariable};
 use hol_theory::{Key, Kind};
 use std::alloc::{AllocError, Global};
@@ -72,117 +67,19 @@ fn add_term(alloc: Global, keys: &mut Vec<Key>, term: &PreTerm) -> Result<(), Al
     }
 }
 
-fn add_pairs(alloc: Global, keys: &mut Vec<Key>, pairs: &[TypePair]) -> Result<(), AllocError>
-    ensures { OnOk result (keys.new.items ≡ keys.old.items ++ keys_of_pairs pairs.now) }
+// The keys of what is written in an expression.
+fn add_parts(alloc: Global, keys: &mut Vec<Key>, parts: &[Part]) -> Result<(), AllocError>
+    ensures { OnOk result (keys.new.items ≡ keys.old.items ++ keys_in parts.now) }
 {
-    for pair in pairs {
-        add_type(alloc, keys, &pair.new_type.ty)?;
-        add_type(alloc, keys, &pair.old_type.ty)?;
-    }
-    Ok(())
-}
-
-fn add_theorem(alloc: Global, keys: &mut Vec<Key>, theorem: &ThmExpr) -> Result<(), AllocError>
-    ensures { OnOk result (keys.new.items ≡ keys.old.items ++ keys_of_theorem theorem.now) }
-{
-    match theorem.node() {
-        ThmExprNode::Name(name) => Ok(keys.push(Key::new(alloc, Kind::Theorem, name.as_str())?)?),
-        ThmExprNode::Assume(quotation) | ThmExprNode::Refl(quotation) => {
-            add_term(alloc, keys, &quotation.term)
+    for part in parts {
+        match part {
+            Part::Term(quotation) | Part::Formula(quotation) => {
+                add_term(alloc, keys, &quotation.term)?;
+            }
+            Part::Type(quotation) => add_type(alloc, keys, &quotation.ty)?,
+            Part::Theorem(name) => add_key(alloc, keys, Kind::Theorem, name.as_str())?,
+            Part::Call(_, _) => {}
         }
-        ThmExprNode::Spec(quotation, part) => {
-            add_term(alloc, keys, &quotation.term)?;
-            add_theorem(alloc, keys, part)
-        }
-        ThmExprNode::Sym(part) | ThmExprNode::Conjunct1(part) | ThmExprNode::Conjunct2(part) => {
-            add_theorem(alloc, keys, part)
-        }
-        ThmExprNode::Mp(implication, premise) => {
-            add_theorem(alloc, keys, implication)?;
-            add_theorem(alloc, keys, premise)
-        }
-        ThmExprNode::InstType(pairs, part) => {
-            add_pairs(alloc, keys, pairs)?;
-            add_theorem(alloc, keys, part)
-        }
-    }
-}
-
-fn add_theorems(alloc: Global, keys: &mut Vec<Key>, theorems: &[ThmExpr]) -> Result<(), AllocError>
-    ensures { OnOk result (keys.new.items ≡ keys.old.items ++ keys_of_theorems theorems.now) }
-{
-    for theorem in theorems {
-        add_theorem(alloc, keys, theorem)?;
-    }
-    Ok(())
-}
-
-fn add_argument(alloc: Global, keys: &mut Vec<Key>, argument: &TacArg) -> Result<(), AllocError>
-    ensures { OnOk result (keys.new.items ≡ keys.old.items ++ keys_of_argument argument.now) }
-{
-    match argument.node() {
-        TacArgNode::Term(quotation) => add_term(alloc, keys, &quotation.term),
-        TacArgNode::Theorem(theorem) => add_theorem(alloc, keys, theorem),
-        TacArgNode::Pair(first, second) => {
-            add_term(alloc, keys, &first.term)?;
-            add_term(alloc, keys, &second.term)
-        }
-        TacArgNode::Theorems(theorems) => add_theorems(alloc, keys, theorems),
-    }
-}
-
-fn add_arguments(alloc: Global, keys: &mut Vec<Key>, arguments: &[TacArg]) -> Result<(), AllocError>
-    ensures { OnOk result (keys.new.items ≡ keys.old.items ++ keys_of_arguments arguments.now) }
-{
-    for argument in arguments {
-        add_argument(alloc, keys, argument)?;
-    }
-    Ok(())
-}
-
-fn add_call(alloc: Global, keys: &mut Vec<Key>, call: &TacCall) -> Result<(), AllocError>
-    ensures { OnOk result (keys.new.items ≡ keys.old.items ++ keys_of_call call.now) }
-{
-    add_arguments(alloc, keys, &call.arguments)
-}
-
-#[cycle(add_tactic)]
-fn add_tactic(alloc: Global, keys: &mut Vec<Key>, tactic: &TacExpr) -> Result<(), AllocError>
-    ensures { OnOk result (keys.new.items ≡ keys.old.items ++ keys_of_tactic tactic.now) }
-{
-    match tactic.node() {
-        TacExprNode::Call(call)
-        | TacExprNode::DischThen(call)
-        | TacExprNode::PopAssum(call)
-        | TacExprNode::FirstAssum(call) => add_call(alloc, keys, call),
-        TacExprNode::Then(first, second) | TacExprNode::OrElse(first, second) => {
-            add_tactic(alloc, keys, first)?;
-            add_tactic(alloc, keys, second)
-        }
-        TacExprNode::ThenL(first, tactics) => {
-            add_tactic(alloc, keys, first)?;
-            add_tactics(alloc, keys, tactics)
-        }
-        TacExprNode::Repeat(part)
-        | TacExprNode::Try(part)
-        | TacExprNode::Changed(part)
-        | TacExprNode::Replicate(_, part) => add_tactic(alloc, keys, part),
-        TacExprNode::Every(tactics) | TacExprNode::First(tactics) => {
-            add_tactics(alloc, keys, tactics)
-        }
-        TacExprNode::SubgoalThen(quotation, call) => {
-            add_term(alloc, keys, &quotation.term)?;
-            add_call(alloc, keys, call)
-        }
-    }
-}
-
-#[cycle(add_tactic)]
-fn add_tactics(alloc: Global, keys: &mut Vec<Key>, tactics: &[TacExpr]) -> Result<(), AllocError>
-    ensures { OnOk result (keys.new.items ≡ keys.old.items ++ keys_of_tactics (tac_texts tactics.now)) }
-{
-    for tactic in tactics {
-        add_tactic(alloc, keys, tactic)?;
     }
     Ok(())
 }
@@ -288,7 +185,7 @@ pub(crate) fn cited_keys(alloc: Global, command: &LocalCommand) -> Result<Vec<Ke
         }
         LocalCommand::Apply(tactic) => {
             let mut keys = Vec::new(alloc);
-            add_tactic(alloc, &mut keys, tactic)?;
+            add_parts(alloc, &mut keys, &parts_of(alloc, tactic)?)?;
             Ok(keys)
         }
         LocalCommand::Qed => Ok(Vec::new(alloc)),

@@ -1,13 +1,14 @@
 //! The report on a command.
 ghost use Rattle.std.specs.Prelude.{◌≡◌, ◌++◌, IfOk, map, string_bytes};
 ghost use Rattle.hol_exec.specs.ReportOf.{report_of, entry_text, shown_goal};
-ghost use Rattle.hol_exec.specs.ReportView.{report_value, shown_goal_text};
+ghost use Rattle.hol_exec.specs.ReportView.{report_value};
+ghost use Rattle.hol_print.specs.ShowGoal.{goal_text};
 
 use crate::outcome::{Change, Outcome};
-use crate::report::{Report, ShownGoal};
+use crate::report::Report;
 use crate::state::State;
 use hol_goal::Goal;
-use hol_print::{show_goal, show_term, show_type};
+use hol_print::{ShownGoal, show_goal, show_term, show_type};
 use hol_theory::{Key, Value, ValueNode};
 use std::alloc::{AllocError, Global};
 
@@ -28,24 +29,13 @@ pub fn report_of(alloc: Global, outcome: &Outcome, state: &State) -> Result<Repo
 }
 
 fn shown_goals(alloc: Global, goals: &[Goal]) -> Result<Vec<ShownGoal>, AllocError>
-    ensures { IfOk result (λ shown. map shown_goal_text shown.items ≡ map shown_goal goals.now) }
+    ensures { IfOk result (λ shown. map goal_text shown.items ≡ map shown_goal goals.now) }
 {
     let mut shown = Vec::with_capacity(alloc, goals.len())?;
     for goal in goals {
-        shown.push(shown_goal(alloc, goal)?)?;
+        shown.push(show_goal(alloc, goal.assumptions(), goal.conclusion())?)?;
     }
     Ok(shown)
-}
-
-fn shown_goal(alloc: Global, goal: &Goal) -> Result<ShownGoal, AllocError>
-    ensures { IfOk result (λ shown. shown_goal_text shown ≡ shown_goal goal.now) }
-{
-    let shown = show_goal(alloc, goal.assumptions(), goal.conclusion())?;
-    Ok(ShownGoal {
-        assumptions: shown.asl,
-        free_variables: shown.free,
-        conclusion: shown.goal,
-    })
 }
 
 /// An entry as clients see it: `type N/k`, `const N:ty` or `thm N |- p`.

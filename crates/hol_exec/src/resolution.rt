@@ -1,19 +1,20 @@
 //! Expressions of functions on goals: what is written, resolved.
 ghost use Rattle.std.specs.Prelude.{◌≡◌, IfOk, None};
 ghost use Rattle.hol_exec.specs.Resolved.{resolved_basis};
+ghost use Rattle.hol_notation_tactics.specs.Parts.{parts_of};
 ghost use Rattle.hol_resolve.specs.Over.{AreOver};
 ghost use Rattle.hol_resolve.specs.ReadingView.{readings_value};
 ghost use Rattle.hol_exec.specs.Setup.{SetupValue};
 ghost use Rattle.hol_exec.specs.SetupView.{setup_value};
-ghost use Rattle.hol_exec.specs.Expr.{formulas_of, first_not_bool, resolved_formulas, IsResolvedFitting, IsResolution};
+ghost use Rattle.hol_exec.specs.Expr.{formulas_in, first_not_bool, resolved_formulas, IsResolvedFitting, IsResolution};
 ghost use Rattle.hol_exec.specs.ExprView.{resolution_value, IsUnresolved};
 ghost use Rattle.hol_exec.specs.Valid.{IsRunnableIf};
 
 use crate::basis::resolved_basis;
-use crate::calls::{calls_of, first_unfit};
+use crate::calls::first_unfit;
 use crate::cited::cited_theorems;
 use crate::expressions::{Context, refused_by, resolve_expr};
-use crate::formulas::{first_not_bool, formulas_of};
+use crate::formulas::{first_not_bool, formulas_in};
 use crate::lookups::lookups_of;
 use crate::reads::Reads;
 use crate::refusal::RefusalKind;
@@ -21,8 +22,8 @@ use crate::setup::Setup;
 use crate::unresolved::Unresolved;
 use hol_combine::Expr;
 use hol_kernel::Basis;
-use hol_notation_tactics::TacExpr;
-use hol_resolve::{Readings, quotations_of, read_quotations};
+use hol_notation_tactics::{Part, TacExpr, calls_in, parts_of};
+use hol_resolve::{Readings, quotations_in, read_quotations};
 use std::alloc::{AllocError, Global};
 
 /// What resolving comes to.
@@ -49,12 +50,13 @@ pub(crate) fn resolve(
         let unknown = String::from_str(alloc, unknown)?;
         return Ok(Resolution::Unresolved(RefusalKind::UnknownTheorem, unknown));
     }
-    let calls = calls_of(alloc, tactic)?;
+    let parts = parts_of(alloc, tactic)?;
+    let calls = calls_in(alloc, &parts)?;
     if let Some(unfit) = first_unfit(setup, &calls, reads) {
         let unfit = String::from_str(alloc, unfit)?;
         return Ok(Resolution::Unresolved(RefusalKind::UnknownTac, unfit));
     }
-    resolve_fitting(alloc, setup, tactic, reads)
+    resolve_fitting(alloc, setup, tactic, &parts, reads)
 }
 
 // Resolves what is written, where all theorems are known and all calls fit: its quotations are read first.
@@ -62,15 +64,17 @@ fn resolve_fitting(
     alloc: Global,
     setup: &Setup,
     tactic: &TacExpr,
+    parts: &[Part],
     reads: &Reads,
 ) -> Result<Resolution, AllocError>
+    requires { parts.now ≡ parts_of tactic.now }
     ensures value { IfOk result (λ r. IsResolvedFitting (setup_value setup.now) tactic.now reads.now.cited (resolution_value r)) }
     ensures runnable { IfOk result (IsRunnableIf (setup_value setup.now)) }
 {
     let lookups = lookups_of(alloc, setup, reads.cited())?;
-    let quotations = quotations_of(alloc, tactic)?;
+    let quotations = quotations_in(alloc, parts)?;
     match read_quotations(alloc, &quotations, &lookups)? {
-        Ok(readings) => resolve_read(alloc, setup, tactic, reads, &readings),
+        Ok(readings) => resolve_read(alloc, setup, tactic, parts, reads, &readings),
         Err(refusal) => unresolved(refused_by(alloc, "", refusal)?),
     }
 }
@@ -80,14 +84,16 @@ fn resolve_read(
     alloc: Global,
     setup: &Setup,
     tactic: &TacExpr,
+    parts: &[Part],
     reads: &Reads,
     readings: &Readings,
 ) -> Result<Resolution, AllocError>
-    requires { AreOver (resolved_basis reads.now.cited (readings_value readings.now)) (readings_value readings.now) }
-    ensures value { IfOk result (λ r. resolution_value r ≡ resolved_formulas (setup_value setup.now) tactic.now reads.now.cited (readings_value readings.now) (first_not_bool (readings_value readings.now) (formulas_of tactic.now))) }
+    requires parts { parts.now ≡ parts_of tactic.now }
+    requires over { AreOver (resolved_basis reads.now.cited (readings_value readings.now)) (readings_value readings.now) }
+    ensures value { IfOk result (λ r. resolution_value r ≡ resolved_formulas (setup_value setup.now) tactic.now reads.now.cited (readings_value readings.now) (first_not_bool (readings_value readings.now) (formulas_in (parts_of tactic.now)))) }
     ensures runnable { IfOk result (IsRunnableIf (setup_value setup.now)) }
 {
-    let formulas = formulas_of(alloc, tactic)?;
+    let formulas = formulas_in(alloc, parts)?;
     match first_not_bool(readings, &formulas) {
         Some(place) => Ok(Resolution::Unresolved(RefusalKind::NotBool, place.to_string(alloc)?)),
         None => resolve_formulas(alloc, setup, tactic, reads, readings),

@@ -1,7 +1,7 @@
 //! Types and terms for tests, as they are written.
 use hol_infer::{elaborate, elaborate_type};
 use hol_kernel::{prelude_constants, prelude_types};
-use hol_notation_commands::{Command, CommandNode, read_command};
+use hol_notation_commands::{Command, CommandNode, LocalCommand, read_command};
 use hol_notation_terms::{PreTerm, PreType, read_term, read_type};
 use hol_notation_tokens::scan;
 use hol_terms::{Term, TermNode, Variable};
@@ -77,7 +77,7 @@ fn named(alloc: Global, name: &str, statement: &PreTerm) -> Result<(String, Term
 }
 
 fn opened(alloc: Global, command: &Command) -> Result<(String, Term), Fail> {
-    let CommandNode::Goal { name, quotation } = command.node() else {
+    let CommandNode::Local(LocalCommand::Goal { name, quotation }) = command.node() else {
         return Err("no goal".into());
     };
     named(alloc, name.as_str(), &quotation.term)

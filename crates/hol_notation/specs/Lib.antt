@@ -7,6 +7,7 @@ pub use Rattle.hol_notation_terms.specs.Code as TermCode
 pub use Rattle.hol_notation_terms.specs.TypeView
 pub use Rattle.hol_notation_terms.specs.TermView
 pub use Rattle.hol_notation_tactics.specs.Text as TacText
+pub use Rattle.hol_notation_tactics.specs.Parts
 pub use Rattle.hol_notation_tactics.specs.Code as TacCode
 pub use Rattle.hol_notation_tactics.specs.ThmView
 pub use Rattle.hol_notation_tactics.specs.TacView

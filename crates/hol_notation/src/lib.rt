@@ -2,9 +2,12 @@
 //! of the notation give to those above.
 #![tactic(auto)]
 
-pub use hol_notation_commands::{Command, CommandNode, TypeDefinition, read_command};
+pub use hol_notation_commands::{
+    Command, CommandNode, DirectCommand, LocalCommand, Making, TypeDefinition, read_command,
+};
 pub use hol_notation_tactics::{
-    TacArg, TacArgNode, TacCall, TacExpr, TacExprNode, ThmExpr, ThmExprNode, TypePair,
+    CitedName, Part, Role, TacArg, TacArgNode, TacCall, TacExpr, TacExprNode, ThmExpr, ThmExprNode,
+    TypePair, calls_in, parts_of,
 };
 pub use hol_notation_terms::{
     Definition, Operator, PreTerm, PreTermNode, PreType, PreTypeNode, PreVariable, Quotation,

@@ -20,7 +20,7 @@ pub use Rattle.hol_notation_tactics.proofs.Steps.{both}
 use Rattle.hol_notation_commands.specs.declared.word.CommandWord.{CommandWord}
 use Rattle.hol_notation_commands.specs.declared.word.CommandWord.TheVariants.{Goal, Apply, Back, Rotate, Qed, Oops, Import, NewType, NewConstant, NewAxiom, NewDefinition, NewBasicTypeDefinition}
 use Rattle.hol_notation_commands.specs.Grammar.{Nonterminal, Production, has, no_text, at_most_16, commands_over_tactics, command_grammar, a_declaration, open_goal, run_tactic, undo, rotate, finish, give_up, import_theory, declare, new_type, new_constant, new_axiom, new_definition, new_basic_type_definition, six_names}
-use Rattle.hol_notation_commands.specs.Text.{TypeDefinitionText, CommandText}
+use Rattle.hol_notation_commands.specs.Text.{TypeDefinitionText, MakingText}
 use Rattle.hol_notation_commands.specs.Value.{declaration_value}
 use Rattle.hol_notation_commands.proofs.Picks.{pick, looks, choose_command, choose_declaration}
 use Rattle.hol_notation_commands.proofs.Certain.{certain}
@@ -119,7 +119,7 @@ few : (b : Bool) → b ≡ true → Few b
 few true e = (done, (λ later. refl, λ later. tt))
 few false e = absurd (false≢true e)
 
-pub small_found : {words rest : List Lexeme} {v : CommandText} (x : Lexeme) (n : ℕ) (p : Path command_grammar (above a_declaration) (at_most_16 x) words rest) → n ≡ number_value x.text → n ≤ 16
+pub small_found : {words rest : List Lexeme} {v : MakingText} (x : Lexeme) (n : ℕ) (p : Path command_grammar (above a_declaration) (at_most_16 x) words rest) → n ≡ number_value x.text → n ≤ 16
     → ((ts : Trees command_grammar (at_most_16 x)) → v ≡ declaration_value (p.up ts)) → Found declaration_value words v rest
 small_found {words} {rest} x n p e h says =
     let f = few (nat_le (number_value x.text) 16) (ap (λ (m : ℕ). nat_le m 16) (sym e) ∙ le-leb n 16 h) in

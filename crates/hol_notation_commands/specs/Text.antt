@@ -15,16 +15,28 @@ pub record TypeDefinitionText : Type 0 where
   pub rep_abs : List ℕ
   pub theorem : List ℕ
 
+-- the commands that make types, constants, axioms and definitions
+pub data MakingText : Type 0 where
+  NewType : List ℕ → ℕ → MakingText
+  NewConstant : List ℕ → TypeQuotationText → MakingText
+  NewAxiom : List ℕ → QuotationText → MakingText
+  NewDefinition : List ℕ → DefinitionText → MakingText
+  NewBasicTypeDefinition : TypeDefinitionText → MakingText
+
+-- the commands whose outcomes are functions of what they read
+pub data LocalText : Type 0 where
+  Goal : List ℕ → QuotationText → LocalText
+  Apply : TacText → LocalText
+  Qed : LocalText
+  Make : MakingText → LocalText
+
+-- the commands that are answered from the state: those on the open proof's history, and imports
+pub data DirectText : Type 0 where
+  Back : DirectText
+  Rotate : ℕ → DirectText
+  Oops : DirectText
+  Import : List ℕ → DirectText
+
 pub data CommandText : Type 0 where
-  Goal : List ℕ → QuotationText → CommandText
-  Apply : TacText → CommandText
-  Back : CommandText
-  Rotate : ℕ → CommandText
-  Qed : CommandText
-  Oops : CommandText
-  Import : List ℕ → CommandText
-  NewType : List ℕ → ℕ → CommandText
-  NewConstant : List ℕ → TypeQuotationText → CommandText
-  NewAxiom : List ℕ → QuotationText → CommandText
-  NewDefinition : List ℕ → DefinitionText → CommandText
-  NewBasicTypeDefinition : TypeDefinitionText → CommandText
+  Local : LocalText → CommandText
+  Direct : DirectText → CommandText

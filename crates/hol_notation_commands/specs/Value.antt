@@ -8,7 +8,7 @@ use Rattle.hol_notation_tactics.specs.Number.{number_value}
 use Rattle.hol_notation_tactics.specs.Text.{TacText}
 use Rattle.hol_notation_tactics.specs.Grammar.{tactics_over_terms, tactic_grammar, a_tactic}
 use Rattle.hol_notation_tactics.specs.Value.{tactic_value}
-use Rattle.hol_notation_commands.specs.Text.{TypeDefinitionText, CommandText, Goal, Apply, Back, Rotate, Qed, Oops, Import, NewType, NewConstant, NewAxiom, NewDefinition, NewBasicTypeDefinition}
+use Rattle.hol_notation_commands.specs.Text.{TypeDefinitionText, MakingText, CommandText, Local, Direct, Make, Goal, Apply, Back, Rotate, Qed, Oops, Import, NewType, NewConstant, NewAxiom, NewDefinition, NewBasicTypeDefinition}
 use Rattle.hol_notation_commands.specs.Grammar.{commands_over_tactics, command_grammar, a_command, a_declaration, some_names, open_goal, run_tactic, undo, rotate, finish, give_up, import_theory, declare, new_type, new_constant, new_axiom, new_definition, new_basic_type_definition, six_names}
 
 -- a part says what it says by its own grammar
@@ -28,7 +28,7 @@ abbrev pub names_value : Tree command_grammar (above some_names) → TypeDefinit
 names_value (node six_names (leaf ty (leaf abs (leaf rep (leaf one (leaf other (leaf theorem done))))))) =
     record { ty = ty.text; abs = abs.text; rep = rep.text; abs_rep = one.text; rep_abs = other.text; theorem = theorem.text }
 
-abbrev pub declaration_value : Tree command_grammar (above a_declaration) → CommandText
+abbrev pub declaration_value : Tree command_grammar (above a_declaration) → MakingText
 declaration_value (node new_type (leaf w (leaf x (leaf n ts)))) = NewType x.text (number_value n.text)
 declaration_value (node new_constant (leaf w (leaf x (tree q done)))) = NewConstant x.text (type_said q)
 declaration_value (node new_axiom (leaf w (leaf x (tree q done)))) = NewAxiom x.text (term_said q)
@@ -36,11 +36,11 @@ declaration_value (node new_definition (leaf w (leaf x (tree d done)))) = NewDef
 declaration_value (node new_basic_type_definition (leaf w (tree d done))) = NewBasicTypeDefinition (names_value d)
 
 abbrev pub command_value : Tree command_grammar (above a_command) → CommandText
-command_value (node open_goal (leaf w (leaf x (tree q done)))) = Goal x.text (term_said q)
-command_value (node run_tactic (leaf w (tree t done))) = Apply (tactic_said t)
-command_value (node undo (leaf w done)) = Back
-command_value (node rotate (leaf w (leaf n done))) = Rotate (number_value n.text)
-command_value (node finish (leaf w done)) = Qed
-command_value (node give_up (leaf w done)) = Oops
-command_value (node import_theory (leaf w (leaf x done))) = Import x.text
-command_value (node declare (tree d done)) = declaration_value d
+command_value (node open_goal (leaf w (leaf x (tree q done)))) = Local (Goal x.text (term_said q))
+command_value (node run_tactic (leaf w (tree t done))) = Local (Apply (tactic_said t))
+command_value (node undo (leaf w done)) = Direct Back
+command_value (node rotate (leaf w (leaf n done))) = Direct (Rotate (number_value n.text))
+command_value (node finish (leaf w done)) = Local Qed
+command_value (node give_up (leaf w done)) = Direct Oops
+command_value (node import_theory (leaf w (leaf x done))) = Direct (Import x.text)
+command_value (node declare (tree d done)) = Local (Make (declaration_value d))

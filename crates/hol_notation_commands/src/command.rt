@@ -1,12 +1,11 @@
 //! Commands as they are written.
-ghost use Rattle.std.specs.Prelude.{◌≡◌, ◌↔◌, IfOk, IsTrue};
-ghost use Rattle.hol_notation_commands.specs.CommandView.{command_of_node};
-ghost use Rattle.hol_notation_commands.specs.Equal.{leading_name};
+ghost use Rattle.std.specs.Prelude.{◌≡◌, ◌↔◌, IsTrue};
+ghost use Rattle.hol_notation_commands.specs.CommandView.{command_of_node, local_text, making_text};
+ghost use Rattle.hol_notation_commands.specs.Equal.{leading_name, making_name};
 
 use crate::type_definition::TypeDefinition;
 use hol_notation_tactics::TacExpr;
 use hol_notation_terms::{Definition, Quotation, TypeQuotation};
-use std::alloc::{AllocError, Global};
 use std::hash::{Hash, Hasher};
 use std::marker::Model;
 
@@ -19,6 +18,28 @@ pub struct Command {
 /// What a command is.
 #[derive(Drop)]
 pub enum CommandNode {
+    /// A command whose outcome is a function of what it reads.
+    Local(LocalCommand),
+    /// What is answered from the state.
+    Direct(DirectCommand),
+}
+
+/// What is answered from the state.
+#[derive(Drop)]
+pub enum DirectCommand {
+    /// `b`
+    Back,
+    /// `r` with a number.
+    Rotate(usize),
+    /// `oops`
+    Oops,
+    /// `import NAME`
+    Import(String),
+}
+
+/// A command whose outcome is a function of what it reads.
+#[derive(Drop)]
+pub enum LocalCommand {
     /// `g NAME` and a quotation: opens a proof of a goal.
     Goal {
         /// The theorem's name.
@@ -26,48 +47,47 @@ pub enum CommandNode {
         /// What it is to say.
         quotation: Quotation,
     },
-    /// `e tac`: runs a tactic expression on the first goal.
+    /// `e` with an expression of TACs: runs it on the first goal.
     Apply(TacExpr),
-    /// `b`: undoes the last `e` or `r` of this proof.
-    Back,
-    /// `r NUM`: turns the list of goals by so many, at most 9,999.
-    Rotate(usize),
     /// `qed`: ends the proof.
     Qed,
-    /// `oops`: gives the proof up.
-    Oops,
-    /// `import NAME`: takes the entries of a theory.
-    Import(String),
+    /// A command that makes a type, a constant, an axiom or a definition.
+    Make(Making),
+}
+
+/// A command that makes a type, a constant, an axiom or a definition.
+#[derive(Drop)]
+pub enum Making {
     /// `new_type NAME NUM`
-    NewType {
+    Type {
         /// The type constructor's name.
         name: String,
         /// The number of its arguments, at most 16.
-        arity: usize,
+        arity: u32,
     },
     /// `new_constant NAME` and a type between backquotes.
-    NewConstant {
+    Constant {
         /// The constant's name.
         name: String,
-        /// Its type.
+        /// Its generic type.
         quotation: TypeQuotation,
     },
     /// `new_axiom NAME` and a quotation.
-    NewAxiom {
+    Axiom {
         /// The axiom's name.
         name: String,
         /// What it says.
         quotation: Quotation,
     },
     /// `new_definition NAME` and a definition between backquotes.
-    NewDefinition {
+    Definition {
         /// The name of the theorem to make.
         name: String,
-        /// The constant and what it is to be equal to.
+        /// The constant, and what it is to be equal to.
         definition: Definition,
     },
     /// `new_basic_type_definition` and six names.
-    NewBasicTypeDefinition(TypeDefinition),
+    BasicTypeDefinition(TypeDefinition),
 }
 
 impl Model for Command {
@@ -84,139 +104,141 @@ impl Model for Command {
 }
 
 impl Command {
-    /// The command that is this.
-    pub fn new(node: CommandNode) -> Command
-        ensures { result ≡ command_of_node node }
-    {
-        Command { node }
-    }
-
-    /// What it is, with its parts by reference.
+    /// What it is.
     pub fn node(&self) -> &CommandNode
         ensures { command_of_node result.now ≡ self.now }
     {
         &self.node
     }
+}
 
-    /// The same command, sharing the nodes of its parts.
-    pub fn copy(&self, alloc: Global) -> Result<Command, AllocError>
-        ensures { IfOk result (λ command. command ≡ self.now) }
+impl LocalCommand {
+    /// Whether both are the same, the places of their quotations included.
+    pub fn same(&self, other: &LocalCommand) -> bool
+        ensures { IsTrue result ↔ (local_text self.now ≡ local_text other.now) }
     {
-        let node = match &self.node {
-            CommandNode::Goal { name, quotation } => CommandNode::Goal {
-                name: String::from_str(alloc, name.as_str())?,
-                quotation: quotation.copy()?,
-            },
-            CommandNode::Apply(tactic) => CommandNode::Apply(tactic.copy()?),
-            CommandNode::Back => CommandNode::Back,
-            CommandNode::Rotate(n) => CommandNode::Rotate(*n),
-            CommandNode::Qed => CommandNode::Qed,
-            CommandNode::Oops => CommandNode::Oops,
-            CommandNode::Import(name) => CommandNode::Import(String::from_str(
-                alloc,
-                name.as_str(),
-            )?),
-            CommandNode::NewType { name, arity } => CommandNode::NewType {
-                name: String::from_str(alloc, name.as_str())?,
-                arity: *arity,
-            },
-            CommandNode::NewConstant { name, quotation } => CommandNode::NewConstant {
-                name: String::from_str(alloc, name.as_str())?,
-                quotation: quotation.copy()?,
-            },
-            CommandNode::NewAxiom { name, quotation } => CommandNode::NewAxiom {
-                name: String::from_str(alloc, name.as_str())?,
-                quotation: quotation.copy()?,
-            },
-            CommandNode::NewDefinition { name, definition } => CommandNode::NewDefinition {
-                name: String::from_str(alloc, name.as_str())?,
-                definition: definition.copy(alloc)?,
-            },
-            CommandNode::NewBasicTypeDefinition(definition) => CommandNode::NewBasicTypeDefinition(
-                definition.copy(alloc)?,
-            ),
-        };
-        Ok(Command { node })
-    }
-
-    /// Whether the two commands are the same, the places of their quotations included.
-    pub fn same(&self, other: &Command) -> bool
-        ensures { IsTrue result ↔ (self.now ≡ other.now) }
-    {
-        match &self.node {
-            CommandNode::Goal { name, quotation } => {
-                let CommandNode::Goal {
+        match self {
+            LocalCommand::Goal { name, quotation } => {
+                let LocalCommand::Goal {
                     name: other_name,
                     quotation: other_quotation,
-                } = &other.node
+                } = other
                 else {
                     return false;
                 };
                 name.as_str() == other_name.as_str() && quotation.same(other_quotation)
             }
-            CommandNode::Apply(tactic) => {
-                let CommandNode::Apply(other_tactic) = &other.node else {
+            LocalCommand::Apply(tactic) => {
+                let LocalCommand::Apply(other_tactic) = other else {
                     return false;
                 };
                 tactic.same(other_tactic)
             }
-            CommandNode::Back => matches!(&other.node, CommandNode::Back),
-            CommandNode::Rotate(n) => {
-                let CommandNode::Rotate(m) = &other.node else {
+            LocalCommand::Qed => matches!(other, LocalCommand::Qed),
+            LocalCommand::Make(making) => {
+                let LocalCommand::Make(other_making) = other else {
                     return false;
                 };
-                *n == *m
+                making.same(other_making)
             }
-            CommandNode::Qed => matches!(&other.node, CommandNode::Qed),
-            CommandNode::Oops => matches!(&other.node, CommandNode::Oops),
-            CommandNode::Import(name) => {
-                let CommandNode::Import(other_name) = &other.node else {
-                    return false;
-                };
-                name.as_str() == other_name.as_str()
-            }
-            CommandNode::NewType { name, arity } => {
-                let CommandNode::NewType {
+        }
+    }
+
+    /// A name in the command: what it makes, or the TAC that is written first.
+    pub fn leading_name(&self) -> &str
+        ensures { result.now ≡ leading_name (local_text self.now) }
+    {
+        match self {
+            LocalCommand::Goal { name, quotation: _ } => name.as_str(),
+            LocalCommand::Apply(tactic) => tactic.leading_name(),
+            LocalCommand::Qed => "",
+            LocalCommand::Make(making) => making.name(),
+        }
+    }
+}
+
+impl PartialEq for LocalCommand {
+    ghost use Rattle.hol_notation_commands.specs.Equal.{same_command, same_command_partial_laws};
+
+    ghost eq = { same_command };
+
+    ghost laws = { same_command_partial_laws };
+
+    #[tactic(auto, using(crate::specs::Equal::same_text_decides))]
+    fn eq(&self, other: &LocalCommand) -> bool {
+        self.same(other)
+    }
+}
+
+impl Eq for LocalCommand {
+    ghost use Rattle.hol_notation_commands.specs.Equal.{same_command_laws};
+
+    ghost laws = { same_command_laws };
+}
+
+impl Hash for LocalCommand {
+    ghost use Rattle.std.specs.Hash as fed;
+    ghost use Rattle.hol_notation_commands.specs.Equal.{leading_name};
+    ghost use Rattle.hol_notation_commands.specs.CommandView.{local_text};
+    ghost use Rattle.hol_notation_commands.specs.Equal.{command_fed};
+
+    ghost hash_input = { λ c. fed.str (leading_name (local_text c)) };
+
+    ghost respects_eq = { command_fed };
+
+    fn hash<H: Hasher>(&self, state: &mut H) {
+        self.leading_name().hash(state);
+    }
+}
+
+impl Making {
+    /// Whether both are the same, the places of their quotations included.
+    pub fn same(&self, other: &Making) -> bool
+        ensures { IsTrue result ↔ (making_text self.now ≡ making_text other.now) }
+    {
+        match self {
+            Making::Type { name, arity } => {
+                let Making::Type {
                     name: other_name,
                     arity: other_arity,
-                } = &other.node
+                } = other
                 else {
                     return false;
                 };
                 name.as_str() == other_name.as_str() && *arity == *other_arity
             }
-            CommandNode::NewConstant { name, quotation } => {
-                let CommandNode::NewConstant {
+            Making::Constant { name, quotation } => {
+                let Making::Constant {
                     name: other_name,
                     quotation: other_quotation,
-                } = &other.node
+                } = other
                 else {
                     return false;
                 };
                 name.as_str() == other_name.as_str() && quotation.same(other_quotation)
             }
-            CommandNode::NewAxiom { name, quotation } => {
-                let CommandNode::NewAxiom {
+            Making::Axiom { name, quotation } => {
+                let Making::Axiom {
                     name: other_name,
                     quotation: other_quotation,
-                } = &other.node
+                } = other
                 else {
                     return false;
                 };
                 name.as_str() == other_name.as_str() && quotation.same(other_quotation)
             }
-            CommandNode::NewDefinition { name, definition } => {
-                let CommandNode::NewDefinition {
+            Making::Definition { name, definition } => {
+                let Making::Definition {
                     name: other_name,
                     definition: other_definition,
-                } = &other.node
+                } = other
                 else {
                     return false;
                 };
                 name.as_str() == other_name.as_str() && definition.same(other_definition)
             }
-            CommandNode::NewBasicTypeDefinition(definition) => {
-                let CommandNode::NewBasicTypeDefinition(other_definition) = &other.node else {
+            Making::BasicTypeDefinition(definition) => {
+                let Making::BasicTypeDefinition(other_definition) = other else {
                     return false;
                 };
                 definition.same(other_definition)
@@ -224,57 +246,19 @@ impl Command {
         }
     }
 
-    // The name by which commands are hashed: what the command makes or asks for, or the TAC that is written first.
-    fn leading_name(&self) -> &str
-        ensures { result.now ≡ leading_name self.now }
+    /// A name in the command.
+    pub fn name(&self) -> &str
+        ensures { result.now ≡ making_name (making_text self.now) }
     {
-        match &self.node {
-            CommandNode::Goal { name, quotation: _ }
-            | CommandNode::Import(name)
-            | CommandNode::NewType { name, arity: _ }
-            | CommandNode::NewConstant { name, quotation: _ }
-            | CommandNode::NewAxiom { name, quotation: _ }
-            | CommandNode::NewDefinition {
+        match self {
+            Making::Type { name, arity: _ }
+            | Making::Constant { name, quotation: _ }
+            | Making::Axiom { name, quotation: _ }
+            | Making::Definition {
                 name,
                 definition: _,
             } => name.as_str(),
-            CommandNode::Apply(tactic) => tactic.leading_name(),
-            CommandNode::NewBasicTypeDefinition(definition) => definition.ty.as_str(),
-            CommandNode::Back | CommandNode::Rotate(_) | CommandNode::Qed | CommandNode::Oops => "",
+            Making::BasicTypeDefinition(definition) => definition.ty.as_str(),
         }
-    }
-}
-
-impl PartialEq for Command {
-    ghost use Rattle.std.specs.Cmp.{partial_equiv_from_equiv};
-    ghost use Rattle.hol_notation_commands.specs.Equal.{command_eq, command_eq_equivalence};
-
-    ghost eq = { λ a b. command_eq a b };
-
-    ghost laws = { partial_equiv_from_equiv command_eq_equivalence };
-
-    #[tactic(auto, using(crate::specs::Equal::command_eq_decides))]
-    fn eq(&self, other: &Command) -> bool {
-        self.same(other)
-    }
-}
-
-impl Eq for Command {
-    ghost use Rattle.hol_notation_commands.specs.Equal.{command_eq_equivalence};
-
-    ghost laws = { command_eq_equivalence };
-}
-
-impl Hash for Command {
-    ghost use Rattle.std.specs.Hash as fed;
-    ghost use Rattle.std.proofs.Common.{ap};
-    ghost use Rattle.hol_notation_commands.specs.Equal.{leading_name, leading_name_alike};
-
-    ghost hash_input = { λ c. fed.str (leading_name c) };
-
-    ghost respects_eq = { λ a b e. ap fed.str (leading_name_alike a b e) };
-
-    fn hash<H: Hasher>(&self, state: &mut H) {
-        self.leading_name().hash(state);
     }
 }

@@ -3,10 +3,10 @@
 //! A reader takes the words that are left and gives what it has read and the words after it. Where no command goes on it
 //! answers `Syntax` with the place of the next word, or with the end where there is none.
 ghost use Rattle.hol_notation_grammar.specs.Reading.{ReadsPart};
-ghost use Rattle.hol_notation_commands.specs.CommandView.{command_of_node};
+ghost use Rattle.hol_notation_commands.specs.CommandView.{command_of_node, making_text};
 ghost use Rattle.hol_notation_commands.specs.Value.{command_value, declaration_value, names_value};
 
-use crate::command::CommandNode;
+use crate::command::{CommandNode, DirectCommand, LocalCommand, Making};
 use crate::type_definition::TypeDefinition;
 use crate::word::{CommandWord, next, read_name};
 use hol_notation_grammar::{Class, expect};
@@ -33,26 +33,28 @@ pub(crate) fn read_words<'a, 't>(
         CommandWord::Goal => {
             let (name, after) = read_name(alloc, next.rest, end)?;
             let (quotation, rest) = read_quotation(alloc, after, end)?;
-            Ok((CommandNode::Goal { name, quotation }, rest))
+            let command = LocalCommand::Goal { name, quotation };
+            Ok((CommandNode::Local(command), rest))
         }
         CommandWord::Apply => {
             let (tactic, rest) = read_tactic(alloc, next.rest, end)?;
-            Ok((CommandNode::Apply(tactic), rest))
+            Ok((CommandNode::Local(LocalCommand::Apply(tactic)), rest))
         }
-        CommandWord::Back => Ok((CommandNode::Back, next.rest)),
+        CommandWord::Back => Ok((CommandNode::Direct(DirectCommand::Back), next.rest)),
         CommandWord::Rotate => {
             let (number, rest) = expect(next.rest, Class::Number, end)?;
-            Ok((CommandNode::Rotate(number_value(number.text)), rest))
+            let times = number_value(number.text);
+            Ok((CommandNode::Direct(DirectCommand::Rotate(times)), rest))
         }
-        CommandWord::Qed => Ok((CommandNode::Qed, next.rest)),
-        CommandWord::Oops => Ok((CommandNode::Oops, next.rest)),
+        CommandWord::Qed => Ok((CommandNode::Local(LocalCommand::Qed), next.rest)),
+        CommandWord::Oops => Ok((CommandNode::Direct(DirectCommand::Oops), next.rest)),
         CommandWord::Import => {
             let (name, rest) = read_name(alloc, next.rest, end)?;
-            Ok((CommandNode::Import(name), rest))
+            Ok((CommandNode::Direct(DirectCommand::Import(name)), rest))
         }
         _ => {
             let (command, rest) = read_declaration(alloc, words, end)?;
-            Ok((command, rest))
+            Ok((CommandNode::Local(LocalCommand::Make(command)), rest))
         }
     }
 }
@@ -62,8 +64,8 @@ fn read_declaration<'a, 't>(
     alloc: Global,
     words: &'a [Word<'t>],
     end: usize,
-) -> Result<(CommandNode, &'a [Word<'t>]), SyntaxError>
-    ensures { ReadsPart declaration_value command_of_node end words.now result }
+) -> Result<(Making, &'a [Word<'t>]), SyntaxError>
+    ensures { ReadsPart declaration_value making_text end words.now result }
 {
     let next = next(words, end);
     match next.word {
@@ -72,7 +74,8 @@ fn read_declaration<'a, 't>(
             let (number, rest) = expect(after, Class::Number, end)?;
             let arity = number_value(number.text);
             if arity <= MAX_ARITY {
-                Ok((CommandNode::NewType { name, arity }, rest))
+                let arity = arity as u32;
+                Ok((Making::Type { name, arity }, rest))
             } else {
                 Err(SyntaxError::Syntax(number.place))
             }
@@ -80,21 +83,21 @@ fn read_declaration<'a, 't>(
         CommandWord::NewConstant => {
             let (name, after) = read_name(alloc, next.rest, end)?;
             let (quotation, rest) = read_type_quotation(alloc, after, end)?;
-            Ok((CommandNode::NewConstant { name, quotation }, rest))
+            Ok((Making::Constant { name, quotation }, rest))
         }
         CommandWord::NewAxiom => {
             let (name, after) = read_name(alloc, next.rest, end)?;
             let (quotation, rest) = read_quotation(alloc, after, end)?;
-            Ok((CommandNode::NewAxiom { name, quotation }, rest))
+            Ok((Making::Axiom { name, quotation }, rest))
         }
         CommandWord::NewDefinition => {
             let (name, after) = read_name(alloc, next.rest, end)?;
             let (definition, rest) = read_definition_quotation(alloc, after, end)?;
-            Ok((CommandNode::NewDefinition { name, definition }, rest))
+            Ok((Making::Definition { name, definition }, rest))
         }
         CommandWord::NewBasicTypeDefinition => {
             let (definition, rest) = read_names(alloc, next.rest, end)?;
-            Ok((CommandNode::NewBasicTypeDefinition(definition), rest))
+            Ok((Making::BasicTypeDefinition(definition), rest))
         }
         _ => Err(SyntaxError::Syntax(next.place)),
     }

@@ -10,7 +10,7 @@ mod text_reader;
 mod type_definition;
 mod word;
 
-pub use command::{Command, CommandNode};
+pub use command::{Command, CommandNode, DirectCommand, LocalCommand, Making};
 pub use laws::one_reading;
 pub use text_reader::read_command;
 pub use type_definition::TypeDefinition;

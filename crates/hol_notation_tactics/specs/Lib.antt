@@ -1,3 +1,4 @@
+pub mod Parts
 pub mod Text
 pub mod Code
 pub mod ThmView

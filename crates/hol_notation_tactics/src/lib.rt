@@ -4,10 +4,12 @@
 #![tactic(auto)]
 
 mod argument_reader;
+mod cited_name;
 mod laws;
 mod lead;
 mod number;
 mod pair_reader;
+mod parts;
 mod tac_arg;
 mod tac_call;
 mod tac_expr;
@@ -17,8 +19,10 @@ mod theorem_reader;
 mod thm_expr;
 mod type_pair;
 
+pub use cited_name::CitedName;
 pub use laws::one_reading;
 pub use number::number_value;
+pub use parts::{Part, Role, calls_in, parts_of};
 pub use tac_arg::{TacArg, TacArgNode};
 pub use tac_call::TacCall;
 pub use tac_expr::{TacExpr, TacExprNode};

@@ -1,7 +1,7 @@
-//! Which texts are one command, and copies of commands, calls and pairs.
+//! Which texts are one command, and copies of calls and pairs.
 use hol_notation::{
-    Command, CommandNode, SyntaxError, TacArgNode, TacCall, TacExprNode, ThmExprNode, TypePair,
-    read_command,
+    Command, CommandNode, DirectCommand, LocalCommand, SyntaxError, TacArgNode, TacCall,
+    TacExprNode, ThmExprNode, TypePair, read_command,
 };
 use std::alloc::{AllocError, Global};
 use std::hash::{DefaultHasher, Hash, Hasher};
@@ -141,14 +141,38 @@ fn hash_of<T: Hash>(value: &T) -> u64 {
     state.finish()
 }
 
-// Whether the command is the same as its copy.
-fn is_copied(alloc: Global, command: &Command) -> Result<bool, AllocError> {
-    Ok(command.same(&command.copy(alloc)?))
+fn are_same_local(command: &LocalCommand, other: &LocalCommand) -> bool {
+    *command == *other && hash_of(command) == hash_of(other)
+}
+
+fn are_same_direct(command: &DirectCommand, other: &DirectCommand) -> bool {
+    match command {
+        DirectCommand::Back => matches!(other, DirectCommand::Back),
+        DirectCommand::Rotate(times) => {
+            matches!(other, DirectCommand::Rotate(others) if times == others)
+        }
+        DirectCommand::Oops => matches!(other, DirectCommand::Oops),
+        DirectCommand::Import(name) => {
+            matches!(other, DirectCommand::Import(other) if name.as_str() == other.as_str())
+        }
+    }
+}
+
+// Whether the two are one command, which then is hashed alike.
+fn are_same(command: &Command, other: &Command) -> bool {
+    match command.node() {
+        CommandNode::Local(command) => {
+            matches!(other.node(), CommandNode::Local(other) if are_same_local(command, other))
+        }
+        CommandNode::Direct(command) => {
+            matches!(other.node(), CommandNode::Direct(other) if are_same_direct(command, other))
+        }
+    }
 }
 
 // The call that the command is, if it is one.
 fn call_of(command: &Command) -> Option<&TacCall> {
-    let CommandNode::Apply(tactic) = command.node() else {
+    let CommandNode::Local(LocalCommand::Apply(tactic)) = command.node() else {
         return None;
     };
     let TacExprNode::Call(call) = tactic.node() else {
@@ -182,21 +206,11 @@ fn is_call_copied(alloc: Global, command: &Command) -> Result<bool, AllocError> 
     }
 }
 
-// Whether the text reads as the command, and is hashed as it is.
-fn is_read(alloc: Global, text: &str, command: &Command) -> Result<bool, SyntaxError> {
-    let again = read_command(alloc, text)?;
-    Ok(again == *command && hash_of(&again) == hash_of(command))
-}
-
-fn is_copied_and_read(alloc: Global, text: &str, command: &Command) -> Result<bool, SyntaxError> {
-    let are_copied = is_copied(alloc, command)? && is_call_copied(alloc, command)?;
-    Ok(are_copied && is_read(alloc, text, command)?)
-}
-
-/// Whether the two texts are one command, which then is hashed alike and is, with its call, the same as its copy.
+/// Whether the two texts are one command, which then is hashed alike and whose call is the same as its copy.
 pub(crate) fn are_alike(alloc: Global, text: &str, other: &str) -> Result<bool, SyntaxError> {
     let command = read_command(alloc, text)?;
-    is_copied_and_read(alloc, other, &command)
+    let other = read_command(alloc, other)?;
+    Ok(are_same(&command, &other) && is_call_copied(alloc, &command)?)
 }
 
 // Whether the texts are alike, or are not, as the row says.

@@ -11,13 +11,11 @@ use Rattle.hol_kernel.specs.Given.{Given, proved}
 use Rattle.hol_kernel.specs.Typing.{is_typed}
 use Rattle.hol_kernel.proofs.Subsets.{within_itself}
 use Rattle.hol_notation_terms.specs.Text.{QuotationText}
-use Rattle.hol_notation_tactics.specs.Text.{ThmText, ArgumentText, Term, Theorem, Pair, Theorems}
+use Rattle.hol_notation_tactics.specs.Text.{ThmText}
 use Rattle.hol_goal.specs.Arguments.{TacArgsValue}
 use Rattle.hol_goal.specs.Arguments as args
 use Rattle.hol_goal.specs.ArgumentsView.{args_value}
 use Rattle.hol_goal.specs.declared.tac_args.TacArgs.{TacArgs}
-use Rattle.hol_goal.specs.declared.tac_args.ArgumentKind.{ArgumentKind}
-use Rattle.hol_goal.specs.declared.tac_args.ArgumentKind.TheVariants as takes
 use Rattle.hol_just.specs.Answering.{suits}
 use Rattle.hol_just.specs.Justifies.{holds_given}
 use Rattle.hol_resolve.specs.declared.refusal.Refusal.{Refusal}
@@ -25,7 +23,9 @@ use Rattle.hol_resolve.specs.Readings.{ReadingsValue, term_at}
 use Rattle.hol_resolve.specs.Forward.{CitedValue, theorem_written}
 use Rattle.hol_resolve.specs.Over.{AreOver}
 use Rattle.hol_resolve.specs.Steps.{IsTermOver}
-use Rattle.hol_resolve.specs.Written.{result_map, result_both, read_or_wrong, of_none, of_one, term_given, one_term, one_pair, theorem_given, theorems_given, one_theorem, with_theorem, some_theorems, before_theorem, of_two, arguments_written}
+use Rattle.hol_resolve.specs.Written.{result_map, result_both, read_or_wrong, term_given, theorem_given, theorems_given}
+use Rattle.hol_resolve.specs.Forms as forms
+use Rattle.hol_resolve.specs.Forms.{WrittenArgsValue, arguments_given}
 use Rattle.hol_resolve.proofs.Over.{term_over}
 
 -- what is answered, if anything is, has the property
@@ -61,30 +61,9 @@ module _ (basis : Items) where
   read_typed None h = tt
   read_typed (Some t) h = h
 
-  none_suits : (arguments : List ArgumentText) → Each Suits (of_none arguments)
-  none_suits [] = refl
-  none_suits (a ∷ arguments) = tt
-
-  one_suits : (f : ArgumentText → Result TacArgsValue Refusal) → ((a : ArgumentText) → Each Suits (f a)) → (arguments : List ArgumentText) → Each Suits (of_one f arguments)
-  one_suits f h [] = tt
-  one_suits f h (a ∷ []) = h a
-  one_suits f h (a ∷ b ∷ arguments) = tt
-
   module _ (readings : ReadingsValue) (over : AreOver basis readings) where
     term_typed : (t : QuotationText) → Each Typed (term_given readings t)
     term_typed t = read_typed (term_at readings t.place) (term_over basis readings t.place over)
-
-    one_term_suits : (a : ArgumentText) → Each Suits (one_term readings a)
-    one_term_suits (Term t) = mapped Typed Suits args.Term (λ x h. h) (term_given readings t) (term_typed t)
-    one_term_suits (Theorem th) = tt
-    one_term_suits (Pair s t) = tt
-    one_term_suits (Theorems ths) = tt
-
-    one_pair_suits : (a : ArgumentText) → Each Suits (one_pair readings a)
-    one_pair_suits (Term t) = tt
-    one_pair_suits (Theorem th) = tt
-    one_pair_suits (Pair s t) = joined Typed Typed Suits args.Pair (λ x y h k. and_from (is_typed basis x) (is_typed basis y) h k) (term_given readings s) (term_given readings t) (term_typed s) (term_typed t)
-    one_pair_suits (Theorems ths) = tt
 
     module _ (cited : CitedValue) where
       theorem_on_basis : (th : ThmText) → Each OnBasis (theorem_given basis cited readings th)
@@ -100,45 +79,17 @@ module _ (basis : Items) where
           joined OnBasis AllOn AllOn (λ g gs. g ∷ gs) (λ g gs h k. and_from (holds_given g basis) (list_all (λ g. holds_given g basis) gs) h k)
           (theorem_given basis cited readings th) (theorems_given basis cited readings ths) (theorem_on_basis th) (theorems_on_basis ths)
 
-      one_theorem_suits : (a : ArgumentText) → Each Suits (one_theorem basis cited readings a)
-      one_theorem_suits (Term t) = tt
-      one_theorem_suits (Theorem th) = mapped OnBasis Suits args.Theorem (λ g h. h) (theorem_given basis cited readings th) (theorem_on_basis th)
-      one_theorem_suits (Pair s t) = tt
-      one_theorem_suits (Theorems ths) = tt
-
-      with_theorem_suits : (t : QuotationText) (a : ArgumentText) → Each Suits (with_theorem basis cited readings t a)
-      with_theorem_suits t (Term s) = tt
-      with_theorem_suits t (Theorem th) =
+      pub given_suit : (w : WrittenArgsValue) → Each Suits (arguments_given basis cited readings w)
+      given_suit forms.Nothing = refl
+      given_suit (forms.Term t) = mapped Typed Suits args.Term (λ x h. h) (term_given readings t) (term_typed t)
+      given_suit (forms.Pair s t) = joined Typed Typed Suits args.Pair (λ x y h k. and_from (is_typed basis x) (is_typed basis y) h k) (term_given readings s) (term_given readings t) (term_typed s) (term_typed t)
+      given_suit (forms.Theorem th) = mapped OnBasis Suits args.Theorem (λ g h. h) (theorem_given basis cited readings th) (theorem_on_basis th)
+      given_suit (forms.TermAndTheorem t th) =
           joined Typed OnBasis Suits args.TermAndTheorem (λ x g h k. and_from (is_typed basis x) (holds_given g basis) h k) (term_given readings t) (theorem_given basis cited readings th) (term_typed t) (theorem_on_basis th)
-      with_theorem_suits t (Pair s u) = tt
-      with_theorem_suits t (Theorems ths) = tt
+      given_suit (forms.Theorems ths) = mapped AllOn Suits args.Theorems (λ gs h. h) (theorems_given basis cited readings ths) (theorems_on_basis ths)
 
-      some_theorems_suit : (a : ArgumentText) → Each Suits (some_theorems basis cited readings a)
-      some_theorems_suit (Term t) = tt
-      some_theorems_suit (Theorem th) = tt
-      some_theorems_suit (Pair s t) = tt
-      some_theorems_suit (Theorems ths) = mapped AllOn Suits args.Theorems (λ gs h. h) (theorems_given basis cited readings ths) (theorems_on_basis ths)
-
-      before_suits : (rest : List ArgumentText) (a : ArgumentText) → Each Suits (before_theorem basis cited readings rest a)
-      before_suits rest (Term t) = one_suits (with_theorem basis cited readings t) (with_theorem_suits t) rest
-      before_suits rest (Theorem th) = tt
-      before_suits rest (Pair s t) = tt
-      before_suits rest (Theorems ths) = tt
-
-      two_suit : (arguments : List ArgumentText) → Each Suits (of_two basis cited readings arguments)
-      two_suit [] = tt
-      two_suit (a ∷ arguments) = before_suits arguments a
-
-      pub written_suit : (kind : ArgumentKind) (arguments : List ArgumentText) → Each Suits (arguments_written basis cited readings kind arguments)
-      written_suit takes.Nothing arguments = none_suits arguments
-      written_suit takes.Term arguments = one_suits (one_term readings) one_term_suits arguments
-      written_suit takes.Pair arguments = one_suits (one_pair readings) one_pair_suits arguments
-      written_suit takes.Theorem arguments = one_suits (one_theorem basis cited readings) one_theorem_suits arguments
-      written_suit takes.TermAndTheorem arguments = two_suit arguments
-      written_suit takes.Theorems arguments = one_suits (some_theorems basis cited readings) some_theorems_suit arguments
-
-      pub arguments_suit : (kind : ArgumentKind) (arguments : List ArgumentText) (r : Result TacArgs Refusal) → result_map args_value r ≡ arguments_written basis cited readings kind arguments → IfOk r (λ v. IsTrue (suits (args_value v) basis))
-      arguments_suit kind arguments r e = by r (subst (Each Suits) (sym e) (written_suit kind arguments))
+      pub forms_suit : (w : WrittenArgsValue) (r : Result TacArgs Refusal) → result_map args_value r ≡ arguments_given basis cited readings w → IfOk r (λ v. IsTrue (suits (args_value v) basis))
+      forms_suit w r e = by r (subst (Each Suits) (sym e) (given_suit w))
         where
           by : (r : Result TacArgs Refusal) → Each Suits (result_map args_value r) → IfOk r (λ v. IsTrue (suits (args_value v) basis))
           by (Ok v) h = h

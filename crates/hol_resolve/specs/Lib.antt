@@ -1,4 +1,6 @@
 pub mod Lookups
+pub mod Forms
+pub mod FormsView
 pub mod LookupsView
 pub mod Reading
 pub mod ReadingView

@@ -18,14 +18,16 @@ mod refusal;
 mod rules;
 mod sizes;
 mod theorems;
+mod written;
 
-pub use arguments::arguments_written;
+pub use arguments::arguments_given;
 pub use forward_rule::ForwardRule;
 pub use laws::readings_are_over;
 pub use lookups::Lookups;
-pub use quotations::{AnyQuotation, quotations_of};
+pub use quotations::{AnyQuotation, quotations_in};
 pub use reading::{Reading, read_term};
 pub use reading_all::read_quotations;
 pub use readings::{Quoted, Readings};
 pub use refusal::Refusal;
 pub use theorems::theorem_written;
+pub use written::{WrittenArgs, written_as};

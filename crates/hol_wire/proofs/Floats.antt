@@ -3,17 +3,18 @@ use Rattle.std.proofs.Common.{◌≡◌, ℕ, List, [], ◌∷◌, map, Option, 
 use Rattle.serde_json.specs.Data.{string}
 use Rattle.serde_json.specs.View.{items_of}
 use Rattle.serde_json.specs.Written.{has_float, items_have_float}
-use Rattle.hol_exec.specs.ReportValue.{ShownGoalText, ReportValue, ShowsGoals, HasMade, WasRefused}
+use Rattle.hol_exec.specs.ShowGoal.{GoalText}
+use Rattle.hol_exec.specs.ReportValue.{ReportValue, ShowsGoals, HasMade, WasRefused}
 use Rattle.hol_wire.specs.Replies.{goal_data, report_data, Lists, RestsOn, reply_data}
 
 pub no_text_float : (ts : List (List ℕ)) → items_have_float (items_of (map string ts)) ≡ false
 no_text_float [] = refl
 no_text_float (t ∷ ts) = no_text_float ts
 
-pub no_goal_float : (g : ShownGoalText) → has_float (goal_data g) ≡ false
-no_goal_float g = rw (no_text_float g.assumptions, no_text_float g.free_variables) refl
+pub no_goal_float : (g : GoalText) → has_float (goal_data g) ≡ false
+no_goal_float g = rw (no_text_float g.asl, no_text_float g.free) refl
 
-pub no_goals_float : (gs : List ShownGoalText) → items_have_float (items_of (map goal_data gs)) ≡ false
+pub no_goals_float : (gs : List GoalText) → items_have_float (items_of (map goal_data gs)) ≡ false
 no_goals_float [] = refl
 no_goals_float (g ∷ gs) = rw (no_goal_float g, no_goals_float gs) refl
 

@@ -4,7 +4,8 @@ use Rattle.serde_json.specs.Data.{Data, null, boolean, number, unsigned, string,
 use Rattle.serde_json.specs.View.{items_of}
 use Rattle.serde_json.specs.Written.{compact_text}
 use Rattle.hol_exec.specs.Refusal.{kind_number, kind_text}
-use Rattle.hol_exec.specs.ReportValue.{ShownGoalText, ReportValue, ShowsGoals, HasMade, WasRefused}
+use Rattle.hol_exec.specs.ShowGoal.{GoalText}
+use Rattle.hol_exec.specs.ReportValue.{ReportValue, ShowsGoals, HasMade, WasRefused}
 use Rattle.hol_document.specs.declared.error.Refusal.{Refusal}
 use Rattle.hol_document.specs.declared.error.Refusal.TheVariants.{UnknownTheory, TheoryNameTaken, BadTheoryName, PositionOutOfRange, TooMany}
 
@@ -54,10 +55,10 @@ pub data ReplyValue : Type 0 where
 abbrev pub texts_data : List (List ℕ) → Data
 texts_data texts = array (items_of (map string texts))
 
-abbrev pub goal_data : ShownGoalText → Data
+abbrev pub goal_data : GoalText → Data
 goal_data goal =
-    object (member (codes "asl") (texts_data goal.assumptions) (member (codes "free") (texts_data goal.free_variables)
-    (member (codes "goal") (string goal.conclusion) no_members)))
+    object (member (codes "asl") (texts_data goal.asl) (member (codes "free") (texts_data goal.free)
+    (member (codes "goal") (string goal.goal) no_members)))
 
 abbrev pub report_data : ReportValue → Data
 report_data (ShowsGoals goals) =

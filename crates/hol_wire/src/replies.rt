@@ -6,7 +6,8 @@ ghost use Rattle.serde_json.specs.View.{view, items_of};
 ghost use Rattle.serde_json.specs.Data.{array};
 ghost use Rattle.serde_json.specs.Written.{compact_text, has_float};
 ghost use Rattle.hol_exec.specs.ReportValue.{ShowsGoals, HasMade, WasRefused};
-ghost use Rattle.hol_exec.specs.ReportView.{report_value, shown_goal_text};
+ghost use Rattle.hol_exec.specs.ReportView.{report_value};
+ghost use Rattle.hol_exec.specs.ShowGoal.{goal_text};
 ghost use Rattle.hol_wire.specs.ReplyBytes.{reply_bytes};
 ghost use Rattle.hol_wire.specs.Replies.{Reports, Lists, RestsOn, texts_data, goal_data, report_data, items_data, reply_data};
 ghost use Rattle.hol_wire.specs.Texts.{Says};
@@ -42,16 +43,16 @@ fn texts_value(alloc: Global, texts: Vec<String>) -> Result<Value, AllocError>
 }
 
 fn goal_value(alloc: Global, goal: ShownGoal) -> Result<Value, AllocError>
-    ensures { IfOk result (λ value. view value ≡ goal_data (shown_goal_text goal)) }
+    ensures { IfOk result (λ value. view value ≡ goal_data (goal_text goal)) }
 {
-    let assumptions = texts_value(alloc, goal.assumptions)?;
-    let free = texts_value(alloc, goal.free_variables)?;
-    let conclusion = Value::String(goal.conclusion);
-    json!(in alloc; {"asl": assumptions, "free": free, "goal": conclusion})
+    let asl = texts_value(alloc, goal.asl)?;
+    let free = texts_value(alloc, goal.free)?;
+    let conclusion = Value::String(goal.goal);
+    json!(in alloc; {"asl": asl, "free": free, "goal": conclusion})
 }
 
 fn goal_values(alloc: Global, goals: Vec<ShownGoal>) -> Result<Value, AllocError>
-    ensures { IfOk result (λ value. view value ≡ array (items_of (map goal_data (map shown_goal_text goals.items)))) }
+    ensures { IfOk result (λ value. view value ≡ array (items_of (map goal_data (map goal_text goals.items)))) }
 {
     let mut values = Vec::new(alloc);
     for goal in goals {
@@ -61,7 +62,7 @@ fn goal_values(alloc: Global, goals: Vec<ShownGoal>) -> Result<Value, AllocError
 }
 
 fn goals_value(alloc: Global, goals: Vec<ShownGoal>) -> Result<Value, AllocError>
-    ensures { IfOk result (λ value. view value ≡ report_data (ShowsGoals (map shown_goal_text goals.items))) }
+    ensures { IfOk result (λ value. view value ≡ report_data (ShowsGoals (map goal_text goals.items))) }
 {
     let goals = goal_values(alloc, goals)?;
     json!(in alloc; {"goals": goals, "ok": true})

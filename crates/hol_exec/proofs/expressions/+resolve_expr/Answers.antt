@@ -12,7 +12,7 @@ use Rattle.hol_exec.proofs.expressions.+resolve_expr.Goals as goal
 
 pub push_then-returns-in_ok-push-in-Then : goal.push_then-returns-in_ok-push-in-Then
 push_then-returns-in_ok-push-in-Then g t c =
-    let context = context_value (g.N.Names.table_of c.args.names.now) c.args.context.now in
+    let context = context_value (g.N.LooksUp.table_of c.args.names.now) c.args.context.now in
     let is : c.args.tactic.now ≡ Then c.in-Then.first c.in-Then.second = sym c.node.ensures ∙ ap tac_of_node c.in-Then.is in
     let grown : c.push.new.self.items ≡ c.push_then.new.parts.items ++ (c.in_ok-resolve_expr-in-Then.field-0 ∷ []) = search rules in
     subst (λ (x : TacText). IsChain (resolved_expr context x) c.args.parts.now.items c.push.new.self.items) (sym is)
@@ -26,25 +26,25 @@ resolve_each-resolve_expr-requires g t c κs within =
 pub resolve_each-loop-tactic-preserved : goal.resolve_each-loop-tactic-preserved
 resolve_each-loop-tactic-preserved g t c =
     let grown : c.push.new.self.items ≡ c.loop-tactic.parts.items ++ (c.in_ok-resolve_expr.field-0 ∷ []) = search rules in
-    each_goes_on (context_value (g.N.Names.table_of c.args.names.now) c.args.context.now) c.args.tactics.now c.loop-tactic.parts.items c.push.new.self.items c.loop-tactic.tactic-index c.tactic-item.result c.in_ok-resolve_expr.field-0
+    each_goes_on (context_value (g.N.LooksUp.table_of c.args.names.now) c.args.context.now) c.args.tactics.now c.loop-tactic.parts.items c.push.new.self.items c.loop-tactic.tactic-index c.tactic-item.result c.in_ok-resolve_expr.field-0
     c.loop-tactic-test.true c.tactic-item.is c.in_ok-resolve_expr.ensures grown c.loop-tactic.invariant
 
 pub resolve_each-returns : goal.resolve_each-returns
 resolve_each-returns g t c =
     let none : drop c.loop-tactic.tactic-index c.args.tactics.now ≡ [] = nothing_more c.args.tactics.now c.loop-tactic.tactic-index (omega (arith, c.loop-tactic-test.false)) in
-    each_ends (context_value (g.N.Names.table_of c.args.names.now) c.args.context.now) c.args.tactics.now c.loop-tactic.parts.items c.loop-tactic.tactic-index none c.loop-tactic.invariant
+    each_ends (context_value (g.N.LooksUp.table_of c.args.names.now) c.args.context.now) c.args.tactics.now c.loop-tactic.parts.items c.loop-tactic.tactic-index none c.loop-tactic.invariant
 
 pub resolve_node-returns-in_ok-formula-in-SubgoalThen :
     goal.resolve_node-returns-in_ok-formula-in-SubgoalThen
 resolve_node-returns-in_ok-formula-in-SubgoalThen g t c =
-    let context = context_value (g.N.Names.table_of c.args.names.now) c.args.context.now in
+    let context = context_value (g.N.LooksUp.table_of c.args.names.now) c.args.context.now in
     let is = sym c.node.ensures ∙ ap tac_of_node c.in-SubgoalThen.is in
     subst (λ (x : TacText). IsNodeFound (resolved_expr context x) c.hand-in-SubgoalThen.result) (sym is)
     (formula_handed _ (resolved_handing context c.in-SubgoalThen.call) c.in_ok-formula-in-SubgoalThen.formula c.hand-in-SubgoalThen.result c.in_ok-formula-in-SubgoalThen.ensures c.hand-in-SubgoalThen.ensures)
 
 pub resolve_then-returns : goal.resolve_then-returns
 resolve_then-returns g t c =
-    let context = context_value (g.N.Names.table_of c.args.names.now) c.args.context.now in
+    let context = context_value (g.N.LooksUp.table_of c.args.names.now) c.args.context.now in
     let grown : c.push.new.self.items ≡ c.push_then.new.parts.items ++ (c.in_ok-resolve_expr.field-0 ∷ []) = search rules in
     let none : c.new-parts.result.items ≡ [] = c.new-parts.ensures.items in
     let chain : IsChain (both expr.Then (resolved_expr context c.args.first.now) (resolved_expr context c.args.second.now)) [] c.push.new.self.items =

@@ -28,4 +28,4 @@ decreases-push_or_else g l = 4 * tac_nodes l.tactic.now + 2
 
 abbrev pub invariant-resolve_each-loop-tactic : goal.invariant-resolve_each-loop-tactic
 invariant-resolve_each-loop-tactic g l =
-    resolved_exprs (context_value (g.N.Names.table_of l.names) l.context) (tac_texts l.tactics) ≡ mapped (before l.parts.items) (resolved_exprs (context_value (g.N.Names.table_of l.names) l.context) (tac_texts (drop l.tactic-index l.tactics)))
+    resolved_exprs (context_value (g.N.LooksUp.table_of l.names) l.context) (tac_texts l.tactics) ≡ mapped (before l.parts.items) (resolved_exprs (context_value (g.N.LooksUp.table_of l.names) l.context) (tac_texts (drop l.tactic-index l.tactics)))

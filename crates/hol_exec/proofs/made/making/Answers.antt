@@ -1,7 +1,7 @@
 use Rattle.std.proofs.Common.{ap, sym, ◌∙◌, subst, List, ℕ}
 use Rattle.std.specs.Prelude.{IfOk, string_bytes}
-use Rattle.hol_exec.specs.Parsed.{NewDefinition}
-use Rattle.hol_exec.specs.ParsedView.{making_text}
+use Rattle.hol_notation_commands.specs.Text.{NewDefinition}
+use Rattle.hol_notation_commands.specs.CommandView.{making_text}
 use Rattle.hol_exec.specs.Making.{MakesDefinition}
 use Rattle.hol_exec.proofs.UnlessTaken.{making_outside}
 use Rattle.hol_exec.proofs.made.making.Goals as goal

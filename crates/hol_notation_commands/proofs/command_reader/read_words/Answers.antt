@@ -11,7 +11,7 @@ use Rattle.hol_notation_terms.specs.Value.{quotation_value}
 use Rattle.hol_notation_tactics.specs.Grammar.{tactic_grammar, a_tactic}
 use Rattle.hol_notation_tactics.specs.Value.{tactic_value}
 use Rattle.hol_notation_commands.specs.declared.word.CommandWord.TheVariants.{Goal as GoalWord, Apply as ApplyWord, Back as BackWord, Rotate as RotateWord, Qed as QedWord, Oops as OopsWord, Import as ImportWord}
-use Rattle.hol_notation_commands.specs.Text.{Goal, Apply, Rotate, Import}
+use Rattle.hol_notation_commands.specs.Text.{Goal, Apply, Rotate, Import, Make, Local, Direct}
 use Rattle.hol_notation_commands.specs.Grammar.{commands_over_tactics, a_command, a_declaration, open_goal, run_tactic, undo, rotate, finish, give_up, import_theory, declare}
 use Rattle.hol_notation_commands.specs.Value.{command_value}
 use Rattle.hol_notation_commands.proofs.Words.{worded}
@@ -33,7 +33,7 @@ returns-in_err-quotation-in-Goal c =
 
 pub returns-in_ok-quotation-in-Goal : goal.returns-in_ok-quotation-in-Goal
 returns-in_ok-quotation-in-Goal c =
-    arrive command_value (by_part certain (by_token (by_token (start certain (above a_command) open_goal (map seen c.args.words.now) (looks a_command) (ap choose_command (sym c.next-next.ensures.word ∙ c.in-Goal.is)) tt) (worded GoalWord (map seen c.args.words.now) tt c.next-next.ensures.word c.in-Goal.is c.next-next.ensures.rest)) c.in_ok-name-in-Goal.ensures.taken) (quote_to_end a_command) (term_found quotation_value _ _ _ c.in_ok-quotation-in-Goal.ensures.reads)) (both Goal c.in_ok-name-in-Goal.ensures.says (term_found quotation_value _ _ _ c.in_ok-quotation-in-Goal.ensures.reads).says)
+    arrive command_value (by_part certain (by_token (by_token (start certain (above a_command) open_goal (map seen c.args.words.now) (looks a_command) (ap choose_command (sym c.next-next.ensures.word ∙ c.in-Goal.is)) tt) (worded GoalWord (map seen c.args.words.now) tt c.next-next.ensures.word c.in-Goal.is c.next-next.ensures.rest)) c.in_ok-name-in-Goal.ensures.taken) (quote_to_end a_command) (term_found quotation_value _ _ _ c.in_ok-quotation-in-Goal.ensures.reads)) (both (λ n q. Local (Goal n q)) c.in_ok-name-in-Goal.ensures.says (term_found quotation_value _ _ _ c.in_ok-quotation-in-Goal.ensures.reads).says)
 
 pub returns-in_err-tactic-in-Apply : goal.returns-in_err-tactic-in-Apply
 returns-in_err-tactic-in-Apply c =
@@ -42,7 +42,7 @@ returns-in_err-tactic-in-Apply c =
 
 pub returns-in_ok-tactic-in-Apply : goal.returns-in_ok-tactic-in-Apply
 returns-in_ok-tactic-in-Apply c =
-    arrive command_value (by_part certain (by_token (start certain (above a_command) run_tactic (map seen c.args.words.now) (looks a_command) (ap choose_command (sym c.next-next.ensures.word ∙ c.in-Apply.is)) tt) (worded ApplyWord (map seen c.args.words.now) tt c.next-next.ensures.word c.in-Apply.is c.next-next.ensures.rest)) (tactic_to_end a_command) (found_raised tactic_grammar commands_over_tactics tactic_value _ _ _ c.in_ok-tactic-in-Apply.ensures.reads)) (ap Apply (found_raised tactic_grammar commands_over_tactics tactic_value _ _ _ c.in_ok-tactic-in-Apply.ensures.reads).says)
+    arrive command_value (by_part certain (by_token (start certain (above a_command) run_tactic (map seen c.args.words.now) (looks a_command) (ap choose_command (sym c.next-next.ensures.word ∙ c.in-Apply.is)) tt) (worded ApplyWord (map seen c.args.words.now) tt c.next-next.ensures.word c.in-Apply.is c.next-next.ensures.rest)) (tactic_to_end a_command) (found_raised tactic_grammar commands_over_tactics tactic_value _ _ _ c.in_ok-tactic-in-Apply.ensures.reads)) (ap (λ t. Local (Apply t)) (found_raised tactic_grammar commands_over_tactics tactic_value _ _ _ c.in_ok-tactic-in-Apply.ensures.reads).says)
 
 pub returns-in-Back : goal.returns-in-Back
 returns-in-Back c =
@@ -63,7 +63,7 @@ returns-in_err-number-in-Rotate c =
 
 pub returns-in_ok-number-in-Rotate : goal.returns-in_ok-number-in-Rotate
 returns-in_ok-number-in-Rotate c =
-    arrive command_value (by_token (by_token (start certain (above a_command) rotate (map seen c.args.words.now) (looks a_command) (ap choose_command (sym c.next-next.ensures.word ∙ c.in-Rotate.is)) tt) (worded RotateWord (map seen c.args.words.now) tt c.next-next.ensures.word c.in-Rotate.is c.next-next.ensures.rest)) c.in_ok-number-in-Rotate.ensures.taken) (ap Rotate c.number_value.ensures)
+    arrive command_value (by_token (by_token (start certain (above a_command) rotate (map seen c.args.words.now) (looks a_command) (ap choose_command (sym c.next-next.ensures.word ∙ c.in-Rotate.is)) tt) (worded RotateWord (map seen c.args.words.now) tt c.next-next.ensures.word c.in-Rotate.is c.next-next.ensures.rest)) c.in_ok-number-in-Rotate.ensures.taken) (ap (λ n. Direct (Rotate n)) c.number_value-times.ensures)
 
 pub returns-in_err-name-in-Import : goal.returns-in_err-name-in-Import
 returns-in_err-name-in-Import c =
@@ -72,7 +72,7 @@ returns-in_err-name-in-Import c =
 
 pub returns-in_ok-name-in-Import : goal.returns-in_ok-name-in-Import
 returns-in_ok-name-in-Import c =
-    arrive command_value (by_token (by_token (start certain (above a_command) import_theory (map seen c.args.words.now) (looks a_command) (ap choose_command (sym c.next-next.ensures.word ∙ c.in-Import.is)) tt) (worded ImportWord (map seen c.args.words.now) tt c.next-next.ensures.word c.in-Import.is c.next-next.ensures.rest)) c.in_ok-name-in-Import.ensures.taken) (ap Import c.in_ok-name-in-Import.ensures.says)
+    arrive command_value (by_token (by_token (start certain (above a_command) import_theory (map seen c.args.words.now) (looks a_command) (ap choose_command (sym c.next-next.ensures.word ∙ c.in-Import.is)) tt) (worded ImportWord (map seen c.args.words.now) tt c.next-next.ensures.word c.in-Import.is c.next-next.ensures.rest)) c.in_ok-name-in-Import.ensures.taken) (ap (λ n. Direct (Import n)) c.in_ok-name-in-Import.ensures.says)
 
 pub returns-in_err-command-in_default : goal.returns-in_err-command-in_default
 returns-in_err-command-in_default c =
@@ -81,4 +81,4 @@ returns-in_err-command-in_default c =
 
 pub returns-in_ok-command-in_default : goal.returns-in_ok-command-in_default
 returns-in_ok-command-in_default c =
-    arrive command_value (by_part certain (start certain (above a_command) declare (map seen c.args.words.now) (looks a_command) (ap choose_command (sym c.next-next.ensures.word) ∙ rest_command _ c.in_default.not-Goal c.in_default.not-Apply c.in_default.not-Back c.in_default.not-Rotate c.in_default.not-Qed c.in_default.not-Oops c.in_default.not-Import) tt) (to_end a_command a_declaration) c.in_ok-command-in_default.ensures) c.in_ok-command-in_default.ensures.says
+    arrive command_value (by_part certain (start certain (above a_command) declare (map seen c.args.words.now) (looks a_command) (ap choose_command (sym c.next-next.ensures.word) ∙ rest_command _ c.in_default.not-Goal c.in_default.not-Apply c.in_default.not-Back c.in_default.not-Rotate c.in_default.not-Qed c.in_default.not-Oops c.in_default.not-Import) tt) (to_end a_command a_declaration) c.in_ok-command-in_default.ensures) (ap (λ m. Local (Make m)) c.in_ok-command-in_default.ensures.says)

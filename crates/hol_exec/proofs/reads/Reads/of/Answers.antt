@@ -1,4 +1,4 @@
-use Rattle.hol_exec.specs.ParsedView.{local_text}
+use Rattle.hol_notation_commands.specs.CommandView.{local_text}
 use Rattle.hol_exec.proofs.CitedBases.{keyed}
 use Rattle.hol_exec.proofs.reads.Reads.of.Goals as goal
 

@@ -1,9 +1,0 @@
-use Rattle.std.proofs.Common.{ap, arith}
-use Rattle.hol_notation_tactics.specs.Text.{tac_nodes}
-use Rattle.hol_notation_tactics.proofs.SameTactics.{nodes_at}
-use Rattle.hol_exec.proofs.calls.+add_calls.Goals as goal
-
-pub add_calls_of_each-add_calls-requires : goal.add_calls_of_each-add_calls-requires
-add_calls_of_each-add_calls-requires t c =
-    let h = nodes_at c.args.tactics.now c.loop-tactic.tactic-index c.tactic-item.result c.loop-tactic-test.true in
-    (omega (arith, h, ap tac_nodes c.tactic-item.is, c.decreases), tt)
