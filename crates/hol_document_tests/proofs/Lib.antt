@@ -1,3 +1,4 @@
 pub mod Applied
 pub mod Declared
 pub mod Reduced
+pub mod Patterns

@@ -1,4 +1,8 @@
 //! Copies of matches, of expressions and of arguments.
+ghost use Rattle.std.specs.Prelude.{[], IfOk, IsTrue};
+ghost use Rattle.hol_terms.specs.Nameless.{nameless};
+ghost use Rattle.hol_match.specs.Patterns.{is_apart};
+
 use hol_combine::{Expr, ExprNode, TacCall};
 use hol_formulas::{occurrence, variable};
 use hol_goal::TacArgs;
@@ -15,13 +19,17 @@ fn open_type(alloc: Global) -> Result<Ty, AllocError> {
 }
 
 // A variable of the type.
-fn letter(alloc: Global, ty: &Ty) -> Result<Term, AllocError> {
+fn letter(alloc: Global, ty: &Ty) -> Result<Term, AllocError>
+    ensures { IfOk result (λ t. IsTrue (is_apart [] (nameless [] t))) }
+{
     let v = variable(alloc, "x", ty)?;
     occurrence(alloc, &v)
 }
 
 // Whether a copy of the match of the variable with itself gives it for itself, and one type.
-fn is_match_copied(alloc: Global, x: &Term) -> Result<bool, AllocError> {
+fn is_match_copied(alloc: Global, x: &Term) -> Result<bool, AllocError>
+    requires { IsTrue (is_apart [] (nameless [] x.now)) }
+{
     let Some(found) = term_match(alloc, &[], x, x)? else {
         return Ok(false);
     };

@@ -20,6 +20,7 @@ pub mod ConversionMoves
 pub mod Expanding
 pub mod MatchAlike
 pub mod MatchStays
+pub mod MatchApart
 pub mod MatchOpened
 pub mod MatchFixed
 pub mod MatchApplied

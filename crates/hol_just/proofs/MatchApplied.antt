@@ -1,8 +1,9 @@
 -- The reason by an instance of what stands under a theorem's quantifiers: the calls by which the code goes there.
-use Rattle.std.specs.Prelude.{◌≡◌, ℕ, Bool, true, false, cond, List, [], ◌∷◌, map, codes, Option, Some, None, IsSome, is_some, refl}
+use Rattle.std.specs.Prelude.{◌≡◌, ℕ, Bool, true, false, cond, ◌&&◌, List, [], ◌∷◌, map, codes, Option, Some, None, IsSome, is_some, refl}
 use Rattle.std.specs.Option.{option_map, option_and_then}
 use Rattle.std.specs.FinSet as set
 use Rattle.std.proofs.Common.{ap, sym, ◌∙◌, subst}
+use Rattle.std.proofs.lemmas.Bool.{and_parts}
 use Rattle.hol_types.specs.Tree.{TypeTree}
 use Rattle.hol_terms.specs.Named.{Named, var, constant, comb, abs}
 use Rattle.hol_terms.specs.Nameless.{Nameless, free, app, base_of, nameless}
@@ -24,6 +25,7 @@ use Rattle.hol_match.specs.Instance.{InstanceValue, both, instantiated}
 use Rattle.hol_match.specs.Fixed.{stays_of}
 use Rattle.hol_match.specs.Matches.{Says, IsMostGeneral}
 use Rattle.hol_match.specs.Matching.{matched}
+use Rattle.hol_match.specs.Patterns.{is_apart}
 use Rattle.hol_match.specs.Standing.{TermsStand, Stands}
 use Rattle.hol_match.proofs.Standing.{found_stands, types_all}
 use Rattle.hol_replay.proofs.Instances.{pairs_over}
@@ -34,6 +36,7 @@ use Rattle.hol_just.specs.Over.{CutValue, Infers}
 use Rattle.hol_just.proofs.Expanding.{over_basis, over_sequent}
 use Rattle.hol_just.proofs.MatchAlike.{AreAlike, matched_alike, alike_gives, same_instance}
 use Rattle.hol_just.proofs.MatchStays.{stays_alike}
+use Rattle.hol_just.proofs.MatchApart.{apart_listed}
 use Rattle.hol_just.proofs.MatchFixed.{types_keep, terms_keep, alone}
 
 -- ---- an instance of a sequent
@@ -44,24 +47,31 @@ alike_some (Some a) None h some e = absurd h
 alike_some (Some a) (Some b) h some e = absurd (cc)
 
 module _ (basis : Items) (a : Sequent) (t : Nameless) (ps : List Named) (is : hyps_of ps ≡ a.hyps) (some : IsSome (over basis (instance_like basis t a))) where
-  parts : (has_type basis t bool_type ≡ true) × IsSome (matched 0 a.concl (stays_of (set.items a.hyps)) t)
-  parts = by (has_type basis t bool_type) (matched 0 a.concl (stays_of (set.items a.hyps)) t) some
+  conditions : ((has_type basis t bool_type && is_apart (set.items a.hyps) a.concl) ≡ true) × IsSome (matched 0 a.concl (stays_of (set.items a.hyps)) t)
+  conditions = by (has_type basis t bool_type && is_apart (set.items a.hyps) a.concl) (matched 0 a.concl (stays_of (set.items a.hyps)) t) some
     where
       by : (c : Bool) (o : Option InstanceValue) → IsSome (over basis (cond c (option_map (λ i. sequent_of a.hyps (instantiated i 0 a.concl)) o) None)) → (c ≡ true) × IsSome o
       by true (Some i) h = (refl, refl)
       by true None h = absurd (cc)
       by false o h = absurd (cc)
 
+  tests : (has_type basis t bool_type ≡ true) × (is_apart (set.items a.hyps) a.concl ≡ true)
+  tests = and_parts (has_type basis t bool_type) (is_apart (set.items a.hyps) a.concl) conditions.0
+
+  -- its variables are apart beside the hypotheses, as the program lists them
+  pub own_apart : is_apart (map (nameless []) ps) a.concl ≡ true
+  own_apart = apart_listed a.hyps ps is a.concl tests.1
+
   alike : AreAlike (matched 0 a.concl (stays_of (set.items a.hyps)) t) (matched 0 a.concl (stays_of (map (nameless []) ps)) t)
   alike = matched_alike [] 0 a.concl (stays_of (set.items a.hyps)) (stays_of (map (nameless []) ps)) t (stays_alike a.hyps ps is)
 
   -- there is a match beside the hypotheses, as the program lists them
   pub is_found : matched 0 a.concl (stays_of (map (nameless []) ps)) t ≡ None → ⊥
-  is_found e = alike_some (matched 0 a.concl (stays_of (set.items a.hyps)) t) (matched 0 a.concl (stays_of (map (nameless []) ps)) t) alike parts.1 e
+  is_found e = alike_some (matched 0 a.concl (stays_of (set.items a.hyps)) t) (matched 0 a.concl (stays_of (map (nameless []) ps)) t) alike conditions.1 e
 
   module _ (f : InstanceValue) (found : matched 0 a.concl (stays_of (map (nameless []) ps)) t ≡ Some (both (stays_of (map (nameless []) ps)) f)) (says : Says f (stays_of (map (nameless []) ps))) where
     like_is : instance_like basis t a ≡ Some (sequent_of a.hyps (instantiated f 0 a.concl))
-    like_is = (λ i. cond (parts.0 i) (option_map (λ j. sequent_of a.hyps (instantiated j 0 a.concl)) (matched 0 a.concl (stays_of (set.items a.hyps)) t)) None) ∙ by (matched 0 a.concl (stays_of (set.items a.hyps)) t) alike_found parts.1
+    like_is = (λ i. cond (conditions.0 i) (option_map (λ j. sequent_of a.hyps (instantiated j 0 a.concl)) (matched 0 a.concl (stays_of (set.items a.hyps)) t)) None) ∙ by (matched 0 a.concl (stays_of (set.items a.hyps)) t) alike_found conditions.1
       where
         alike_found : AreAlike (matched 0 a.concl (stays_of (set.items a.hyps)) t) (Some (both (stays_of (map (nameless []) ps)) f))
         alike_found = subst (λ (o : Option InstanceValue). AreAlike (matched 0 a.concl (stays_of (set.items a.hyps)) t) o) found alike
@@ -77,7 +87,7 @@ module _ (basis : Items) (a : Sequent) (t : Nameless) (ps : List Named) (is : hy
 
     stands : Stands basis f
     stands =
-        found_stands basis 0 a.concl (stays_of (map (nameless []) ps)) t f (known_typed basis t bool_type (has_type_is basis t bool_type parts.0)).0 found
+        found_stands basis 0 a.concl (stays_of (map (nameless []) ps)) t f (known_typed basis t bool_type (has_type_is basis t bool_type tests.0)).0 found
 
     types_is : inst_type_of basis f.types a ≡ Some (sequent_of a.hyps (types_inst f.types a.concl))
     types_is =
@@ -113,6 +123,9 @@ module _ (basis : Items) (a : Sequent) (t : Nameless) (ps : List Named) (is : hy
 
 -- the program's conclusion, hypotheses and pairs are these
 module _ (th : Theorem) (t concl : Nameless) (ps : List Named) (is : hyps_of ps ≡ th.sequent.hyps) (same : concl ≡ th.sequent.concl) (some : IsSome (over th.basis (instance_like th.basis t th.sequent))) where
+  pub apart_there : is_apart (map (nameless []) ps) concl ≡ true
+  apart_there = ap (is_apart (map (nameless []) ps)) same ∙ own_apart th.basis th.sequent t ps is some
+
   pub found_there : matched 0 concl (stays_of (map (nameless []) ps)) t ≡ None → ⊥
   found_there e = is_found th.basis th.sequent t ps is some (ap (λ n. matched 0 n (stays_of (map (nameless []) ps)) t) (sym same) ∙ e)
 

@@ -33,7 +33,7 @@ use Rattle.hol_just.proofs.Validity.{valid_at, valid_under}
 
 -- ---- variables that are bound are not free
 
-closed_keeps : (v u : List ℕ × TypeTree) (k : ℕ) (n : Nameless) → binds (free_occurrences n) u ≡ false → binds (free_occurrences (close v k n)) u ≡ false
+pub closed_keeps : (v u : List ℕ × TypeTree) (k : ℕ) (n : Nameless) → binds (free_occurrences n) u ≡ false → binds (free_occurrences (close v k n)) u ≡ false
 closed_keeps v u k (free w) h = by (variable_eq v w)
   where
     by : (b : Bool) → binds (free_occurrences (cond b (bound k) (free w))) u ≡ false

@@ -36,11 +36,11 @@ module _ (a : InstanceValue) (hs : Hyps) (ps : List Named) (is : hyps_of ps ≡ 
 
 -- ---- in whatever order they are listed
 
-types_said : (a : InstanceValue) (names : List (List ℕ)) → ((x : List ℕ) → is_among names x ≡ true → type_for a.types x ≡ TyVar x) → GivesTypes a (map (λ b. (TyVar b, b)) names)
+pub types_said : (a : InstanceValue) (names : List (List ℕ)) → ((x : List ℕ) → is_among names x ≡ true → type_for a.types x ≡ TyVar x) → GivesTypes a (map (λ b. (TyVar b, b)) names)
 types_said a [] h = tt
 types_said a (b ∷ names) h = (h b (or_left (bytes_eq b b) (is_among names b) ((bytes_eq-Decides b b).1 refl)), types_said a names (λ x e. h x (or_right (bytes_eq x b) (is_among names x) e)))
 
-terms_said : (a : InstanceValue) (vs : List (List ℕ × TypeTree)) → ((v : List ℕ × TypeTree) → binds vs v ≡ true → term_for a.terms v ≡ free v) → GivesTerms a (map (λ w. (free w, w)) vs)
+pub terms_said : (a : InstanceValue) (vs : List (List ℕ × TypeTree)) → ((v : List ℕ × TypeTree) → binds vs v ≡ true → term_for a.terms v ≡ free v) → GivesTerms a (map (λ w. (free w, w)) vs)
 terms_said a [] h = tt
 terms_said a (w ∷ vs) h = (ap strip (h w (or_left (variable_eq w w) (binds vs w) (eq_same w))), terms_said a vs (λ v e. h v (or_right (variable_eq w v) (binds vs v) e)))
 

@@ -1,8 +1,9 @@
 -- The justification by an instance of what stands under a theorem's outer quantifiers.
-use Rattle.std.specs.Prelude.{◌≡◌, cond, List, [], Option, Some, None, refl}
+use Rattle.std.specs.Prelude.{◌≡◌, true, cond, List, [], Option, Some, None, refl}
 use Rattle.std.specs.Option.{option_map, option_and_then}
 use Rattle.std.specs.FinSet as set
 use Rattle.std.proofs.Common.{ap, ◌∙◌, subst}
+use Rattle.std.proofs.lemmas.Bool.{and_from}
 use Rattle.hol_terms.specs.Named.{Named}
 use Rattle.hol_terms.specs.Nameless.{Nameless, nameless}
 use Rattle.hol_terms.specs.Alpha.{strip}
@@ -10,12 +11,13 @@ use Rattle.hol_formulas.specs.Equation.{bool_type}
 use Rattle.hol_kernel.specs.Items.{Items}
 use Rattle.hol_kernel.specs.Sequent.{Hyps, sequent_of}
 use Rattle.hol_kernel.specs.Given.{Given, given_sequent}
-use Rattle.hol_kernel.specs.Typing.{HasType}
+use Rattle.hol_kernel.specs.Typing.{has_type, HasType}
 use Rattle.hol_kernel.proofs.Declared.{has_type_of}
 use Rattle.hol_match.specs.Instance.{InstanceValue, instantiated}
 use Rattle.hol_match.specs.Fixed.{fixed_names, fixed_variables, stays_of}
 use Rattle.hol_match.specs.Matches.{IsMatch}
 use Rattle.hol_match.specs.Matching.{matched}
+use Rattle.hol_match.specs.Patterns.{is_apart}
 use Rattle.hol_match.proofs.MatchLaws.{Tells, Makes, matched_tells}
 use Rattle.hol_match.proofs.Holding.{Holds, HoldsIn, matched_holds, holding_says, holding_typed}
 use Rattle.hol_match.proofs.Staying.{none_is_missing, own_terms_hold, own_types_hold}
@@ -45,15 +47,15 @@ pub record IsLike (basis : Items) (hs : Hyps) (b t : Nameless) : Type 0 where
   pub is : instance_like basis t (sequent_of hs b) ≡ Some (sequent_of hs (instantiated instance 0 b))
   pub like : strip (instantiated instance 0 b) ≡ strip t
 
-like_found : (basis : Items) (hs : Hyps) (b t : Nameless) (i : InstanceValue) → HasType basis t bool_type → IsMatch (stays_of (set.items hs)) b t i → IsLike basis hs b t
-like_found basis hs b t i typed m = by (matched 0 b (stays_of (set.items hs)) t) refl
+like_found : (basis : Items) (hs : Hyps) (b t : Nameless) (i : InstanceValue) → HasType basis t bool_type → is_apart (set.items hs) b ≡ true → IsMatch (stays_of (set.items hs)) b t i → IsLike basis hs b t
+like_found basis hs b t i typed apart m = by (matched 0 b (stays_of (set.items hs)) t) refl
   where
     by : (o : Option InstanceValue) → matched 0 b (stays_of (set.items hs)) t ≡ o → IsLike basis hs b t
     by None e = absurd (none_is_missing (set.items hs) b t e i m)
     by (Some f) e = record {
       instance = f;
       is =
-          ap (λ c. cond c (option_map (λ j. sequent_of hs (instantiated j 0 b)) (matched 0 b (stays_of (set.items hs)) t)) None) (has_type_of basis t bool_type typed)
+          ap (λ c. cond c (option_map (λ j. sequent_of hs (instantiated j 0 b)) (matched 0 b (stays_of (set.items hs)) t)) None) (and_from (has_type basis t bool_type) (is_apart (set.items hs) b) (has_type_of basis t bool_type typed) apart)
           ∙ ap (option_map (λ j. sequent_of hs (instantiated j 0 b))) e;
       like = found_makes (set.items hs) b t f e;
     }
@@ -67,13 +69,13 @@ instance_closes th formula t extra assumptions b under found allowed =
     let hs = (given_sequent th).hyps in
     let vs = bound_variables formula in
     let premise = holds_premise basis th suit in
-    let like = like_found basis hs b (nameless [] t) found.0 typed.conclusion found.1 in
+    let like = like_found basis hs b (nameless [] t) found.0 typed.conclusion under.apart found.1 in
     let rule = option_and_then (matching basis vs (nameless [] t)) (premise_of basis th) in
     record {
       typed = tt;
       fits = premise.1;
       justifies = by_none extra (goal_at assumptions (nameless [] t)) rule
           (answer_by extra rule (sequent_of hs (instantiated like.instance 0 b)) (goal_at assumptions (nameless [] t))
-          (ap (option_and_then (matching basis vs (nameless [] t))) premise.0 ∙ ap (option_and_then (instance_like basis (nameless [] t))) (under basis suit).0 ∙ like.is)
+          (ap (option_and_then (matching basis vs (nameless [] t))) premise.0 ∙ ap (option_and_then (instance_like basis (nameless [] t))) (under.gives basis suit).0 ∙ like.is)
           (record { concludes = like.like; allowed = allowed }));
     })

@@ -1,22 +1,60 @@
 -- A theorem's outer quantifiers taken off: SPEC at the variables gives what stands under them.
-use Rattle.std.specs.Prelude.{◌≡◌, ℕ, zero, suc, cond, List, ◌∷◌, codes, Option, Some, None, refl}
+use Rattle.std.specs.Prelude.{◌≡◌, ℕ, zero, suc, ◌<◌, ◌≤◌, cond, List, ◌∷◌, codes, Option, Some, None, refl}
 use Rattle.std.specs.Option.{option_and_then}
-use Rattle.std.proofs.Common.{ap, ◌∙◌, subst}
+use Rattle.std.proofs.Common.{ap, ◌∙◌, subst, arith}
 use Rattle.hol_types.specs.Tree.{TypeTree}
 use Rattle.hol_terms.specs.Nameless.{Nameless, free}
 use Rattle.hol_subst.specs.Closing.{open_with}
 use Rattle.hol_formulas.specs.Equation.{bool_type}
-use Rattle.hol_formulas.specs.Formula.{Abstraction, dest_forall}
+use Rattle.hol_formulas.specs.Formula.{Abstraction, universal, dest_forall}
 use Rattle.hol_formulas.proofs.FormulaLaws.{dest_quantifier_is}
 use Rattle.hol_kernel.specs.Items.{Items}
 use Rattle.hol_kernel.specs.Sequent.{Hyps, sequent_of}
 use Rattle.hol_kernel.specs.Typing.{has_type, HasType}
 use Rattle.hol_kernel.proofs.Declared.{has_type_of}
 use Rattle.hol_kernel.proofs.Variables.{variable_typed}
-use Rattle.hol_match.specs.Rules.{apart}
+use Rattle.hol_match.specs.Rules.{apart, nodes}
+use Rattle.hol_match.proofs.Opened.{nodes_opened}
 use Rattle.hol_just.specs.Matching.{specialized}
-use Rattle.hol_just.specs.MatchMp.{OpenedValue, under, opened_at, opened_in}
+use Rattle.hol_just.specs.MatchMp.{OpenedValue, under, opened_at, opened_in, opened}
+use Rattle.hol_just.specs.Openings.{OpeningGoesByQuantifiers}
 use Rattle.hol_just.proofs.Typings.{property_typed, opened_typed}
+use Rattle.hol_just.proofs.Pieces.{some_node}
+
+-- ---- no more steps are needed than there are nodes
+
+pub fewer : (body : Nameless) (x : Abstraction) (v : List ℕ × TypeTree) → dest_forall body ≡ Some x → nodes (open_with (free v) 0 x.body) < nodes body
+fewer body x v e =
+    let is : body ≡ universal x = dest_quantifier_is (codes "!") body x e in
+    let same : nodes body ≡ nodes (universal x) = ap nodes is in
+    let opened : nodes (open_with (free v) 0 x.body) ≡ nodes x.body = nodes_opened v 0 x.body in
+    omega (arith, same, opened)
+
+enough : (n m : ℕ) (avoid : List Nameless) (p : Nameless) → nodes p ≤ n → nodes p ≤ m → opened_in n avoid p ≡ opened_in m avoid p
+enough zero m avoid p l k = let one = some_node p in absurd (omega (arith, l, one))
+enough (suc n) zero avoid p l k = let one = some_node p in absurd (omega (arith, k, one))
+enough (suc n) (suc m) avoid p l k = by (dest_forall p) refl (λ more q. enough n m more q)
+  where
+    by :
+        (o : Option Abstraction) → dest_forall p ≡ o → ((more : List Nameless) (q : Nameless) → nodes q ≤ n → nodes q ≤ m → opened_in n more q ≡ opened_in m more q) →
+        opened_at (opened_in n) avoid p o ≡ opened_at (opened_in m) avoid p o
+    by None e on = refl
+    by (Some x) e on =
+        let v = apart avoid x in
+        let less = fewer p x v e in
+        ap (under v) (on (free v ∷ avoid) (open_with (free v) 0 x.body) (omega (arith, less, l)) (omega (arith, less, k)))
+
+pub go_by_quantifiers : OpeningGoesByQuantifiers
+go_by_quantifiers avoid p = enough (nodes p) (suc (nodes p)) avoid p (omega arith) (omega arith) ∙ by (dest_forall p) refl
+  where
+    by : (o : Option Abstraction) → dest_forall p ≡ o → opened_at (opened_in (nodes p)) avoid p o ≡ opened_at opened avoid p o
+    by None e = refl
+    by (Some x) e =
+        let v = apart avoid x in
+        let less = fewer p x v e in
+        ap (under v) (enough (nodes p) (nodes (open_with (free v) 0 x.body)) (free v ∷ avoid) (open_with (free v) 0 x.body) (omega (arith, less)) (omega arith))
+
+-- ---- SPEC at the variables
 
 module _ (basis : Items) (hs : Hyps) where
   -- SPEC at the variables gives the body, which is a formula

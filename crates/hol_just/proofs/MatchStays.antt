@@ -69,12 +69,12 @@ variable_more vs w v = by (binds vs w) refl
     by true q = or_there (binds vs v) (variable_eq w v) (λ e. ap (binds vs) (sym ((variable_eq_decides w v).0 e)) ∙ q)
     by false q = binds_append vs (w ∷ []) v ∙ ap (λ c. binds vs v || c) (or-false (variable_eq w v))
 
-variables_more : (vs ws : List (List ℕ × TypeTree)) (v : List ℕ × TypeTree) → binds (add_all vs ws) v ≡ (binds vs v || binds ws v)
+pub variables_more : (vs ws : List (List ℕ × TypeTree)) (v : List ℕ × TypeTree) → binds (add_all vs ws) v ≡ (binds vs v || binds ws v)
 variables_more vs [] v = sym (or-false (binds vs v))
 variables_more vs (w ∷ ws) v = variables_more (add_new vs w) ws v ∙ ap (λ c. c || binds ws v) (variable_more vs w v) ∙ or_assoc (binds vs v) (variable_eq w v) (binds ws v)
 
 -- the variable is free in the term
-abbrev has_variable : List ℕ × TypeTree → Nameless → Bool
+abbrev pub has_variable : List ℕ × TypeTree → Nameless → Bool
 has_variable v n = binds (free_occurrences n) v
 
 all_variables : (vs : List (List ℕ × TypeTree)) (ns : List Nameless) (v : List ℕ × TypeTree) → binds (fixed_variables vs ns) v ≡ (binds vs v || list_any (has_variable v) ns)
@@ -85,7 +85,7 @@ all_variables vs (n ∷ ns) v =
     ∙ or_assoc (binds vs v) (has_variable v n) (list_any (has_variable v) ns)
 
 -- a variable stays where it is free in one of the terms
-variables_that_stay : (ns : List Nameless) (v : List ℕ × TypeTree) → binds (fixed_variables [] ns) v ≡ list_any (has_variable v) ns
+pub variables_that_stay : (ns : List Nameless) (v : List ℕ × TypeTree) → binds (fixed_variables [] ns) v ≡ list_any (has_variable v) ns
 variables_that_stay ns v = all_variables [] ns v
 
 -- ---- of hypotheses

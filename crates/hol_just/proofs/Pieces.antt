@@ -19,6 +19,7 @@ use Rattle.hol_just.specs.Leaving.{concluding, assuming, goal_terms, theorem_ter
 use Rattle.hol_just.specs.ConnectiveTacs.{conj_tac}
 use Rattle.hol_just.specs.QuantifierTacs.{gen_tac}
 use Rattle.hol_just.specs.Strip.{Piece, Conjuncts, Disjuncts, Property, Closing, Dropped, Kept, plain_piece, piece, WaitingValue, waiting, new_variable, becomes, Stripped, Leaves, RunsOut, before_goals, and_also, strip_each, strip_parts, strip_in, all_nodes, strip, strip_assume_tac, antecedent, strip_tac, stripped}
+use Rattle.hol_just.specs.Weights.{weight, all_weights}
 
 -- ---- which piece is which
 
@@ -73,15 +74,6 @@ some_node (lam a s b) = omega arith
 abbrev pub parts_of : Option (List WaitingValue × ℕ) → List WaitingValue
 parts_of None = []
 parts_of (Some r) = r.0
-
--- 2 to this power
-abbrev pub weight : ℕ → ℕ
-weight zero = 1
-weight (suc n) = weight n + weight n
-
-abbrev pub all_weights : List WaitingValue → ℕ
-all_weights [] = 0
-all_weights (w ∷ ws) = weight (all_nodes w.pieces) + all_weights ws
 
 weighs : (n : ℕ) → 1 ≤ weight n
 weighs zero = omega arith

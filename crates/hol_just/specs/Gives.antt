@@ -1,4 +1,5 @@
--- What a justification gives for sequents of the goals that are left (LNCS 78, Edinburgh LCF: the validation of a tactic).
+-- What a justification gives for sequents of the goals that are left (LNCS 78, Edinburgh LCF: the validation of a tactic). It speaks of the program's justifications, whose traces meet
+-- their invariant: of a trace it takes the equation of its terms, without looking at how one became the other.
 use Rattle.std.specs.Prelude.{ℕ, zero, suc, ◌+◌, List, [], ◌∷◌, map, Option, Some, None}
 use Rattle.std.specs.Option.{option_map}
 use Rattle.hol_kernel.specs.Items.{Items}

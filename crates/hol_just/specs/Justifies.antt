@@ -24,6 +24,7 @@ use Rattle.hol_match.specs.Givens.{all_hold, all_hyps}
 use Rattle.hol_match.specs.Instance.{InstanceValue}
 use Rattle.hol_match.specs.Fixed.{stays_of}
 use Rattle.hol_match.specs.Matches.{IsMatch}
+use Rattle.hol_match.specs.Patterns.{is_apart}
 use Rattle.hol_conv.specs.Traces.{TraceValue}
 use Rattle.hol_just.specs.Matching.{specialized}
 use Rattle.hol_just.specs.MatchMp.{existentials}
@@ -229,10 +230,10 @@ LeavesConverted t moves =
 
 -- ---- instances
 
--- b is what stands under the outer quantifiers of the theorem, whose variables are these
-abbrev pub StandsUnder : Given → List (List ℕ × TypeTree) → Nameless → Type 0
-StandsUnder th vs b =
-    (basis : Items) → IsTrue (holds_given th basis) → (specialized basis vs (given_sequent th) ≡ Some (sequent_of (given_sequent th).hyps b)) × HasType basis b bool_type
+-- b is what stands under the outer quantifiers of the theorem, whose variables are these and apart
+pub record StandsUnder (th : Given) (vs : List (List ℕ × TypeTree)) (b : Nameless) : Type 0 where
+  pub apart : IsTrue (is_apart (set.items (given_sequent th).hyps) b)
+  pub gives : (basis : Items) → IsTrue (holds_given th basis) → (specialized basis vs (given_sequent th) ≡ Some (sequent_of (given_sequent th).hyps b)) × HasType basis b bool_type
 
 -- there is an instance of b that is t, and leaves what the theorem's hypotheses have
 abbrev pub HasInstance : Given → Nameless → Nameless → Type 0

@@ -13,8 +13,10 @@ pub mod EquationTacs
 pub mod ConnectiveTacs
 pub mod QuantifierTacs
 pub mod Strip
+pub mod Weights
 pub mod ConversionTacs
 pub mod MatchMp
+pub mod Openings
 pub mod Tac
 pub mod Answering
 pub mod TraceTypes

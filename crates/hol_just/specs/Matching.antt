@@ -1,5 +1,5 @@
 -- An instance of what stands under a theorem's outer quantifiers (HOL Light's PART_MATCH, of the whole).
-use Rattle.std.specs.Prelude.{ℕ, List, [], ◌∷◌, codes, cond, Option, Some, None}
+use Rattle.std.specs.Prelude.{ℕ, List, [], ◌∷◌, codes, cond, ◌&&◌, Option, Some, None}
 use Rattle.std.specs.Option.{option_map, option_and_then}
 use Rattle.std.specs.FinSet as set
 use Rattle.hol_types.specs.Tree.{TypeTree}
@@ -14,6 +14,7 @@ use Rattle.hol_bool.specs.Rules.{spec_of}
 use Rattle.hol_match.specs.Instance.{instantiated}
 use Rattle.hol_match.specs.Fixed.{stays_of}
 use Rattle.hol_match.specs.Matching.{matched}
+use Rattle.hol_match.specs.Patterns.{is_apart}
 
 -- the variables that the outer quantifiers of a formula bind, the outermost first
 abbrev mutual
@@ -34,10 +35,11 @@ abbrev pub specialized : Items → List (List ℕ × TypeTree) → Sequent → O
 specialized basis [] a = Some a
 specialized basis (v ∷ vs) a = option_and_then (specialized basis vs) (spec_of basis (free v) a)
 
--- The instance of a sequent that a match of its conclusion with t gives (INST_TYPE and INST), for a formula t. What its hypotheses have stays, so that they stay.
+-- The instance of a sequent that a match of its conclusion with t gives (INST_TYPE and INST), for a formula t and a conclusion whose variables are apart. What its hypotheses have
+-- stays, so that they stay.
 abbrev pub instance_like : Items → Nameless → Sequent → Option Sequent
 instance_like basis t a =
-    cond (has_type basis t bool_type) (option_map (λ i. sequent_of a.hyps (instantiated i 0 a.concl)) (matched 0 a.concl (stays_of (set.items a.hyps)) t)) None
+    cond (has_type basis t bool_type && is_apart (set.items a.hyps) a.concl) (option_map (λ i. sequent_of a.hyps (instantiated i 0 a.concl)) (matched 0 a.concl (stays_of (set.items a.hyps)) t)) None
 
 -- the same of what stands under outer quantifiers, which are taken off by SPEC at the variables
 abbrev pub matching : Items → List (List ℕ × TypeTree) → Nameless → Sequent → Option Sequent

@@ -51,7 +51,8 @@ abbrev pub expanded_by : Option Theorem → Sequent → Option Sequent
 expanded_by None a = None
 expanded_by (Some th) a = option_and_then (λ s. eq_mp_of s a) (sym_of th.sequent)
 
--- the term that was rewritten, from what it became
+-- The term that was rewritten, from what it became. A trace is said by its terms and what was used for it: that rewriting leads from one term to the other by that is the invariant of
+-- the program's traces, and every reason of the program holds one of those.
 abbrev pub converted_back : Items → TraceValue → Sequent → Option Sequent
 converted_back basis t a = expanded_by (trace_equation basis t) a
 

@@ -6,6 +6,7 @@ ghost use Rattle.hol_kernel.specs.Items.{Items};
 ghost use Rattle.hol_kernel.specs.Sequent.{Hyps, only_hyp};
 ghost use Rattle.hol_goal.specs.Goal.{GoalValue};
 ghost use Rattle.hol_just.specs.Gives.{moved};
+ghost use Rattle.hol_just.specs.Openings.{OpeningGoesByQuantifiers};
 ghost use Rattle.hol_just.specs.Justifies.{goal_at};
 ghost use Rattle.hol_just.specs.Strip.{piece, waiting, becomes, Leaves, strip_parts, strip};
 ghost use Rattle.hol_just.specs.Valid.{IsValid};
@@ -42,6 +43,13 @@ pub fn valid_from_assumption()
 /// Validity has one proof at most, so that what is kept beside a function may say it.
 pub fn validity_is_a_proposition()
     ensures { (suits : Items → Bool) (extra : Hyps) (moves : List Move) (before after : List GoalValue) → IsProp (IsValid suits extra moves before after) }
+{}
+
+/// Outer quantifiers are taken off one after the other: under the first one's variable, what is left is opened in the same way, so that the number of steps that the definition counts is
+/// always enough.
+#[tactic(auto, using(crate::proofs::MatchOpened::go_by_quantifiers))]
+pub fn opening_goes_by_quantifiers()
+    ensures { OpeningGoesByQuantifiers }
 {}
 
 /// Stripping goes by pieces: what is left of pieces is what is left of what the first one becomes, and turns run out where none is left to pay for that. So the number of steps that the

@@ -1,6 +1,7 @@
 -- The name with the fewest primes that is not taken is the one that is searched for: no more primes are needed than names occur.
-use Rattle.std.specs.Prelude.{◌≡◌, ℕ, zero, suc, ◌+◌, ◌<◌, ◌≤◌, true, false, cond, List, [], ◌∷◌, ◌++◌, length, codes, refl}
+use Rattle.std.specs.Prelude.{◌≡◌, ℕ, zero, suc, ◌+◌, ◌<◌, ◌≤◌, Bool, true, false, cond, List, [], ◌∷◌, ◌++◌, length, codes, refl}
 use Rattle.std.proofs.Common.{ap, sym, ◌∙◌, inl, inr, arith, length-append}
+use Rattle.std.proofs.Math.Nat.{eq-or-lt_of_le}
 use Rattle.std.proofs.lemmas.Slice.Eq.{bytes_eq-Decides}
 use Rattle.std.proofs.lemmas.Bool.{false_from_ne_true, or_cases}
 use Rattle.hol_terms.specs.Nameless.{Nameless, free, bound, fixed, app, lam}
@@ -89,6 +90,41 @@ few_primes a (suc k) ns each =
     let r = removed (with_primes k a) ns (each k (omega arith)) in
     let h = few_primes a k r.rest (λ j l. r.others (with_primes j a) (apart_primes a j k l) (each j (omega (arith, l)))) in
     omega (arith, h, r.counted)
+
+-- ---- the search finds one
+
+-- with one prime more, where the names with fewer primes are taken
+one_more :
+    (avoid : List Nameless) (base : List ℕ) (j : ℕ) → ((i : ℕ) → i < j → is_taken avoid (with_primes i base) ≡ true) → is_taken avoid (with_primes j base) ≡ true → (i : ℕ) → i < suc j →
+    is_taken avoid (with_primes i base) ≡ true
+one_more avoid base j each h i l =
+    elim (eq-or-lt_of_le {n = i} {m = j} (omega (arith, l))) [
+      | inl e ↦ ap (λ m. is_taken avoid (with_primes m base)) e ∙ h
+      | inr k ↦ each i k
+    ]
+
+search_from :
+    (avoid : List Nameless) (base : List ℕ) (n j : ℕ) → ((i : ℕ) → i < j → is_taken avoid (with_primes i base) ≡ true) → length (all_names avoid) ≤ n + j → IsFreeName avoid base (untaken avoid n (with_primes j base))
+search_from avoid base zero j each few = record {
+  primes = j;
+  is = refl;
+  fresh = λ h.
+      let counted = few_primes base (suc j) (all_names avoid) (λ i l. taken_among (with_primes i base) avoid (one_more avoid base j each h i l)) in
+      absurd (omega (arith, few, counted));
+  least = each;
+}
+search_from avoid base (suc n) j each few = by (is_taken avoid (with_primes j base)) refl (λ h. search_from avoid base n (suc j) (one_more avoid base j each h) (omega (arith, few)))
+  where
+    by :
+        (b : Bool) → is_taken avoid (with_primes j base) ≡ b → (is_taken avoid (with_primes j base) ≡ true → IsFreeName avoid base (untaken avoid n (with_primes (suc j) base))) →
+        IsFreeName avoid base (cond b (untaken avoid n (with_primes j base ++ codes "'")) (with_primes j base))
+    by true h on = on h
+    by false h on = record { primes = j; is = refl; fresh = λ k. absurd (cc); least = each }
+
+pub found_free_name : (avoid : List Nameless) (base : List ℕ) → IsFreeName avoid base (free_name avoid base)
+found_free_name avoid base =
+    let counted = all_counted avoid in
+    search_from avoid base (count_all avoid) 0 (λ i l. absurd (omega (arith, l))) (omega (arith, counted))
 
 -- ---- the search
 

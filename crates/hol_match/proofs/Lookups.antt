@@ -3,7 +3,7 @@ use Rattle.std.proofs.Common.{◌≡◌, ℕ, zero, suc, ◌<◌, ◌≤◌, Lis
 use Rattle.std.specs.Option.{option_and_then}
 use Rattle.std.proofs.lemmas.List.{append_assoc}
 use Rattle.std.proofs.lemmas.Slice.Eq.{bytes_eq-Decides}
-use Rattle.hol_types.specs.Tree.{TypeTree, TyVar, TyApp, type_list, type_size, types_size}
+use Rattle.hol_types.specs.Tree.{TypeTree, TyVar}
 use Rattle.hol_types.specs.Names.{is_among}
 use Rattle.hol_types.specs.Subst.{type_lookup}
 use Rattle.hol_types.specs.Equal.{variable_eq}

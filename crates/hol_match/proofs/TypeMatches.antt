@@ -10,7 +10,7 @@ use Rattle.hol_types.specs.Match.{bound_name, match_type, match_types}
 use Rattle.hol_types.proofs.OrderLaws.{type_cmp_decides}
 use Rattle.hol_match.specs.Matches.{GivesTypes}
 use Rattle.hol_match.specs.Instance.{InstanceValue}
-use Rattle.hol_types.proofs.Lookups.{type_first, type_second}
+use Rattle.hol_types.proofs.Lookups.{type_first}
 use Rattle.hol_types.proofs.MatchLaws.{lookup_after}
 
 abbrev pub Pairs : Type 0

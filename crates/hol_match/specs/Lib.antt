@@ -6,6 +6,7 @@ pub mod Fixed
 pub mod Places
 pub mod FreeNames
 pub mod Rules
+pub mod Patterns
 pub mod RuleLaws
 pub mod RuleView
 pub mod StepCode

@@ -1,6 +1,8 @@
 -- What of a term is seen without its variables and types: where applications, abstractions and constants of which names stand.
-use Rattle.std.specs.Prelude.{◌≡◌, ℕ, zero, suc, max, List, [], ◌∷◌, Bool, true, false, ◌&&◌, ◌||◌, not, bytes_eq}
+use Rattle.std.specs.Prelude.{◌≡◌, ℕ, zero, suc, max, List, [], ◌∷◌, Bool, true, false, ◌&&◌, ◌||◌, not, bytes_eq, nat_lt}
+use Rattle.std.specs.List.{list_any}
 use Rattle.hol_terms.specs.Nameless.{Nameless, free, bound, fixed, app, lam}
+use Rattle.hol_terms.specs.Size.{term_size}
 use Rattle.hol_match.specs.RuleSets.{RuleEntry}
 
 -- the term is a constant of this name
@@ -45,6 +47,10 @@ depth (lam a s b) = 1
 abbrev pub rules_depth : List RuleEntry → ℕ
 rules_depth [] = 1
 rules_depth (e ∷ es) = max (depth e.rule.left) (rules_depth es)
+
+-- one of the left sides has more than 20,000 nodes
+abbrev pub has_large_side : List RuleEntry → Bool
+has_large_side rules = list_any (λ e. nat_lt 20000 (term_size [] e.rule.left)) rules
 
 -- the terms are equal but for what lies so many levels deep, and an abstraction may be any other one
 abbrev pub AreAlike : ℕ → Nameless → Nameless → Type 0

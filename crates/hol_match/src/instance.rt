@@ -101,12 +101,7 @@ impl Instance {
     }
 
     /// Puts a term for a variable at the end.
-    pub(crate) fn add_term(
-        &mut self,
-        alloc: Global,
-        t: &Term,
-        v: &Variable,
-    ) -> Result<(), AllocError>
+    pub fn add_term(&mut self, alloc: Global, t: &Term, v: &Variable) -> Result<(), AllocError>
         requires { named_type t.now ≡ Some v.now.1 }
         ensures { OnOk result (self.new ≡ instance_of self.old.types (self.old.terms ++ (nameless [] t.now, v.now) ∷ [])) }
     {

@@ -1,5 +1,8 @@
 //! Laws of matching.
-ghost use Rattle.std.specs.Prelude.{◌≡◌, Some, None};
+ghost use Rattle.std.specs.Prelude.{◌≡◌, ℕ, List, Some, None};
+ghost use Rattle.hol_terms.specs.Nameless.{Nameless};
+ghost use Rattle.hol_subst.specs.FreeName.{IsFreeName};
+ghost use Rattle.hol_match.specs.FreeNames.{free_name};
 ghost use Rattle.hol_match.specs.Matches.{FoundIsMostGeneral, NoneIsMissing};
 ghost use Rattle.hol_match.specs.RuleLaws.{RulesGoByParts};
 ghost use Rattle.hol_match.specs.Binding.{BindingCommutes};
@@ -15,6 +18,11 @@ pub fn matches_are_most_general()
 #[tactic(auto, using(crate::proofs::RuleLists::go_by_parts))]
 pub fn rules_go_by_parts()
     ensures { RulesGoByParts }
+{}
+
+/// The search for a name ends at the one with the fewest primes that is the name of no free variable and no constant of the terms.
+pub fn free_names_are_new()
+    ensures { (avoid : List Nameless) (base : List ℕ) → IsFreeName avoid base (free_name avoid base) }
 {}
 
 /// Where a variable that is apart from the rules is bound outside, rules make the same of a term as where it is free, up to the binding.

@@ -20,7 +20,7 @@ mod way;
 
 pub use binder::Binder;
 pub use instance::Instance;
-pub use matching::term_match;
+pub use matching::{pattern_variables, term_match};
 pub use rule_set::RuleSet;
 pub use rule_step::RuleStep;
 pub use set_rule::SetRule;

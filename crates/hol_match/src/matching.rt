@@ -1,5 +1,5 @@
 //! First-order matching of terms.
-ghost use Rattle.std.specs.Prelude.{◌≡◌, ◌++◌, ◌∷◌, [], ℕ, false, length, map, IfOk, IfSome, IsNone, MatchOption, if◌then◌else◌, List, Some, None};
+ghost use Rattle.std.specs.Prelude.{◌≡◌, ◌++◌, ◌∷◌, [], ℕ, false, length, map, IfOk, IfSome, IsNone, MatchOption, IsTrue, if◌then◌else◌, List, Some, None};
 ghost use Rattle.std.specs.Option.{option_and_then};
 ghost use Rattle.hol_types.specs.Tree.{TypeTree};
 ghost use Rattle.hol_terms.specs.Named.{comb, abs, var, named_type};
@@ -10,23 +10,39 @@ ghost use Rattle.hol_subst.specs.Substitution.{term_lookup};
 ghost use Rattle.hol_formulas.specs.Equation.{dest_comb};
 ghost use Rattle.hol_formulas.specs.Formula.{dest_abs};
 ghost use Rattle.hol_match.specs.Instance.{both};
-ghost use Rattle.hol_match.specs.Fixed.{stays, stays_of};
+ghost use Rattle.hol_match.specs.Fixed.{stays, stays_of, fixed_variables};
 ghost use Rattle.hol_match.specs.Lowering.{lowered};
 ghost use Rattle.hol_match.specs.Matching.{matched, constant_meets, variable_meets, taken};
 ghost use Rattle.hol_match.specs.Matches.{IsMostGeneral, HasNoMatch};
 ghost use Rattle.hol_match.specs.Places.{has_one_of};
+ghost use Rattle.hol_match.specs.Patterns.{is_apart};
+ghost use Rattle.hol_match.specs.Rules.{pattern_variables};
 
 use crate::fixed::Fixed;
 use crate::instance::{Instance, is_variable};
+use crate::rules;
 use hol_terms::{Scope, Term, TermNode, Variable, same_place};
 use hol_types::{Name, Ty};
 use std::alloc::{AllocError, Global};
+
+/// The free variables of the pattern that none of the terms `fixed` has, each once, in the order in which they occur.
+pub fn pattern_variables(
+    alloc: Global,
+    fixed: &[Term],
+    pattern: &Term,
+) -> Result<Vec<Variable>, AllocError>
+    ensures { IfOk result (λ vs. vs.items ≡ pattern_variables (fixed_variables [] (map (λ t. nameless [] t) fixed.now)) (nameless [] pattern.now)) }
+{
+    let fixed = Fixed::of(alloc, fixed)?;
+    rules::pattern_variables(alloc, &fixed, pattern)
+}
 
 /// The instance of the pattern that is the term up to bound names, and `None` where there is none.
 ///
 /// The type variables and the free variables of the terms `fixed` stay as they are. Each other free variable of the pattern takes the
 /// term at its first place in preorder, no variable of which is bound in the pattern, and is met by an equal one, up to bound names, at
-/// each further place.
+/// each further place. None of these has the name of another free variable of the pattern or of `fixed`, since two such variables could
+/// come to have one type.
 ///
 /// The two are walked together, each node at each place where it stands, up to the first difference.
 #[tactic(auto, using(crate::proofs::Staying::answers))]
@@ -36,6 +52,7 @@ pub fn term_match(
     pattern: &Term,
     t: &Term,
 ) -> Result<Option<Instance>, AllocError>
+    requires apart { IsTrue (is_apart (map (λ t. nameless [] t) fixed.now) (nameless [] pattern.now)) }
     ensures first { IfOk result (λ found. IfSome found (λ a. matched 0 (nameless [] pattern.now) (stays_of (map (λ t. nameless [] t) fixed.now)) (nameless [] t.now) ≡ Some (both (stays_of (map (λ t. nameless [] t) fixed.now)) a))) }
     ensures none { IfOk result (λ found. IsNone found → matched 0 (nameless [] pattern.now) (stays_of (map (λ t. nameless [] t) fixed.now)) (nameless [] t.now) ≡ None) }
     ensures general { IfOk result (λ found. IfSome found (λ a. IsMostGeneral (stays_of (map (λ t. nameless [] t) fixed.now)) (nameless [] pattern.now) (nameless [] t.now) a)) }

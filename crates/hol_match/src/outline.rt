@@ -1,5 +1,6 @@
 //! What of a term is seen without its variables and types.
-ghost use Rattle.std.specs.Prelude.{◌≡◌, [], IfSome};
+ghost use Rattle.std.specs.Prelude.{◌≡◌, ◌≤◌, ◌<◌, [], MatchOption};
+ghost use Rattle.hol_terms.specs.Size.{named_size};
 ghost use Rattle.hol_terms.specs.Nameless.{nameless};
 ghost use Rattle.hol_match.specs.Outlines.{is_named, is_abstraction, is_variable, may_match, depth};
 
@@ -54,20 +55,22 @@ pub(crate) fn is_variable(t: &Term) -> bool
 
 /// How many levels of a term are looked at where this is the pattern; `None` for a pattern of more than 20,000 nodes.
 pub(crate) fn depth(pattern: &Term) -> Option<usize>
-    ensures { IfSome result (λ d. d ≡ depth (nameless [] pattern.now)) }
+    ensures { MatchOption result (20000 < named_size pattern.now) (λ d. (d ≡ depth (nameless [] pattern.now)) × (named_size pattern.now ≤ 20000)) }
 {
     if pattern.size() > 20_000 {
         return None;
     }
-    levels(pattern)
+    Some(levels(pattern))
 }
 
-// The same of a pattern of any size: each node is met at each place where it stands.
-fn levels(pattern: &Term) -> Option<usize>
-    ensures { IfSome result (λ d. d ≡ depth (nameless [] pattern.now)) }
+// The same of such a pattern: each node is met at each place where it stands.
+fn levels(pattern: &Term) -> usize
+    requires { named_size pattern.now ≤ 20000 }
+    ensures levels { result ≡ depth (nameless [] pattern.now) }
+    ensures bounded { result ≤ named_size pattern.now }
 {
     match pattern.node() {
-        TermNode::Comb(p, q) => levels(p)?.max(levels(q)?).checked_add(1),
-        TermNode::Var(_) | TermNode::Const(_, _) | TermNode::Abs(_, _) => Some(1),
+        TermNode::Comb(p, q) => levels(p).max(levels(q)) + 1,
+        TermNode::Var(_) | TermNode::Const(_, _) | TermNode::Abs(_, _) => 1,
     }
 }

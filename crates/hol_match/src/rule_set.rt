@@ -1,5 +1,5 @@
 //! Sets of rules, and the first one that fits a term.
-ghost use Rattle.std.specs.Prelude.{◌≡◌, ◌<◌, ◌++◌, [], map, length, IfOk, IfSome, OnOk, MatchOption, slice_get, Some, None};
+ghost use Rattle.std.specs.Prelude.{◌≡◌, ◌<◌, ◌++◌, [], map, length, IfOk, IfSome, OnOk, MatchOption, is_none, slice_get, Some, None};
 ghost use Rattle.std.specs.List.{AllByRecursion};
 ghost use Rattle.std.specs.List.Sorted.{IsStrictlySortedBy};
 ghost use Rattle.std.specs.Coded.{Coded-set, coded_list};
@@ -18,7 +18,7 @@ ghost use Rattle.hol_match.specs.Ways.{rule_ways};
 ghost use Rattle.hol_match.specs.Sources.{IsFrom};
 ghost use Rattle.hol_match.specs.Fixed.{stays};
 ghost use Rattle.hol_match.specs.Matches.{IsMatch};
-ghost use Rattle.hol_match.specs.Outlines.{rules_depth, rules_pass_over};
+ghost use Rattle.hol_match.specs.Outlines.{rules_depth, has_large_side, rules_pass_over};
 
 use crate::binder::{Binder, binder_apart, rule_variables};
 use crate::instance::Instance;
@@ -99,7 +99,8 @@ impl RuleSet {
     /// How many levels of a term's outline are looked at to see whether the rules pass over it; `None` where a left side has more than
     /// 20,000 nodes.
     pub fn depth(&self) -> Option<usize>
-        ensures { IfSome result (λ d. d ≡ rules_depth (set_rules self.now.rules.items)) }
+        ensures depth { IfSome result (λ d. d ≡ rules_depth (set_rules self.now.rules.items)) }
+        ensures none { is_none result ≡ has_large_side (set_rules self.now.rules.items) }
     {
         rules_depth(&self.rules)
     }
@@ -163,7 +164,8 @@ fn match_of(alloc: Global, rule: &SetRule, t: &Term) -> Result<Option<Instance>,
 // How many levels of a term are looked at for the rules' left sides.
 #[tactic(auto, using(crate::proofs::Outlines::looked_at))]
 fn rules_depth(rules: &[SetRule]) -> Option<usize>
-    ensures { IfSome result (λ d. d ≡ rules_depth (set_rules rules.now)) }
+    ensures depth { IfSome result (λ d. d ≡ rules_depth (set_rules rules.now)) }
+    ensures none { is_none result ≡ has_large_side (set_rules rules.now) }
 {
     let mut most = 1;
     for rule in rules {

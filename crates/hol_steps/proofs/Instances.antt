@@ -54,7 +54,7 @@ kept_typed (Err e) P Q f h = h
 
 -- ---- where a variable is free
 
-free_in_list : (terms : List Named) (v : Variable) → list_any (λ p. binds (free_occurrences (nameless [] p)) v) terms ≡ is_free_in (map (nameless []) terms) v
+pub free_in_list : (terms : List Named) (v : Variable) → list_any (λ p. binds (free_occurrences (nameless [] p)) v) terms ≡ is_free_in (map (nameless []) terms) v
 free_in_list [] v = refl
 free_in_list (p ∷ terms) v = ap (λ b. binds (free_occurrences (nameless [] p)) v || b) (free_in_list terms v)
 

@@ -14,4 +14,6 @@ pub mod GivenAmong
 pub mod ConvertedGoals
 pub mod Stages
 pub mod Undetermined
+pub mod OwnVariables
+pub mod KeptVariables
 pub mod MatchMpLaws

@@ -9,7 +9,8 @@ use Rattle.hol_just.specs.Strip.{piece, WaitingValue, waiting, becomes, Stripped
 use Rattle.hol_just.specs.Valid.{IsValid}
 use Rattle.hol_just.specs.Justifies.{always}
 use Rattle.hol_just.specs.declared.reason.Move.{Move}
-use Rattle.hol_just.proofs.Pieces.{weight, all_weights, parts_of, parts_fewer, is_compound, before_none, before_both, next_parts, next_none}
+use Rattle.hol_just.specs.Weights.{weight, all_weights}
+use Rattle.hol_just.proofs.Pieces.{parts_of, parts_fewer, is_compound, before_none, before_both, next_parts, next_none}
 use Rattle.hol_just.proofs.Validity.{valid_at, valid_under}
 use Rattle.hol_steps.specs.Parts.{with_pieces, AreParts}
 use Rattle.hol_steps.specs.Progress.{ProgressValue, started, with_next, finished, again, comes_to, all_goals, GoesOn}

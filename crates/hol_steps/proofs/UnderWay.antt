@@ -9,7 +9,7 @@ use Rattle.hol_just.specs.Strip.{WaitingValue, Leaves, RunsOut, strip}
 use Rattle.hol_just.specs.Valid.{IsValid}
 use Rattle.hol_just.specs.declared.reason.Move.{Move}
 use Rattle.hol_just.specs.declared.tried.Step.{Step}
-use Rattle.hol_just.proofs.Pieces.{all_weights}
+use Rattle.hol_just.specs.Weights.{all_weights}
 use Rattle.hol_steps.specs.Fresh.{AreAlike, AreApart}
 use Rattle.hol_steps.specs.Parts.{with_pieces}
 use Rattle.hol_steps.specs.Progress.{ProgressValue, started, with_next, comes_to, all_goals, Goes}

@@ -1,9 +1,10 @@
 -- What the code says of variables that are new to terms and to pieces that wait. Only its clauses speak of it.
-use Rattle.std.specs.Prelude.{◌≡◌, ℕ, false, List, [], ◌∷◌, ◌++◌}
+use Rattle.std.specs.Prelude.{◌≡◌, ℕ, true, false, List, [], ◌∷◌, ◌++◌}
 use Rattle.std.specs.FinSet as set
 use Rattle.hol_types.specs.Tree.{TypeTree}
 use Rattle.hol_terms.specs.Named.{Named}
 use Rattle.hol_terms.specs.Nameless.{Nameless, nameless, base_of}
+use Rattle.hol_terms.specs.Scoped.{binds}
 use Rattle.hol_subst.specs.FreeName.{is_taken}
 use Rattle.hol_subst.specs.Variant.{is_free_in}
 use Rattle.hol_formulas.specs.Formula.{Abstraction}
@@ -15,6 +16,14 @@ use Rattle.hol_just.specs.Strip.{WaitingValue}
 -- they have the same names
 abbrev pub AreAlike : List Nameless → List Nameless → Type 0
 AreAlike ns ms = (a : List ℕ) → is_taken ns a ≡ is_taken ms a
+
+-- they have the same names and free variables
+abbrev pub HaveSame : List Nameless → List Nameless → Type 0
+HaveSame ns ms = AreAlike ns ms × ((v : List ℕ × TypeTree) → is_free_in ns v ≡ is_free_in ms v)
+
+-- two of the variables differ in their names
+abbrev pub DifferInNames : List (List ℕ × TypeTree) → Type 0
+DifferInNames vs = (v w : List ℕ × TypeTree) → binds vs v ≡ true → binds vs w ≡ true → v.0 ≡ w.0 → v ≡ w
 
 -- a variable that is not free in the terms is not free in an extra hypothesis
 abbrev pub AreApart : List Nameless → Hyps → Type 0

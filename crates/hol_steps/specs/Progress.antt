@@ -8,7 +8,7 @@ use Rattle.hol_just.specs.Gives.{moved}
 use Rattle.hol_just.specs.Strip.{WaitingValue, Stripped, RunsOut, before_goals, strip_each, strip}
 use Rattle.hol_just.specs.Valid.{IsValid}
 use Rattle.hol_just.specs.declared.reason.Move.{Move}
-use Rattle.hol_just.proofs.Pieces.{all_weights}
+use Rattle.hol_just.specs.Weights.{all_weights}
 use Rattle.hol_steps.specs.Fresh.{AreApart}
 use Rattle.hol_steps.specs.Parts.{with_pieces}
 use Rattle.hol_steps.specs.declared.progress.Progress.{Progress}

@@ -9,6 +9,8 @@ mod choosing;
 mod connectives;
 mod converting;
 mod equations;
+mod generalizing;
+mod keeping;
 mod matching;
 mod opening;
 mod pieces;

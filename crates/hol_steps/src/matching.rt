@@ -1,5 +1,5 @@
 //! The step that matches the conclusion.
-ghost use Rattle.std.specs.Prelude.{◌≡◌, ◌∷◌, ◌++◌, [], map, IfOk, IfSome, OnOk, MatchOption, Some, None};
+ghost use Rattle.std.specs.Prelude.{◌≡◌, ◌∷◌, ◌++◌, [], map, drop, length, IfOk, IfSome, OnOk, IsTrue, MatchOption, Some, None};
 ghost use Rattle.std.specs.Option.{option_map};
 ghost use Rattle.std.specs.FinSet as set;
 ghost use Rattle.hol_terms.specs.Named.{named_type};
@@ -12,22 +12,22 @@ ghost use Rattle.hol_match.specs.Instance.{instantiated};
 ghost use Rattle.hol_match.specs.Fixed.{stays_of};
 ghost use Rattle.hol_match.specs.Matches as matches;
 ghost use Rattle.hol_match.specs.Matching.{matched};
+ghost use Rattle.hol_match.specs.Patterns.{is_apart};
 ghost use Rattle.hol_goal.specs.Arguments.{Theorem};
 ghost use Rattle.hol_just.specs.Leaving.{concluding};
-ghost use Rattle.hol_just.specs.Matching.{bound_variables};
-ghost use Rattle.hol_just.specs.MatchMp.{undetermined, existentials, premise_at, match_mp_tac};
-ghost use Rattle.hol_just.specs.Justifies.{LeavesPremise};
+ghost use Rattle.hol_just.specs.MatchMp.{own_variables, undetermined, left_open, completed, existentials, premise_at, match_mp_tac};
 ghost use Rattle.hol_just.specs.Answering.{IsJustified};
-ghost use Rattle.hol_steps.specs.Matching.{IsFound};
+ghost use Rattle.hol_steps.specs.Matching.{IsFound, LeavesByGeneral};
 
-use crate::choosing::all_terms_by;
+use crate::generalizing::{generalized, opened_apart, universals};
+use crate::keeping::{completed, is_undetermined};
 use crate::opening::Opened;
 use crate::steps::leaving_one;
-use hol_formulas::{dest_imp, mk_exists, mk_forall};
+use hol_formulas::{dest_imp, mk_exists};
 use hol_goal::Goal;
 use hol_just::{Just, Step};
 use hol_kernel::Given;
-use hol_match::{Instance, conclusion_typed, term_match};
+use hol_match::{Instance, conclusion_typed, pattern_variables, term_match};
 use hol_terms::{Term, Variable};
 use std::alloc::{AllocError, Global};
 
@@ -37,15 +37,23 @@ pub fn match_mp_step(alloc: Global, th: &Given, goal: &Goal) -> Result<Option<St
     ensures valid { IfOk result (λ o. IfSome o (λ step. IsJustified (Theorem th.now) goal.now step)) }
 {
     conclusion_typed(th);
-    let opened = Opened::of(alloc, all_terms_by(alloc, th, goal)?, th.concl())?;
+    let own = own_variables(alloc, th)?;
+    let opened = opened_apart(alloc, th, goal, &own)?;
     let Some((s, t)) = dest_imp(&opened.body) else {
         return Ok(None);
     };
     let Some(found) = matching_instance(alloc, th, goal, t)? else {
         return Ok(None);
     };
-    let step = premise_step(alloc, th, goal, &opened, s, t, &found)?;
+    let step = premise_step(alloc, th, goal, &own, &opened, s, t, found)?;
     Ok(Some(step))
+}
+
+// The theorem's own variables that may be instantiated.
+fn own_variables(alloc: Global, th: &Given) -> Result<Vec<Variable>, AllocError>
+    ensures { IfOk result (λ vs. vs.items ≡ own_variables th.now) }
+{
+    pattern_variables(alloc, th.hyps(), th.concl())
 }
 
 // The instance of the term that is the conclusion. What the theorem's hypotheses have stays.
@@ -55,6 +63,7 @@ fn matching_instance(
     goal: &Goal,
     t: &Term,
 ) -> Result<Option<Instance>, AllocError>
+    requires { IsTrue (is_apart (set.items (given_sequent th.now).hyps) (nameless [] t.now)) }
     ensures { IfOk result (λ o. MatchOption o (matched 0 (nameless [] t.now) (stays_of (set.items (given_sequent th.now).hyps)) goal.now.conclusion ≡ None) (λ f. IsFound th.now goal.now (nameless [] t.now) f)) }
 {
     term_match(alloc, th.hyps(), t, goal.conclusion())
@@ -65,25 +74,73 @@ fn premise_step(
     alloc: Global,
     th: &Given,
     goal: &Goal,
+    own: &[Variable],
     opened: &Opened,
     s: &Term,
     t: &Term,
-    found: &Instance,
+    found: Instance,
 ) -> Result<Step, AllocError>
+    requires own { own.now ≡ own_variables th.now }
     requires premise { named_type s.now ≡ Some bool_type }
     requires body { named_type opened.now.body ≡ Some bool_type }
     requires last { dest_forall (nameless [] opened.now.body) ≡ None }
-    requires instance { matches.IsWellTyped found.now }
-    ensures goals { IfOk result (λ step. step.goals.items ≡ concluding goal.now (premise_at opened.now.variables.items (nameless [] s.now, nameless [] t.now) found.now) ∷ []) }
-    ensures just { IfOk result (λ step. LeavesPremise th.now opened.now.variables.items (map (variable_inst found.now.types) (undetermined (nameless [] s.now) (nameless [] t.now) opened.now.variables.items)) (instantiated found.now 0 (nameless [] s.now)) goal.now.conclusion step.just) }
+    requires instance { matches.IsWellTyped found }
+    ensures goals { IfOk result (λ step. step.goals.items ≡ concluding goal.now (premise_at (set.items (given_sequent th.now).hyps) own.now opened.now.variables.items (nameless [] s.now, nameless [] t.now) found) ∷ []) }
+    ensures just { IfOk result (λ step. LeavesByGeneral th.now opened.now.variables.items (left_open own.now opened.now.variables.items (nameless [] s.now, nameless [] t.now) found) (instantiated (completed (set.items (given_sequent th.now).hyps) own.now opened.now.variables.items (nameless [] s.now, nameless [] t.now) found) 0 (nameless [] s.now)) goal.now.conclusion step.just) }
 {
-    let variables = undetermined(alloc, &opened.variables, s, t, found)?;
-    let formula = universals(alloc, &opened.variables, &opened.body)?;
-    let premise = at_instance(alloc, found, s)?;
-    let whole = existentials(alloc, &variables, &premise)?;
+    let variables = undetermined(alloc, after(own, &opened.variables), s, t, &found)?;
+    let whole = completed(alloc, th, own, &opened.variables, s, t, &variables, found)?;
+    let premise = at_instance(alloc, &whole, s)?;
+    leaving_premise(alloc, th, goal, own, opened, &variables, &premise)
+}
+
+// The step to the premise, for some values of the variables.
+fn leaving_premise(
+    alloc: Global,
+    th: &Given,
+    goal: &Goal,
+    own: &[Variable],
+    opened: &Opened,
+    variables: &[Variable],
+    premise: &Term,
+) -> Result<Step, AllocError>
+    requires own { own.now ≡ own_variables th.now }
+    requires premise { named_type premise.now ≡ Some bool_type }
+    requires body { named_type opened.now.body ≡ Some bool_type }
+    requires last { dest_forall (nameless [] opened.now.body) ≡ None }
+    ensures goals { IfOk result (λ step. step.goals.items ≡ concluding goal.now (existentials variables.now (nameless [] premise.now)) ∷ []) }
+    ensures just { IfOk result (λ step. LeavesByGeneral th.now opened.now.variables.items variables.now (nameless [] premise.now) goal.now.conclusion step.just) }
+{
+    let whole = existentials(alloc, variables, premise)?;
     let left = goal.with_conclusion(alloc, &whole)?;
-    let just = Just::match_mp_tac(alloc, th, &formula, &variables, &premise, goal.conclusion())?;
+    let general = generalized(alloc, th, own)?;
+    conclusion_typed(&general);
+    let formula = universals(alloc, &opened.variables, &opened.body)?;
+    let just = Just::match_mp_tac(
+        alloc,
+        &general,
+        &formula,
+        variables,
+        premise,
+        goal.conclusion(),
+    )?;
     leaving_one(alloc, left, just)
+}
+
+// Those of the variables that come after as many as these.
+fn after<'a>(own: &[Variable], variables: &'a [Variable]) -> &'a [Variable]
+    ensures { result.now ≡ drop (length own.now) variables.now }
+{
+    let mut own = own;
+    let mut rest = variables;
+    'own: while let Some((_, vs)) = own.split_first() {
+        let Some((_, us)) = rest.split_first() else {
+            return rest;
+        };
+        own = vs;
+        rest = us;
+    }
+    rest
 }
 
 // The formula at the instance.
@@ -124,10 +181,7 @@ fn add_undetermined(
 ) -> Result<(), AllocError>
     ensures { OnOk result (rest.new.items ≡ rest.old.items ++ map (variable_inst found.now.types) (undetermined (nameless [] s.now) (nameless [] t.now) (v.now ∷ []))) }
 {
-    if !s.vfree_in(v) {
-        return Ok(());
-    }
-    if t.vfree_in(v) {
+    if !is_undetermined(s, t, v) {
         return Ok(());
     }
     let ty = v.ty().subst(alloc, found.types())?;
@@ -146,20 +200,6 @@ fn existentials(alloc: Global, variables: &[Variable], p: &Term) -> Result<Term,
     let mut left = variables;
     'variables: while let Some((v, outer)) = left.split_last() {
         whole = mk_exists(alloc, v, &whole)?;
-        left = outer;
-    }
-    Ok(whole)
-}
-
-// The formula for all values of the variables.
-fn universals(alloc: Global, variables: &[Variable], p: &Term) -> Result<Term, AllocError>
-    requires { named_type p.now ≡ Some bool_type }
-    ensures { IfOk result (λ r. bound_variables r ≡ variables.now ++ bound_variables p.now) }
-{
-    let mut whole = p.copy()?;
-    let mut left = variables;
-    'variables: while let Some((v, outer)) = left.split_last() {
-        whole = mk_forall(alloc, v, &whole)?;
         left = outer;
     }
     Ok(whole)

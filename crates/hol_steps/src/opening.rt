@@ -1,15 +1,15 @@
 //! A theorem's outer quantifiers taken off.
-ghost use Rattle.std.specs.Prelude.{◌≡◌, ℕ, true, false, List, [], map, IfOk, Some, None};
+ghost use Rattle.std.specs.Prelude.{◌≡◌, ◌||◌, ℕ, true, false, List, [], map, IfOk, Some, None};
 ghost use Rattle.hol_types.specs.Tree.{TypeTree};
 ghost use Rattle.hol_terms.specs.Named.{named_type};
-ghost use Rattle.hol_terms.specs.Nameless.{Nameless, nameless, base_of};
+ghost use Rattle.hol_terms.specs.Nameless.{Nameless, nameless, base_of, free_occurrences};
 ghost use Rattle.hol_terms.specs.Scoped.{binds};
 ghost use Rattle.hol_subst.specs.FreeName.{is_taken};
 ghost use Rattle.hol_formulas.specs.Equation.{bool_type};
 ghost use Rattle.hol_formulas.specs.Formula.{dest_forall};
 ghost use Rattle.hol_just.specs.FreeNames.{free_name};
 ghost use Rattle.hol_just.specs.MatchMp.{opened};
-ghost use Rattle.hol_steps.specs.Fresh.{AreAlike};
+ghost use Rattle.hol_steps.specs.Fresh.{AreAlike, DifferInNames};
 
 use crate::quantifiers::at;
 use hol_formulas::{dest_forall, occurrence};
@@ -32,6 +32,8 @@ impl Opened {
         requires { named_type p.now ≡ Some bool_type }
         ensures opened { IfOk result (λ o. (names : List Nameless) → AreAlike (map (nameless []) avoid.items) names → opened names (nameless [] p.now) ≡ record { variables = o.variables.items; body = nameless [] o.body }) }
         ensures apart { IfOk result (λ o. (v : List ℕ × TypeTree) → binds o.variables.items v ≡ true → is_taken (map (nameless []) avoid.items) v.0 ≡ false) }
+        ensures different { IfOk result (λ o. DifferInNames o.variables.items) }
+        ensures free { IfOk result (λ o. (v : List ℕ × TypeTree) → binds (free_occurrences (nameless [] o.body)) v ≡ true → (binds o.variables.items v || binds (free_occurrences (nameless [] p.now)) v) ≡ true) }
         ensures typed { IfOk result (λ o. named_type o.body ≡ Some bool_type) }
         ensures last { IfOk result (λ o. dest_forall (nameless [] o.body) ≡ None) }
     {

@@ -9,7 +9,8 @@ use hol_just::{TacFault, Tried};
 use hol_steps::match_mp_step;
 use std::alloc::Global;
 
-/// MATCH_MP_TAC leaves what `s` is where `t` is the conclusion, by a theorem `!xs. s ==> t`: that it holds for some values of those of the xs that `t` lacks.
+/// MATCH_MP_TAC leaves what `s` is where `t` is the conclusion, by a theorem `!xs. s ==> t`: that it holds for some values of those of the xs that `t` lacks. Variables that are
+/// free in the theorem are matched too, unless a hypothesis has them, and stay where `t` lacks them.
 pub fn match_mp_tac(
     alloc: Global,
     args: &TacArgs,

@@ -11,8 +11,13 @@ use Rattle.hol_match.specs.Matching.{matched}
 use Rattle.hol_just.proofs.Applied.{gave, made_or_short}
 use Rattle.hol_just.proofs.Expanding.{ok_after}
 use Rattle.hol_just.specs.Matching.{instance_like}
-use Rattle.hol_just.proofs.MatchApplied.{found_there, inst_type_applies, inst_applies, inst_gives}
+use Rattle.hol_just.proofs.MatchApplied.{apart_there, found_there, inst_type_applies, inst_applies, inst_gives}
 use Rattle.hol_just.proofs.matching_steps.instance_like.Goals as goal
+
+pub term_match-requires : goal.term_match-requires
+term_match-requires c = record {
+  apart = apart_there c.args.th.now (nameless [] c.args.t.now) (nameless [] c.concl.result.now) c.hyps.result.now c.hyps.ensures.set c.concl.ensures.concl c.requires;
+}
 
 pub unreachable-requires : goal.unreachable-requires
 unreachable-requires c =

@@ -1,6 +1,6 @@
 use Rattle.std.proofs.Common.{[], map}
 use Rattle.hol_terms.specs.Nameless.{nameless}
-use Rattle.hol_just.proofs.Pieces.{all_weights}
+use Rattle.hol_just.specs.Weights.{all_weights}
 use Rattle.hol_steps.specs.Progress.{progress_value}
 use Rattle.hol_steps.proofs.UnderWay.{IsUnderWay}
 use Rattle.hol_steps.proofs.stripping.strip.Given as goal

@@ -3,8 +3,8 @@ use Rattle.hol_terms.specs.Named.{var, named_type}
 use Rattle.hol_terms.specs.Nameless.{Nameless, nameless}
 use Rattle.hol_formulas.specs.Equation.{bool_type}
 use Rattle.hol_match.specs.Rules.{nodes}
-use Rattle.hol_steps.specs.Fresh.{AreAlike}
-use Rattle.hol_steps.proofs.Stages.{IsStage, AreApart}
+use Rattle.hol_steps.specs.Fresh.{AreAlike, DifferInNames}
+use Rattle.hol_steps.proofs.Stages.{IsStage, AreApart, IsWithin}
 use Rattle.hol_steps.proofs.opening.Opened.of.Given as goal
 
 abbrev pub invariant-binders : goal.invariant-binders
@@ -12,6 +12,8 @@ invariant-binders l = record {
   stage : (names : List Nameless) → AreAlike (map (nameless []) l.fn.avoid.items) names → IsStage names (map (nameless []) l.avoid.items) l.variables.items (nameless [] l.p) (nameless [] l.body);
   longer : l.avoid.items ≡ l.fn.avoid.items ++ map var l.variables.items;
   apart : AreApart (map (nameless []) l.fn.avoid.items) l.variables.items;
+  different : DifferInNames l.variables.items;
+  within : IsWithin l.variables.items (nameless [] l.p) (nameless [] l.body);
   typed : named_type l.body ≡ Some bool_type;
 }
 

@@ -1,0 +1,14 @@
+use Rattle.std.proofs.Common.{◌≡◌, ◌++◌, ◌∷◌, [], map, ap, rules}
+use Rattle.hol_terms.specs.Nameless.{nameless}
+use Rattle.hol_just.specs.MatchMp.{own_name}
+use Rattle.hol_steps.proofs.KeptVariables.{terms_longer}
+use Rattle.hol_steps.proofs.keeping.put_own.Goals as goal
+
+pub returns-clause-avoid : goal.returns-clause-avoid
+returns-clause-avoid c =
+    let push : c.push.new.self.items ≡ c.args.avoid.now.items ++ c.in_ok-term.term ∷ [] = search rules in
+    let own : c.in_ok-own.own ≡ own_name (map (nameless []) c.args.avoid.now.items) (c.args.v.now.0, c.args.ty.now) = search rules in
+    terms_longer c.args.avoid.now.items c.push.new.self.items c.in_ok-term.term c.in_ok-own.own (own_name (map (nameless []) c.args.avoid.now.items) (c.args.v.now.0, c.args.ty.now)) push c.in_ok-term.ensures.is own
+
+pub returns-clause-whole : goal.returns-clause-whole
+returns-clause-whole c = ?
