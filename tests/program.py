@@ -1,10 +1,10 @@
 """Runs the built program over input and output that fail, and compares its replies, its line on standard error and its status.
 
 What is wanted comes from docs/PROTOCOL.md: replies to the whole lines that were read, the first byte that isn't taken is the last one tried,
-a reply before the next line is read, and the words of the command line."""
+a reply before the next line is read, the words of the command line, and an answer, and not the memory line, to commands of each of many sizes."""
 
 import argparse
-import os
+import json
 import pathlib
 import resource
 import signal
@@ -102,6 +102,49 @@ def replies_in_turn(program):
     yield "the end of input", (0, b"", b""), ended(process)
 
 
+def untypable(place):
+    return f'{{"arg":"{place}","ok":true,"refusal":7,"text":"untypable"}}'
+
+
+def with_binders(count):
+    """A goal of so many bound variables, and how it is shown."""
+    text = "!" + " ".join(f"x{k}" for k in range(count)) + ". x0"
+    return f"g N `{text}`", f'{{"goals":[{{"asl":[],"free":[],"goal":"{text}"}}],"ok":true}}'
+
+
+def in_a_cycle(count):
+    """Each of so many variables is applied to the next one, and the last to the first: the type of each is within itself."""
+    return "g N `" + r" /\ ".join(f"x{k} x{(k + 1) % count}" for k in range(count)) + "`", untypable(4)
+
+
+def doubling(count):
+    """In each equation a variable is twice in the next one, so that its types double."""
+    return r" /\ ".join(rf"x{k} = (\g. g x{k - 1} x{k - 1})" for k in range(1, count + 1))
+
+
+def large_readings():
+    """Readings of over 20,000 nodes, up to 2^300 of them."""
+    for count in (9, 10, 20, 40, 80, 160, 300):
+        for command in ("g N `{}`", "new_axiom N `{}`", "new_definition D `d = ({})`", "e ACCEPT_TAC (ASSUME `{}`)", "e SUBGOAL_THEN `{}` ASSUME_TAC"):
+            yield command.format(doubling(count)), '{"arg":"","ok":true,"refusal":13,"text":"too large"}'
+
+
+def answers(program):
+    """No answer is the memory line where there is memory. Each command stands alone, one of `e` after a `g`."""
+    asked = [*map(with_binders, range(1, 301)), *map(in_a_cycle, range(1, 101)), *large_readings()]
+    lines, wanted = [{"op": "new_theory", "name": "A", "at": 0}, {"op": "insert", "theory": "A", "at": 0, "text": ""}, {"op": "insert", "theory": "A", "at": 1, "text": ""}], []
+    for command, reply in asked:
+        at = int(command.startswith("e "))
+        lines.append({"op": "replace", "theory": "A", "at": 0, "text": "g N `p:bool`" if at else command})
+        lines += [{"op": "replace", "theory": "A", "at": 1, "text": command}, {"op": "report", "theory": "A", "at": at}]
+        wanted.append(reply)
+    sent = "".join(json.dumps(line) + "\n" for line in lines).encode()
+    found = subprocess.run([program], input=sent, capture_output=True, timeout=600).stdout.decode().splitlines()[5::3]
+    yield "the number of answers", len(wanted), len(found)
+    for (command, reply), one in zip(asked, found):
+        yield f"the answer to {command[:60]}", reply, one
+
+
 def words(program):
     good = [(), ("--turns", "4"), ("--turns", "100000"), ("--cache=4096", "--turns", "1"), ("--cache", "1")]
     bad = ["--turns 0", "--turns 100001", "--turns x", "--turns", "--turns 1 --turns 1", "--cache 0", "--cache 4097", "--help", "more"]
@@ -121,7 +164,7 @@ def main():
     given.add_argument("--program", default=str(BUILT))
     program = given.parse_args().program
     passed = failed = 0
-    for group in (failed_reads, failed_writes, replies_in_turn, words):
+    for group in (failed_reads, failed_writes, replies_in_turn, answers, words):
         for name, want, found in group(program):
             passed, failed = passed + (want == found), failed + (want != found)
             if want != found:

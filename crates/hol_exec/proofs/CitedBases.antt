@@ -19,7 +19,7 @@ use Rattle.hol_exec.specs.Keys.{cited_keys, made_keys}
 use Rattle.hol_exec.specs.ReadsValue.{Values, ReadsValue, AreKeyed, values_of}
 use Rattle.hol_exec.specs.Resolved.{occurs_in, with_value, with_values, resolved_basis}
 use Rattle.hol_exec.specs.Valid.{StandIn, AreOfTheory}
-use Rattle.hol_exec.proofs.Entries.{entry_within, entry_is}
+use Rattle.hol_theory.proofs.Standing.{entry_within, entry_is}
 
 -- ---- what is read
 

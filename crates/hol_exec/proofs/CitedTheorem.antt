@@ -15,7 +15,7 @@ use Rattle.hol_theory.specs.Theory.{items_in}
 use Rattle.hol_exec.specs.ReadsValue.{Values}
 use Rattle.hol_exec.specs.Resolved.{prelude_theorem_at, cited_theorem}
 use Rattle.hol_exec.specs.Valid.{AreOfTheory}
-use Rattle.hol_exec.proofs.Entries.{entry_within, entry_is}
+use Rattle.hol_theory.proofs.Standing.{entry_within, entry_is}
 use Rattle.hol_exec.proofs.ReadOver.{prelude_within}
 
 prelude_unconditional : (kind : Kind) (name : List ℕ) (th : Theorem) → prelude_theorem_at kind name ≡ Some th → th.sequent.hyps ≡ no_hyps

@@ -1,39 +1,16 @@
--- What the entries of a theory say: on what each rests, what an import brings, and on what an open proof rests.
+-- What an import brings, and on what an open proof rests.
 use Rattle.std.specs.Prelude.{◌≡◌, ℕ, Bool, true, false, cond, List, [], ◌∷◌, Some, is_none, Result, Ok, Err, OnOk, OnErr, refl}
-use Rattle.std.proofs.Common.{sym, subst, inl, inr}
-use Rattle.hol_kernel.specs.Item.{Item}
-use Rattle.hol_kernel.specs.Items.{Items, item_set, IsSubset}
-use Rattle.hol_kernel.proofs.Members.{Among}
-use Rattle.hol_kernel.proofs.Subsets.{within_of_subset, subset_of_within, union_subset}
+use Rattle.std.proofs.Common.{sym, subst}
+use Rattle.hol_kernel.specs.Items.{Items, IsSubset}
+use Rattle.hol_kernel.proofs.Subsets.{union_subset}
 use Rattle.hol_goal.specs.Goal.{GoalValue}
 use Rattle.hol_stack.specs.StackValue.{StepValue}
-use Rattle.hol_theory.specs.Key.{KeyValue}
-use Rattle.hol_theory.specs.Entry.{EntryValue, Entries, IsEntry, EachIsEntry, entry_at, entry_basis, own_item}
-use Rattle.hol_theory.specs.Theory.{with_item, items_after, items_in, RestsOn, IsTheory}
+use Rattle.hol_theory.specs.Entry.{Entries, EachIsEntry, entry_at}
+use Rattle.hol_theory.specs.Theory.{items_in, IsTheory}
 use Rattle.hol_theory.specs.Adding.{missing}
-use Rattle.hol_theory.proofs.Defining.{each_at}
-use Rattle.hol_theory.proofs.Entries.{found}
-use Rattle.hol_theory.proofs.Items.{after_old}
 use Rattle.hol_exec.specs.StateValue.{ProofValue}
 use Rattle.hol_exec.specs.OutcomeValue.{stepped, without_newest, rotated}
 use Rattle.hol_exec.specs.Valid.{IsHistoryWithin, IsProofWithin}
-
--- ---- entries that stand
-
-rests_among : (items : List Item) (es : Entries) (e : KeyValue × EntryValue) → RestsOn items es → Among e es → IsSubset (entry_basis e.1) (item_set (items_after items es))
-rests_among items [] e h i = absurd i
-rests_among items (f ∷ es) e h (inl is) =
-    let next : List Item = with_item items (own_item f.0 f.1) in
-    subst (λ (g : KeyValue × EntryValue). IsSubset (entry_basis g.1) (item_set (items_after next es))) (sym is)
-    (subset_of_within (entry_basis f.1) (item_set (items_after next es)) (λ x k. after_old next es x (within_of_subset (entry_basis f.1) (item_set next) h.0 x k)))
-rests_among items (f ∷ es) e h (inr i) = rests_among (with_item items (own_item f.0 f.1)) es e h.1 i
-
--- an entry rests on items of the theory
-pub entry_within : (es : Entries) (key : KeyValue) (v : EntryValue) → IsTheory es → entry_at key es ≡ Some v → IsSubset (entry_basis v) (items_in es)
-entry_within es key v t e = rests_among [] es (key, v) t.rests (found key es v e)
-
-pub entry_is : (es : Entries) (key : KeyValue) (v : EntryValue) → IsTheory es → entry_at key es ≡ Some v → IsEntry key v
-entry_is es key v t e = each_at es (key, v) t.each (found key es v e)
 
 -- ---- what an import brings
 

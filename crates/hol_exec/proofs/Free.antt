@@ -41,6 +41,7 @@ use Rattle.hol_theory.proofs.Entries.{new_of}
 use Rattle.hol_theory.proofs.Imports.{missing_among, missing_follows}
 use Rattle.hol_theory.proofs.Declaring.{type_follows as new_type_follows, constant_follows as new_constant_follows, axiom_follows as new_axiom_follows}
 use Rattle.hol_theory.proofs.Defining.{within_follow, definition_follows, type_follows as type_definition_follows}
+use Rattle.hol_theory.proofs.Standing.{entry_within}
 use Rattle.hol_exec.specs.declared.refusal.RefusalKind.{RefusalKind}
 use Rattle.hol_exec.specs.declared.refusal.RefusalKind.TheVariants as refusal
 use Rattle.hol_exec.specs.Setup.{SetupValue}
@@ -61,7 +62,7 @@ use Rattle.hol_exec.specs.Local.{opens, opens_read, IsOpening, refused_outcome, 
 use Rattle.hol_exec.specs.At.{undoes_to, undoes, rotates_goals, rotates, drops, imports_theory, imports_from, entries_named, direct, IsOutcome, IsOutcomeAt}
 use Rattle.hol_exec.specs.Valid.{IsFreeFor, IsProofWithin}
 use Rattle.hol_exec.proofs.CitedBases.{values_stand, resolved_fine}
-use Rattle.hol_exec.proofs.Entries.{entry_within, newest_within}
+use Rattle.hol_exec.proofs.Entries.{newest_within}
 use Rattle.hol_exec.proofs.ReadOver.{prelude_within}
 
 -- a proof that goes back a step keeps its name

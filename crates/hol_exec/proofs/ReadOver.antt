@@ -40,7 +40,7 @@ use Rattle.hol_exec.specs.Lookups.{lookups_of}
 use Rattle.hol_exec.specs.Resolved.{prelude_theorem_at, named_theorem, cited_theorems, occurs_in_quoted, occurs_in, with_value, with_values, resolved_basis}
 use Rattle.hol_exec.specs.Defining.{IsDefinitionReadAs}
 use Rattle.hol_exec.specs.Valid.{StandIn, AreOfTheory, IsStatement}
-use Rattle.hol_exec.proofs.Entries.{entry_is}
+use Rattle.hol_theory.proofs.Standing.{entry_is}
 use Rattle.hol_exec.proofs.Known.{kept, IsCitedIn, AreCitedIn, cited_stand, known}
 use Rattle.hol_exec.proofs.Narrow.{reading_kept, definition_kept}
 

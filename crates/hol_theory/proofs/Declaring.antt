@@ -1,5 +1,5 @@
 -- What is declared over a basis that a theory has can come after the theory.
-use Rattle.std.specs.Prelude.{◌≡◌, ◌⊎◌, ◌||◌, ℕ, Bool, true, false, cond, List, [], ◌∷◌, Some, is_some, refl}
+use Rattle.std.specs.Prelude.{◌≡◌, ◌⊎◌, ◌||◌, ℕ, Bool, true, false, cond, List, [], ◌∷◌, Some, None, is_some, refl}
 use Rattle.std.proofs.Common.{ap, sym, ◌∙◌, subst, inl, inr, arith}
 use mathlib.Core.Bool.{true≢false}
 use Rattle.std.specs.FinSet as set
@@ -112,7 +112,7 @@ axiom_follows es basis name p entry legal within n =
     let larger : Items = entry_basis entry.1 in
     subst (λ (e : KeyValue × EntryValue). CanFollow es (e ∷ [])) (sym n.entry_is)
     (made_follows es basis (axiom_key name) (ATheorem (theorem_over larger no_hyps p)) x within n.declared.2 (λ l. refl)
-    (item_found basis larger x (axiom_key name) n.declared.0 n.declared.2 (own_name (axiom_key name)))
+    (ap (λ b. cond b (Some x) None) (larger_holds basis larger x n.declared.2))
     (record {
       theorem = axiom_entry larger name p (larger_legal basis larger x legal n.declared) (larger_holds basis larger x n.declared.2);
       under = refl;

@@ -2,11 +2,10 @@
 use Rattle.std.specs.Prelude.{◌≡◌, ◌⊎◌, Bool, true, false, cond, List, [], ◌∷◌, ◌++◌, Option, Some, None, refl}
 use Rattle.std.proofs.Common.{ap, sym, ◌∙◌, subst, inl, inr}
 use Rattle.std.specs.FinSet as set
-use Rattle.std.specs.List.{find}
 use Rattle.std.proofs.lemmas.Bool.{false_from_ne_true}
 use mathlib.Core.Bool.{true≢false}
 use Rattle.hol_kernel.specs.Item.{Item, declared_type, declared_constant, defined_constant, defined_type, declared_axiom}
-use Rattle.hol_kernel.specs.Items.{Items, Holds, IsSubset, item_set, in_order}
+use Rattle.hol_kernel.specs.Items.{Items, Holds, IsSubset, item_set}
 use Rattle.hol_kernel.specs.Signature.{ItemKey, type_key, constant_key, axiom_key, has_key, prelude_has}
 use Rattle.hol_kernel.specs.Legal.{HasNewKeys, IsSound, IsLegal, IsLegalSet}
 use Rattle.hol_kernel.proofs.Members.{Among, among_from_list, in_insert_here, in_insert_old, in_insert_cases, or_left}
@@ -14,9 +13,9 @@ use Rattle.hol_kernel.proofs.ItemOrder.{total, only}
 use Rattle.hol_kernel.proofs.Clashes.{key_itself}
 use Rattle.hol_kernel.proofs.Declared.{own_name}
 use Rattle.hol_kernel.proofs.Subsets.{within_of_subset}
-use Rattle.hol_kernel.proofs.Weaken.{sound_more, held}
+use Rattle.hol_kernel.proofs.Weaken.{sound_more}
 use Rattle.hol_theory.specs.Key.{KeyValue}
-use Rattle.hol_theory.specs.Entry.{EntryValue, AType, AConstant, ATheorem, Entries, IsEntry, EachIsEntry, entry_basis, own_item}
+use Rattle.hol_theory.specs.Entry.{EntryValue, AType, AConstant, ATheorem, Entries, IsEntry, EachIsEntry, entry_basis, stated_axiom, own_item}
 use Rattle.hol_theory.specs.Theory.{with_item, items_after, items_of, items_in, RestsOn, entry_key, IsNamedIn}
 
 -- ---- an item more, where it does not stand yet
@@ -117,14 +116,6 @@ sound_over basis items x legal h within =
           x r.2,
     )
 
-find_among : (test : Item → Bool) (xs : List Item) (x : Item) → find test xs ≡ Some x → Among x xs
-find_among test [] x e = absurd (cc)
-find_among test (y ∷ xs) x e = by (test y) e (find_among test xs x)
-  where
-    by : (b : Bool) → cond b (Some y) (find test xs) ≡ Some x → (find test xs ≡ Some x → Among x xs) → Among x (y ∷ xs)
-    by true e rest = let is : x ≡ y = cc in inl is
-    by false e rest = inr (rest e)
-
 -- the basis of an entry is legal, and has its own item
 pub own_in_basis : (key : KeyValue) (value : EntryValue) (x : Item) → IsEntry key value → own_item key value ≡ Some x → IsLegalSet (entry_basis value) × Holds (entry_basis value) x
 own_in_basis key (AType arity item basis) x h e =
@@ -135,7 +126,14 @@ own_in_basis key (AConstant ty item basis) x h e =
     let f : Some item ≡ Some x = e in
     let is : item ≡ x = cc in
     (h.legal, subst (Holds basis) is h.own)
-own_in_basis key (ATheorem th) x h e = (h.theorem.legal, held th.basis x (find_among (λ y. has_key y (axiom_key key.name)) (in_order th.basis) x e))
+own_in_basis key (ATheorem th) x h e = (h.theorem.legal, by (set.contains th.basis own) refl e)
+  where
+    own : Item
+    own = stated_axiom key th
+
+    by : (b : Bool) → set.contains th.basis own ≡ b → cond b (Some own) None ≡ Some x → Holds th.basis x
+    by true held found = let is : own ≡ x = cc in subst (Holds th.basis) is held
+    by false held found = absurd (cc)
 
 -- ---- legality
 

@@ -6,3 +6,4 @@ pub mod Imports
 pub mod Comparing
 pub mod Declaring
 pub mod Defining
+pub mod Standing

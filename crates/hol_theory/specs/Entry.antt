@@ -1,14 +1,15 @@
 -- Entries: what a theory has made, each under its key, in standing order.
 -- Source: this project; items are those of fusion.ml.
-use Rattle.std.specs.Prelude.{◌≡◌, ℕ, List, [], ◌∷◌, Option, Some}
+use Rattle.std.specs.Prelude.{◌≡◌, ℕ, List, [], ◌∷◌, cond, Option, Some, None}
+use Rattle.std.specs.FinSet as set
 use Rattle.std.specs.List.{Contains, find}
 use Rattle.std.specs.Map.{lookup}
 use Rattle.hol_types.specs.Tree.{TypeTree}
-use Rattle.hol_kernel.specs.Item.{Item}
+use Rattle.hol_kernel.specs.Item.{Item, declared_axiom}
 use Rattle.hol_kernel.specs.Items.{Items, Holds, in_order}
 use Rattle.hol_kernel.specs.Legal.{IsLegalSet}
 use Rattle.hol_kernel.specs.Sequent.{no_hyps}
-use Rattle.hol_kernel.specs.Signature.{ItemKey, axiom_key, has_key, item_types, item_constants}
+use Rattle.hol_kernel.specs.Signature.{ItemKey, has_key, item_types, item_constants}
 use Rattle.hol_kernel.specs.Theorem.{Theorem, IsTheorem}
 use Rattle.hol_theory.specs.declared.key.Kind.TheVariants as key_kind
 use Rattle.hol_theory.specs.Key.{KeyValue, key_eq}
@@ -39,11 +40,15 @@ entry_basis (ATheorem th) = th.basis
 abbrev pub item_at : ItemKey → Items → Option Item
 item_at k basis = find (λ x. has_key x k) (in_order basis)
 
--- the own item of an entry: of a type or a constant the one that makes it, and of a theorem the axiom of its name, where it rests on one
+-- the axiom of an entry's name that states what the entry states
+abbrev pub stated_axiom : KeyValue → Theorem → Item
+stated_axiom key th = declared_axiom key.name th.sequent.concl
+
+-- the own item of an entry: of a type or a constant the one that makes it, and of a theorem the axiom of its name that states the same, where it rests on that
 abbrev pub own_item : KeyValue → EntryValue → Option Item
 own_item key (AType arity item basis) = Some item
 own_item key (AConstant ty item basis) = Some item
-own_item key (ATheorem th) = item_at (axiom_key key.name) th.basis
+own_item key (ATheorem th) = cond (set.contains th.basis (stated_axiom key th)) (Some (stated_axiom key th)) None
 
 -- ---- what an entry is
 

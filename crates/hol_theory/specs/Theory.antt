@@ -1,15 +1,18 @@
 -- Theories: entries whose own items, in standing order, are a legal list on which they rest.
 -- Source: fusion.ml, where types, constants and axioms are made one after the other; entries and their bases are this project's.
-use Rattle.std.specs.Prelude.{◌≡◌, true, List, [], ◌∷◌, cond, Option, Some, None}
+use Rattle.std.specs.Prelude.{◌≡◌, ℕ, true, List, [], ◌∷◌, cond, Option, Some, None}
 use Rattle.std.specs.FinSet as set
+use Rattle.hol_terms.specs.Nameless.{Nameless}
 use Rattle.hol_kernel.specs.Item.{Item}
 use Rattle.hol_kernel.specs.Items.{Items, item_set, Holds, IsSubset}
 use Rattle.hol_kernel.specs.Legal.{IsLegal}
+use Rattle.hol_kernel.specs.Sequent.{no_hyps, sequent_of}
 use Rattle.hol_kernel.specs.Signature.{ItemKey, has_key}
 use Rattle.hol_kernel.specs.Signature as item
+use Rattle.hol_kernel.specs.Theorem.{Theorem}
 use Rattle.hol_theory.specs.declared.key.Kind.TheVariants as key_kind
-use Rattle.hol_theory.specs.Key.{KeyValue}
-use Rattle.hol_theory.specs.Entry.{EntryValue, Entries, EachIsEntry, entry_at, entry_basis, own_item}
+use Rattle.hol_theory.specs.Key.{KeyValue, theorem_key}
+use Rattle.hol_theory.specs.Entry.{EntryValue, ATheorem, Entries, EachIsEntry, entry_at, entry_basis, own_item}
 
 -- ---- the items of entries in standing order, each at its first place; lists of items have the newest first
 
@@ -50,6 +53,12 @@ HasOwnItem entries key x = (value : EntryValue) × (entry_at key entries ≡ Som
 -- Under each name that the item has, an entry stands whose own item it is.
 abbrev pub IsNamedIn : Entries → Item → Type 0
 IsNamedIn entries x = (k : ItemKey) → has_key x k ≡ true → HasOwnItem entries (entry_key k) x
+
+-- Under the axiom's name stands a theorem that states it, without hypotheses.
+pub record StatesAxiom (entries : Entries) (name : List ℕ) (p : Nameless) : Type 0 where
+  pub th : Theorem
+  pub stands : entry_at (theorem_key name) entries ≡ Some (ATheorem th)
+  pub states : th.sequent ≡ sequent_of no_hyps p
 
 -- ---- what every theory promises
 

@@ -1,15 +1,17 @@
 //! Laws of theories.
-ghost use Rattle.std.specs.Prelude.{◌≡◌, ℕ, List, [], ◌∷◌, ◌++◌, false, None};
+ghost use Rattle.std.specs.Prelude.{◌≡◌, ℕ, List, [], ◌∷◌, ◌++◌, false, Some, None};
 ghost use Rattle.hol_types.specs.Tree.{TypeTree};
 ghost use Rattle.hol_terms.specs.Nameless.{Nameless};
-ghost use Rattle.hol_kernel.specs.Items.{Items, IsSubset};
+ghost use Rattle.hol_kernel.specs.Item.{declared_axiom};
+ghost use Rattle.hol_kernel.specs.Items.{Items, Holds, IsSubset};
+ghost use Rattle.hol_kernel.specs.Sequent.{no_hyps, sequent_of};
 ghost use Rattle.hol_kernel.specs.Signature.{ItemKey, prelude_has};
 ghost use Rattle.hol_kernel.specs.Legal.{IsNew, IsLegalSet};
 ghost use Rattle.hol_kernel.specs.Extends.{Agree};
 ghost use Rattle.hol_kernel.specs.Theorem.{Theorem};
 ghost use Rattle.hol_theory.specs.Key.{KeyValue, theorem_key};
 ghost use Rattle.hol_theory.specs.Entry.{EntryValue, ATheorem, Entries, IsTheoremEntry, EachIsEntry, entry_at};
-ghost use Rattle.hol_theory.specs.Theory.{items_in, entry_key, IsTheory};
+ghost use Rattle.hol_theory.specs.Theory.{items_in, entry_key, StatesAxiom, IsTheory};
 ghost use Rattle.hol_theory.specs.Adding.{CanFollow};
 ghost use Rattle.hol_theory.specs.Making.{IsNewType, IsNewConstant, IsNewAxiom, IsNewDefinition, IsNewTypeDefinition, EachWithin};
 
@@ -19,6 +21,14 @@ ghost use Rattle.hol_theory.specs.Making.{IsNewType, IsNewConstant, IsNewAxiom, 
 pub fn free_keys_are_new_names()
     ensures new { (entries : Entries) (k : ItemKey) → IsTheory entries → entry_at (entry_key k) entries ≡ None → prelude_has k ≡ false → IsNew (items_in entries) k }
     ensures agree { (entries : Entries) (a b : Items) → IsTheory entries → IsSubset a (items_in entries) → IsSubset b (items_in entries) → Agree a b }
+{}
+
+/// Each axiom on which entries of a theory rest stands under its name, as a theorem that states it; so an entry that rests on an axiom of its own name states
+/// that axiom.
+pub fn axioms_are_stated()
+    ensures stands { (entries : Entries) (name : List ℕ) (p : Nameless) → IsTheory entries → Holds (items_in entries) (declared_axiom name p) → StatesAxiom entries name p }
+    ensures own { (entries : Entries) (name : List ℕ) (p : Nameless) (th : Theorem) → IsTheory entries → entry_at (theorem_key name) entries ≡ Some (ATheorem th)
+        → Holds th.basis (declared_axiom name p) → th.sequent ≡ sequent_of no_hyps p }
 {}
 
 /// What is declared over a basis whose items a theory has can come after the theory, under a key where nothing stands.

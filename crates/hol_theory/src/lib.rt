@@ -15,7 +15,8 @@ pub use env::Env;
 pub use error::EnvError;
 pub use key::{Key, Kind};
 pub use laws::{
-    declared_entries_follow, defined_entries_follow, free_keys_are_new_names, theorems_follow,
+    axioms_are_stated, declared_entries_follow, defined_entries_follow, free_keys_are_new_names,
+    theorems_follow,
 };
 pub use making::{
     DefinedNames, Entries, item_at, item_entries, new_axiom, new_constant, new_definition,
