@@ -1,5 +1,5 @@
 -- What a theorem's own variables become that a match doesn't determine.
-use Rattle.std.specs.Prelude.{◌≡◌, ◌≤◌, ℕ, Bool, true, false, cond, ◌&&◌, ◌||◌, List, [], ◌∷◌, ◌++◌, map, drop, length, Option, Some, None, Result, Ok, Err, OnOk, refl}
+use Rattle.std.specs.Prelude.{◌≡◌, ◌≤◌, ℕ, Bool, true, false, cond, ◌&&◌, ◌||◌, List, [], ◌∷◌, ◌++◌, map, drop, length, Some, None, Result, Ok, Err, OnOk, refl}
 use Rattle.std.specs.List.{AllByRecursion, filter, zip, list_any}
 use Rattle.std.specs.FinSet as set
 use Rattle.std.proofs.Common.{ap, sym, ◌∙◌, subst}
@@ -19,7 +19,7 @@ use Rattle.hol_subst.specs.Substitution.{term_lookup, variable_inst}
 use Rattle.hol_subst.specs.Variant.{is_free_in}
 use Rattle.hol_subst.proofs.Closing.{eq_same}
 use Rattle.hol_kernel.specs.Items.{Items}
-use Rattle.hol_kernel.specs.Typing.{is_type, has_type, HasType, are_typed_for}
+use Rattle.hol_kernel.specs.Typing.{is_type, HasType, are_typed_for}
 use Rattle.hol_kernel.proofs.Declared.{has_type_of}
 use Rattle.hol_kernel.proofs.Variables.{variable_typed}
 use Rattle.hol_match.specs.FreeNames.{free_name}

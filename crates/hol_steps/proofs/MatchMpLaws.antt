@@ -58,7 +58,7 @@ use Rattle.hol_just.proofs.QuantifierRules.{allowed_fresh}
 use Rattle.hol_just.proofs.Typings.{operands_typed}
 use Rattle.hol_just.proofs.MatchAlike.{Alike, AreAlike, GivesSame, matched_alike, alike_gives, same_instance}
 use Rattle.hol_just.proofs.MatchApart.{fixed_free, free_listed, apart_tells, apart_part}
-use Rattle.hol_just.proofs.MatchStays.{stays_alike, same_names, same_variables}
+use Rattle.hol_just.proofs.MatchStays.{stays_alike}
 use Rattle.hol_just.proofs.MatchFixed.{stays_said, alone}
 use Rattle.hol_just.proofs.MatchOpened.{IsOpened, opened_is}
 use Rattle.hol_just.proofs.MatchTyped.{occurrence_stands, type_at_instance, premise_typed}

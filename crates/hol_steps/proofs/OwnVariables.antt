@@ -10,7 +10,7 @@ use Rattle.hol_terms.specs.Named.{Named}
 use Rattle.hol_terms.specs.Nameless.{Nameless, app, fixed, nameless, free_occurrences}
 use Rattle.hol_terms.specs.Scoped.{binds, add_all}
 use Rattle.hol_terms.proofs.Same.{variable_eq_decides}
-use Rattle.hol_subst.specs.Closing.{close, bind}
+use Rattle.hol_subst.specs.Closing.{close}
 use Rattle.hol_subst.specs.FreeName.{is_taken}
 use Rattle.hol_subst.specs.Variant.{is_free_in}
 use Rattle.hol_subst.proofs.Closing.{eq_same, close_binds, nameless_abs}

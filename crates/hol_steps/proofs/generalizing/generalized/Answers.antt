@@ -1,6 +1,5 @@
-use Rattle.std.proofs.Common.{[], ap, sym, ◌∙◌, subst}
+use Rattle.std.proofs.Common.{ap, sym, ◌∙◌, subst}
 use Rattle.std.proofs.lemmas.Result.{IfOk-weaker}
-use Rattle.hol_terms.specs.Nameless.{nameless}
 use Rattle.hol_kernel.specs.Given.{Given, proved, given_of}
 use Rattle.hol_just.specs.MatchMp.{own_variables}
 use Rattle.hol_steps.specs.Matching.{AreGeneral, IsGeneralized}

@@ -1,12 +1,8 @@
 use Rattle.std.proofs.Common.{[], ◌≡◌, ap, sym, ◌∙◌}
-use Rattle.std.specs.Prelude.{ℕ, ◌||◌, true, List}
-use Rattle.std.specs.FinSet as set
+use Rattle.std.specs.Prelude.{◌||◌}
 use Rattle.std.proofs.lemmas.Result.{IfOk-weaker}
-use Rattle.hol_types.specs.Tree.{TypeTree}
 use Rattle.hol_terms.specs.Nameless.{nameless, free_occurrences}
 use Rattle.hol_terms.specs.Scoped.{binds}
-use Rattle.hol_kernel.specs.Given.{given_sequent}
-use Rattle.hol_match.specs.Patterns.{is_apart}
 use Rattle.hol_just.specs.MatchMp.{universals, generalized_concl, opened}
 use Rattle.hol_just.specs.QuantifierTacs.{terms_by}
 use Rattle.hol_steps.proofs.OwnVariables.{opened_is_apart, if_ok_three}

@@ -1,8 +1,7 @@
-use Rattle.std.proofs.Common.{◌≡◌, ◌++◌, ◌∷◌, [], map, ap, ◌∙◌, refl, rules}
+use Rattle.std.proofs.Common.{◌≡◌, ◌++◌, ◌∷◌, [], map, ◌∙◌, rules}
 use Rattle.std.specs.List.{zip}
 use Rattle.std.proofs.lemmas.List.{nil_from_length}
 use Rattle.hol_terms.specs.Nameless.{nameless}
-use Rattle.hol_match.specs.Instance.{InstanceValue}
 use Rattle.hol_steps.specs.Matching.{kept_of}
 use Rattle.hol_steps.proofs.KeptVariables.{kept_next, kept_last, kept_short}
 use Rattle.hol_steps.proofs.keeping.kept.Goals as goal
