@@ -1,10 +1,10 @@
 -- What a theorem's own variables become that a match doesn't determine.
-use Rattle.std.specs.Prelude.{◌≡◌, ℕ, Bool, true, false, cond, ◌&&◌, ◌||◌, List, [], ◌∷◌, ◌++◌, map, Option, Some, None, Result, Ok, Err, OnOk, refl}
+use Rattle.std.specs.Prelude.{◌≡◌, ◌≤◌, ℕ, Bool, true, false, cond, ◌&&◌, ◌||◌, List, [], ◌∷◌, ◌++◌, map, drop, length, Some, None, Result, Ok, Err, OnOk, refl}
 use Rattle.std.specs.List.{AllByRecursion, filter, zip, list_any}
 use Rattle.std.specs.FinSet as set
 use Rattle.std.proofs.Common.{ap, sym, ◌∙◌, subst}
 use Rattle.std.proofs.lemmas.Bool.{or_left, or_right}
-use Rattle.std.proofs.lemmas.List.{append-nil, append_assoc, map-append}
+use Rattle.std.proofs.lemmas.List.{append-nil, append_assoc, map-append, drop_all}
 use Rattle.hol_types.specs.Tree.{TypeTree}
 use Rattle.hol_types.specs.Equal.{variable_eq}
 use Rattle.hol_types.specs.Subst.{type_for, type_subst}
@@ -19,7 +19,7 @@ use Rattle.hol_subst.specs.Substitution.{term_lookup, variable_inst}
 use Rattle.hol_subst.specs.Variant.{is_free_in}
 use Rattle.hol_subst.proofs.Closing.{eq_same}
 use Rattle.hol_kernel.specs.Items.{Items}
-use Rattle.hol_kernel.specs.Typing.{is_type, has_type, HasType, are_typed_for}
+use Rattle.hol_kernel.specs.Typing.{is_type, HasType, are_typed_for}
 use Rattle.hol_kernel.proofs.Declared.{has_type_of}
 use Rattle.hol_kernel.proofs.Variables.{variable_typed}
 use Rattle.hol_match.specs.FreeNames.{free_name}
@@ -225,3 +225,7 @@ terms_longer avoid new term v w push is same =
 pub on_ok_both : {X E A B C : Type 0} (r : Result X E) → (A → B → C) → OnOk r A → OnOk r B → OnOk r C
 on_ok_both (Ok x) f a b = f a b
 on_ok_both (Err e) f a b = tt
+
+pub all_vars : (vs : List (List ℕ × TypeTree)) (ts ps all : List Named) (i : ℕ) → map var vs ≡ ts ++ map var (drop i vs) → length vs ≤ i → all ≡ ts ++ ps → all ≡ map var vs ++ ps
+all_vars vs ts ps all i h l is =
+    is ∙ ap (λ (us : List Named). us ++ ps) (sym (h ∙ ap (λ (us : List (List ℕ × TypeTree)). ts ++ map var us) (drop_all i vs l) ∙ append-nil ts))

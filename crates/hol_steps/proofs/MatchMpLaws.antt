@@ -5,7 +5,7 @@ use Rattle.std.specs.FinSet as set
 use Rattle.std.specs.List.{filter, zip}
 use Rattle.std.proofs.Common.{ap, sym, ◌∙◌, subst}
 use Rattle.std.proofs.lemmas.Bool.{or_left, or_right, or_parts, and_parts}
-use Rattle.hol_types.specs.Tree.{TypeTree}
+use Rattle.hol_types.specs.Tree.{TypeTree, TyVar}
 use Rattle.hol_types.specs.Equal.{variable_eq}
 use Rattle.hol_types.specs.Subst.{type_subst}
 use Rattle.hol_terms.specs.Named.{Named, named_type}
@@ -33,9 +33,9 @@ use Rattle.hol_kernel.specs.Sequent.{Sequent}
 use Rattle.hol_kernel.specs.Typing.{is_type, HasType}
 use Rattle.hol_kernel.proofs.Variables.{known_typed}
 use Rattle.hol_kernel.proofs.Members.{in_union_left}
-use Rattle.hol_match.specs.Instance.{InstanceValue, both, instantiated}
+use Rattle.hol_match.specs.Instance.{InstanceValue, instance_of, both, instantiated}
 use Rattle.hol_match.specs.Fixed.{fixed_names, fixed_variables, stays_of}
-use Rattle.hol_match.specs.Matches.{Says, IsMostGeneral}
+use Rattle.hol_match.specs.Matches.{GivesTypes, GivesTerms, Says, IsMostGeneral}
 use Rattle.hol_match.specs.Matches as matches
 use Rattle.hol_match.specs.Matching.{matched}
 use Rattle.hol_match.specs.Patterns.{is_apart}
@@ -43,7 +43,6 @@ use Rattle.hol_match.specs.Rules.{nodes}
 use Rattle.hol_match.proofs.Formulas.{IsFormula}
 use Rattle.hol_match.proofs.Lookups.{term_first, term_second, own_term}
 use Rattle.hol_match.proofs.Staying.{type_same}
-use Rattle.hol_replay.proofs.Instances.{type_stays, term_stays}
 use Rattle.hol_goal.specs.Goal.{GoalValue}
 use Rattle.hol_goal.specs.Achieves.{assumed, AreAllowed}
 use Rattle.hol_goal.specs.Arguments.{Theorem}
@@ -59,8 +58,8 @@ use Rattle.hol_just.proofs.QuantifierRules.{allowed_fresh}
 use Rattle.hol_just.proofs.Typings.{operands_typed}
 use Rattle.hol_just.proofs.MatchAlike.{Alike, AreAlike, GivesSame, matched_alike, alike_gives, same_instance}
 use Rattle.hol_just.proofs.MatchApart.{fixed_free, free_listed, apart_tells, apart_part}
-use Rattle.hol_just.proofs.MatchStays.{stays_alike, same_names, same_variables}
-use Rattle.hol_just.proofs.MatchFixed.{types_said, terms_said, alone}
+use Rattle.hol_just.proofs.MatchStays.{stays_alike}
+use Rattle.hol_just.proofs.MatchFixed.{stays_said, alone}
 use Rattle.hol_just.proofs.MatchOpened.{IsOpened, opened_is}
 use Rattle.hol_just.proofs.MatchTyped.{occurrence_stands, type_at_instance, premise_typed}
 use Rattle.hol_just.proofs.Validity.{valid_under}
@@ -148,6 +147,35 @@ inst_agree types ps qs k (app f x) h = λ i. app
     (inst_agree types ps qs k x (λ w e. h w (binds_append (free_occurrences f) (free_occurrences x) w ∙ or_right (binds (free_occurrences f) w) (binds (free_occurrences x) w) e)) i)
 inst_agree types ps qs k (lam a s b) h = ap (lam a (type_subst types s)) (inst_agree types ps qs (k + 1) b h)
 
+-- more pairs leave what the first ones leave
+types_more : (f : InstanceValue) (more : Terms) (ps : List (TypeTree × List ℕ)) → GivesTypes f ps → GivesTypes (instance_of f.types (f.terms ++ more)) ps
+types_more f more [] h = tt
+types_more f more (p ∷ ps) h = (h.0, types_more f more ps h.1)
+
+terms_more :
+    (f : InstanceValue) (more : Terms) (vs : List (List ℕ × TypeTree)) → ((v : List ℕ × TypeTree) → binds vs v ≡ true → term_lookup more v ≡ None) → GivesTerms f (map (λ v. (free v, v)) vs) →
+    GivesTerms (instance_of f.types (f.terms ++ more)) (map (λ v. (free v, v)) vs)
+terms_more f more [] absent h = tt
+terms_more f more (v ∷ vs) absent h = (
+  ap strip (extended_by_none f.terms more v (absent v (or_left (variable_eq v v) (binds vs v) (eq_same v)))) ∙ h.0,
+  terms_more f more vs (λ w e. absent w (or_right (variable_eq v w) (binds vs w) e)) h.1,
+)
+
+-- each variable takes a term of its type
+pub completed_typed :
+    (f : InstanceValue) (terms : List Nameless) (pairs : List ((List ℕ × TypeTree) × (List ℕ × TypeTree))) → matches.IsWellTyped f →
+    matches.IsWellTyped (instance_of f.types (f.terms ++ kept f.types terms pairs))
+completed_typed f terms pairs typed v = by (term_lookup f.terms v) (term_lookup (kept f.types terms pairs) v) refl refl
+  where
+    by :
+        (o p : Option Nameless) → term_lookup f.terms v ≡ o → term_lookup (kept f.types terms pairs) v ≡ p →
+        nameless_type [] (term_for (f.terms ++ kept f.types terms pairs) v) ≡ Some v.1
+    by (Some n) p e k =
+        ap (λ q. nameless_type [] (given v q)) (term_first f.terms (kept f.types terms pairs) v n e) ∙ sym (ap (λ q. nameless_type [] (given v q)) e) ∙ typed v
+    by None (Some n) e k =
+        ap (λ q. nameless_type [] (given v q)) (term_second f.terms (kept f.types terms pairs) v e ∙ k) ∙ kept_typed f.types terms pairs v n k
+    by None None e k = ap (λ q. nameless_type [] (given v q)) (term_second f.terms (kept f.types terms pairs) v e ∙ k)
+
 -- ---- a match, where the theorem's own variables stay as they are if it does not determine them
 
 module _ (th : Given) (goal : GoalValue) (own vs : List (List ℕ × TypeTree)) (s t : Nameless) (f : InstanceValue) (new : AreApart (terms_by th goal) vs) where
@@ -215,27 +243,14 @@ module _ (th : Given) (goal : GoalValue) (own vs : List (List ℕ × TypeTree)) 
     pub premise_same : premise_at (set.items (given_sequent th).hyps) own vs (s, t) g ≡ premise_at (set.items (given_sequent th).hyps) own vs (s, t) f
     premise_same = λ i. existentials (open_same i) (same_instance (completed (set.items (given_sequent th).hyps) own vs (s, t) g) whole 0 s gives_same i)
 
-  -- each variable takes a term of its type
-  pub completed_typed : matches.IsWellTyped f → matches.IsWellTyped (completed (set.items (given_sequent th).hyps) own vs (s, t) f)
-  completed_typed typed v = by (term_lookup f.terms v) (term_lookup more v) refl refl
-    where
-      by : (o p : Option Nameless) → term_lookup f.terms v ≡ o → term_lookup more v ≡ p → nameless_type [] (term_for (f.terms ++ more) v) ≡ Some v.1
-      by (Some n) p e k =
-          ap (λ q. nameless_type [] (given v q)) (term_first f.terms more v n e) ∙ sym (ap (λ q. nameless_type [] (given v q)) e) ∙ typed v
-      by None (Some n) e k =
-          ap (λ q. nameless_type [] (given v q)) (term_second f.terms more v e ∙ k)
-          ∙ kept_typed f.types (map (λ v. free v) (left_open own vs (s, t) f) ++ hs) pairs v n k
-      by None None e k = ap (λ q. nameless_type [] (given v q)) (term_second f.terms more v e ∙ k)
+  abbrev own_terms : List Nameless
+  own_terms = map (λ v. free v) (left_open own vs (s, t) f) ++ set.items (given_sequent th).hyps
 
   -- it leaves what stays
   completed_says : (listed : List Named) → hyps_of listed ≡ (given_sequent th).hyps → Says f (stays_of (map (nameless []) listed)) → Says whole (stays_of (set.items (given_sequent th).hyps))
-  completed_says listed are says = (
-    types_said whole (fixed_names [] hs) (λ x e. type_stays f (fixed_names [] (map (nameless []) listed)) x says.0 (sym (same_names (given_sequent th).hyps listed are x) ∙ e)),
-    terms_said whole (fixed_variables [] hs)
-        (λ v e.
-        extended_by_none f.terms more v (stays_absent v (sym (fixed_free hs v) ∙ e))
-        ∙ term_stays f (fixed_variables [] (map (nameless []) listed)) v says.1 (sym (same_variables (given_sequent th).hyps listed are v) ∙ e)),
-  )
+  completed_says listed are says =
+      let own = stays_said f (given_sequent th).hyps listed are says in
+      (types_more f more (map (λ a. (TyVar a, a)) (fixed_names [] hs)) own.0, terms_more f more (fixed_variables [] hs) (λ v e. stays_absent v (sym (fixed_free hs v) ∙ e)) own.1)
 
   module _ (body : Nameless) (is : body ≡ implication s t) (apart : is_apart (set.items (given_sequent th).hyps) body ≡ true) where
     in_body : (v : List ℕ × TypeTree) → binds (free_occurrences body) v ≡ (binds (free_occurrences s) v || binds (free_occurrences t) v)
@@ -270,7 +285,7 @@ module _ (th : Given) (goal : GoalValue) (own vs : List (List ℕ × TypeTree)) 
         matches.IsMatch (stays_of (set.items (given_sequent th).hyps)) body (implication (instantiated (completed (set.items (given_sequent th).hyps) own vs (s, t) f) 0 s) w)
         (completed (set.items (given_sequent th).hyps) own vs (s, t) f)
     completed_matches listed w are fits = record {
-      typed = completed_typed fits.typed;
+      typed = completed_typed f own_terms pairs fits.typed;
       left = completed_says listed are fits.left;
       gives = ap (λ n. strip (instantiated whole 0 n)) is ∙ ap (app (app (fixed (codes "==>") connective_type) (strip (instantiated whole 0 s)))) (ap strip matched_same ∙ fits.gives);
     }
@@ -285,7 +300,7 @@ module _ (th : Given) (goal : GoalValue) (own vs : List (List ℕ × TypeTree)) 
       (all_undetermined s t (λ u. is_type basis (variable_inst f.types u).1 ≡ true) own vs
       (λ u e k. type_at_instance basis listed t w f known found u
       (occurrence_stands basis s u (known_typed basis s bool_type formula).0 (and_parts (binds (free_occurrences s) u) (not (binds (free_occurrences t) u)) k).0))))
-      (completed_typed typed) formula
+      (completed_typed f own_terms pairs typed) formula
 
 module _ (th : Given) (goal : GoalValue) (o : OpenedValue) (is : opened (terms_by th goal) (generalized_concl th) ≡ o) where
   pub no_implication : dest_imp o.body ≡ None → match_mp_tac th goal ≡ None

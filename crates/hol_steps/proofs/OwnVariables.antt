@@ -1,6 +1,6 @@
 -- A theorem, generalized over its own variables: what is free in it, that it may be generalized, and that what stands under its quantifiers has variables that are apart.
-use Rattle.std.specs.Prelude.{◌≡◌, ℕ, Bool, true, false, ◌||◌, List, [], ◌∷◌, ◌++◌, codes, refl}
-use Rattle.std.specs.List.{AllByRecursion}
+use Rattle.std.specs.Prelude.{◌≡◌, ℕ, Bool, true, false, cond, not, ◌||◌, List, [], ◌∷◌, ◌++◌, map, codes, Result, Ok, Err, IfOk, refl}
+use Rattle.std.specs.List.{AllByRecursion, filter}
 use Rattle.std.specs.FinSet as set
 use Rattle.std.proofs.Common.{ap, sym, ◌∙◌, subst}
 use Rattle.std.proofs.lemmas.Bool.{or_left, or_right}
@@ -8,9 +8,9 @@ use Rattle.hol_types.specs.Tree.{TypeTree}
 use Rattle.hol_types.specs.Equal.{variable_eq}
 use Rattle.hol_terms.specs.Named.{Named}
 use Rattle.hol_terms.specs.Nameless.{Nameless, app, fixed, nameless, free_occurrences}
-use Rattle.hol_terms.specs.Scoped.{binds}
+use Rattle.hol_terms.specs.Scoped.{binds, add_all}
 use Rattle.hol_terms.proofs.Same.{variable_eq_decides}
-use Rattle.hol_subst.specs.Closing.{close, bind}
+use Rattle.hol_subst.specs.Closing.{close}
 use Rattle.hol_subst.specs.FreeName.{is_taken}
 use Rattle.hol_subst.specs.Variant.{is_free_in}
 use Rattle.hol_subst.proofs.Closing.{eq_same, close_binds, nameless_abs}
@@ -21,16 +21,19 @@ use Rattle.hol_formulas.specs.Making.{mk_forall}
 use Rattle.hol_derived.specs.Rules.{over_variable}
 use Rattle.hol_kernel.specs.Given.{Given, proved, assumed, given_sequent}
 use Rattle.hol_kernel.specs.Items.{Items}
-use Rattle.hol_kernel.specs.Sequent.{Hyps, only_hyp, sequent_of}
+use Rattle.hol_kernel.specs.Sequent.{Hyps, hyps_of, only_hyp, sequent_of}
 use Rattle.hol_kernel.specs.Theorem.{Theorem, theorem_on}
 use Rattle.hol_kernel.specs.Typing.{HasType}
 use Rattle.hol_kernel.proofs.Variables.{known_typed}
+use Rattle.hol_match.specs.Fixed.{fixed_variables}
 use Rattle.hol_match.specs.Patterns.{is_apart}
+use Rattle.hol_match.specs.Rules.{pattern_variables}
 use Rattle.hol_goal.specs.Goal.{GoalValue}
 use Rattle.hol_just.specs.Leaving.{goal_terms, theorem_terms}
 use Rattle.hol_just.specs.QuantifierTacs.{terms_by}
 use Rattle.hol_just.specs.MatchMp.{universals, own_variables, generalized_concl}
 use Rattle.hol_just.proofs.MatchApart.{pattern_there, pattern_from, apart_is}
+use Rattle.hol_just.proofs.MatchStays.{same_variables}
 use Rattle.hol_just.proofs.MatchChain.{closed_keeps}
 use Rattle.hol_just.proofs.MatchTyped.{occurrence_stands}
 use Rattle.hol_steps.specs.Fresh.{DifferInNames}
@@ -178,3 +181,21 @@ general_last basis hs left outer v is h = by outer (subst (AreGeneral basis hs) 
     by : (us : List Variable) → AreGeneral basis hs (us ++ v ∷ []) → AreGeneral basis hs (v ∷ []) × AreGeneral basis hs us
     by [] h = (h, tt)
     by (u ∷ us) h = let rest = by us h.1 in (rest.0, (h.0, rest.1))
+
+-- ---- what calls say
+
+filter_same : (us ws vs : List Variable) → ((v : Variable) → binds us v ≡ binds ws v) → filter (λ v. not (binds us v)) vs ≡ filter (λ v. not (binds ws v)) vs
+filter_same us ws [] h = refl
+filter_same us ws (v ∷ vs) h = λ i. cond (not (h v i)) (v ∷ filter_same us ws vs h i) (filter_same us ws vs h i)
+
+-- beside hypotheses, as the program lists them
+pub own_listed :
+    (th : Given) (ps : List Named) (n : Nameless) → hyps_of ps ≡ (given_sequent th).hyps → n ≡ (given_sequent th).concl → pattern_variables (fixed_variables [] (map (nameless []) ps)) n ≡ own_variables th
+own_listed th ps n are is =
+    ap (pattern_variables (fixed_variables [] (map (nameless []) ps))) is
+    ∙ filter_same (fixed_variables [] (map (nameless []) ps)) (fixed_variables [] (set.items (given_sequent th).hyps)) (add_all [] (free_occurrences (given_sequent th).concl))
+    (λ v. sym (same_variables (given_sequent th).hyps ps are v))
+
+pub if_ok_three : {X E : Type 0} (r : Result X E) (A B C D : X → Type 0) → ((x : X) → A x → B x → C x → D x) → IfOk r A → IfOk r B → IfOk r C → IfOk r D
+if_ok_three (Ok x) A B C D f a b c = f x a b c
+if_ok_three (Err e) A B C D f a b c = tt

@@ -14,7 +14,7 @@ use Rattle.hol_terms.proofs.Same.{variable_eq_decides}
 use Rattle.hol_subst.specs.Closing.{open_with}
 use Rattle.hol_subst.specs.Shift.{shift}
 use Rattle.hol_subst.specs.FreeName.{has_name, is_taken, IsFreeName}
-use Rattle.hol_formulas.specs.Formula.{Abstraction, universal, dest_forall}
+use Rattle.hol_formulas.specs.Formula.{Abstraction, dest_forall}
 use Rattle.hol_formulas.proofs.FormulaLaws.{dest_quantifier_is}
 use Rattle.hol_match.specs.Rules.{apart, nodes}
 use Rattle.hol_just.specs.FreeNames.{free_name}

@@ -42,6 +42,6 @@ variables-preserved c =
 pub returns : goal.returns
 returns c =
     let inv = c.variables.invariant in
-    let none : c.variables.left.now ≡ [] = search rules in
+    let none = nil_from_length c.variables.left.now c.in_default.ensures.cases in
     let concl = sym (ap (λ vs. universals vs c.variables.whole.sequent.concl) none) ∙ inv.concl in
     λ i. theorem_on (inv.basis i) (sequent_of (inv.hyps i) (concl i))

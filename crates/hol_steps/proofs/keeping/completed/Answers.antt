@@ -1,4 +1,4 @@
-use Rattle.std.proofs.Common.{◌≡◌, ◌++◌, [], List, map, ap, sym, ◌∙◌, subst}
+use Rattle.std.proofs.Common.{◌++◌, [], List, map, ap, ◌∙◌, subst}
 use Rattle.std.specs.Prelude.{ℕ}
 use Rattle.std.specs.List.{filter, zip}
 use Rattle.std.specs.FinSet as set

@@ -6,10 +6,10 @@ use Rattle.hol_steps.proofs.keeping.kept.Given as goal
 
 abbrev pub invariant-own : goal.invariant-own
 invariant-own l = record {
-  types : l.whole.types ≡ l.found.types;
+  types : l.whole.types ≡ l.fn.found.types;
   terms :
-      l.found.terms ++ kept_of (nameless [] l.s) (nameless [] l.t) l.found.types (map (nameless []) l.fn.avoid.items) (zip l.fn.own l.fn.apart)
-      ≡ l.whole.terms ++ kept_of (nameless [] l.s) (nameless [] l.t) l.found.types (map (nameless []) l.avoid.items) (zip l.own l.apart);
+      l.fn.found.terms ++ kept_of (nameless [] l.s) (nameless [] l.t) l.fn.found.types (map (nameless []) l.fn.avoid.items) (zip l.fn.own l.fn.apart)
+      ≡ l.whole.terms ++ kept_of (nameless [] l.s) (nameless [] l.t) l.fn.found.types (map (nameless []) l.avoid.items) (zip l.own l.apart);
 }
 
 abbrev pub decreases-own : goal.decreases-own

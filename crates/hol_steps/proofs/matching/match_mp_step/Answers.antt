@@ -1,12 +1,16 @@
 use Rattle.std.specs.FinSet as set
-use Rattle.std.proofs.Common.{[], ◌≡◌, ap, sym, ◌∙◌, Some, None, rules}
+use Rattle.std.proofs.Common.{[], ◌∷◌, ◌≡◌, List, ap, sym, ◌∙◌, subst, Some, None, rules}
+use Rattle.std.specs.Prelude.{ℕ}
+use Rattle.hol_types.specs.Tree.{TypeTree}
 use Rattle.hol_terms.specs.Nameless.{nameless}
 use Rattle.hol_kernel.specs.Given.{given_sequent}
 use Rattle.hol_formulas.specs.Formula.{dest_imp}
 use Rattle.hol_match.specs.Fixed.{stays_of}
 use Rattle.hol_match.specs.Matching.{matched}
-use Rattle.hol_just.specs.MatchMp.{OpenedValue}
-use Rattle.hol_steps.specs.Matching.{IsFound}
+use Rattle.hol_match.specs.Instance.{instantiated}
+use Rattle.hol_just.specs.Leaving.{concluding}
+use Rattle.hol_just.specs.MatchMp.{OpenedValue, left_open, completed, premise_at}
+use Rattle.hol_steps.specs.Matching.{IsFound, LeavesByGeneral}
 use Rattle.hol_steps.proofs.MatchMpLaws.{no_implication, no_match, leaves, justified, conclusion_apart}
 use Rattle.hol_steps.proofs.matching.match_mp_step.Goals as goal
 
@@ -33,7 +37,11 @@ returns-clause-goals c =
     let t = nameless [] c.in-Some.t.now in
     let parts : dest_imp o.body ≡ Some (s, t) = search rules in
     let found : IsFound th g t c.in-Some-2.found = search rules in
-    leaves th g o c.in_ok-opened.ensures.opened s t c.in-Some-2.found parts found c.in_ok-opened.ensures.new ∙ ?
+    let f = c.in-Some-2.found in
+    let hs = set.items (given_sequent th).hyps in
+    let own = c.deref-2.ensures.value ∙ c.in_ok-own.ensures in
+    leaves th g o c.in_ok-opened.ensures.opened s t f parts found c.in_ok-opened.ensures.new
+    ∙ ap Some (sym (c.in_ok-step.ensures.goals ∙ ap (λ (ns : List (List ℕ × TypeTree)). concluding g (premise_at hs ns o.variables (s, t) f) ∷ []) own))
 
 pub returns-clause-valid : goal.returns-clause-valid
 returns-clause-valid c =
@@ -44,7 +52,15 @@ returns-clause-valid c =
     let t = nameless [] c.in-Some.t.now in
     let parts : dest_imp o.body ≡ Some (s, t) = search rules in
     let found : IsFound th g t c.in-Some-2.found = search rules in
-    justified th g o c.in_ok-opened.ensures.opened c.in_ok-opened.ensures.new c.in_ok-opened.ensures.apart s t c.in-Some-2.found parts found c.in_ok-step.step ? ?
+    let f = c.in-Some-2.found in
+    let hs = set.items (given_sequent th).hyps in
+    let own = c.deref-2.ensures.value ∙ c.in_ok-own.ensures in
+    justified th g o c.in_ok-opened.ensures.opened c.in_ok-opened.ensures.new c.in_ok-opened.ensures.apart s t f parts found c.in_ok-step.step
+    (subst
+    (λ (ns : List (List ℕ × TypeTree)).
+    LeavesByGeneral th o.variables (left_open ns o.variables (s, t) f) (instantiated (completed hs ns o.variables (s, t) f) 0 s) g.conclusion c.in_ok-step.step.just)
+    own c.in_ok-step.ensures.just)
+    (c.in_ok-step.ensures.goals ∙ ap (λ (ns : List (List ℕ × TypeTree)). concluding g (premise_at hs ns o.variables (s, t) f) ∷ []) own)
 
 pub returns-in_default-2-clause-goals : goal.returns-in_default-2-clause-goals
 returns-in_default-2-clause-goals c =
