@@ -107,19 +107,24 @@ Function = collections.namedtuple("Function", "path file first opened closed")
 HEADER = re.compile(r"( *)(?:pub(?:\([a-z]+\))? )?(const )?(?:unsafe )?fn (\w+)")
 OWNER = re.compile(r"(?:impl|(?:pub(?:\([a-z]+\))? )?trait|extern)\b")
 PLAIN_IMPL = re.compile(r"impl(?:<.*?>)? (\w+)(?:<.*>)? \{")
+TYPE = re.compile(r"(?m)^(?:pub(?:\([a-z]+\))? )?(?:struct|enum) (\w+)")
 
 
 def functions_of(crate):
     """The functions of a crate whose bodies can be left open: those of a module or of a type, and not those of a trait."""
+    files = {file: file.read_text() for file in sorted((crate / "src").rglob("*.rt"))}
+    module_of = lambda file: [part for part in file.relative_to(crate / "src").with_suffix("").parts if part not in ("lib", "main", "mod")]
+    homes = {name: module_of(file) for file, text in files.items() for name in TYPE.findall(text)}
     found = []
-    for file in sorted((crate / "src").rglob("*.rt")):
-        module = [part for part in file.relative_to(crate / "src").with_suffix("").parts if part not in ("lib", "main", "mod")]
-        found += functions_in(file.read_text().split("\n"), module, str(file.relative_to(crate)))
+    for file, text in files.items():
+        own = {**homes, **dict.fromkeys(TYPE.findall(text), module_of(file))}
+        found += functions_in(text.split("\n"), module_of(file), own, str(file.relative_to(crate)))
     return found
 
 
-def functions_in(lines, module, file):
-    """The same of one file, which is laid out by `rt fmt`: so a body ends at the first brace that stands below its function's first letter."""
+def functions_in(lines, module, homes, file):
+    """The same of one file, in which types have these modules. It is laid out by `rt fmt`: so a body ends at the first brace that stands below its
+    function's first letter."""
     owner, at, found = "", 0, []
     while at < len(lines):
         if OWNER.match(lines[at]):
@@ -136,7 +141,7 @@ def functions_in(lines, module, file):
                 opened, at = at, lines.index(indent + "}", at)
                 stands_here = owner is not None and len(indent) == (4 if owner else 0) and not header[2]
                 if stands_here:
-                    path = "::".join([*module, *([owner] if owner else []), header[3]])
+                    path = "::".join([*homes.get(owner, module), owner, header[3]] if owner else [*module, header[3]])
                     found.append(Function(path, file, first, opened, at))
         at += 1
     return found
