@@ -102,16 +102,18 @@ class Crates:
 # ------------------------------------------------------------------------------------------------------------------- a crate's functions
 
 
-# A function: its path in the crate, its file, the numbers of its first line, of the line that its body begins after, and of the one that ends it.
-Function = collections.namedtuple("Function", "path file first opened closed")
+# A function: its path in the crate, whether its body can be left open, its file, the numbers of its first line, of the line that its body begins after,
+# and of the one that ends it.
+Function = collections.namedtuple("Function", "path is_own file first opened closed")
 HEADER = re.compile(r"( *)(?:pub(?:\([a-z]+\))? )?(const )?(?:unsafe )?fn (\w+)")
 OWNER = re.compile(r"(?:impl|(?:pub(?:\([a-z]+\))? )?trait|extern)\b")
 PLAIN_IMPL = re.compile(r"impl(?:<.*?>)? (\w+)(?:<.*>)? \{")
+TRAIT_IMPL = re.compile(r"impl(?:<.*?>)? (\w+) for (\w+)(?:<.*>)? \{")
 TYPE = re.compile(r"(?m)^(?:pub(?:\([a-z]+\))? )?(?:struct|enum) (\w+)")
 
 
 def functions_of(crate):
-    """The functions of a crate whose bodies can be left open: those of a module or of a type, and not those of a trait."""
+    """The functions of a crate. The bodies of those of a module or of a type can be left open, and not those of a trait."""
     files = {file: file.read_text() for file in sorted((crate / "src").rglob("*.rt"))}
     module_of = lambda file: [part for part in file.relative_to(crate / "src").with_suffix("").parts if part not in ("lib", "main", "mod")]
     homes = {name: module_of(file) for file, text in files.items() for name in TYPE.findall(text)}
@@ -125,13 +127,14 @@ def functions_of(crate):
 def functions_in(lines, module, homes, file):
     """The same of one file, in which types have these modules. It is laid out by `rt fmt`: so a body ends at the first brace that stands below its
     function's first letter."""
-    owner, at, found = "", 0, []
+    owner, is_own, at, found = module, True, 0, []
     while at < len(lines):
         if OWNER.match(lines[at]):
-            plain = PLAIN_IMPL.match(lines[at])
-            owner = plain[1] if plain else None
+            plain, trait = PLAIN_IMPL.match(lines[at]), TRAIT_IMPL.match(lines[at])
+            is_own = plain is not None
+            owner = [*homes.get(plain[1], module), plain[1]] if plain else [*module, trait[2] + trait[1]] if trait else None
         elif lines[at] == "}":
-            owner = ""
+            owner, is_own = module, True
         header = HEADER.match(lines[at])
         if header:
             first, indent = at, header[1]
@@ -139,10 +142,8 @@ def functions_in(lines, module, homes, file):
                 at += 1
             if is_opening(lines, first, at, indent):
                 opened, at = at, lines.index(indent + "}", at)
-                stands_here = owner is not None and len(indent) == (4 if owner else 0) and not header[2]
-                if stands_here:
-                    path = "::".join([*homes.get(owner, module), owner, header[3]] if owner else [*module, header[3]])
-                    found.append(Function(path, file, first, opened, at))
+                if owner is not None and len(indent) == (0 if owner is module else 4):
+                    found.append(Function("::".join([*owner, header[3]]), is_own and not header[2], file, first, opened, at))
         at += 1
     return found
 
@@ -228,7 +229,7 @@ class Sources:
                 shutil.copytree(self.folder / part, folder / part)
         lines = {file: text.split("\n") for file, text in texts.items()}
         for it in reversed(self.functions):
-            if it.path not in closed:
+            if it.is_own and it.path not in closed:
                 indent = " " * (len(lines[it.file][it.closed]) - 1)
                 lines[it.file][it.opened + 1 : it.closed] = [f"{indent}    {OPEN_BODY}"]
                 self.leave_open(folder / "proofs", it.path)
