@@ -24,6 +24,7 @@ import concurrent.futures
 import os
 import pathlib
 import re
+import resource
 import shutil
 import subprocess
 import sys
@@ -249,6 +250,11 @@ class Sources:
 # ------------------------------------------------------------------------------------------------------------------------------ the tries
 
 
+# What a check says of an answer that names something which the edit took away, and what is said of that here: it shows nothing of the goal.
+GONE = re.compile(r"has no field|has no `|is not in scope|is no name")
+BY_NAME = "only since its answer names what is gone"
+
+
 def goals_left(function, cycle, said):
     """The goals that a check left open of a function: none where it is proved, None where the check says nothing of them."""
     line = next((it for it in said.split("\n") if re.match(rf"fn \w+::{re.escape(function)}: ", it)), "")
@@ -258,9 +264,10 @@ def goals_left(function, cycle, said):
     folder = "/".join(function.split("::"))
     places = {folder} | {"/".join([*it.split("::")[:-1], "+" + it.split("::")[-1]]) for it in cycle}
     own = "|".join(re.escape(it) for it in sorted(places))
-    found = re.findall(rf"(?m)^(?:\./)?proofs/(?:{own})/Answers\.antt:\d+:\d+: error: `([^`]+)`", said)
+    told = re.findall(rf"(?m)^(?:\./)?proofs/(?:{own})/Answers\.antt:\d+:\d+: error: `([^`]+)`(.*)$", said)
+    found = [f"{goal} ({BY_NAME})" if GONE.search(why) else goal for goal, why in told]
     found += re.findall(r"`([^`]+)`", state.partition("did not prove")[2].partition(";")[0])
-    return found or None
+    return list(dict.fromkeys(found)) or None
 
 
 class Check:
@@ -413,6 +420,8 @@ def main():
             edits_of.setdefault(name, []).append(Edit(path))
     trial = Trial(crates, words.jobs, words.unedited, words.verbose)
     trial.run(edits_of)
+    used = resource.getrusage(resource.RUSAGE_CHILDREN)
+    print(f"{(used.ru_utime + used.ru_stime) / 60:.1f} processor minutes")
     print(f"edits: {trial.passed} passed, {trial.failed} failed")
     return 1 if trial.failed else 0
 
