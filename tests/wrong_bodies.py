@@ -233,6 +233,7 @@ class Sources:
             if it.is_own and it.path not in closed:
                 indent = " " * (len(lines[it.file][it.closed]) - 1)
                 lines[it.file][it.opened + 1 : it.closed] = [f"{indent}    {OPEN_BODY}"]
+                drop_cycle_name(lines[it.file], it.first)
                 self.leave_open(folder / "proofs", it.path)
         for file, text in lines.items():
             (folder / file).write_text("\n".join(text))
@@ -245,6 +246,15 @@ class Sources:
         own = proofs.joinpath(*module, name)
         own.mkdir(parents=True, exist_ok=True)
         (own / "Proof.antt").write_text(OPEN_PROOF.format(crate=self.name, path=".".join([*module, name]), name=name))
+
+
+def drop_cycle_name(lines, first):
+    """Takes the name of a cycle of calls off a function that calls nothing."""
+    at = first - 1
+    while at >= 0 and lines[at].strip().startswith("#["):
+        if lines[at].strip().startswith("#[cycle("):
+            lines[at] = ""
+        at -= 1
 
 
 # ------------------------------------------------------------------------------------------------------------------------------ the tries
