@@ -1,6 +1,7 @@
 #!/usr/bin/env python3
 """Prints the table of lines by crate as docs/GATE.md has it, and tests that each must-fail edit fits its file."""
 import pathlib
+import re
 import sys
 
 ROOT = pathlib.Path(__file__).resolve().parent.parent
@@ -32,9 +33,11 @@ def row(name):
 
 
 def misfits():
-    """Edits whose old text, after the changes before it, does not stand exactly once in the file that they name."""
+    """Edits whose old text, after the changes before it, does not stand exactly once in the file that they name, or that don't say what refuses them."""
     for edit in sorted(ROOT.glob("crates/*/must-fail/*.edit")):
         texts, target, old = {}, "", ""
+        if not re.search(r"(?m)^refused: \S+ \S+$", edit.read_text()):
+            yield f"{edit.relative_to(ROOT)}: no line 'refused: FUNCTION GOAL'"
         for r in edit.read_text().splitlines():
             if r.startswith("file: "):
                 target = r[len("file: "):].strip()
