@@ -1,0 +1,420 @@
+#!/usr/bin/env python3
+"""Tries the wrong bodies of crates/NAME/must-fail over the libraries that `rt ci` has left in crates/*/out/rlib: the prover must refuse each.
+
+    python3 tests/wrong_bodies.py [CRATE ..] [--edit WORD] [--over TREE] [--jobs N] [--unedited] [--verbose]
+
+An edit is a file of lines 'file: PATH', 'old: TEXT' and 'new: TEXT', as `rt must-fail` reads them, and one line more:
+
+    refused: FUNCTION GOAL
+
+FUNCTION is what the edit changes, by its path in the crate, and GOAL what has to be left open of its proof, as a check names it:
+'returns-clause-range' is the clause `range` of what the function promises, 'returns' its only clause, 'invariant-loop-i-preserved' the loop's
+invariant, 'sum-requires' what is owed to the call of `sum`. A refusal by other goals alone counts as none, since it shows nothing of that promise.
+
+How an edit is tried: on a copy of its crate in which every function that no edit changes has the body `unreachable!()` and a proof left open, so that
+the edited function is checked against what the others promise, as a crate above is checked against the libraries below it. That the others keep
+their promises is what `rt ci` has shown. Edits of different functions are tried in one check. `--unedited` tries the same functions as they stand,
+and each must be proved: it shows that a refusal comes from its edit.
+
+Needs `rt` on the PATH, and calls the kit's `rattle` by flags that `rt check --help` lists. Status 0 where each edit was refused by its goal."""
+
+import argparse
+import collections
+import concurrent.futures
+import os
+import pathlib
+import re
+import shutil
+import subprocess
+import sys
+import tempfile
+import threading
+import time
+
+ROOT = pathlib.Path(__file__).resolve().parent.parent
+PARTS = ("src", "specs", "proofs")
+PROOF_FILES = ("Answers.antt", "Invariants.antt")
+# The body and the proof of a function that no edit of a check changes. Its proof is left open, so that what it promises is taken as it is stated.
+OPEN_BODY = "unreachable!()"
+OPEN_PROOF = """use Rattle.{crate}.proofs.{path}.Statement.{{statement}}
+
+pub {name}_spec : {{M : Type 1}} → statement M
+{name}_spec = ?
+"""
+
+
+class Unusable(Exception):
+    """Why nothing can be tried."""
+
+
+def kit():
+    """The folder of the toolchain."""
+    try:
+        page = subprocess.run(["rt", "doc"], stdout=subprocess.PIPE, universal_newlines=True, check=True).stdout.strip()
+    except (OSError, subprocess.CalledProcessError) as error:
+        raise Unusable(f"`rt doc` doesn't say where the kit is: {error}")
+    return pathlib.Path(page).parent
+
+
+# ---------------------------------------------------------------------------------------------------------------------------- the crates
+
+
+class Crates:
+    """The crates of crates.txt, the libraries of a tree, and the command that checks a crate over these."""
+
+    def __init__(self, tree):
+        self.tree, self.kit = tree, kit()
+        rows = (line.partition("#")[0].partition(":") for line in (ROOT / "crates.txt").read_text().splitlines())
+        self.uses = {name.split()[0]: uses.split() for name, _, uses in rows if name.strip()}
+        self.known_below = {}
+
+    def below(self, name):
+        """The crates of the repository that stand below one, the lowest first."""
+        if name not in self.known_below:
+            found = {}
+            for use in self.uses[name]:
+                if use in self.uses:
+                    found.update(dict.fromkeys([*self.below(use), use]))
+            self.known_below[name] = list(found)
+        return self.known_below[name]
+
+    def library(self, name):
+        return self.tree / "crates" / name / "out" / "rlib" / f"{name}.rlib"
+
+    def missing(self, name):
+        """The libraries below a crate that don't stand."""
+        return [it for it in self.below(name) if not self.library(it).is_dir()]
+
+    def command(self, name, functions):
+        """What checks these functions of a crate that stands in the current folder."""
+        root = "src/main.rt" if (ROOT / "crates" / name / "src" / "main.rt").is_file() else "src/lib.rt"
+        words = [self.kit / "bin" / "rattle", "check", "--crate-name", name, root, "--jobs", "1", "--links", f"{name}="]
+        words += ["--antt-project", self.kit / "rattle/logic/antt-project.json", "--logic-built", self.kit / "logic_built", "--allow-holes"]
+        for use in [*self.uses[name], "std"]:
+            words += ["--extern", f"{use}={self.library(use) if use in self.uses else self.kit / 'rlibs' / (use + '.rlib')}"]
+        for folder in [self.kit / "rlibs", *(self.library(it).parent for it in self.below(name))]:
+            words += ["-L", f"dependency={folder}"]
+        for function in functions:
+            words += ["--only", function]
+        return [str(word) for word in words]
+
+
+# ------------------------------------------------------------------------------------------------------------------- a crate's functions
+
+
+# A function: its path in the crate, its file, the numbers of its first line, of the line that its body begins after, and of the one that ends it.
+Function = collections.namedtuple("Function", "path file first opened closed")
+HEADER = re.compile(r"( *)(?:pub(?:\([a-z]+\))? )?(const )?(?:unsafe )?fn (\w+)")
+OWNER = re.compile(r"(?:impl|(?:pub(?:\([a-z]+\))? )?trait|extern)\b")
+PLAIN_IMPL = re.compile(r"impl(?:<.*?>)? (\w+)(?:<.*>)? \{")
+TYPE = re.compile(r"(?m)^(?:pub(?:\([a-z]+\))? )?(?:struct|enum) (\w+)")
+
+
+def functions_of(crate):
+    """The functions of a crate whose bodies can be left open: those of a module or of a type, and not those of a trait."""
+    files = {file: file.read_text() for file in sorted((crate / "src").rglob("*.rt"))}
+    module_of = lambda file: [part for part in file.relative_to(crate / "src").with_suffix("").parts if part not in ("lib", "main", "mod")]
+    homes = {name: module_of(file) for file, text in files.items() for name in TYPE.findall(text)}
+    found = []
+    for file, text in files.items():
+        own = {**homes, **dict.fromkeys(TYPE.findall(text), module_of(file))}
+        found += functions_in(text.split("\n"), module_of(file), own, str(file.relative_to(crate)))
+    return found
+
+
+def functions_in(lines, module, homes, file):
+    """The same of one file, in which types have these modules. It is laid out by `rt fmt`: so a body ends at the first brace that stands below its
+    function's first letter."""
+    owner, at, found = "", 0, []
+    while at < len(lines):
+        if OWNER.match(lines[at]):
+            plain = PLAIN_IMPL.match(lines[at])
+            owner = plain[1] if plain else None
+        elif lines[at] == "}":
+            owner = ""
+        header = HEADER.match(lines[at])
+        if header:
+            first, indent = at, header[1]
+            while not is_opening(lines, first, at, indent) and not lines[at].endswith((";", "{}")):
+                at += 1
+            if is_opening(lines, first, at, indent):
+                opened, at = at, lines.index(indent + "}", at)
+                stands_here = owner is not None and len(indent) == (4 if owner else 0) and not header[2]
+                if stands_here:
+                    path = "::".join([*homes.get(owner, module), owner, header[3]] if owner else [*module, header[3]])
+                    found.append(Function(path, file, first, opened, at))
+        at += 1
+    return found
+
+
+def is_opening(lines, first, at, indent):
+    """Whether a line opens the body of the function that begins at `first`."""
+    return lines[at] == indent + "{" or lines[at].endswith(" {") and (at == first or lines[at].startswith(indent + ")"))
+
+
+def cycles_of(crate):
+    """The functions that call one another, by their paths, as the folders of their proofs name them."""
+    cycles = []
+    for folder in (crate / "proofs").rglob("+*"):
+        module = "::".join(folder.relative_to(crate / "proofs").parent.parts)
+        names = {folder.name[1:]}
+        if (folder / "Invariants.antt").is_file():
+            names.update(re.findall(r"(?m)^abbrev pub decreases-(\S+) ", (folder / "Invariants.antt").read_text()))
+        cycles.append({f"{module}::{name}" for name in names})
+    return cycles
+
+
+# ------------------------------------------------------------------------------------------------------------------------------ the edits
+
+
+class Edit:
+    """A wrong body: what it changes, and the goal of which function has to refuse it."""
+
+    def __init__(self, path):
+        self.label, self.changes, self.function, self.goal = f"{path.parent.parent.name}/{path.name}", [], "", ""
+        file = old = None
+        for line in path.read_text().split("\n"):
+            word, _, rest = line.partition(":")
+            rest = rest[1:] if rest.startswith(" ") else rest
+            if word == "file":
+                file = rest.strip()
+            elif word == "old":
+                old = rest
+            elif word == "new" and file and old:
+                self.changes.append((file, old, rest))
+            elif word == "refused":
+                self.function, _, self.goal = rest.strip().partition(" ")
+        self.lacks = "" if self.changes and self.function and self.goal else "it lacks a line 'file:', 'old:', 'new:' or 'refused: FUNCTION GOAL'"
+
+    def applied(self, texts):
+        """The texts with the edit in them, or None where an old text doesn't stand there exactly once."""
+        texts = dict(texts)
+        for file, old, new in self.changes:
+            if texts.get(file, "").count(old) != 1:
+                return None
+            texts[file] = texts[file].replace(old, new)
+        return texts
+
+
+class Sources:
+    """A crate's source files, its functions, and which of these call one another."""
+
+    def __init__(self, name):
+        self.name, self.folder = name, ROOT / "crates" / name
+        self.texts = {str(it.relative_to(self.folder)): it.read_text() for it in sorted((self.folder / "src").rglob("*.rt"))}
+        self.functions, self.cycles = functions_of(self.folder), cycles_of(self.folder)
+
+    def changed(self, texts):
+        """The functions in which these texts differ from the crate's."""
+        lines = {file: (self.texts[file].split("\n"), text.split("\n")) for file, text in texts.items()}
+        return {it.path for it in self.functions if lines[it.file][0][it.first : it.closed] != lines[it.file][1][it.first : it.closed]}
+
+    def with_cycles(self, paths):
+        """These functions and those that call them and are called by them."""
+        return set(paths).union(*(cycle for cycle in self.cycles if cycle & set(paths)))
+
+    def calls(self, caller, callee):
+        """Whether a function may call another, by its name."""
+        called = re.compile(rf"\b{re.escape(callee.rpartition('::')[2])}\(")
+        for it in self.functions:
+            if it.path == caller:
+                return bool(called.search("\n".join(self.texts[it.file].split("\n")[it.opened + 1 : it.closed])))
+        return False
+
+    def write(self, folder, texts, closed):
+        """Writes a copy of the crate with these texts, in which the functions that aren't `closed` are left open."""
+        for part in PARTS:
+            if (self.folder / part).is_dir():
+                shutil.copytree(self.folder / part, folder / part)
+        lines = {file: text.split("\n") for file, text in texts.items()}
+        for it in reversed(self.functions):
+            if it.path not in closed:
+                indent = " " * (len(lines[it.file][it.closed]) - 1)
+                lines[it.file][it.opened + 1 : it.closed] = [f"{indent}    {OPEN_BODY}"]
+                self.leave_open(folder / "proofs", it.path)
+        for file, text in lines.items():
+            (folder / file).write_text("\n".join(text))
+
+    def leave_open(self, proofs, path):
+        *module, name = path.split("::")
+        for own in (proofs.joinpath(*module, name), proofs.joinpath(*module, "+" + name)):
+            for file in PROOF_FILES:
+                (own / file).unlink(missing_ok=True)
+        own = proofs.joinpath(*module, name)
+        own.mkdir(parents=True, exist_ok=True)
+        (own / "Proof.antt").write_text(OPEN_PROOF.format(crate=self.name, path=".".join([*module, name]), name=name))
+
+
+# ------------------------------------------------------------------------------------------------------------------------------ the tries
+
+
+def goals_left(function, cycle, said):
+    """The goals that a check left open of a function: none where it is proved, None where the check says nothing of them."""
+    line = next((it for it in said.split("\n") if re.match(rf"fn \w+::{re.escape(function)}: ", it)), "")
+    state = line.partition(": ")[2]
+    if re.match(r"(proved|no holes|depends on a hole)", state):
+        return []
+    folder = "/".join(function.split("::"))
+    places = {folder} | {"/".join([*it.split("::")[:-1], "+" + it.split("::")[-1]]) for it in cycle}
+    own = "|".join(re.escape(it) for it in sorted(places))
+    found = re.findall(rf"(?m)^(?:\./)?proofs/(?:{own})/Answers\.antt:\d+:\d+: error: `([^`]+)`", said)
+    found += re.findall(r"`([^`]+)`", state.partition("did not prove")[2].partition(";")[0])
+    return found or None
+
+
+class Check:
+    """One check of a crate with some of its edits."""
+
+    def __init__(self, crates, sources, edits, unedited):
+        self.edits, self.said, self.seconds = edits, "", 0.0
+        texts = sources.texts
+        for edit in edits:
+            texts = edit.applied(texts)
+        functions = {edit.function for edit in edits}
+        closed = sources.with_cycles(functions | sources.changed(texts))
+        with tempfile.TemporaryDirectory(prefix="rt-edit-") as room:
+            sources.write(pathlib.Path(room), sources.texts if unedited else texts, closed)
+            begun = time.time()
+            ran = subprocess.run(crates.command(sources.name, sorted(functions)), cwd=room, stdin=subprocess.DEVNULL, stdout=subprocess.PIPE,
+                                 stderr=subprocess.STDOUT, encoding="utf-8", errors="replace")
+            self.seconds = time.time() - begun
+        self.said = ran.stdout
+        self.ended = re.search(r"(?m)^only=\d+ holes=\d+$", ran.stdout) is not None
+        self.goals = {}
+        for edit in edits:
+            cycle = set().union(*(it for it in sources.cycles if edit.function in it))
+            self.goals[edit] = goals_left(edit.function, cycle, ran.stdout) if self.ended else None
+
+    def why(self):
+        """The first thing that a check says where it doesn't come to an end, or says nothing of a function."""
+        lines = [line for line in self.said.split("\n") if line.strip()]
+        return next((line for line in lines if "error" in line), lines[-1] if lines else "it says nothing")[:300]
+
+
+class Trial:
+    """All edits of some crates: which are tried together, and what came of each."""
+
+    def __init__(self, crates, jobs, unedited, verbose):
+        self.crates, self.unedited, self.verbose = crates, unedited, verbose
+        self.pool, self.alone = concurrent.futures.ThreadPoolExecutor(jobs), threading.Lock()
+        self.passed = self.failed = 0
+
+    def say(self, well, text):
+        with self.alone:
+            print(text, flush=True)
+            self.passed, self.failed = self.passed + (well is True), self.failed + (well is False)
+
+    def run(self, edits_of):
+        """Tries the edits, those of the crates that stand highest first, since their checks take longest."""
+        tasks = []
+        for name in sorted(edits_of, key=lambda it: -len(self.crates.below(it))):
+            missing = self.crates.missing(name)
+            if missing:
+                for edit in edits_of[name]:
+                    self.say(False, f"{edit.label}: NOT TRIED: there is no library of {', '.join(missing)} in {self.crates.tree}: run `rt ci` there first")
+                continue
+            sources = Sources(name)
+            fitting = [it for it in edits_of[name] if self.fits(sources, it)]
+            tasks += [(sources, batch) for batch in batches(sources, fitting)]
+        waiting = {self.pool.submit(self.tried, *task) for task in tasks}
+        while waiting:
+            done, waiting = concurrent.futures.wait(waiting, return_when=concurrent.futures.FIRST_COMPLETED)
+            for it in done:
+                waiting |= {self.pool.submit(self.tried, *task) for task in it.result()}
+        self.pool.shutdown()
+
+    def fits(self, sources, edit):
+        why = edit.lacks
+        if not why and edit.function not in {it.path for it in sources.functions}:
+            why = f"there is no function {edit.function} that can be tried"
+        if not why:
+            texts = edit.applied(sources.texts)
+            if texts is None:
+                why = "an 'old:' text doesn't stand in its file exactly once"
+            elif edit.function not in sources.with_cycles(sources.changed(texts)):
+                why = f"it doesn't change {edit.function}"
+        if why:
+            self.say(False, f"{edit.label}: BAD EDIT: {why}")
+        return not why
+
+    def tried(self, sources, edits):
+        """Tries some edits together, says what came of them, and returns what has to be tried again, apart."""
+        check = Check(self.crates, sources, edits, self.unedited)
+        if self.verbose:
+            self.say(None, check.said.rstrip())
+        again = []
+        for edit in edits:
+            goals = check.goals[edit]
+            if goals is None and len(edits) > 1:
+                again.append((sources, [edit]))
+            elif goals is None:
+                self.say(False, f"{edit.label}: BAD EDIT: of {edit.function} the check says: {check.why()}")
+            elif self.unedited:
+                self.say(not goals, f"{edit.label}: {edit.function} unedited {'leaves ' + ', '.join(goals) if goals else 'is proved'}")
+            elif not goals:
+                self.say(False, f"{edit.label}: NOT REFUSED: {edit.function} is still proved")
+            elif edit.goal not in goals:
+                self.say(False, f"{edit.label}: refused by {', '.join(goals)}, and not by {edit.goal}")
+            else:
+                self.say(True, f"{edit.label}: refused by {edit.goal} of {edit.function}")
+        self.say(None, f"{sources.name}: {check.seconds:.0f} seconds for {len(edits)} edit{'s' * (len(edits) > 1)}")
+        return again
+
+
+def batches(sources, edits):
+    """The edits in groups that are tried together: of different functions, none of which calls another, and no text in the way of another's."""
+    groups = []
+    for edit in edits:
+        for group in groups:
+            if can_join(sources, group, edit):
+                group.append(edit)
+                break
+        else:
+            groups.append([edit])
+    return groups
+
+
+def can_join(sources, group, edit):
+    texts = sources.texts
+    for it in [*group, edit]:
+        texts = it.applied(texts)
+        if texts is None:
+            return False
+    own = sources.changed(edit.applied(sources.texts)) | {edit.function}
+    for it in group:
+        others = sources.changed(it.applied(sources.texts)) | {it.function}
+        if own & others or any(sources.calls(f, g) or sources.calls(g, f) for f in own for g in others):
+            return False
+    return True
+
+
+def main():
+    words = argparse.ArgumentParser(description="Tries the wrong bodies of crates/*/must-fail.")
+    words.add_argument("crates", nargs="*", metavar="CRATE", help="the crates whose edits are tried; else all")
+    words.add_argument("--edit", action="append", metavar="WORD", help="only the edits whose file's name has this word (repeatable)")
+    words.add_argument("--over", type=pathlib.Path, default=ROOT, metavar="TREE", help="the tree in which `rt ci` has left the libraries; else this one")
+    words.add_argument("--jobs", type=int, default=min(os.cpu_count() or 1, 4), metavar="N", help="how many checks go on side by side")
+    words.add_argument("--unedited", action="store_true", help="try the same functions as they stand: each must be proved")
+    words.add_argument("--verbose", action="store_true", help="print what each check says")
+    words = words.parse_args()
+    try:
+        crates = Crates(words.over.resolve())
+        unknown = [it for it in words.crates if it not in crates.uses]
+        if unknown:
+            raise Unusable(f"crates.txt has no crate {', '.join(unknown)}")
+    except Unusable as why:
+        print(f"edits: {why}\nedits: 0 passed, 1 failed")
+        return 1
+    edits_of = {}
+    for path in sorted(ROOT.glob("crates/*/must-fail/*.edit")):
+        name = path.parent.parent.name
+        if name in (words.crates or crates.uses) and (not words.edit or any(it in path.name for it in words.edit)):
+            edits_of.setdefault(name, []).append(Edit(path))
+    trial = Trial(crates, words.jobs, words.unedited, words.verbose)
+    trial.run(edits_of)
+    print(f"edits: {trial.passed} passed, {trial.failed} failed")
+    return 1 if trial.failed else 0
+
+
+if __name__ == "__main__":
+    sys.exit(main())
