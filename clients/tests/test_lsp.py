@@ -93,6 +93,14 @@ class Editor:
     def goals(self, uri, line, column, mode="After"):
         return self.ask("proof/goals", {"textDocument": {"uri": uri}, "position": {"line": line, "character": column}, "mode": mode})
 
+    def hover(self, uri, line, column, wanted):
+        """A hover that has some words, which one that comes too early may lack."""
+        until = time.monotonic() + SECONDS
+        while True:
+            found = self.ask("textDocument/hover", {"textDocument": {"uri": uri}, "position": {"line": line, "character": column}})
+            if wanted in found["contents"]["value"] or time.monotonic() > until:
+                return found
+
     def said(self, uri):
         """The diagnostics as line, severity and the words' beginning."""
         return [(found["range"]["start"]["line"], found["severity"], found["message"].split(":")[0]) for found in self.published.get(uri, [])]
@@ -269,9 +277,9 @@ class Bridging(unittest.TestCase):
         at = dict(document, position={"line": 8, "character": 3})
         labels = [found["label"] for found in editor.ask("textDocument/completion", at)]
         self.assertLess({"N0", "CONJ_TAC", "THEN", "TRUTH"}, set(labels))
-        hover = self.hover(editor, 5, 1)
+        hover = editor.hover(self.uri, 5, 1, "rests on")
         self.assertEqual(hover["contents"]["value"], "```hol\nthm N0 |- f x = f x\nrests on no axioms or definitions of its own\n```")
-        hover = self.hover(editor, 2, 3)
+        hover = editor.hover(self.uri, 2, 3, "rests on")
         self.assertEqual(hover["contents"]["value"], "```hol\nN0: |- f x = f x\n```\n\ntheorem of A\n\nrests on no axioms or definitions of its own")
         hover = editor.ask("textDocument/hover", dict(document, position={"line": 3, "character": 4}))
         self.assertIn("Fits any goal and leaves it as it is.", hover["contents"]["value"])
@@ -280,14 +288,6 @@ class Bridging(unittest.TestCase):
         self.assertEqual(editor.goals(self.uri, 10, 1)["messages"], ["thm N1 |- f x = f x"])
         lenses = editor.ask("textDocument/codeLens", document)
         self.assertEqual(editor.ask("codeLens/resolve", lenses[1])["command"]["title"], "rests on no axioms or definitions of its own")
-
-    def hover(self, editor, line, column):
-        """A hover that has what a theorem rests on, which one that comes too early lacks."""
-        until = time.monotonic() + SECONDS
-        while True:
-            found = editor.ask("textDocument/hover", {"textDocument": {"uri": self.uri}, "position": {"line": line, "character": column}})
-            if "rests on" in found["contents"]["value"] or time.monotonic() > until:
-                return found
 
     def test_a_long_term_is_shown_in_part(self):
         editor = self.editor()

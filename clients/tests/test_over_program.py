@@ -24,11 +24,10 @@ class OverTheProgram(unittest.TestCase):
         editor.change(uri, 3, "CONJ_TAC", ((line, 2), (line, 11)))
         editor.until(lambda: editor.said(uri) == [] and editor.versions[uri] == 3)
         last = text[:text.rindex("qed")].count("\n")
-        hover = editor.ask("textDocument/hover", {"textDocument": {"uri": uri}, "position": {"line": last, "character": 1}})
+        hover = editor.hover(uri, last, 1, "rests on")
         self.assertIn("thm EITHER |- (p <=> q) \\/ (r <=> r)\nrests on no axioms", hover["contents"]["value"])
         line = text[:text.index("R x y")].count("\n")
-        place = {"line": line, "character": text.split("\n")[line].index("R x y") + 4}
-        hover = editor.ask("textDocument/hover", {"textDocument": {"uri": uri}, "position": place})
+        hover = editor.hover(uri, line, text.split("\n")[line].index("R x y") + 4, "y : B")
         self.assertIn("y : B", hover["contents"]["value"])
         self.assertEqual(editor.end(), 0)
 
