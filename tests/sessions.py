@@ -4,8 +4,8 @@ A file holds sessions. A session begins with a line 'FORM: NAME' and ends with t
 
 lines:      '> ' a request, '< ' the reply that is wanted.
 in turn:    '> ' a command, put at the end of a theory; '< ' the report that is wanted on the last one. '--' begins another theory.
-each:       ': ' commands that stand before; '> ' a command that is put after these alone; '< ' the report that is wanted on each
-            command since the last such line.
+each:       ': ' commands that stand before; '> ' a command that is put after these alone, or some with ' ;; ' between them; '< ' the report
+            that is wanted on the last command of each such line since the last '< '.
 
 'turns: N' below the first line runs it with '--turns N'. '#' begins a comment. Expected replies come from docs/PROTOCOL.md, RFC 8259
 and HOL Light."""
@@ -27,6 +27,19 @@ def request(op, **more):
     return json.dumps({"op": op, **more}, ensure_ascii=False)
 
 
+def shows(goal, *free):
+    """The report on one goal without assumptions."""
+    return json.dumps({"goals": [{"asl": [], "free": list(free), "goal": goal}], "ok": True}, separators=(",", ":"))
+
+
+def makes(*texts):
+    return json.dumps({"made": list(texts), "ok": True}, separators=(",", ":"))
+
+
+def refuses(number, text, arg=""):
+    return json.dumps({"arg": arg, "ok": True, "refusal": number, "text": text}, separators=(",", ":"))
+
+
 class Session:
     """A name, the program's words, the bytes to send, and for each line the reply that is wanted, or a pattern of it; "" where there is none."""
 
@@ -43,8 +56,11 @@ class Session:
         for at, command in enumerate(commands):
             self.add(request("insert", theory=name, at=at, text=command), OK)
 
-    def faults(self, program):
-        ran = subprocess.run([program, *self.words], input=b"\n".join(self.sent) + b"\n", stdout=subprocess.PIPE, timeout=60)
+    def faults(self, program, seconds):
+        try:
+            ran = subprocess.run([program, *self.words], input=b"\n".join(self.sent) + b"\n", stdout=subprocess.PIPE, timeout=seconds)
+        except subprocess.TimeoutExpired:
+            return [f"no end in {seconds} seconds"]
         replies = ran.stdout.decode().split("\n")
         found = [] if ran.returncode == 0 else [f"status {ran.returncode}"]
         wanted = [want for want in self.want if want != ""]
@@ -70,8 +86,9 @@ def of_each(name, words, lines):
                 if number % 64 == 0 and number:
                     for at in range(number - 64, number):
                         session.add(request("drop_theory", name=f"A{at}"), OK)
-                session.theory(f"A{number}", [*before, command])
-                session.add(request("report", theory=f"A{number}", at=len(before)), rest)
+                texts = [*before, *command.split(" ;; ")]
+                session.theory(f"A{number}", texts)
+                session.add(request("report", theory=f"A{number}", at=len(texts) - 1), rest)
                 number += 1
             commands = []
     return session
@@ -140,7 +157,7 @@ def doubling(count):
     return "g N `" + r" /\ ".join(rf"x{k} = (\g. g x{k - 1} x{k - 1})" for k in range(1, count + 1)) + "`"
 
 
-TURN_LIMIT, TOO_LARGE = '{"arg":"","ok":true,"refusal":18,"text":"turn limit"}', '{"arg":"","ok":true,"refusal":13,"text":"too large"}'
+TURN_LIMIT, TOO_LARGE = refuses(18, "turn limit"), refuses(13, "too large")
 SHAPE, NOT_JSON = '{"error":3,"ok":false,"text":"shape"}', '{"error":2,"ok":false,"text":"not JSON"}'
 UNKNOWN, LONG = '{"error":4,"ok":false,"text":"unknown theory"}', '{"error":1,"ok":false,"text":"line too long"}'
 SHAPES = r"""{"op":"x"}
@@ -203,6 +220,72 @@ def of_limits():
     return session
 
 
+def report_of(session, number, commands, want):
+    """Puts a theory of these commands and asks for the report on the last one."""
+    session.theory(f"A{number}", commands)
+    session.add(request("report", theory=f"A{number}", at=len(commands) - 1), want)
+
+
+def joined(count, part="p"):
+    """10 nodes for each part of one name, and 8 less."""
+    return r" /\ ".join([part] * count)
+
+
+def of_sizes():
+    """20,000 nodes and just over: a quantifier of a `bool` has 9, a negation 5, what a definition puts to its right side 10, REFL 8 and its term twice."""
+    session = Session("takes 20,000 nodes and no more")
+    just, over, generalized = f"!x y. {joined(1999)}", f"!x. {joined(2000)}", f"!q x. {joined(1999)}"
+    right, large = f"!(x:bool) y:bool. {joined(1998, 'T')}", f"!x:bool. {joined(1999, 'T')}"
+    made = makes("const c:bool", f"thm N |- c <=> (!x y. {joined(1998, 'T')})")
+    unfit = [refuses(17, "refused", name) for name in ("UNDISCH_TAC", "ACCEPT_TAC")]
+    cases = [([f"g N `{just}`"], shows(just, "p:bool")), ([f"g N `{over}`"], TOO_LARGE)]
+    cases += [([f"new_axiom N `{just}`"], makes(f"thm N |- {just}")), ([f"new_axiom N `{over}`"], TOO_LARGE)]
+    cases += [([f"new_definition N `c <=> {right}`"], made), ([f"new_definition N `c <=> {large}`"], TOO_LARGE)]
+    cases += [(["g N `p:bool`", f"e UNDISCH_TAC `{just}`"], unfit[0]), (["g N `p:bool`", f"e UNDISCH_TAC `{over}`"], TOO_LARGE)]
+    cases += [(["g N `p:bool`", f"e ACCEPT_TAC (REFL `~(!x. {joined(999)})`)"], unfit[1])]
+    cases += [(["g N `p:bool`", f"e ACCEPT_TAC (REFL `~({joined(1000)})`)"], TOO_LARGE)]
+    cases += [([f"g N `!x. {joined(1999)}`", "e SPEC_TAC (`q:bool`, `q:bool`)"], shows(generalized, "p:bool"))]
+    cases += [([f"g N `{joined(2000)}`", "e SPEC_TAC (`q:bool`, `q:bool`)"], TOO_LARGE)]
+    cases += [([r"new_axiom A `T /\ T`", f"g N `{joined(1999)}`", "e ASSUME_TAC A", r"e UNDISCH_TAC `T /\ T`"], TOO_LARGE)]
+    for number, (commands, want) in enumerate(cases):
+        report_of(session, number, commands, want)
+    return session
+
+
+def of_binders(count):
+    """So many binders one inside another: compared, rewritten and reduced under, renamed where they would capture, and instantiated."""
+    session, last = Session(f"keeps {count} binders apart"), count - 1
+    xs, ys = (" ".join(f"{name}{k}" for k in range(count)) for name in "xy")
+    for at in (0, last):
+        equal = rf"(\{xs}. x{at}) = (\{ys}. y{at})"
+        report_of(session, f"L{at}", [f"g N `{equal}`"], shows(equal))
+        report_of(session, f"R{at}", [f"g N `{equal}`", "e REFL_TAC", "qed"], makes(f"thm N |- {equal}"))
+    report_of(session, "U", [rf"g N `(\{xs}. x0) = (\{ys}. y{last})`", "e REFL_TAC"], refuses(17, "refused", "REFL_TAC"))
+    proof = [rf"g N `!{xs}. x0 /\ T <=> x0`", "e REWRITE_TAC []", "e REPEAT GEN_TAC", "e ACCEPT_TAC TRUTH", "qed"]
+    for steps, want in ((2, shows(f"!{xs}. T")), (3, shows("T")), (5, makes(rf"thm N |- !{xs}. x0 /\ T <=> x0"))):
+        report_of(session, f"W{steps}", proof[:steps], want)
+    report_of(session, "B", [rf"g N `!{xs}. (\z. z) x0`", "e BETA_TAC"], shows(f"!{xs}. x0"))
+    types = "->".join([f"?{k}" for k in range(count)] + ["bool"])
+    renamed = xs.replace("x0", "x0'", 1)
+    captured = shows(rf"!x0. P (\{renamed}. x0)", f"P:({types})->bool")
+    report_of(session, "C", [rf"g N `!x0:bool. P ((\y {xs}. y) x0):bool`", "e BETA_TAC"], captured)
+    at_a, at_b = (xs.replace("x0", f"(x0:{name})", 1) for name in "AB")
+    proof = [f"g N `!{at_a}. x0 = x0`", "e REPEAT GEN_TAC THEN REFL_TAC", "qed", f"g M `!{at_b}. x0 = x0`", "e ACCEPT_TAC (INST_TYPE [`:B`, `:A`] N)", "qed"]
+    report_of(session, "I", proof, makes(f"thm M |- !{xs}. x0 = x0"))
+    return session
+
+
+def of_cycles():
+    """Types that would have to stand in themselves, and types of 2^150 nodes that are one: neither is written out."""
+    session = Session("refuses cyclic types at once")
+    chain = doubling(300)[5:-1]
+    twice = doubling(150)[5:-1] + r" /\ " + doubling(150)[5:-1].replace("x", "y")
+    untypable = [r"(\x. x x) = y", r"x y = y x", r"f x = y /\ f y = z /\ x = f", rf"{chain} /\ x0 = x300", rf"x300 = x299 /\ {chain}"]
+    for number, (text, want) in enumerate([(text, refuses(7, "untypable", "4")) for text in untypable] + [(rf"{twice} /\ x150 = y150", TOO_LARGE)]):
+        report_of(session, number, [f"g N `{text}`"], want)
+    return session
+
+
 def of_a_long_reply():
     """60 variables of one type with a long name, which is shown at each of them."""
     name = "A" * 1_200
@@ -261,6 +344,10 @@ def generated():
     yield of_many_goals(3_998, '{"goals":[' + ",".join(['{"asl":[],"free":[],"goal":"T"}'] * 1000) + '],"ok":true}')
     yield of_many_goals(3_997, TURN_LIMIT)
     yield of_large_goals()
+    yield of_sizes()
+    for count in (63, 64, 65, 127, 128, 129, 255, 256, 257, 300):
+        yield of_binders(count)
+    yield of_cycles()
     yield of_a_long_reply()
     yield of_texts_at_limits()
     yield of_no_requests()
@@ -272,13 +359,14 @@ def main():
     words = argparse.ArgumentParser(description="runs the sessions of tests/sessions over the built program")
     words.add_argument("--program", default=str(BUILT))
     words.add_argument("--only", default="", help="sessions whose name has this in it")
+    words.add_argument("--seconds", type=int, default=60, help="for each session; a program with checks at run time takes long")
     given = words.parse_args()
     every = [session for file in sorted((HERE / "sessions").glob("*.txt")) for session in read(file)] + [*generated()]
     passed = failed = 0
     for session in every:
         if given.only not in session.name:
             continue
-        found = session.faults(given.program)
+        found = session.faults(given.program, given.seconds)
         passed, failed = passed + (not found), failed + bool(found)
         if found:
             print(f"FAILED {session.name}")
@@ -287,4 +375,5 @@ def main():
     return 1 if failed or not passed else 0
 
 
-sys.exit(main())
+if __name__ == "__main__":
+    sys.exit(main())

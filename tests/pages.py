@@ -1,0 +1,439 @@
+#!/usr/bin/env python3
+"""Checks the pages, and makes what they say of the definitions from these.
+
+    python3 tests/pages.py            checks; the last line is 'pages: N passed, M failed'
+    python3 tests/pages.py --write    writes the lists of docs/DEFINITIONS.md and the counts of README.md, and then checks
+
+The definitions that have to be believed are those that the contracts of some functions name, and what these name, and so on (tests/antt.py). They
+stand in three tiers, each without what stands in those before. tests/definitions.txt has sentences for files and definitions; where it has none,
+the comment at a file's head or above a definition is taken."""
+
+import argparse
+import dataclasses
+import pathlib
+import re
+import sys
+import tempfile
+
+import antt
+
+ROOT = pathlib.Path(__file__).resolve().parent.parent
+CRATES = ROOT / "crates"
+SENTENCES = ROOT / "tests" / "definitions.txt"
+PAGE = ROOT / "docs" / "DEFINITIONS.md"
+README = ROOT / "README.md"
+WIDTH = 120
+LONGEST_LINE = 160
+LARGEST_README = 10_240
+BEGIN, END = "<!-- Made by tests/pages.py --write, from here -->", "<!-- to here. -->"
+
+
+@dataclasses.dataclass(frozen=True)
+class Tier:
+    title: str
+    contracts: tuple  # of a file and a function in it
+    stops: tuple = ()  # definitions that are left to later tiers, with what they name
+    each_has_a_sentence: bool = False
+
+
+RUN = ("hol_session/src/serving.rt", "run")
+PROGRAM = ("hol_serve/src/program.rt", "program")
+TIERS = (
+    Tier(
+        "Each theorem shown has a derivation",
+        (("hol_kernel/src/thm.rt", "promise"), ("hol_print/src/term_text.rt", "show_term")),
+        each_has_a_sentence=True,
+    ),
+    Tier("Documents, commands and what is read", (RUN, PROGRAM), stops=(("hol_combine.specs.Runs", "run"),)),
+    Tier("What expressions of TACs do to a goal", (RUN, PROGRAM)),
+)
+
+
+class Sentences:
+    """What tests/definitions.txt says: of 'CRATE/FILE', and of 'CRATE/FILE NAME'."""
+
+    def __init__(self, text):
+        self.of, key, file = {}, "", ""
+        for number, line in enumerate(text.splitlines(), 1):
+            if line.startswith("    "):
+                self.of[key] += " " + line.strip()
+            elif line.strip() and not line.startswith("#"):
+                name, colon, sentence = line.strip().partition(": ")
+                if not colon:
+                    raise antt.Unread(f"tests/definitions.txt, line {number}")
+                file = file if line.startswith("  ") else name
+                key = f"{file} {name}" if line.startswith("  ") else name
+                if key in self.of:
+                    raise antt.Unread(f"tests/definitions.txt, line {number}: {key} again")
+                self.of[key] = sentence
+
+
+# ---- text
+
+
+def escaped(text):
+    """A comment as Markdown that reads as it stands, but for what is between backquotes."""
+    parts = text.split("`")
+    return "`".join(part if i % 2 else re.sub(r"([\\*<\[\]])", r"\\\1", part) for i, part in enumerate(parts))
+
+
+def words_of(text):
+    """The words of a text, a code span of up to 60 bytes being one, and what would begin a list or a heading going with the word before."""
+    found, rest = [], text
+    while rest := rest.lstrip():
+        match = re.match(r"(?:`[^`]{1,60}`|[^\s`]|`[^`]*$|`(?=[^`]{61,}`))+", rest)
+        word, rest = match.group(0), rest[match.end() :]
+        if found and re.match(r"([-+*>|]|#{1,6}$|\d+[.)]$|=+$)", word):
+            found[-1] += " " + word
+        else:
+            found.append(word)
+    return found
+
+
+def filled(text, first="", further=""):
+    lines, line = [], first
+    for i, word in enumerate(words_of(text)):
+        if i and len(line) + 1 + len(word) > WIDTH:
+            lines.append(line)
+            line = further + word
+        else:
+            line += (" " if i else "") + word
+    return [*lines, line]
+
+
+def count(number, word):
+    return f"{number:,} {word}" + ("" if number == 1 else "s")
+
+
+def as_sentence(text):
+    return text if text.endswith((".", ":")) else (text or "(no sentence)") + "."
+
+
+# ---- the definitions
+
+
+class Definitions:
+    def __init__(self):
+        self.library = antt.Library(CRATES)
+        self.sentences = Sentences(SENTENCES.read_text(encoding="utf-8"))
+        names = [line.split("#")[0].split(":")[0].split() for line in (ROOT / "crates.txt").read_text().splitlines()]
+        self.crates = [words[0] for words in names if words]
+        self.tiers, self.roots, self.foreign, before = [], [], set(), set()
+        for tier in TIERS:
+            roots = set().union(*(self.library.named_by_contract(CRATES / file, function) for file, function in tier.contracts))
+            stops = frozenset(self.library.modules[module].definitions[name] for module, name in tier.stops)
+            found, foreign = self.library.reached(roots, stops)
+            self.roots.append(roots)
+            self.tiers.append(found - before)
+            self.foreign |= foreign
+            before |= found
+        self.all = before
+
+    def counts(self, definitions):
+        lines = sum(len(d.lines) for d in definitions)
+        return len(definitions), lines, len({d.module for d in definitions}), len({d.crate for d in definitions})
+
+    def faults(self):
+        """Definitions and files without a sentence, and sentences for what isn't reached."""
+        known = {d.key for d in self.all} | {d.key.split(" ")[0] for d in self.all}
+        for key in self.sentences.of:
+            if key not in known:
+                yield f"tests/definitions.txt has a sentence for {key}, which isn't reached"
+        for tier, definitions in zip(TIERS, self.tiers):
+            for d in sorted(definitions, key=lambda d: d.key):
+                if not self.of_file(d.module):
+                    yield f"{d.key}: the file has no sentence"
+                if tier.each_has_a_sentence and not self.of_definition(d):
+                    yield f"{d.key} has no sentence, neither a comment in its file nor a line of tests/definitions.txt"
+
+    def of_file(self, module):
+        crate, _, path = module.split(".", 2)
+        head = self.library.modules[module].head.split("\n\n")[0]
+        return self.sentences.of.get(f"{crate}/{path.replace('.', '/')}.antt") or escaped(head)
+
+    def of_definition(self, definition):
+        return self.sentences.of.get(definition.key) or escaped(definition.comment)
+
+    def files(self, definitions, crate):
+        """The modules of a crate, each after those that its definitions name, with these definitions of each."""
+        listed = [m for m in self.library.modules if m.startswith(f"{crate}.specs.")]
+        order, met = [], set()
+
+        def visit(module):
+            if module not in met:
+                met.add(module)
+                named = set().union(set(), *(self.library.named_by(d)[0] for d in self.library.modules[module].definitions.values() if d in self.all))
+                for other in sorted({d.module for d in named if d.crate == crate}):
+                    visit(other)
+                order.append(module)
+
+        for module in listed:
+            visit(module)
+        for module in order:
+            inside = [d for d in self.library.modules[module].definitions.values() if d in definitions]
+            if inside:
+                yield module, inside
+
+    # ---- the page
+
+    def page(self):
+        lines = []
+        for number, (tier, definitions) in enumerate(zip(TIERS, self.tiers)):
+            lines += ["", f"## {number + 1}. {tier.title}", ""]
+            lines += filled(self.of_tier(number, tier))
+            before = set().union(set(), *self.tiers[:number])
+            for crate in [c for c in self.crates if any(d.crate == c for d in definitions)]:
+                inside = {d for d in definitions if d.crate == crate}
+                size = self.counts(inside)
+                lines += ["", f"### {crate}, {count(size[0], 'definition')}, {count(size[1], 'line')}", ""]
+                for module, found in self.files(inside, crate):
+                    lines += self.of_module(tier, module, found, module in {d.module for d in before})
+        return [*lines, *self.of_foreign(), *self.of_the_rest()]
+
+    def of_tier(self, number, tier):
+        definitions, lines, files, crates = self.counts(self.tiers[number])
+        text = f"{count(definitions, 'definition')}, {count(lines, 'line')}, in {count(files, 'file')} of {count(crates, 'crate')}"
+        begins = []
+        for file, function in tier.contracts:
+            names = sorted(d.name for d in self.library.named_by_contract(CRATES / file, function))
+            begins.append(f"`{function}` (crates/{file}): " + ", ".join(f"`{name}`" for name in names))
+        if number == len(TIERS) - 1:
+            return text + ". Reached by way of `run` of hol_combine alone, which says what an expression does to a goal."
+        return text + ". The contracts that they begin at, with the words of these: " + "; ".join(begins) + "."
+
+    def of_module(self, tier, module, definitions, again):
+        crate, _, path = module.split(".", 2)
+        file = path.replace(".", "/") + ".antt"
+        link = f"[{file}](../crates/{crate}/specs/{file})"
+        if tier.each_has_a_sentence:
+            lines = [*filled(f"**{link}.** {as_sentence(self.of_file(module))}"), ""]
+            for d in definitions:
+                cases = [c for c, types in self.library.modules[module].constructors.items() if d in types]
+                of_cases = f" ({', '.join(f'`{c}`' for c in cases)})" if cases else ""
+                lines += filled(f"`{d.name}`{of_cases}: {as_sentence(self.of_definition(d))}", "- ", "  ")
+            return [*lines, ""]
+        words = ", ".join(f"`{d.name}`" for d in definitions)
+        text = f"More of {link}. Words: {words}." if again else f"**{link}.** {as_sentence(self.of_file(module))} Words: {words}."
+        return [*filled(text), ""]
+
+    def of_foreign(self):
+        """The words that these definitions use, and that this page doesn't count."""
+        types, kit = {}, {}
+        for path in self.foreign:
+            crate, *parts = path.split(".")
+            if crate in self.crates:
+                parts = parts[parts.index("declared") + 1 :]
+                at = next((i for i, p in enumerate(parts) if p in ("TheVariants", "TheConstants")), len(parts) - 1)
+                name = parts[at + 1] if parts[at] == "TheConstants" else parts[at - 1 if parts[at] == "TheVariants" else at]
+                modules = parts[: at if parts[at] == "TheConstants" else at - 1]
+                types.setdefault(crate, set()).add((name, "/".join(modules) + ".rt"))
+            else:
+                kit.setdefault(crate, set()).add(parts[-1])
+        number = len({name for names in kit.values() for name in names})
+        lines = ["", "## Words that aren't counted", ""]
+        lines += filled(
+            f"{count(sum(map(len, types.values())), 'type')} and constants that are declared in Rust, each with its variants or its value, "
+            f"and {count(number, 'word')} of the kit's crates."
+        )
+        lines.append("")
+        for crate in [c for c in self.crates if c in types]:
+            lines += filled(f"{crate}, in src/: " + ", ".join(f"`{name}` ({file})" for name, file in sorted(types[crate])) + ".", "- ", "  ")
+        for crate in sorted(kit):
+            lines += filled(f"{crate}: " + ", ".join(f"`{name}`" for name in sorted(kit[crate])) + ".", "- ", "  ")
+        return lines
+
+    def of_the_rest(self):
+        others = {d for m in self.library.modules.values() for d in m.definitions.values()} - self.all
+        definitions, lines, files, crates = self.counts(others)
+        text = f"{count(definitions, 'definition')}, {count(lines, 'line')}, in {count(files, 'file')} of {count(crates, 'crate')}, that the contracts above don't reach:"
+        return ["", "## What else is in specs/", "", *filled(text)]
+
+    def rows(self):
+        """The README's rows, by what they begin with."""
+        found = {}
+        for tier, definitions in zip(TIERS, self.tiers):
+            found[f"| {tier.title} |"] = " | ".join(f"{n:,}" for n in self.counts(definitions)) + " |"
+        found["| together |"] = " | ".join(f"{n:,}" for n in self.counts(self.all)) + " |"
+        return found
+
+
+def with_lists(text, lines):
+    """The page with these lines between its two marks."""
+    before, begin, rest = text.partition(BEGIN)
+    _, end, after = rest.partition(END)
+    if not begin or not end:
+        raise antt.Unread(f"{PAGE.name} lacks its marks")
+    return f"{before}{BEGIN}\n\n" + "\n".join(squeezed(lines)) + f"\n\n{END}{after}"
+
+
+def squeezed(lines):
+    """Without blank lines at the ends, or two together."""
+    found = []
+    for line in lines:
+        if line or found and found[-1]:
+            found.append(line)
+    return found[: -1 if found and not found[-1] else None]
+
+
+def with_rows(text, rows):
+    lines = text.split("\n")
+    for start, rest in rows.items():
+        at = [i for i, line in enumerate(lines) if line.startswith(start)]
+        if len(at) != 1:
+            raise antt.Unread(f"README.md has {len(at)} rows that begin with {start!r}")
+        lines[at[0]] = f"{start} {rest}"
+    return "\n".join(lines)
+
+
+# ---- checks of pages
+
+
+def prose(text):
+    """The lines outside of tables and code, with their numbers; code is fenced, or indented by four after a blank line and outside a list."""
+    fenced, listed, code, blank = False, False, False, True
+    for number, line in enumerate(text.split("\n"), 1):
+        if line.lstrip().startswith("```"):
+            fenced = not fenced
+        elif not fenced:
+            indented = line.startswith("    ") and not listed
+            code = indented and (blank or code) or code and not line.strip()
+            if not code and not line.lstrip().startswith("|"):
+                yield number, line
+        if re.match(r"\s*([-*+]|\d+[.)]) ", line):
+            listed = True
+        elif line.strip() and not line.startswith(" "):
+            listed = False
+        blank = not line.strip()
+
+
+def long_lines(page, text):
+    for number, line in prose(text):
+        if len(line) > LONGEST_LINE:
+            yield f"line {number} has {len(line)} characters"
+
+
+def slugs(text):
+    """The anchors of a page's headings, as GitHub makes them."""
+    for _, line in prose(text):
+        if match := re.match(r"#+ (.*)", line):
+            heading = re.sub(r"\[([^]]*)\]\([^)]*\)", r"\1", match.group(1)).lower()
+            yield re.sub(r"[^\w\- ]", "", heading).strip().replace(" ", "-")
+
+
+def broken_links(page, text):
+    for target in re.findall(r"\]\(([^)\s]+)\)", text):
+        if re.match(r"[a-z]+:", target):
+            continue
+        file, _, anchor = target.partition("#")
+        path = (page.parent / file).resolve() if file else page
+        if not path.exists():
+            yield f"there is no {target}"
+        elif anchor and path.suffix == ".md" and anchor not in slugs(path.read_text(encoding="utf-8")):
+            yield f"there is no heading {target}"
+
+
+def missing_paths(page, text):
+    """Paths from the top of the repository, or from crates/ to a crate's files; NAME and * stand for any name. What is built has `out` in its path."""
+    paths = re.findall(r"(?<![\w/.-])((?:crates|docs|tests|bench|examples|clients)/[\w./*+-]*)", text)
+    paths += [f"crates/{path}" for path in re.findall(r"(?<![\w/.-])(hol_\w+/(?:src|specs|proofs)/[\w./*]*)", text)]
+    for path in paths:
+        path = path.rstrip(".-")
+        if "/out/" not in path and not any(ROOT.glob(re.sub(r"\bNAME\b", "*", path.rstrip("/")))):
+            yield f"there is no {path}"
+
+
+def stale_quotes(page, text):
+    """Fenced code that begins with a comment that is a file's path: its other lines stand in that file, in this order."""
+    for block in re.findall(r"^```\w+\n(.*?)^```", text, re.M | re.S):
+        first, *quoted = block.splitlines()
+        if match := re.fullmatch(r"(?://|--) ((?:crates|tests)/\S+)", first):
+            lines = iter((ROOT / match.group(1)).read_text(encoding="utf-8").splitlines() if (ROOT / match.group(1)).is_file() else ())
+            for line in quoted:
+                if line not in lines:
+                    yield f"{match.group(1)} has no such line, or not there: {line}"
+                    break
+
+
+# What the reader has to tell apart: a file of definitions, and what each of them names. Another file, `Other.antt`, has `a`, `b` and `data c`, whose
+# case is `d`, and `data e`, whose case is `b2`.
+READER = (
+    ("use Rattle.x.specs.Other.{a, b}\npub f : a\nf = λ b. b", "f: a"),  # bound by λ
+    ("use Rattle.x.specs.Other.{a, b, c}\npub f : (a : c) → a\nf = b", "f: b c"),  # by a telescope
+    ("use Rattle.x.specs.Other.{a, b}\npub f : (x : a) × (b x)\nf = (λ a. a, a)", "f: a b"),  # up to a comma
+    ("use Rattle.x.specs.Other.{a, c, d}\npub f : c → c\nf d = a\nf a = a", "f: a c"),  # by a pattern, but a case isn't
+    ("use Rattle.x.specs.Other.{a, b, c}\npub f : c\nf = let a : c = b in a", "f: b c"),  # by let
+    ("use Rattle.x.specs.Other.{a, b, c}\npub record r : Type 0 where\n  pub a : c\n  pub z : a", "r: c"),  # by a field before
+    ("use Rattle.x.specs.Other.{a, b, c}\npub f : c\nf = record { a = b; c = b }", "f: b c"),  # a field's label is no name
+    ("use Rattle.x.specs.Other.{a, b as z}\npub f : a\nf = z.a", "f: a b"),  # nor what stands behind a dot
+    ("use Rattle.x.specs.Other as o\npub f : o.c\nf = o.e.b2", "f: c e"),  # a module's words, and a case behind its type
+    ("use Rattle.x.specs.Passed.{a2}\npub f : a2\nf = a2 -- b", "f: a"),  # what another file passes on; comments
+    ("use Rattle.x.specs.Other.{a, b, c}\nmodule _ (b : c) where\n  pub f : a\n  f = b", "f: a c"),  # by a section, which each of it has
+    ("use Rattle.x.specs.Other.{a, b}\nabbrev mutual\n  pub f : a\n  f = g\n\n  pub g : b\n  g = f", "f: a g; g: b f"),
+    ("use Rattle.x.specs.Other.{a, c, d}\npub f : c → a\nf x = elim x as (λ _. a) [ d ↦ a | a ↦ a ]", "f: a c"),
+)
+
+
+def reader_faults():
+    """Where the reader names other words than READER says."""
+    other = "pub a : Type 0\na = ⊥\npub b : Type 0\nb = ⊥\npub data c : Type 0 where\n  d : c\npub data e : Type 0 where\n  b2 : e\n"
+    for text, want in READER:
+        with tempfile.TemporaryDirectory() as folder:
+            specs = pathlib.Path(folder) / "x" / "specs"
+            specs.mkdir(parents=True)
+            for name, content in (("Lib", ""), ("Other", other), ("Passed", "pub use Rattle.x.specs.Other.{a as a2}\n"), ("File", text + "\n")):
+                (specs / f"{name}.antt").write_text(content, encoding="utf-8")
+            library = antt.Library(pathlib.Path(folder))
+            definitions = library.modules["x.specs.File"].definitions.values()
+            got = "; ".join(f"{d.name}: {' '.join(sorted(n.name for n in library.named_by(d)[0]))}" for d in definitions)
+        if got != want:
+            yield f"{text!r} gives {got}, and not {want}"
+
+
+def check(name, faults):
+    found = list(faults)
+    for fault in found:
+        print(f"FAILED {name}: {fault}")
+    return not found
+
+
+def definitions_checks(write):
+    """The checks of the lists and the counts, after these are written, if they are to be."""
+    made = Definitions()
+    lists = with_lists(PAGE.read_text(encoding="utf-8"), made.page())
+    counts = with_rows(README.read_text(encoding="utf-8"), made.rows())
+    if write:
+        PAGE.write_text(lists, encoding="utf-8")
+        README.write_text(counts, encoding="utf-8")
+    stale = "it isn't what the definitions make it: python3 tests/pages.py --write"
+    yield check("sentences", made.faults())
+    yield check("docs/DEFINITIONS.md", [stale] if lists != PAGE.read_text(encoding="utf-8") else [])
+    yield check("README.md", [stale] if counts != README.read_text(encoding="utf-8") else [])
+
+
+def page_checks():
+    pages = sorted(p for folder in (".", "docs", "bench", "examples", "tests", "clients") for p in (ROOT / folder).glob("*.md"))
+    for page in pages:
+        text = page.read_text(encoding="utf-8")
+        for name, faults in (("lines", long_lines), ("links", broken_links), ("paths", missing_paths), ("quotes", stale_quotes)):
+            yield check(f"{page.relative_to(ROOT)}, {name}", faults(page, text))
+    size = README.stat().st_size
+    yield check("README.md, size", [f"{size} bytes, and at most {LARGEST_README}"] if size > LARGEST_README else [])
+
+
+def main():
+    parser = argparse.ArgumentParser(description=__doc__.split("\n")[0])
+    parser.add_argument("--write", action="store_true", help="write the lists and the counts")
+    write = parser.parse_args().write
+    results = []
+    try:
+        results.append(check("reader", reader_faults()))
+        results += definitions_checks(write)
+    except antt.Unread as error:
+        results.append(check("definitions", [error]))
+    results += page_checks()
+    print(f"pages: {sum(results)} passed, {len(results) - sum(results)} failed")
+    return 0 if all(results) else 1
+
+
+if __name__ == "__main__":
+    sys.exit(main())
