@@ -67,10 +67,6 @@ COMMANDS = {
 }
 """The commands by their words, and how they are written."""
 
-PRELUDE = ("T_DEF AND_DEF IMP_DEF FORALL_DEF EXISTS_DEF OR_DEF F_DEF NOT_DEF EXISTS_UNIQUE_DEF ETA_AX SELECT_AX ONE_ONE ONTO "
-           "INFINITY_AX TRUTH REFL_CLAUSE EQ_CLAUSES NOT_CLAUSES_WEAK AND_CLAUSES OR_CLAUSES IMP_CLAUSES").split()
-"""The prelude's theorems."""
-
 MAKERS = ("g", "new_axiom", "new_definition", "new_constant", "new_type", "new_basic_type_definition")
 """The commands whose second word is the name of what they make."""
 

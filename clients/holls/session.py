@@ -20,7 +20,7 @@ SLOW_SECONDS = 5.0
 """A report that takes longer is marked."""
 PATIENCE_SECONDS = 0.5
 """So long an edit waits for the report under way; then the server is ended, and another one takes the edited theories."""
-EDIT_SECONDS = 20.0
+EDIT_SECONDS = 60.0
 """An edit that takes longer has a server that hangs."""
 ENDS = 6
 """After so many ends of the server since the last edit it isn't started again."""

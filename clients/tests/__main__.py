@@ -12,7 +12,7 @@ import time
 import unittest
 
 HERE = pathlib.Path(__file__).resolve().parent
-AT_ONCE = 6
+AT_ONCE = 4
 SLOW_SECONDS = 10
 
 

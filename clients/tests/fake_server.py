@@ -3,11 +3,11 @@
 
     fake_server.py [--serve OP,..] [--fault KIND:N] [--once FILE] [--log FILE]
 
-It runs `g`, `e`, `qed`, `oops`, `import`, `new_constant`, `new_axiom`, and serves `replace`, `remove`, `drop_theory` or those of them that are named. It keeps the
-states that it made, as the program does. Its terms are texts: CONJ_TAC
-splits at the first ` /\\ `, REFL_TAC closes `s = s`, ALL_TAC keeps the goal, and SLOW_TAC takes two seconds. A fault comes at the Nth request: die (in the middle of a
-line), end, hang, bad (a line that is no reply) or memory (the Nth and the next request get the memory line). With
---once the fault that ends a process comes in the first process alone, which makes FILE. The log gets each request.
+It runs `g`, `e`, `qed`, `oops`, `import`, `new_constant`, `new_axiom`, and serves `replace`, `remove`, `drop_theory` or those of them
+that are named. It keeps the states that it made, as the program does. Its terms are texts: CONJ_TAC splits at the first ` /\\ `, REFL_TAC
+closes `s = s`, ALL_TAC keeps the goal, and SLOW_TAC takes two seconds. A fault comes at the Nth request: die (in the middle of a line),
+end, hang, bad (a line that is no reply) or memory (the Nth and the next request get the memory line). With --once the fault that ends a
+process comes in the first process alone, which makes FILE. The log gets each request.
 """
 
 import argparse

@@ -21,8 +21,8 @@ if TYPE_CHECKING:
 INTERNAL = -32603
 """The protocol's number of an error in the server itself."""
 
-BASIS_SECONDS = 1.0
-"""So long a hover waits for what a theorem rests on."""
+BASIS_SECONDS = 5.0
+"""So long a hover waits for what a theorem rests on, or for a type; then it shows the rest."""
 
 Params = Dict[str, Any]
 
@@ -55,11 +55,20 @@ class Answers:
         self.waiters: List[Waiter] = []
         self.navigation = Navigation(bridge.workspace)
         self.served: Dict[str, Callable[[Any, Params], Optional[Answered]]] = {
-            "textDocument/hover": self._hover, "proof/goals": self._goals, "textDocument/definition": self._definition,
-            "textDocument/references": self._references, "textDocument/documentLink": self._links,
-            "workspace/symbol": self._all_symbols, "hol/search": self._search,
-            "textDocument/codeAction": self._actions, "textDocument/signatureHelp": self._signature, "textDocument/completion": self._completion, "textDocument/codeLens": self._lenses, "codeLens/resolve": self._resolve,
-            "textDocument/documentSymbol": self._symbols, "textDocument/foldingRange": self._foldings,
+            "textDocument/hover": self._hover,
+            "proof/goals": self._goals,
+            "textDocument/definition": self._definition,
+            "textDocument/references": self._references,
+            "textDocument/documentLink": self._links,
+            "workspace/symbol": self._all_symbols,
+            "hol/search": self._search,
+            "textDocument/codeAction": self._actions,
+            "textDocument/signatureHelp": self._signature,
+            "textDocument/completion": self._completion,
+            "textDocument/codeLens": self._lenses,
+            "codeLens/resolve": self._resolve,
+            "textDocument/documentSymbol": self._symbols,
+            "textDocument/foldingRange": self._foldings,
         }
 
     def document(self, params: Params) -> Document:
