@@ -3,7 +3,7 @@ ghost use Rattle.std.specs.Prelude.{◌≡◌, ◌<◌, ◌++◌, IfOk, OnOk, So
 ghost use Rattle.std.specs.Option.{option_map};
 ghost use Rattle.hol_exec.specs.At.{IsOutcome};
 ghost use Rattle.hol_exec.specs.OutcomeValue.{after};
-ghost use Rattle.hol_exec.specs.Reading.{Reads};
+ghost use Rattle.hol_exec.specs.Reading as read;
 ghost use Rattle.hol_exec.specs.ReadsValue.{reads_at};
 ghost use Rattle.hol_exec.specs.ReportView.{report_value};
 ghost use Rattle.hol_exec.specs.SetupView.{setup_value};
@@ -48,7 +48,7 @@ fn outcome_of_command(
     command: &Command,
     state: &State,
 ) -> Result<Outcome, AllocError>
-    ensures { IfOk result (IsOutcome (setup_value setup.now) (map end_value earlier.now) state.now (Reads command.now) (reads_at (Reads command.now) state.now)) }
+    ensures { IfOk result (IsOutcome (setup_value setup.now) (map end_value earlier.now) state.now (read.Reads command.now) (reads_at (read.Reads command.now) state.now)) }
 {
     match command.node() {
         CommandNode::Local(command) => {
