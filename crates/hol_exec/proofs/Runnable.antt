@@ -108,9 +108,13 @@ module _ (context : ContextValue) where
   called_within : (role : Role) (call : CallText) (index : ℕ) (code : TacCode) (w : WrittenArgsValue) → called context.table role call context.cited ≡ Some (Registered index code, w) → index < rows
   called_within role call index code w e = by (registered call.name context.table) refl e
     where
-      with : (c : CalledValue) (o : Option WrittenArgsValue) → option_map (λ (x : WrittenArgsValue). (c, x)) o ≡ Some (Registered index code, w) → c ≡ Registered index code
+      first : CalledValue → Option (CalledValue × WrittenArgsValue) → CalledValue
+      first c None = c
+      first c (Some found) = found.0
+
+      with : (c : CalledValue) (o : Option WrittenArgsValue) → option_map {U = CalledValue × WrittenArgsValue} (λ (x : WrittenArgsValue). (c, x)) o ≡ Some (Registered index code, w) → c ≡ Registered index code
       with c None e = absurd (cc)
-      with c (Some x) e = cc
+      with c (Some x) e = ap (first c) e
 
       by : (o : Option CalledValue) → registered call.name context.table ≡ o → fitting (named call.name o context.cited) role call.arguments ≡ Some (Registered index code, w) → index < rows
       by None f e = absurd (cc)

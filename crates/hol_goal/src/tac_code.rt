@@ -68,7 +68,7 @@ pub enum TacCode {
     RewriteTac,
     /// ONCE_REWRITE_TAC does so once.
     OnceRewriteTac,
-    /// ASM_REWRITE_TAC rewrites by theorems, the basic rewrites and the assumptions.
+    /// ASM_REWRITE_TAC rewrites by theorems, the assumptions and the basic rewrites.
     AsmRewriteTac,
     /// ONCE_ASM_REWRITE_TAC does so once.
     OnceAsmRewriteTac,
