@@ -36,8 +36,8 @@ def misfits():
     """Edits whose old text, after the changes before it, does not stand exactly once in the file that they name, or that don't say what refuses them."""
     for edit in sorted(ROOT.glob("crates/*/must-fail/*.edit")):
         texts, target, old = {}, "", ""
-        if not re.search(r"(?m)^refused: \S+( \S+)?$", edit.read_text()):
-            yield f"{edit.relative_to(ROOT)}: no line 'refused: FUNCTION' or 'refused: FUNCTION GOAL'"
+        if not re.search(r"(?m)^refused: \S+ \S+$", edit.read_text()):
+            yield f"{edit.relative_to(ROOT)}: no line 'refused: FUNCTION GOAL'"
         for r in edit.read_text().splitlines():
             if r.startswith("file: "):
                 target = r[len("file: "):].strip()
