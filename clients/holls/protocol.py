@@ -83,13 +83,6 @@ class Items:
 
 
 @dataclass(frozen=True)
-class Theorems:
-    """The theorems that stand at a theory's end, as `thm N |- p`."""
-
-    texts: Tuple[str, ...]
-
-
-@dataclass(frozen=True)
 class Error:
     """A request that was refused."""
 
@@ -105,7 +98,7 @@ class Unreadable:
 
 
 Report = Union[Goals, Made, Refusal]
-Reply = Union[Goals, Made, Refusal, Done, Items, Theorems, Error, Unreadable]
+Reply = Union[Goals, Made, Refusal, Done, Items, Error, Unreadable]
 
 
 def is_name(text: str) -> bool:
@@ -145,8 +138,6 @@ def _reply(value: Dict[str, Any]) -> Reply:
         return Made(_texts(value["made"]))
     if "items" in value:
         return Items(None if value["items"] is None else _texts(value["items"]))
-    if "theorems" in value:
-        return Theorems(_texts(value["theorems"]))
     if value != {"ok": True}:
         raise ValueError("no reply")
     return Done()
