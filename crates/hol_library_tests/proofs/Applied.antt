@@ -3,6 +3,7 @@ use Rattle.std.specs.Prelude.{◌≡◌, [], Some}
 use Rattle.std.proofs.Common.{ap}
 use Rattle.hol_exec.specs.Setup.{SetupValue}
 use Rattle.hol_exec.specs.CommandText.{LocalText, Local}
+use Rattle.hol_exec.specs.Reading.{Reads}
 use Rattle.hol_exec.specs.StateValue.{StateValue}
 use Rattle.hol_exec.specs.ReadsValue.{ReadsValue, reads_of}
 use Rattle.hol_exec.specs.OutcomeValue.{OutcomeValue}
@@ -11,4 +12,4 @@ use Rattle.hol_exec.specs.At.{IsOutcomeAt}
 
 pub local_outcome_applies : (setup : SetupValue) (command : LocalText) (s : StateValue) (reads : ReadsValue) (o : OutcomeValue) → reads ≡ reads_of command s → IsLocalOutcome setup command reads o → IsOutcomeAt s o
 local_outcome_applies setup command s reads o e h =
-    record { setup = setup; earlier = []; theories = tt; value = Local command; reads = Some reads; read = ap Some e; gets = h }
+    record { setup = setup; earlier = []; theories = tt; value = Reads (Local command); reads = Some reads; read = ap Some e; gets = h }
