@@ -1,5 +1,5 @@
 //! What a term or a type as it is written reads as.
-ghost use Rattle.std.specs.Prelude.{◌≡◌, IfOk};
+ghost use Rattle.std.specs.Prelude.{IfOk};
 ghost use Rattle.hol_resolve.specs.SignatureView.{signature_value};
 ghost use Rattle.hol_resolve.specs.Reading.{IsTermReadAs};
 ghost use Rattle.hol_resolve.specs.ReadingView.{reading_value};
@@ -21,20 +21,6 @@ pub enum Reading {
     LargeReading,
     /// Its reading.
     ReadsAs(Term),
-}
-
-impl Reading {
-    /// The same reading.
-    pub fn copy(&self) -> Result<Reading, AllocError>
-        ensures { IfOk result (λ reading. reading_value reading ≡ reading_value self.now) }
-    {
-        Ok(match self {
-            Reading::WrongArity => Reading::WrongArity,
-            Reading::NoTyping => Reading::NoTyping,
-            Reading::LargeReading => Reading::LargeReading,
-            Reading::ReadsAs(term) => Reading::ReadsAs(term.copy()?),
-        })
-    }
 }
 
 /// What the term as it is written reads as, over what stands.
