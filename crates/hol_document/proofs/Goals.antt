@@ -3,7 +3,7 @@ use Rattle.std.proofs.Common.{◌≡◌, ℕ, List, [], ◌∷◌, ◌++◌, len
 use Rattle.std.specs.Prelude.{Option, Some, None}
 use Rattle.hol_terms.specs.Nameless.{Nameless}
 use Rattle.hol_kernel.specs.Items.{Items}
-use Rattle.hol_exec.specs.declared.refusal.RefusalKind.TheVariants as refusal
+use Rattle.hol_exec.specs.declared.reports.refusal.RefusalKind.TheVariants as refusal
 use Rattle.hol_exec.specs.At.{IsOutcome}
 use Rattle.hol_goal.specs.Goal.{GoalValue}
 use Rattle.hol_stack.specs.StackValue.{StepValue}

@@ -16,7 +16,7 @@ use Rattle.hol_theory.specs.Theory.{IsTheory}
 use Rattle.hol_exec.specs.ReportValue.{ReportValue}
 use Rattle.hol_exec.specs.ReportOf.{report_of}
 use Rattle.hol_exec.specs.StateValue.{StateValue, EndedTheory, AreTheories, start}
-use Rattle.hol_document.specs.declared.end.End.{End}
+use Rattle.hol_document.specs.declared.end.TheoryEnd.{TheoryEnd}
 use Rattle.hol_document.specs.Asked.{commands_at, BasisTexts, theorem_texts_of, theorem_texts}
 use Rattle.hol_document.specs.Documents.{TheoryText, Documents, no_theory}
 use Rattle.hol_document.specs.EndView.{end_value}
@@ -92,7 +92,7 @@ pub command_gets : {E : Type 0} (setup : SetupValue) (earlier : List EndedTheory
 command_gets setup earlier s command known r is h = rw is h
 
 -- one theory's end more
-pub end_pushed : (ends ends' : List End) (e : End) (name : List ℕ) → ends' ≡ ends ++ e ∷ [] → string_bytes e.name ≡ name
+pub end_pushed : (ends ends' : List TheoryEnd) (e : TheoryEnd) (name : List ℕ) → ends' ≡ ends ++ e ∷ [] → string_bytes e.name ≡ name
     → map end_value ends' ≡ map end_value ends ++ record { name = name; entries = e.state.entries } ∷ []
 end_pushed ends ends' e name are named = rw (are, ← named) (map_more end_value ends e)
 

@@ -13,7 +13,7 @@ ghost use Rattle.hol_document.specs.EndView.{end_value};
 ghost use Rattle.hol_document.specs.Run.{HasOutcome, LeadTo, EndSo};
 ghost use Rattle.hol_document.specs.Shown.{IsProvedReport, IsProvedBasis, AreProvedTheorems};
 
-use crate::end::End;
+use crate::end::TheoryEnd;
 use crate::items::item_texts;
 use crate::line::Line;
 use crate::theory::Theory;
@@ -28,7 +28,7 @@ use std::alloc::{AllocError, Global};
 fn outcome_of(
     alloc: Global,
     setup: &Setup,
-    earlier: &[End],
+    earlier: &[TheoryEnd],
     line: &Line,
     state: &State,
 ) -> Result<Outcome, AllocError>
@@ -44,7 +44,7 @@ fn outcome_of(
 fn outcome_of_command(
     alloc: Global,
     setup: &Setup,
-    earlier: &[End],
+    earlier: &[TheoryEnd],
     command: &Command,
     state: &State,
 ) -> Result<Outcome, AllocError>
@@ -63,7 +63,7 @@ fn outcome_of_command(
 fn run(
     alloc: Global,
     setup: &Setup,
-    earlier: &[End],
+    earlier: &[TheoryEnd],
     line: &Line,
     state: &mut State,
 ) -> Result<Outcome, AllocError>
@@ -80,7 +80,7 @@ fn run(
 fn state_after(
     alloc: Global,
     setup: &Setup,
-    earlier: &[End],
+    earlier: &[TheoryEnd],
     lines: &[Line],
 ) -> Result<State, AllocError>
     ensures { IfOk result (LeadTo (setup_value setup.now) (map end_value earlier.now) lines.now) }
@@ -93,14 +93,14 @@ fn state_after(
 }
 
 // The ends of theories, each run after those before it.
-fn ends(alloc: Global, setup: &Setup, theories: &[Theory]) -> Result<Vec<End>, AllocError>
+fn ends(alloc: Global, setup: &Setup, theories: &[Theory]) -> Result<Vec<TheoryEnd>, AllocError>
     ensures { IfOk result (λ ends. EndSo (setup_value setup.now) theories.now (map end_value ends.items)) }
 {
     let mut ends = Vec::with_capacity(alloc, theories.len())?;
     for theory in theories {
         let state = state_after(alloc, setup, &ends, theory.lines())?;
         let name = String::from_str(alloc, theory.name())?;
-        ends.push(End { name, state })?;
+        ends.push(TheoryEnd { name, state })?;
     }
     Ok(ends)
 }

@@ -42,14 +42,14 @@ use Rattle.hol_theory.proofs.Imports.{missing_among, missing_follows}
 use Rattle.hol_theory.proofs.Declaring.{type_follows as new_type_follows, constant_follows as new_constant_follows, axiom_follows as new_axiom_follows}
 use Rattle.hol_theory.proofs.Defining.{within_follow, definition_follows, type_follows as type_definition_follows}
 use Rattle.hol_theory.proofs.Standing.{entry_within}
-use Rattle.hol_exec.specs.declared.refusal.RefusalKind.{RefusalKind}
-use Rattle.hol_exec.specs.declared.refusal.RefusalKind.TheVariants as refusal
+use Rattle.hol_exec.specs.declared.reports.refusal.RefusalKind.{RefusalKind}
+use Rattle.hol_exec.specs.declared.reports.refusal.RefusalKind.TheVariants as refusal
 use Rattle.hol_exec.specs.Setup.{SetupValue}
 use Rattle.hol_notation_commands.specs.Reading.{ReadText, Reads, Breaks}
 use Rattle.hol_exec.specs.Keys.{keys_of_type, keys_of_term, keys_in, keys_of_definition, made_by_making}
 use Rattle.hol_exec.specs.StateValue.{ProofValue, StateValue, EndedTheory, AreTheories}
 use Rattle.hol_exec.specs.ReadsValue.{ReadsValue, ClosingValue, values_of, reads_of, closing_of, AreReads}
-use Rattle.hol_exec.specs.Lookups.{lookups_of}
+use Rattle.hol_exec.specs.Signature.{signature_of}
 use Rattle.hol_exec.specs.Resolved.{theorem_at, resolved_basis}
 use Rattle.hol_exec.specs.Standing.{is_standing, first_taken}
 use Rattle.hol_exec.specs.Expr.{RefusedValue, ResolutionValue, Resolved, Unresolved, formulas_in, first_not_bool, named_refusals, first_refusal, resolved_expr, resolution_of, resolved_formulas, resolved_read, IsResolvedPast}
@@ -346,7 +346,7 @@ module _ (es : Entries) (t : IsTheory es) where
 
 making_read : (s : StateValue) (making : MakingText) (x : OutcomeValue) → IsTheory s.entries → IsMade making (reads_of (Make making) s) x → Fits s.entries x
 making_read s (NewType name arity) x t h = type_fits s.entries t name arity x h
-making_read s (NewConstant name q) x t h = by (type_reading (lookups_of (reads_of (Make (NewConstant name q)) s).cited) q.ty) h
+making_read s (NewConstant name q) x t h = by (type_reading (signature_of (reads_of (Make (NewConstant name q)) s).cited) q.ty) h
   where
     by : (r : ReadingValue TypeTree) → MakesConstantOf name q.place (reads_of (Make (NewConstant name q)) s) r x → Fits s.entries x
     by WrongArity h = subst (Fits s.entries) (sym h) tt

@@ -29,7 +29,7 @@ use Rattle.hol_infer.specs.Standing.{stands, all_stand, TermStands, AreStanding}
 use Rattle.hol_theory.specs.Key.{KeyValue}
 use Rattle.hol_theory.specs.Entry.{EntryValue, AType, AConstant, ATheorem, IsConstantEntry, IsTypeEntry}
 use Rattle.hol_exec.specs.ReadsValue.{Values}
-use Rattle.hol_exec.specs.Lookups.{cited_constants, cited_types, lookups_of}
+use Rattle.hol_exec.specs.Signature.{cited_constants, cited_types, signature_of}
 
 -- ---- lists of names
 
@@ -259,18 +259,18 @@ module _ (items : Items) where
 
     -- ---- both
 
-    generics : (cited : Values) → AreCitedIn keep items cited → (c : List ℕ) (g : TypeTree) → generic_type_of (kept keep (lookups_of cited).constants) c ≡ Some g → StandsAt c g
+    generics : (cited : Values) → AreCitedIn keep items cited → (c : List ℕ) (g : TypeTree) → generic_type_of (kept keep (signature_of cited).constants) c ≡ Some g → StandsAt c g
     generics cited all c g e =
-        let k : keep c ≡ true = found_kept keep (lookups_of cited).constants c g e in
-        elim (generic_joined prelude_constants (cited_constants cited) c g (sym (kept_found keep (lookups_of cited).constants c k) ∙ e)) [
+        let k : keep c ≡ true = found_kept keep (signature_of cited).constants c g e in
+        elim (generic_joined prelude_constants (cited_constants cited) c g (sym (kept_found keep (signature_of cited).constants c k) ∙ e)) [
           | inl p ↦ ((all_of (λ d. stands takes d.1) prelude_constants c g refl p).1, λ pairs. has_instance c g pairs p)
           | inr p ↦ cited_constants_stand cited all c g k p
         ]
 
-    constructors : (cited : Values) → AreCitedIn keep items cited → (c : List ℕ) (n : ℕ) → arity_of (lookups_of cited).types c ≡ Some n → takes c n ≡ true
+    constructors : (cited : Values) → AreCitedIn keep items cited → (c : List ℕ) (n : ℕ) → arity_of (signature_of cited).types c ≡ Some n → takes c n ≡ true
     constructors cited all c n e = elim (arity_joined prelude_types (cited_types cited) c n e) [ inl p ↦ has_type c n p | inr p ↦ cited_types_stand cited all c n p ]
 
-    pub cited_stand : (cited : Values) → AreCitedIn keep items cited → AreStanding takes has (lookups_of cited).types (kept keep (lookups_of cited).constants)
+    pub cited_stand : (cited : Values) → AreCitedIn keep items cited → AreStanding takes has (signature_of cited).types (kept keep (signature_of cited).constants)
     cited_stand cited all = record {
       functions = refl;
       truth = refl;

@@ -17,7 +17,7 @@ pub mod Outcomes
 pub mod Histories
 pub mod Free
 pub mod Rows
-pub mod Resolving
+pub mod Resolutions
 pub mod Runs
 pub mod Readings
 pub mod UniqueMade

@@ -21,11 +21,11 @@ use Rattle.hol_exec.specs.StateValue.{ProofValue, StateValue, EndedTheory}
 use Rattle.hol_exec.specs.ReadsValue.{ReadsValue, ClosingValue, reads_of, AreReads, first_goal}
 use Rattle.hol_exec.specs.OutcomeValue.{OutcomeValue, Leaves, Makes, Refuses, MakesTheorems}
 use Rattle.hol_exec.specs.OutcomeView.{outcome_of}
-use Rattle.hol_exec.specs.declared.outcome.Change.{Change}
-use Rattle.hol_exec.specs.declared.outcome.Change.TheVariants as changes
+use Rattle.hol_exec.specs.declared.running.outcome.Change.{Change}
+use Rattle.hol_exec.specs.declared.running.outcome.Change.TheVariants as changes
 use Rattle.hol_exec.specs.Local.{opens, opens_read, IsOpening, refused_outcome, stopped_outcome, run_outcome, applied, resolved_outcome, IsApplying, finishes, IsLocalOutcome}
 use Rattle.hol_exec.specs.Resolved.{cited_theorem, resolved_basis}
-use Rattle.hol_exec.specs.Lookups.{lookups_of}
+use Rattle.hol_exec.specs.Signature.{signature_of}
 use Rattle.hol_exec.specs.Defining.{first_free, first_unreflected}
 use Rattle.hol_equal.specs.Applied.{rand}
 use Rattle.hol_exec.specs.Making.{UnlessTaken, taken, MakesOne, MakesConstantOf, StatesAxiom, MakesAxiomOf, MakesDefined, UnlessOpen, MakesDefinitionOf, UnlessFree, MakesTypeBy, MakesTypeOf, MakesTypeFrom, IsMade, IsMaking, formula_basis}
@@ -38,7 +38,7 @@ use Rattle.hol_combine.specs.ExprValue.{ExprValue}
 use Rattle.hol_combine.specs.Runs.{RefusalValue, DoesNotFit, LacksHyps, StopValue, TurnLimit, LargeGoal, RunValue, run}
 use Rattle.hol_combine.specs.Runs as runs
 use Rattle.hol_exec.specs.Expr.{ResolutionValue, Resolved, Unresolved}
-use Rattle.hol_exec.specs.declared.refusal.RefusalKind.TheVariants as refusal
+use Rattle.hol_exec.specs.declared.reports.refusal.RefusalKind.TheVariants as refusal
 use Rattle.hol_exec.specs.At.{undoes_to, undoes, rotates_goals, rotates, drops, imports, imports_theory, imports_from, entries_named, direct, IsOutcome, IsOutcomeAt}
 use Rattle.hol_exec.specs.Valid.{IsLeft, IsValidChange, CanStep}
 use Rattle.hol_theory.specs.Theory.{items_in}
@@ -156,7 +156,7 @@ module _ (goal : GoalValue) (goals : List GoalValue) (basis : Items) where
 
   made_none : (making : MakingText) (reads : ReadsValue) → IsMade making reads Leaving → ⊥
   made_none (NewType name arity) reads h = untaken_none (taken reads) _ h (one_none _)
-  made_none (NewConstant name q) reads h = constant_none name q.place reads (type_reading (lookups_of reads.cited) q.ty) h
+  made_none (NewConstant name q) reads h = constant_none name q.place reads (type_reading (signature_of reads.cited) q.ty) h
   made_none (NewAxiom name q) reads h = axiom_none name q.place reads h.0 h.2
   made_none (NewDefinition name d) reads h = definition_none name d reads h.0 h.2
   made_none (NewBasicTypeDefinition d) reads h = type_none d reads (cited_theorem reads.cited) h

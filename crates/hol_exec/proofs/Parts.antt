@@ -6,8 +6,8 @@ use Rattle.hol_terms.specs.Nameless.{Nameless}
 use Rattle.hol_notation_tactics.specs.Text.{TacText, more_tacs, tac_texts}
 use Rattle.hol_combine.specs.declared.expr.ExprNode.{ExprNode}
 use Rattle.hol_combine.specs.ExprValue.{TheoremTacValue, ExprValue, ExprValues, Then, OrElse, SubgoalThen, no_exprs, more_exprs, exprs, then_all, or_else_all}
-use Rattle.hol_exec.specs.declared.unresolved.Unresolved.{Unresolved as Fault}
-use Rattle.hol_exec.specs.declared.unresolved.Unresolved.TheVariants as fault
+use Rattle.hol_exec.specs.declared.resolving.unresolved.Unresolved.{Unresolved as Fault}
+use Rattle.hol_exec.specs.declared.resolving.unresolved.Unresolved.TheVariants as fault
 use Rattle.hol_exec.specs.Expr.{RefusedValue, mapped, both, ContextValue, resolved_expr, resolved_exprs}
 use Rattle.hol_exec.specs.ExprView.{IsRefusal, IsFault, IsNodeFound, IsChain, AreAlternatives}
 

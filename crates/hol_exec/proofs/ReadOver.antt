@@ -20,7 +20,7 @@ use Rattle.hol_infer.proofs.StandingLaws.{definition_stands}
 use Rattle.hol_clauses.specs.Statements.{stated}
 use Rattle.hol_prelude.specs.Statements.{prelude_statements, statement_in}
 use Rattle.hol_resolve.specs.Forward.{CitedValue}
-use Rattle.hol_resolve.specs.Lookups.{LookupsValue}
+use Rattle.hol_resolve.specs.Signature.{SignatureValue}
 use Rattle.hol_resolve.specs.Over.{AreOver, AreWithin}
 use Rattle.hol_resolve.specs.Reading.{ReadingValue, WrongArity, NoTyping, LargeReading, ReadsAs, IsTermReadAs, type_reading}
 use Rattle.hol_resolve.specs.Readings.{QuotedValue, ATerm, ReadingsValue, Attempts, reading_map, IsQuotedAs, AreAttempts, has_wrong_arity, has_no_typing, is_large, first_with, read_at, all_read, unless_large, unless_untyped, unless_wrong, read_all, AreRead}
@@ -36,7 +36,7 @@ use Rattle.hol_theory.specs.Entry.{EntryValue, AType, AConstant, ATheorem, Entri
 use Rattle.hol_theory.specs.Theory.{IsTheory}
 use Rattle.hol_exec.specs.Occurring.{constant_occurs}
 use Rattle.hol_exec.specs.ReadsValue.{Values}
-use Rattle.hol_exec.specs.Lookups.{lookups_of}
+use Rattle.hol_exec.specs.Signature.{signature_of}
 use Rattle.hol_exec.specs.Resolved.{prelude_theorem_at, named_theorem, cited_theorems, occurs_in_quoted, occurs_in, with_value, with_values, resolved_basis}
 use Rattle.hol_exec.specs.Defining.{IsDefinitionReadAs}
 use Rattle.hol_exec.specs.Valid.{StandIn, AreOfTheory, IsStatement}
@@ -146,8 +146,8 @@ of_wrong : (o : Option ℕ) (attempts : Attempts) (readings : ReadingsValue) →
 of_wrong None attempts readings e h = of_untyped (first_with has_no_typing attempts) attempts readings refl e h
 of_wrong (Some place) attempts readings e h = absurd (cc)
 
-module _ (keep : List ℕ → Bool) (over : LookupsValue) where
-  abbrev fewer : LookupsValue
+module _ (keep : List ℕ → Bool) (over : SignatureValue) where
+  abbrev fewer : SignatureValue
   fewer = record { constants = kept keep over.constants; types = over.types }
 
   abbrev KeepsAll : ReadingsValue → Type 0
@@ -188,22 +188,22 @@ module _ (keep : List ℕ → Bool) (over : LookupsValue) where
       (h.0, attempts_kept qs h.0 comes.0 (subst KeepsAll comes.1 k) h.1, h.2)
 
 -- what quotations read as
-pub resolved_over : (cited made : Values) (qs : List AnyQuotation) (readings : ReadingsValue) → AreOfTheory cited made → AreRead (lookups_of cited) qs (Ok readings) → AreOver (resolved_basis cited readings) readings
+pub resolved_over : (cited made : Values) (qs : List AnyQuotation) (readings : ReadingsValue) → AreOfTheory cited made → AreRead (signature_of cited) qs (Ok readings) → AreOver (resolved_basis cited readings) readings
 resolved_over cited made qs readings h read =
     let keep : List ℕ → Bool = λ c. occurs_in c readings in
-    readings_are_over (resolved_basis cited readings) (fewer keep (lookups_of cited)) qs readings
+    readings_are_over (resolved_basis cited readings) (fewer keep (signature_of cited)) qs readings
     (cited_stand (resolved_basis cited readings) keep cited (resolved_cited readings cited made h))
-    (all_kept keep (lookups_of cited) qs readings (λ c o. o) read)
+    (all_kept keep (signature_of cited) qs readings (λ c o. o) read)
 
--- the same where what is known of the lookups and the quotations is by other names
-pub readings_over : (cited made : Values) (over : LookupsValue) (qs : List AnyQuotation) (own : Result ReadingsValue Refusal) (readings : ReadingsValue) → AreOfTheory cited made → over ≡ lookups_of cited →
+-- the same where what is known of the signature and the quotations is by other names
+pub readings_over : (cited made : Values) (over : SignatureValue) (qs : List AnyQuotation) (own : Result ReadingsValue Refusal) (readings : ReadingsValue) → AreOfTheory cited made → over ≡ signature_of cited →
     AreRead over qs own → own ≡ Ok readings → AreOver (resolved_basis cited readings) readings
 readings_over cited made over qs own readings h e read is =
-    resolved_over cited made qs readings h (subst (λ (w : LookupsValue). AreRead w qs (Ok readings)) e (subst (λ (r : Result ReadingsValue Refusal). AreRead over qs r) is read))
+    resolved_over cited made qs readings h (subst (λ (w : SignatureValue). AreRead w qs (Ok readings)) e (subst (λ (r : Result ReadingsValue Refusal). AreRead over qs r) is read))
 
 -- ---- one quotation
 
-one_read : (cited : Values) (q : QuotationText) (p : Nameless) → IsTermReadAs (lookups_of cited) q.term (ReadsAs p) → AreRead (lookups_of cited) (quoted.Term q ∷ []) (Ok ((q.place, ATerm p) ∷ []))
+one_read : (cited : Values) (q : QuotationText) (p : Nameless) → IsTermReadAs (signature_of cited) q.term (ReadsAs p) → AreRead (signature_of cited) (quoted.Term q ∷ []) (Ok ((q.place, ATerm p) ∷ []))
 one_read cited q p h = ((q.place, ReadsAs (ATerm p)) ∷ [], (refl, (ReadsAs p, h, refl), tt), refl)
 
 typed_at : (items : Items) (p : Nameless) → is_typed items p ≡ true → is_type_at (nameless_type [] p) bool_type ≡ true → HasType items p bool_type
@@ -214,26 +214,26 @@ typed_at items p typed e = by (is_known items p) refl typed
     by false k h = absurd (cc)
 
 -- a quotation of type bool is a statement over the basis of what it resolves
-pub statement_over : (cited made : Values) (place : ℕ) (s : TermText) (p : Nameless) (b : Bool) → AreOfTheory cited made → IsTermReadAs (lookups_of cited) s (ReadsAs p) → b ≡ true →
+pub statement_over : (cited made : Values) (place : ℕ) (s : TermText) (p : Nameless) (b : Bool) → AreOfTheory cited made → IsTermReadAs (signature_of cited) s (ReadsAs p) → b ≡ true →
     b ≡ is_type_at (nameless_type [] p) bool_type → IsStatement (resolved_basis cited ((place, ATerm p) ∷ [])) p
 statement_over cited made place s p b h read e f =
     typed_at (resolved_basis cited ((place, ATerm p) ∷ [])) p (resolved_over cited made (quoted.Term (record { place = place; term = s }) ∷ []) ((place, ATerm p) ∷ []) h (one_read cited (record { place = place; term = s }) p read)).0
     (sym f ∙ e)
 
 -- a type that is read is one over the basis of what it resolves
-pub type_over_resolved : (cited made : Values) (place : ℕ) (s : TypeText) (a : TypeTree) → AreOfTheory cited made → type_reading (lookups_of cited) s ≡ ReadsAs a →
+pub type_over_resolved : (cited made : Values) (place : ℕ) (s : TypeText) (a : TypeTree) → AreOfTheory cited made → type_reading (signature_of cited) s ≡ ReadsAs a →
     is_type (resolved_basis cited ((place, quoting.AType a) ∷ [])) a ≡ true
 type_over_resolved cited made place s a h read =
     (resolved_over cited made (quoted.Type (record { place = place; ty = s }) ∷ []) ((place, quoting.AType a) ∷ []) h
     ((place, ReadsAs (quoting.AType a)) ∷ [], (refl, sym (ap (reading_map quoting.AType) read), tt), refl)).0
 
 -- the equation of a definition is known over the basis of what it resolves
-pub definition_over : (cited made : Values) (place : ℕ) (d : DefinitionText) (p : Nameless) → AreOfTheory cited made → IsDefinitionReadAs (lookups_of cited) d (ReadsAs p) →
+pub definition_over : (cited made : Values) (place : ℕ) (d : DefinitionText) (p : Nameless) → AreOfTheory cited made → IsDefinitionReadAs (signature_of cited) d (ReadsAs p) →
     is_known (resolved_basis cited ((place, ATerm p) ∷ [])) p ≡ true
 definition_over cited made place d p h read =
     let readings : ReadingsValue = (place, ATerm p) ∷ [] in
     let keep : List ℕ → Bool = λ c. occurs_in c readings in
     let items : Items = resolved_basis cited readings in
     known items p
-    (definition_stands (has_arity items) (has_constant items) (lookups_of cited).types (kept keep (lookups_of cited).constants) d p (cited_stand items keep cited (resolved_cited readings cited made h)) read.0
-    (definition_kept keep (lookups_of cited).types (lookups_of cited).constants d p (λ c o. ap (λ b. b || false) o) read.1))
+    (definition_stands (has_arity items) (has_constant items) (signature_of cited).types (kept keep (signature_of cited).constants) d p (cited_stand items keep cited (resolved_cited readings cited made h)) read.0
+    (definition_kept keep (signature_of cited).types (signature_of cited).constants d p (λ c o. ap (λ b. b || false) o) read.1))

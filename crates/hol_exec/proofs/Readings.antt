@@ -6,7 +6,7 @@ use Rattle.hol_notation_terms.specs.Text.{TermText}
 use Rattle.hol_typing.specs.Raw.{RawTree}
 use Rattle.hol_infer.specs.Resolving.{raw_of, term_has_arities}
 use Rattle.hol_infer.proofs.Unique.{one_reading as one_term, reading_typable, reading_not_large, large_typable}
-use Rattle.hol_resolve.specs.Lookups.{LookupsValue}
+use Rattle.hol_resolve.specs.Signature.{SignatureValue}
 use Rattle.hol_resolve.specs.Reading.{ReadingValue, WrongArity, NoTyping, LargeReading, ReadsAs, IsReadAs, IsTermReadAs}
 
 both_ways : (b : Bool) → b ≡ true → b ≡ false → ⊥
@@ -30,5 +30,5 @@ one_read arities raw (ReadsAs s) NoTyping p q = absurd (reading_typable raw s p.
 one_read arities raw (ReadsAs s) LargeReading p q = absurd (reading_not_large raw s p.1 p.2 q.1)
 one_read arities raw (ReadsAs s) (ReadsAs t) p q = ap ReadsAs (one_term raw s t p.1 q.1)
 
-pub one_reading : (over : LookupsValue) (t : TermText) (a b : ReadingValue Nameless) → IsTermReadAs over t a → IsTermReadAs over t b → a ≡ b
+pub one_reading : (over : SignatureValue) (t : TermText) (a b : ReadingValue Nameless) → IsTermReadAs over t a → IsTermReadAs over t b → a ≡ b
 one_reading over t a b p q = one_read (term_has_arities over.types t) (raw_of over.types over.constants [] t) a b p q

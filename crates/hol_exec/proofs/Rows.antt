@@ -4,7 +4,7 @@ use Rattle.std.specs.Option.{option_map, option_and_then}
 use Rattle.std.proofs.Common.{ap, sym, ◌∙◌, arith}
 use Rattle.hol_goal.specs.declared.tac_code.TacCode.{TacCode}
 use Rattle.hol_registry.specs.Table.{index_of}
-use Rattle.hol_exec.specs.Tac.{Registered, at_row, registered}
+use Rattle.hol_exec.specs.Callee.{Registered, at_row, registered}
 
 abbrev Row : Type 0
 Row = List ℕ × TacCode

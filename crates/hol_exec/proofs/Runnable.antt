@@ -25,10 +25,10 @@ use Rattle.hol_resolve.proofs.Over.{term_over}
 use Rattle.hol_resolve.proofs.Suiting.{Each as EachWritten, Suits, given_suit}
 use Rattle.hol_notation_tactics.specs.declared.parts.Role.{Role}
 use Rattle.hol_notation_tactics.specs.declared.parts.Role.TheVariants.{Whole, TheoremTactic}
-use Rattle.hol_exec.specs.declared.refusal.RefusalKind.TheVariants as refusal
+use Rattle.hol_exec.specs.declared.reports.refusal.RefusalKind.TheVariants as refusal
 use Rattle.hol_exec.specs.Resolved.{cited_theorems}
 use Rattle.hol_exec.specs.Expr.{RefusedValue, ContextValue, mapped, both, named_result, term_before, formula, given, resolved_call, resolved_theorem_tac, resolved_whole, resolved_handing, resolved_expr, resolved_exprs}
-use Rattle.hol_exec.specs.Tac.{CalledValue, Registered, kind_of, kind_for, named, fitting, registered, called}
+use Rattle.hol_exec.specs.Callee.{CalleeValue, Registered, kind_of, kind_for, named, fitting, registered, called}
 use Rattle.hol_exec.specs.Valid.{IsRunnableExpr}
 use Rattle.hol_exec.proofs.Rows.{registered_within}
 
@@ -108,15 +108,15 @@ module _ (context : ContextValue) where
   called_within : (role : Role) (call : CallText) (index : ℕ) (code : TacCode) (w : WrittenArgsValue) → called context.table role call context.cited ≡ Some (Registered index code, w) → index < rows
   called_within role call index code w e = by (registered call.name context.table) refl e
     where
-      first : CalledValue → Option (CalledValue × WrittenArgsValue) → CalledValue
+      first : CalleeValue → Option (CalleeValue × WrittenArgsValue) → CalleeValue
       first c None = c
       first c (Some found) = found.0
 
-      with : (c : CalledValue) (o : Option WrittenArgsValue) → option_map {U = CalledValue × WrittenArgsValue} (λ (x : WrittenArgsValue). (c, x)) o ≡ Some (Registered index code, w) → c ≡ Registered index code
+      with : (c : CalleeValue) (o : Option WrittenArgsValue) → option_map {U = CalleeValue × WrittenArgsValue} (λ (x : WrittenArgsValue). (c, x)) o ≡ Some (Registered index code, w) → c ≡ Registered index code
       with c None e = absurd (cc)
       with c (Some x) e = ap (first c) e
 
-      by : (o : Option CalledValue) → registered call.name context.table ≡ o → fitting (named call.name o context.cited) role call.arguments ≡ Some (Registered index code, w) → index < rows
+      by : (o : Option CalleeValue) → registered call.name context.table ≡ o → fitting (named call.name o context.cited) role call.arguments ≡ Some (Registered index code, w) → index < rows
       by None f e = absurd (cc)
       by (Some c) f e = registered_within call.name context.table index code (f ∙ ap Some (with c (option_and_then (λ kind. written_as kind call.arguments) (kind_for role (kind_of c))) e))
 
@@ -130,7 +130,7 @@ module _ (context : ContextValue) where
   whole_index : (call : CallText) → Each (λ c. IsIndex c ≡ true) (resolved_whole context call)
   whole_index call = by (called context.table Whole call context.cited) refl
     where
-      by : (o : Option (CalledValue × WrittenArgsValue)) → called context.table Whole call context.cited ≡ o → Each (λ c. IsIndex c ≡ true) (resolved_call context call.name o)
+      by : (o : Option (CalleeValue × WrittenArgsValue)) → called context.table Whole call context.cited ≡ o → Each (λ c. IsIndex c ≡ true) (resolved_call context call.name o)
       by None e = tt
       by (Some (Registered index code, w)) e =
           of_mapped (λ a. Unit {0}) (λ c. IsIndex c ≡ true) _ (λ a h. lt-ltb index rows (called_within Whole call index code w e)) (given context call.name w) (any_given (given context call.name w))
@@ -138,7 +138,7 @@ module _ (context : ContextValue) where
   handing_index : (call : CallText) → Each (λ tac. IsIndex (written tac) ≡ true) (resolved_handing context call)
   handing_index call = by (called context.table TheoremTactic call context.cited) refl
     where
-      by : (o : Option (CalledValue × WrittenArgsValue)) → called context.table TheoremTactic call context.cited ≡ o → Each (λ tac. IsIndex (written tac) ≡ true) (resolved_theorem_tac context call.name o)
+      by : (o : Option (CalleeValue × WrittenArgsValue)) → called context.table TheoremTactic call context.cited ≡ o → Each (λ tac. IsIndex (written tac) ≡ true) (resolved_theorem_tac context call.name o)
       by None e = tt
       by (Some (Registered index code, w)) e =
           of_mapped (λ a. Unit {0}) (λ tac. IsIndex (written tac) ≡ true) _ (λ a h. lt-ltb index rows (called_within TheoremTactic call index code w e)) (given context call.name w) (any_given (given context call.name w))
@@ -159,7 +159,7 @@ module _ (context : ContextValue) where
     whole_suited : (call : CallText) → Each (λ c. IsSuited c ≡ true) (resolved_whole context call)
     whole_suited call = by (called context.table Whole call context.cited)
       where
-        by : (o : Option (CalledValue × WrittenArgsValue)) → Each (λ c. IsSuited c ≡ true) (resolved_call context call.name o)
+        by : (o : Option (CalleeValue × WrittenArgsValue)) → Each (λ c. IsSuited c ≡ true) (resolved_call context call.name o)
         by None = tt
         by (Some (Registered index code, w)) = of_mapped (Suits context.basis) (λ c. IsSuited c ≡ true) _ (λ a h. h) (given context call.name w) (all_suit call.name w)
 
@@ -174,7 +174,7 @@ module _ (context : ContextValue) where
     handing_suited : (call : CallText) → Each (λ tac. IsSuited (written tac) ≡ true) (resolved_handing context call)
     handing_suited call = by (called context.table TheoremTactic call context.cited)
       where
-        by : (o : Option (CalledValue × WrittenArgsValue)) → Each (λ tac. IsSuited (written tac) ≡ true) (resolved_theorem_tac context call.name o)
+        by : (o : Option (CalleeValue × WrittenArgsValue)) → Each (λ tac. IsSuited (written tac) ≡ true) (resolved_theorem_tac context call.name o)
         by None = tt
         by (Some (Registered index code, w)) = of_mapped (Suits context.basis) (λ tac. IsSuited (written tac) ≡ true) _ before (given context call.name w) (all_suit call.name w)
 

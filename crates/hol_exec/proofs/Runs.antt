@@ -4,7 +4,7 @@ use Rattle.hol_terms.specs.Nameless.{Nameless}
 use Rattle.hol_notation_terms.specs.Text.{QuotationText}
 use Rattle.hol_notation_tactics.specs.Text.{TacText}
 use Rattle.hol_exec.specs.Setup.{SetupValue}
-use Rattle.hol_exec.specs.Lookups.{lookups_of}
+use Rattle.hol_exec.specs.Signature.{signature_of}
 use Rattle.hol_resolve.specs.Reading.{ReadingValue, IsTermReadAs}
 use Rattle.hol_exec.specs.ReadsValue.{ReadsValue}
 use Rattle.hol_exec.specs.Expr.{ResolutionValue, IsResolution}
@@ -12,7 +12,7 @@ use Rattle.hol_exec.specs.OutcomeValue.{OutcomeValue}
 use Rattle.hol_exec.specs.Local.{opens_read, IsOpening, resolved_outcome, IsApplying}
 
 pub opens_by : (in_proof : Bool) (name : List ℕ) (q : QuotationText) (reads : ReadsValue) (reading : ReadingValue Nameless) (outcome : OutcomeValue) →
-    in_proof ≡ false → IsTermReadAs (lookups_of reads.cited) q.term reading → outcome ≡ opens_read name q.place reads reading → IsOpening in_proof name q reads outcome
+    in_proof ≡ false → IsTermReadAs (signature_of reads.cited) q.term reading → outcome ≡ opens_read name q.place reads reading → IsOpening in_proof name q reads outcome
 opens_by in_proof name q reads reading outcome e h f =
     rw e (reading, h, f)
 
@@ -22,7 +22,7 @@ applies_by in_proof setup tactic reads resolution outcome e h f = rw e (resoluti
 
 -- the same where what is read is of a case
 pub opens_at : (in_proof : Bool) (name : List ℕ) (q : QuotationText) (reads : ReadsValue) (read reading : ReadingValue Nameless) (outcome : OutcomeValue) →
-    in_proof ≡ false → IsTermReadAs (lookups_of reads.cited) q.term read → read ≡ reading → outcome ≡ opens_read name q.place reads reading → IsOpening in_proof name q reads outcome
+    in_proof ≡ false → IsTermReadAs (signature_of reads.cited) q.term read → read ≡ reading → outcome ≡ opens_read name q.place reads reading → IsOpening in_proof name q reads outcome
 opens_at in_proof name q reads read reading outcome e h g f = opens_by in_proof name q reads reading outcome e (rw g at h) f
 
 -- ---- what is known of a result that is passed on

@@ -8,17 +8,17 @@ use Rattle.hol_notation_commands.specs.Reading.{Reads, Breaks, ReadText, IsRead}
 use Rattle.hol_notation_commands.proofs.OneReading.{one_reading as one_command}
 use Rattle.hol_exec.specs.Setup.{SetupValue}
 use Rattle.hol_notation_commands.specs.Text.{LocalText, Goal, Apply, Qed, Make, Local, Direct}
-use Rattle.hol_resolve.specs.Lookups.{LookupsValue}
+use Rattle.hol_resolve.specs.Signature.{SignatureValue}
 use Rattle.hol_resolve.specs.Reading.{ReadingValue}
 use Rattle.hol_resolve.specs.Quotations.{quotations_in}
 use Rattle.hol_resolve.specs.Readings.{QuotedValue, ATerm, ReadingsValue, Attempts, reading_map, IsQuotedAs, AreAttempts, read_all, AreRead}
 use Rattle.hol_resolve.specs.declared.quotations.AnyQuotation.{AnyQuotation}
 use Rattle.hol_resolve.specs.declared.quotations.AnyQuotation.TheVariants as quoted
 use Rattle.hol_resolve.specs.declared.refusal.Refusal.{Refusal}
-use Rattle.hol_exec.specs.Lookups.{lookups_of}
+use Rattle.hol_exec.specs.Signature.{signature_of}
 use Rattle.hol_exec.specs.StateValue.{StateValue, EndedTheory}
 use Rattle.hol_exec.specs.ReadsValue.{ReadsValue, Values}
-use Rattle.hol_exec.specs.declared.refusal.RefusalKind.{RefusalKind}
+use Rattle.hol_exec.specs.declared.reports.refusal.RefusalKind.{RefusalKind}
 use Rattle.hol_exec.specs.Expr.{ResolutionValue, named_refusals, first_refusal, resolved_read, IsResolvedFitting, IsResolvedPast}
 use Rattle.hol_exec.specs.OutcomeValue.{OutcomeValue}
 use Rattle.hol_exec.specs.Local.{opens_read, IsOpening, resolved_outcome, IsApplying, IsLocalOutcome}
@@ -33,11 +33,11 @@ one_text = one_command
 
 -- ---- what is quoted
 
-one_quoted : (over : LookupsValue) (q : AnyQuotation) (a b : ReadingValue QuotedValue) → IsQuotedAs over q a → IsQuotedAs over q b → a ≡ b
+one_quoted : (over : SignatureValue) (q : AnyQuotation) (a b : ReadingValue QuotedValue) → IsQuotedAs over q a → IsQuotedAs over q b → a ≡ b
 one_quoted over (quoted.Term t) a b p q = p.2 ∙ ap (reading_map ATerm) (one_reading over t.term p.0 q.0 p.1 q.1) ∙ sym q.2
 one_quoted over (quoted.Type t) a b p q = p ∙ sym q
 
-one_attempts : (over : LookupsValue) (qs : List AnyQuotation) (a b : Attempts) → AreAttempts over qs a → AreAttempts over qs b → a ≡ b
+one_attempts : (over : SignatureValue) (qs : List AnyQuotation) (a b : Attempts) → AreAttempts over qs a → AreAttempts over qs b → a ≡ b
 one_attempts over [] [] [] p q = refl
 one_attempts over [] [] (y ∷ b) p q = absurd q
 one_attempts over [] (x ∷ a) b p q = absurd p
@@ -49,7 +49,7 @@ one_attempts over (t ∷ qs) (x ∷ a) (y ∷ b) p q =
     let rest : a ≡ b = one_attempts over qs a b p.2 q.2 in
     λ i. (place i, read i) ∷ rest i
 
-one_all_read : (over : LookupsValue) (qs : List AnyQuotation) (a b : Result ReadingsValue Refusal) → AreRead over qs a → AreRead over qs b → a ≡ b
+one_all_read : (over : SignatureValue) (qs : List AnyQuotation) (a b : Result ReadingsValue Refusal) → AreRead over qs a → AreRead over qs b → a ≡ b
 one_all_read over qs a b p q = p.2 ∙ ap read_all (one_attempts over qs p.0 q.0 p.1 q.1) ∙ sym q.2
 
 -- ---- resolutions
@@ -57,7 +57,7 @@ one_all_read over qs a b p q = p.2 ∙ ap read_all (one_attempts over qs p.0 q.0
 module _ (setup : SetupValue) (cited : Values) where
   one_fitting : (tactic : TacText) (a b : ResolutionValue) → IsResolvedFitting setup tactic cited a → IsResolvedFitting setup tactic cited b → a ≡ b
   one_fitting tactic a b p q =
-      p.2 ∙ ap (resolved_read setup tactic cited) (one_all_read (lookups_of cited) (quotations_in (parts_of tactic)) p.0 q.0 p.1 q.1) ∙ sym q.2
+      p.2 ∙ ap (resolved_read setup tactic cited) (one_all_read (signature_of cited) (quotations_in (parts_of tactic)) p.0 q.0 p.1 q.1) ∙ sym q.2
 
   one_past : (tactic : TacText) (o : Option (RefusalKind × List ℕ)) (a b : ResolutionValue) → IsResolvedPast setup tactic cited o a → IsResolvedPast setup tactic cited o b → a ≡ b
   one_past tactic (Some refused) a b p q = p ∙ sym q
@@ -68,7 +68,7 @@ module _ (setup : SetupValue) (cited : Values) where
 one_opening : (in_proof : Bool) (name : List ℕ) (quotation : QuotationText) (reads : ReadsValue) (a b : OutcomeValue) → IsOpening in_proof name quotation reads a → IsOpening in_proof name quotation reads b → a ≡ b
 one_opening true name quotation reads a b p q = p ∙ sym q
 one_opening false name quotation reads a b p q =
-    p.2 ∙ ap (opens_read name quotation.place reads) (one_reading (lookups_of reads.cited) quotation.term p.0 q.0 p.1 q.1) ∙ sym q.2
+    p.2 ∙ ap (opens_read name quotation.place reads) (one_reading (signature_of reads.cited) quotation.term p.0 q.0 p.1 q.1) ∙ sym q.2
 
 one_applying : (in_proof : Bool) (setup : SetupValue) (tactic : TacText) (reads : ReadsValue) (a b : OutcomeValue) → IsApplying in_proof setup tactic reads a → IsApplying in_proof setup tactic reads b → a ≡ b
 one_applying false setup tactic reads a b p q = p ∙ sym q

@@ -24,7 +24,7 @@ use Rattle.hol_theory.specs.Key.{KeyValue, type_key, constant_key, theorem_key}
 use Rattle.hol_theory.specs.Entry.{EntryValue, AType, AConstant, ATheorem, Entries}
 use Rattle.hol_theory.specs.Making.{IsNewType, IsNewConstant, IsNewAxiom, IsNewTypeDefinition, item_entries}
 use Rattle.hol_exec.specs.ReadsValue.{ReadsValue}
-use Rattle.hol_exec.specs.Lookups.{lookups_of}
+use Rattle.hol_exec.specs.Signature.{signature_of}
 use Rattle.hol_exec.specs.Resolved.{cited_theorem}
 use Rattle.hol_exec.specs.Defining.{first_free, first_unreflected}
 use Rattle.hol_exec.specs.OutcomeValue.{OutcomeValue, Makes}
@@ -157,12 +157,12 @@ one_type_from d reads (Some member) a b p q = one_untaken (taken reads) (MakesTy
 
 one_command : (making : MakingText) (reads : ReadsValue) → One (IsMade making reads)
 one_command (NewType name arity) reads a b p q = one_untaken (taken reads) (MakesOne (IsNewType no_items name arity)) (one_type no_items name arity) a b p q
-one_command (NewConstant name quotation) reads a b p q = one_constant_of name quotation.place reads (type_reading (lookups_of reads.cited) quotation.ty) a b p q
+one_command (NewConstant name quotation) reads a b p q = one_constant_of name quotation.place reads (type_reading (signature_of reads.cited) quotation.ty) a b p q
 one_command (NewAxiom name quotation) reads a b p q =
     one_axiom_of name quotation.place reads p.0 a b p.2
-    (subst (λ (r : ReadingValue Nameless). MakesAxiomOf name quotation.place reads r b) (one_reading (lookups_of reads.cited) quotation.term q.0 p.0 q.1 p.1) q.2)
+    (subst (λ (r : ReadingValue Nameless). MakesAxiomOf name quotation.place reads r b) (one_reading (signature_of reads.cited) quotation.term q.0 p.0 q.1 p.1) q.2)
 one_command (NewDefinition name d) reads a b p q =
-    let over = lookups_of reads.cited in
+    let over = signature_of reads.cited in
     one_definition_of name d reads p.0 a b p.2
     (subst (λ (r : ReadingValue Nameless). MakesDefinitionOf name d reads r b) (one_read (definition_has_arities over.types d) (definition_raw over.types over.constants d) q.0 p.0 q.1 p.1) q.2)
 one_command (NewBasicTypeDefinition d) reads a b p q = one_type_from d reads (cited_theorem reads.cited) a b p q

@@ -6,7 +6,7 @@ use Rattle.hol_types.specs.Tree.{TypeTree, type_size}
 use Rattle.hol_subst.proofs.Closing.{not_below}
 use Rattle.hol_notation_terms.specs.Text.{TypeText}
 use Rattle.hol_infer.specs.Resolving.{has_arities, type_of_text}
-use Rattle.hol_resolve.specs.Lookups.{LookupsValue}
+use Rattle.hol_resolve.specs.Signature.{SignatureValue}
 use Rattle.hol_resolve.specs.Reading.{ReadsAs, LargeReading, WrongArity, small_type, type_reading}
 use Rattle.hol_terms.specs.Nameless.{Nameless}
 use Rattle.hol_kernel.specs.Items.{Items, no_items}
@@ -16,7 +16,7 @@ use Rattle.hol_resolve.specs.declared.readings.Quoted.{Quoted}
 use Rattle.hol_theory.specs.Key.{KeyValue, key_text}
 use Rattle.hol_theory.specs.Entry.{EntryValue}
 use Rattle.hol_theory.specs.Making.{IsNewType, IsNewConstant, IsNewAxiom}
-use Rattle.hol_exec.specs.declared.refusal.RefusalKind.TheVariants as refusal
+use Rattle.hol_exec.specs.declared.reports.refusal.RefusalKind.TheVariants as refusal
 use Rattle.hol_exec.specs.ReadsValue.{Values, ReadsValue}
 use Rattle.hol_exec.specs.Resolved.{resolved_basis}
 use Rattle.hol_exec.specs.OutcomeValue.{OutcomeValue, Makes, Refuses}
@@ -67,7 +67,7 @@ module _ {E : Type 0} (result : Result OutcomeValue E) (free unreflected : Optio
 large_or_not : (a : TypeTree) → type_size a ≤ 20000 → small_type a ≡ ReadsAs a
 large_or_not a h = ap (λ b. cond b LargeReading (ReadsAs a)) (not_below 20000 (type_size a) h)
 
-pub type_reads : (over : LookupsValue) (types : List (List ℕ × ℕ)) (t : TypeText) (a : TypeTree) → types ≡ over.types → (a ≡ type_of_text types t) × (has_arities types t ≡ true) × (type_size a ≤ 20000) → type_reading over t ≡ ReadsAs a
+pub type_reads : (over : SignatureValue) (types : List (List ℕ × ℕ)) (t : TypeText) (a : TypeTree) → types ≡ over.types → (a ≡ type_of_text types t) × (has_arities types t ≡ true) × (type_size a ≤ 20000) → type_reading over t ≡ ReadsAs a
 type_reads over types t a e (is, fits, small) =
     (λ i. cond (has_arities (sym e i) t) (small_type (type_of_text (sym e i) t)) WrongArity)
     ∙ (λ i. cond (fits i) (small_type (sym is i)) WrongArity)

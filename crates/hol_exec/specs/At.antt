@@ -5,7 +5,7 @@ use Rattle.hol_stack.specs.StackValue.{StepValue}
 use Rattle.hol_theory.specs.Adding.{first_clash, missing}
 use Rattle.hol_theory.specs.Entry.{Entries}
 use Rattle.hol_theory.specs.Key.{KeyValue, key_text}
-use Rattle.hol_exec.specs.declared.refusal.RefusalKind.TheVariants as refusal
+use Rattle.hol_exec.specs.declared.reports.refusal.RefusalKind.TheVariants as refusal
 use Rattle.hol_exec.specs.Setup.{SetupValue}
 use Rattle.hol_notation_commands.specs.Text.{DirectText, Back, Rotate, Oops, Import, Local, Direct}
 use Rattle.hol_notation_commands.specs.Reading.{ReadText, Reads, Breaks}

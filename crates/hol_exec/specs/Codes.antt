@@ -10,8 +10,8 @@ use Rattle.hol_kernel.specs.Items.{Items, items_code}
 use Rattle.hol_goal.specs.Goal.{GoalValue, goal_code}
 use Rattle.hol_stack.specs.StackValue.{StepValue}
 use Rattle.hol_stack.specs.Codes.{step_code}
-use Rattle.hol_exec.specs.declared.refusal.RefusalKind.{RefusalKind}
-use Rattle.hol_exec.specs.declared.refusal.RefusalKind.TheVariants.{Syntax, InProof, NoProofOpen, UnknownTheory, UnknownTheorem, UnknownTac, Untypable, NotBool, Arity, NameTaken, NotClosed, NotReflected, TooLarge, BadRule, HypsNotAssumed, NoGoalOpen, Refused, TurnLimit, GoalsRemain, NothingToUndo, ImportClash}
+use Rattle.hol_exec.specs.declared.reports.refusal.RefusalKind.{RefusalKind}
+use Rattle.hol_exec.specs.declared.reports.refusal.RefusalKind.TheVariants.{Syntax, InProof, NoProofOpen, UnknownTheory, UnknownTheorem, UnknownTac, Untypable, NotBool, Arity, NameTaken, NotClosed, NotReflected, TooLarge, BadRule, HypsNotAssumed, NoGoalOpen, Refused, TurnLimit, GoalsRemain, NothingToUndo, ImportClash}
 use Rattle.hol_theory.specs.Entry.{Entries}
 use Rattle.hol_theory.specs.Codes.{coded_key, coded_entry, coded_entries}
 use Rattle.hol_exec.specs.StateValue.{ProofValue, StateValue}

@@ -3,7 +3,7 @@ use Rattle.std.specs.Prelude.{◌≡◌, ℕ, List}
 use Rattle.hol_goal.specs.declared.tac_code.TacCode.{TacCode}
 use Rattle.hol_resolve.specs.Over.{AreOver, AreWithin}
 use Rattle.hol_resolve.specs.ReadingView.{readings_value}
-use Rattle.hol_exec.specs.declared.expressions.Context.{Context}
+use Rattle.hol_exec.specs.declared.resolving.expressions.Context.{Context}
 use Rattle.hol_exec.specs.Expr.{ContextValue}
 use Rattle.hol_exec.specs.Resolved.{cited_theorems}
 

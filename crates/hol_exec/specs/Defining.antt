@@ -10,11 +10,11 @@ use Rattle.hol_terms.specs.Scoped.{add_all}
 use Rattle.hol_subst.specs.TermTyvars.{term_tyvars}
 use Rattle.hol_notation_terms.specs.Text.{DefinitionText}
 use Rattle.hol_infer.specs.Resolving.{definition_has_arities, definition_raw}
-use Rattle.hol_resolve.specs.Lookups.{LookupsValue}
+use Rattle.hol_resolve.specs.Signature.{SignatureValue}
 use Rattle.hol_resolve.specs.Reading.{ReadingValue, IsReadAs}
 
 -- `c v1 .. vn = r` reads as the equation `c = \v1 .. vn. r`, in which c is a free variable
-abbrev pub IsDefinitionReadAs : LookupsValue → DefinitionText → ReadingValue Nameless → Type 0
+abbrev pub IsDefinitionReadAs : SignatureValue → DefinitionText → ReadingValue Nameless → Type 0
 IsDefinitionReadAs over d reading = IsReadAs (definition_has_arities over.types d) (definition_raw over.types over.constants d) reading
 
 -- ---- what is refused: names by bytes

@@ -23,14 +23,14 @@ use Rattle.hol_resolve.specs.declared.refusal.Refusal.{Refusal}
 use Rattle.hol_resolve.specs.declared.refusal.Refusal.TheVariants as resolving
 use Rattle.hol_notation_tactics.specs.declared.parts.Role.{Role}
 use Rattle.hol_notation_tactics.specs.declared.parts.Role.TheVariants.{Whole, TheoremTactic}
-use Rattle.hol_exec.specs.declared.refusal.RefusalKind.{RefusalKind}
-use Rattle.hol_exec.specs.declared.refusal.RefusalKind.TheVariants as refusal
+use Rattle.hol_exec.specs.declared.reports.refusal.RefusalKind.{RefusalKind}
+use Rattle.hol_exec.specs.declared.reports.refusal.RefusalKind.TheVariants as refusal
 use Rattle.hol_exec.specs.Setup.{SetupValue}
 use Rattle.hol_exec.specs.ReadsValue.{Values}
-use Rattle.hol_exec.specs.Lookups.{lookups_of}
+use Rattle.hol_exec.specs.Signature.{signature_of}
 use Rattle.hol_exec.specs.Resolved.{cited_theorems, resolved_basis}
 use Rattle.hol_exec.specs.Standing.{first_unknown}
-use Rattle.hol_exec.specs.Tac.{CalledValue, Registered, called}
+use Rattle.hol_exec.specs.Callee.{CalleeValue, Registered, called}
 
 -- ---- resolving, of one number all that is written before the next
 
@@ -134,11 +134,11 @@ module _ (context : ContextValue) where
   abbrev pub given : List ℕ → WrittenArgsValue → Result TacArgsValue RefusedValue
   given name written = arguments_for context.basis context.cited context.readings name written
 
-  abbrev pub resolved_call : List ℕ → Option (CalledValue × WrittenArgsValue) → Result CallValue RefusedValue
+  abbrev pub resolved_call : List ℕ → Option (CalleeValue × WrittenArgsValue) → Result CallValue RefusedValue
   resolved_call name None = Err (refusal.UnknownTac, name)
   resolved_call name (Some (Registered index code, written)) = mapped (λ a. record { index = index; name = name; args = a }) (given name written)
 
-  abbrev pub resolved_theorem_tac : List ℕ → Option (CalledValue × WrittenArgsValue) → Result TheoremTacValue RefusedValue
+  abbrev pub resolved_theorem_tac : List ℕ → Option (CalleeValue × WrittenArgsValue) → Result TheoremTacValue RefusedValue
   resolved_theorem_tac name None = Err (refusal.UnknownTac, name)
   resolved_theorem_tac name (Some (Registered index code, written)) = mapped (λ a. record { index = index; name = name; term = term_before a }) (given name written)
 
@@ -193,7 +193,7 @@ resolved_read setup tactic cited (Err r) = refused_resolution (refused_by [] r)
 -- past what is refused of names: all that is quoted is read before anything is resolved
 abbrev pub IsResolvedFitting : SetupValue → TacText → Values → ResolutionValue → Type 0
 IsResolvedFitting setup tactic cited resolution =
-    (readings : Result ReadingsValue Refusal) × AreRead (lookups_of cited) (quotations_in (parts_of tactic)) readings × (resolution ≡ resolved_read setup tactic cited readings)
+    (readings : Result ReadingsValue Refusal) × AreRead (signature_of cited) (quotations_in (parts_of tactic)) readings × (resolution ≡ resolved_read setup tactic cited readings)
 
 abbrev pub IsResolvedPast : SetupValue → TacText → Values → Option (RefusalKind × List ℕ) → ResolutionValue → Type 0
 IsResolvedPast setup tactic cited (Some refused) resolution = resolution ≡ refused_resolution refused

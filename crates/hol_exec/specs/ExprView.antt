@@ -10,10 +10,10 @@ use Rattle.hol_combine.specs.declared.expr.TacCall.{TacCall}
 use Rattle.hol_combine.specs.declared.expr.TheoremTac.{TheoremTac}
 use Rattle.hol_combine.specs.declared.expr.Handing.{Handing}
 use Rattle.hol_combine.specs.declared.expr.ExprNode.{ExprNode}
-use Rattle.hol_exec.specs.declared.resolution.Resolution.{Resolution}
-use Rattle.hol_exec.specs.declared.resolution.Resolution.TheVariants as resolution
-use Rattle.hol_exec.specs.declared.unresolved.Unresolved.{Unresolved as Fault}
-use Rattle.hol_exec.specs.declared.unresolved.Unresolved.TheVariants as fault
+use Rattle.hol_exec.specs.declared.resolving.resolution.Resolution.{Resolution}
+use Rattle.hol_exec.specs.declared.resolving.resolution.Resolution.TheVariants as resolution
+use Rattle.hol_exec.specs.declared.resolving.unresolved.Unresolved.{Unresolved as Fault}
+use Rattle.hol_exec.specs.declared.resolving.unresolved.Unresolved.TheVariants as fault
 use Rattle.hol_exec.specs.Expr.{ResolutionValue, Resolved, Unresolved, RefusedValue, mapped}
 
 abbrev pub resolution_value : Resolution → ResolutionValue

@@ -9,11 +9,11 @@ pub mod ParsedView
 pub mod Keys
 pub mod StateValue
 pub mod ReadsValue
-pub mod Lookups
+pub mod Signature
 pub mod Standing
 pub mod Resolved
-pub mod Tac
-pub mod TacView
+pub mod Callee
+pub mod CalleeView
 pub mod Expr
 pub mod ExprView
 pub mod ContextView

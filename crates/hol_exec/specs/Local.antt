@@ -14,13 +14,13 @@ use Rattle.hol_goal.specs.Goal.{GoalValue}
 use Rattle.hol_combine.specs.ExprValue.{ExprValue}
 use Rattle.hol_combine.specs.Runs.{RefusalValue, DoesNotFit, LacksHyps, StopValue, TurnLimit, LargeGoal, RunValue, run}
 use Rattle.hol_combine.specs.Runs as runs
-use Rattle.hol_exec.specs.declared.refusal.RefusalKind.TheVariants as refusal
+use Rattle.hol_exec.specs.declared.reports.refusal.RefusalKind.TheVariants as refusal
 use Rattle.hol_theory.specs.Key.{KeyValue, theorem_key, key_text}
 use Rattle.hol_theory.specs.Entry.{ATheorem}
 use Rattle.hol_exec.specs.Setup.{SetupValue}
 use Rattle.hol_notation_commands.specs.Text.{LocalText, Goal, Apply, Qed, Make}
 use Rattle.hol_exec.specs.ReadsValue.{ReadsValue, ClosingValue}
-use Rattle.hol_exec.specs.Lookups.{lookups_of}
+use Rattle.hol_exec.specs.Signature.{signature_of}
 use Rattle.hol_exec.specs.Resolved.{resolved_basis}
 use Rattle.hol_resolve.specs.Readings.{ATerm}
 use Rattle.hol_resolve.specs.Reading.{ReadingValue, WrongArity, NoTyping, LargeReading, ReadsAs, IsTermReadAs}
@@ -50,7 +50,7 @@ opens_read name place reads (ReadsAs p) = opens_term name place reads p
 abbrev pub IsOpening : Bool → List ℕ → QuotationText → ReadsValue → OutcomeValue → Type 0
 IsOpening true name quotation reads outcome = outcome ≡ Refuses refusal.InProof []
 IsOpening false name quotation reads outcome =
-    (reading : ReadingValue Nameless) × IsTermReadAs (lookups_of reads.cited) quotation.term reading × (outcome ≡ opens_read name quotation.place reads reading)
+    (reading : ReadingValue Nameless) × IsTermReadAs (signature_of reads.cited) quotation.term reading × (outcome ≡ opens_read name quotation.place reads reading)
 
 -- ---- `e`: no proof open; then what resolving refuses; no goal open; then the run
 

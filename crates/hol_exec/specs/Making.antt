@@ -18,9 +18,9 @@ use Rattle.hol_resolve.specs.Readings.{ATerm, AType}
 use Rattle.hol_theory.specs.Key.{KeyValue, theorem_key, key_text}
 use Rattle.hol_theory.specs.Entry.{EntryValue, ATheorem, Entries}
 use Rattle.hol_theory.specs.Making.{IsNewType, IsNewConstant, IsNewAxiom, IsNewDefinition, IsNewTypeDefinition}
-use Rattle.hol_exec.specs.declared.refusal.RefusalKind.TheVariants as refusal
+use Rattle.hol_exec.specs.declared.reports.refusal.RefusalKind.TheVariants as refusal
 use Rattle.hol_exec.specs.ReadsValue.{ReadsValue}
-use Rattle.hol_exec.specs.Lookups.{lookups_of}
+use Rattle.hol_exec.specs.Signature.{signature_of}
 use Rattle.hol_exec.specs.Resolved.{cited_theorem, resolved_basis}
 use Rattle.hol_exec.specs.Standing.{first_taken}
 use Rattle.hol_exec.specs.Defining.{IsDefinitionReadAs, first_free, first_unreflected}
@@ -56,7 +56,7 @@ MakesConstantOf name place reads LargeReading outcome = outcome ≡ Refuses refu
 MakesConstantOf name place reads (ReadsAs a) outcome = UnlessTaken (taken reads) (MakesOne (IsNewConstant (constant_basis reads place a) name a)) outcome
 
 abbrev pub MakesConstant : List ℕ → TypeQuotationText → ReadsValue → OutcomeValue → Type 0
-MakesConstant name quotation reads outcome = MakesConstantOf name quotation.place reads (type_reading (lookups_of reads.cited) quotation.ty) outcome
+MakesConstant name quotation reads outcome = MakesConstantOf name quotation.place reads (type_reading (signature_of reads.cited) quotation.ty) outcome
 
 -- ---- new_axiom: arity; untypable; too large; not bool; name taken
 
@@ -75,7 +75,7 @@ MakesAxiomOf name place reads (ReadsAs p) outcome = StatesAxiom name place reads
 
 abbrev pub MakesAxiom : List ℕ → QuotationText → ReadsValue → OutcomeValue → Type 0
 MakesAxiom name quotation reads outcome =
-    (reading : ReadingValue Nameless) × IsTermReadAs (lookups_of reads.cited) quotation.term reading × MakesAxiomOf name quotation.place reads reading outcome
+    (reading : ReadingValue Nameless) × IsTermReadAs (signature_of reads.cited) quotation.term reading × MakesAxiomOf name quotation.place reads reading outcome
 
 -- ---- new_definition: arity; untypable; too large; name taken; not closed; type variables not reflected
 
@@ -106,7 +106,7 @@ MakesDefinitionOf name d reads (ReadsAs p) outcome = DefinesBy name d reads p (r
 
 abbrev pub MakesDefinition : List ℕ → DefinitionText → ReadsValue → OutcomeValue → Type 0
 MakesDefinition name d reads outcome =
-    (reading : ReadingValue Nameless) × IsDefinitionReadAs (lookups_of reads.cited) d reading × MakesDefinitionOf name d reads reading outcome
+    (reading : ReadingValue Nameless) × IsDefinitionReadAs (signature_of reads.cited) d reading × MakesDefinitionOf name d reads reading outcome
 
 -- ---- new_basic_type_definition: unknown theorem; name taken; not closed; bad rule, where the theorem is no application
 

@@ -6,7 +6,7 @@ use Rattle.hol_terms.specs.Nameless.{Nameless}
 use Rattle.hol_kernel.specs.Items.{Items}
 use Rattle.hol_goal.specs.Goal.{GoalValue}
 use Rattle.hol_stack.specs.StackValue.{StepValue, turned}
-use Rattle.hol_exec.specs.declared.refusal.RefusalKind.{RefusalKind}
+use Rattle.hol_exec.specs.declared.reports.refusal.RefusalKind.{RefusalKind}
 use Rattle.hol_theory.specs.Entry.{Entries, EachIsEntry}
 use Rattle.hol_exec.specs.StateValue.{ProofValue, StateValue}
 

@@ -1,8 +1,8 @@
 -- The outcome that the program's value stands for.
 use Rattle.std.specs.Prelude.{[], string_bytes}
 use Rattle.hol_terms.specs.Nameless.{nameless}
-use Rattle.hol_exec.specs.declared.outcome.Change.{Change}
-use Rattle.hol_exec.specs.declared.outcome.Change.TheVariants as change
+use Rattle.hol_exec.specs.declared.running.outcome.Change.{Change}
+use Rattle.hol_exec.specs.declared.running.outcome.Change.TheVariants as change
 use Rattle.hol_exec.specs.OutcomeValue.{OutcomeValue, Opens, Leaves, Undoes, Rotates, Makes, Refuses}
 
 abbrev pub outcome_of : Change → OutcomeValue

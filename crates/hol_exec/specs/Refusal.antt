@@ -1,8 +1,8 @@
 -- The refusals of commands: their numbers and their texts, as clients see them.
 -- Source: this project.
 use Rattle.std.specs.Prelude.{ℕ, List, codes}
-use Rattle.hol_exec.specs.declared.refusal.RefusalKind.{RefusalKind}
-use Rattle.hol_exec.specs.declared.refusal.RefusalKind.TheVariants.{Syntax, InProof, NoProofOpen, UnknownTheory, UnknownTheorem, UnknownTac, Untypable, NotBool, Arity, NameTaken, NotClosed, NotReflected, TooLarge, BadRule, HypsNotAssumed, NoGoalOpen, Refused, TurnLimit, GoalsRemain, NothingToUndo, ImportClash}
+use Rattle.hol_exec.specs.declared.reports.refusal.RefusalKind.{RefusalKind}
+use Rattle.hol_exec.specs.declared.reports.refusal.RefusalKind.TheVariants.{Syntax, InProof, NoProofOpen, UnknownTheory, UnknownTheorem, UnknownTac, Untypable, NotBool, Arity, NameTaken, NotClosed, NotReflected, TooLarge, BadRule, HypsNotAssumed, NoGoalOpen, Refused, TurnLimit, GoalsRemain, NothingToUndo, ImportClash}
 
 abbrev pub kind_number : RefusalKind → ℕ
 kind_number Syntax = 1

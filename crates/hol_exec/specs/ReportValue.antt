@@ -2,7 +2,7 @@
 -- Source: this project.
 use Rattle.std.specs.Prelude.{ℕ, List}
 use Rattle.hol_print.specs.ShowGoal.{GoalText}
-use Rattle.hol_exec.specs.declared.refusal.RefusalKind.{RefusalKind}
+use Rattle.hol_exec.specs.declared.reports.refusal.RefusalKind.{RefusalKind}
 
 pub data ReportValue : Type 0 where
   ShowsGoals : List GoalText → ReportValue

@@ -1,8 +1,8 @@
 -- The value that a report of the program stands for.
 use Rattle.std.specs.Prelude.{map, string_bytes}
 use Rattle.hol_print.specs.ShowGoal.{goal_text}
-use Rattle.hol_exec.specs.declared.report.Report.{Report}
-use Rattle.hol_exec.specs.declared.report.Report.TheVariants as code
+use Rattle.hol_exec.specs.declared.reports.report.Report.{Report}
+use Rattle.hol_exec.specs.declared.reports.report.Report.TheVariants as code
 use Rattle.hol_exec.specs.ReportValue.{ReportValue, ShowsGoals, HasMade, WasRefused}
 
 abbrev pub report_value : Report → ReportValue

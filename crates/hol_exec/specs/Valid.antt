@@ -24,10 +24,10 @@ use Rattle.hol_just.specs.Valid.{IsValid}
 use Rattle.hol_just.specs.declared.reason.Move.{Move}
 use Rattle.hol_stack.specs.Calls.{IsStep}
 use Rattle.hol_stack.specs.StackValue.{StepValue}
-use Rattle.hol_exec.specs.declared.resolution.Resolution.{Resolution}
-use Rattle.hol_exec.specs.declared.resolution.Resolution.TheVariants as resolution
-use Rattle.hol_exec.specs.declared.outcome.Change.{Change}
-use Rattle.hol_exec.specs.declared.outcome.Change.TheVariants.{Opens, Leaves, Undoes, Rotates, Makes, Refuses}
+use Rattle.hol_exec.specs.declared.resolving.resolution.Resolution.{Resolution}
+use Rattle.hol_exec.specs.declared.resolving.resolution.Resolution.TheVariants as resolution
+use Rattle.hol_exec.specs.declared.running.outcome.Change.{Change}
+use Rattle.hol_exec.specs.declared.running.outcome.Change.TheVariants.{Opens, Leaves, Undoes, Rotates, Makes, Refuses}
 use Rattle.hol_exec.specs.Setup.{SetupValue}
 use Rattle.hol_exec.specs.Keys.{made_by_making}
 use Rattle.hol_theory.specs.Key.{key_eq, theorem_key}

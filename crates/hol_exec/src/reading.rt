@@ -1,51 +1,9 @@
-//! What a term as it is written reads as.
-ghost use Rattle.std.specs.Prelude.{◌≡◌, IfOk, [], ◌∷◌};
-ghost use Rattle.hol_terms.specs.Nameless.{nameless, nameless_type};
-ghost use Rattle.hol_formulas.specs.Equation.{bool_type};
-ghost use Rattle.hol_kernel.specs.Typing.{is_type_at};
-ghost use Rattle.hol_exec.specs.Lookups.{lookups_of};
-ghost use Rattle.hol_resolve.specs.Reading.{IsTermReadAs};
-ghost use Rattle.hol_resolve.specs.ReadingView.{reading_value, quoted_value, list_value};
+//! What is written, read: a command's text, and a term over what stands.
 
-use crate::lookups::lookups_of;
-use crate::reads::Reads;
-use crate::setup::Setup;
-use hol_formulas::is_bool;
-use hol_notation_terms::PreTerm;
-use hol_resolve::{Quoted, Reading, read_term};
-use hol_terms::Term;
-use std::alloc::{AllocError, Global};
+mod parsed;
+mod signature;
+mod terms;
 
-/// What the term reads as, over the prelude and what the command cites.
-pub(crate) fn read_cited(
-    alloc: Global,
-    setup: &Setup,
-    written: &PreTerm,
-    reads: &Reads,
-) -> Result<Reading, AllocError>
-    ensures { IfOk result (λ reading. IsTermReadAs (lookups_of reads.now.cited) written.now (reading_value reading)) }
-{
-    let lookups = lookups_of(alloc, setup, reads.cited())?;
-    read_term(alloc, written, &lookups)
-}
-
-/// What the one quotation of a command reads as, with its place.
-pub(crate) fn of_quotation(
-    alloc: Global,
-    place: usize,
-    quoted: Quoted,
-) -> Result<Vec<(usize, Quoted)>, AllocError>
-    ensures { IfOk result (λ readings. list_value readings.items ≡ (place, quoted_value quoted) ∷ []) }
-{
-    let mut readings = Vec::new(alloc);
-    readings.push((place, quoted))?;
-    Ok(readings)
-}
-
-/// Whether the term is of type `bool`.
-#[tactic(auto, using(hol_terms::proofs::Typing::type_outside))]
-pub(crate) fn is_statement(term: &Term) -> bool
-    ensures { result ≡ is_type_at (nameless_type [] (nameless [] term.now)) bool_type }
-{
-    is_bool(term.type_of())
-}
+pub use parsed::{Parsed, parse, unread};
+pub(crate) use signature::signature_of;
+pub(crate) use terms::{is_statement, of_quotation, read_cited};

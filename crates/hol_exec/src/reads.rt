@@ -9,14 +9,20 @@ ghost use Rattle.hol_exec.specs.SameReads.{same_reads};
 ghost use Rattle.hol_exec.specs.Valid.{AreOfTheory};
 ghost use Rattle.hol_exec.specs.ReadsValue.{ReadsValue, AreKeyed, values_of, goal_for, closing_for, reads_of};
 
-use crate::closing::Closing;
-use crate::keys::{cited_keys, made_keys};
-use crate::same::{same_each, same_options};
-use crate::standing::{is_standing, is_unknown};
+mod closing;
+mod keys;
+mod same;
+mod standing;
+
+use crate::reads::keys::{cited_keys, made_keys};
+use crate::reads::same::same_options;
+use crate::reads::standing::{is_standing, is_unknown};
 use crate::state::State;
+pub(crate) use closing::Closing;
 use hol_goal::Goal;
 use hol_notation_commands::LocalCommand;
 use hol_theory::{Key, Value};
+pub(crate) use same::{Same, same_each};
 use std::alloc::{AllocError, Global};
 use std::hash::{Hash, Hasher};
 use std::marker::Model;

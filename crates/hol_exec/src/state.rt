@@ -11,11 +11,15 @@ ghost use Rattle.hol_exec.specs.StateValue.{StateValue, start, open_goals};
 ghost use Rattle.hol_exec.specs.OutcomeValue.{stepped_in, undone_in, rotated_in};
 ghost use Rattle.hol_exec.specs.Valid.{CanStep, IsFreeFor, IsProofWithin};
 
-use crate::proof::Proof;
+mod entry;
+mod proof;
+
+pub(crate) use entry::copies;
 use hol_goal::Goal;
 use hol_just::Step;
 use hol_kernel::Basis;
 use hol_theory::{Env, Key, Value};
+pub(crate) use proof::Proof;
 use std::alloc::{AllocError, Global};
 use std::marker::Model;
 

@@ -17,7 +17,7 @@ use Rattle.hol_infer.proofs.Standing.{reading_typed}
 use Rattle.hol_infer.proofs.StandingLaws.{count_texts, reading_stands}
 use Rattle.hol_resolve.specs.declared.quotations.AnyQuotation.{AnyQuotation}
 use Rattle.hol_resolve.specs.declared.quotations.AnyQuotation.TheVariants as quoted
-use Rattle.hol_resolve.specs.Lookups.{LookupsValue}
+use Rattle.hol_resolve.specs.Signature.{SignatureValue}
 use Rattle.hol_resolve.specs.Reading.{ReadingValue, WrongArity, NoTyping, LargeReading, ReadsAs, IsTermReadAs, small_type}
 use Rattle.hol_resolve.specs.Readings.{QuotedValue, ATerm, AType, ReadingsValue, Attempts, reading_map, IsQuotedAs, AreAttempts, has_wrong_arity, has_no_typing, is_large, first_with, read_at, all_read, unless_large, unless_untyped, unless_wrong, AreRead}
 use Rattle.hol_resolve.specs.Over.{IsQuotedOver, AreOver}
@@ -25,7 +25,7 @@ use Rattle.hol_resolve.specs.Over.{IsQuotedOver, AreOver}
 typed_at : (known : Bool) (o : Option TypeTree) (a : TypeTree) → known ≡ true → o ≡ Some a → is_some (cond known o None) ≡ true
 typed_at known o a k e = λ i. is_some (cond (k i) (e i) None)
 
-module _ (basis : Items) (over : LookupsValue) (s : AreStanding (has_arity basis) (has_constant basis) over.types over.constants) where
+module _ (basis : Items) (over : SignatureValue) (s : AreStanding (has_arity basis) (has_constant basis) over.types over.constants) where
   -- ---- types
 
   ident_stands : (a : List ℕ) (o : Option ℕ) → arity_of over.types a ≡ o → stands_alone o ≡ true → is_type basis (ident_type o a) ≡ true
@@ -132,7 +132,7 @@ module _ (basis : Items) (over : LookupsValue) (s : AreStanding (has_arity basis
   read_over : (quotations : List AnyQuotation) (readings : ReadingsValue) → AreRead over quotations (Ok readings) → AreOver basis readings
   read_over quotations readings h = of_wrong (first_with has_wrong_arity h.0) h.0 readings (all_over quotations h.0 h.1) h.2
 
-pub readings_are_over : (basis : Items) (over : LookupsValue) (quotations : List AnyQuotation) (readings : ReadingsValue) → AreStanding (has_arity basis) (has_constant basis) over.types over.constants → AreRead over quotations (Ok readings) → AreOver basis readings
+pub readings_are_over : (basis : Items) (over : SignatureValue) (quotations : List AnyQuotation) (readings : ReadingsValue) → AreStanding (has_arity basis) (has_constant basis) over.types over.constants → AreRead over quotations (Ok readings) → AreOver basis readings
 readings_are_over basis over quotations readings s h = read_over basis over s quotations readings h
 
 -- ---- larger bases

@@ -4,7 +4,7 @@ use Rattle.std.proofs.Common.{ap, sym, subst}
 use Rattle.std.proofs.lemmas.List.{drop_all}
 use Rattle.hol_resolve.specs.declared.quotations.AnyQuotation.{AnyQuotation}
 use Rattle.hol_resolve.specs.declared.attempts.Attempt.{Attempt}
-use Rattle.hol_resolve.specs.Lookups.{LookupsValue}
+use Rattle.hol_resolve.specs.Signature.{SignatureValue}
 use Rattle.hol_resolve.specs.Quotations.{place_of}
 use Rattle.hol_resolve.specs.Readings.{Attempts, IsQuotedAs, AreAttempts}
 use Rattle.hol_resolve.specs.ReadingView.{attempt_value, attempts_value}
@@ -13,7 +13,7 @@ pushed : (done : List (ℕ × Attempt)) (place : ℕ) (a : Attempt) (rest : Atte
 pushed [] place a rest = refl
 pushed (d ∷ done) place a rest = ap (λ ds. (d.0, attempt_value d.1) ∷ ds) (pushed done place a rest)
 
-pub attempts_push : (over : LookupsValue) (all tail : List AnyQuotation) (q : AnyQuotation) (done : List (ℕ × Attempt)) (place : ℕ) (a : Attempt) →
+pub attempts_push : (over : SignatureValue) (all tail : List AnyQuotation) (q : AnyQuotation) (done : List (ℕ × Attempt)) (place : ℕ) (a : Attempt) →
     ((rest : Attempts) → AreAttempts over (q ∷ tail) rest → AreAttempts over all (attempts_value done ++ rest)) → place ≡ place_of q → IsQuotedAs over q (attempt_value a) →
     (rest : Attempts) → AreAttempts over tail rest → AreAttempts over all (attempts_value (done ++ (place, a) ∷ []) ++ rest)
 attempts_push over all tail q done place a h p is rest g = subst (AreAttempts over all) (pushed done place a rest) (h ((place, attempt_value a) ∷ rest) (p, is, g))
@@ -22,6 +22,6 @@ append_nil : (attempts : Attempts) → attempts ++ [] ≡ attempts
 append_nil [] = refl
 append_nil (t ∷ attempts) = ap (λ ts. t ∷ ts) (append_nil attempts)
 
-pub attempts_done : (over : LookupsValue) (all : List AnyQuotation) (i : ℕ) (done : List (ℕ × Attempt)) →
+pub attempts_done : (over : SignatureValue) (all : List AnyQuotation) (i : ℕ) (done : List (ℕ × Attempt)) →
     ((rest : Attempts) → AreAttempts over (drop i all) rest → AreAttempts over all (attempts_value done ++ rest)) → length all ≤ i → AreAttempts over all (attempts_value done)
 attempts_done over all i done h e = subst (AreAttempts over all) (append_nil (attempts_value done)) (h [] (subst (λ qs. AreAttempts over qs []) (sym (drop_all i all e)) tt))

@@ -1,7 +1,7 @@
-pub mod Lookups
+pub mod Signature
 pub mod Forms
 pub mod FormsView
-pub mod LookupsView
+pub mod SignatureView
 pub mod Reading
 pub mod ReadingView
 pub mod Quotations

@@ -9,7 +9,7 @@ use Rattle.hol_typing.specs.Raw.{RawTree}
 use Rattle.hol_infer.specs.Resolving.{raw_of, type_of_text, has_arities, term_has_arities}
 use Rattle.hol_typing.specs.Typing.{HasNoTyping}
 use Rattle.hol_infer.specs.Reading.{IsReading, HasLargeReading}
-use Rattle.hol_resolve.specs.Lookups.{LookupsValue}
+use Rattle.hol_resolve.specs.Signature.{SignatureValue}
 
 -- what is read, or why nothing is
 pub data ReadingValue (X : Type 0) : Type 0 where
@@ -28,12 +28,12 @@ IsReadAs arities raw LargeReading = (arities ≡ true) × HasLargeReading raw
 IsReadAs arities raw (ReadsAs p) = (arities ≡ true) × IsReading raw p × (term_size [] p ≤ 20000)
 
 -- what a term as it is written reads as, over what stands
-abbrev pub IsTermReadAs : LookupsValue → TermText → ReadingValue Nameless → Type 0
+abbrev pub IsTermReadAs : SignatureValue → TermText → ReadingValue Nameless → Type 0
 IsTermReadAs over t reading = IsReadAs (term_has_arities over.types t) (raw_of over.types over.constants [] t) reading
 
 -- what a type as it is written reads as: it has no types to be found
 abbrev pub small_type : TypeTree → ReadingValue TypeTree
 small_type a = cond (nat_lt 20000 (type_size a)) LargeReading (ReadsAs a)
 
-abbrev pub type_reading : LookupsValue → TypeText → ReadingValue TypeTree
+abbrev pub type_reading : SignatureValue → TypeText → ReadingValue TypeTree
 type_reading over t = cond (has_arities over.types t) (small_type (type_of_text over.types t)) WrongArity

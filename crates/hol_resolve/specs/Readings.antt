@@ -9,7 +9,7 @@ use Rattle.hol_resolve.specs.declared.quotations.AnyQuotation.{AnyQuotation}
 use Rattle.hol_resolve.specs.declared.quotations.AnyQuotation.TheVariants as quoted
 use Rattle.hol_resolve.specs.declared.refusal.Refusal.{Refusal}
 use Rattle.hol_resolve.specs.declared.refusal.Refusal.TheVariants as refusal
-use Rattle.hol_resolve.specs.Lookups.{LookupsValue}
+use Rattle.hol_resolve.specs.Signature.{SignatureValue}
 use Rattle.hol_resolve.specs.Reading.{ReadingValue, WrongArity, NoTyping, LargeReading, ReadsAs, IsTermReadAs, type_reading}
 use Rattle.hol_resolve.specs.Quotations.{place_of}
 
@@ -29,7 +29,7 @@ reading_map f LargeReading = LargeReading
 reading_map f (ReadsAs x) = ReadsAs (f x)
 
 -- each quotation is read by itself
-abbrev pub IsQuotedAs : LookupsValue → AnyQuotation → ReadingValue QuotedValue → Type 0
+abbrev pub IsQuotedAs : SignatureValue → AnyQuotation → ReadingValue QuotedValue → Type 0
 IsQuotedAs over (quoted.Term t) reading = (own : ReadingValue Nameless) × IsTermReadAs over t.term own × (reading ≡ reading_map ATerm own)
 IsQuotedAs over (quoted.Type a) reading = reading ≡ reading_map AType (type_reading over a.ty)
 
@@ -37,7 +37,7 @@ IsQuotedAs over (quoted.Type a) reading = reading ≡ reading_map AType (type_re
 abbrev pub Attempts : Type 0
 Attempts = List (ℕ × ReadingValue QuotedValue)
 
-abbrev pub AreAttempts : LookupsValue → List AnyQuotation → Attempts → Type 0
+abbrev pub AreAttempts : SignatureValue → List AnyQuotation → Attempts → Type 0
 AreAttempts over [] [] = Unit {0}
 AreAttempts over [] (t ∷ attempts) = ⊥
 AreAttempts over (q ∷ quotations) [] = ⊥
@@ -96,7 +96,7 @@ abbrev pub read_all : Attempts → Result ReadingsValue Refusal
 read_all attempts = unless_wrong (first_with has_wrong_arity attempts) attempts
 
 -- the quotations come to this, over what stands
-abbrev pub AreRead : LookupsValue → List AnyQuotation → Result ReadingsValue Refusal → Type 0
+abbrev pub AreRead : SignatureValue → List AnyQuotation → Result ReadingsValue Refusal → Type 0
 AreRead over quotations result = (attempts : Attempts) × AreAttempts over quotations attempts × (result ≡ read_all attempts)
 
 -- ---- what a quotation reads as, by its place

@@ -1,14 +1,14 @@
 //! What reading each quotation comes to, faults included.
 ghost use Rattle.std.specs.Prelude.{◌≡◌, IfOk};
 ghost use Rattle.hol_resolve.specs.declared.quotations.AnyQuotation.TheVariants as quoted;
-ghost use Rattle.hol_resolve.specs.LookupsView.{lookups_value};
+ghost use Rattle.hol_resolve.specs.SignatureView.{signature_value};
 ghost use Rattle.hol_resolve.specs.Readings.{ATerm, reading_map, IsQuotedAs, AreAttempts, has_wrong_arity, has_no_typing, is_large, first_with, all_read};
 ghost use Rattle.hol_resolve.specs.ReadingView.{reading_value, attempt_value, attempts_value, readings_value};
 
-use crate::lookups::Lookups;
 use crate::quotations::AnyQuotation;
-use crate::reading::{Reading, read_term};
+use crate::reading::{Reading, term_reading};
 use crate::readings::{Quoted, Readings};
+use crate::signature::Signature;
 use hol_infer::{ReadingError, elaborate_type};
 use hol_notation_terms::{Quotation, TypeQuotation};
 use std::alloc::{AllocError, Global};
@@ -30,9 +30,9 @@ pub(crate) enum Attempt {
 pub(crate) fn attempts_of(
     alloc: Global,
     quotations: &[AnyQuotation],
-    over: &Lookups,
+    over: &Signature,
 ) -> Result<Vec<(usize, Attempt)>, AllocError>
-    ensures { IfOk result (λ attempts. AreAttempts (lookups_value over.now) quotations.now (attempts_value attempts.items)) }
+    ensures { IfOk result (λ attempts. AreAttempts (signature_value over.now) quotations.now (attempts_value attempts.items)) }
 {
     let mut attempts = Vec::with_capacity(alloc, quotations.len())?;
     for quotation in quotations {
@@ -44,9 +44,9 @@ pub(crate) fn attempts_of(
 fn attempt_of(
     alloc: Global,
     quotation: &AnyQuotation,
-    over: &Lookups,
+    over: &Signature,
 ) -> Result<Attempt, AllocError>
-    ensures { IfOk result (λ attempt. IsQuotedAs (lookups_value over.now) quotation.now (attempt_value attempt)) }
+    ensures { IfOk result (λ attempt. IsQuotedAs (signature_value over.now) quotation.now (attempt_value attempt)) }
 {
     match quotation {
         AnyQuotation::Term(term) => attempt_of_term(alloc, term, over),
@@ -54,10 +54,10 @@ fn attempt_of(
     }
 }
 
-fn attempt_of_term(alloc: Global, term: &Quotation, over: &Lookups) -> Result<Attempt, AllocError>
-    ensures { IfOk result (λ attempt. IsQuotedAs (lookups_value over.now) (quoted.Term term.now) (attempt_value attempt)) }
+fn attempt_of_term(alloc: Global, term: &Quotation, over: &Signature) -> Result<Attempt, AllocError>
+    ensures { IfOk result (λ attempt. IsQuotedAs (signature_value over.now) (quoted.Term term.now) (attempt_value attempt)) }
 {
-    let reading = read_term(alloc, &term.term, over)?;
+    let reading = term_reading(alloc, &term.term, over)?;
     Ok(attempted(reading))
 }
 
@@ -73,8 +73,12 @@ fn attempted(reading: Reading) -> Attempt
     }
 }
 
-fn attempt_of_type(alloc: Global, ty: &TypeQuotation, over: &Lookups) -> Result<Attempt, AllocError>
-    ensures { IfOk result (λ attempt. IsQuotedAs (lookups_value over.now) (quoted.Type ty.now) (attempt_value attempt)) }
+fn attempt_of_type(
+    alloc: Global,
+    ty: &TypeQuotation,
+    over: &Signature,
+) -> Result<Attempt, AllocError>
+    ensures { IfOk result (λ attempt. IsQuotedAs (signature_value over.now) (quoted.Type ty.now) (attempt_value attempt)) }
 {
     match elaborate_type(alloc, &ty.ty, &over.types) {
         Ok(ty) => Ok(Attempt::ReadsAs(Quoted::Type(ty))),

@@ -16,16 +16,6 @@ pub enum AnyQuotation {
 }
 
 impl AnyQuotation {
-    /// The same quotation.
-    pub fn copy(&self) -> Result<AnyQuotation, AllocError>
-        ensures { IfOk result (λ quotation. quotation ≡ self.now) }
-    {
-        Ok(match self {
-            AnyQuotation::Term(term) => AnyQuotation::Term(term.copy()?),
-            AnyQuotation::Type(ty) => AnyQuotation::Type(ty.copy()?),
-        })
-    }
-
     /// The place where it opens in the whole text, in bytes from 0.
     pub fn place(&self) -> usize
         ensures { result ≡ place_of self.now }

@@ -1,10 +1,10 @@
 //! What a term or a type as it is written reads as.
-ghost use Rattle.std.specs.Prelude.{◌≡◌, IfOk};
-ghost use Rattle.hol_resolve.specs.LookupsView.{lookups_value};
+ghost use Rattle.std.specs.Prelude.{IfOk};
+ghost use Rattle.hol_resolve.specs.SignatureView.{signature_value};
 ghost use Rattle.hol_resolve.specs.Reading.{IsTermReadAs};
 ghost use Rattle.hol_resolve.specs.ReadingView.{reading_value};
 
-use crate::lookups::Lookups;
+use crate::signature::Signature;
 use hol_infer::{ReadingError, elaborate};
 use hol_notation_terms::PreTerm;
 use hol_terms::Term;
@@ -23,23 +23,13 @@ pub enum Reading {
     ReadsAs(Term),
 }
 
-impl Reading {
-    /// The same reading.
-    pub fn copy(&self) -> Result<Reading, AllocError>
-        ensures { IfOk result (λ reading. reading_value reading ≡ reading_value self.now) }
-    {
-        Ok(match self {
-            Reading::WrongArity => Reading::WrongArity,
-            Reading::NoTyping => Reading::NoTyping,
-            Reading::LargeReading => Reading::LargeReading,
-            Reading::ReadsAs(term) => Reading::ReadsAs(term.copy()?),
-        })
-    }
-}
-
 /// What the term as it is written reads as, over what stands.
-pub fn read_term(alloc: Global, written: &PreTerm, over: &Lookups) -> Result<Reading, AllocError>
-    ensures { IfOk result (λ reading. IsTermReadAs (lookups_value over.now) written.now (reading_value reading)) }
+pub fn term_reading(
+    alloc: Global,
+    written: &PreTerm,
+    over: &Signature,
+) -> Result<Reading, AllocError>
+    ensures { IfOk result (λ reading. IsTermReadAs (signature_value over.now) written.now (reading_value reading)) }
 {
     match elaborate(alloc, written, &over.constants, &over.types) {
         Ok(term) => Ok(Reading::ReadsAs(term)),

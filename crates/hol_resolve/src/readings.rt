@@ -7,7 +7,7 @@ ghost use Rattle.hol_resolve.specs.ReadingView.{quoted_value, list_value, readin
 
 use hol_terms::Term;
 use hol_types::Ty;
-use std::alloc::{AllocError, Global};
+use std::alloc::AllocError;
 
 /// What a quotation reads as.
 #[derive(Drop)]
@@ -54,15 +54,6 @@ impl Readings {
         &self.list
     }
 
-    /// The same readings.
-    pub fn copy(&self, alloc: Global) -> Result<Readings, AllocError>
-        ensures { IfOk result (λ readings. readings_value readings ≡ readings_value self.now) }
-    {
-        Ok(Readings {
-            list: copies(alloc, &self.list)?,
-        })
-    }
-
     // What the quotation at the place reads as.
     fn at(&self, place: usize) -> Option<&Quoted>
         ensures { option_map quoted_value (option_copied result) ≡ lookup (nat_eq place) (readings_value self.now) }
@@ -94,15 +85,4 @@ impl Readings {
             Quoted::Term(_) => None,
         }
     }
-}
-
-// Copies of what is read.
-fn copies(alloc: Global, readings: &[(usize, Quoted)]) -> Result<Vec<(usize, Quoted)>, AllocError>
-    ensures { IfOk result (λ copied. list_value copied.items ≡ list_value readings.now) }
-{
-    let mut copied = Vec::with_capacity(alloc, readings.len())?;
-    for reading in readings {
-        copied.push((reading.0, reading.1.copy()?))?;
-    }
-    Ok(copied)
 }

@@ -1,9 +1,7 @@
 //! Why what is written comes to nothing.
-ghost use Rattle.std.specs.Prelude.{◌≡◌, IfOk};
 
 use crate::forward_rule::ForwardRule;
 use hol_types::Name;
-use std::alloc::AllocError;
 
 /// Why what is written comes to nothing.
 #[derive(Drop)]
@@ -20,20 +18,4 @@ pub enum Refusal {
     WrongArguments,
     /// The rule does not apply to what it was handed.
     BadRule(ForwardRule),
-}
-
-impl Refusal {
-    /// The same refusal.
-    pub fn copy(&self) -> Result<Refusal, AllocError>
-        ensures { IfOk result (λ refusal. refusal ≡ self.now) }
-    {
-        Ok(match self {
-            Refusal::WrongArity(place) => Refusal::WrongArity(*place),
-            Refusal::NoTyping(place) => Refusal::NoTyping(*place),
-            Refusal::TooLarge => Refusal::TooLarge,
-            Refusal::UnknownTheorem(name) => Refusal::UnknownTheorem(name.copy()?),
-            Refusal::WrongArguments => Refusal::WrongArguments,
-            Refusal::BadRule(rule) => Refusal::BadRule(*rule),
-        })
-    }
 }

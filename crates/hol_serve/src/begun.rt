@@ -10,7 +10,7 @@ ghost use Rattle.hol_session.specs.Lines.{read_limit};
 ghost use Rattle.hol_session.specs.Machine.{MayAnswer};
 ghost use Rattle.hol_session.specs.Session.{CountsUp, Finishes, StopsReading, StopsWriting};
 
-use crate::meant::Meant;
+use crate::coded_tac::CodedTac;
 use hol_document::Docs;
 use hol_exec::Setup;
 use hol_goal::{Goal, TacArgs, TacCode};
@@ -112,12 +112,12 @@ fn serve_with<R: Source, W: Sink>(
     let prelude = Rc::new(alloc, Prelude::new(alloc)?)?;
     let mut entries = Vec::new(alloc);
     for code in codes {
-        let meant = Meant::new(*code, &prelude)?;
+        let coded = CodedTac::new(*code, &prelude)?;
         let tac = Box::new(
             alloc,
             move |args: &TacArgs, goal: &Goal, turns: u32|
                 requires { turns ≤ 100000 }
-            { meant.answer(alloc, args, goal, turns) },
+            { coded.answer(alloc, args, goal, turns) },
         )?;
         let name = String::from_str(alloc, code.name())?;
         entries.push(Entry::new(name, *code, tac))?;

@@ -2,8 +2,8 @@
 #![tactic(auto)]
 
 mod begun;
+mod coded_tac;
 mod laws;
-mod meant;
 mod program;
 mod settings;
 

@@ -1,0 +1,6 @@
+//! Commands that make types, constants, axioms and definitions.
+
+mod defining;
+mod made;
+
+pub(crate) use made::making;

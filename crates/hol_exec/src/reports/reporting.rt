@@ -1,0 +1,86 @@
+//! The report on a command.
+ghost use Rattle.std.specs.Prelude.{◌≡◌, ◌++◌, IfOk, map, string_bytes};
+ghost use Rattle.hol_exec.specs.ReportOf.{report_of, entry_text, shown_goal};
+ghost use Rattle.hol_exec.specs.ReportView.{report_value};
+ghost use Rattle.hol_print.specs.ShowGoal.{goal_text};
+
+use crate::reports::report::Report;
+use crate::running::{Change, Outcome};
+use crate::state::State;
+use hol_goal::Goal;
+use hol_print::{ShownGoal, show_goal, show_term, show_type};
+use hol_theory::{Key, Value, ValueNode};
+use std::alloc::{AllocError, Global};
+
+/// The report on an outcome, the state being that after it.
+pub fn report_of(alloc: Global, outcome: &Outcome, state: &State) -> Result<Report, AllocError>
+    ensures { IfOk result (λ report. report_value report ≡ report_of outcome.now state.now) }
+{
+    match outcome.change() {
+        Change::Opens(_, _, _) | Change::Leaves(_, _, _) | Change::Undoes | Change::Rotates(_) => {
+            Ok(Report::Goals(shown_goals(alloc, state.goals())?))
+        }
+        Change::Makes(entries) => Ok(Report::Made(entry_texts(alloc, entries)?)),
+        Change::Refuses(no, arg) => Ok(Report::Refusal {
+            no: *no,
+            arg: String::from_str(alloc, arg.as_str())?,
+        }),
+    }
+}
+
+fn shown_goals(alloc: Global, goals: &[Goal]) -> Result<Vec<ShownGoal>, AllocError>
+    ensures { IfOk result (λ shown. map goal_text shown.items ≡ map shown_goal goals.now) }
+{
+    let mut shown = Vec::with_capacity(alloc, goals.len())?;
+    for goal in goals {
+        shown.push(show_goal(alloc, goal.assumptions(), goal.conclusion())?)?;
+    }
+    Ok(shown)
+}
+
+/// An entry as clients see it: `type N/k`, `const N:ty` or `thm N |- p`.
+pub fn entry_text(alloc: Global, key: &Key, entry: &Value) -> Result<String, AllocError>
+    ensures { IfOk result (λ text. string_bytes text ≡ entry_text (key.now, entry.now)) }
+{
+    match entry.node() {
+        ValueNode::Type { arity, .. } => {
+            let arity = arity.to_string(alloc)?;
+            shown_entry(alloc, "type ", key.name(), "/", arity.as_str())
+        }
+        ValueNode::Constant { ty, .. } => {
+            let ty = show_type(alloc, ty)?;
+            shown_entry(alloc, "const ", key.name(), ":", ty.as_str())
+        }
+        ValueNode::Theorem(theorem) => {
+            let conclusion = show_term(alloc, theorem.concl())?;
+            shown_entry(alloc, "thm ", key.name(), " |- ", conclusion.as_str())
+        }
+    }
+}
+
+// The texts, one after the other.
+fn shown_entry(
+    alloc: Global,
+    kind: &str,
+    name: &str,
+    between: &str,
+    value: &str,
+) -> Result<String, AllocError>
+    ensures { IfOk result (λ text. string_bytes text ≡ kind.now ++ name.now ++ between.now ++ value.now) }
+{
+    let mut text = String::from_str(alloc, kind)?;
+    text.push_str(name)?;
+    text.push_str(between)?;
+    text.push_str(value)?;
+    Ok(text)
+}
+
+fn entry_texts(alloc: Global, entries: &[(Key, Value)]) -> Result<Vec<String>, AllocError>
+    ensures { IfOk result (λ texts. map string_bytes texts.items ≡ map entry_text entries.now) }
+{
+    let mut texts = Vec::with_capacity(alloc, entries.len())?;
+    for entry in entries {
+        texts.push(entry_text(alloc, &entry.0, &entry.1)?)?;
+    }
+    Ok(texts)
+}

@@ -1,0 +1,138 @@
+//! Expressions of functions on goals: what is written, resolved.
+ghost use Rattle.std.specs.Prelude.{◌≡◌, IfOk, None};
+ghost use Rattle.hol_exec.specs.Resolved.{resolved_basis};
+ghost use Rattle.hol_notation_tactics.specs.Parts.{parts_of};
+ghost use Rattle.hol_resolve.specs.Over.{AreOver};
+ghost use Rattle.hol_resolve.specs.ReadingView.{readings_value};
+ghost use Rattle.hol_exec.specs.Setup.{SetupValue};
+ghost use Rattle.hol_exec.specs.SetupView.{setup_value};
+ghost use Rattle.hol_exec.specs.Expr.{formulas_in, first_not_bool, resolved_formulas, IsResolvedFitting, IsResolution};
+ghost use Rattle.hol_exec.specs.ExprView.{resolution_value, IsUnresolved};
+ghost use Rattle.hol_exec.specs.Valid.{IsRunnableIf};
+
+use crate::reading::signature_of;
+use crate::reads::Reads;
+use crate::reports::RefusalKind;
+use crate::resolving::basis::resolved_basis;
+use crate::resolving::calls::first_unfit;
+use crate::resolving::cited::cited_theorems;
+use crate::resolving::expressions::{Context, refused_by, resolve_expr};
+use crate::resolving::formulas::{first_not_bool, formulas_in};
+use crate::resolving::unresolved::Unresolved;
+use crate::running::Setup;
+use hol_combine::Expr;
+use hol_kernel::Basis;
+use hol_notation_tactics::{Part, TacExpr, calls_in, parts_of};
+use hol_resolve::{Readings, quotations_in, read_quotations};
+use std::alloc::{AllocError, Global};
+
+/// What resolving comes to.
+#[derive(Drop)]
+pub(crate) enum Resolution {
+    /// An expression that can be run, with the basis of all that was resolved.
+    Resolved(Expr, Basis),
+    /// A refusal, and what it speaks of.
+    Unresolved(RefusalKind, String),
+}
+
+/// Resolves what is written: unknown theorem; unknown TAC or wrong arguments; then what readings, rules and arguments refuse.
+#[tactic(auto, using(crate::proofs::Resolutions::unknown_theorem, crate::proofs::Resolutions::unknown_tac, crate::proofs::Resolutions::fitting))]
+pub(crate) fn resolve(
+    alloc: Global,
+    setup: &Setup,
+    tactic: &TacExpr,
+    reads: &Reads,
+) -> Result<Resolution, AllocError>
+    ensures value { IfOk result (λ r. IsResolution (setup_value setup.now) tactic.now reads.now.cited (resolution_value r)) }
+    ensures runnable { IfOk result (IsRunnableIf (setup_value setup.now)) }
+{
+    if let Some(unknown) = reads.first_unknown() {
+        let unknown = String::from_str(alloc, unknown)?;
+        return Ok(Resolution::Unresolved(RefusalKind::UnknownTheorem, unknown));
+    }
+    let parts = parts_of(alloc, tactic)?;
+    let calls = calls_in(alloc, &parts)?;
+    if let Some(unfit) = first_unfit(setup, &calls, reads) {
+        let unfit = String::from_str(alloc, unfit)?;
+        return Ok(Resolution::Unresolved(RefusalKind::UnknownTac, unfit));
+    }
+    resolve_fitting(alloc, setup, tactic, &parts, reads)
+}
+
+// Resolves what is written, where all theorems are known and all calls fit: its quotations are read first.
+fn resolve_fitting(
+    alloc: Global,
+    setup: &Setup,
+    tactic: &TacExpr,
+    parts: &[Part],
+    reads: &Reads,
+) -> Result<Resolution, AllocError>
+    requires { parts.now ≡ parts_of tactic.now }
+    ensures value { IfOk result (λ r. IsResolvedFitting (setup_value setup.now) tactic.now reads.now.cited (resolution_value r)) }
+    ensures runnable { IfOk result (IsRunnableIf (setup_value setup.now)) }
+{
+    let signature = signature_of(alloc, setup, reads.cited())?;
+    let quotations = quotations_in(alloc, parts)?;
+    match read_quotations(alloc, &quotations, &signature)? {
+        Ok(readings) => resolve_read(alloc, setup, tactic, parts, reads, &readings),
+        Err(refusal) => unresolved(refused_by(alloc, "", refusal)?),
+    }
+}
+
+// Resolves what is written, whose quotations are read: not bool; then what rules and arguments refuse.
+fn resolve_read(
+    alloc: Global,
+    setup: &Setup,
+    tactic: &TacExpr,
+    parts: &[Part],
+    reads: &Reads,
+    readings: &Readings,
+) -> Result<Resolution, AllocError>
+    requires parts { parts.now ≡ parts_of tactic.now }
+    requires over { AreOver (resolved_basis reads.now.cited (readings_value readings.now)) (readings_value readings.now) }
+    ensures value { IfOk result (λ r. resolution_value r ≡ resolved_formulas (setup_value setup.now) tactic.now reads.now.cited (readings_value readings.now) (first_not_bool (readings_value readings.now) (formulas_in (parts_of tactic.now)))) }
+    ensures runnable { IfOk result (IsRunnableIf (setup_value setup.now)) }
+{
+    let formulas = formulas_in(alloc, parts)?;
+    match first_not_bool(readings, &formulas) {
+        Some(place) => Ok(Resolution::Unresolved(RefusalKind::NotBool, place.to_string(alloc)?)),
+        None => resolve_formulas(alloc, setup, tactic, reads, readings),
+    }
+}
+
+// Resolves what is written, all of whose formulas are of type `bool`.
+fn resolve_formulas(
+    alloc: Global,
+    setup: &Setup,
+    tactic: &TacExpr,
+    reads: &Reads,
+    readings: &Readings,
+) -> Result<Resolution, AllocError>
+    requires { AreOver (resolved_basis reads.now.cited (readings_value readings.now)) (readings_value readings.now) }
+    ensures value { IfOk result (λ r. resolution_value r ≡ resolved_formulas (setup_value setup.now) tactic.now reads.now.cited (readings_value readings.now) None) }
+    ensures runnable { IfOk result (IsRunnableIf (setup_value setup.now)) }
+{
+    let theorems = cited_theorems(alloc, setup, reads.cited())?;
+    let basis = resolved_basis(alloc, reads, readings.list())?;
+    let context = Context {
+        reads,
+        theorems: &theorems,
+        readings,
+        basis: &basis,
+    };
+    match resolve_expr(alloc, setup, &context, tactic) {
+        Ok(expr) => Ok(Resolution::Resolved(expr, basis)),
+        Err(fault) => unresolved(fault),
+    }
+}
+
+// A refusal, unless memory is short.
+fn unresolved(fault: Unresolved) -> Result<Resolution, AllocError>
+    ensures value { IsUnresolved fault result }
+    ensures runnable { (setup : SetupValue) → IfOk result (IsRunnableIf setup) }
+{
+    match fault {
+        Unresolved::Refused(kind, arg) => Ok(Resolution::Unresolved(kind, arg)),
+        Unresolved::Memory => Err(AllocError),
+    }
+}

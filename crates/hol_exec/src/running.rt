@@ -1,0 +1,18 @@
+//! Outcomes of commands, and the states after them.
+
+mod direct_outcome;
+mod next;
+mod outcome;
+mod refused;
+mod registered;
+mod run;
+mod setup;
+
+pub use direct_outcome::{EarlierTheory, direct, promise_each};
+pub use next::apply;
+pub(crate) use outcome::Change;
+pub use outcome::Outcome;
+pub(crate) use refused::{name_taken, refused, refused_at, refused_name};
+pub(crate) use registered::RegisteredTac;
+pub use run::run_local;
+pub use setup::Setup;

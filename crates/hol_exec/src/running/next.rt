@@ -1,0 +1,32 @@
+//! The next state.
+ghost use Rattle.std.specs.Prelude.{◌≡◌, OnOk, OnErr};
+ghost use Rattle.hol_exec.specs.At.{IsOutcomeAt};
+ghost use Rattle.hol_exec.specs.OutcomeValue.{after};
+
+use crate::running::outcome::{Change, Outcome};
+use crate::state::{Proof, State};
+use std::alloc::{AllocError, Global};
+
+/// Carries out an outcome that the state may get. Without memory the state stays.
+pub fn apply(alloc: Global, state: &mut State, outcome: &Outcome) -> Result<(), AllocError>
+    requires { IsOutcomeAt state.old outcome.now }
+    ensures ok { OnOk result (state.new ≡ after state.old outcome.now) }
+    ensures err { OnErr result (state.new ≡ state.old) }
+{
+    state.promise();
+    match outcome.change() {
+        Change::Opens(name, statement, basis) => {
+            let proof = Proof::begin(alloc, name.as_str(), statement, basis)?;
+            state.begin(proof);
+            Ok(())
+        }
+        Change::Leaves(_, step, basis) => state.step(alloc, step, basis),
+        Change::Undoes => {
+            state.back();
+            Ok(())
+        }
+        Change::Rotates(times) => state.rotate(alloc, *times),
+        Change::Makes(entries) => state.make(entries),
+        Change::Refuses(_, _) => Ok(()),
+    }
+}

@@ -1,0 +1,222 @@
+//! What a command does to a state.
+ghost use Rattle.std.specs.Prelude.{◌≡◌, ◌↔◌, IsTrue, IfOk, string_bytes, []};
+ghost use Rattle.hol_terms.specs.Nameless.{nameless};
+ghost use Rattle.std.specs.List.{IsDistinct};
+ghost use Rattle.std.specs.Map.{keys_of};
+ghost use Rattle.hol_theory.specs.Key.{key_eq};
+ghost use Rattle.hol_theory.specs.Entry.{EachIsEntry};
+ghost use Rattle.hol_exec.specs.OutcomeValue.{OutcomeValue, Opens, Leaves, Undoes, Rotates, Makes, Refuses, MakesTheorems};
+ghost use Rattle.hol_exec.specs.OutcomeView.{outcome_of};
+ghost use Rattle.hol_exec.specs.Valid.{IsStatement, IsLeft, IsValidChange};
+
+use crate::reads::{Same, same_each};
+use crate::reports::RefusalKind;
+use crate::state::copies;
+use hol_goal::Goal;
+use hol_just::Step;
+use hol_kernel::Basis;
+use hol_terms::Term;
+use hol_theory::{Entries, same_basis};
+use std::alloc::{AllocError, Global};
+use std::marker::Model;
+
+/// What a command does to a state. Only running a command makes one.
+#[derive(Drop)]
+pub struct Outcome {
+    change: Change,
+}
+
+/// The kinds of outcomes.
+#[derive(Drop)]
+pub(crate) enum Change {
+    /// Opens a proof of this name and statement, on this basis.
+    Opens(String, Term, Basis),
+    /// The first goal, which is this one, gives way to those that the step left; the basis is that of all that was resolved.
+    Leaves(Goal, Step, Basis),
+    /// Drops the newest element of the proof's history.
+    Undoes,
+    /// Puts the first goal last, so many times.
+    Rotates(usize),
+    /// Makes these entries, if any, after which no proof is open.
+    Makes(Entries),
+    /// The command is refused; the text is what the refusal speaks of, or empty.
+    Refuses(RefusalKind, String),
+}
+
+impl Model for Outcome {
+    ghost use Rattle.hol_exec.specs.OutcomeValue.{OutcomeValue};
+    ghost use Rattle.hol_exec.specs.OutcomeView.{outcome_of};
+    ghost use Rattle.hol_exec.specs.Valid.{IsValidChange};
+    ghost use Rattle.hol_exec.specs.Codes.{coded_outcome};
+
+    ghost Value = { OutcomeValue };
+
+    ghost coded = { coded_outcome };
+
+    ghost view = { λ o. outcome_of o.change };
+
+    ghost invariant = { λ o. IsValidChange o.change };
+}
+
+impl Outcome {
+    /// The opening of a proof of this name and statement, on this basis.
+    pub(crate) fn opens(name: String, statement: Term, basis: Basis) -> Outcome
+        requires { IsStatement basis (nameless [] statement) }
+        ensures { result ≡ Opens (string_bytes name) (nameless [] statement) basis }
+    {
+        Outcome {
+            change: Change::Opens(name, statement, basis),
+        }
+    }
+
+    /// The step that leaves these goals of the first one; the basis is that of all that was resolved.
+    pub(crate) fn leaves(goal: Goal, step: Step, basis: Basis) -> Outcome
+        requires { IsLeft basis step.just goal step.goals.items }
+        ensures { result ≡ Leaves goal step.goals.items basis }
+    {
+        Outcome {
+            change: Change::Leaves(goal, step, basis),
+        }
+    }
+
+    /// The making of these entries, if any.
+    pub(crate) fn makes(entries: Entries) -> Outcome
+        requires entries { EachIsEntry entries.items }
+        requires keys { IsDistinct key_eq (keys_of entries.items) }
+        ensures { result ≡ Makes entries.items }
+    {
+        Outcome {
+            change: Change::Makes(entries),
+        }
+    }
+
+    /// The drop of the newest element of the proof's history.
+    pub(crate) fn undoes() -> Outcome
+        ensures { result ≡ Undoes }
+    {
+        Outcome {
+            change: Change::Undoes,
+        }
+    }
+
+    /// The turn of the first goal to the end, so many times.
+    pub(crate) fn rotates(times: usize) -> Outcome
+        ensures { result ≡ Rotates times }
+    {
+        Outcome {
+            change: Change::Rotates(times),
+        }
+    }
+
+    /// The refusal of the command; the text is what it speaks of, or empty.
+    pub(crate) fn refuses(kind: RefusalKind, arg: String) -> Outcome
+        ensures { result ≡ Refuses kind (string_bytes arg) }
+    {
+        Outcome {
+            change: Change::Refuses(kind, arg),
+        }
+    }
+
+    /// What it does.
+    pub(crate) fn change(&self) -> &Change
+        ensures change { outcome_of result.now ≡ self.now }
+        ensures valid { IsValidChange result.now }
+    {
+        &self.change
+    }
+
+    /// What it makes are entries: theorems without hypotheses that have derivations over their bases, which are legal, and types and constants that items of their
+    /// bases make.
+    #[tactic(auto, using(crate::proofs::Outcomes::makes_theorems))]
+    pub fn promise(&self)
+        ensures { MakesTheorems self.now }
+    {
+        let _ = self.change();
+    }
+
+    /// Whether both are the same: terms with their base names, and theorems with their bases.
+    pub fn same(&self, other: &Outcome) -> bool
+        ensures { IsTrue result ↔ (self.now ≡ other.now) }
+    {
+        match self.change() {
+            Change::Opens(name, statement, basis) => {
+                let Change::Opens(name2, statement2, basis2) = other.change() else {
+                    return false;
+                };
+                name.as_str() == name2.as_str()
+                    && statement.same(statement2)
+                    && same_basis(basis, basis2)
+            }
+            Change::Leaves(goal, step, basis) => {
+                let Change::Leaves(goal2, step2, basis2) = other.change() else {
+                    return false;
+                };
+                goal.same_as(goal2)
+                    && same_each(&step.goals, &step2.goals)
+                    && same_basis(basis, basis2)
+            }
+            Change::Undoes => matches!(other.change(), Change::Undoes),
+            Change::Rotates(times) =>
+                matches!(other.change(), Change::Rotates(times2) if times == times2),
+            Change::Makes(entries) => {
+                let Change::Makes(entries2) = other.change() else {
+                    return false;
+                };
+                same_each(entries, entries2)
+            }
+            Change::Refuses(kind, arg) => {
+                let Change::Refuses(kind2, arg2) = other.change() else {
+                    return false;
+                };
+                kind == kind2 && arg.as_str() == arg2.as_str()
+            }
+        }
+    }
+
+    /// An equal outcome.
+    pub fn copy(&self, alloc: Global) -> Result<Outcome, AllocError>
+        ensures { IfOk result (λ o. o ≡ self.now) }
+    {
+        match self.change() {
+            Change::Opens(name, statement, basis) => {
+                opening_copy(alloc, name.as_str(), statement, basis)
+            }
+            Change::Leaves(goal, step, basis) => leaving_copy(alloc, goal, step, basis),
+            Change::Undoes => Ok(Outcome::undoes()),
+            Change::Rotates(times) => Ok(Outcome::rotates(*times)),
+            Change::Makes(entries) => Ok(Outcome::makes(copies(alloc, entries)?)),
+            Change::Refuses(kind, arg) => Ok(Outcome::refuses(
+                *kind,
+                String::from_str(alloc, arg.as_str())?,
+            )),
+        }
+    }
+}
+
+fn opening_copy(
+    alloc: Global,
+    name: &str,
+    statement: &Term,
+    basis: &Basis,
+) -> Result<Outcome, AllocError>
+    requires { IsStatement basis.now (nameless [] statement.now) }
+    ensures { IfOk result (λ o. o ≡ Opens name.now (nameless [] statement.now) basis.now) }
+{
+    let name = String::from_str(alloc, name)?;
+    Ok(Outcome::opens(name, statement.copy()?, basis.copy()?))
+}
+
+#[tactic(auto, using(crate::proofs::Steps::left_same))]
+fn leaving_copy(
+    alloc: Global,
+    goal: &Goal,
+    step: &Step,
+    basis: &Basis,
+) -> Result<Outcome, AllocError>
+    requires { IsLeft basis.now step.now.just goal.now step.now.goals.items }
+    ensures { IfOk result (λ o. o ≡ Leaves goal.now step.now.goals.items basis.now) }
+{
+    let goal = goal.copy(alloc)?;
+    let step = step.copy(alloc)?;
+    Ok(Outcome::leaves(goal, step, basis.copy()?))
+}

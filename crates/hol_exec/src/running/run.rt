@@ -1,0 +1,182 @@
+//! The outcome of a command from what it reads.
+ghost use Rattle.std.specs.Prelude.{◌≡◌, IfOk, [], ◌∷◌, true};
+ghost use Rattle.hol_terms.specs.Nameless.{nameless};
+ghost use Rattle.hol_resolve.specs.Reading.{ReadsAs, IsTermReadAs};
+ghost use Rattle.hol_resolve.specs.Readings.{ATerm};
+ghost use Rattle.hol_notation_terms.specs.Text.{TermText};
+ghost use Rattle.hol_notation_commands.specs.CommandView.{local_text};
+ghost use Rattle.hol_exec.specs.ReadsValue.{AreKeyed};
+ghost use Rattle.hol_exec.specs.SetupView.{setup_value};
+ghost use Rattle.hol_exec.specs.Local.{IsLocalOutcome, IsOpening, IsApplying, opens, opens_term, applied, finishes, finished};
+ghost use Rattle.hol_exec.specs.Signature.{signature_of};
+ghost use Rattle.hol_exec.specs.Resolved.{resolved_basis};
+ghost use Rattle.hol_exec.specs.Standing.{first_taken};
+ghost use Rattle.hol_exec.specs.Valid.{IsStatement, IsRunnableExpr};
+
+use crate::declaring::making;
+use crate::reading::{is_statement, of_quotation, read_cited};
+use crate::reads::{Closing, Reads};
+use crate::reports::RefusalKind;
+use crate::resolving::{Resolution, resolve, resolved_basis};
+use crate::running::outcome::Outcome;
+use crate::running::refused::{name_taken, refused, refused_at, refused_name};
+use crate::running::setup::Setup;
+use hol_combine::{Expr, Refusal, RunError, run};
+use hol_kernel::Basis;
+use hol_notation_commands::LocalCommand;
+use hol_notation_tactics::TacExpr;
+use hol_notation_terms::Quotation;
+use hol_resolve::{Quoted, Reading};
+use hol_terms::Term;
+use hol_theory::{Key, Kind, Value};
+use std::alloc::{AllocError, Global};
+
+/// The outcome of a command, from what it reads of a state: it is determined by the set-up, the command and this.
+pub fn run_local(
+    alloc: Global,
+    setup: &Setup,
+    command: &LocalCommand,
+    reads: &Reads,
+) -> Result<Outcome, AllocError>
+    requires { AreKeyed (local_text command.now) reads.now }
+    ensures { IfOk result (λ outcome. IsLocalOutcome (setup_value setup.now) (local_text command.now) reads.now outcome) }
+{
+    match command {
+        LocalCommand::Goal { name, quotation } => {
+            open_goal(alloc, setup, name.as_str(), quotation, reads)
+        }
+        LocalCommand::Apply(tactic) => apply_tactic(alloc, setup, tactic, reads),
+        LocalCommand::Qed => finish(alloc, reads),
+        LocalCommand::Make(command) => making(alloc, setup, command, reads),
+    }
+}
+
+// `g`: in a proof; arity; untypable; too large; then what is read.
+fn open_goal(
+    alloc: Global,
+    setup: &Setup,
+    name: &str,
+    quotation: &Quotation,
+    reads: &Reads,
+) -> Result<Outcome, AllocError>
+    ensures { IfOk result (λ outcome. IsOpening reads.now.in_proof name.now quotation.now reads.now outcome) }
+{
+    if reads.in_proof() {
+        return Ok(refused(alloc, RefusalKind::InProof));
+    }
+    match read_cited(alloc, setup, &quotation.term, reads)? {
+        Reading::WrongArity => refused_at(alloc, RefusalKind::Arity, quotation.place),
+        Reading::NoTyping => refused_at(alloc, RefusalKind::Untypable, quotation.place),
+        Reading::LargeReading => Ok(refused(alloc, RefusalKind::TooLarge)),
+        Reading::ReadsAs(term) => open_term(alloc, name, quotation.place, term, reads),
+    }
+}
+
+// A goal that reads as a term: not bool; name taken.
+fn open_term(
+    alloc: Global,
+    name: &str,
+    place: usize,
+    term: Term,
+    reads: &Reads,
+) -> Result<Outcome, AllocError>
+    requires { (t : TermText) × IsTermReadAs (signature_of reads.now.cited) t (ReadsAs (nameless [] term)) }
+    ensures { IfOk result (λ outcome. outcome ≡ opens_term name.now place reads.now (nameless [] term)) }
+{
+    reads.promise();
+    if !is_statement(&term) {
+        return refused_at(alloc, RefusalKind::NotBool, place);
+    }
+    open_statement(alloc, name, place, term, reads)
+}
+
+// A goal that reads as a statement: name taken.
+fn open_statement(
+    alloc: Global,
+    name: &str,
+    place: usize,
+    statement: Term,
+    reads: &Reads,
+) -> Result<Outcome, AllocError>
+    requires { IsStatement (resolved_basis reads.now.cited ((place, ATerm (nameless [] statement)) ∷ [])) (nameless [] statement) }
+    ensures { IfOk result (λ outcome. outcome ≡ opens name.now (nameless [] statement) (resolved_basis reads.now.cited ((place, ATerm (nameless [] statement)) ∷ [])) (first_taken [] reads.now.made)) }
+{
+    if let Some(key) = reads.first_taken() {
+        return name_taken(alloc, key);
+    }
+    let name = String::from_str(alloc, name)?;
+    let readings = of_quotation(alloc, place, Quoted::Term(statement.copy()?))?;
+    let basis = resolved_basis(alloc, reads, &readings)?;
+    Ok(Outcome::opens(name, statement, basis))
+}
+
+// `e`: no proof open; then what resolving refuses; then the run.
+fn apply_tactic(
+    alloc: Global,
+    setup: &Setup,
+    tactic: &TacExpr,
+    reads: &Reads,
+) -> Result<Outcome, AllocError>
+    ensures { IfOk result (λ outcome. IsApplying reads.now.in_proof (setup_value setup.now) tactic.now reads.now outcome) }
+{
+    if !reads.in_proof() {
+        return Ok(refused(alloc, RefusalKind::NoProofOpen));
+    }
+    match resolve(alloc, setup, tactic, reads)? {
+        Resolution::Resolved(expr, basis) => applied(alloc, setup, reads, &expr, basis),
+        Resolution::Unresolved(kind, arg) => Ok(Outcome::refuses(kind, arg)),
+    }
+}
+
+// A resolved expression: no goal open; then what its run comes to.
+fn applied(
+    alloc: Global,
+    setup: &Setup,
+    reads: &Reads,
+    expr: &Expr,
+    basis: Basis,
+) -> Result<Outcome, AllocError>
+    requires { IsRunnableExpr (setup_value setup.now).table basis expr.now }
+    ensures { IfOk result (λ outcome. outcome ≡ applied (setup_value setup.now) reads.now.goal expr.now basis) }
+{
+    let Some(goal) = reads.goal() else {
+        return Ok(refused(alloc, RefusalKind::NoGoalOpen));
+    };
+    match run(alloc, expr, goal, setup.registry(), setup.turns()) {
+        Ok(ran) => Ok(Outcome::leaves(goal.copy(alloc)?, ran.step, basis)),
+        Err(RunError::Refused(Refusal::DoesNotFit(name), _)) => {
+            Ok(Outcome::refuses(RefusalKind::Refused, name))
+        }
+        Err(RunError::Refused(Refusal::LacksHyps(name), _)) => {
+            Ok(Outcome::refuses(RefusalKind::HypsNotAssumed, name))
+        }
+        Err(RunError::TurnLimit) => Ok(refused(alloc, RefusalKind::TurnLimit)),
+        Err(RunError::LargeGoal) => Ok(refused(alloc, RefusalKind::TooLarge)),
+        Err(RunError::Memory) => Err(AllocError),
+    }
+}
+
+// `qed`: no proof open; goals remain.
+fn finish(alloc: Global, reads: &Reads) -> Result<Outcome, AllocError>
+    ensures { IfOk result (λ outcome. outcome ≡ finishes reads.now.closing) }
+{
+    let Some(closing) = reads.closing() else {
+        return Ok(refused(alloc, RefusalKind::NoProofOpen));
+    };
+    if closing.open_goals() > 0 {
+        return Ok(refused(alloc, RefusalKind::GoalsRemain));
+    }
+    finished(alloc, closing)
+}
+
+fn finished(alloc: Global, closing: &Closing) -> Result<Outcome, AllocError>
+    requires { closing.now.open_goals ≡ 0 }
+    ensures { IfOk result (λ outcome. outcome ≡ finished closing.now) }
+{
+    let theorem = closing.theorem(alloc)?;
+    theorem.promise();
+    let key = Key::new(alloc, Kind::Theorem, closing.name())?;
+    let mut entries = Vec::new(alloc);
+    entries.push((key, Value::theorem(theorem)))?;
+    Ok(Outcome::makes(entries))
+}
