@@ -1,17 +1,18 @@
--- Each entry that stands was made by one of the rows that lead there.
+-- Each entry that stands was made by one of the rows that lead there, and theories before were run so.
 use Rattle.std.proofs.Common.{◌≡◌, ℕ, List, [], ◌∷◌, ◌++◌, refl, ap, sym, ◌∙◌, subst, append_assoc, arith}
 use Rattle.std.specs.Prelude.{None}
 use Rattle.std.specs.List.{All, Contains}
 use Rattle.std.proofs.lemmas.Grind.{common_steps}
-use Rattle.std.proofs.lemmas.List.Elements.{All-nil, All-append, All-weaker, All-contains_itself}
+use Rattle.std.proofs.lemmas.List.Elements.{All-nil, All-cons, All-append, All-weaker, All-contains_itself}
 use Rattle.hol_theory.specs.Key.{KeyValue}
 use Rattle.hol_theory.specs.Entry.{EntryValue, Entries}
 use Rattle.hol_exec.specs.OutcomeValue.{OutcomeValue, Opens, Leaves, Undoes, Rotates, Makes, Refuses, after}
 use Rattle.hol_exec.specs.Setup.{SetupValue}
 use Rattle.hol_exec.specs.StateValue.{StateValue, EndedTheory, start}
-use Rattle.hol_document.specs.Afresh.{Row, AreRows}
-use Rattle.hol_document.specs.Shown.{goal_after, open_goal, FinishesBy, IsMadeIn}
-use Rattle.hol_document.proofs.Goals.{goal_of, goal_next, open_goal_more, row_finishes}
+use Rattle.hol_document.specs.Documents.{TheoryText}
+use Rattle.hol_document.specs.Afresh.{Row, AreRows, TheoryRun, AreRuns, ended}
+use Rattle.hol_document.specs.Shown.{goal_after, open_goal, FinishesBy, IsMadeIn, IsFinishedRun}
+use Rattle.hol_document.proofs.Goals.{goal_of, goal_next, open_goal_more, row_finishes, finished_goals}
 
 -- ---- one row more
 
@@ -64,3 +65,15 @@ rows_made setup earlier before s (text ∷ texts) (row ∷ rows) last h k m =
 pub entries_made : (setup : SetupValue) (earlier : List EndedTheory) (texts : List (List ℕ)) (rows : List Row) (last : StateValue)
     → AreRows setup earlier start texts rows last → All (IsMadeIn rows) last.entries
 entries_made setup earlier texts rows last h = rows_made setup earlier [] start texts rows last h refl (All-nil (IsMadeIn []))
+
+-- ---- theories before
+
+pub runs_finished : (setup : SetupValue) (earlier : List EndedTheory) (theories : List TheoryText) (runs : List TheoryRun) → AreRuns setup earlier theories runs → All IsFinishedRun runs
+runs_finished setup earlier [] [] h = All-nil IsFinishedRun
+runs_finished setup earlier [] (run ∷ runs) h = absurd h
+runs_finished setup earlier (theory ∷ theories) [] h = absurd h
+runs_finished setup earlier (theory ∷ theories) (run ∷ runs) h =
+    All-cons IsFinishedRun run runs (record {
+      finishes = finished_goals setup earlier theory.commands run.rows run.last h.0.are;
+      made = entries_made setup earlier theory.commands run.rows run.last h.0.are;
+    }) (runs_finished setup (earlier ++ ended run ∷ []) theories runs h.1)
