@@ -23,8 +23,8 @@ use Rattle.hol_document.specs.EndView.{end_value}
 use Rattle.hol_document.specs.Shown.{IsProvedReport, IsProvedBasis, AreProvedTheorems}
 use Rattle.hol_document.specs.Afresh.{Row, IsRow, AreRows, TheoryRun, IsRun, AreRuns, ended}
 use Rattle.hol_document.specs.Run.{HasOutcome, LeadTo, EndSo}
-use Rattle.hol_document.proofs.Goals.{next_finishes, finished_goals}
-use Rattle.hol_document.proofs.Made.{entries_made, runs_finished}
+use Rattle.hol_document.proofs.Goals.{next_finishes}
+use Rattle.hol_document.proofs.Made.{all_made, runs_finished}
 
 -- the outcome of what a text is, is that of a row
 pub row_of : (setup : SetupValue) (earlier : List EndedTheory) (s : StateValue) (text : List ℕ) (value : ReadText) (outcome : OutcomeValue)
@@ -142,8 +142,7 @@ basis_is docs i name key theory front ends lines s found answer h theory_is fron
         texts = rw (← key_is, ← found_is) texts;
       };
       proved = proved;
-      finishes = finished_goals docs.setup ends lines rows s leads;
-      made = entries_made docs.setup ends lines rows s leads;
+      made = all_made docs.setup ends lines rows s leads;
       earlier = runs_finished docs.setup [] front runs are;
     }
 
@@ -162,8 +161,7 @@ theorems_are docs i theory front ends lines s texts h theory_is front_is lines_a
         says = says;
       };
       proved = proved;
-      finishes = finished_goals docs.setup ends lines rows s leads;
-      made = entries_made docs.setup ends lines rows s leads;
+      made = all_made docs.setup ends lines rows s leads;
       earlier = runs_finished docs.setup [] front runs are;
     }
 

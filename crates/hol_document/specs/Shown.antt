@@ -73,7 +73,7 @@ abbrev pub EachFinishes : List Row → List Row → Type 0
 EachFinishes before [] = Unit {0}
 EachFinishes before (row ∷ rows) = FinishesBy before row.value row.outcome × EachFinishes (before ++ row ∷ []) rows
 
--- The entry was made by one of the rows: where that is a `qed`, it is the theorem of the last `g` that the rows before it accepted.
+-- The entry was made by one of the rows.
 pub record IsMadeIn (rows : List Row) (entry : KeyValue × EntryValue) : Type 0 where
   pub before : List Row
   pub row : Row
@@ -82,13 +82,15 @@ pub record IsMadeIn (rows : List Row) (entry : KeyValue × EntryValue) : Type 0 
   pub entries : Entries
   pub made : row.outcome ≡ Makes entries
   pub among : Contains entries entry
-  pub finished : FinishesBy before row.value row.outcome
 
--- In a theory that was run to its end each `qed` made the theorem of the last `g` that was accepted before it, and each entry that stands at its end was made by one of its
--- rows: so of what a later theory imports it is said where it was proved.
-pub record IsFinishedRun (run : TheoryRun) : Type 0 where
-  pub finishes : EachFinishes [] run.rows
-  pub made : All (IsMadeIn run.rows) run.last.entries
+-- Each `qed` among a theory's rows made the theorem of the last `g` that was accepted before it, and each of the entries was made by one of the rows.
+pub record AreMadeIn (rows : List Row) (entries : Entries) : Type 0 where
+  pub finishes : EachFinishes [] rows
+  pub each : All (IsMadeIn rows) entries
+
+-- This is so of a theory that was run to its end: of what a later one imports it is said where it was proved.
+abbrev pub IsFinishedRun : TheoryRun → Type 0
+IsFinishedRun run = AreMadeIn run.rows run.last.entries
 
 -- ---- what is shown
 
@@ -101,21 +103,19 @@ pub record IsProvedReport (docs : Documents) (i at : ℕ) (report : ReportValue)
   pub finished : FinishesBy is.rows is.row.value is.row.outcome
   pub earlier : All IsFinishedRun is.before
 
--- It is the answer from a state whose entries are a theory: each theorem has a derivation over its basis, which is legal and has items that stand up to it alone; each `qed`
--- among the rows made the theorem of its `g`, and each entry was made by one of the rows; and the theories before were run so.
+-- It is the answer from a state whose entries are a theory: each theorem has a derivation over its basis, which is legal and has items that stand up to it alone; the rows
+-- made the entries, and each `qed` the theorem of its `g`; and the theories before were run so.
 pub record IsProvedBasis (docs : Documents) (i : ℕ) (name : List ℕ) (answer : Option (List (List ℕ))) : Type 0 where
   pub is : IsBasis docs i name answer
   pub proved : IsTheory is.state.entries
-  pub finishes : EachFinishes [] is.rows
-  pub made : All (IsMadeIn is.rows) is.state.entries
+  pub made : AreMadeIn is.rows is.state.entries
   pub earlier : All IsFinishedRun is.before
 
 -- The same of an answer that lists the theorems of a state.
 pub record AreProvedTheorems (docs : Documents) (i : ℕ) (texts : List (List ℕ)) : Type 0 where
   pub are : AreTheorems docs i texts
   pub proved : IsTheory are.state.entries
-  pub finishes : EachFinishes [] are.rows
-  pub made : All (IsMadeIn are.rows) are.state.entries
+  pub made : AreMadeIn are.rows are.state.entries
   pub earlier : All IsFinishedRun are.before
 
 abbrev pub ShowsProvedIn : Documents → Option ℕ → ℕ → ReportValue → Type 0
