@@ -18,7 +18,7 @@ use Rattle.hol_document.specs.Afresh.{Row, IsRow, AreRows}
 use Rattle.hol_document.specs.Shown.{goal_after, open_goal, MakesFinished, FinishesBy, EachFinishes}
 
 -- the name and the statement of an open proof
-abbrev pub goal_of : Option ProofValue → Option (List ℕ × Nameless)
+abbrev goal_of : Option ProofValue → Option (List ℕ × Nameless)
 goal_of None = None
 goal_of (Some p) = Some (p.name, p.statement)
 
@@ -38,7 +38,7 @@ rotating_keeps_goal : (times : ℕ) (p : Option ProofValue) → goal_of (rotated
 rotating_keeps_goal times None = refl
 rotating_keeps_goal times (Some p) = refl
 
-pub goal_next : (s : StateValue) (o : OutcomeValue) → goal_of (after s o).proof ≡ goal_after (goal_of s.proof) o
+goal_next : (s : StateValue) (o : OutcomeValue) → goal_of (after s o).proof ≡ goal_after (goal_of s.proof) o
 goal_next s (Opens name statement basis) = refl
 goal_next s (Leaves goal goals basis) = step_keeps_goal goals basis s.proof
 goal_next s Undoes = undoing_keeps_goal s.proof
@@ -46,7 +46,7 @@ goal_next s (Rotates times) = rotating_keeps_goal times s.proof
 goal_next s (Makes entries) = refl
 goal_next s (Refuses kind arg) = refl
 
-pub open_goal_more : (goal : Option (List ℕ × Nameless)) (rows : List Row) (row : Row) → open_goal goal (rows ++ row ∷ []) ≡ goal_after (open_goal goal rows) row.outcome
+open_goal_more : (goal : Option (List ℕ × Nameless)) (rows : List Row) (row : Row) → open_goal goal (rows ++ row ∷ []) ≡ goal_after (open_goal goal rows) row.outcome
 open_goal_more goal [] row = refl
 open_goal_more goal (r ∷ rows) row = open_goal_more (goal_after goal r.outcome) rows row
 
@@ -57,7 +57,7 @@ qed_finishes before (Some p) k =
     elim (nat_eq (length p.newest.goals) 0) as (λ (t : Bool). MakesFinished before (cond t (finished c) (Refuses refusal.GoalsRemain [])))
     [ true ↦ (record { name = p.name; under = refl; goal = sym k; without_hypotheses = refl }, tt) | false ↦ tt ]
 
-pub row_finishes : (setup : SetupValue) (earlier : List EndedTheory) (before : List Row) (s : StateValue) (value : ReadText) (reads : Option ReadsValue) (outcome : OutcomeValue)
+row_finishes : (setup : SetupValue) (earlier : List EndedTheory) (before : List Row) (s : StateValue) (value : ReadText) (reads : Option ReadsValue) (outcome : OutcomeValue)
     → AreReads value s reads → IsOutcome setup earlier s value reads outcome → goal_of s.proof ≡ open_goal None before → FinishesBy before value outcome
 row_finishes setup earlier before s (Reads (Local (Goal name quotation))) reads outcome are h k = tt
 row_finishes setup earlier before s (Reads (Local (Apply call))) reads outcome are h k = tt

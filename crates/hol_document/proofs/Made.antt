@@ -1,17 +1,17 @@
--- Each entry that stands was made by one of the rows that lead there.
-use Rattle.std.proofs.Common.{◌≡◌, ℕ, List, [], ◌∷◌, ◌++◌, refl, ap, sym, ◌∙◌, subst, append_assoc, arith}
-use Rattle.std.specs.Prelude.{None}
+-- What a theory's rows made: each `qed` the theorem of its `g`, and each entry that stands after them.
+use Rattle.std.proofs.Common.{◌≡◌, ℕ, List, [], ◌∷◌, ◌++◌, refl, ap, ◌∙◌, subst, append_assoc, arith}
 use Rattle.std.specs.List.{All, Contains}
 use Rattle.std.proofs.lemmas.Grind.{common_steps}
-use Rattle.std.proofs.lemmas.List.Elements.{All-nil, All-append, All-weaker, All-contains_itself}
+use Rattle.std.proofs.lemmas.List.Elements.{All-nil, All-cons, All-append, All-weaker, All-contains_itself}
 use Rattle.hol_theory.specs.Key.{KeyValue}
-use Rattle.hol_theory.specs.Entry.{EntryValue, Entries}
+use Rattle.hol_theory.specs.Entry.{EntryValue}
 use Rattle.hol_exec.specs.OutcomeValue.{OutcomeValue, Opens, Leaves, Undoes, Rotates, Makes, Refuses, after}
 use Rattle.hol_exec.specs.Setup.{SetupValue}
 use Rattle.hol_exec.specs.StateValue.{StateValue, EndedTheory, start}
-use Rattle.hol_document.specs.Afresh.{Row, AreRows}
-use Rattle.hol_document.specs.Shown.{goal_after, open_goal, FinishesBy, IsMadeIn}
-use Rattle.hol_document.proofs.Goals.{goal_of, goal_next, open_goal_more, row_finishes}
+use Rattle.hol_document.specs.Documents.{TheoryText}
+use Rattle.hol_document.specs.Afresh.{Row, AreRows, TheoryRun, AreRuns, ended}
+use Rattle.hol_document.specs.Shown.{IsMadeIn, AreMadeIn, IsFinishedRun}
+use Rattle.hol_document.proofs.Goals.{finished_goals}
 
 -- ---- one row more
 
@@ -24,16 +24,15 @@ made_more rows row e h = record {
   entries = h.entries;
   made = h.made;
   among = h.among;
-  finished = h.finished;
 }
 
 next_made : (before : List Row) (row : Row) (s : StateValue) (outcome : OutcomeValue) → row.outcome ≡ outcome → All (IsMadeIn before) s.entries
-    → FinishesBy before row.value row.outcome → All (IsMadeIn (before ++ row ∷ [])) (after s outcome).entries
-next_made before row s (Opens name statement basis) e h f = All-weaker (IsMadeIn before) (IsMadeIn (before ++ row ∷ [])) (made_more before row) s.entries h
-next_made before row s (Leaves goal goals basis) e h f = All-weaker (IsMadeIn before) (IsMadeIn (before ++ row ∷ [])) (made_more before row) s.entries h
-next_made before row s Undoes e h f = All-weaker (IsMadeIn before) (IsMadeIn (before ++ row ∷ [])) (made_more before row) s.entries h
-next_made before row s (Rotates times) e h f = All-weaker (IsMadeIn before) (IsMadeIn (before ++ row ∷ [])) (made_more before row) s.entries h
-next_made before row s (Makes entries) e h f =
+    → All (IsMadeIn (before ++ row ∷ [])) (after s outcome).entries
+next_made before row s (Opens name statement basis) e h = All-weaker (IsMadeIn before) (IsMadeIn (before ++ row ∷ [])) (made_more before row) s.entries h
+next_made before row s (Leaves goal goals basis) e h = All-weaker (IsMadeIn before) (IsMadeIn (before ++ row ∷ [])) (made_more before row) s.entries h
+next_made before row s Undoes e h = All-weaker (IsMadeIn before) (IsMadeIn (before ++ row ∷ [])) (made_more before row) s.entries h
+next_made before row s (Rotates times) e h = All-weaker (IsMadeIn before) (IsMadeIn (before ++ row ∷ [])) (made_more before row) s.entries h
+next_made before row s (Makes entries) e h =
     All-append (IsMadeIn (before ++ row ∷ [])) s.entries entries (All-weaker (IsMadeIn before) (IsMadeIn (before ++ row ∷ [])) (made_more before row) s.entries h)
     (All-weaker (Contains entries) (IsMadeIn (before ++ row ∷ [])) (λ entry among. record {
       before = before;
@@ -43,24 +42,32 @@ next_made before row s (Makes entries) e h f =
       entries = entries;
       made = e;
       among = among;
-      finished = f;
     }) entries (All-contains_itself entries))
-next_made before row s (Refuses kind arg) e h f = All-weaker (IsMadeIn before) (IsMadeIn (before ++ row ∷ [])) (made_more before row) s.entries h
+next_made before row s (Refuses kind arg) e h = All-weaker (IsMadeIn before) (IsMadeIn (before ++ row ∷ [])) (made_more before row) s.entries h
 
 rows_made : (setup : SetupValue) (earlier : List EndedTheory) (before : List Row) (s : StateValue) (texts : List (List ℕ)) (rows : List Row) (last : StateValue)
-    → AreRows setup earlier s texts rows last → goal_of s.proof ≡ open_goal None before → All (IsMadeIn before) s.entries
-    → All (IsMadeIn (before ++ rows)) last.entries
-rows_made setup earlier before s [] [] last h k m =
+    → AreRows setup earlier s texts rows last → All (IsMadeIn before) s.entries → All (IsMadeIn (before ++ rows)) last.entries
+rows_made setup earlier before s [] [] last h m =
     let none : before ++ [] ≡ before = grind (arith, common_steps) in
     rw (none, h) m
-rows_made setup earlier before s [] (row ∷ rows) last h k m = absurd h
-rows_made setup earlier before s (text ∷ texts) [] last h k m = absurd h
-rows_made setup earlier before s (text ∷ texts) (row ∷ rows) last h k m =
+rows_made setup earlier before s [] (row ∷ rows) last h m = absurd h
+rows_made setup earlier before s (text ∷ texts) [] last h m = absurd h
+rows_made setup earlier before s (text ∷ texts) (row ∷ rows) last h m =
     subst (λ done. All (IsMadeIn done) last.entries) (append_assoc before (row ∷ []) rows)
-    (rows_made setup earlier (before ++ row ∷ []) (after s row.outcome) texts rows last h.1
-    (goal_next s row.outcome ∙ (ap (λ g. goal_after g row.outcome) k ∙ sym (open_goal_more None before row)))
-    (next_made before row s row.outcome refl m (row_finishes setup earlier before s row.value row.reads row.outcome h.0.read h.0.gets k)))
+    (rows_made setup earlier (before ++ row ∷ []) (after s row.outcome) texts rows last h.1 (next_made before row s row.outcome refl m))
 
-pub entries_made : (setup : SetupValue) (earlier : List EndedTheory) (texts : List (List ℕ)) (rows : List Row) (last : StateValue)
-    → AreRows setup earlier start texts rows last → All (IsMadeIn rows) last.entries
-entries_made setup earlier texts rows last h = rows_made setup earlier [] start texts rows last h refl (All-nil (IsMadeIn []))
+-- ---- a theory's rows, and those of theories before
+
+pub all_made : (setup : SetupValue) (earlier : List EndedTheory) (texts : List (List ℕ)) (rows : List Row) (last : StateValue)
+    → AreRows setup earlier start texts rows last → AreMadeIn rows last.entries
+all_made setup earlier texts rows last h = record {
+  finishes = finished_goals setup earlier texts rows last h;
+  each = rows_made setup earlier [] start texts rows last h (All-nil (IsMadeIn []));
+}
+
+pub runs_finished : (setup : SetupValue) (earlier : List EndedTheory) (theories : List TheoryText) (runs : List TheoryRun) → AreRuns setup earlier theories runs → All IsFinishedRun runs
+runs_finished setup earlier [] [] h = All-nil IsFinishedRun
+runs_finished setup earlier [] (run ∷ runs) h = absurd h
+runs_finished setup earlier (theory ∷ theories) [] h = absurd h
+runs_finished setup earlier (theory ∷ theories) (run ∷ runs) h =
+    All-cons IsFinishedRun run runs (all_made setup earlier theory.commands run.rows run.last h.0.are) (runs_finished setup (earlier ++ ended run ∷ []) theories runs h.1)

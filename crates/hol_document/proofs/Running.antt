@@ -24,7 +24,7 @@ use Rattle.hol_document.specs.Shown.{IsProvedReport, IsProvedBasis, AreProvedThe
 use Rattle.hol_document.specs.Afresh.{Row, IsRow, AreRows, TheoryRun, IsRun, AreRuns, ended}
 use Rattle.hol_document.specs.Run.{HasOutcome, LeadTo, EndSo}
 use Rattle.hol_document.proofs.Goals.{next_finishes}
-use Rattle.hol_document.proofs.Made.{entries_made}
+use Rattle.hol_document.proofs.Made.{all_made, runs_finished}
 
 -- the outcome of what a text is, is that of a row
 pub row_of : (setup : SetupValue) (earlier : List EndedTheory) (s : StateValue) (text : List ℕ) (value : ReadText) (outcome : OutcomeValue)
@@ -123,6 +123,7 @@ report_is docs i at theory front ends lines heads line s s' outcome report h the
       stands = subst (λ (t : StateValue). IsTheory t.entries) (next ∙ ap (λ (o : OutcomeValue). after s o) (sym own)) stand;
       proved = rw own makes;
       finished = next_finishes docs.setup ends heads rows s line row leads one;
+      earlier = runs_finished docs.setup [] front runs are;
     }
 
 -- the answer from the last state of a theory
@@ -141,7 +142,8 @@ basis_is docs i name key theory front ends lines s found answer h theory_is fron
         texts = rw (← key_is, ← found_is) texts;
       };
       proved = proved;
-      made = entries_made docs.setup ends lines rows s leads;
+      made = all_made docs.setup ends lines rows s leads;
+      earlier = runs_finished docs.setup [] front runs are;
     }
 
 -- the theorems of the last state of a theory
@@ -159,7 +161,8 @@ theorems_are docs i theory front ends lines s texts h theory_is front_is lines_a
         says = says;
       };
       proved = proved;
-      made = entries_made docs.setup ends lines rows s leads;
+      made = all_made docs.setup ends lines rows s leads;
+      earlier = runs_finished docs.setup [] front runs are;
     }
 
 -- one entry's text more

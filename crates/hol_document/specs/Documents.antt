@@ -11,10 +11,12 @@ pub record TheoryText : Type 0 where
   pub name : List ℕ
   pub commands : List (List ℕ)
 
--- what the documents are, as the machine sees them: the theories, and the set-up that they are run by
+-- what the documents are, as the machine sees them: the theories, the set-up that they are run by, and the number of outcomes that are kept after they have left the
+-- documents, by which no answer goes
 pub record Documents : Type 0 where
   pub theories : List TheoryText
   pub setup : SetupValue
+  pub cache : ℕ
 
 abbrev pub theory_limit : ℕ
 theory_limit = 64
@@ -88,6 +90,6 @@ with_text theories name at text = edited_at (λ theory. with_text_of theory at t
 abbrev pub without_command : List TheoryText → List ℕ → ℕ → Result (List TheoryText) Refusal
 without_command theories name at = edited_at (λ theory. without_command_of theory at) theories (find_theory name theories)
 
--- the documents with these theories: every edit keeps the set-up
+-- the documents with these theories: every edit keeps the set-up and the number of outcomes
 abbrev pub with_theories : Documents → List TheoryText → Documents
-with_theories docs theories = record { theories = theories; setup = docs.setup }
+with_theories docs theories = record { theories = theories; setup = docs.setup; cache = docs.cache }

@@ -1,5 +1,6 @@
 -- What is true of the theorems that documents show: each is that of a `Thm`, so has a derivation over its basis, which is legal; in a theory the items of the entries,
--- in standing order, are a legal list, and each entry rests on those that stand up to it; and what a `qed` made is the goal of the last accepted `g`, without hypotheses.
+-- in standing order, are a legal list, and each entry rests on those that stand up to it; and what a `qed` made, in this theory or in one that it may import, is the goal of the
+-- last accepted `g`, without hypotheses.
 -- Source: LCF's and HOL Light's promise of type thm, said of what is shown.
 use Rattle.std.specs.Prelude.{◌≡◌, ◌<◌, ℕ, List, [], ◌∷◌, ◌++◌, length, Option, Some, None}
 use Rattle.std.specs.List.{All, Contains}
@@ -14,7 +15,7 @@ use Rattle.hol_theory.specs.Theory.{IsTheory}
 use Rattle.hol_exec.specs.OutcomeValue.{OutcomeValue, Opens, Leaves, Undoes, Rotates, Makes, Refuses, MakesTheorems, after}
 use Rattle.hol_exec.specs.ReportValue.{ReportValue}
 use Rattle.hol_document.specs.Documents.{Documents, find_theory}
-use Rattle.hol_document.specs.Afresh.{Row}
+use Rattle.hol_document.specs.Afresh.{Row, TheoryRun}
 use Rattle.hol_document.specs.Asked.{commands_at, IsReport, IsBasis, AreTheorems}
 
 -- ---- goals
@@ -72,7 +73,7 @@ abbrev pub EachFinishes : List Row → List Row → Type 0
 EachFinishes before [] = Unit {0}
 EachFinishes before (row ∷ rows) = FinishesBy before row.value row.outcome × EachFinishes (before ++ row ∷ []) rows
 
--- The entry was made by one of the rows: where that is a `qed`, it is the theorem of the last `g` that the rows before it accepted.
+-- The entry was made by one of the rows.
 pub record IsMadeIn (rows : List Row) (entry : KeyValue × EntryValue) : Type 0 where
   pub before : List Row
   pub row : Row
@@ -81,30 +82,41 @@ pub record IsMadeIn (rows : List Row) (entry : KeyValue × EntryValue) : Type 0 
   pub entries : Entries
   pub made : row.outcome ≡ Makes entries
   pub among : Contains entries entry
-  pub finished : FinishesBy before row.value row.outcome
+
+-- Each `qed` among a theory's rows made the theorem of the last `g` that was accepted before it, and each of the entries was made by one of the rows.
+pub record AreMadeIn (rows : List Row) (entries : Entries) : Type 0 where
+  pub finishes : EachFinishes [] rows
+  pub each : All (IsMadeIn rows) entries
+
+-- This is so of a theory that was run to its end: of what a later one imports it is said where it was proved.
+abbrev pub IsFinishedRun : TheoryRun → Type 0
+IsFinishedRun run = AreMadeIn run.rows run.last.entries
 
 -- ---- what is shown
 
--- It is the report on an outcome; the entries of the state after it are a theory; every theorem which it makes has a derivation over its basis, which is legal; and where the
--- command is a `qed`, it is the theorem of the last `g` that was accepted before it.
+-- It is the report on an outcome; the entries of the state after it are a theory; every theorem which it makes has a derivation over its basis, which is legal; where the
+-- command is a `qed`, it is the theorem of the last `g` that was accepted before it; and the theories before were run so.
 pub record IsProvedReport (docs : Documents) (i at : ℕ) (report : ReportValue) : Type 0 where
   pub is : IsReport docs i at report
   pub stands : IsTheory (after is.state is.row.outcome).entries
   pub proved : MakesTheorems is.row.outcome
   pub finished : FinishesBy is.rows is.row.value is.row.outcome
+  pub earlier : All IsFinishedRun is.before
 
--- It is the answer from a state whose entries are a theory: each theorem has a derivation over its basis, which is legal and has items that stand up to it alone; and each
--- entry was made by one of the rows.
+-- It is the answer from a state whose entries are a theory: each theorem has a derivation over its basis, which is legal and has items that stand up to it alone; the rows
+-- made the entries, and each `qed` the theorem of its `g`; and the theories before were run so.
 pub record IsProvedBasis (docs : Documents) (i : ℕ) (name : List ℕ) (answer : Option (List (List ℕ))) : Type 0 where
   pub is : IsBasis docs i name answer
   pub proved : IsTheory is.state.entries
-  pub made : All (IsMadeIn is.rows) is.state.entries
+  pub made : AreMadeIn is.rows is.state.entries
+  pub earlier : All IsFinishedRun is.before
 
 -- The same of an answer that lists the theorems of a state.
 pub record AreProvedTheorems (docs : Documents) (i : ℕ) (texts : List (List ℕ)) : Type 0 where
   pub are : AreTheorems docs i texts
   pub proved : IsTheory are.state.entries
-  pub made : All (IsMadeIn are.rows) are.state.entries
+  pub made : AreMadeIn are.rows are.state.entries
+  pub earlier : All IsFinishedRun are.before
 
 abbrev pub ShowsProvedIn : Documents → Option ℕ → ℕ → ReportValue → Type 0
 ShowsProvedIn docs None at report = ⊥

@@ -1,5 +1,5 @@
 //! Running documents afresh.
-ghost use Rattle.std.specs.Prelude.{◌≡◌, ◌<◌, ◌++◌, IfOk, OnOk, Some, length, map, string_bytes, slice_index_or};
+ghost use Rattle.std.specs.Prelude.{◌≡◌, ◌<◌, ◌++◌, IfOk, OnOk, Some, ℕ, length, map, string_bytes, slice_index_or};
 ghost use Rattle.std.specs.Option.{option_map};
 ghost use Rattle.hol_exec.specs.At.{IsOutcome};
 ghost use Rattle.hol_exec.specs.OutcomeValue.{after};
@@ -115,7 +115,7 @@ pub(crate) fn report(
 ) -> Result<Report, AllocError>
     requires theory { i < length theories.now }
     requires command { at < length (slice_index_or theories.now i no_theory).commands }
-    ensures { IfOk result (λ report. IsProvedReport (record { theories = theories.now; setup = setup_value setup.now }) i at (report_value report)) }
+    ensures { (cache : ℕ) → IfOk result (λ report. IsProvedReport (record { theories = theories.now; setup = setup_value setup.now; cache = cache }) i at (report_value report)) }
 {
     let earlier = ends(alloc, setup, &theories[..i])?;
     let lines = theories[i].lines();
@@ -135,7 +135,7 @@ pub(crate) fn basis(
     name: &str,
 ) -> Result<Option<Vec<String>>, AllocError>
     requires { i < length theories.now }
-    ensures { IfOk result (λ texts. IsProvedBasis (record { theories = theories.now; setup = setup_value setup.now }) i name.now (option_map (λ ts. map string_bytes ts.items) texts)) }
+    ensures { (cache : ℕ) → IfOk result (λ texts. IsProvedBasis (record { theories = theories.now; setup = setup_value setup.now; cache = cache }) i name.now (option_map (λ ts. map string_bytes ts.items) texts)) }
 {
     let earlier = ends(alloc, setup, &theories[..i])?;
     let state = state_after(alloc, setup, &earlier, theories[i].lines())?;
@@ -165,7 +165,7 @@ pub(crate) fn theorems(
     i: usize,
 ) -> Result<Vec<String>, AllocError>
     requires { i < length theories.now }
-    ensures { IfOk result (λ texts. AreProvedTheorems (record { theories = theories.now; setup = setup_value setup.now }) i (map string_bytes texts.items)) }
+    ensures { (cache : ℕ) → IfOk result (λ texts. AreProvedTheorems (record { theories = theories.now; setup = setup_value setup.now; cache = cache }) i (map string_bytes texts.items)) }
 {
     let earlier = ends(alloc, setup, &theories[..i])?;
     let state = state_after(alloc, setup, &earlier, theories[i].lines())?;

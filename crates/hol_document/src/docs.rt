@@ -35,14 +35,15 @@ impl Docs {
     ghost use Rattle.hol_exec.specs.ReportView.{report_value};
     ghost use Rattle.hol_exec.specs.SetupView.{setup_value};
     ghost use Rattle.hol_document.specs.Asked.{IfRefused, Reported, BasisOf, TheoremsOf, commands_at};
-    ghost use Rattle.hol_document.specs.DocsView.{documents, cache_of};
+    ghost use Rattle.hol_document.specs.DocsView.{documents};
     ghost use Rattle.hol_document.specs.Documents.{find_theory, with_theory, without_theory, with_command, with_text, without_command, command_limit};
     ghost use Rattle.hol_document.specs.Shown.{ShowsProved, TellsOfProved, ListsProved};
 
-    /// Documents without theories, run by this set-up. `cache` is the number of outcomes that are kept after they have left the documents.
+    /// Documents without theories, run by this set-up. `cache` is the number of outcomes that are kept after they have left the documents, from 1 to 4,096.
     pub fn new(alloc: Global, setup: Setup, cache: u32) -> Docs
-        ensures documents { documents result ≡ record { theories = []; setup = setup_value setup } }
-        ensures cache { cache_of result ≡ cache }
+        requires some { 1 ≤ cache }
+        requires fits { cache ≤ 4096 }
+        ensures { documents result ≡ record { theories = []; setup = setup_value setup; cache = cache } }
     {
         Docs {
             alloc,
@@ -60,7 +61,7 @@ impl Docs {
         ensures refused { IfErr result (IfRefused (λ refusal. with_theory (documents self.old).theories name.now at ≡ Err refusal)) }
         ensures kept { OnErr result (documents self.new ≡ documents self.old) }
         ensures setup { (documents self.new).setup ≡ (documents self.old).setup }
-        ensures cache { cache_of self.new ≡ cache_of self.old }
+        ensures cache { (documents self.new).cache ≡ (documents self.old).cache }
     {
         self.check_theory(name, at)?;
         let theory = Theory::new(self.alloc, name)?;
@@ -76,7 +77,7 @@ impl Docs {
         ensures refused { IfErr result (λ refusal. without_theory (documents self.old).theories name.now ≡ Err refusal) }
         ensures kept { OnErr result (documents self.new ≡ documents self.old) }
         ensures setup { (documents self.new).setup ≡ (documents self.old).setup }
-        ensures cache { cache_of self.new ≡ cache_of self.old }
+        ensures cache { (documents self.new).cache ≡ (documents self.old).cache }
     {
         let i = self.place_of(name)?;
         let _theory = self.theories.remove(i);
@@ -91,7 +92,7 @@ impl Docs {
         ensures refused { IfErr result (IfRefused (λ refusal. with_command (documents self.old).theories theory.now at text.now ≡ Err refusal)) }
         ensures kept { OnErr result (documents self.new ≡ documents self.old) }
         ensures setup { (documents self.new).setup ≡ (documents self.old).setup }
-        ensures cache { cache_of self.new ≡ cache_of self.old }
+        ensures cache { (documents self.new).cache ≡ (documents self.old).cache }
     {
         let i = self.place_to_insert(theory, at)?;
         let line = Line::new(self.alloc, text)?;
@@ -107,7 +108,7 @@ impl Docs {
         ensures refused { IfErr result (IfRefused (λ refusal. with_text (documents self.old).theories theory.now at text.now ≡ Err refusal)) }
         ensures kept { OnErr result (documents self.new ≡ documents self.old) }
         ensures setup { (documents self.new).setup ≡ (documents self.old).setup }
-        ensures cache { cache_of self.new ≡ cache_of self.old }
+        ensures cache { (documents self.new).cache ≡ (documents self.old).cache }
     {
         let i = self.place_of_command(theory, at)?;
         let line = Line::new(self.alloc, text)?;
@@ -123,7 +124,7 @@ impl Docs {
         ensures refused { IfErr result (λ refusal. without_command (documents self.old).theories theory.now at ≡ Err refusal) }
         ensures kept { OnErr result (documents self.new ≡ documents self.old) }
         ensures setup { (documents self.new).setup ≡ (documents self.old).setup }
-        ensures cache { cache_of self.new ≡ cache_of self.old }
+        ensures cache { (documents self.new).cache ≡ (documents self.old).cache }
     {
         let i = self.place_of_command(theory, at)?;
         self.theories[i].remove(at);

@@ -21,35 +21,40 @@ pub trait Editable {
         ensures ok { OnOk result (with_theory (value self.old).theories name.now at ≡ Ok (value self.new).theories) }
         ensures refused { IfErr result (IfRefused (λ refusal. with_theory (value self.old).theories name.now at ≡ Err refusal)) }
         ensures kept { OnErr result (value self.new ≡ value self.old) }
-        ensures setup { (value self.new).setup ≡ (value self.old).setup };
+        ensures setup { (value self.new).setup ≡ (value self.old).setup }
+        ensures cache { (value self.new).cache ≡ (value self.old).cache };
 
     /// Drops a theory, as [`Docs::drop_theory`].
     fn drop_theory(&mut self, name: &str) -> Result<(), Refusal>
         ensures ok { OnOk result (without_theory (value self.old).theories name.now ≡ Ok (value self.new).theories) }
         ensures refused { IfErr result (λ refusal. without_theory (value self.old).theories name.now ≡ Err refusal) }
         ensures kept { OnErr result (value self.new ≡ value self.old) }
-        ensures setup { (value self.new).setup ≡ (value self.old).setup };
+        ensures setup { (value self.new).setup ≡ (value self.old).setup }
+        ensures cache { (value self.new).cache ≡ (value self.old).cache };
 
     /// Puts a command's text at a place, as [`Docs::insert`].
     fn insert(&mut self, theory: &str, at: usize, text: &str) -> Result<(), DocsError>
         ensures ok { OnOk result (with_command (value self.old).theories theory.now at text.now ≡ Ok (value self.new).theories) }
         ensures refused { IfErr result (IfRefused (λ refusal. with_command (value self.old).theories theory.now at text.now ≡ Err refusal)) }
         ensures kept { OnErr result (value self.new ≡ value self.old) }
-        ensures setup { (value self.new).setup ≡ (value self.old).setup };
+        ensures setup { (value self.new).setup ≡ (value self.old).setup }
+        ensures cache { (value self.new).cache ≡ (value self.old).cache };
 
     /// Puts another text in a command's place, as [`Docs::replace`].
     fn replace(&mut self, theory: &str, at: usize, text: &str) -> Result<(), DocsError>
         ensures ok { OnOk result (with_text (value self.old).theories theory.now at text.now ≡ Ok (value self.new).theories) }
         ensures refused { IfErr result (IfRefused (λ refusal. with_text (value self.old).theories theory.now at text.now ≡ Err refusal)) }
         ensures kept { OnErr result (value self.new ≡ value self.old) }
-        ensures setup { (value self.new).setup ≡ (value self.old).setup };
+        ensures setup { (value self.new).setup ≡ (value self.old).setup }
+        ensures cache { (value self.new).cache ≡ (value self.old).cache };
 
     /// Takes a command away, as [`Docs::remove`].
     fn remove(&mut self, theory: &str, at: usize) -> Result<(), Refusal>
         ensures ok { OnOk result (without_command (value self.old).theories theory.now at ≡ Ok (value self.new).theories) }
         ensures refused { IfErr result (λ refusal. without_command (value self.old).theories theory.now at ≡ Err refusal) }
         ensures kept { OnErr result (value self.new ≡ value self.old) }
-        ensures setup { (value self.new).setup ≡ (value self.old).setup };
+        ensures setup { (value self.new).setup ≡ (value self.old).setup }
+        ensures cache { (value self.new).cache ≡ (value self.old).cache };
 
     /// The report on a command, as [`Docs::report`].
     fn report(&self, theory: &str, at: usize) -> Result<Report, DocsError>

@@ -58,7 +58,7 @@ const CODES: [TacCode; 33] = [
 ];
 
 /// Serves the reader's lines over documents without theories, run by the functions that the program knows, each under the name of its code,
-/// and by this number of turns.
+/// and by this number of turns, from 1 to 100,000; `cache` is the number of outcomes that are kept after they have left the documents, from 1 to 4,096.
 ///
 /// # Errors
 /// Those of [`run`]; also `Fault::Memory` where there is no memory to begin with.
@@ -69,13 +69,16 @@ pub(crate) fn serve_begun<R: Source, W: Sink>(
     reader: &mut R,
     writer: &mut W,
 ) -> Result<(), Fault>
-    requires { turns ≤ 100000 }
-    ensures ok { OnOk result ((new : Documents) × Finishes MayAnswer (begun_by tacs turns) new
+    requires some_turns { 1 ≤ turns }
+    requires turns_fit { turns ≤ 100000 }
+    requires some_cache { 1 ≤ cache }
+    requires cache_fits { cache ≤ 4096 }
+    ensures ok { OnOk result ((new : Documents) × Finishes MayAnswer (begun_by tacs turns cache) new
         (R.remaining reader.old) (R.remaining reader.new) (W.contents writer.old) (W.contents writer.new)) }
-    ensures read_fault { result ≡ Err Fault.Read → ((new : Documents) × StopsReading MayAnswer (begun_by tacs turns) new
+    ensures read_fault { result ≡ Err Fault.Read → ((new : Documents) × StopsReading MayAnswer (begun_by tacs turns cache) new
         (R.remaining reader.old) (R.remaining reader.new) (W.contents writer.old) (W.contents writer.new))
         × (R.has_failed reader.new ⊎ CountsUp read_limit (R.reads reader.old) (R.reads reader.new)) }
-    ensures write_fault { result ≡ Err Fault.Write → ((new : Documents) × StopsWriting MayAnswer (begun_by tacs turns) new
+    ensures write_fault { result ≡ Err Fault.Write → ((new : Documents) × StopsWriting MayAnswer (begun_by tacs turns cache) new
         (R.remaining reader.old) (R.remaining reader.new) (W.contents writer.old) (W.contents writer.new))
         × W.has_failed writer.new }
     ensures reads { result ≢ Err Fault.Read → R.has_failed reader.new → R.has_failed reader.old }
@@ -95,14 +98,17 @@ fn serve_with<R: Source, W: Sink>(
     reader: &mut R,
     writer: &mut W,
 ) -> Result<(), Fault>
-    requires turns { turns ≤ 100000 }
+    requires some_turns { 1 ≤ turns }
+    requires turns_fit { turns ≤ 100000 }
+    requires some_cache { 1 ≤ cache }
+    requires cache_fits { cache ≤ 4096 }
     requires differ { names_differ (map tac_name codes.now) ≡ true }
-    ensures ok { OnOk result ((new : Documents) × Finishes MayAnswer (begun_by (map row_of codes.now) turns) new
+    ensures ok { OnOk result ((new : Documents) × Finishes MayAnswer (begun_by (map row_of codes.now) turns cache) new
         (R.remaining reader.old) (R.remaining reader.new) (W.contents writer.old) (W.contents writer.new)) }
-    ensures read_fault { result ≡ Err Fault.Read → ((new : Documents) × StopsReading MayAnswer (begun_by (map row_of codes.now) turns) new
+    ensures read_fault { result ≡ Err Fault.Read → ((new : Documents) × StopsReading MayAnswer (begun_by (map row_of codes.now) turns cache) new
         (R.remaining reader.old) (R.remaining reader.new) (W.contents writer.old) (W.contents writer.new))
         × (R.has_failed reader.new ⊎ CountsUp read_limit (R.reads reader.old) (R.reads reader.new)) }
-    ensures write_fault { result ≡ Err Fault.Write → ((new : Documents) × StopsWriting MayAnswer (begun_by (map row_of codes.now) turns) new
+    ensures write_fault { result ≡ Err Fault.Write → ((new : Documents) × StopsWriting MayAnswer (begun_by (map row_of codes.now) turns cache) new
         (R.remaining reader.old) (R.remaining reader.new) (W.contents writer.old) (W.contents writer.new))
         × W.has_failed writer.new }
     ensures reads { result ≢ Err Fault.Read → R.has_failed reader.new → R.has_failed reader.old }
@@ -130,7 +136,8 @@ fn serve_with<R: Source, W: Sink>(
 // The set-up of these functions, whose names differ, and of this number of turns.
 #[tactic(auto, using(crate::proofs::Registering::twice_not))]
 fn setup_of(alloc: Global, entries: Vec<Entry>, turns: u32) -> Result<Setup, AllocError>
-    requires turns { turns ≤ 100000 }
+    requires some { 1 ≤ turns }
+    requires fits { turns ≤ 100000 }
     requires differ { names_differ (map name entries.items) ≡ true }
     ensures { IfOk result (λ setup. setup_value setup ≡ record { table = map row entries.items; turns = turns }) }
 {

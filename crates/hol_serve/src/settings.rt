@@ -1,7 +1,7 @@
 //! The words of the program.
 
-ghost use Rattle.std.specs.Prelude.{◌≡◌, ◌≤◌, ◌<◌, ◌^◌, map, false, codes, IfOk, IfSome, IsNone, Err, option_map};
-ghost use Rattle.hol_serve.specs.Settings.{is_taken, option_text, IsValue, IsOutside, AreBad};
+ghost use Rattle.std.specs.Prelude.{◌≡◌, ◌≤◌, ◌<◌, ◌^◌, map, codes, IfOk, OnOk, IfSome, IsNone, Err, option_map};
+ghost use Rattle.hol_serve.specs.Settings.{option_text, IsValue, IsOutside, AreTaken, AreRefused, IsTurns, IsCache, AreBad};
 
 use clap::error::ErrorKind;
 use clap::{Arg, Command};
@@ -73,7 +73,8 @@ fn option_texts<'a>(
 ) -> Result<(Option<&'a str>, Option<&'a str>), Words>
     ensures turns { IfOk result (λ texts. option_map (λ t. t.now) texts.0 ≡ option_text (codes "turns") (map (λ w. w.now) words.now)) }
     ensures cache { IfOk result (λ texts. option_map (λ t. t.now) texts.1 ≡ option_text (codes "cache") (map (λ w. w.now) words.now)) }
-    ensures bad { result ≡ Err Words.Bad → is_taken (map (λ w. w.now) words.now) ≡ false }
+    ensures taken { OnOk result (AreTaken (map (λ w. w.now) words.now)) }
+    ensures bad { result ≡ Err Words.Bad → AreRefused (map (λ w. w.now) words.now) }
 {
     let turns = Arg::new(alloc, "turns").long("turns");
     let cache = Arg::new(alloc, "cache").long("cache");
@@ -92,8 +93,9 @@ fn option_texts<'a>(
 /// # Errors
 /// `Words::Bad` where clap doesn't take the words (`--help` too), or a number is outside its range.
 pub(crate) fn settings<'a>(alloc: Global, words: &'a [&'a str]) -> Result<(u32, u32), Words>
-    ensures turns { IfOk result (λ s. IsValue 1 100000 DEFAULT_TURNS (option_text (codes "turns") (map (λ w. w.now) words.now)) s.0) }
-    ensures cache { IfOk result (λ s. IsValue 1 4096 DEFAULT_CACHE (option_text (codes "cache") (map (λ w. w.now) words.now)) s.1) }
+    ensures taken { OnOk result (AreTaken (map (λ w. w.now) words.now)) }
+    ensures turns { IfOk result (λ s. IsTurns (map (λ w. w.now) words.now) s.0) }
+    ensures cache { IfOk result (λ s. IsCache (map (λ w. w.now) words.now) s.1) }
     ensures turns_range { IfOk result (λ s. (1 ≤ s.0) × (s.0 ≤ 100000)) }
     ensures cache_range { IfOk result (λ s. (1 ≤ s.1) × (s.1 ≤ 4096)) }
     ensures bad { result ≡ Err Words.Bad → AreBad (map (λ w. w.now) words.now) }

@@ -5,7 +5,6 @@ use Rattle.std.specs.Str.{IsUtf8}
 use Rattle.serde_json.specs.Data.{Data}
 use Rattle.serde_json.specs.Read.{read}
 use Rattle.serde_json.proofs.OnLiterals.{serde_json_on_literals}
-use Rattle.hol_exec.specs.Setup.{SetupValue}
 use Rattle.hol_document.specs.declared.error.Refusal.{Refusal}
 use Rattle.hol_document.specs.declared.error.DocsError.{DocsError}
 use Rattle.hol_document.specs.Documents.{Documents, TheoryText}
@@ -23,9 +22,9 @@ use Rattle.hol_session.specs.Machine.{ReadsAs, Edits, ServesIf, too_long, no_jso
 pub told : (P : Refusal → Type 0) (error : DocsError) (refusal : Refusal) → error ≡ DocsError.Refused refusal → IfRefused P error → P refusal
 told P error refusal is h = subst (IfRefused P) is h
 
-made_edit : (old new : Documents) (edit : Result (List TheoryText) Refusal) → edit ≡ Ok new.theories → new.setup ≡ old.setup → Edits old edit Done new
-made_edit old new edit made setup =
-    subst (λ (e : Result (List TheoryText) Refusal). Edits old e Done new) (sym made) (refl, ap (λ (s : SetupValue). record { theories = new.theories; setup = s }) setup)
+made_edit : (old new : Documents) (edit : Result (List TheoryText) Refusal) → edit ≡ Ok new.theories → new.setup ≡ old.setup → new.cache ≡ old.cache → Edits old edit Done new
+made_edit old new edit made setup cache =
+    subst (λ (e : Result (List TheoryText) Refusal). Edits old e Done new) (sym made) (refl, λ i. record { theories = new.theories; setup = setup i; cache = cache i })
 
 pub refused_edit : (old new : Documents) (edit : Result (List TheoryText) Refusal) (refusal : Refusal)
     → edit ≡ Err refusal → new ≡ old → Edits old edit (Refused (ByDocuments refusal)) new
@@ -33,11 +32,11 @@ refused_edit old new edit refusal is kept = subst (λ (e : Result (List TheoryTe
 
 -- an edit that takes no memory is made, or refused
 pub served_edit : (old new : Documents) (edit : Result (List TheoryText) Refusal) (r : Result (Unit {0}) Refusal) (reply : Reply)
-    → OnOk r (edit ≡ Ok new.theories) → IfErr r (λ refusal. edit ≡ Err refusal) → OnErr r (new ≡ old) → new.setup ≡ old.setup
+    → OnOk r (edit ≡ Ok new.theories) → IfErr r (λ refusal. edit ≡ Err refusal) → OnErr r (new ≡ old) → new.setup ≡ old.setup → new.cache ≡ old.cache
     → OnOk r (Says Done reply) → IfErr r (λ refusal. Says (Refused (ByDocuments refusal)) reply)
     → (value : ReplyValue) × Says value reply × Edits old edit value new
-served_edit old new edit (Ok done) reply made refused kept setup says_done says_refused = (Done, says_done, made_edit old new edit made setup)
-served_edit old new edit (Err refusal) reply made refused kept setup says_done says_refused =
+served_edit old new edit (Ok done) reply made refused kept setup cache says_done says_refused = (Done, says_done, made_edit old new edit made setup cache)
+served_edit old new edit (Err refusal) reply made refused kept setup cache says_done says_refused =
     (Refused (ByDocuments refusal), says_refused, refused_edit old new edit refusal refused kept)
 
 pub empty_is_no_json : (line : List ℕ) (d : Data) → read line ≡ Some d → line ≢ []

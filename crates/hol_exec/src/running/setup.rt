@@ -34,9 +34,10 @@ impl Setup {
     ghost use Rattle.hol_exec.specs.CalleeView.{callee_option};
     ghost use Rattle.hol_exec.specs.declared.resolving.callee.Callee.TheVariants as Callee;
 
-    /// The set-up of these functions and of this number of turns, at most 100,000.
+    /// The set-up of these functions and of this number of turns, from 1 to 100,000.
     pub fn new(alloc: Global, registry: Registry, turns: u32) -> Result<Setup, AllocError>
-        requires { turns ≤ 100000 }
+        requires some { 1 ≤ turns }
+        requires fits { turns ≤ 100000 }
         ensures { IfOk result (λ setup. setup_value setup ≡ record { table = table registry; turns = turns }) }
     {
         Ok(Setup {

@@ -14,7 +14,7 @@ pub returns-clause-ok : goal.returns-clause-ok
 returns-clause-ok g c =
     on_ok_weaker c.run.result (λ h.
     begins (λ old new. Finishes MayAnswer old new (g.R.Read.remaining c.args.reader.now) (g.R.Read.remaining c.run.new.reader) (g.W.Write.contents c.args.writer.now) (g.W.Write.contents c.run.new.writer)) _ _ _
-    (c.new-docs.ensures.documents ∙ ap (λ s. record { theories = []; setup = s }) c.in_ok-setup.ensures ∙ ap (λ rows. begun_by rows c.args.turns) (rows_taken c.args.codes.now c.loop-code.code-index _ c.loop-code-test.false c.loop-code.invariant))
+    (c.new-docs.ensures ∙ ap (λ s. record { theories = []; setup = s; cache = c.args.cache }) c.in_ok-setup.ensures ∙ ap (λ rows. begun_by rows c.args.turns c.args.cache) (rows_taken c.args.codes.now c.loop-code.code-index _ c.loop-code-test.false c.loop-code.invariant))
     h)
     c.run.ensures.ok
 
@@ -22,7 +22,7 @@ pub returns-clause-read_fault : goal.returns-clause-read_fault
 returns-clause-read_fault g c e =
     let (stops, failed) = c.run.ensures.read_fault e in (
       begins (λ old new. StopsReading MayAnswer old new (g.R.Read.remaining c.args.reader.now) (g.R.Read.remaining c.run.new.reader) (g.W.Write.contents c.args.writer.now) (g.W.Write.contents c.run.new.writer)) _ _ _
-          (c.new-docs.ensures.documents ∙ ap (λ s. record { theories = []; setup = s }) c.in_ok-setup.ensures ∙ ap (λ rows. begun_by rows c.args.turns) (rows_taken c.args.codes.now c.loop-code.code-index _ c.loop-code-test.false c.loop-code.invariant))
+          (c.new-docs.ensures ∙ ap (λ s. record { theories = []; setup = s; cache = c.args.cache }) c.in_ok-setup.ensures ∙ ap (λ rows. begun_by rows c.args.turns c.args.cache) (rows_taken c.args.codes.now c.loop-code.code-index _ c.loop-code-test.false c.loop-code.invariant))
           stops,
       failed,
     )
@@ -31,7 +31,7 @@ pub returns-clause-write_fault : goal.returns-clause-write_fault
 returns-clause-write_fault g c e =
     let (stops, failed) = c.run.ensures.write_fault e in (
       begins (λ old new. StopsWriting MayAnswer old new (g.R.Read.remaining c.args.reader.now) (g.R.Read.remaining c.run.new.reader) (g.W.Write.contents c.args.writer.now) (g.W.Write.contents c.run.new.writer)) _ _ _
-          (c.new-docs.ensures.documents ∙ ap (λ s. record { theories = []; setup = s }) c.in_ok-setup.ensures ∙ ap (λ rows. begun_by rows c.args.turns) (rows_taken c.args.codes.now c.loop-code.code-index _ c.loop-code-test.false c.loop-code.invariant))
+          (c.new-docs.ensures ∙ ap (λ s. record { theories = []; setup = s; cache = c.args.cache }) c.in_ok-setup.ensures ∙ ap (λ rows. begun_by rows c.args.turns c.args.cache) (rows_taken c.args.codes.now c.loop-code.code-index _ c.loop-code-test.false c.loop-code.invariant))
           stops,
       failed,
     )

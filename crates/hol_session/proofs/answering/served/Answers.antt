@@ -10,7 +10,7 @@ returns-in-Err-clause-ok g c = IfOk-weaker c.refusal_reply.result _ _ (λ reply 
 
 pub returns-in-DropTheory-clause-ok : goal.returns-in-DropTheory-clause-ok
 returns-in-DropTheory-clause-ok g c = rw c.in-DropTheory.is (served_edit _ _ _ c.drop_theory.result c.edit_reply.result
-    c.drop_theory.ensures.ok c.drop_theory.ensures.refused c.drop_theory.ensures.kept c.drop_theory.ensures.setup c.edit_reply.ensures.done c.edit_reply.ensures.refused)
+    c.drop_theory.ensures.ok c.drop_theory.ensures.refused c.drop_theory.ensures.kept c.drop_theory.ensures.setup c.drop_theory.ensures.cache c.edit_reply.ensures.done c.edit_reply.ensures.refused)
 
 pub returns-in-Err-insert-clause-ok : goal.returns-in-Err-insert-clause-ok
 returns-in-Err-insert-clause-ok g c = IfOk-weaker c.refusal_reply-in-Err-insert.result _ _ (λ reply (refusal, is, says).
@@ -22,7 +22,7 @@ returns-in-Err-replace-clause-ok g c = IfOk-weaker c.refusal_reply-in-Err-replac
 
 pub returns-in-Remove-clause-ok : goal.returns-in-Remove-clause-ok
 returns-in-Remove-clause-ok g c = rw c.in-Remove.is (served_edit _ _ _ c.remove.result c.edit_reply-in-Remove.result
-    c.remove.ensures.ok c.remove.ensures.refused c.remove.ensures.kept c.remove.ensures.setup c.edit_reply-in-Remove.ensures.done c.edit_reply-in-Remove.ensures.refused)
+    c.remove.ensures.ok c.remove.ensures.refused c.remove.ensures.kept c.remove.ensures.setup c.remove.ensures.cache c.edit_reply-in-Remove.ensures.done c.edit_reply-in-Remove.ensures.refused)
 
 pub returns-in-Report-clause-ok : goal.returns-in-Report-clause-ok
 returns-in-Report-clause-ok g c = rw c.in-Report.is c.reported.ensures
