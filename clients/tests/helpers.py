@@ -10,7 +10,6 @@ ROOT = CLIENTS.parent
 FAKE = CLIENTS / "tests" / "fake_server.py"
 HOLLS = CLIENTS / "bin" / "holls"
 BUILT = pathlib.Path(os.environ.get("HOL_SERVE") or ROOT / "crates" / "hol_serve" / "out" / "hol_serve")
-EDITS = "replace,remove,drop_theory"
 
 
 def fake(folder, *words):

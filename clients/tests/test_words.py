@@ -25,5 +25,41 @@ class OfDefinitions(unittest.TestCase):
         self.assertIn("has to be closed", said(text, 11, "y"))
 
 
+class OfSlips(unittest.TestCase):
+    """What is said of what people write by mistake, and where it is marked."""
+
+    def marked(self, text, number, argument):
+        start, end, words = explain(text, Refusal(number, argument, ""))
+        return text[start:end], words
+
+    def test_a_name_or_an_end_is_missing(self):
+        self.assertEqual(self.marked("g `p`", 1, "2"), ("`", "a name is missing before the quotation: g NAME `term`"))
+        for text, number, argument in (("e REFL_TAC\nqed", 5, "qed"), ("e REFL_TAC qed", 5, "qed"), ("qed qed", 1, "4")):
+            self.assertEqual(self.marked(text, number, argument), ("qed", "a `;;` is missing before `qed`"))
+        self.assertEqual(self.marked("e CONJ_TAC\n  e REFL_TAC", 5, "e")[1], "a `;;` is missing before `e`")
+        self.assertEqual(said("e ACCEPT_TAC qed_thm", 5, "qed_thm"), "no theorem qed_thm stands before this command")
+
+    def test_a_backquote_is_missing(self):
+        self.assertEqual(self.marked("g A `x = x", 1, "10"), ("`", "this quotation is never closed: a backquote is missing"))
+        start, _, _ = explain("g A `p\n\ne SPEC_TAC (`x`,`y`)", Refusal(1, "9", ""))
+        self.assertEqual(start, 4)
+
+    def test_functions_and_rules_of_hol_light_that_are_not_here(self):
+        self.assertIn("HOL Light's MESON_TAC isn't here", said("e MESON_TAC []", 6, "MESON_TAC"))
+        self.assertIn("ASM_REWRITE_TAC rewrites", said("e ASM_SIMP_TAC []", 6, "ASM_SIMP_TAC"))
+        word, words = self.marked("e REWRITE_TAC[GSYM FOO]", 1, "19")
+        self.assertEqual((word, "is none of the forward rules" in words, "(SYM (SPEC" in words), ("GSYM", True, True))
+        self.assertIn("did you mean REWRITE_TAC?", said("e REWRIT_TAC []", 6, "REWRIT_TAC"))
+        self.assertIn("begins with e", said("CONJ_TAC", 1, "0"))
+        self.assertIn("did you mean qed?", said("qedx", 1, "0"))
+
+    def test_what_a_tactical_hands_over(self):
+        words = said("e POP_ASSUM (REWRITE_TAC)", 6, "REWRITE_TAC")
+        self.assertIn("POP_ASSUM hands a theorem to the function behind it, and REWRITE_TAC takes a list of theorems", words)
+        self.assertIn("ASM_REWRITE_TAC []", words)
+        self.assertIn("write POP_ASSUM ACCEPT_TAC", said("e POP_ASSUM (ACCEPT_TAC TRUTH)", 6, "ACCEPT_TAC"))
+        self.assertEqual(said("e MP_TAC", 6, "MP_TAC"), "MP_TAC takes a theorem")
+
+
 if __name__ == "__main__":
     unittest.main()

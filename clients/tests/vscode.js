@@ -30,19 +30,31 @@ const file = {
   getText() { return this.text; },
 };
 const goals = { document: { uri: Uri.parse('hol-goals:goals'), languageId: 'plaintext' } };
-const editor = { document: file, selection: { active: new Position(1, 2) }, visibleRanges: [new Range(0, 0, 9, 0)] };
+const results = {};
+const typed = [];
+const editor = {
+  document: file, setDecorations: (kind, ranges) => { results.unknown = ranges.length; },
+  edit: async (work) => work({ insert: (position, text) => typed.push(text) }), selection: { active: new Position(1, 2) }, visibleRanges: [new Range(0, 0, 9, 0)],
+};
 
 const vscode = {
   Position, Range, EventEmitter, Uri,
   Diagnostic: plain('range', 'message', 'severity'), Hover: plain('contents', 'range'), MarkdownString: plain('value'),
   Location: plain('uri', 'range'), DocumentSymbol: plain('name', 'detail', 'kind', 'range', 'selectionRange'),
   FoldingRange: plain('start', 'end', 'kind'), FoldingRangeKind: { Comment: 1, Region: 3 }, CompletionItem: plain('label', 'kind'),
-  CodeLens: plain('range'), ViewColumn: { Beside: -2 },
+  CodeLens: plain('range'), ViewColumn: { Beside: -2 }, SymbolInformation: plain('name', 'kind', 'containerName', 'location'),
+  DocumentLink: plain('range', 'target'), CodeAction: plain('title', 'kind'), CodeActionKind: { QuickFix: 'quickfix' }, SignatureHelp: plain(),
+  SignatureInformation: plain('label', 'documentation'), ParameterInformation: plain('label'),
+  WorkspaceEdit: class { constructor() { this.edits = []; } replace(...edit) { this.edits.push(edit); } },
   languages: {
     createDiagnosticCollection: () => ({ set: (uri, all) => found.set(uri.toString(), all), clear: () => found.clear(), dispose() {} }),
     registerHoverProvider: register('hover'), registerDefinitionProvider: register('definition'),
     registerDocumentSymbolProvider: register('symbols'), registerFoldingRangeProvider: register('foldings'),
-    registerCompletionItemProvider: register('completions'), registerCodeLensProvider: register('lenses'),
+    registerCompletionItemProvider: (language, provider) => { providers.completions = provider; return { dispose() {} }; },
+    registerCodeLensProvider: register('lenses'), registerReferenceProvider: register('references'),
+    registerWorkspaceSymbolProvider: register('allSymbols'), registerDocumentLinkProvider: register('links'),
+    registerCodeActionsProvider: register('actions'),
+    registerSignatureHelpProvider: (language, provider) => { providers.signature = provider; return { dispose() {} }; },
   },
   workspace: {
     getConfiguration: () => ({ get: (key) => settings[key] }), textDocuments: [file], openTextDocument: async () => goals.document,
@@ -51,6 +63,8 @@ const vscode = {
   },
   window: {
     activeTextEditor: editor, visibleTextEditors: [editor, goals], showTextDocument: async () => goals,
+    createTextEditorDecorationType: () => ({}), showInputBox: async () => 'infinity',
+    showQuickPick: async (items) => { results.searched = items.map((one) => [one.label, one.detail]); return items[0]; },
     showErrorMessage: (message) => shown.push(message), onDidChangeTextEditorSelection: on('selection'),
     onDidChangeTextEditorVisibleRanges: on('visible'), onDidChangeActiveTextEditor: on('active'),
   },
@@ -72,7 +86,6 @@ async function until(holds) {
 const said = () => (found.get('file:///A.hol') || []).map((one) => [one.range.start.line, one.severity, one.message]);
 
 async function run() {
-  const results = {};
   await extension.activate({ subscriptions: [] });
   await until(() => said().length === 1);
   results.before = said();
@@ -87,6 +100,15 @@ async function run() {
   results.symbols = (await providers.symbols.provideDocumentSymbols(file)).map((one) => [one.name, one.kind]);
   results.lenses = (await providers.lenses.provideCodeLenses(file)).length;
   results.completions = (await providers.completions.provideCompletionItems(file, new Position(1, 2))).length > 40;
+  results.actions = (await providers.actions.provideCodeActions(file, new Range(0, 0, 0, 1))).map((one) => [one.title, one.edit.edits[0][2]]);
+  results.symbolOf = (await providers.allSymbols.provideWorkspaceSymbols('a')).map((one) => one.name);
+  results.references = (await providers.references.provideReferences(file, new Position(0, 2))).length;
+  results.links = (await providers.links.provideDocumentLinks(file)).length;
+  file.version = 3;
+  events.change({ document: file, contentChanges: [{ range: new Range(3, 0, 3, 0), text: 'e MATCH_MP_TAC ' }] });
+  results.signature = (await providers.signature.provideSignatureHelp(file, new Position(3, 15))).signatures[0].label;
+  await providers['holls.search']();
+  results.typed = typed;
   extension.deactivate();
   settings = { command: ['/nowhere/holls'] };
   await extension.activate({ subscriptions: [] });
