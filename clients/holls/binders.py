@@ -8,7 +8,7 @@ quotation has by itself: the program takes no types from the goal either.
 from __future__ import annotations
 
 import re
-from typing import List, NamedTuple, Optional, Tuple
+from typing import FrozenSet, List, NamedTuple, Optional, Tuple
 
 from holls import notation
 
@@ -23,29 +23,59 @@ class _Token(NamedTuple):
     depth: int
 
 
-def question(text: str, place: int) -> Optional[str]:
-    """The command whose report tells the type of the variable at a place of a command's text; None where no variable stands there."""
+class _Name(NamedTuple):
+    """A name in a quotation: the quotation's text, its tokens, which of them the name is, and the binder's token, if it is bound."""
+
+    term: str
+    tokens: List[_Token]
+    at: int
+    binder: Optional[int]
+
+
+def _name(text: str, place: int) -> Optional[_Name]:
+    """The name at a place of a command's text, where it stands in a quotation; of a type's there is none."""
     opened = text.rfind("`", 0, place)
-    closed = text.find("`", place)
-    if opened < 0 or closed < 0 or text.count("`", 0, place) % 2 == 0:
+    if opened < 0 or text.count("`", 0, place) % 2 == 0:
         return None
-    term = text[opened + 1:closed]
+    closed = text.find("`", place)
+    term = text[opened + 1:closed if closed >= 0 else len(text)]
     start, end = notation.word_at(text, place)
     if start == end or term.lstrip().startswith(":"):
         return None
-    return _question(term, start - opened - 1, text[start:end])
-
-
-def _question(term: str, place: int, name: str) -> Optional[str]:
     tokens = _tokens(term)
-    at = next((number for number, token in enumerate(tokens) if token.start == place), None)
+    at = next((number for number, token in enumerate(tokens) if token.start == start - opened - 1), None)
     if at is None or _is_in_type(tokens, at):
         return None
-    binder = _binder(tokens, at, name)
-    if binder is None:
+    return _Name(term, tokens, at, _binder(tokens, at, text[start:end]))
+
+
+def is_in_type(text: str, place: int) -> bool:
+    """Whether the name at a place of a command's text, which is in a quotation, is a type's."""
+    return _name(text, place) is None
+
+
+def is_bound(text: str, place: int) -> bool:
+    """Whether the name at a place of a command's text is a variable that a binder binds."""
+    found = _name(text, place)
+    return found is not None and found.binder is not None
+
+
+def names(text: str, place: int) -> FrozenSet[str]:
+    """The names in the quotation that a place of a command's text is in."""
+    found = _name(text, place)
+    return frozenset(token.text for token in found.tokens) if found else frozenset()
+
+
+def question(text: str, place: int) -> Optional[str]:
+    """The command whose report tells the type of the variable at a place of a command's text; None where no variable stands there."""
+    found = _name(text, place)
+    if found is None:
+        return None
+    term, name = found.term, found.tokens[found.at].text
+    if found.binder is None:
         marked = "(\\%s:bool. %s) (%s %s)" % (UNUSED, term, MARK, name)
     else:
-        start, end = _body(tokens, binder, len(term))
+        start, end = _body(found.tokens, found.binder, len(term))
         marked = "%s (\\%s:bool. %s) (%s %s)%s" % (term[:start], UNUSED, term[start:end], MARK, name, term[end:])
     return "g %s `(\\%s. T) (%s)`" % (WHOLE, WHOLE, marked)
 

@@ -1,7 +1,7 @@
 """What there is to say of a file, with ranges: errors, warnings and hints from its form and from the server's reports.
 
 Nothing is said that a later report could take back. What a command's refusal means depends on the proof that is open there; so where
-a report above it is missing, only what holds in each case is said.
+a report above it is missing, or a command isn't sent, only what holds in each case is said.
 """
 
 from __future__ import annotations
@@ -78,9 +78,9 @@ class _Walk:
         report = entry.report if entry else None
         if self.file.is_behind_oops(number):
             self.give_up(number)
-        if entry and report is None:
+        if report is None or isinstance(report, Lost):
             self.is_certain = False
-        elif isinstance(report, Lost):
+        if isinstance(report, Lost):
             self.add(number, Severity.WARNING, "nothing is known of this command: %s" % report.reason)
         elif isinstance(report, Refusal):
             self.refused(number, report)

@@ -8,7 +8,7 @@ from typing import Iterator, List, Optional, Sequence
 
 from holls import graph, manual, names, notation, protocol, syntax
 from holls.files import File
-from holls.findings import Finding
+from holls.findings import Finding, Severity
 from holls.names import THEOREM
 
 
@@ -28,10 +28,10 @@ def fixes(finding: Finding, file: File, files: Sequence[File], every: Sequence[F
         return list(_ends(file, finding.number))
     if finding.number is None:
         return list(_last_end(file, finding))
-    refusal = finding.refusal
-    if refusal is None:
-        return [fix for fix in (_before(file, finding.number, word) for word in ("qed", "oops"))]
-    return list(_of_refusal(finding, refusal, file, files, every))
+    if finding.refusal is not None:
+        return list(_of_refusal(finding, finding.refusal, file, files, every))
+    is_behind_open = finding.severity == Severity.ERROR
+    return [_before(file, finding.number, word) for word in ("qed", "oops")] if is_behind_open else []
 
 
 def _ends(file: File, number: int) -> Iterator[Fix]:
@@ -70,7 +70,7 @@ def _of_refusal(finding: Finding, refusal: protocol.Refusal, file: File, files: 
         yield Fix("Add ;;", place, place, ";;")
     elif refusal.number == protocol.UNKNOWN_THEOREM:
         yield from _theorem(finding, refusal.argument, file, files, every)
-    elif refusal.number == protocol.UNKNOWN_TAC and refusal.argument not in notation.TACS:
+    elif refusal.number == protocol.UNKNOWN_TAC and not {refusal.argument} & (notation.TACS.keys() | notation.ELSEWHERE.keys()):
         near = notation.near(refusal.argument, manual.FUNCTIONS)
         if near:
             yield Fix("Replace by %s" % near, finding.start, finding.end, near)

@@ -92,20 +92,3 @@ def ordered_from(file: File, by_name: Dict[str, File]) -> List[File]:
             seen.add(name)
             stack.append((by_name[name], iter(by_name[name].theory.imports)))
     return order
-
-
-def components(files: Sequence[File]) -> List[List[File]]:
-    """The files in groups without imports from one to another, each group in order."""
-    group: Dict[str, List[File]] = {}
-    for file in files:
-        joined = [file]
-        for name in file.theory.imports:
-            if name in group and group[name] is not joined:
-                joined = group[name] + [other for other in joined if other not in group[name]]
-        for member in joined:
-            group[member.theory.name] = joined
-    found: List[List[File]] = []
-    for file in files:
-        if not any(group[file.theory.name] is other for other in found):
-            found.append(group[file.theory.name])
-    return [[file for file in files if file in members] for members in found]

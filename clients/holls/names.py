@@ -6,7 +6,7 @@ import re
 from dataclasses import dataclass
 from typing import Dict, Iterator, List, NamedTuple, Optional, Sequence, Tuple
 
-from holls import graph, manual, notation
+from holls import binders, graph, manual, notation
 from holls.files import File
 from holls.protocol import Made
 from holls.text import Command
@@ -152,7 +152,7 @@ def place_of_name(command: Command, name: str) -> Tuple[int, int]:
 
 
 def uses(files: Sequence[File], target: Known) -> Iterator[Tuple[File, int, int]]:
-    """Where a name is used, and made, in the files that know it: theorems outside quotations, the rest in them."""
+    """Where a name is used, and made, in the files that know it."""
     pattern = re.compile(r"(?<![A-Za-z0-9_'])" + re.escape(target.name) + r"(?![A-Za-z0-9_'])")
     by_name: Dict[str, File] = {file.theory.name: file for file in files}
     for file in files:
@@ -163,7 +163,13 @@ def uses(files: Sequence[File], target: Known) -> Iterator[Tuple[File, int, int]
                 continue
             makes = file is target.file and number == target.number
             for found in pattern.finditer(command.text, len(command.word) if command.word == target.name else 0):
-                is_quoted = command.text.count("`", 0, found.start()) % 2 == 1
-                if makes or is_quoted == (target.kind != THEOREM):
+                if _is_use(command.text, found.start(), target.kind, makes):
                     first, last = command.place(found.start()), command.place(found.end())
                     yield file, first, max(first, last)
+
+
+def _is_use(text: str, place: int, kind: str, makes: bool) -> bool:
+    """Whether the name at a place of a command's text is one of this kind: a theorem stands outside quotations, the rest in them."""
+    if text.count("`", 0, place) % 2 == 0:
+        return makes or kind == THEOREM
+    return kind != THEOREM and not binders.is_bound(text, place) and binders.is_in_type(text, place) == (kind == TYPE)

@@ -115,11 +115,17 @@ def without_quotations(text: str) -> str:
     return _QUOTATION.sub(lambda found: " " * len(found.group()), text)
 
 
-def word_range(text: str, word: str) -> Optional[Tuple[int, int]]:
-    """Where a name stands first in a text, outside quotations."""
-    blank = without_quotations(text)
-    found = re.search(r"(?<![A-Za-z0-9_'])" + re.escape(word) + r"(?![A-Za-z0-9_'])", blank) if word else None
-    return found.span() if found else None
+def word_ranges(text: str, word: str) -> List[Tuple[int, int]]:
+    """Where a name stands in a text, outside quotations."""
+    if not word:
+        return []
+    pattern = r"(?<![A-Za-z0-9_'])" + re.escape(word) + r"(?![A-Za-z0-9_'])"
+    return [found.span() for found in re.finditer(pattern, without_quotations(text))]
+
+
+def has_tactical(text: str) -> bool:
+    """Whether a tactical stands in a text, outside quotations."""
+    return any(word in TACTICALS for word in _IDENT.findall(without_quotations(text)))
 
 
 def word_at(text: str, place: int) -> Tuple[int, int]:

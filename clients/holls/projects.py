@@ -15,8 +15,10 @@ PROJECT_FILE = "hol-project.json"
 SUFFIX = ".hol"
 MOST_FILES = 10_000
 
-Stamp = Tuple[Tuple[str, int], ...]
-"""Paths with the times at which they changed last."""
+Moment = Tuple[int, int, int]
+"""By what it is seen that a path has changed."""
+Stamp = Dict[str, Moment]
+"""Paths as they were before they were read."""
 
 
 class Project:
@@ -27,21 +29,23 @@ class Project:
         self.error: Optional[str] = None
         self.folders: List[str] = [root]
         self._paths: Dict[str, List[str]] = {}
-        self._stamp: Stamp = ()
+        self._stamp: Stamp = {}
         self.refresh()
 
     def refresh(self) -> None:
         """Reads the project file and looks for files anew."""
         self.error = None
+        own = {}
         if self.has_file:
-            self._read()
-        self._paths, folders = _scan(self.folders, self.has_file)
-        own = [os.path.join(self.root, PROJECT_FILE)] if self.has_file else []
-        self._stamp = tuple((path, changed(path)) for path in own + folders)
+            path = os.path.join(self.root, PROJECT_FILE)
+            own[path] = changed(path)
+            self._read(path)
+        self._paths, self._stamp = _scan(self.folders, self.has_file)
+        self._stamp.update(own)
 
     def is_stale(self) -> bool:
         """Whether the project file, or what is in a folder, has changed since it was looked at."""
-        return any(changed(path) != moment for path, moment in self._stamp)
+        return any(changed(path) != moment for path, moment in self._stamp.items())
 
     def find(self, name: str) -> Union[str, List[str]]:
         """The path of a theory's file; or all such paths, where there are none or several."""
@@ -64,8 +68,7 @@ class Project:
         """The theories that have a file."""
         return sorted(self._paths)
 
-    def _read(self) -> None:
-        path = os.path.join(self.root, PROJECT_FILE)
+    def _read(self, path: str) -> None:
         self.folders = [self.root]
         try:
             with open(path, encoding="utf-8") as stream:
@@ -77,30 +80,42 @@ class Project:
             self.error = "%s can't be read: %s" % (path, error)
 
 
-def changed(path: str) -> int:
-    """When a path changed last, in nanoseconds; 0 where there is none."""
+def changed(path: str) -> Moment:
+    """When a path changed last, how large it is, and which file it is; zeros where there is none."""
     try:
-        return os.stat(path).st_mtime_ns
+        about = os.stat(path)
+        return about.st_mtime_ns, about.st_size, about.st_ino
     except OSError:
-        return 0
+        return 0, 0, 0
 
 
-def _scan(folders: List[str], is_deep: bool) -> Tuple[Dict[str, List[str]], List[str]]:
+def _scan(folders: List[str], is_deep: bool) -> Tuple[Dict[str, List[str]], Stamp]:
     """The files of theories by their theories' names, and the folders that were looked into."""
     found: Dict[str, List[str]] = {}
-    seen: List[str] = []
-    number = 0
-    for folder in folders:
-        for inner, below, names in os.walk(folder):
-            below[:] = sorted(name for name in below if is_deep and not name.startswith("."))
-            if inner in seen:
-                continue
-            seen.append(inner)
-            for name in sorted(names):
-                if name.endswith(SUFFIX) and number < MOST_FILES:
-                    number += 1
-                    found.setdefault(name[:-len(SUFFIX)], []).append(os.path.join(inner, name))
-    return found, seen
+    stamp: Stamp = {}
+    number, waiting = 0, folders[::-1]
+    while waiting:
+        folder = waiting.pop()
+        if folder in stamp:
+            continue
+        stamp[folder] = changed(folder)
+        files, below = _listed(folder)
+        for name in files[:max(0, MOST_FILES - number)]:
+            found.setdefault(name[:-len(SUFFIX)], []).append(os.path.join(folder, name))
+        number += len(files)
+        waiting += [os.path.join(folder, name) for name in reversed(below)] if is_deep else []
+    return found, stamp
+
+
+def _listed(folder: str) -> Tuple[List[str], List[str]]:
+    """The files of theories in a folder, and the folders in it that aren't hidden."""
+    try:
+        with os.scandir(folder) as entries:
+            every = sorted(entries, key=lambda entry: entry.name)
+    except OSError:
+        return [], []
+    below = [entry.name for entry in every if entry.is_dir(follow_symlinks=False) and not entry.name.startswith(".")]
+    return [entry.name for entry in every if entry.name.endswith(SUFFIX) and not entry.is_dir()], below
 
 
 class Projects:
@@ -122,16 +137,15 @@ class Projects:
         return self._by_folder[folder]
 
     def refresh(self) -> bool:
-        """Looks at those anew in which something has changed. Answers whether there was one."""
+        """Looks at those anew in which something has changed. Answers whether there was one, or a project file has come or gone."""
+        if any(_root(folder) != (project.root if project.has_file else None) for folder, project in self._by_folder.items()):
+            self._by_folder.clear()
+            self._by_root.clear()
+            return True
         stale = [project for project in self._by_root.values() if project.is_stale()]
         for project in stale:
             project.refresh()
         return bool(stale)
-
-    def forget(self) -> None:
-        """Looks for all project files anew when they are asked for next."""
-        self._by_folder.clear()
-        self._by_root.clear()
 
 
 def _root(folder: str) -> Optional[str]:

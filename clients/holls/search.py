@@ -47,9 +47,11 @@ class _Statement:
     def of(tree: terms.Tree) -> "_Statement":
         """A statement by its tree; its parts by what they begin with, each with its depth."""
         by_head: Dict[Any, List[Tuple[terms.Tree, int]]] = {}
-        for part, depth in terms.parts(tree):
-            by_head.setdefault(terms.head(part), []).append((part, depth))
-        return _Statement(tree, terms.stripped(tree), terms.conclusion(tree), terms.all_symbols(tree), by_head)
+        for begins, part, depth in terms.parts(tree):
+            by_head.setdefault(begins, []).append((part, depth))
+        names = {begins[0] if isinstance(begins, tuple) else begins for begins in by_head}
+        symbols = frozenset(name for name in names if isinstance(name, str))
+        return _Statement(tree, terms.stripped(tree), terms.conclusion(tree), symbols, by_head)
 
 
 def query(text: str, of_conclusion: bool = False) -> Query:
@@ -85,7 +87,10 @@ class Index:
             by_name = _name_fit(one.name.lower(), asked.words)
             if by_name is None:
                 continue
-            by_pattern = 0 if asked.pattern is None else self._pattern_fit(one.shown, asked, needed, constants)
+            try:
+                by_pattern = 0 if asked.pattern is None else self._pattern_fit(one.shown, asked, needed, constants)
+            except RecursionError:  # A function with more arguments than Python recurses.
+                continue
             if by_pattern is not None:
                 found.append(((by_name, by_pattern, len(one.shown), one.name), one))
         found.sort(key=lambda pair: pair[0])
@@ -93,18 +98,17 @@ class Index:
 
     def _pattern_fit(self, shown: str, asked: Query, needed: FrozenSet[str], constants: FrozenSet[str]) -> Optional[int]:
         """How well a pattern fits: 0 for all of a statement under its `!`, 1 for what it concludes, 2 and more for a part; None where not."""
-        statement = self._statement(shown)
+        statement = self.statement(shown)
         if statement is None or not needed <= statement.symbols:
             return None
         pattern = asked.pattern
-        if terms.matches(pattern, statement.stripped, constants) or terms.matches(pattern, statement.tree, constants):
-            return 0
-        if terms.matches(pattern, statement.conclusion, constants):
-            return 1
-        if asked.of_conclusion:
-            return None
-        depths = [depth for part, depth in self._candidates(pattern, statement, constants) if terms.matches(pattern, part, constants)]
-        return 2 + min(depths) if depths else None
+        candidates = self._candidates(pattern, statement, constants)
+        fitting = [(part, depth) for part, depth in candidates if terms.matches(pattern, part, constants)]
+        wholes = ((0, statement.stripped), (0, statement.tree), (1, statement.conclusion))
+        found = [fit for fit, whole in wholes if any(part is whole for part, _ in fitting)]
+        if not asked.of_conclusion:
+            found += [2 + depth for _, depth in fitting]
+        return min(found, default=None)
 
     @staticmethod
     def _candidates(pattern: terms.Tree, statement: _Statement, constants: FrozenSet[str]) -> Iterable[Tuple[terms.Tree, int]]:
@@ -114,7 +118,8 @@ class Index:
             return [one for found in statement.parts.values() for one in found]
         return statement.parts.get(begins, [])
 
-    def _statement(self, shown: str) -> Optional[_Statement]:
+    def statement(self, shown: str) -> Optional[_Statement]:
+        """A statement, read; None where it can't be."""
         if shown not in self._read:
             try:
                 self._read[shown] = _Statement.of(terms.read(shown))

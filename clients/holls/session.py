@@ -150,7 +150,7 @@ class Session:
         if isinstance(reply, (protocol.Goals, protocol.Made, protocol.Refusal)):
             entry.report = reply
         elif isinstance(reply, protocol.Error) and reply.number == protocol.MEMORY:
-            self._strike(entry, "it had no memory for it")
+            self._strike(entry, "hol_serve had no memory for it")
         elif not isinstance(reply, protocol.Lost):
             self._lose("gave no report when asked for one")
 
@@ -237,7 +237,7 @@ class Session:
         elif head.entry and self._age() < self._seconds:
             head.entry.is_slow = True
         elif head.entry:
-            head.entry.report = protocol.Lost("it gave no answer within %d seconds" % self._seconds)
+            head.entry.report = protocol.Lost("hol_serve gave no answer within %d seconds" % self._seconds)
             self.stop()
         else:
             self._lose("gave no answer within %d seconds" % (EDIT_SECONDS if head.is_edit else self._seconds))

@@ -10,14 +10,16 @@ from holls import notation, protocol
 Told = Tuple[int, int, str]
 """A range in the command's text, and words."""
 
-_TERM_WANTED = {
+_IN_TERMS = {
     "!": "; a binder as an argument stands in parentheses: f (!x. P x)",
     "\\": "; a binder as an argument stands in parentheses: f (\\x. t)",
-    ";": "; a command ends with `;;`",
     "`": "; the quotation ends too soon, or a backquote is missing",
     ":": "; a binder's variable with a type before another one stands in parentheses: !(x:A) y. p",
 }
+"""Hints at tokens in a quotation."""
 _LINE_WORD = re.compile(r"\n[ \t\r]*([A-Za-z_][A-Za-z0-9_']*)")
+_GOES_ON = {"r": re.compile(r"\s*[0-9]"), "e": re.compile(r"\s*[A-Za-z(]"), "b": re.compile(r"\s*\Z|\s*\n")}
+"""How a command goes on whose word may well be the name of a theorem."""
 
 
 def explain(text: str, place: int) -> Told:
@@ -61,6 +63,9 @@ def missing_end(text: str) -> Optional[Told]:
     """A `;;` that is missing before a line that begins with a command's word, or before `qed`; nothing in quotations counts."""
     blank = notation.without_quotations(text)
     for found in _LINE_WORD.finditer(blank):
+        goes_on = _GOES_ON.get(found.group(1))
+        if goes_on and not goes_on.match(blank, found.end()):
+            continue
         if found.group(1) in notation.COMMANDS and blank[:found.start()].strip():
             return found.start(1), found.end(1), "a `;;` is missing before `%s`" % found.group(1)
     last = re.search(r"\S\s+(qed|oops)\s*\Z", blank)
@@ -97,7 +102,8 @@ def _unexpected(text: str, place: int, token: Optional[str], before: List[str]) 
     rule = _rule(text, place, before)
     if rule:
         return rule
-    hint = _TERM_WANTED.get(token, "")
+    is_quoted = before.count("`") % 2 == 1
+    hint = _IN_TERMS.get(token, "") if is_quoted else "; a command ends with `;;`" if token == ";" else ""
     if text.startswith("new_type") and token.isdigit():
         hint = "; a type constructor takes 0 to 16 arguments"
     if text.startswith("new_definition") and token in ("/\\", "\\/", "==>", "<=>"):

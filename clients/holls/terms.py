@@ -14,7 +14,7 @@ Tree = Any
 
 _TOKEN = re.compile(r"\s*([A-Za-z_][A-Za-z0-9_']*|\?[0-9]+|<=>|==>|\\/|/\\|->|\?!|[=~\\!?@().:,])")
 _BINDERS = frozenset(("\\", "!", "?", "?!", "@"))
-_INFIXES = ("<=>", "==>", "\\/", "/\\", "=")
+_LEVELS = {"<=>": 0, "==>": 1, "\\/": 2, "/\\": 3, "=": 4}
 """The infixes from what binds loosest; all group to the right."""
 _OPERATORS = frozenset(("<=>", "==>", "\\/", "/\\", "=", "~", "!", "?", "?!", "@"))
 _MOST_DEPTH = 150
@@ -43,19 +43,18 @@ class _Reader:
         self.at += 1
         return token
 
-    def infix(self, level: int) -> Tree:
-        """A term whose infixes are those from a level on."""
-        if level == len(_INFIXES):
-            return self.prefix()
-        left = self.infix(level + 1)
-        name = _INFIXES[level]
-        if self.peek() != name:
-            return left
-        self.take()
-        self.enter()
-        right = self.infix(level)
-        self.depth -= 1
-        return ("app", ("app", "=" if name == "<=>" else name, left), right)
+    def infix(self, loosest: int = 0) -> Tree:
+        """A term whose infixes bind at least as tightly as the one of this level."""
+        left = self.prefix()
+        while True:
+            name = self.peek()
+            level = _LEVELS.get(name, -1)
+            if level < loosest:
+                return left
+            self.take()
+            self.enter()
+            left = ("app", ("app", "=" if name == "<=>" else name, left), self.infix(level))
+            self.depth -= 1
 
     def enter(self) -> None:
         self.depth += 1
@@ -81,7 +80,7 @@ class _Reader:
     def binder(self, kind: str) -> Tree:
         names = self.variables()
         self.bound += names
-        body = self.infix(0)
+        body = self.infix()
         del self.bound[len(self.bound) - len(names):]
         for _ in names:
             body = (kind, body)
@@ -118,7 +117,7 @@ class _Reader:
                 name = self.take()
                 self.take(")")
                 return "=" if name == "<=>" else name
-            found = self.infix(0)
+            found = self.infix()
             self.take(")")
             return found
         if not (token[0].isalpha() or token[0] == "_"):
@@ -144,7 +143,7 @@ def _tokens(text: str) -> List[str]:
 def read(text: str) -> Tree:
     """The tree of a text."""
     reader = _Reader(text)
-    found = reader.infix(0)
+    found = reader.infix()
     if reader.peek():
         raise Unreadable("`%s` is too much" % reader.peek())
     return found
@@ -166,42 +165,54 @@ def symbols(tree: Tree, constants: FrozenSet[str]) -> FrozenSet[str]:
     return symbols(tree[1], constants) | frozenset((tree[0],))
 
 
-def all_symbols(tree: Tree) -> FrozenSet[str]:
-    """The names and binders of a tree."""
-    found, waiting = set(), [tree]
-    while waiting:
-        part = waiting.pop()
-        if isinstance(part, str):
-            found.add(part)
-        elif isinstance(part, tuple):
-            if part[0] != "app":
-                found.add(part[0])
-            waiting += part[1:]
-    return frozenset(found)
-
-
 def matches(pattern: Tree, tree: Tree, constants: FrozenSet[str]) -> bool:
     """Whether a pattern is a tree, with terms for what stands for any."""
-    return _matches(pattern, tree, constants, {})
+    return _matches(pattern, tree, constants, {}, 0)
 
 
-def _matches(pattern: Tree, tree: Tree, constants: FrozenSet[str], terms: Dict[str, Tree]) -> bool:
-    if is_hole(pattern, constants):
-        return pattern == "_" or terms.setdefault(pattern, tree) == tree
-    if not isinstance(pattern, tuple) or not isinstance(tree, tuple):
-        return type(pattern) is type(tree) and pattern == tree
-    return len(pattern) == len(tree) and pattern[0] == tree[0] and all(
-        _matches(one, other, constants, terms) for one, other in zip(pattern[1:], tree[1:]))
+def _matches(pattern: Tree, tree: Tree, constants: FrozenSet[str], terms: Dict[str, Tree], depth: int) -> bool:
+    """The same below so many binders, where some names stand for terms already."""
+    if isinstance(pattern, str):
+        if is_hole(pattern, constants):
+            outside = _outside(tree, depth) if depth else tree
+            return pattern == "_" or terms.setdefault(pattern, outside) == outside
+        return pattern == tree
+    if isinstance(pattern, int):
+        return pattern == tree
+    if not isinstance(tree, tuple) or len(pattern) != len(tree) or pattern[0] != tree[0]:
+        return False
+    if len(pattern) == 2:
+        return _matches(pattern[1], tree[1], constants, terms, depth + 1)
+    return _matches(pattern[1], tree[1], constants, terms, depth) and _matches(pattern[2], tree[2], constants, terms, depth)
 
 
-def parts(tree: Tree) -> Iterator[Tuple[Tree, int]]:
-    """The parts of a tree with their depths, the tree itself first."""
+def _outside(tree: Tree, depth: int, inside: int = 0) -> Tree:
+    """A tree as it is outside of so many binders. A variable that they bind has a form of its own, by its binder counted from outside."""
+    if isinstance(tree, int):
+        return tree if tree < inside else tree - depth if tree >= inside + depth else ("bound", depth + inside - tree)
+    if isinstance(tree, str):
+        return tree
+    if len(tree) == 2:
+        return tree[0], _outside(tree[1], depth, inside + 1)
+    return tree[0], _outside(tree[1], depth, inside), _outside(tree[2], depth, inside)
+
+
+def parts(tree: Tree) -> Iterator[Tuple[Any, Tree, int]]:
+    """The parts of a tree, each with what it begins with (see `head`) and its depth."""
     waiting = [(tree, 0)]
     while waiting:
         part, depth = waiting.pop()
-        yield part, depth
-        if isinstance(part, tuple):
-            waiting += [(inner, depth + 1) for inner in reversed(part[1:])]
+        chain = []
+        while isinstance(part, tuple) and part[0] == "app":
+            chain.append(part)
+            part = part[1]
+        begins = None if isinstance(part, tuple) else part
+        for at, applied in enumerate(chain):
+            yield part[0] if begins is None else (begins, len(chain) - at), applied, depth + at
+            waiting.append((applied[2], depth + at + 1))
+        yield part[0] if begins is None else (begins, 0), part, depth + len(chain)
+        if begins is None:
+            waiting.append((part[1], depth + len(chain) + 1))
 
 
 def head(tree: Tree) -> Any:

@@ -43,13 +43,13 @@ def explain(text: str, refusal: Refusal, opened: Optional[str] = None) -> Told:
         missing = syntax.missing_end(text)
         if missing:
             return missing
-    start, end = notation.word_range(text, refusal.argument.split(":")[-1]) or _first_word(text)
+    start, end = _marked(text, number, refusal.argument)
     if number == protocol.IN_A_PROOF:
         words = "a proof is open: %s; end it by qed;; or give it up by oops;;" % (opened or "end it first")
     elif number == protocol.UNKNOWN_TAC:
         words = _unknown_tac(text, refusal.argument, start)
     elif number == protocol.REFUSED:
-        words = _refused(refusal.argument)
+        words = _refused(text, refusal.argument)
     elif number == protocol.NAME_TAKEN:
         twice = " or is made twice here" if text.split().count(refusal.argument.split(":")[-1]) > 1 else ""
         words = "%s stands already%s: choose another name" % (_key(refusal.argument), twice)
@@ -77,6 +77,16 @@ def _place(text: str, refusal: Refusal) -> int:
     return min(int(place), len(text)) if place.isdecimal() and len(place) < 9 else 0
 
 
+def _marked(text: str, number: int, argument: str) -> Tuple[int, int]:
+    """The range of the name that a refusal is about. Where it is a function's that is called more than once, all its calls are in it."""
+    name = argument.split(":")[-1]
+    places = notation.word_ranges(text, name)
+    if not places:
+        return _first_word(text)
+    is_any = number in (protocol.REFUSED, protocol.HYPOTHESES, protocol.BAD_RULE) or number == protocol.UNKNOWN_TAC and name in notation.TACS
+    return places[0][0], places[-1 if is_any else 0][1]
+
+
 def _first_word(text: str) -> Tuple[int, int]:
     word = notation.token(text, 0)
     return 0, len(word) if word else min(1, len(text))
@@ -86,7 +96,7 @@ def _quotation(text: str, refusal: Refusal) -> Told:
     """The words for the refusals that name a quotation's place."""
     start, end = notation.quotation(text, _place(text, refusal))
     words = {
-        protocol.UNTYPABLE: "this term has no typing: some name in it would need two types",
+        protocol.UNTYPABLE: "this term has no typing: somewhere in it two types don't agree, or what is applied is no function",
         protocol.NOT_BOOL: "this term isn't of type bool: annotate what leaves its type open, as in (P:A->bool) x, or state an "
                            "equation",
         protocol.ARITY: "a type in this term has arguments that its constructor doesn't take: bool and ind take none, and a name "
@@ -127,13 +137,31 @@ def _by_assumptions(name: str) -> str:
     return "; rewriting by the assumptions is ASM_REWRITE_TAC []" if "REWRITE" in name else ""
 
 
-def _refused(name: str) -> str:
-    """The words for refusal 17."""
-    fits = {
-        "REFL_TAC": "an equation whose sides are equal up to bound names", "CONJ_TAC": "p /\\ q", "DISJ1_TAC": "p \\/ q",
-        "DISJ2_TAC": "p \\/ q", "EQ_TAC": "p <=> q", "GEN_TAC": "!x. p", "DISCH_TAC": "p ==> q or ~p", "AP_TERM_TAC": "f x = f y",
-        "AP_THM_TAC": "f x = g x", "MK_COMB_TAC": "f x = g y with f and g of one type", "NO_TAC": "no goal at all",
-        "EXISTS_TAC": "?x. p, with a term of x's type",
-        "X_GEN_TAC": "!x. p, with a variable of x's type that is free nowhere in the goal",
-    }
-    return "%s doesn't fit the first goal%s" % (name, ": it wants " + fits[name] if name in fits else "")
+_FITS = {
+    "REFL_TAC": "an equation whose sides are equal up to bound names", "CONJ_TAC": "p /\\ q", "DISJ1_TAC": "p \\/ q",
+    "DISJ2_TAC": "p \\/ q", "EQ_TAC": "p <=> q", "GEN_TAC": "!x. p", "DISCH_TAC": "p ==> q or ~p", "AP_TERM_TAC": "f x = f y",
+    "AP_THM_TAC": "f x = g x", "MK_COMB_TAC": "f x = g y with f and g of one type", "NO_TAC": "no goal at all",
+    "EXISTS_TAC": "?x. p, with a term of x's type", "STRIP_TAC": "!x. p, p /\\ q, p ==> q or ~p",
+    "X_GEN_TAC": "!x. p, with a variable of x's type that is free nowhere in the goal",
+    "ACCEPT_TAC": "a theorem that concludes the goal", "CONTR_TAC": "a theorem that concludes F", "CHOOSE_TAC": "a theorem ?x. p",
+    "X_CHOOSE_TAC": "a theorem ?x. p, with a variable of x's type that is free neither in it nor in the goal",
+    "DISJ_CASES_TAC": "a theorem p \\/ q", "SUBST1_TAC": "a theorem s = t", "UNDISCH_TAC": "one of the goal's assumptions",
+    "MATCH_MP_TAC": "a theorem !xs. s ==> t whose t matches the goal",
+    "SPEC_TAC": "a variable of the term's type that isn't free in the goal, unless it is the term",
+    "DISCH_THEN": "p ==> q or ~p", "POP_ASSUM": "a goal with an assumption", "FIRST_ASSUM": "an assumption that its function takes",
+}
+"""What functions on goals and tacticals want, where they refuse some goals."""
+
+_OF_TACTICALS = {
+    "THENL": "THENL needs as many expressions in its list as there are goals where it stands", "FIRST": "FIRST has nothing to try",
+    "CHANGED_TAC": "what CHANGED_TAC runs leaves the goal as it was",
+}
+
+
+def _refused(text: str, name: str) -> str:
+    """The words for refusal 17. Only a function that is called alone is called on the first goal."""
+    if name in _OF_TACTICALS:
+        return _OF_TACTICALS[name]
+    is_alone = notation.tokens_before(text, len(text))[1:2] == [name] and not notation.has_tactical(text)
+    goal = "the first goal" if is_alone else "the goal that it is run on"
+    return "%s doesn't fit %s%s" % (name, goal, ": it wants " + _FITS[name] if name in _FITS else "")

@@ -95,7 +95,7 @@ class Checking(unittest.TestCase):
     def test_a_server_that_hangs_is_status_2_and_names_the_command(self):
         status, _, errors = self.check({"A.hol": proofs(1)}, "--seconds", "9", server=("--fault", "hang:7"))
         self.assertEqual(status, 2)
-        self.assertIn("A.hol:2: nothing is known of this command: it gave no answer within 9 seconds", errors)
+        self.assertIn("A.hol:2: nothing is known of this command: hol_serve gave no answer within 9 seconds", errors)
 
     def test_files_are_checked_after_those_that_they_import(self):
         files = {"B.hol": "import A;; " + proofs(1).replace("N0", "M"), "A.hol": proofs(1)}

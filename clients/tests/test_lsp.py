@@ -327,10 +327,11 @@ class Bridging(unittest.TestCase):
 
     def test_a_project_file_names_the_folders_of_theories(self):
         (self.folder / "library" / "deep").mkdir(parents=True)
-        (self.folder / "hol-project.json").write_text('{"folders": [".", "library"]}')
         (self.folder / "library" / "deep" / "C.hol").write_text(proofs(1))
         editor, other = self.editor(), (self.folder / "sub" / "B.hol").as_uri()
         editor.open(other, "import C;;\nimport D;;\n")
+        editor.until(lambda: [found[0] for found in editor.said(other)] == [0, 1])
+        (self.folder / "hol-project.json").write_text('{"folders": [".", "library"]}')
         editor.until(lambda: [found[0] for found in editor.said(other)] == [1])
         (self.folder / "hol-project.json").write_text('{"folders": "library"}')
         editor.until(lambda: [found[:2] for found in editor.said(other)]== [(0, 1), (1, 1)])

@@ -88,7 +88,37 @@ class InAProject(unittest.TestCase):
     def test_a_prelude_theorem_has_its_statement(self):
         document = self.workspace.open((self.folder / "P.hol").as_uri(), 1, "g A `T`;; e ACCEPT_TAC TRUTH;; e REWRITE_TAC [ETA_AX];;")
         word = lookup.word([document.file], document.file, document.file.lines.text.index("ETA_AX"))
-        self.assertIn("ETA_AX: |- !t:A->B. (\\x. t x) = t", hovering.of_word(word, None))
+        self.assertIn("ETA_AX: |- !t:A->B. (\\x. t x) = t\n```\n\nan axiom of the prelude", hovering.of_word(word, None))
+
+    def test_a_variables_type_is_not_asked_where_the_theorys_end_reads_it_otherwise(self):
+        text = "g A `!x:A. x = y`;; oops;;\n"
+        for more, asks in (("new_constant z `:A`;;", True), ("new_constant y `:A`;;", False), ("new_axiom y `p`;;", True)):
+            document = self.workspace.open((self.folder / "Q.hol").as_uri(), 1, text + more)
+            word = lookup.word([document.file], document.file, text.index("x = y"))
+            self.assertEqual(hovering.question(document.file, word) is not None, asks)
+
+    def test_a_bound_name_is_no_constant_and_a_types_name_is_a_types(self):
+        text = "import B;;\nnew_constant ty `:ty`;;\ng X `c x /\\ (!c:ty->bool. c = c) /\\ ty = x`;;\n"
+        document = self.workspace.open((self.folder / "D.hol").as_uri(), 1, text)
+        files = self.workspace.groups()[str(self.folder)]
+
+        def meant(before):
+            word = lookup.word(files, document.file, text.index(before) + len(before))
+            return word.known and (word.known.kind, word.known.origin)
+
+        self.assertEqual(meant("g X `"), ("constant", "A"))
+        self.assertEqual([meant(before) for before in ("!", "bool. ", "bool. c = ")], [None, None, None])
+        self.assertEqual([meant(before) for before in ("!c:", "new_constant ty `:")], [("type", "B"), ("type", "B")])
+        self.assertEqual([meant(before) for before in ("new_constant ", "c) /\\ ")], [("constant", "D"), ("constant", "D")])
+
+        def used(before):
+            found = self.navigation.references(document, files, text.index(before) + len(before), True)
+            places = [(pathlib.PurePosixPath(one["uri"]).name, one["range"]["start"]) for one in found]
+            return [(place["line"], place["character"]) for name, place in places if name == "D.hol"]
+
+        self.assertEqual(used("g X `"), [(2, 5)])
+        self.assertEqual(used("!c:"), [(1, 18), (2, 16)])
+        self.assertEqual(used("c) /\\ "), [(1, 13), (2, 36)])
 
     def target(self, text, more=0):
         found = self.navigation.definition(self.document, self.files, C.index(text) + more)

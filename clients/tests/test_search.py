@@ -15,6 +15,7 @@ from tests.helpers import HOLLS, fake
 NAMED = {
     "ADD_SYM": r"!x y. add x y = add y x", "ADD_ASSOC": r"!x y z. add x (add y z) = add (add x y) z", "LEFT": r"!p q. p /\ q ==> p",
     "BOTH": r"!p q. p ==> q ==> p /\ q", "DEEP": r"!P. (!x. P x /\ T ==> P x) ==> (?x. P x) ==> T", "SYM": r"!x y. x = y ==> y = x",
+    "UNDER": r"!a b. (!c. R b c) ==> R b a",
 }
 
 
@@ -41,6 +42,10 @@ class Queries(unittest.TestCase):
         self.assertEqual(found("assoc `_ = _`"), ["ADD_ASSOC"])
         self.assertEqual(found("?z. _"), ["DEEP"])
         self.assertEqual(found("!z. Q z \\/ _"), [])
+        self.assertEqual(found("!x. (!y. P x y) ==> P x a"), ["UNDER"])
+        self.assertEqual(found("!x. (!y. P x y) ==> P a x"), [])
+        self.assertEqual(found("(!c. _ z c) ==> _ z a"), ["UNDER"])
+        self.assertEqual(found("(!c. _ z c) ==> _ a z"), [])
         for bad in ("_ /\\", "`_` `_`", "(_", "!. _", "_ ; _ = _"):
             with self.assertRaises(search.BadQuery):
                 found(bad)

@@ -2,6 +2,7 @@
 
 import unittest
 
+from holls import notation
 from holls.protocol import Refusal
 from holls.words import explain
 
@@ -38,6 +39,8 @@ class OfSlips(unittest.TestCase):
             self.assertEqual(self.marked(text, number, argument), ("qed", "a `;;` is missing before `qed`"))
         self.assertEqual(self.marked("e CONJ_TAC\n  e REFL_TAC", 5, "e")[1], "a `;;` is missing before `e`")
         self.assertEqual(said("e ACCEPT_TAC qed_thm", 5, "qed_thm"), "no theorem qed_thm stands before this command")
+        self.assertEqual(said("e REWRITE_TAC [x;\n  r; s]", 5, "s"), "no theorem s stands before this command")
+        self.assertEqual(self.marked("e REWRITE_TAC [x]\nr 2", 1, "18")[1], "a `;;` is missing before `r`")
 
     def test_a_backquote_is_missing(self):
         self.assertEqual(self.marked("g A `x = x", 1, "10"), ("`", "this quotation is never closed: a backquote is missing"))
@@ -52,6 +55,20 @@ class OfSlips(unittest.TestCase):
         self.assertIn("did you mean REWRITE_TAC?", said("e REWRIT_TAC []", 6, "REWRIT_TAC"))
         self.assertIn("begins with e", said("CONJ_TAC", 1, "0"))
         self.assertIn("did you mean qed?", said("qedx", 1, "0"))
+
+    def test_what_a_function_wants_and_which_goal_it_met(self):
+        self.assertEqual(self.marked("e CONJ_TAC", 17, "CONJ_TAC"), ("CONJ_TAC", "CONJ_TAC doesn't fit the first goal: it wants p /\\ q"))
+        self.assertEqual(self.marked("e CONJ_TAC THEN GEN_TAC", 17, "GEN_TAC"), ("GEN_TAC", "GEN_TAC doesn't fit the goal that it is run on: it wants !x. p"))
+        self.assertEqual(self.marked("e CONJ_TAC THEN CONJ_TAC", 17, "CONJ_TAC")[0], "CONJ_TAC THEN CONJ_TAC")
+        self.assertIn("as many expressions", said("e CONJ_TAC THENL [ALL_TAC]", 17, "THENL"))
+        self.assertIn("leaves the goal as it was", said("e CHANGED_TAC ALL_TAC", 17, "CHANGED_TAC"))
+        wanting = [name for name in notation.TACS if "wants" in said("e " + name, 17, name)]
+        never = ["ALL_TAC", "MP_TAC", "ASSUME_TAC", "STRIP_ASSUME_TAC", "BETA_TAC"]
+        self.assertEqual(set(notation.TACS) - set(wanting), set(never) | {name for name in notation.TACS if "REWRITE" in name})
+
+    def test_hints_in_terms_stand_at_tokens_of_terms(self):
+        self.assertIn("binder as an argument", said("g A `f !x. P`", 1, "7"))
+        self.assertNotIn("binder", said("e ACCEPT_TAC !x", 1, "13"))
 
     def test_what_a_tactical_hands_over(self):
         words = said("e POP_ASSUM (REWRITE_TAC)", 6, "REWRITE_TAC")

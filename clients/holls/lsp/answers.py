@@ -162,7 +162,8 @@ class Answers:
         def attempt() -> Optional[Answered]:
             file = document.file
             word = lookup.word(self._files(document), file, place)
-            if word and word.name not in COMMANDS and (word.entry or word.theory or word.known or word.is_quoted):
+            is_command = word and word.entry and word.name in COMMANDS
+            if word and not is_command and (word.entry or word.theory or word.known or word.is_quoted):
                 if time.monotonic() < until and not self._has_more(document, word, basis):
                     return None
                 text = hovering.of_word(word, basis[-1] if basis else None)
@@ -179,7 +180,7 @@ class Answers:
             is_asked = known.kind == THEOREM and known.file is not None and known.is_made
             return not is_asked or self._has_basis(document, known.name, more)
         server = self.bridge.server_of(document)
-        question = binders.question(word.command.text, word.command.offset(word.start)) if word.is_quoted else None
+        question = hovering.question(document.file, word)
         if question is None or server is None or server.session is None or server.failure:
             return True
         if not more:

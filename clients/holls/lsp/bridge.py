@@ -9,7 +9,7 @@ import sys
 import threading
 import time
 from dataclasses import dataclass
-from typing import Any, BinaryIO, Callable, Dict, FrozenSet, List, Optional
+from typing import Any, BinaryIO, Callable, Dict, FrozenSet, Iterator, List, Optional
 
 from holls import server
 from holls.lsp import wire
@@ -21,6 +21,8 @@ from holls.server import Ended, Line, NoServer
 
 LOOK_SECONDS = 1.0
 """So often files on disk are looked at."""
+SPARE_SECONDS = 0.01
+"""So long at a time what can wait is done while nothing comes."""
 
 NOT_STARTED, BAD_JSON, BAD_REQUEST, NO_METHOD, BAD_PARAMS, CANCELLED = -32002, -32700, -32600, -32601, -32602, -32800
 
@@ -75,14 +77,16 @@ class Bridge:
         self.is_probing = self.is_begun = self.is_shut = False
         self.status: Optional[int] = None
         self._look_at = 0.0
+        self._spare: Iterator[None] = iter(())
+        self._has_spare = False
 
     def run(self) -> int:
         """Until the editor ends."""
         while self.status is None:
             try:
-                self._take(self.events.get(timeout=self._patience()))
+                self._take(self.events.get(timeout=0.0 if self._has_spare else self._patience()))
             except queue.Empty:
-                pass
+                self._guard(self._spend)
             self._guard(self._settle)
         for server in self.servers.values():
             server.stop()
@@ -125,6 +129,20 @@ class Bridge:
                 self._changed(None)
         self.answers.answer_waiters()
         self.publisher.publish()
+
+    def all_known(self) -> None:
+        """All that was asked for is known: there is time to read the statements for searches."""
+        self._spare = self.answers.navigation.reading([server.files for server in self.servers.values()])
+        self._has_spare = True
+
+    def _spend(self) -> None:
+        """Does some of what can wait."""
+        until = time.monotonic() + SPARE_SECONDS
+        self._has_spare = False  # Also where an error ends it.
+        for _ in self._spare:
+            if time.monotonic() >= until:
+                self._has_spare = True
+                return
 
     # Messages of the editor
 
@@ -279,7 +297,6 @@ class Bridge:
         if params["command"] != "holls.restart":
             raise BadParams("no command %s" % params["command"])
         self._stop()
-        self.workspace.projects.forget()
         self._probe()
         return Answered(None)
 

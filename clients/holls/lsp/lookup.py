@@ -5,7 +5,7 @@ from __future__ import annotations
 from dataclasses import dataclass
 from typing import Optional, Sequence
 
-from holls import manual, names, notation
+from holls import binders, manual, names, notation
 from holls.files import File
 from holls.names import CONSTANT, THEOREM, TYPE, Known
 from holls.text import Command
@@ -51,10 +51,12 @@ def word(files: Sequence[File], file: File, place: int) -> Optional[Word]:
     entry = None if quoted else manual.entry(name)
     if entry and (name not in manual.COMMANDS or start == command.start):
         return Word(name, start, end, command, False, entry)
-    kinds = (CONSTANT, TYPE) if quoted else (THEOREM,) if not _makes(command, name) else (THEOREM, CONSTANT, TYPE)
-    return Word(name, start, end, command, quoted, known=names.find(files, file, place, name, kinds))
-
-
-def _makes(command: Command, name: str) -> bool:
-    """Whether a name is what a command makes, or is used there where only theorems stand."""
-    return command.word in notation.MAKERS and name in command.text.split("`")[0].split()[1:]
+    offset = command.offset(start)
+    if quoted and binders.is_bound(command.text, offset):
+        return Word(name, start, end, command, True)
+    if quoted:
+        kinds = (TYPE,) if binders.is_in_type(command.text, offset) else (CONSTANT,)
+        return Word(name, start, end, command, True, known=names.find(files, file, place, name, kinds))
+    number = file.number_at(start)
+    made = next((one for one in names.known(file) if one.number == number and one.name == name), None)
+    return Word(name, start, end, command, False, known=made or names.find(files, file, place, name, (THEOREM,)))

@@ -3,12 +3,13 @@
 from __future__ import annotations
 
 from pathlib import Path
-from typing import Any, Dict, List, Optional, Sequence
+from typing import Any, Dict, Iterator, List, Optional, Sequence
 
 from holls import names, search
 from holls.files import File
 from holls.lsp import features, lookup
 from holls.lsp.workspace import Document, Workspace
+from holls.names import THEOREM
 
 MOST = 500
 """So many symbols of a workspace are answered."""
@@ -76,7 +77,6 @@ class Navigation:
             "name": one.name, "kind": features.KINDS.get(one.kind, features.FUNCTION), "containerName": one.origin,
             "location": self.location(one.file, *names.name_range(one))} for one in found[:MOST]]
 
-
     def search(self, query: str, of_conclusion: bool, servers: Sequence[Sequence[File]]) -> List[Dict[str, Any]]:
         """The theorems that a query finds in all projects and in the prelude, the best first."""
         asked = search.query(query, of_conclusion)
@@ -86,6 +86,14 @@ class Navigation:
             result = {"name": one.name, "statement": one.shown, "theory": one.origin, "isMade": one.is_made}
             found.append(dict(result, location=self.location(one.file, *names.name_range(one))) if one.file else result)
         return found
+
+    def reading(self, servers: Sequence[Sequence[File]]) -> Iterator[None]:
+        """Reads the statements of all projects, one at a time, so that the next search finds them read."""
+        for file in self._every(servers):
+            for one in names.known(file):
+                if one.kind == THEOREM:
+                    self.index.statement(one.shown)
+                    yield
 
     def _every(self, servers: Sequence[Sequence[File]]) -> List[File]:
         """The files of all projects."""

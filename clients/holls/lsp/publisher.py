@@ -73,6 +73,7 @@ class Publisher:
         if is_all_done and self._busy_since is not None:
             self._busy_since = None
             self._progress(True)
+            self.bridge.all_known()
             if self._refreshes_lenses:
                 self.bridge.send({"id": "holls-lenses", "method": "workspace/codeLens/refresh"})
 
@@ -87,7 +88,9 @@ class Publisher:
     def _is_done(self, document: Document) -> bool:
         """Whether nothing is under way in a document's project."""
         server = self.bridge.server_of(document)
-        return self.bridge.failure is not None or not self.bridge.is_probing if server is None else server.is_done
+        if server is not None:
+            return server.is_done
+        return self.bridge.failure is not None or not self.bridge.is_probing
 
     def _is_all_done(self) -> bool:
         return all(self._is_done(document) for document in self._documents())

@@ -9,7 +9,7 @@ from urllib.parse import unquote, urlparse
 
 from holls import files, graph, places, protocol
 from holls.files import File
-from holls.projects import Project, Projects, changed
+from holls.projects import Moment, Project, Projects, changed
 from holls.session import Job
 
 AROUND = 40
@@ -76,8 +76,8 @@ class Workspace:
     def __init__(self) -> None:
         self.documents: Dict[str, Document] = {}
         self.projects = Projects()
-        self._loaded: Dict[str, Tuple[int, File]] = {}
-        self._looked_at: Dict[str, Tuple[int, File]] = {}
+        self._loaded: Dict[str, Tuple[Moment, File]] = {}
+        self._looked_at: Dict[str, Tuple[Moment, File]] = {}
         self._imported: Dict[str, Versions] = {}
 
     def open(self, uri: str, version: Optional[int], text: str) -> Document:
@@ -105,6 +105,8 @@ class Workspace:
     def is_stale(self) -> bool:
         """Whether a file that was read from disk has changed there, or a project has other files."""
         is_changed = self.projects.refresh()
+        for document in self.documents.values():
+            document.project = self.projects.of(document.file.path)
         return is_changed or any(changed(path) != moment for path, (moment, _) in self._loaded.items())
 
     def groups(self) -> Dict[str, List[File]]:
