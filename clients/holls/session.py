@@ -67,7 +67,7 @@ class Session:
         self.theories = theories
         self.failure, self._ends, self._rounds, self._is_in_step = None, 0, 0, False
         self._wanted_at = time.monotonic() if self._wanted_at is None else self._wanted_at
-        if self._pending and self._pending[0].entry and self._age() > PATIENCE_SECONDS:
+        if self._pending and self._pending[0].entry and self._age() > PATIENCE_SECONDS and self._events.empty():
             self.stop()
         self.pump()
 
@@ -228,8 +228,11 @@ class Session:
         return max(0.0, limit - self._age())
 
     def tick(self) -> None:
-        """Marks a report that takes long, gives one up that keeps edits waiting, and a server that hangs."""
-        if not self._pending or self.deadline():
+        """Marks a report that takes long, gives one up that keeps edits waiting, and a server that hangs.
+
+        As long as events wait to be heard, one of them may be what is waited for.
+        """
+        if not self._pending or self.deadline() or not self._events.empty():
             return
         head = self._pending[0]
         if head.entry and self._wanted_at is not None and self._age() < self._seconds:

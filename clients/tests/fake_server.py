@@ -1,11 +1,11 @@
 #!/usr/bin/env python3
 """A small server that follows docs/PROTOCOL.md, for tests: quick, and with faults on demand.
 
-    fake_server.py [--serve OP,..] [--fault KIND:N] [--once FILE] [--log FILE]
+    fake_server.py [--serve OP,..] [--fault KIND:N] [--once FILE] [--log FILE] [--meet FOLDER]
 
 It runs `g`, `e`, `qed`, `oops`, `import`, `new_constant`, `new_axiom`, and serves `replace`, `remove`, `drop_theory` or those of them
 that are named. It keeps the states that it made, as the program does. Its terms are texts: CONJ_TAC splits at the first ` /\\ `, REFL_TAC
-closes `s = s`, ALL_TAC keeps the goal, and SLOW_TAC takes two seconds. A fault comes at the Nth request: die (in the middle of a line),
+closes `s = s`, ALL_TAC keeps the goal, SLOW_TAC takes two seconds, and MEET_TAC waits for a second server that runs it. A fault comes at the Nth request: die (in the middle of a line),
 end, hang, bad (a line that is no reply) or memory (the Nth and the next request get the memory line). With --once the fault that ends a
 process comes in the first process alone, which makes FILE. The log gets each request.
 """
@@ -18,12 +18,20 @@ import sys
 import time
 
 COMMAND = re.compile(r"\s*(\w+)\s*(.*?)\s*\Z", re.S)
-FUNCTIONS = ("ALL_TAC", "CONJ_TAC", "REFL_TAC", "SLOW_TAC")
+FUNCTIONS = ("ALL_TAC", "CONJ_TAC", "REFL_TAC", "SLOW_TAC", "MEET_TAC")
 EDITS = ("replace", "remove", "drop_theory")
+MEETING = []
 
 
 def refusal(number, text, arg=""):
     return {"arg": arg, "ok": True, "refusal": number, "text": text}
+
+
+def meet():
+    """Waits for a second server in the folder where they meet."""
+    open(os.path.join(MEETING[0], str(os.getpid())), "w").close()
+    while len(os.listdir(MEETING[0])) < 2:
+        time.sleep(0.01)
 
 
 class State:
@@ -95,6 +103,8 @@ class State:
         parts = goal.split(" /\\ ", 1)
         if name == "SLOW_TAC":
             time.sleep(2)
+        if name == "MEET_TAC":
+            meet()
         if name == "CONJ_TAC":
             return parts if len(parts) == 2 else None
         if name == "REFL_TAC":
@@ -241,7 +251,9 @@ def main():
     words.add_argument("--fault", default=":0")
     words.add_argument("--once", default="")
     words.add_argument("--log", default="")
+    words.add_argument("--meet", default="")
     given = words.parse_args()
+    MEETING.append(given.meet)
     kind, number = given.fault.split(":")
     documents = Documents(filter(None, given.serve.split(",")))
     for count, line in enumerate(iter(sys.stdin.buffer.readline, b""), 1):

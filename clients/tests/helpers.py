@@ -11,6 +11,9 @@ FAKE = CLIENTS / "tests" / "fake_server.py"
 HOLLS = CLIENTS / "bin" / "holls"
 BUILT = pathlib.Path(os.environ.get("HOL_SERVE") or ROOT / "crates" / "hol_serve" / "out" / "hol_serve")
 
+SECONDS = 600
+"""So long a program may run on a machine that does much else."""
+
 
 def fake(folder, *words):
     """A program in the folder that runs the fake server with these words, as --server wants one file."""

@@ -1,7 +1,7 @@
 -- What a user does in Neovim, step by step; what is seen goes to the file $RESULTS as JSON. Run by test_neovim.py.
 local results = {}
 local folder = vim.env.FOLDER
-local seconds = 120
+local seconds = 240
 
 vim.g.holls = { command = { vim.env.PYTHON, vim.env.HOLLS, 'lsp', '--server', vim.env.SERVER } }
 vim.cmd('filetype plugin on')

@@ -7,11 +7,12 @@ import pty
 import subprocess
 import sys
 import tempfile
+import threading
 import unittest
 
 from holls import checking
 from holls.files import File
-from tests.helpers import BUILT, HOLLS, ROOT, fake, proofs
+from tests.helpers import BUILT, HOLLS, ROOT, SECONDS, fake, proofs
 
 
 class Checking(unittest.TestCase):
@@ -26,7 +27,7 @@ class Checking(unittest.TestCase):
             (self.folder / name).write_bytes(content if isinstance(content, bytes) else content.encode())
         program = fake(self.folder, *server)
         done = subprocess.run(
-            [sys.executable, str(HOLLS), "check", "--server", program, *words, *files], cwd=self.folder, capture_output=True, timeout=240)
+            [sys.executable, str(HOLLS), "check", "--server", program, *words, *files], cwd=self.folder, capture_output=True, timeout=SECONDS)
         self.assertNotIn(b"Traceback", done.stderr + done.stdout)
         return done.returncode, done.stdout.decode(), done.stderr.decode()
 
@@ -93,9 +94,10 @@ class Checking(unittest.TestCase):
                 self.assertEqual((status, output), (0, "A.hol: 8 commands, 2 theorems, all accepted\n"))
 
     def test_a_server_that_hangs_is_status_2_and_names_the_command(self):
-        status, _, errors = self.check({"A.hol": proofs(1)}, "--seconds", "9", server=("--fault", "hang:7"))
+        server = ("--fault", "hang:7", "--once", str(self.folder / "once"))
+        status, _, errors = self.check({"A.hol": proofs(1)}, "--seconds", "6", server=server)
         self.assertEqual(status, 2)
-        self.assertIn("A.hol:2: nothing is known of this command: hol_serve gave no answer within 9 seconds", errors)
+        self.assertIn("A.hol:2: nothing is known of this command: hol_serve gave no answer within 6 seconds", errors)
 
     def test_files_are_checked_after_those_that_they_import(self):
         files = {"B.hol": "import A;; " + proofs(1).replace("N0", "M"), "A.hol": proofs(1)}
@@ -130,25 +132,41 @@ class Checking(unittest.TestCase):
         (self.folder / "two" / "hol-project.json").write_text("{}")
         (self.folder / "two" / "B.hol").write_text("import A;;\n" + proofs(1).replace("N0", "M"))
         program = fake(self.folder)
-        done = subprocess.run([sys.executable, str(HOLLS), "check", "--server", program, "."], cwd=self.folder, capture_output=True, timeout=240)
+        done = subprocess.run([sys.executable, str(HOLLS), "check", "--server", program, "."], cwd=self.folder, capture_output=True, timeout=SECONDS)
         self.assertEqual((done.returncode, done.stdout.decode().splitlines()), (0, [
             "./one/A.hol: 4 commands, 1 theorem, all accepted", "./two/deep/A.hol: 4 commands, 1 theorem, all accepted",
             "./two/B.hol: 5 commands, 1 theorem, all accepted"]))
 
-    def test_progress_is_shown_on_a_terminal_and_theories_are_run_side_by_side(self):
-        for name in ("A", "B", "C"):
-            (self.folder / (name + ".hol")).write_text("g %s `x = x`;; e SLOW_TAC;; e REFL_TAC;; qed;;\n" % name)
-        program, (ours, theirs) = fake(self.folder, "--log", str(self.folder / "log")), pty.openpty()
-        words = [sys.executable, str(HOLLS), "check", "--server", program, "A.hol", "B.hol", "C.hol"]
+    def test_progress_is_shown_on_a_terminal(self):
+        (self.folder / "A.hol").write_text("g A `x = x`;; e SLOW_TAC;; e REFL_TAC;; qed;;\n")
+        program, (ours, theirs), shown = fake(self.folder), pty.openpty(), []
+        reader = threading.Thread(target=lambda: shown.extend(iter(lambda: _read(ours), b"")), daemon=True)
+        reader.start()
+        words = [sys.executable, str(HOLLS), "check", "--server", program, "A.hol"]
         with subprocess.Popen(words, cwd=self.folder, stdout=subprocess.PIPE, stderr=theirs) as process:
             output = process.stdout.read().decode()
         os.close(theirs)
-        shown = os.read(ours, 100_000).decode()
+        reader.join()
         os.close(ours)
-        self.assertEqual((process.returncode, output.count("all accepted")), (0, 3))
-        self.assertRegex(shown, r"\d+ of 12 commands, \d of 3 files")
+        self.assertEqual((process.returncode, output.count("all accepted")), (0, 1))
+        self.assertRegex(b"".join(shown).decode(), r"\d of 4 commands, 0 of 1 files")
+
+    @unittest.skipUnless((os.cpu_count() or 1) > 1, "there is one processor")
+    def test_theories_that_do_not_import_one_another_are_run_side_by_side(self):
+        (self.folder / "meeting").mkdir()
+        files = {name + ".hol": "g %s `x = x`;; e MEET_TAC;; e REFL_TAC;; qed;;\n" % name for name in "AB"}
+        status, output, _ = self.check(files, server=("--meet", str(self.folder / "meeting"), "--log", str(self.folder / "log")))
+        self.assertEqual((status, output.count("all accepted")), (0, 2))
         made = [line for line in (self.folder / "log").read_bytes().splitlines() if b"new_theory" in line]
-        self.assertEqual(len(made), 3)
+        self.assertEqual(len(made), 2)
+
+
+def _read(terminal):
+    """What a terminal's program has written, or nothing where it has ended."""
+    try:
+        return os.read(terminal, 4096)
+    except OSError:
+        return b""
 
 
 class Scheduling(unittest.TestCase):
@@ -170,7 +188,7 @@ class Scheduling(unittest.TestCase):
 class Examples(unittest.TestCase):
     def test_the_first_examples_check(self):
         files = [str(ROOT / "examples" / "theories" / (name + ".hol")) for name in ("first", "functions", "tacticals")]
-        done = subprocess.run([sys.executable, str(HOLLS), "check", "--server", str(BUILT), "--axioms", *files], capture_output=True, timeout=240)
+        done = subprocess.run([sys.executable, str(HOLLS), "check", "--server", str(BUILT), "--axioms", *files], capture_output=True, timeout=SECONDS)
         self.assertEqual((done.returncode, done.stderr), (0, b""), done.stdout.decode())
 
 

@@ -14,9 +14,7 @@ import unittest
 
 from holls.lsp import wire
 from tests.fake_server import Documents
-from tests.helpers import HOLLS, fake, proofs
-
-SECONDS = 120
+from tests.helpers import HOLLS, SECONDS, fake, proofs
 
 
 class Editor:
@@ -339,14 +337,12 @@ class Bridging(unittest.TestCase):
         self.assertEqual(editor.end(), 0)
 
     def test_an_edit_does_not_wait_for_a_report_that_takes_long(self):
-        editor = self.editor()
-        editor.open(self.uri, "g A `p /\\ q`;;\ne SLOW_TAC;;\n" + "e ALL_TAC;;\n" * 60)
-        editor.goals(self.uri, 0, 1)
-        begun = time.monotonic()
-        editor.change(self.uri, 2, "q", ((0, 5), (0, 6)))
+        editor = self.editor("--fault", "hang:70", "--once", str(self.folder / "once"))
+        editor.open(self.uri, "g A `p /\\ q`;;\n" + "e ALL_TAC;;\n" * 61)
+        editor.until(lambda: len(self.requests()) >= 70)
+        editor.change(self.uri, 2, "q", ((0, 5), (0, 6)))  # The report under way would take ten minutes.
         self.assertEqual(editor.goals(self.uri, 0, 1)["goals"]["goals"][0]["ty"], "q /\\ q")
         self.assertEqual(editor.end(), 0)
-        self.assertLess(time.monotonic() - begun, 10)
 
     def test_bad_messages_are_refused_and_nothing_ends(self):
         editor = self.editor()

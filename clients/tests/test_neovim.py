@@ -9,7 +9,7 @@ import sys
 import tempfile
 import unittest
 
-from tests.helpers import CLIENTS, HOLLS, fake, proofs
+from tests.helpers import CLIENTS, HOLLS, SECONDS, fake, proofs
 
 NVIM = shutil.which("nvim")
 A = "g A `p /\\ q`;;\ne CONJ_TAC;;\ne FOO_TAC;;\nqed;;\n\ng B `x x`;;\nqed;;\nqedx;;\noops;;\n"
@@ -41,7 +41,7 @@ class InNeovim(unittest.TestCase):
                      XDG_STATE_HOME=str(folder), XDG_DATA_HOME=str(folder), XDG_CONFIG_HOME=str(folder))
         words = [NVIM, "--headless", "-u", "NONE", "-i", "NONE", "--cmd", "set rtp^=%s noswapfile" % (CLIENTS / "neovim"),
                  "-S", str(CLIENTS / "tests" / "neovim.lua")]
-        done = subprocess.run(words, env=given, cwd=folder, capture_output=True, timeout=280)
+        done = subprocess.run(words, env=given, cwd=folder, capture_output=True, timeout=SECONDS)
         self.assertTrue((folder / "results").exists(), done.stderr.decode())
         return json.loads((folder / "results").read_text())
 

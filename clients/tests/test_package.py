@@ -9,7 +9,7 @@ import unittest
 import xml.dom.minidom
 import zipfile
 
-from tests.helpers import CLIENTS
+from tests.helpers import CLIENTS, SECONDS
 
 
 class Package(unittest.TestCase):
@@ -18,7 +18,7 @@ class Package(unittest.TestCase):
             folder = pathlib.Path(name)
             made = [folder / "one.vsix", folder / "two.vsix"]
             for target in made:
-                subprocess.run([sys.executable, str(CLIENTS / "vscode" / "package"), str(target)], check=True, capture_output=True, timeout=240)
+                subprocess.run([sys.executable, str(CLIENTS / "vscode" / "package"), str(target)], check=True, capture_output=True, timeout=SECONDS)
             self.assertEqual(made[0].read_bytes(), made[1].read_bytes())
             with zipfile.ZipFile(made[0]) as package:
                 for page in ("[Content_Types].xml", "extension.vsixmanifest"):
@@ -30,7 +30,7 @@ class Package(unittest.TestCase):
                     self.assertIn("extension/" + grammar["path"][2:], inside)
                 package.extractall(folder)
             words = [sys.executable, str(folder / "extension" / "bin" / "holls"), "check", "--help"]
-            self.assertIn(b"--no-axioms", subprocess.run(words, capture_output=True, timeout=240, check=True).stdout)
+            self.assertIn(b"--no-axioms", subprocess.run(words, capture_output=True, timeout=SECONDS, check=True).stdout)
 
 
 if __name__ == "__main__":

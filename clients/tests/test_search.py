@@ -10,7 +10,7 @@ import unittest
 
 from holls import search, terms
 from holls.names import CONSTANT, PRELUDE, THEOREM, Known
-from tests.helpers import HOLLS, fake
+from tests.helpers import HOLLS, SECONDS, fake
 
 NAMED = {
     "ADD_SYM": r"!x y. add x y = add y x", "ADD_ASSOC": r"!x y z. add x (add y z) = add (add x y) z", "LEFT": r"!p q. p /\ q ==> p",
@@ -93,12 +93,12 @@ class AsAProgram(unittest.TestCase):
             (folder / "B.hol").write_text("import A;;\ng TWO_THM `y = y`;; e REFL_TAC;; qed;;\n")
             program = fake(folder)
             ask = [sys.executable, str(HOLLS), "search"]
-            done = subprocess.run(ask + ["--server", program, "thm"], cwd=folder, capture_output=True, timeout=240)
+            done = subprocess.run(ask + ["--server", program, "thm"], cwd=folder, capture_output=True, timeout=SECONDS)
             self.assertEqual((done.returncode, done.stdout.decode().splitlines()), (
                 0, ["./A.hol:1: ONE_THM |- x = x", "./B.hol:2: TWO_THM |- y = y"]))
-            done = subprocess.run(ask + ["--written", "--in", "A.hol", "thm"], cwd=folder, capture_output=True, timeout=240)
+            done = subprocess.run(ask + ["--written", "--in", "A.hol", "thm"], cwd=folder, capture_output=True, timeout=SECONDS)
             self.assertEqual(done.stdout.decode().splitlines()[0], "A.hol:3: LOST_THM |- p")
-            done = subprocess.run(ask + ["--written", "--json", "infinity"], cwd=folder, capture_output=True, timeout=240)
+            done = subprocess.run(ask + ["--written", "--json", "infinity"], cwd=folder, capture_output=True, timeout=SECONDS)
             self.assertIn(b'{"file": "prelude", "line": 0, "name": "INFINITY_AX"', done.stdout)
 
 

@@ -9,7 +9,7 @@ import sys
 import tempfile
 import unittest
 
-from tests.helpers import CLIENTS, HOLLS, fake
+from tests.helpers import CLIENTS, HOLLS, SECONDS, fake
 
 NODE = shutil.which("node")
 
@@ -21,7 +21,7 @@ class InVSCode(unittest.TestCase):
             program = fake(pathlib.Path(name))
             command = [sys.executable, str(HOLLS), "lsp", "--server", program]
             given = dict(os.environ, COMMAND=json.dumps(command), TEXT="g A `p /\\ q`;;\ne CONJ_TAC;;\ne FOO_TAC;;\n")
-            done = subprocess.run([NODE, str(CLIENTS / "tests" / "vscode.js")], env=given, capture_output=True, timeout=120)
+            done = subprocess.run([NODE, str(CLIENTS / "tests" / "vscode.js")], env=given, capture_output=True, timeout=SECONDS)
         self.assertEqual(done.returncode, 0, done.stderr.decode())
         found = json.loads(done.stdout)
         self.assertEqual(found["before"], [[2, 0, "there is no function on goals FOO_TAC"]])
@@ -31,9 +31,8 @@ class InVSCode(unittest.TestCase):
         self.assertEqual((found["symbols"], found["lenses"], found["completions"]), ([["A", 11]], 0, True))
         self.assertEqual(found["actions"], [["End the proof by qed", "\nqed;;"], ["Give the proof up by oops", "\noops;;"]])
         self.assertEqual((found["symbolOf"], found["references"], found["links"]), (["A"], 1, 0))
-        self.assertEqual((found["signature"], found["typed"]), ("MATCH_MP_TAC th", ["INFINITY_AX"]))
-        self.assertEqual(found["searched"], [["INFINITY_AX", "|- ?f:ind->ind. ONE_ONE f /\\ ~ONTO f"]])
-        self.assertEqual(found["unknown"], 0)
+        self.assertEqual((found["signature"], found["searched"]), ("MATCH_MP_TAC th", [["INFINITY_AX"], ["SELECT_AX"]]))
+        self.assertEqual((found["typed"], found["unknown"]), (["INFINITY_AX", "SELECT_AX", [13, 20, "∀"]], 0))
         self.assertIn("The bridge holls doesn't run", found["shown"][0])
 
 

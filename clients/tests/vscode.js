@@ -4,11 +4,13 @@
 const Module = require('module');
 const path = require('path');
 
+const SECONDS = 240;
 const [command, text] = [JSON.parse(process.env.COMMAND), process.env.TEXT];
 const providers = {};
 const events = {};
 const shown = [];
 let settings = { command };
+let query = 'infinity';
 
 class Position { constructor(line, character) { Object.assign(this, { line, character }); } }
 class Range {
@@ -27,14 +29,17 @@ const on = (name) => (listener) => { events[name] = listener; return { dispose()
 const found = new Map();
 const file = {
   languageId: 'hol', version: 1, uri: Uri.parse('file:///A.hol'), text,
-  getText() { return this.text; },
+  getText() { return this.text; }, lineAt(line) { return { text: this.text.split('\n')[line] }; },
 };
 const goals = { document: { uri: Uri.parse('hol-goals:goals'), languageId: 'plaintext' } };
-const results = {};
+const results = { searched: [] };
 const typed = [];
 const editor = {
   document: file, setDecorations: (kind, ranges) => { results.unknown = ranges.length; },
-  edit: async (work) => work({ insert: (position, text) => typed.push(text) }), selection: { active: new Position(1, 2) }, visibleRanges: [new Range(0, 0, 9, 0)],
+  edit: async (work) => work({
+    insert: (position, text) => typed.push(text), replace: (range, text) => typed.push([range.start.character, range.end.character, text]),
+  }),
+  selection: { active: new Position(1, 2) }, visibleRanges: [new Range(0, 0, 9, 0)],
 };
 
 const vscode = {
@@ -63,8 +68,8 @@ const vscode = {
   },
   window: {
     activeTextEditor: editor, visibleTextEditors: [editor, goals], showTextDocument: async () => goals,
-    createTextEditorDecorationType: () => ({}), showInputBox: async () => 'infinity',
-    showQuickPick: async (items) => { results.searched = items.map((one) => [one.label, one.detail]); return items[0]; },
+    createTextEditorDecorationType: () => ({}), showInputBox: async () => query,
+    showQuickPick: async (items) => { results.searched.push(items.map((one) => one.label)); return items[0]; },
     showErrorMessage: (message) => shown.push(message), onDidChangeTextEditorSelection: on('selection'),
     onDidChangeTextEditorVisibleRanges: on('visible'), onDidChangeActiveTextEditor: on('active'),
   },
@@ -76,9 +81,9 @@ Module._load = (name, ...rest) => (name === 'vscode' ? vscode : load(name, ...re
 const extension = require(path.join(__dirname, '..', 'vscode', 'extension.js'));
 
 async function until(holds) {
-  const end = Date.now() + 30000;
+  const end = Date.now() + SECONDS * 1000;
   while (!holds()) {
-    if (Date.now() > end) throw new Error(`not within 30 seconds: ${holds}`);
+    if (Date.now() > end) throw new Error(`not within ${SECONDS} seconds: ${holds}`);
     await new Promise((go) => setTimeout(go, 20));
   }
 }
@@ -108,6 +113,13 @@ async function run() {
   events.change({ document: file, contentChanges: [{ range: new Range(3, 0, 3, 0), text: 'e MATCH_MP_TAC ' }] });
   results.signature = (await providers.signature.provideSignatureHelp(file, new Position(3, 15))).signatures[0].label;
   await providers['holls.search']();
+  query = '_ ==> P (_)';
+  await providers['holls.searchConclusions']();
+  settings.symbols = true;
+  file.version = 4;
+  file.text = 'g A `p /\\and \\forall ';
+  for (const at of [12, 20]) events.change({ document: file, contentChanges: [{ range: new Range(0, at, 0, at), text: ' ' }] });
+  await until(() => results.unknown === 0);
   results.typed = typed;
   extension.deactivate();
   settings = { command: ['/nowhere/holls'] };

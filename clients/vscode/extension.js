@@ -9,6 +9,9 @@ const { Bridge } = require('./bridge.js');
 const LANGUAGE = 'hol';
 const GOALS = vscode.Uri.parse('hol-goals:goals');
 const SEEN_MILLISECONDS = 50;
+const SYMBOLS = {
+  forall: '∀', exists: '∃', unique: '∃!', lambda: 'λ', select: 'ε', and: '∧', or: '∨', not: '¬', implies: '⇒', iff: '⇔', to: '→',
+};
 
 let bridge = null;
 let diagnostics = null;
@@ -85,6 +88,21 @@ function changed(event) {
       textDocument: { uri: event.document.uri.toString(), version: event.document.version },
       contentChanges: event.contentChanges.map(({ range: { start, end }, text }) => ({ range: { start, end }, text })),
     });
+    putSymbol(event);
+  }
+}
+
+// With the setting `holls.symbols`, \forall and the like become symbols once the next character is typed.
+function putSymbol(event) {
+  const editor = vscode.window.activeTextEditor;
+  const isSet = vscode.workspace.getConfiguration('holls').get('symbols');
+  if (!isSet || !editor || editor.document !== event.document || event.contentChanges.length !== 1) return;
+  const [{ range: { start }, text }] = event.contentChanges;
+  if (!/^[^\w']$/.test(text)) return;
+  const found = /(?:^|[^/\\])\\([a-z]+)$/.exec(event.document.lineAt(start.line).text.slice(0, start.character));
+  if (found && Object.prototype.hasOwnProperty.call(SYMBOLS, found[1])) {
+    const first = start.character - found[1].length - 1;
+    editor.edit((edit) => edit.replace(new vscode.Range(start.line, first, start.line, start.character), SYMBOLS[found[1]]));
   }
 }
 
@@ -128,13 +146,13 @@ function showUnknown() {
   }
 }
 
-// Finds theorems; the one that is chosen is shown, or where it is the prelude's, its name is put in.
-async function search() {
+// Finds theorems, perhaps by what they conclude alone; the one that is chosen is shown, or where it is the prelude's, its name is put in.
+async function search(conclusion) {
   const query = await vscode.window.showInputBox({ prompt: 'Parts of names, or a pattern such as _ /\\ _ ==> _' });
   if (!query || !bridge) return;
   let found = [];
   try {
-    found = await bridge.request('hol/search', { query });
+    found = await bridge.request('hol/search', { query, conclusion });
   } catch (error) {
     vscode.window.showErrorMessage(error.message);
     return;
@@ -264,7 +282,8 @@ function register() {
     window.onDidChangeTextEditorVisibleRanges(seen),
     window.onDidChangeActiveTextEditor(() => { showUnknown(); seen(); }),
     commands.registerCommand('holls.goals', openGoals),
-    commands.registerCommand('holls.search', search),
+    commands.registerCommand('holls.search', () => search(false)),
+    commands.registerCommand('holls.searchConclusions', () => search(true)),
     commands.registerCommand('holls.restart', restart),
   ];
 }

@@ -135,12 +135,13 @@ function M.restart()
   end
 end
 
--- Finds theorems by parts of names or by a pattern of what they state; the quickfix list takes them, the best first.
-function M.search(query)
+-- Finds theorems by parts of names or by a pattern of what they state, or of what they conclude alone; the quickfix list takes them, the
+-- best first.
+function M.search(query, conclusion)
   if not client() then
     return
   end
-  client().request('hol/search', { query = query }, function(failure, result)
+  client().request('hol/search', { query = query, conclusion = conclusion }, function(failure, result)
     if failure then
       vim.notify((failure.message or 'no answer'):gsub('^.*: ', ''), vim.log.levels.WARN)
       return
@@ -246,7 +247,7 @@ function M.attach()
   vim.api.nvim_create_autocmd('QuitPre', { group = group, buffer = buffer, callback = close_with_last })
   vim.api.nvim_create_autocmd({ 'CursorHold', 'BufEnter', 'WinScrolled' }, { group = group, buffer = buffer, callback = M.tell_view })
   vim.api.nvim_buf_create_user_command(buffer, 'HolGoals', M.toggle, {})
-  vim.api.nvim_buf_create_user_command(buffer, 'HolSearch', function(given) M.search(given.args) end, { nargs = '+' })
+  vim.api.nvim_buf_create_user_command(buffer, 'HolSearch', function(given) M.search(given.args, given.bang) end, { nargs = '+', bang = true })
   vim.api.nvim_buf_create_user_command(buffer, 'HolRestart', function()
     if client() then M.restart() else M.attach() end
   end, {})
