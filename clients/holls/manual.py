@@ -39,7 +39,7 @@ DISCH_TAC | Of `p ==> q`, or `~p`, leaves `q`, or `F`, with `p` assumed.
 GEN_TAC | Of `!x. p` leaves `p` at a fresh variable.
 X_GEN_TAC `v` | Of `!x. p` leaves `p` at v, a variable of x's type that is free nowhere in the goal.
 EXISTS_TAC `t` | Of `?x. p` leaves `p` at t, a term of x's type.
-SPEC_TAC (`t`, `x`) | Leaves `!x.` the conclusion with x for each t; x is a variable of t's type that isn't free there.
+SPEC_TAC (`t`, `x`) | Leaves `!x.` the conclusion with x for each t; x is a variable of t's type that isn't free there, unless it is t.
 MP_TAC th | Of any goal `w` leaves `c ==> w`, c being what the theorem concludes.
 ASSUME_TAC th | Leaves the goal with what the theorem concludes assumed.
 CONTR_TAC th | Closes any goal by a theorem that concludes `F`.
@@ -53,13 +53,13 @@ MK_COMB_TAC | Of `f x = g y`, f and g of one type, leaves `f = g`, then `x = y`.
 UNDISCH_TAC `p` | Takes the newest assumption that is p out, and leaves `p ==> w` of the conclusion `w`.
 STRIP_ASSUME_TAC th | Assumes the parts of what the theorem concludes: both of a `/\`, a witness of a `?`, a goal for each side of a `\/`.
 STRIP_TAC | Does what GEN_TAC or CONJ_TAC does; of `p ==> q`, or `~p`, leaves `q`, or `F`, with the parts of `p` assumed.
-MATCH_MP_TAC th | By a theorem `!xs. s ==> t` whose t matches the goal leaves `s` at the instance; matching is first order.
+MATCH_MP_TAC th | By a theorem `!xs. s ==> t` whose t matches the goal leaves `s` at the instance, under `?` for variables that t lacks; matching is first order.
 BETA_TAC | Reduces each `(\x. b) a` of the conclusion; closes the goal where that is `T`.
 REWRITE_TAC [th; ..] | Rewrites the conclusion by the theorems and the basic rewrites until no rule matches; closes the goal where that is `T`.
-ASM_REWRITE_TAC [th; ..] | Rewrites the conclusion by the theorems, the assumptions and the basic rewrites until no rule matches.
-PURE_REWRITE_TAC [th; ..] | Rewrites the conclusion by the theorems alone until no rule matches.
-ONCE_REWRITE_TAC [th; ..] | Replaces each topmost part of the conclusion that a theorem or a basic rewrite matches, once.
-ONCE_ASM_REWRITE_TAC [th; ..] | Replaces each topmost part of the conclusion that a theorem, an assumption or a basic rewrite matches, once.
+ASM_REWRITE_TAC [th; ..] | Does what REWRITE_TAC does, by the assumptions too, which come before the basic rewrites.
+PURE_REWRITE_TAC [th; ..] | Rewrites the conclusion by the theorems alone until no rule matches; closes the goal where that is `T`.
+ONCE_REWRITE_TAC [th; ..] | Replaces each topmost part of the conclusion that a theorem or a basic rewrite matches, once; closes the goal where that gives `T`.
+ONCE_ASM_REWRITE_TAC [th; ..] | Does what ONCE_REWRITE_TAC does, by the assumptions too, which come before the basic rewrites.
 """)
 """The functions on goals."""
 

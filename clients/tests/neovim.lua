@@ -3,7 +3,7 @@ local results = {}
 local folder = vim.env.FOLDER
 local seconds = 240
 
-vim.g.holls = { command = { vim.env.PYTHON, vim.env.HOLLS, 'lsp', '--server', vim.env.SERVER } }
+vim.g.holls = { command = { vim.env.PYTHON, '-I', '-S', vim.env.HOLLS, 'lsp', '--server', vim.env.SERVER } }
 vim.cmd('filetype plugin on')
 
 local function said(buffer)

@@ -5,14 +5,13 @@ import os
 import pathlib
 import pty
 import subprocess
-import sys
 import tempfile
 import threading
 import unittest
 
 from holls import checking
 from holls.files import File
-from tests.helpers import BUILT, HOLLS, ROOT, SECONDS, fake, proofs
+from tests.helpers import BUILT, HOLLS, PYTHON, ROOT, SECONDS, fake, proofs
 
 
 class Checking(unittest.TestCase):
@@ -27,7 +26,7 @@ class Checking(unittest.TestCase):
             (self.folder / name).write_bytes(content if isinstance(content, bytes) else content.encode())
         program = fake(self.folder, *server)
         done = subprocess.run(
-            [sys.executable, str(HOLLS), "check", "--server", program, *words, *files], cwd=self.folder, capture_output=True, timeout=SECONDS)
+            [*PYTHON, str(HOLLS), "check", "--server", program, *words, *files], cwd=self.folder, capture_output=True, timeout=SECONDS)
         self.assertNotIn(b"Traceback", done.stderr + done.stdout)
         return done.returncode, done.stdout.decode(), done.stderr.decode()
 
@@ -132,7 +131,7 @@ class Checking(unittest.TestCase):
         (self.folder / "two" / "hol-project.json").write_text("{}")
         (self.folder / "two" / "B.hol").write_text("import A;;\n" + proofs(1).replace("N0", "M"))
         program = fake(self.folder)
-        done = subprocess.run([sys.executable, str(HOLLS), "check", "--server", program, "."], cwd=self.folder, capture_output=True, timeout=SECONDS)
+        done = subprocess.run([*PYTHON, str(HOLLS), "check", "--server", program, "."], cwd=self.folder, capture_output=True, timeout=SECONDS)
         self.assertEqual((done.returncode, done.stdout.decode().splitlines()), (0, [
             "./one/A.hol: 4 commands, 1 theorem, all accepted", "./two/deep/A.hol: 4 commands, 1 theorem, all accepted",
             "./two/B.hol: 5 commands, 1 theorem, all accepted"]))
@@ -142,7 +141,7 @@ class Checking(unittest.TestCase):
         program, (ours, theirs), shown = fake(self.folder), pty.openpty(), []
         reader = threading.Thread(target=lambda: shown.extend(iter(lambda: _read(ours), b"")), daemon=True)
         reader.start()
-        words = [sys.executable, str(HOLLS), "check", "--server", program, "A.hol"]
+        words = [*PYTHON, str(HOLLS), "check", "--server", program, "A.hol"]
         with subprocess.Popen(words, cwd=self.folder, stdout=subprocess.PIPE, stderr=theirs) as process:
             output = process.stdout.read().decode()
         os.close(theirs)
@@ -188,7 +187,7 @@ class Scheduling(unittest.TestCase):
 class Examples(unittest.TestCase):
     def test_the_first_examples_check(self):
         files = [str(ROOT / "examples" / "theories" / (name + ".hol")) for name in ("first", "functions", "tacticals")]
-        done = subprocess.run([sys.executable, str(HOLLS), "check", "--server", str(BUILT), "--axioms", *files], capture_output=True, timeout=SECONDS)
+        done = subprocess.run([*PYTHON, str(HOLLS), "check", "--server", str(BUILT), "--axioms", *files], capture_output=True, timeout=SECONDS)
         self.assertEqual((done.returncode, done.stderr), (0, b""), done.stdout.decode())
 
 

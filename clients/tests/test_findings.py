@@ -97,6 +97,33 @@ class WhileReportsCome(unittest.TestCase):
         self.assertEqual(unknown(file), [places[0] + (False,), places[2] + (True,), places[3] + (False,)])
 
 
+class WhereLittleIsKnown(unittest.TestCase):
+    """What follows from a command of which nothing is known, or that isn't sent, isn't told as an error."""
+
+    def said(self, file):
+        return [(file.lines.line(finding.start) + 1, finding.text.split(":")[0]) for finding in findings(file)]
+
+    def test_behind_a_command_that_was_lost(self):
+        file = taken("g A `x = x`;;\ne REFL_TAC;;\nqed;;\ng B `x = x`;;\ne REFL_TAC;;\nqed;;\n")
+        for entry, report in zip(file.theory.entries, reports(file)):
+            entry.report = report
+        file.entry(2).report = protocol.Lost("hol_serve ended")
+        self.assertEqual(self.said(file), [(3, "nothing is known of this command")])
+
+    def test_behind_a_command_that_is_too_long_to_be_sent(self):
+        file = taken("g A `%s`;;\ne REFL_TAC;;\nqed;;\ng B `p = q`;;\ne REFL_TAC;;\n" % ("x" * protocol.LINE_BYTES))
+        for entry, report in zip(file.theory.entries, reports(file)):
+            entry.report = report
+        self.assertEqual(self.said(file), [(1, "this command is too long"), (5, "REFL_TAC doesn't fit the first goal")])
+
+    def test_behind_the_last_command_that_is_sent(self):
+        file = taken(proofs(249) + "g A `x = x`;;\n" + "e ALL_TAC;;\n" * 5 + "e REFL_TAC;;\nqed;;\n")
+        self.assertEqual(len(file.theory.entries), 1000)
+        for entry, report in zip(file.theory.entries, reports(file)):
+            entry.report = report
+        self.assertEqual(self.said(file), [(1250, "a theory has at most 1000 commands")])
+
+
 class OneFailureHidesNoOther(unittest.TestCase):
     def said(self, text):
         file = taken(text)

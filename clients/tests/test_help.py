@@ -4,7 +4,7 @@ import unittest
 
 from holls.files import File
 from holls.lsp import helping
-from holls.protocol import Goals, Made, Refusal
+from holls.protocol import Goals, Lost, Made, Refusal
 from tests.test_findings import reports, taken
 
 
@@ -48,6 +48,10 @@ class Actions(unittest.TestCase):
         self.assertEqual(text, "g A `x = x`;;\ne REFL_TAC;;\noops;;\ng B `x = x`;; oops;;")
         titles, text = fixed("g A `x = x`;; qed;;")
         self.assertEqual((titles, text), (["Give the proof up by oops"], "g A `x = x`;; oops;;"))
+
+    def test_nothing_is_offered_where_nothing_is_known(self):
+        self.assertEqual(refused("g A `p`;; e ALL_TAC;; oops;;", 1, Lost("hol_serve ended"))[0], [])
+        self.assertEqual(fixed("g A `p`;; e SUBST_TAC [];; oops;;")[0], [])
 
     def test_the_name_that_was_meant(self):
         self.assertEqual(fixed("g A `x = x`;; e RELF_TAC;; oops;;"), (["Replace by REFL_TAC"], "g A `x = x`;; e REFL_TAC;; oops;;"))

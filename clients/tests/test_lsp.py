@@ -6,7 +6,6 @@ import queue
 import random
 import re
 import subprocess
-import sys
 import tempfile
 import threading
 import time
@@ -14,7 +13,7 @@ import unittest
 
 from holls.lsp import wire
 from tests.fake_server import Documents
-from tests.helpers import HOLLS, SECONDS, fake, proofs
+from tests.helpers import HOLLS, PYTHON, SECONDS, fake, proofs
 
 
 class Editor:
@@ -22,7 +21,7 @@ class Editor:
 
     def __init__(self, program, *words):
         self.process = subprocess.Popen(
-            [sys.executable, str(HOLLS), "lsp", "--server", program, *words], stdin=subprocess.PIPE, stdout=subprocess.PIPE,
+            [*PYTHON, str(HOLLS), "lsp", "--server", program, *words], stdin=subprocess.PIPE, stdout=subprocess.PIPE,
             stderr=subprocess.PIPE)
         self.messages, self.numbers = queue.Queue(), 0
         self.published, self.versions, self.shown, self.progress, self.unknown = {}, {}, [], [], {}

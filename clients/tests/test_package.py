@@ -3,13 +3,12 @@
 import json
 import pathlib
 import subprocess
-import sys
 import tempfile
 import unittest
 import xml.dom.minidom
 import zipfile
 
-from tests.helpers import CLIENTS, SECONDS
+from tests.helpers import CLIENTS, PYTHON, SECONDS
 
 
 class Package(unittest.TestCase):
@@ -18,7 +17,7 @@ class Package(unittest.TestCase):
             folder = pathlib.Path(name)
             made = [folder / "one.vsix", folder / "two.vsix"]
             for target in made:
-                subprocess.run([sys.executable, str(CLIENTS / "vscode" / "package"), str(target)], check=True, capture_output=True, timeout=SECONDS)
+                subprocess.run([*PYTHON, str(CLIENTS / "vscode" / "package"), str(target)], check=True, capture_output=True, timeout=SECONDS)
             self.assertEqual(made[0].read_bytes(), made[1].read_bytes())
             with zipfile.ZipFile(made[0]) as package:
                 for page in ("[Content_Types].xml", "extension.vsixmanifest"):
@@ -29,7 +28,7 @@ class Package(unittest.TestCase):
                 for grammar in about["contributes"]["grammars"]:
                     self.assertIn("extension/" + grammar["path"][2:], inside)
                 package.extractall(folder)
-            words = [sys.executable, str(folder / "extension" / "bin" / "holls"), "check", "--help"]
+            words = [*PYTHON, str(folder / "extension" / "bin" / "holls"), "check", "--help"]
             self.assertIn(b"--no-axioms", subprocess.run(words, capture_output=True, timeout=SECONDS, check=True).stdout)
 
 

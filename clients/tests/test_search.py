@@ -3,14 +3,13 @@
 import pathlib
 import random
 import subprocess
-import sys
 import tempfile
 import time
 import unittest
 
 from holls import search, terms
 from holls.names import CONSTANT, PRELUDE, THEOREM, Known
-from tests.helpers import HOLLS, SECONDS, fake
+from tests.helpers import HOLLS, PYTHON, SECONDS, fake
 
 NAMED = {
     "ADD_SYM": r"!x y. add x y = add y x", "ADD_ASSOC": r"!x y z. add x (add y z) = add (add x y) z", "LEFT": r"!p q. p /\ q ==> p",
@@ -92,7 +91,7 @@ class AsAProgram(unittest.TestCase):
             (folder / "A.hol").write_text("g ONE_THM `x = x`;;\ne REFL_TAC;; qed;;\ng LOST_THM `p`;; e REFL_TAC;; qed;;\n")
             (folder / "B.hol").write_text("import A;;\ng TWO_THM `y = y`;; e REFL_TAC;; qed;;\n")
             program = fake(folder)
-            ask = [sys.executable, str(HOLLS), "search"]
+            ask = [*PYTHON, str(HOLLS), "search"]
             done = subprocess.run(ask + ["--server", program, "thm"], cwd=folder, capture_output=True, timeout=SECONDS)
             self.assertEqual((done.returncode, done.stdout.decode().splitlines()), (
                 0, ["./A.hol:1: ONE_THM |- x = x", "./B.hol:2: TWO_THM |- y = y"]))

@@ -5,11 +5,10 @@ import os
 import pathlib
 import shutil
 import subprocess
-import sys
 import tempfile
 import unittest
 
-from tests.helpers import CLIENTS, HOLLS, SECONDS, fake
+from tests.helpers import CLIENTS, HOLLS, PYTHON, SECONDS, fake
 
 NODE = shutil.which("node")
 
@@ -19,7 +18,7 @@ class InVSCode(unittest.TestCase):
     def test_what_a_user_does(self):
         with tempfile.TemporaryDirectory() as name:
             program = fake(pathlib.Path(name))
-            command = [sys.executable, str(HOLLS), "lsp", "--server", program]
+            command = [*PYTHON, str(HOLLS), "lsp", "--server", program]
             given = dict(os.environ, COMMAND=json.dumps(command), TEXT="g A `p /\\ q`;;\ne CONJ_TAC;;\ne FOO_TAC;;\n")
             done = subprocess.run([NODE, str(CLIENTS / "tests" / "vscode.js")], env=given, capture_output=True, timeout=SECONDS)
         self.assertEqual(done.returncode, 0, done.stderr.decode())
