@@ -158,7 +158,9 @@ async function search(conclusion) {
     return;
   }
   const chosen = await vscode.window.showQuickPick(
-    found.map((one) => ({ label: one.name, description: one.theory, detail: `|- ${one.statement}`, one })), { placeHolder: `${found.length} found` });
+    found.map((one) => ({
+      label: one.name, description: one.isMade ? one.theory : `${one.theory}, not proved or checked yet`, detail: `|- ${one.statement}`, one,
+    })), { placeHolder: `${found.length} found` });
   const editor = vscode.window.activeTextEditor;
   if (chosen && chosen.one.location) {
     const target = await vscode.workspace.openTextDocument(vscode.Uri.parse(chosen.one.location.uri));

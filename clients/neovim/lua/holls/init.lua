@@ -149,10 +149,11 @@ function M.search(query, conclusion)
     local items = {}
     for _, one in ipairs(result) do
       local place = one.location
+      local origin = not place and '  (the prelude)' or not one.isMade and '  (not proved or checked yet)' or ''
       table.insert(items, {
         filename = place and vim.uri_to_fname(place.uri) or nil, lnum = place and place.range.start.line + 1 or nil,
         col = place and place.range.start.character + 1 or nil,
-        text = one.name .. ' |- ' .. one.statement .. (place and '' or '  (the prelude)'),
+        text = one.name .. ' |- ' .. one.statement .. origin,
       })
     end
     vim.fn.setqflist({}, ' ', { title = 'HolSearch ' .. query, items = items })
