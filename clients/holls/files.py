@@ -21,7 +21,8 @@ def theory_name(path: str) -> str:
 class File:
     """A file. Each command has a place in the theory, unless it is too long or one too many.
 
-    `blemishes` come from the file alone, `context` from what stands beside it; with `is_shadowed` another file is its theory.
+    `blemishes` come from the file alone, `context` from what stands beside it; with `is_shadowed` there is no room for it in the server,
+    or another file is its theory.
     `written` is what the module `names` keeps of it.
     """
 

@@ -58,7 +58,8 @@ class Project:
         if found:
             return "the theory %s has several files in this project: %s; rename all but one" % (name, ", ".join(found))
         where = ", ".join(self.folders) + (" and below" if self.has_file else "")
-        return "there is no file %s%s in %s" % (name, SUFFIX, where)
+        cut = "; of its files only %d were looked at" % MOST_FILES if len(self.paths()) >= MOST_FILES else ""
+        return "there is no file %s%s in %s%s" % (name, SUFFIX, where, cut)
 
     def paths(self) -> List[str]:
         """All files of the project."""

@@ -25,7 +25,8 @@ class Editor:
             stderr=subprocess.PIPE)
         self.messages, self.numbers = queue.Queue(), 0
         self.published, self.versions, self.shown, self.progress, self.unknown = {}, {}, [], [], {}
-        threading.Thread(target=self._read, daemon=True).start()
+        self.reader = threading.Thread(target=self._read, daemon=True)
+        self.reader.start()
 
     def _read(self):
         for message in iter(lambda: wire.read(self.process.stdout), None):
@@ -112,6 +113,7 @@ class Editor:
 
     def kill(self):
         self.process.kill()
+        self.reader.join(SECONDS)
         for pipe in (self.process.stdin, self.process.stdout, self.process.stderr):
             try:
                 pipe.close()

@@ -1,7 +1,9 @@
 """Keeping theories in step, and what is kept of what is known: random edits of three files that import one another."""
 
 import json
+import pathlib
 import random
+import tempfile
 import unittest
 
 from holls import protocol
@@ -107,6 +109,17 @@ class InStep(unittest.TestCase):
             workspace.open("file:///F%d.hol" % number, 1, "qed;;")
         self.assertEqual(len(of(workspace)), 64)
         self.assertIn("a server holds 64 theories", workspace.documents["file:///F64.hol"].file.context[0].text)
+
+    def test_a_file_with_more_imports_than_a_server_holds_is_told_so_until_it_has_fewer(self):
+        with tempfile.TemporaryDirectory() as folder:
+            for number in range(64):
+                pathlib.Path(folder, "F%d.hol" % number).write_text("oops;;")
+            workspace, imports = Workspace(), ["import F%d;;" % number for number in range(64)]
+            document = workspace.open(pathlib.Path(folder, "A.hol").as_uri(), 1, "\n".join(imports))
+            self.assertEqual((len(of(workspace)), document.file.is_sent), (64, False))
+            self.assertIn("the open files with those that they import are 65", document.file.context[0].text)
+            workspace.change(document, 2, [{"text": "\n".join(imports[1:])}])
+            self.assertEqual((len(of(workspace)), document.file.is_sent, document.file.context), (64, True, []))
 
 
 if __name__ == "__main__":

@@ -153,7 +153,13 @@ class Workspace:
         def load(file: File, name: str) -> Union[File, str]:
             return self._load(self.projects.of(file.path), name, used)
 
-        found = graph.ordered([file for file in graph.with_imports(own, load) if file.is_sent])[:protocol.THEORIES]
+        found = graph.ordered([file for file in graph.with_imports(own, load) if file.is_sent])
+        for file in found[protocol.THEORIES:]:
+            told = "a server holds %d theories, and the open files with those that they import are %d: close some, or import fewer" % (
+                protocol.THEORIES, len(found))
+            file.is_shadowed = True
+            file.context.append(file.first_line(told))
+        del found[protocol.THEORIES:]
         edits = {file.theory.name: (id(file), file.theory) for file in found}
         for file in found:
             imported = [edits[name] for name in file.theory.imports if name in edits]
@@ -199,4 +205,6 @@ class Workspace:
                     self._loaded[path] = moment, files.read(path, stream.read())
             except OSError as error:
                 return "%s can't be read: %s" % (path, error.strerror or error)
-        return self._loaded[path][1]
+        file = self._loaded[path][1]
+        file.is_shadowed = False
+        return file
