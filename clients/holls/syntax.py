@@ -120,5 +120,6 @@ def _rule(text: str, place: int, before: List[str]) -> Optional[Told]:
         return None
     start = text.rindex(name, 0, place)
     instead = notation.RULES_ELSEWHERE.get(name)
-    hint = "; in its place: %s" % instead if instead else ""
+    hint = "; in its place: %s" % instead if instead else "" if name in notation.RULES_ELSEWHERE or before[-2] == "(" else (
+        "; theorems in a list stand apart by `;`")
     return start, start + len(name), "`%s` is none of the forward rules, which are %s%s" % (name, ", ".join(notation.FORWARD), hint)

@@ -53,6 +53,8 @@ def explain(text: str, refusal: Refusal, opened: Optional[str] = None) -> Told:
     elif number == protocol.NAME_TAKEN:
         twice = " or is made twice here" if text.split().count(refusal.argument.split(":")[-1]) > 1 else ""
         words = "%s stands already%s: choose another name" % (_key(refusal.argument), twice)
+    elif number == protocol.IMPORT_CLASH:
+        words = _FIXED[number] % _key(refusal.argument)
     elif text.startswith(_TYPE_DEFINITION) and number in _OF_TYPE_DEFINITIONS:
         words = _OF_TYPE_DEFINITIONS[number] % refusal.argument
     else:

@@ -26,6 +26,12 @@ class OfDefinitions(unittest.TestCase):
         self.assertIn("has to be closed", said(text, 11, "y"))
 
 
+class OfImports(unittest.TestCase):
+    def test_a_clash_says_what_of_which_kind(self):
+        self.assertIn("gives the theorem TH another value", said("import A", 21, "thm:TH"))
+        self.assertIn("gives the constant c another value", said("import A", 21, "const:c"))
+
+
 class OfSlips(unittest.TestCase):
     """What is said of what people write by mistake, and where it is marked."""
 
@@ -52,6 +58,7 @@ class OfSlips(unittest.TestCase):
         self.assertIn("ASM_REWRITE_TAC rewrites", said("e ASM_SIMP_TAC []", 6, "ASM_SIMP_TAC"))
         word, words = self.marked("e REWRITE_TAC[GSYM FOO]", 1, "19")
         self.assertEqual((word, "is none of the forward rules" in words, "(SYM (SPEC" in words), ("GSYM", True, True))
+        self.assertIn("stand apart by `;`", said("e REWRITE_TAC [ONE TWO]", 1, "19"))
         self.assertIn("did you mean REWRITE_TAC?", said("e REWRIT_TAC []", 6, "REWRIT_TAC"))
         self.assertIn("begins with e", said("CONJ_TAC", 1, "0"))
         self.assertIn("did you mean qed?", said("qedx", 1, "0"))
