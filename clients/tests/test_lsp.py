@@ -25,6 +25,7 @@ class Editor:
             stderr=subprocess.PIPE)
         self.messages, self.numbers = queue.Queue(), 0
         self.published, self.versions, self.shown, self.progress, self.unknown = {}, {}, [], [], {}
+        self.ever_said, self.ever_unknown = [], []
         self.reader = threading.Thread(target=self._read, daemon=True)
         self.reader.start()
 
@@ -44,12 +45,14 @@ class Editor:
         if message.get("method") == "textDocument/publishDiagnostics":
             params = message["params"]
             self.published[params["uri"]], self.versions[params["uri"]] = params["diagnostics"], params.get("version")
+            self.ever_said += params["diagnostics"]
         elif message.get("method") == "window/showMessage":
             self.shown.append(message["params"]["message"])
         elif message.get("method") == "window/logMessage":
             raise AssertionError(message["params"]["message"])
         elif message.get("method") == "$/hol/fileProgress":
             self.unknown[message["params"]["textDocument"]["uri"]] = message["params"]["processing"]
+            self.ever_unknown += message["params"]["processing"]
         elif message.get("method") == "$/progress":
             self.progress.append(message["params"]["value"]["kind"])
         return message
@@ -168,6 +171,14 @@ class Bridging(unittest.TestCase):
         editor.change(self.uri, 3, "ALL", ((251, 2), (251, 4)))
         editor.until(lambda: editor.said(self.uri) == [])
         self.assertEqual(editor.versions[self.uri], 3)
+
+    def test_nothing_is_said_of_a_correct_file_at_any_time_but_what_is_not_known(self):
+        editor = self.editor()
+        editor.open(self.uri, proofs(3) + "g S `x = x`;;\ne SLOW_TAC;;\ne REFL_TAC;;\nqed;;\n" + proofs(3).replace("N", "M"))
+        editor.until(lambda: self.uri in editor.published and editor.unknown.get(self.uri) == [])
+        self.assertEqual(editor.ever_said, [])
+        self.assertTrue(editor.ever_unknown)
+        self.assertEqual(editor.end(), 0)
 
     def test_a_failed_goal_behind_an_open_proof_shows_none_of_its_goals(self):
         editor = self.editor()
