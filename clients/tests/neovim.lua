@@ -59,6 +59,10 @@ local function run()
   vim.cmd('HolSearch eta')
   results.search = { reached = vim.wait(seconds * 1000, function() return #vim.fn.getqflist() > 0 end, 20), said = {} }
   results.found = vim.fn.getqflist()[1].text
+  vim.fn.setqflist({}, 'r')
+  vim.cmd('HolSearch! _ ==> P (_)')
+  results.conclusions = { reached = vim.wait(seconds * 1000, function() return #vim.fn.getqflist() > 0 end, 20), said = {} }
+  results.concluded = vim.tbl_map(function(one) return one.text:match('^%S+') end, vim.fn.getqflist())
   vim.cmd('cclose')
 
   local paste = {}

@@ -29,6 +29,7 @@ class InNeovim(unittest.TestCase):
         window = found.pop("window")
         self.assertTrue(window.startswith("goal 1 of 2\n  p : bool\n"), window)
         self.assertEqual(found.pop("found"), "ETA_AX |- !t:A->B. (\\x. t x) = t  (the prelude)")
+        self.assertEqual(found.pop("concluded"), ["SELECT_AX"])
         for step, seen in found.items():
             self.assertTrue(seen["reached"], (step, seen["said"]))
         places = [said[:2] for said in found["six things to say"]["said"]]

@@ -213,7 +213,7 @@ end
 function M.detach()
   local buffer = vim.api.nvim_get_current_buf()
   pcall(vim.api.nvim_del_augroup_by_name, 'holls_' .. buffer)
-  for _, name in ipairs({ 'HolGoals', 'HolSearch', 'HolRestart' }) do
+  for _, name in ipairs({ 'HolGoals', 'HolRestart' }) do
     pcall(vim.api.nvim_buf_del_user_command, buffer, name)
   end
   vim.api.nvim_buf_clear_namespace(buffer, unknown, 0, -1)
@@ -248,7 +248,8 @@ function M.attach()
   vim.api.nvim_create_autocmd('QuitPre', { group = group, buffer = buffer, callback = close_with_last })
   vim.api.nvim_create_autocmd({ 'CursorHold', 'BufEnter', 'WinScrolled' }, { group = group, buffer = buffer, callback = M.tell_view })
   vim.api.nvim_buf_create_user_command(buffer, 'HolGoals', M.toggle, {})
-  vim.api.nvim_buf_create_user_command(buffer, 'HolSearch', function(given) M.search(given.args, given.bang) end, { nargs = '+', bang = true })
+  -- Of all buffers, so that one may search again from the list of what was found.
+  vim.api.nvim_create_user_command('HolSearch', function(given) M.search(given.args, given.bang) end, { nargs = '+', bang = true })
   vim.api.nvim_buf_create_user_command(buffer, 'HolRestart', function()
     if client() then M.restart() else M.attach() end
   end, {})
