@@ -146,6 +146,16 @@ class InAProject(unittest.TestCase):
         links = self.navigation.links(self.document, self.files)
         self.assertEqual([(one["range"]["start"], one["target"][-5:]) for one in links], [({"line": 0, "character": 7}, "B.hol")])
 
+    def test_searching_finds_what_stands_in_all_files_and_its_statements_are_read_ahead(self):
+        self.assertEqual(len(list(self.navigation.reading([self.files]))), 7)  # Of A two, of B three, of C and OTHER one each.
+        found = self.navigation.search("x = x /\\ _", False, [self.files])
+        self.assertEqual([(one["name"], one["theory"], one["isMade"]) for one in found], [("ONCE", "A", True)])
+        self.assertEqual(found[0]["location"]["range"]["start"], {"line": 1, "character": 2})
+        found = self.navigation.search("d x = c x", False, [self.files])
+        self.assertEqual([(one["name"], one["isMade"]) for one in found], [("D_DEF", False)])
+        found = self.navigation.search("else", False, [self.files])
+        self.assertEqual([(one["name"], one["isMade"]) for one in found], [("ELSE", False)])
+
 
 class TypesOfVariables(unittest.TestCase):
     def asked(self, text, at):
