@@ -1,4 +1,4 @@
-"""The command line: `holls check FILE..` and `holls lsp`."""
+"""The command line: `holls check FILE..`, `holls search QUERY..` and `holls lsp`."""
 
 from __future__ import annotations
 
@@ -6,7 +6,7 @@ import argparse
 import os
 import sys
 
-from holls import check
+from holls import check, searching
 
 
 def main() -> int:
@@ -14,6 +14,7 @@ def main() -> int:
     words = argparse.ArgumentParser(prog="holls", description="Checks files of hol-serve's commands, and serves editors.")
     kinds = words.add_subparsers(dest="kind", metavar="COMMAND", required=True)
     check.add_words(kinds.add_parser("check", help="check files: status 0 where all is proved"))
+    searching.add_words(kinds.add_parser("search", help="find theorems by name and by what they state"))
     bridge = kinds.add_parser("lsp", help="speak the Language Server Protocol on standard input and output")
     bridge.add_argument("--server", metavar="PROGRAM", help="the program hol_serve")
     bridge.add_argument("--seconds", type=int, default=120, help="how long one command may take (120)")
@@ -21,6 +22,8 @@ def main() -> int:
     sys.stdout.reconfigure(errors="backslashreplace")
     if given.kind == "check":
         return check.main(given)
+    if given.kind == "search":
+        return searching.main(given)
     from holls.lsp import bridge as editor
     return editor.main(given)
 

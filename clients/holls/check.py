@@ -4,40 +4,34 @@ from __future__ import annotations
 
 import argparse
 import json
-import queue
+import os
 import sys
-from dataclasses import dataclass
-from typing import Callable, Dict, List, Optional, Tuple
+import time
+from typing import Dict, List, Sequence, Union
 
-from holls import graph, protocol, server, words
+from holls import checking, files, graph, server, words
+from holls.checking import Basis, Unit
 from holls.files import File
 from holls.findings import Finding, Severity, findings
+from holls.projects import SUFFIX, Projects
 from holls.protocol import Made
-from holls.session import Session
-from holls.sweep import Sweep, is_known
-from holls.text import Blemish
 
 FAILED, BROKEN = 1, 2
+PROGRESS_SECONDS = 0.2
+AXIOM = "axiom:"
 
 
 class CannotCheck(Exception):
     """Why nothing can be checked: no file, no server, bad words."""
 
 
-@dataclass(frozen=True)
-class Basis:
-    """On what a theorem rests, with its line."""
-
-    line: int
-    theorem: str
-    items: Tuple[str, ...]
-
-
 def add_words(parser: argparse.ArgumentParser) -> None:
     """The words of the command line."""
-    parser.add_argument("files", nargs="+", metavar="FILE", help="a file of commands, NAME.hol")
+    parser.add_argument("files", nargs="+", metavar="FILE", help="a file of commands, NAME.hol, or a folder: all such files in it and below")
     parser.add_argument("--server", metavar="PROGRAM", help="the program hol_serve")
     parser.add_argument("--axioms", action="store_true", help="also list on which axioms and definitions each theorem rests")
+    parser.add_argument("--no-axioms", action="store_true", help="take it for an error that a theorem rests on an axiom of a file")
+    parser.add_argument("--allow-axiom", action="append", default=[], metavar="NAME", help="but not on this one; may be given again")
     parser.add_argument("--json", action="store_true", help="one JSON object a line")
     parser.add_argument("--seconds", type=int, default=120, help="how long one command may take (120)")
 
@@ -45,153 +39,187 @@ def add_words(parser: argparse.ArgumentParser) -> None:
 def main(given: argparse.Namespace) -> int:
     """Checks the files: 0 where all commands are accepted and no proof is open, 1 where not, 2 where nothing can be checked."""
     try:
-        files = graph.ordered(graph.with_imports([_read(path) for path in _distinct(given.files)], _read_if_there))
-        failures, bases = _check(files, given)
+        units = checking.units(ordered(given.files))
+        program = server.find(given.server)
     except (CannotCheck, server.NoServer) as error:
         print("holls: %s" % error, file=sys.stderr)
         return BROKEN
-    show = _show_json if given.json else _show
-    wrong = sum([show(file, bases.get(file.path, [])) for file in files])
+    sent = [unit for unit in units if unit.file.is_sent]
+    pool = checking.Pool(sent, program, given.seconds, given.axioms or given.no_axioms)
+    pool.start()
+    shown = _JsonShow(given) if given.json else _Show(given)
+    wrong = 0
+    for unit in units:
+        if unit in sent:
+            _wait(unit, sent)
+        wrong += shown.unit(unit)
+    failures = list(dict.fromkeys(unit.failure for unit in units if unit.failure))
     for failure in failures:
         print("holls: %s" % failure, file=sys.stderr)
     return BROKEN if failures else FAILED if wrong else 0
 
 
-def _distinct(paths: List[str]) -> List[str]:
-    """The paths, each once; two files of one name can't be theories of one server."""
-    names: Dict[str, str] = {}
+def _wait(unit: Unit, units: Sequence[Unit]) -> None:
+    """Until a unit is done, with a line of progress where standard error is a terminal."""
+    is_shown = sys.stderr.isatty()
+    begun = time.monotonic()
+    while not unit.done.wait(PROGRESS_SECONDS):
+        if is_shown and time.monotonic() - begun > PROGRESS_SECONDS:
+            entries = [entry for one in units for entry in one.file.theory.entries if not entry.is_hidden]
+            known = sum(entry.report is not None for entry in entries)
+            done = sum(one.done.is_set() for one in units)
+            line = "%d of %d commands, %d of %d files" % (known, len(entries), done, len(units))
+            sys.stderr.write("\r\x1b[K" + line)
+            sys.stderr.flush()
+    if is_shown:
+        sys.stderr.write("\r\x1b[K")
+        sys.stderr.flush()
+
+
+def ordered(paths: Sequence[str]) -> Dict[str, List[File]]:
+    """By projects, the files that are named and those that they import, each after those that it imports."""
+    projects = Projects()
+    named: Dict[str, List[File]] = {}
+    for path in _distinct(paths):
+        named.setdefault(projects.of(path).root, []).append(read(path))
+    for root, own in named.items():
+        _one_of_each_name(own)
+        project = projects.of(own[0].path)
+        for file in own:
+            file.context += [file.first_line(project.error)] if project.error else []
+
+        def load(_: File, name: str, project=project) -> Union[File, str]:
+            path = project.find(name)
+            if isinstance(path, list):
+                return project.missing(name)
+            try:
+                return read(os.path.relpath(path) if _is_below(path) else path)
+            except CannotCheck as error:
+                return str(error)
+
+        named[root] = graph.ordered(graph.with_imports(own, load))
+    return named
+
+
+def _is_below(path: str) -> bool:
+    """Whether a path lies below the folder that one works in."""
+    return not os.path.relpath(path).startswith("..")
+
+
+def _distinct(paths: Sequence[str]) -> List[str]:
+    """The files that are named, each once, and those in the folders."""
+    found: Dict[str, str] = {}
     for path in paths:
-        name = File(path).theory.name
-        if names.setdefault(name, path) != path:
-            raise CannotCheck("%s and %s are both the theory %s: check them one by one" % (names[name], path, name))
-    return list(names.values())
+        below = [path]
+        if os.path.isdir(path):
+            below = sorted(os.path.join(folder, name) for folder, _, names in os.walk(path) for name in names if name.endswith(SUFFIX))
+            if not below:
+                raise CannotCheck("no file NAME%s is in %s or below" % (SUFFIX, path))
+        for one in below:
+            found.setdefault(os.path.abspath(one), one)
+    return list(found.values())
 
 
-def _read(path: str) -> File:
+def _one_of_each_name(own: Sequence[File]) -> None:
+    """Two files of one name can't be theories of one server."""
+    names: Dict[str, str] = {}
+    for file in own:
+        other = names.setdefault(file.theory.name, file.path)
+        if other != file.path:
+            raise CannotCheck("%s and %s are both the theory %s of one project: rename one" % (other, file.path, file.theory.name))
+
+
+def read(path: str) -> File:
+    """A file on disk."""
     try:
         with open(path, "rb") as stream:
             data = stream.read()
     except OSError as error:
         raise CannotCheck("%s can't be read: %s" % (path, error.strerror or error)) from None
-    return read(path, data)
-
-
-def _read_if_there(path: str) -> Optional[File]:
-    try:
-        return _read(path)
-    except CannotCheck:
-        return None
-
-
-def read(path: str, data: bytes) -> File:
-    """A file of bytes. Where they aren't UTF-8 it holds what stands before the first byte that isn't, and says so."""
-    file = File(path)
-    try:
-        file.take(data.decode("utf-8"))
-    except UnicodeDecodeError as error:
-        file.take(data[:error.start].decode("utf-8"))
-        end = len(file.lines.text)
-        told = "the file is no UTF-8 from here on (byte 0x%02x): save it as UTF-8" % data[error.start]
-        file.blemishes = [blemish for blemish in file.blemishes if blemish.is_error] + [Blemish(end, end + 1, told, True)]
-    return file
-
-
-def _check(files: List[File], given: argparse.Namespace) -> Tuple[List[str], Dict[str, List[Basis]]]:
-    """Asks a server for each group of files. Answers why servers failed, and what the theorems rest on by file."""
-    program = server.find(given.server)
-    failures: List[str] = []
-    bases: Dict[str, List[Basis]] = {}
-    for group in graph.components([file for file in files if file.is_sent]):
-        if len(group) > protocol.THEORIES:
-            failures.append("%d files hang together by imports, and a server holds %d theories" % (len(group), protocol.THEORIES))
-            continue
-        checker = _Checker(group, program, given.seconds)
-        failure = checker.run(given.axioms)
-        failures += [failure] if failure else []
-        bases.update(checker.bases)
-    return failures, bases
-
-
-class _Checker:
-    """One server for a group of files."""
-
-    def __init__(self, files: List[File], program: List[str], seconds: int) -> None:
-        self.files = files
-        self.bases: Dict[str, List[Basis]] = {file.path: [] for file in files}
-        self.unanswered = 0
-        self.unknown: List[str] = []
-        self.sweep = Sweep()
-        self.sweep.begin(files)
-        self.events: "queue.Queue[object]" = queue.Queue()
-        self.session = Session(program, self.events, server.Served(), self.sweep.pick, lambda: None, seconds)
-
-    def run(self, with_axioms: bool) -> Optional[str]:
-        """Until all is known. Answers why the server failed, or None."""
-        self.session.want([file.theory for file in self.files])
-        self._wait(lambda: self.session.is_idle and is_known(self.files))
-        if with_axioms and not self.session.failure:
-            for file in self.files:
-                self._ask_bases(file)
-            self._wait(lambda: self.unanswered == 0)
-        self.session.stop()
-        lost = [_lost(file) for file in self.files] + self.unknown
-        return self.session.failure or next(filter(None, lost), None)
-
-    def _wait(self, is_done: Callable[[], bool]) -> None:
-        while not self.session.failure and not is_done():
-            try:
-                self.session.hear(self.events.get(timeout=self.session.deadline()))
-            except queue.Empty:
-                self.session.tick()
-
-    def _ask_bases(self, file: File) -> None:
-        for number, command in enumerate(file.commands):
-            entry = file.entry(number)
-            if entry and isinstance(entry.report, Made) and command.word != "import":
-                line = file.lines.line(command.start) + 1
-                for name in [made.split()[1] for made in entry.report.entries if made.startswith("thm ")]:
-                    self._ask_basis(file, line, name)
-
-    def _ask_basis(self, file: File, line: int, name: str) -> None:
-        def answer(reply: object) -> None:
-            self.unanswered -= 1
-            if isinstance(reply, protocol.Items) and reply.items is not None:
-                self.bases[file.path].append(Basis(line, name, reply.items))
-            else:
-                where = "%s:%d: on what %s rests isn't known" % (file.path, line, name)
-                self.unknown.append(where + ": hol_serve ended, or had no memory")
-
-        self.unanswered += 1
-        self.session.ask(protocol.line({"op": "basis", "theory": file.theory.name, "name": name}), answer)
-
-
-def _lost(file: File) -> Optional[str]:
-    """The first command of which the server said nothing, in words."""
-    for number, command in enumerate(file.commands):
-        entry = file.entry(number)
-        if entry and isinstance(entry.report, protocol.Lost):
-            line = file.lines.line(command.start) + 1
-            return "%s:%d: nothing is known of this command: %s" % (file.path, line, entry.report.reason)
-    return None
+    return files.read(path, data)
 
 
 def _is_wrong(finding: Finding) -> bool:
     return finding.severity == Severity.ERROR or finding.is_open
 
 
-def _show(file: File, bases: List[Basis]) -> int:
-    """Writes what there is to say of a file. Answers how many errors there are."""
-    said = findings(file)
-    for finding in said:
+class _Show:
+    """Writes what there is to say, in lines for people."""
+
+    def __init__(self, given: argparse.Namespace) -> None:
+        self.lists_axioms, self.allows = given.axioms, set(given.allow_axiom)
+        self.forbids = given.no_axioms
+
+    def unit(self, unit: Unit) -> int:
+        """Writes what there is to say of a file. Answers how many errors there are."""
+        said = findings(unit.file)
+        for finding in said:
+            kind = "error" if _is_wrong(finding) else finding.severity.name.lower()
+            self.finding(unit.file, finding, kind)
+        wrong = sum(_is_wrong(finding) for finding in said)
+        for basis in unit.bases:
+            if self.lists_axioms:
+                self.basis(unit.file, basis)
+            bad = self._bad_axioms(basis)
+            if bad:
+                self.bad_axioms(unit.file, basis, bad)
+            wrong += bool(bad)
+        self.count(unit.file, wrong, unit.failure is not None)
+        sys.stdout.flush()
+        return wrong
+
+    def _bad_axioms(self, basis: Basis) -> List[str]:
+        """The axioms on which a theorem rests and may not."""
+        found = [item[len(AXIOM):] for item in basis.items if item.startswith(AXIOM)]
+        return [name for name in found if self.forbids and name not in self.allows]
+
+    def finding(self, file: File, finding: Finding, kind: str) -> None:
+        """A finding."""
         line, column = file.lines.column(finding.start)
-        kind = "error" if _is_wrong(finding) else finding.severity.name.lower()
         print("%s:%d:%d: %s: %s" % (file.path, line + 1, column + 1, kind, finding.text))
-    for basis in bases:
+
+    def basis(self, file: File, basis: Basis) -> None:
+        """On what a theorem rests."""
         print("%s:%d: %s %s" % (file.path, basis.line, basis.theorem, words.rests(basis.items)))
-    wrong = sum(_is_wrong(finding) for finding in said)
-    outcome = _count(wrong, "error") if wrong else "all accepted"
-    print("%s: %s, %s, %s" % (file.path, _count(len(file.commands), "command"), _count(_theorems(file), "theorem"), outcome))
-    return wrong
+
+    def bad_axioms(self, file: File, basis: Basis, bad: List[str]) -> None:
+        """A theorem rests on an axiom that isn't allowed."""
+        print("%s:%d:1: error: %s" % (file.path, basis.line, _resting(basis, bad)))
+
+    def count(self, file: File, wrong: int, has_failed: bool) -> None:
+        """The last line of a file; where its server failed, it isn't said that all is accepted."""
+        outcome = _count(wrong, "error") if wrong else "not checked to the end" if has_failed else "all accepted"
+        print("%s: %s, %s, %s" % (file.path, _count(len(file.commands), "command"), _count(_theorems(file), "theorem"), outcome))
+
+
+class _JsonShow(_Show):
+    """As `_Show`, one JSON object a line."""
+
+    def finding(self, file: File, finding: Finding, kind: str) -> None:
+        """A finding."""
+        start, end = file.lines.column(finding.start), file.lines.column(finding.end)
+        print(json.dumps({
+            "file": file.path, "line": start[0] + 1, "column": start[1] + 1, "end_line": end[0] + 1, "end_column": end[1] + 1,
+            "severity": kind, "text": finding.text}))
+
+    def basis(self, file: File, basis: Basis) -> None:
+        """On what a theorem rests."""
+        print(json.dumps({"file": file.path, "line": basis.line, "theorem": basis.theorem, "items": basis.items}))
+
+    def bad_axioms(self, file: File, basis: Basis, bad: List[str]) -> None:
+        """A theorem rests on an axiom that isn't allowed."""
+        print(json.dumps({
+            "file": file.path, "line": basis.line, "column": 1, "end_line": basis.line, "end_column": 2, "severity": "error",
+            "text": _resting(basis, bad)}))
+
+    def count(self, file: File, wrong: int, has_failed: bool) -> None:
+        """The last line of a file."""
+        more = {"failed": True} if has_failed else {}
+        print(json.dumps(dict({"file": file.path, "commands": len(file.commands), "theorems": _theorems(file), "errors": wrong}, **more)))
+
+
+def _resting(basis: Basis, bad: List[str]) -> str:
+    return "%s rests on the axiom%s %s" % (basis.theorem, "" if len(bad) == 1 else "s", ", ".join(bad))
 
 
 def _count(number: int, what: str) -> str:
@@ -201,19 +229,3 @@ def _count(number: int, what: str) -> str:
 def _theorems(file: File) -> int:
     entries = [file.entry(number) for number, command in enumerate(file.commands) if command.word == "qed"]
     return sum(bool(entry and isinstance(entry.report, Made)) for entry in entries)
-
-
-def _show_json(file: File, bases: List[Basis]) -> int:
-    """As `_show`, one JSON object a line."""
-    said = findings(file)
-    for finding in said:
-        start, end = file.lines.column(finding.start), file.lines.column(finding.end)
-        kind = "error" if _is_wrong(finding) else finding.severity.name.lower()
-        print(json.dumps({
-            "file": file.path, "line": start[0] + 1, "column": start[1] + 1, "end_line": end[0] + 1, "end_column": end[1] + 1,
-            "severity": kind, "text": finding.text}))
-    for basis in bases:
-        print(json.dumps({"file": file.path, "line": basis.line, "theorem": basis.theorem, "items": basis.items}))
-    wrong = sum(_is_wrong(finding) for finding in said)
-    print(json.dumps({"file": file.path, "commands": len(file.commands), "theorems": _theorems(file), "errors": wrong}))
-    return wrong

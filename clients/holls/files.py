@@ -3,14 +3,13 @@
 from __future__ import annotations
 
 import os
-from typing import List, Optional, Tuple
+from typing import Any, List, Optional, Tuple
 
-from holls import protocol
+from holls import notation, protocol
 from holls.places import Lines
+from holls.projects import SUFFIX
 from holls.text import Blemish, Command, Cut, cut
 from holls.theory import Entry, Theory
-
-SUFFIX = ".hol"
 
 
 def theory_name(path: str) -> str:
@@ -22,7 +21,9 @@ def theory_name(path: str) -> str:
 class File:
     """A file. Each command has a place in the theory, unless it is too long or one too many.
 
-    `blemishes` come from the file alone, `context` from what stands beside it; with `is_shadowed` another file is its theory.
+    `blemishes` come from the file alone, `context` from what stands beside it; with `is_shadowed` there is no room for it in the server,
+    or another file is its theory.
+    `written` is what the module `names` keeps of it.
     """
 
     def __init__(self, path: str) -> None:
@@ -31,18 +32,19 @@ class File:
         self.blemishes: List[Blemish] = []
         self.context: List[Blemish] = []
         self.is_shadowed = False
+        self.written: Optional[Tuple[Cut, List[Any]]] = None
         self._slots: List[Optional[int]] = []
         self.take("")
 
-    def take(self, text: str, with_oops: bool = False) -> None:
-        """Takes the file's text. With oops, a hidden `oops` before each `g` but the first ends a failed proof."""
+    def take(self, text: str) -> None:
+        """Takes the file's text. A hidden `oops` ends a failed proof before a command that can't stand in one."""
         self.lines = Lines(text)
         self.cut: Cut = cut(text)
         self.blemishes = list(self.cut.blemishes)
         self._check_name()
         fitting = [self._fits(command) for command in self.commands]
-        texts = self._texts(fitting, with_oops)
-        if with_oops and len(texts) > protocol.COMMANDS:
+        texts = self._texts(fitting, True)
+        if len(texts) > protocol.COMMANDS:
             texts = self._texts(fitting, False)
         self._check_number(texts)
         self.theory.want(texts[:protocol.COMMANDS])
@@ -73,6 +75,12 @@ class File:
         slot = self.slot(number)
         return bool(slot) and self.theory.entries[slot - 1].is_hidden
 
+    def proof_begin(self, number: int) -> int:
+        """The command at which the proof that a command stands in begins: the last one above that can't stand in a proof, or it."""
+        while number > 0 and self.commands[number].word not in notation.OUTSIDE:
+            number -= 1
+        return number
+
     def number_at(self, place: int) -> Optional[int]:
         """The last command that begins before a place, or at it."""
         found = None
@@ -99,11 +107,12 @@ class File:
         """What is sent, each with whether it is hidden."""
         texts: List[Tuple[str, bool]] = []
         self._slots = []
-        is_first = True
+        may_be_open = False
         for command, fits in zip(self.commands, fitting):
-            if with_oops and fits and command.word == "g":
-                texts += [] if is_first else [("oops", True)]
-                is_first = False
+            if fits and command.word in notation.OUTSIDE:
+                texts += [("oops", True)] if may_be_open and with_oops else []
+                may_be_open = command.word == "g"
+            may_be_open = may_be_open and command.text != "oops"
             self._slots.append(len(texts) if fits else None)
             texts += [(command.text, False)] if fits else []
         return texts
@@ -127,3 +136,16 @@ class File:
         """An error that is told of the file as a whole."""
         end = self.lines.starts[1] if len(self.lines.starts) > 1 else len(self.lines.text)
         return Blemish(0, end, text, True)
+
+
+def read(path: str, data: bytes) -> File:
+    """A file of bytes. Where they aren't UTF-8 it holds what stands before the first byte that isn't, and says so."""
+    file = File(path)
+    try:
+        file.take(data.decode("utf-8"))
+    except UnicodeDecodeError as error:
+        file.take(data[:error.start].decode("utf-8"))
+        end = len(file.lines.text)
+        told = "the file is no UTF-8 from here on (byte 0x%02x): save it as UTF-8" % data[error.start]
+        file.blemishes = [blemish for blemish in file.blemishes if blemish.is_error] + [Blemish(end, end + 1, told, True)]
+    return file

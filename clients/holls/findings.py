@@ -1,10 +1,14 @@
-"""What there is to say of a file, with ranges: errors, warnings and hints from its form and from the server's reports."""
+"""What there is to say of a file, with ranges: errors, warnings and hints from its form and from the server's reports.
+
+Nothing is said that a later report could take back. What a command's refusal means depends on the proof that is open there; so where
+a report above it is missing, or a command isn't sent, only what holds in each case is said.
+"""
 
 from __future__ import annotations
 
 from dataclasses import dataclass
 from enum import IntEnum
-from typing import List, Optional
+from typing import List, Optional, Tuple
 
 from holls import notation, protocol, words
 from holls.files import File
@@ -22,13 +26,18 @@ class Severity(IntEnum):
 
 @dataclass(frozen=True)
 class Finding:
-    """Something to say of a range of the file. `is_open` marks a proof that is never ended."""
+    """Something to say of a range of the file. `is_open` marks a proof that is never ended.
+
+    `number` is the command that it is about, where it is about one, and `refusal` its refusal, where that is what is told.
+    """
 
     start: int
     end: int
     severity: Severity
     text: str
     is_open: bool = False
+    number: Optional[int] = None
+    refusal: Optional[Refusal] = None
 
 
 @dataclass
@@ -46,23 +55,31 @@ class _Proof:
         return "that of %s, from line %d" % (self.name, self.line)
 
 
+OWN = (protocol.SYNTAX, protocol.UNKNOWN_TAC)
+"""The refusals that never follow from another one: errors of their own wherever they stand."""
+
+
 class _Walk:
-    """Goes through a file's commands with the open proof in hand."""
+    """Goes through a file's commands with the open proof in hand.
+
+    `is_certain` says whether all reports are known since the last place at which it was clear whether a proof is open.
+    """
 
     def __init__(self, file: File) -> None:
         self.file = file
         self.findings: List[Finding] = []
         self.proof: Optional[_Proof] = None
         self.refused_goal: Optional[int] = None
+        self.is_certain = True
 
     def step(self, number: int) -> None:
-        """Takes one command's report. An unknown report says nothing."""
+        """Takes one command's report."""
         entry = self.file.entry(number)
         report = entry.report if entry else None
         if self.file.is_behind_oops(number):
             self.give_up(number)
-        if entry and entry.is_slow:
-            self.add(number, Severity.NOTE, "this has been running for over 5 seconds; an edit ends it")
+        if report is None or isinstance(report, Lost):
+            self.is_certain = False
         if isinstance(report, Lost):
             self.add(number, Severity.WARNING, "nothing is known of this command: %s" % report.reason)
         elif isinstance(report, Refusal):
@@ -71,19 +88,22 @@ class _Walk:
             self.accepted(number, report)
         elif isinstance(report, Made):
             self.proof = self.refused_goal = None
+            self.is_certain = True
 
     def give_up(self, number: int) -> None:
         """A hidden `oops` before a command ends the open proof."""
-        if self.proof and self.proof.broken is None:
+        if self.is_certain and self.proof and self.proof.broken is None:
             text = "a proof was open before this: %s; end it by qed;; or give it up by oops;;" % self.proof
             self.add(number, Severity.ERROR, text)
-        self.proof = None
+        self.proof = self.refused_goal = None
+        self.is_certain = True
 
     def accepted(self, number: int, report: Goals) -> None:
         """A command after which a proof is open."""
         command = self.file.commands[number]
         if command.word == "g":
             self.refused_goal = None
+            self.is_certain = True
             self.proof = _Proof(number, command.name, self.line(number))
         if self.proof:
             self.proof.last = report
@@ -91,7 +111,8 @@ class _Walk:
     def refused(self, number: int, refusal: Refusal) -> None:
         """A refused command. What follows from an error above is a note, or isn't said."""
         command, proof = self.file.commands[number], self.proof
-        if proof and proof.is_swallowing:
+        is_own = refusal.number in OWN
+        if not is_own and (not self.is_certain or proof and proof.is_swallowing or self.is_told(number, refusal)):
             return
         start, end, text = words.explain(command.text, refusal, str(proof) if proof else None)
         if refusal.number == protocol.GOALS_REMAIN and proof and proof.last:
@@ -104,7 +125,13 @@ class _Walk:
         elif cause is not None:
             text = "%s (after the error on line %d)" % (text, self.line(cause))
         severity = Severity.ERROR if cause is None else Severity.NOTE
-        self.findings.append(Finding(command.place(start), max(command.place(end), command.place(start) + 1), severity, text))
+        first, last = command.place(start), max(command.place(end), command.place(start) + 1)
+        self.findings.append(Finding(first, last, severity, text, number=number, refusal=refusal))
+
+    def is_told(self, number: int, refusal: Refusal) -> bool:
+        """Whether an import's refusal is told by what stands beside the file: no file of that name, or a circle."""
+        start = self.file.commands[number].start
+        return refusal.number == protocol.UNKNOWN_THEORY and any(blemish.start == start for blemish in self.file.context)
 
     def cause(self, number: int, refusal: Refusal) -> Optional[int]:
         """The refused command from which a refusal follows: the first one of the open proof, or a goal.
@@ -116,25 +143,25 @@ class _Walk:
             cause = self.refused_goal
             self.refused_goal = None if command.word in ("qed", "oops") else cause
             return cause
-        if proof and refusal.number != protocol.SYNTAX:
-            if proof.broken is not None:
-                return proof.broken
-            proof.broken = None if refusal.number == protocol.IN_A_PROOF else number
-        elif command.word == "g":
+        if command.word == "g" and refusal.number != protocol.IN_A_PROOF:
             self.refused_goal = number
-        return None
+            return None
+        broken = proof.broken if proof else None
+        if proof and broken is None and refusal.number != protocol.IN_A_PROOF:
+            proof.broken = number
+        return None if refusal.number in OWN else broken
 
     def finish(self) -> None:
         """Tells of a proof that is open at the end, unless an error of it was told."""
         proof = self.proof
-        if proof and proof.broken is None and not proof.is_swallowing:
+        if self.is_certain and proof and proof.broken is None and not proof.is_swallowing:
             self.add(proof.number, Severity.WARNING, "the proof of %s is never ended: add qed;; or oops;;" % proof.name, True)
 
     def add(self, number: int, severity: Severity, text: str, is_open: bool = False) -> None:
         """Says something of a command's first word."""
         command = self.file.commands[number]
         end = command.place(len(command.word)) if command.word else command.start + 1
-        self.findings.append(Finding(command.start, end, severity, text, is_open))
+        self.findings.append(Finding(command.start, end, severity, text, is_open, number))
 
     def line(self, number: int) -> int:
         """The line of a command, from 1."""
@@ -158,6 +185,21 @@ def findings(file: File) -> List[Finding]:
     walk.finish()
     said = walk.findings + _form(file) + _hints(file)
     return sorted(said, key=lambda finding: (finding.start, finding.severity))
+
+
+def unknown(file: File) -> List[Tuple[int, int, bool]]:
+    """The ranges of commands of which nothing is known yet, those side by side as one; and whether one runs for long already."""
+    found: List[Tuple[int, int, bool]] = []
+    is_last = False
+    for number, command in enumerate(file.commands):
+        entry = file.entry(number)
+        is_unknown = entry is not None and entry.report is None
+        if is_unknown and is_last and found[-1][2] == entry.is_slow:
+            found[-1] = found[-1][0], command.end, entry.is_slow
+        elif is_unknown:
+            found.append((command.start, command.end, entry.is_slow))
+        is_last = is_unknown
+    return found
 
 
 def _form(file: File) -> List[Finding]:

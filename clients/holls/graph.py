@@ -2,30 +2,27 @@
 
 from __future__ import annotations
 
-import os
-from typing import Callable, Dict, List, Optional, Sequence, Set
+from typing import Callable, Dict, List, Sequence, Set, Union
 
-from holls.files import SUFFIX, File
+from holls.files import File
 from holls.text import Blemish
 
-Load = Callable[[str], Optional[File]]
-"""Reads a file that is imported; None where there is none."""
-
-
-def imported_path(file: File, name: str) -> str:
-    """Where the file of an imported theory is to be found: beside the one that imports it."""
-    return os.path.join(os.path.dirname(file.path), name + SUFFIX)
+Load = Callable[[File, str], Union[File, str]]
+"""Reads the file of a theory that a file imports; where there is none, words why."""
 
 
 def with_imports(files: Sequence[File], load: Load) -> List[File]:
-    """The files and all those that they import, those of the same name once."""
+    """The files and all those that they import, those of the same name once. A missing one is told at its import."""
     known: Dict[str, File] = {file.theory.name: file for file in files}
     waiting = list(known.values())
     while waiting:
         file = waiting.pop()
         for name in file.theory.imports:
-            found = load(imported_path(file, name)) if name not in known else None
-            if found is not None:
+            found = known.get(name) or load(file, name)
+            if isinstance(found, str):
+                tell_import(file, name, found)
+            elif name not in known:
+                found.context = []
                 known[name] = found
                 waiting.append(found)
     return list(known.values())
@@ -44,42 +41,54 @@ def ordered(files: Sequence[File]) -> List[File]:
 def _visit(first: File, by_name: Dict[str, File], order: List[File], done: Set[str]) -> None:
     """Puts a file behind its imports, by a stack of its own."""
     stack = [(first, iter(first.theory.imports))]
-    opened = {first.theory.name}
     while stack:
         file, imports = stack[-1]
         name = next((name for name in imports if name in by_name and name not in done), None)
+        opened = [other for other, _ in stack]
         if name is None:
             stack.pop()
-            opened.discard(file.theory.name)
             if file.theory.name not in done:
                 done.add(file.theory.name)
                 order.append(file)
-        elif name in opened:
-            _tell_circle(file, name)
+        elif by_name[name] in opened:
+            _tell_circle(opened[opened.index(by_name[name]):])
         else:
-            opened.add(name)
             stack.append((by_name[name], iter(by_name[name].theory.imports)))
 
 
-def _tell_circle(file: File, name: str) -> None:
+def _tell_circle(circle: List[File]) -> None:
+    """Tells of each import of a circle; each file imports the next one, and the last one the first."""
+    names = [file.theory.name for file in circle]
+    words = "imports go in a circle here: %s; take one of them out" % " imports ".join(names + names[:1])
+    for file, name in zip(circle, names[1:] + names[:1]):
+        tell_import(file, name, words)
+
+
+def tell_import(file: File, name: str, words: str) -> None:
+    """Tells of each import of a theory that it can't be carried out."""
     for command in file.commands:
         if command.word == "import" and command.name == name:
-            file.context.append(Blemish(command.start, command.end, "the theory %s imports this one in turn" % name, True))
-            return
+            file.context.append(Blemish(command.start, command.end, words, True))
 
 
-def components(files: Sequence[File]) -> List[List[File]]:
-    """The files in groups without imports from one to another, each group in order."""
-    group: Dict[str, List[File]] = {}
-    for file in files:
-        joined = [file]
-        for name in file.theory.imports:
-            if name in group and group[name] is not joined:
-                joined = group[name] + [other for other in joined if other not in group[name]]
-        for member in joined:
-            group[member.theory.name] = joined
-    found: List[List[File]] = []
-    for file in files:
-        if not any(group[file.theory.name] is other for other in found):
-            found.append(group[file.theory.name])
-    return [[file for file in files if file in members] for members in found]
+def all_imports(file: File, by_name: Dict[str, File]) -> List[File]:
+    """The files that a file imports, also by way of others, each after those that it imports, without the file itself."""
+    found = ordered_from(file, by_name)
+    return [other for other in found if other is not file]
+
+
+def ordered_from(file: File, by_name: Dict[str, File]) -> List[File]:
+    """A file and those that it imports, each after those that it imports."""
+    order: List[File] = []
+    seen = {file.theory.name}
+    stack = [(file, iter(file.theory.imports))]
+    while stack:
+        last, imports = stack[-1]
+        name = next((name for name in imports if name in by_name and name not in seen), None)
+        if name is None:
+            order.append(last)
+            stack.pop()
+        else:
+            seen.add(name)
+            stack.append((by_name[name], iter(by_name[name].theory.imports)))
+    return order

@@ -2,8 +2,9 @@
 
 from __future__ import annotations
 
+import difflib
 import re
-from typing import List, Optional, Tuple
+from typing import Iterable, List, Optional, Tuple
 
 TACS = {
     "ALL_TAC": "", "NO_TAC": "", "REFL_TAC": "", "ACCEPT_TAC": "a theorem", "CONJ_TAC": "", "DISJ1_TAC": "", "DISJ2_TAC": "",
@@ -19,6 +20,45 @@ TACS = {
 TACTICALS = ("THEN", "THENL", "ORELSE", "REPEAT", "TRY", "CHANGED_TAC", "EVERY", "FIRST", "REPLICATE_TAC", "DISCH_THEN", "POP_ASSUM",
              "FIRST_ASSUM", "SUBGOAL_THEN")
 
+HANDING = ("DISCH_THEN", "POP_ASSUM", "FIRST_ASSUM", "SUBGOAL_THEN")
+"""The tacticals that hand a theorem to a function."""
+
+FORWARD = {
+    "ASSUME": "ASSUME `p`", "REFL": "REFL `t`", "SPEC": "SPEC `t` th", "SYM": "SYM th", "CONJUNCT1": "CONJUNCT1 th",
+    "CONJUNCT2": "CONJUNCT2 th", "MP": "MP th th", "INST_TYPE": "INST_TYPE [`:type`, `:A`; ..] th",
+}
+"""The forward rules, and how they are written."""
+
+ELSEWHERE = {
+    "ASM_MESON_TAC": "", "MESON_TAC": "", "METIS_TAC": "", "ITAUT_TAC": "", "TAUT_TAC": "", "ARITH_TAC": "", "REAL_ARITH_TAC": "",
+    "ABS_TAC": "", "INDUCT_TAC": "", "ASM_ARITH_TAC": "", "CHEAT_TAC": "give the proof up by oops;;, or state it by new_axiom",
+    "SIMP_TAC": "REWRITE_TAC rewrites, without conditions", "ASM_SIMP_TAC": "ASM_REWRITE_TAC rewrites, without conditions",
+    "COND_CASES_TAC": "there are no conditionals", "BOOL_CASES_TAC": "DISJ_CASES_TAC takes a theorem p \\/ q",
+    "ASM_CASES_TAC": "DISJ_CASES_TAC takes a theorem p \\/ q", "GEN_REWRITE_TAC": "ONCE_REWRITE_TAC and SUBST1_TAC rewrite one place",
+    "SUBST_ALL_TAC": "SUBST1_TAC rewrites the goal's conclusion", "SUBST_TAC": "SUBST1_TAC takes one equation",
+    "MATCH_ACCEPT_TAC": "PURE_REWRITE_TAC [th] does it", "CONV_TAC": "BETA_TAC reduces, REWRITE_TAC rewrites",
+    "FIRST_X_ASSUM": "FIRST_ASSUM keeps the assumption, POP_ASSUM takes out the newest one", "LABEL_TAC": "assumptions have no labels",
+    "USE_THEN": "assumptions have no labels: name one by ASSUME `p`", "ASSUM_LIST": "", "POP_ASSUM_LIST": "", "RULE_ASSUM_TAC": "",
+    "MAP_EVERY": "EVERY takes a list of expressions", "MAP_FIRST": "FIRST takes a list of expressions", "X_META_EXISTS_TAC": "",
+    "ANTS_TAC": "SUBGOAL_THEN leaves the premise as a goal of its own", "DISCH_ALL_TAC": "REPEAT DISCH_TAC", "GEN_ALL_TAC": "",
+    "EXISTENCE_TAC": "", "REFUTE_THEN": "", "CLAIM_TAC": "SUBGOAL_THEN states a claim", "INTRO_TAC": "REPEAT STRIP_TAC",
+    "DESTRUCT_TAC": "STRIP_ASSUME_TAC strips a theorem", "FIX_TAC": "X_GEN_TAC names a variable", "MONO_TAC": "",
+}
+"""Functions on goals of HOL Light that aren't here, each with what to write in its place, if something."""
+
+RULES_ELSEWHERE = {
+    "GSYM": "(SYM (SPEC `x` th)) turns an equation at an instance", "SPECL": "(SPEC `b` (SPEC `a` th)), the first argument innermost",
+    "ISPEC": "(SPEC `t` (INST_TYPE [`:ty`, `:A`] th))", "ISPECL": "(SPEC `b` (SPEC `a` (INST_TYPE [`:ty`, `:A`] th)))",
+    "SPEC_ALL": "SPEC gives one argument a time", "GEN": "state a goal !x. p and ACCEPT_TAC it", "GEN_ALL": "state a goal !x. p and ACCEPT_TAC it",
+    "CONJ": "CONJ_TAC splits the goal", "TRANS": "SUBST1_TAC rewrites by one equation", "EQ_MP": "SUBST1_TAC (SYM th1) THEN ACCEPT_TAC th2",
+    "DISCH": "DISCH_TAC on a goal of its own", "INST": "(SPEC `t` th) of a theorem that is proved under !x", "AP_TERM": "AP_TERM_TAC",
+    "AP_THM": "AP_THM_TAC", "MATCH_MP": "MATCH_MP_TAC th, or (MP th th)", "CONJUNCTS": "CONJUNCT1 and CONJUNCT2", "BETA_RULE": "MP_TAC th THEN BETA_TAC",
+    "REWRITE_RULE": "MP_TAC th THEN REWRITE_TAC [..]", "CONV_RULE": "MP_TAC th THEN BETA_TAC", "UNDISCH": "(MP th (ASSUME `p`))",
+    "TAUT": "", "EXISTS": "EXISTS_TAC", "CHOOSE": "CHOOSE_TAC", "DISJ_CASES": "DISJ_CASES_TAC", "EQT_ELIM": "", "EQT_INTRO": "", "BETA_CONV": "BETA_TAC",
+    "NOT_ELIM": "", "EQF_INTRO": "", "IMP_TRANS": "", "PROVE_HYP": "", "DEDUCT_ANTISYM_RULE": "", "ONCE_REWRITE_RULE": "MP_TAC th THEN ONCE_REWRITE_TAC [..]",
+}
+"""Rules of HOL Light that aren't here, each with what to write in its place, if something."""
+
 COMMANDS = {
     "g": "g NAME `term`", "e": "e TAC", "b": "b", "r": "r NUM", "qed": "qed", "oops": "oops", "import": "import NAME",
     "new_type": "new_type NAME NUM", "new_constant": "new_constant NAME `:type`", "new_axiom": "new_axiom NAME `term`",
@@ -27,15 +67,16 @@ COMMANDS = {
 }
 """The commands by their words, and how they are written."""
 
-PRELUDE = ("T_DEF AND_DEF IMP_DEF FORALL_DEF EXISTS_DEF OR_DEF F_DEF NOT_DEF EXISTS_UNIQUE_DEF ETA_AX SELECT_AX ONE_ONE ONTO "
-           "INFINITY_AX TRUTH REFL_CLAUSE EQ_CLAUSES NOT_CLAUSES_WEAK AND_CLAUSES OR_CLAUSES IMP_CLAUSES").split()
-"""The prelude's theorems."""
-
 MAKERS = ("g", "new_axiom", "new_definition", "new_constant", "new_type", "new_basic_type_definition")
 """The commands whose second word is the name of what they make."""
 
+OUTSIDE = MAKERS + ("import",)
+"""The commands that are refused while a proof is open."""
+
 PLAIN = frozenset("if then else let in and".split())
 """Words that HOL Light's notation has, and that are plain names here."""
+
+_END = "_TAC"
 
 _TOKEN = re.compile(r"[A-Za-z_][A-Za-z0-9_']*|[0-9]+|<=>|==>|\\/|/\\|->|\?!|[=~\\!?@()\[\].:,;`]")
 _IDENT = re.compile(r"[A-Za-z_][A-Za-z0-9_']*")
@@ -53,17 +94,38 @@ def tokens_before(text: str, place: int) -> List[str]:
     return [found.group() for found in _TOKEN.finditer(text, 0, place)]
 
 
+def near(name: str, names: Iterable[str]) -> Optional[str]:
+    """The name that was meant, where one is like it; a function's ending says nothing."""
+    def stem(word: str) -> str:
+        return word[:-len(_END)] if word.endswith(_END) else word
+
+    stems = {stem(other): other for other in names}
+    found = difflib.get_close_matches(stem(name.upper()), stems, 1, 0.72)
+    return stems[found[0]] if found else None
+
+
 def quotation(text: str, place: int) -> Tuple[int, int]:
     """The range of the quotation whose opening backquote stands at a place."""
     found = _QUOTATION.match(text, place)
     return (place, found.end()) if found else (place, place + 1)
 
 
-def word_range(text: str, word: str) -> Optional[Tuple[int, int]]:
-    """Where a name stands first in a text, outside quotations."""
-    blank = _QUOTATION.sub(lambda found: " " * len(found.group()), text)
-    found = re.search(r"(?<![A-Za-z0-9_'])" + re.escape(word) + r"(?![A-Za-z0-9_'])", blank) if word else None
-    return found.span() if found else None
+def without_quotations(text: str) -> str:
+    """The text with spaces for its quotations."""
+    return _QUOTATION.sub(lambda found: " " * len(found.group()), text)
+
+
+def word_ranges(text: str, word: str) -> List[Tuple[int, int]]:
+    """Where a name stands in a text, outside quotations."""
+    if not word:
+        return []
+    pattern = r"(?<![A-Za-z0-9_'])" + re.escape(word) + r"(?![A-Za-z0-9_'])"
+    return [found.span() for found in re.finditer(pattern, without_quotations(text))]
+
+
+def has_tactical(text: str) -> bool:
+    """Whether a tactical stands in a text, outside quotations."""
+    return any(word in TACTICALS for word in _IDENT.findall(without_quotations(text)))
 
 
 def word_at(text: str, place: int) -> Tuple[int, int]:

@@ -83,6 +83,13 @@ class Items:
 
 
 @dataclass(frozen=True)
+class Theorems:
+    """The theorems that stand at a theory's end, as `thm N |- p`."""
+
+    texts: Tuple[str, ...]
+
+
+@dataclass(frozen=True)
 class Error:
     """A request that was refused."""
 
@@ -98,7 +105,7 @@ class Unreadable:
 
 
 Report = Union[Goals, Made, Refusal]
-Reply = Union[Goals, Made, Refusal, Done, Items, Error, Unreadable]
+Reply = Union[Goals, Made, Refusal, Done, Items, Theorems, Error, Unreadable]
 
 
 def is_name(text: str) -> bool:
@@ -138,6 +145,8 @@ def _reply(value: Dict[str, Any]) -> Reply:
         return Made(_texts(value["made"]))
     if "items" in value:
         return Items(None if value["items"] is None else _texts(value["items"]))
+    if "theorems" in value:
+        return Theorems(_texts(value["theorems"]))
     if value != {"ok": True}:
         raise ValueError("no reply")
     return Done()

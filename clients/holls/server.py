@@ -132,27 +132,13 @@ def find(named: Optional[str] = None) -> List[str]:
     return [found]
 
 
-@dataclass(frozen=True)
-class Served:
-    """What a program serves beyond `new_theory`, `insert`, `report` and `basis`: further ops, and whether `oops` runs."""
-
-    ops: FrozenSet[str] = frozenset()
-    oops: bool = False
-
-
-def probe(program: List[str], seconds: float = 20) -> Served:
-    """Asks a program of its own, which ends again, what it serves: an unknown op is refused as `shape`."""
-    requests = [dict(keys, op=op) for op, keys in _PROBES] + [
-        {"op": "new_theory", "name": "A", "at": 0},
-        {"op": "insert", "theory": "A", "at": 0, "text": "oops"},
-        {"op": "report", "theory": "A", "at": 0},
-    ]
+def probe(program: List[str], seconds: float = 60) -> FrozenSet[str]:
+    """Asks a program of its own, which ends again, which edits it serves beside `insert`: an unknown op is refused as `shape`."""
+    requests = [dict(keys, op=op) for op, keys in _PROBES]
     replies = [protocol.reply(line) for line in _answers(program, requests, seconds)]
     if len(replies) != len(requests) or any(isinstance(reply, protocol.Unreadable) for reply in replies):
         raise NoServer("%s doesn't answer as hol_serve does: is it the right program?" % program[0])
-    known = [op for (op, _), reply in zip(_PROBES, replies) if not _is_shape(reply)]
-    last = replies[-1]
-    return Served(frozenset(known), not (isinstance(last, protocol.Refusal) and last.number == protocol.SYNTAX))
+    return frozenset(op for (op, _), reply in zip(_PROBES, replies) if not _is_shape(reply))
 
 
 def _is_shape(reply: Union[protocol.Reply, protocol.Report]) -> bool:

@@ -9,20 +9,24 @@ import queue
 import time
 from collections import deque
 from dataclasses import dataclass
-from typing import Callable, Deque, List, Optional, Tuple, Union
+from typing import Callable, Deque, FrozenSet, List, Optional, Tuple, Union
 
 from holls import protocol
-from holls.server import Ended, Line, NoServer, Served, Server
-from holls.theory import Change, Entry, Standing, Theory
+from holls.difference import INSERT
+from holls.server import Ended, Line, NoServer, Server
+from holls.theory import DROP, NEW, Change, Entry, Standing, Theory
 
 SLOW_SECONDS = 5.0
-"""A report that takes longer is marked, and its server is ended at the next edit."""
-EDIT_SECONDS = 20.0
+"""A report that takes longer is marked."""
+PATIENCE_SECONDS = 0.5
+"""So long an edit waits for the report under way; then the server is ended, and another one takes the edited theories."""
+EDIT_SECONDS = 60.0
 """An edit that takes longer has a server that hangs."""
 ENDS = 6
 """After so many ends of the server since the last edit it isn't started again."""
-WINDOW = 4
-"""So many reports are asked for ahead, where the last one came quickly."""
+WINDOW = 8
+"""So many reports are asked for ahead, where the last one came quickly: an edit waits for these."""
+QUICK_SECONDS = 0.02
 
 Job = Tuple[Theory, int]
 Answer = Callable[[Union[protocol.Reply, protocol.Lost]], None]
@@ -40,7 +44,7 @@ class _Pending:
 class Session:
     """One server in step with `theories`. `pick` names the next command to be asked for; `told` is called after each news."""
 
-    def __init__(self, program: List[str], events: "queue.Queue[object]", served: Served, pick: Callable[[], Optional[Job]],
+    def __init__(self, program: List[str], events: "queue.Queue[object]", served: FrozenSet[str], pick: Callable[[], Optional[Job]],
                  told: Callable[[], None], seconds: float) -> None:
         self.theories: List[Theory] = []
         self.failure: Optional[str] = None
@@ -51,6 +55,7 @@ class Session:
         self._is_in_step = False
         self._pending: Deque[_Pending] = deque()
         self._questions: Deque[Tuple[bytes, Answer]] = deque()
+        self._wanted_at: Optional[float] = None
         self._since = 0.0
         self._took = 0.0
         self._ends = 0
@@ -58,10 +63,11 @@ class Session:
         self._rounds = 0
 
     def want(self, theories: List[Theory]) -> None:
-        """Takes the theories as they are to stand, in order. A report that runs too long is given up."""
+        """Takes the theories as they are to stand, in order. A report that keeps the edits waiting is given up, at once or in `tick`."""
         self.theories = theories
         self.failure, self._ends, self._rounds, self._is_in_step = None, 0, 0, False
-        if self._pending and self._pending[0].entry and self._age() > SLOW_SECONDS:
+        self._wanted_at = time.monotonic() if self._wanted_at is None else self._wanted_at
+        if self._pending and self._pending[0].entry and self._age() > PATIENCE_SECONDS and self._events.empty():
             self.stop()
         self.pump()
 
@@ -69,6 +75,15 @@ class Session:
         """Asks something beside the reports, once the server is in step. The answer is Lost where the server ends before."""
         self._questions.append((request, answer))
         self.pump()
+
+    def ask_beside(self, theory: str, commands: List[str], answer: Answer) -> None:
+        """Asks for the report on the last of some commands, in a theory of their own that stands behind all others for so long."""
+        edits = [{"op": INSERT, "theory": theory, "at": at, "text": text} for at, text in enumerate(commands)]
+        first = {"op": NEW, "name": theory, "at": len(self.theories)}
+        for request in [first] + edits:
+            self.ask(protocol.line(request), lambda _: None)
+        self.ask(protocol.line({"op": "report", "theory": theory, "at": len(commands) - 1}), answer)
+        self.ask(protocol.line({"op": DROP, "name": theory}), lambda _: None)
 
     def pump(self) -> None:
         """Sends what can be sent now."""
@@ -84,6 +99,7 @@ class Session:
         if changes:
             self._edit(changes)
             return
+        self._wanted_at = None
         while self._questions:
             request, answer = self._questions.popleft()
             self._send(request, _Pending(answer))
@@ -91,11 +107,11 @@ class Session:
 
     def _changes(self) -> List[Change]:
         """What is to be sent to be in step, to a fresh server where that is needed."""
-        changes = self._standing.changes(self.theories, self._served.ops) if self._server else None
+        changes = self._standing.changes(self.theories, self._served) if self._server else None
         if changes is None:
             self.stop()
             self._server = Server(self._program, self._events)
-            changes = self._standing.changes(self.theories, self._served.ops)
+            changes = self._standing.changes(self.theories, self._served)
         return changes or []
 
     def _edit(self, changes: List[Change]) -> None:
@@ -116,7 +132,7 @@ class Session:
             self._lose("refused an edit twice: " + self._refused[0])
 
     def _ask_ahead(self) -> None:
-        window = WINDOW if self._took < 0.1 else 1
+        window = WINDOW if self._took < QUICK_SECONDS else 1
         while len(self._pending) < window:
             job = self._pick()
             if job is None:
@@ -134,7 +150,7 @@ class Session:
         if isinstance(reply, (protocol.Goals, protocol.Made, protocol.Refusal)):
             entry.report = reply
         elif isinstance(reply, protocol.Error) and reply.number == protocol.MEMORY:
-            self._strike(entry, "it had no memory for it")
+            self._strike(entry, "hol_serve had no memory for it")
         elif not isinstance(reply, protocol.Lost):
             self._lose("gave no report when asked for one")
 
@@ -183,7 +199,7 @@ class Session:
     def stop(self) -> None:
         """Ends the server. What was asked of it is Lost."""
         lost, self._pending = self._pending, deque()
-        server, self._server = self._server, None
+        server, self._server, self._wanted_at = self._server, None, None
         self._standing, self._is_in_step = Standing(), False
         if server:
             server.stop()
@@ -207,17 +223,24 @@ class Session:
         limit = EDIT_SECONDS if head.is_edit else self._seconds
         if head.entry and not head.entry.is_slow:
             limit = min(limit, SLOW_SECONDS)
+        if head.entry and self._wanted_at is not None:
+            limit = min(limit, PATIENCE_SECONDS + self._wanted_at - self._since)
         return max(0.0, limit - self._age())
 
     def tick(self) -> None:
-        """Marks a report that takes long, and gives up a server that hangs."""
-        if not self._pending or self.deadline():
+        """Marks a report that takes long, gives one up that keeps edits waiting, and a server that hangs.
+
+        As long as events wait to be heard, one of them may be what is waited for.
+        """
+        if not self._pending or self.deadline() or not self._events.empty():
             return
         head = self._pending[0]
-        if head.entry and self._age() < self._seconds:
+        if head.entry and self._wanted_at is not None and self._age() < self._seconds:
+            self.stop()
+        elif head.entry and self._age() < self._seconds:
             head.entry.is_slow = True
         elif head.entry:
-            head.entry.report = protocol.Lost("it gave no answer within %d seconds" % self._seconds)
+            head.entry.report = protocol.Lost("hol_serve gave no answer within %d seconds" % self._seconds)
             self.stop()
         else:
             self._lose("gave no answer within %d seconds" % (EDIT_SECONDS if head.is_edit else self._seconds))

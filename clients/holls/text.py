@@ -47,6 +47,13 @@ class Command:
         place = in_file + offset - in_text
         return place if at + 1 == len(self.marks) else min(place, self.marks[at + 1][1] - 1)
 
+    def offset(self, place: int) -> int:
+        """The place in the text of a place in the file, at most the text's length."""
+        at = max(0, bisect_right([in_file for _, in_file in self.marks], place) - 1)
+        in_text, in_file = self.marks[at]
+        most = self.marks[at + 1][0] if at + 1 < len(self.marks) else len(self.text)
+        return max(0, min(in_text + place - in_file, most))
+
     @property
     def word(self) -> str:
         """The command's first word, or the empty string."""

@@ -2,14 +2,12 @@
 
 from __future__ import annotations
 
-import difflib
 from typing import Optional, Sequence, Tuple
 
-from holls import notation, protocol
+from holls import notation, protocol, syntax
 from holls.protocol import Refusal
 
-Told = Tuple[int, int, str]
-"""A range in the command's text, and words."""
+Told = syntax.Told
 
 _FIXED = {
     protocol.NO_PROOF: "no proof is open here: begin one by g NAME `term`;;",
@@ -21,7 +19,7 @@ _FIXED = {
     protocol.GOALS_REMAIN: "the proof isn't done: goals remain",
     protocol.NOTHING_TO_UNDO: "nothing to undo: the proof is at its beginning",
     protocol.IMPORT_CLASH: "the import gives %s another value than the one that stands here: rename one of the two",
-    protocol.UNKNOWN_THEORY: "there is no theory %s before this one: is its file in the same folder?",
+    protocol.UNKNOWN_THEORY: "there is no theory %s before this one",
     protocol.UNKNOWN_THEOREM: "no theorem %s stands before this command",
     protocol.NOT_CLOSED: "%s is free in what is defined: make it an argument of the constant",
     protocol.NOT_REFLECTED: "the type variable %s occurs in the definition and not in the constant's type: annotate the constant",
@@ -38,19 +36,25 @@ def explain(text: str, refusal: Refusal, opened: Optional[str] = None) -> Told:
     """What a refusal of a command says. `opened` tells of the proof that is open, where one is."""
     number = refusal.number
     if number == protocol.SYNTAX:
-        return _syntax(text, _place(text, refusal))
+        return syntax.explain(text, _place(text, refusal))
     if number in (protocol.UNTYPABLE, protocol.NOT_BOOL, protocol.ARITY):
         return _quotation(text, refusal)
-    start, end = notation.word_range(text, refusal.argument.split(":")[-1]) or _first_word(text)
+    if number in (protocol.UNKNOWN_TAC, protocol.UNKNOWN_THEOREM):
+        missing = syntax.missing_end(text)
+        if missing:
+            return missing
+    start, end = _marked(text, number, refusal.argument)
     if number == protocol.IN_A_PROOF:
         words = "a proof is open: %s; end it by qed;; or give it up by oops;;" % (opened or "end it first")
     elif number == protocol.UNKNOWN_TAC:
-        words = _unknown_tac(text, refusal.argument)
+        words = _unknown_tac(text, refusal.argument, start)
     elif number == protocol.REFUSED:
-        words = _refused(refusal.argument)
+        words = _refused(text, refusal.argument)
     elif number == protocol.NAME_TAKEN:
         twice = " or is made twice here" if text.split().count(refusal.argument.split(":")[-1]) > 1 else ""
         words = "%s stands already%s: choose another name" % (_key(refusal.argument), twice)
+    elif number == protocol.IMPORT_CLASH:
+        words = _FIXED[number] % _key(refusal.argument)
     elif text.startswith(_TYPE_DEFINITION) and number in _OF_TYPE_DEFINITIONS:
         words = _OF_TYPE_DEFINITIONS[number] % refusal.argument
     else:
@@ -75,53 +79,26 @@ def _place(text: str, refusal: Refusal) -> int:
     return min(int(place), len(text)) if place.isdecimal() and len(place) < 9 else 0
 
 
+def _marked(text: str, number: int, argument: str) -> Tuple[int, int]:
+    """The range of the name that a refusal is about. Where it is a function's that is called more than once, all its calls are in it."""
+    name = argument.split(":")[-1]
+    places = notation.word_ranges(text, name)
+    if not places:
+        return _first_word(text)
+    is_any = number in (protocol.REFUSED, protocol.HYPOTHESES, protocol.BAD_RULE) or number == protocol.UNKNOWN_TAC and name in notation.TACS
+    return places[0][0], places[-1 if is_any else 0][1]
+
+
 def _first_word(text: str) -> Tuple[int, int]:
     word = notation.token(text, 0)
     return 0, len(word) if word else min(1, len(text))
-
-
-def _syntax(text: str, place: int) -> Told:
-    """The words for refusal 1 at a place."""
-    token = notation.token(text, place)
-    before = notation.tokens_before(text, place)
-    if place >= len(text):
-        return max(0, place - 1), place, "the command ends too soon: something has to follow here"
-    if not before and token in notation.COMMANDS:
-        return place, place + len(token), "the program reads `%s` and doesn't run it in this form yet" % token
-    if not before and token and token[0].isalpha():
-        return place, place + len(token), "`%s` begins no command; commands begin with %s" % (token, ", ".join(notation.COMMANDS))
-    if len(before) >= protocol.TOKENS:
-        return place, place + 1, "a command has at most %d tokens: split the statement" % protocol.TOKENS
-    if sum(before.count(bracket) for bracket in "([") - sum(before.count(bracket) for bracket in ")]") >= protocol.BRACKETS:
-        return place, place + 1, "more than %d brackets are open at once here" % protocol.BRACKETS
-    return _unexpected(text, place, token)
-
-
-def _unexpected(text: str, place: int, token: Optional[str]) -> Told:
-    """The words for a token with which no command goes on, or for a character that begins none."""
-    if token is None:
-        shown = text[place] if text[place].isprintable() else "U+%04X" % ord(text[place])
-        hint = "; `*)` closes no comment here" if text.startswith("*)", place) else ""
-        return place, place + 1, "`%s` begins no symbol of the notation%s" % (shown, hint)
-    hints = {
-        "!": "; a binder as an argument stands in parentheses: f (!x. P x)",
-        "\\": "; a binder as an argument stands in parentheses: f (\\x. t)",
-        ";": "; a command ends with `;;`",
-        "`": "; the quotation ends too soon, or a backquote is missing",
-        ":": "; a binder's variable with a type before another one stands in parentheses: !(x:A) y. p",
-    }
-    if text.startswith("new_type") and token.isdigit():
-        hints[token] = "; a type constructor takes 0 to 16 arguments"
-    if text.startswith("new_definition") and token in ("/\\", "\\/", "==>", "<=>"):
-        hints[token] = "; the right side of a definition's = stands in parentheses, or has <=> before it"
-    return place, place + len(token), "no command goes on with `%s` here%s" % (token, hints.get(token, ""))
 
 
 def _quotation(text: str, refusal: Refusal) -> Told:
     """The words for the refusals that name a quotation's place."""
     start, end = notation.quotation(text, _place(text, refusal))
     words = {
-        protocol.UNTYPABLE: "this term has no typing: some name in it would need two types",
+        protocol.UNTYPABLE: "this term has no typing: somewhere in it two types don't agree, or what is applied is no function",
         protocol.NOT_BOOL: "this term isn't of type bool: annotate what leaves its type open, as in (P:A->bool) x, or state an "
                            "equation",
         protocol.ARITY: "a type in this term has arguments that its constructor doesn't take: bool and ind take none, and a name "
@@ -131,24 +108,62 @@ def _quotation(text: str, refusal: Refusal) -> Told:
     return start, end, words
 
 
-def _unknown_tac(text: str, name: str) -> str:
+def _unknown_tac(text: str, name: str, start: int) -> str:
     """The words for refusal 6."""
-    missing = any(line.split()[:1] and line.split()[0] in notation.COMMANDS for line in text.split("\n")[1:])
-    hint = "; is a `;;` missing before the next line?" if missing else ""
     if name in notation.TACS:
         takes = notation.TACS[name] or "no arguments"
-        return "%s takes %s; the program runs it so, or doesn't run it yet%s" % (name, takes, hint)
-    near = difflib.get_close_matches(name, notation.TACS, 1, 0.75)
-    return "there is no function on goals %s%s%s" % (name, "; did you mean %s?" % near[0] if near else "", hint)
+        handing = _handing(text, start)
+        if handing and notation.TACS[name].endswith("a theorem"):
+            return "%s hands its theorem to %s, whose last argument is left out: write %s %s" % (handing, name, handing, name)
+        if handing:
+            return ("%s hands a theorem to the function behind it, and %s takes %s; write %s MP_TAC or the like, a function whose last "
+                    "argument is a theorem%s" % (handing, name, takes, handing, _by_assumptions(name)))
+        return "%s takes %s" % (name, takes)
+    if name in notation.FORWARD:
+        return "%s makes a theorem and is no function on goals: write ACCEPT_TAC (%s ..), MP_TAC (%s ..) or the like" % (name, name, name)
+    if name in notation.ELSEWHERE:
+        instead = notation.ELSEWHERE[name]
+        return "HOL Light's %s isn't here%s" % (name, ": " + instead if instead else "; docs/TACTICS.md lists the functions on goals that are")
+    near = notation.near(name, notation.TACS)
+    return "there is no function on goals %s%s" % (name, "; did you mean %s?" % near if near else "")
 
 
-def _refused(name: str) -> str:
-    """The words for refusal 17."""
-    fits = {
-        "REFL_TAC": "an equation whose sides are equal up to bound names", "CONJ_TAC": "p /\\ q", "DISJ1_TAC": "p \\/ q",
-        "DISJ2_TAC": "p \\/ q", "EQ_TAC": "p <=> q", "GEN_TAC": "!x. p", "DISCH_TAC": "p ==> q or ~p", "AP_TERM_TAC": "f x = f y",
-        "AP_THM_TAC": "f x = g x", "MK_COMB_TAC": "f x = g y with f and g of one type", "NO_TAC": "no goal at all",
-        "EXISTS_TAC": "?x. p, with a term of x's type",
-        "X_GEN_TAC": "!x. p, with a variable of x's type that is free nowhere in the goal",
-    }
-    return "%s doesn't fit the first goal%s" % (name, ": it wants " + fits[name] if name in fits else "")
+def _handing(text: str, start: int) -> Optional[str]:
+    """The tactical that hands a theorem to the function at a place, or None."""
+    before = [token for token in notation.tokens_before(text, start) if token != "("]
+    return before[-1] if before and before[-1] in notation.HANDING else None
+
+
+def _by_assumptions(name: str) -> str:
+    """What a rewrite by an assumption is written as."""
+    return "; rewriting by the assumptions is ASM_REWRITE_TAC []" if "REWRITE" in name else ""
+
+
+_FITS = {
+    "REFL_TAC": "an equation whose sides are equal up to bound names", "CONJ_TAC": "p /\\ q", "DISJ1_TAC": "p \\/ q",
+    "DISJ2_TAC": "p \\/ q", "EQ_TAC": "p <=> q", "GEN_TAC": "!x. p", "DISCH_TAC": "p ==> q or ~p", "AP_TERM_TAC": "f x = f y",
+    "AP_THM_TAC": "f x = g x", "MK_COMB_TAC": "f x = g y with f and g of one type", "NO_TAC": "no goal at all",
+    "EXISTS_TAC": "?x. p, with a term of x's type", "STRIP_TAC": "!x. p, p /\\ q, p ==> q or ~p",
+    "X_GEN_TAC": "!x. p, with a variable of x's type that is free nowhere in the goal",
+    "ACCEPT_TAC": "a theorem that concludes the goal", "CONTR_TAC": "a theorem that concludes F", "CHOOSE_TAC": "a theorem ?x. p",
+    "X_CHOOSE_TAC": "a theorem ?x. p, with a variable of x's type that is free neither in it nor in the goal",
+    "DISJ_CASES_TAC": "a theorem p \\/ q", "SUBST1_TAC": "a theorem s = t", "UNDISCH_TAC": "one of the goal's assumptions",
+    "MATCH_MP_TAC": "a theorem !xs. s ==> t whose t matches the goal",
+    "SPEC_TAC": "a variable of the term's type that isn't free in the goal, unless it is the term",
+    "DISCH_THEN": "p ==> q or ~p", "POP_ASSUM": "a goal with an assumption", "FIRST_ASSUM": "an assumption that its function takes",
+}
+"""What functions on goals and tacticals want, where they refuse some goals."""
+
+_OF_TACTICALS = {
+    "THENL": "THENL needs as many expressions in its list as there are goals where it stands", "FIRST": "FIRST has nothing to try",
+    "CHANGED_TAC": "what CHANGED_TAC runs leaves the goal as it was",
+}
+
+
+def _refused(text: str, name: str) -> str:
+    """The words for refusal 17. Only a function that is called alone is called on the first goal."""
+    if name in _OF_TACTICALS:
+        return _OF_TACTICALS[name]
+    is_alone = notation.tokens_before(text, len(text))[1:2] == [name] and not notation.has_tactical(text)
+    goal = "the first goal" if is_alone else "the goal that it is run on"
+    return "%s doesn't fit %s%s" % (name, goal, ": it wants " + _FITS[name] if name in _FITS else "")

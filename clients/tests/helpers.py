@@ -10,13 +10,17 @@ ROOT = CLIENTS.parent
 FAKE = CLIENTS / "tests" / "fake_server.py"
 HOLLS = CLIENTS / "bin" / "holls"
 BUILT = pathlib.Path(os.environ.get("HOL_SERVE") or ROOT / "crates" / "hol_serve" / "out" / "hol_serve")
-EDITS = "replace,remove,drop_theory"
+PYTHON = [sys.executable, "-I", "-S"]
+"""Python without what a machine's site puts in, which may take longer to start than the test."""
+
+SECONDS = 600
+"""So long a program may run on a machine that does much else."""
 
 
 def fake(folder, *words):
     """A program in the folder that runs the fake server with these words, as --server wants one file."""
     program = pathlib.Path(folder) / "server"
-    quoted = " ".join("'%s'" % word for word in (sys.executable, FAKE) + words)
+    quoted = " ".join("'%s'" % word for word in (*PYTHON, FAKE, *words))
     program.write_text("#!/bin/sh\nexec %s\n" % quoted)
     program.chmod(program.stat().st_mode | stat.S_IXUSR)
     return str(program)

@@ -1,9 +1,9 @@
 -- What a user does in Neovim, step by step; what is seen goes to the file $RESULTS as JSON. Run by test_neovim.py.
 local results = {}
 local folder = vim.env.FOLDER
-local seconds = 40
+local seconds = 240
 
-vim.g.holls = { command = { vim.env.PYTHON, vim.env.HOLLS, 'lsp', '--server', vim.env.SERVER } }
+vim.g.holls = { command = { vim.env.PYTHON, '-I', '-S', vim.env.HOLLS, 'lsp', '--server', vim.env.SERVER } }
 vim.cmd('filetype plugin on')
 
 local function said(buffer)
@@ -46,6 +46,24 @@ local function run()
   keep('one is gone after an edit', count(5))
   vim.cmd('silent undo')
   keep('and is back after undo', count(6))
+
+  vim.cmd('write | edit')
+  vim.api.nvim_win_set_cursor(0, { 3, 0 })
+  vim.cmd('doautocmd CursorMoved')
+  keep('after :edit they are there again', count(6))
+  vim.api.nvim_buf_set_text(0, 2, 2, 2, 9, { 'ALL_TAC' })
+  keep('and an edit is followed', count(5))
+  vim.cmd('silent undo')
+  keep('and back', count(6))
+
+  vim.cmd('HolSearch eta')
+  results.search = { reached = vim.wait(seconds * 1000, function() return #vim.fn.getqflist() > 0 end, 20), said = {} }
+  results.found = vim.fn.getqflist()[1].text
+  vim.fn.setqflist({}, 'r')
+  vim.cmd('HolSearch! _ ==> P (_)')
+  results.conclusions = { reached = vim.wait(seconds * 1000, function() return #vim.fn.getqflist() > 0 end, 20), said = {} }
+  results.concluded = vim.tbl_map(function(one) return one.text:match('^%S+') end, vim.fn.getqflist())
+  vim.cmd('cclose')
 
   local paste = {}
   for number = 1, 125 do

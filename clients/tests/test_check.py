@@ -1,13 +1,17 @@
 """`holls check` as a program, over the fake server and over the real one where it is built."""
 
 import json
+import os
 import pathlib
+import pty
 import subprocess
-import sys
 import tempfile
+import threading
 import unittest
 
-from tests.helpers import BUILT, HOLLS, ROOT, fake, proofs
+from holls import checking
+from holls.files import File
+from tests.helpers import BUILT, HOLLS, PYTHON, ROOT, SECONDS, fake, proofs
 
 
 class Checking(unittest.TestCase):
@@ -22,7 +26,7 @@ class Checking(unittest.TestCase):
             (self.folder / name).write_bytes(content if isinstance(content, bytes) else content.encode())
         program = fake(self.folder, *server)
         done = subprocess.run(
-            [sys.executable, str(HOLLS), "check", "--server", program, *words, *files], cwd=self.folder, capture_output=True, timeout=60)
+            [*PYTHON, str(HOLLS), "check", "--server", program, *words, *files], cwd=self.folder, capture_output=True, timeout=SECONDS)
         self.assertNotIn(b"Traceback", done.stderr + done.stdout)
         return done.returncode, done.stdout.decode(), done.stderr.decode()
 
@@ -36,8 +40,7 @@ class Checking(unittest.TestCase):
         lines = output.splitlines()
         self.assertTrue(lines[0].startswith("A.hol:2:5: error: REFL_TAC doesn't fit the first goal"))
         self.assertTrue(lines[1].startswith("A.hol:3:1: note: "))
-        self.assertTrue(lines[2].startswith("A.hol:5:1: note: from here on nothing is checked: the proof of A"))
-        self.assertEqual(lines[3:], ["A.hol: 6 commands, 0 theorems, 1 error"])
+        self.assertEqual(lines[2:], ["A.hol: 6 commands, 1 theorem, 1 error"])
 
     def test_an_open_proof_is_an_error(self):
         status, output, _ = self.check({"A.hol": "g A `x = x`;;\ne REFL_TAC;;\n"})
@@ -46,7 +49,7 @@ class Checking(unittest.TestCase):
     def test_a_forgotten_qed_is_told_at_the_next_goal(self):
         status, output, _ = self.check({"A.hol": "g A `x = x`;;\ne REFL_TAC;;\ng B `x = x`;; e REFL_TAC;; qed;;\n"})
         self.assertEqual(status, 1)
-        self.assertIn("A.hol:3:1: error: a proof is open: that of A, from line 1; end it by qed;;", output)
+        self.assertIn("A.hol:3:1: error: a proof was open before this: that of A, from line 1; end it by qed;;", output)
 
     def test_a_name_twice_a_syntax_error_and_the_places_behind_symbols(self):
         status, output, _ = self.check({"A.hol": proofs(1) + "g N0 `x = x`;;\n∀;; qedx;;"})
@@ -90,16 +93,17 @@ class Checking(unittest.TestCase):
                 self.assertEqual((status, output), (0, "A.hol: 8 commands, 2 theorems, all accepted\n"))
 
     def test_a_server_that_hangs_is_status_2_and_names_the_command(self):
-        status, _, errors = self.check({"A.hol": proofs(1)}, "--seconds", "1", server=("--fault", "hang:7"))
+        server = ("--fault", "hang:7", "--once", str(self.folder / "once"))
+        status, _, errors = self.check({"A.hol": proofs(1)}, "--seconds", "6", server=server)
         self.assertEqual(status, 2)
-        self.assertIn("A.hol:2: nothing is known of this command: it gave no answer within 1 seconds", errors)
+        self.assertIn("A.hol:2: nothing is known of this command: hol_serve gave no answer within 6 seconds", errors)
 
     def test_files_are_checked_after_those_that_they_import(self):
         files = {"B.hol": "import A;; " + proofs(1).replace("N0", "M"), "A.hol": proofs(1)}
-        status, output, _ = self.check(files, server=("--serve", "import"))
+        status, output, _ = self.check(files, server=())
         self.assertEqual((status, output.splitlines()[0]), (0, "A.hol: 4 commands, 1 theorem, all accepted"))
-        status, output, _ = self.check({"B.hol": "import C;;", "C.hol": "import B;;"}, server=("--serve", "import"))
-        self.assertEqual((status, "imports this one in turn" in output), (1, True))
+        status, output, _ = self.check({"B.hol": "import C;;", "C.hol": "import B;;"}, server=())
+        self.assertEqual((status, output.count("imports go in a circle here: B imports C imports B") == 2), (1, True))
 
     def test_json_and_axioms(self):
         status, output, _ = self.check({"A.hol": proofs(1)}, "--json", "--axioms")
@@ -110,11 +114,80 @@ class Checking(unittest.TestCase):
         self.assertEqual((status, errors), (2, "holls: A.hol:4: on what N0 rests isn't known: hol_serve ended, or had no memory\n"))
 
 
+    def test_no_axioms_is_an_error_where_a_theorem_rests_on_one_that_is_not_allowed(self):
+        files = {"A.hol": "new_axiom AX `p`;;\nnew_axiom BX `q`;;\n" + proofs(1)}
+        self.assertEqual(self.check(files)[0], 0)
+        status, output, _ = self.check(files, "--no-axioms", "--allow-axiom", "AX")
+        self.assertEqual((status, output.splitlines()), (1, [
+            "A.hol:2:1: error: BX rests on the axiom BX", "A.hol: 6 commands, 1 theorem, 1 error"]))
+        self.assertEqual(self.check(files, "--no-axioms", "--allow-axiom", "AX", "--allow-axiom", "BX")[0], 0)
+        status, output, _ = self.check(files, "--no-axioms", "--json")
+        self.assertEqual((status, json.loads(output.splitlines()[1])["text"]), (1, "BX rests on the axiom BX"))
+
+    def test_a_folder_is_checked_with_those_below_it_each_project_for_itself(self):
+        for folder in ("one", "two/deep"):
+            (self.folder / folder).mkdir(parents=True)
+            (self.folder / folder / "A.hol").write_text(proofs(1))
+        (self.folder / "two" / "hol-project.json").write_text("{}")
+        (self.folder / "two" / "B.hol").write_text("import A;;\n" + proofs(1).replace("N0", "M"))
+        program = fake(self.folder)
+        done = subprocess.run([*PYTHON, str(HOLLS), "check", "--server", program, "."], cwd=self.folder, capture_output=True, timeout=SECONDS)
+        self.assertEqual((done.returncode, done.stdout.decode().splitlines()), (0, [
+            "./one/A.hol: 4 commands, 1 theorem, all accepted", "./two/deep/A.hol: 4 commands, 1 theorem, all accepted",
+            "./two/B.hol: 5 commands, 1 theorem, all accepted"]))
+
+    def test_progress_is_shown_on_a_terminal(self):
+        (self.folder / "A.hol").write_text("g A `x = x`;; e SLOW_TAC;; e REFL_TAC;; qed;;\n")
+        program, (ours, theirs), shown = fake(self.folder), pty.openpty(), []
+        reader = threading.Thread(target=lambda: shown.extend(iter(lambda: _read(ours), b"")), daemon=True)
+        reader.start()
+        words = [*PYTHON, str(HOLLS), "check", "--server", program, "A.hol"]
+        with subprocess.Popen(words, cwd=self.folder, stdout=subprocess.PIPE, stderr=theirs) as process:
+            output = process.stdout.read().decode()
+        os.close(theirs)
+        reader.join()
+        os.close(ours)
+        self.assertEqual((process.returncode, output.count("all accepted")), (0, 1))
+        self.assertRegex(b"".join(shown).decode(), r"\d of 4 commands, 0 of 1 files")
+
+    @unittest.skipUnless((os.cpu_count() or 1) > 1, "there is one processor")
+    def test_theories_that_do_not_import_one_another_are_run_side_by_side(self):
+        (self.folder / "meeting").mkdir()
+        files = {name + ".hol": "g %s `x = x`;; e MEET_TAC;; e REFL_TAC;; qed;;\n" % name for name in "AB"}
+        status, output, _ = self.check(files, server=("--meet", str(self.folder / "meeting"), "--log", str(self.folder / "log")))
+        self.assertEqual((status, output.count("all accepted")), (0, 2))
+        made = [line for line in (self.folder / "log").read_bytes().splitlines() if b"new_theory" in line]
+        self.assertEqual(len(made), 2)
+
+
+def _read(terminal):
+    """What a terminal's program has written, or nothing where it has ended."""
+    try:
+        return os.read(terminal, 4096)
+    except OSError:
+        return b""
+
+
+class Scheduling(unittest.TestCase):
+    def test_a_server_takes_the_file_that_costs_least_where_it_stands(self):
+        files = {name: File(name + ".hol") for name in "ABCD"}
+        for name, text in (("A", proofs(9)), ("B", "import A;;"), ("C", proofs(1)), ("D", "import C;; import A;; qed;;")):
+            files[name].take(text)
+        units = checking.units({"here": list(files.values())})
+        self.assertEqual([[file.theory.name for file in unit.imports] for unit in units], [[], ["A"], [], ["C", "A"]])
+        pool = checking.Pool(units, [], 1, False)
+        self.assertEqual(pool.take("", set()).file, files["C"])
+        self.assertEqual(pool.take("here", {files["A"]}).file, files["A"])
+        self.assertEqual(pool.take("here", {files["A"]}).file, files["B"])
+        self.assertEqual(pool.take("there", {files["A"]}).file, files["D"])
+        self.assertIsNone(pool.take("here", set()))
+
+
 @unittest.skipUnless(BUILT.is_file(), "hol_serve isn't built")
 class Examples(unittest.TestCase):
     def test_the_first_examples_check(self):
         files = [str(ROOT / "examples" / "theories" / (name + ".hol")) for name in ("first", "functions", "tacticals")]
-        done = subprocess.run([sys.executable, str(HOLLS), "check", "--server", str(BUILT), "--axioms", *files], capture_output=True, timeout=60)
+        done = subprocess.run([*PYTHON, str(HOLLS), "check", "--server", str(BUILT), "--axioms", *files], capture_output=True, timeout=SECONDS)
         self.assertEqual((done.returncode, done.stderr), (0, b""), done.stdout.decode())
 
 

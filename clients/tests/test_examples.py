@@ -4,7 +4,7 @@ import subprocess
 import sys
 import unittest
 
-from tests.helpers import BUILT, ROOT
+from tests.helpers import BUILT, ROOT, SECONDS
 
 sys.path.insert(0, str(ROOT / "examples"))
 
@@ -28,7 +28,7 @@ class Replies(unittest.TestCase):
         requests = (ROOT / "examples" / "session.jsonl").read_text(encoding="utf-8").splitlines()
         self.assertEqual([line[2:] for line in session if line.startswith("> ")], requests)
         text = "".join(line + "\n" for line in requests).encode()
-        done = subprocess.run([str(BUILT)], input=text, stdout=subprocess.PIPE, timeout=60, check=True)
+        done = subprocess.run([str(BUILT)], input=text, stdout=subprocess.PIPE, timeout=SECONDS, check=True)
         self.assertEqual(done.stdout.decode().splitlines(), [line for line in session if not line.startswith("> ")])
 
 

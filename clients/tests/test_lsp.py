@@ -6,7 +6,6 @@ import queue
 import random
 import re
 import subprocess
-import sys
 import tempfile
 import threading
 import time
@@ -14,9 +13,7 @@ import unittest
 
 from holls.lsp import wire
 from tests.fake_server import Documents
-from tests.helpers import BUILT, EDITS, HOLLS, ROOT, fake, proofs
-
-SECONDS = 30
+from tests.helpers import HOLLS, PYTHON, SECONDS, fake, proofs
 
 
 class Editor:
@@ -24,11 +21,13 @@ class Editor:
 
     def __init__(self, program, *words):
         self.process = subprocess.Popen(
-            [sys.executable, str(HOLLS), "lsp", "--server", program, *words], stdin=subprocess.PIPE, stdout=subprocess.PIPE,
+            [*PYTHON, str(HOLLS), "lsp", "--server", program, *words], stdin=subprocess.PIPE, stdout=subprocess.PIPE,
             stderr=subprocess.PIPE)
         self.messages, self.numbers = queue.Queue(), 0
-        self.published, self.versions, self.shown, self.progress = {}, {}, [], []
-        threading.Thread(target=self._read, daemon=True).start()
+        self.published, self.versions, self.shown, self.progress, self.unknown = {}, {}, [], [], {}
+        self.ever_said, self.ever_unknown = [], []
+        self.reader = threading.Thread(target=self._read, daemon=True)
+        self.reader.start()
 
     def _read(self):
         for message in iter(lambda: wire.read(self.process.stdout), None):
@@ -46,10 +45,14 @@ class Editor:
         if message.get("method") == "textDocument/publishDiagnostics":
             params = message["params"]
             self.published[params["uri"]], self.versions[params["uri"]] = params["diagnostics"], params.get("version")
+            self.ever_said += params["diagnostics"]
         elif message.get("method") == "window/showMessage":
             self.shown.append(message["params"]["message"])
         elif message.get("method") == "window/logMessage":
             raise AssertionError(message["params"]["message"])
+        elif message.get("method") == "$/hol/fileProgress":
+            self.unknown[message["params"]["textDocument"]["uri"]] = message["params"]["processing"]
+            self.ever_unknown += message["params"]["processing"]
         elif message.get("method") == "$/progress":
             self.progress.append(message["params"]["value"]["kind"])
         return message
@@ -91,6 +94,14 @@ class Editor:
     def goals(self, uri, line, column, mode="After"):
         return self.ask("proof/goals", {"textDocument": {"uri": uri}, "position": {"line": line, "character": column}, "mode": mode})
 
+    def hover(self, uri, line, column, wanted):
+        """A hover that has some words, which one that comes too early may lack."""
+        until = time.monotonic() + SECONDS
+        while True:
+            found = self.ask("textDocument/hover", {"textDocument": {"uri": uri}, "position": {"line": line, "character": column}})
+            if wanted in found["contents"]["value"] or time.monotonic() > until:
+                return found
+
     def said(self, uri):
         """The diagnostics as line, severity and the words' beginning."""
         return [(found["range"]["start"]["line"], found["severity"], found["message"].split(":")[0]) for found in self.published.get(uri, [])]
@@ -105,6 +116,7 @@ class Editor:
 
     def kill(self):
         self.process.kill()
+        self.reader.join(SECONDS)
         for pipe in (self.process.stdin, self.process.stdout, self.process.stderr):
             try:
                 pipe.close()
@@ -134,7 +146,7 @@ class Bridging(unittest.TestCase):
         return [request["op"] for request in self.requests() if request["op"] not in ("report", "basis")]
 
     def test_a_session_from_opening_to_the_end(self):
-        editor = self.editor("--serve", EDITS + ",oops")
+        editor = self.editor()
         editor.open(self.uri, "g A `p /\\ q`;;\ne CONJ_TAC;;\ne FOO;;\n\ng B `x = x`;;\ne REFL_TAC;;\nqed;;\n")
         editor.until(lambda: editor.said(self.uri) == [(2, 1, "there is no function on goals FOO")])
         goals = editor.goals(self.uri, 1, 3)
@@ -146,28 +158,36 @@ class Bridging(unittest.TestCase):
         self.assertEqual(editor.end(), 0)
 
     def test_an_edit_sends_what_changed_and_mends_what_is_said(self):
-        editor = self.editor("--serve", EDITS)
-        editor.open(self.uri, proofs(250))
-        editor.until(lambda: len(self.requests()) == 6 + 1001 + 1000)
+        editor = self.editor()
+        editor.open(self.uri, proofs(100))
+        editor.until(lambda: len(self.requests()) == 3 + 1 + 499 + 400)  # Three ask what is served; 99 are hidden.
         before = len(self.edits())
-        editor.change(self.uri, 2, "NO", ((5 * 100 + 1, 2), (5 * 100 + 1, 5)))
-        editor.until(lambda: any(line == 501 and severity == 1 for line, severity, _ in editor.said(self.uri)))
+        editor.change(self.uri, 2, "NO", ((5 * 50 + 1, 2), (5 * 50 + 1, 5)))
+        editor.until(lambda: any(line == 251 and severity == 1 for line, severity, _ in editor.said(self.uri)))
         self.assertEqual(self.edits()[before:], ["replace"])
-        editor.until(lambda: len(self.requests()) > 2030)
-        asked = [request["at"] for request in self.requests() if request["op"] == "report"][1001:1021]
-        self.assertEqual((min(asked), max(asked)), (401, 420))  # What stands above the edit is known, and what is seen comes first.
-        editor.change(self.uri, 3, "ALL", ((501, 2), (501, 4)))
+        editor.until(lambda: len(self.requests()) > 925)
+        asked = [request["at"] for request in self.requests() if request["op"] == "report"][400:420]
+        self.assertEqual((min(asked), max(asked)), (251, 275))  # What stands above the edit is known, and what is seen comes first.
+        editor.change(self.uri, 3, "ALL", ((251, 2), (251, 4)))
         editor.until(lambda: editor.said(self.uri) == [])
         self.assertEqual(editor.versions[self.uri], 3)
 
+    def test_nothing_is_said_of_a_correct_file_at_any_time_but_what_is_not_known(self):
+        editor = self.editor()
+        editor.open(self.uri, proofs(3) + "g S `x = x`;;\ne SLOW_TAC;;\ne REFL_TAC;;\nqed;;\n" + proofs(3).replace("N", "M"))
+        editor.until(lambda: self.uri in editor.published and editor.unknown.get(self.uri) == [])
+        self.assertEqual(editor.ever_said, [])
+        self.assertTrue(editor.ever_unknown)
+        self.assertEqual(editor.end(), 0)
+
     def test_a_failed_goal_behind_an_open_proof_shows_none_of_its_goals(self):
-        editor = self.editor("--serve", EDITS + ",oops")
+        editor = self.editor()
         editor.open(self.uri, "g A `p /\\ q`;;\ng B `x x`;;\nqed;;")
         editor.until(lambda: [found[:2] for found in editor.said(self.uri)] == [(1, 1), (1, 1), (2, 3)])
         self.assertEqual([editor.goals(self.uri, line, 0).get("goals") for line in (1, 2)], [None, None])
 
     def test_without_replace_a_fresh_server_takes_the_file(self):
-        editor = self.editor()
+        editor = self.editor("--serve", "")
         editor.open(self.uri, proofs(2))
         editor.until(lambda: self.uri in editor.published)
         editor.change(self.uri, 2, "NO_TAC", ((1, 2), (1, 9)))
@@ -177,7 +197,7 @@ class Bridging(unittest.TestCase):
         self.assertNotIn("replace", self.edits()[6:])
 
     def test_random_edits_give_the_reports_of_a_fresh_server(self):
-        editor = self.editor("--serve", EDITS + ",oops")
+        editor = self.editor()
         source, text = random.Random(5), proofs(3)
         pieces = 4 * ["g X `p /\\ q`;;\n", "g Y `a = a`;;", "g Z `x x`;;\n", "e CONJ_TAC;;\n", "e REFL_TAC;;\n", "qed;;\n"]
         pieces += ["oops;;\n", "(* c *)", "(*", "*)", "*)", ";;", "😀"]
@@ -197,8 +217,8 @@ class Bridging(unittest.TestCase):
         """The states after all commands are those that the fake server's own run gives."""
         from holls.files import File
         file = File("A.hol")
-        file.take(text, True)
-        documents = Documents(["oops"])
+        file.take(text)
+        documents = Documents()
         documents.new_theory({"name": "A", "at": 0})
         for at, entry in enumerate(file.theory.entries):
             documents.insert({"theory": "A", "at": at, "text": entry.text})
@@ -220,14 +240,14 @@ class Bridging(unittest.TestCase):
     def test_faults_are_survived(self):
         for fault in ("die:9", "end:12", "bad:10", "memory:9"):
             with self.subTest(fault):
-                editor = self.editor("--serve", EDITS, "--fault", fault, "--once", str(self.folder / fault.replace(":", "")))
+                editor = self.editor("--fault", fault, "--once", str(self.folder / fault.replace(":", "")))
                 editor.open(self.uri, "g A `p = q`;;\ne REFL_TAC;;\n")
                 editor.until(lambda: [found[:2] for found in editor.said(self.uri)] == [(1, 1)])
                 self.assertEqual(editor.shown, [])
                 self.assertEqual(editor.end(), 0)
 
     def test_a_server_that_always_ends_is_told_of(self):
-        editor = self.editor("--serve", EDITS, "--fault", "end:7")
+        editor = self.editor("--fault", "end:7")
         editor.open(self.uri, proofs(5))
         editor.until(lambda: any("hol_serve ended with status 3, and again" in found["message"] for found in editor.published.get(self.uri, [])))
         self.assertEqual(len(editor.shown), 1)
@@ -244,15 +264,16 @@ class Bridging(unittest.TestCase):
         self.assertEqual(editor.end(), 0)
 
     def test_a_hanging_command_is_marked_and_an_edit_goes_on(self):
-        editor = self.editor("--serve", EDITS, "--fault", "hang:8", "--once", str(self.folder / "once"))
+        editor = self.editor("--fault", "hang:8", "--once", str(self.folder / "once"))
         editor.open(self.uri, proofs(1))
-        editor.until(lambda: any("over 5 seconds" in found[2] for found in editor.said(self.uri)))
+        editor.until(lambda: 2 in [found["kind"] for found in editor.unknown.get(self.uri, [])])
+        self.assertEqual(editor.said(self.uri), [])
         editor.change(self.uri, 2, "e NO_TAC", ((1, 0), (1, 9)))
         editor.until(lambda: (1, 1) in [found[:2] for found in editor.said(self.uri)])
         self.assertEqual(editor.end(), 0)
 
     def test_symbols_folding_definition_completion_lenses_and_hover(self):
-        editor = self.editor("--serve", EDITS)
+        editor = self.editor()
         editor.open(self.uri, "(* 😀\n *)\n" + proofs(2))
         editor.until(lambda: self.uri in editor.published)
         document = {"textDocument": {"uri": self.uri}}
@@ -263,35 +284,76 @@ class Bridging(unittest.TestCase):
         self.assertEqual([(found["startLine"], found["endLine"]) for found in foldings], [(2, 5), (7, 10), (0, 1)])
         at = dict(document, position={"line": 7, "character": 3})
         self.assertEqual(editor.ask("textDocument/definition", at)["range"]["start"], {"line": 7, "character": 2})
+        at = dict(document, position={"line": 8, "character": 3})
         labels = [found["label"] for found in editor.ask("textDocument/completion", at)]
-        self.assertLess({"N0", "CONJ_TAC", "qed", "TRUTH"}, set(labels))
-        hover = editor.ask("textDocument/hover", dict(document, position={"line": 5, "character": 1}))
+        self.assertLess({"N0", "CONJ_TAC", "THEN", "TRUTH"}, set(labels))
+        hover = editor.hover(self.uri, 5, 1, "rests on")
         self.assertEqual(hover["contents"]["value"], "```hol\nthm N0 |- f x = f x\nrests on no axioms or definitions of its own\n```")
+        hover = editor.hover(self.uri, 2, 3, "rests on")
+        self.assertEqual(hover["contents"]["value"], "```hol\nN0: |- f x = f x\n```\n\ntheorem of A\n\nrests on no axioms or definitions of its own")
+        hover = editor.ask("textDocument/hover", dict(document, position={"line": 3, "character": 4}))
+        self.assertIn("Fits any goal and leaves it as it is.", hover["contents"]["value"])
+        symbols = editor.ask("workspace/symbol", {"query": "n1"})
+        self.assertEqual([(found["name"], found["containerName"]) for found in symbols], [("N1", "A")])
         self.assertEqual(editor.goals(self.uri, 10, 1)["messages"], ["thm N1 |- f x = f x"])
         lenses = editor.ask("textDocument/codeLens", document)
         self.assertEqual(editor.ask("codeLens/resolve", lenses[1])["command"]["title"], "rests on no axioms or definitions of its own")
 
     def test_a_long_term_is_shown_in_part(self):
-        editor = self.editor("--serve", EDITS)
+        editor = self.editor()
         editor.open(self.uri, "g A `%s`;;" % ("x" * 60_000))
         said = editor.goals(self.uri, 0, 0)
         self.assertTrue(said["text"].endswith("x .. (40000 characters more)\n"))
         self.assertLess(len(said["goals"]["goals"][0]["ty"]), 21_000)
 
     def test_two_files_and_a_closed_one(self):
-        editor = self.editor("--serve", EDITS + ",import")
+        editor = self.editor()
         other = (self.folder / "B.hol").as_uri()
         (self.folder / "A.hol").write_text(proofs(1))
         editor.open(other, "import A;;\nimport C;;\n")
-        editor.until(lambda: editor.said(other) == [(1, 1, "there is no theory C before this one")])
+        editor.until(lambda: editor.said(other) == [(1, 1, "there is no file C.hol in %s" % self.folder)])
         editor.open(self.uri, "g A `p = q`;;\n")
         editor.until(lambda: editor.said(self.uri) == [(0, 2, "the proof of A is never ended")])
         self.assertEqual(editor.goals(other, 0, 1)["messages"], [])
         twin = (self.folder / "sub" / "A.hol").as_uri()
-        editor.open(twin, "qed;;")
-        editor.until(lambda: editor.said(twin) and editor.said(twin)[0][:2] == (0, 1))
+        editor.open(twin, "qed;;")  # Another folder: a project of its own, with a server of its own.
+        editor.until(lambda: [found[2] for found in editor.said(twin)] == ["no proof is open here"])
         editor.send("textDocument/didClose", {"textDocument": {"uri": self.uri}})
-        editor.until(lambda: editor.said(self.uri) == [] and [found[2] for found in editor.said(twin)] == ["no proof is open here"])
+        editor.until(lambda: editor.said(self.uri) == [])
+        self.assertEqual(editor.end(), 0)
+
+    def test_what_changes_on_disk_is_noticed(self):
+        editor, other = self.editor(), (self.folder / "B.hol").as_uri()
+        editor.open(other, "import C;;\n")
+        editor.until(lambda: [found[2][:26] for found in editor.said(other)] == ["there is no file C.hol in "])
+        (self.folder / "C.hol").write_text(proofs(1))
+        editor.until(lambda: editor.said(other) == [])
+        self.assertEqual(editor.goals(other, 0, 1)["messages"], ["thm N0 |- f x = f x"])
+        (self.folder / "C.hol").write_text(proofs(1).replace("N0", "OTHER"))
+        editor.until(lambda: editor.goals(other, 0, 1)["messages"] == ["thm OTHER |- f x = f x"])
+        (self.folder / "C.hol").write_text("import B;;")
+        editor.until(lambda: [found[2] for found in editor.said(other)] == ["imports go in a circle here"])
+        self.assertEqual(editor.end(), 0)
+
+    def test_a_project_file_names_the_folders_of_theories(self):
+        (self.folder / "library" / "deep").mkdir(parents=True)
+        (self.folder / "library" / "deep" / "C.hol").write_text(proofs(1))
+        editor, other = self.editor(), (self.folder / "sub" / "B.hol").as_uri()
+        editor.open(other, "import C;;\nimport D;;\n")
+        editor.until(lambda: [found[0] for found in editor.said(other)] == [0, 1])
+        (self.folder / "hol-project.json").write_text('{"folders": [".", "library"]}')
+        editor.until(lambda: [found[0] for found in editor.said(other)] == [1])
+        (self.folder / "hol-project.json").write_text('{"folders": "library"}')
+        editor.until(lambda: [found[:2] for found in editor.said(other)]== [(0, 1), (1, 1)])
+        self.assertIn("hol-project.json can't be read", editor.published[other][0]["message"])
+        self.assertEqual(editor.end(), 0)
+
+    def test_an_edit_does_not_wait_for_a_report_that_takes_long(self):
+        editor = self.editor("--fault", "hang:70", "--once", str(self.folder / "once"))
+        editor.open(self.uri, "g A `p /\\ q`;;\n" + "e ALL_TAC;;\n" * 61)
+        editor.until(lambda: len(self.requests()) >= 70)
+        editor.change(self.uri, 2, "q", ((0, 5), (0, 6)))  # The report under way would take ten minutes.
+        self.assertEqual(editor.goals(self.uri, 0, 1)["goals"]["goals"][0]["ty"], "q /\\ q")
         self.assertEqual(editor.end(), 0)
 
     def test_bad_messages_are_refused_and_nothing_ends(self):
@@ -305,38 +367,15 @@ class Bridging(unittest.TestCase):
     def test_an_editor_that_goes_away_leaves_no_process(self):
         editor = self.editor("--fault", "hang:8")
         editor.open(self.uri, proofs(1))
-        editor.until(lambda: len(self.requests()) >= 14)
+        editor.until(lambda: len(self.requests()) >= 11)
         editor.process.stdin.close()
         self.assertEqual(editor.process.wait(SECONDS), 1)
 
     def test_progress_is_shown_where_it_takes_long(self):
-        editor = self.editor("--serve", EDITS, capabilities={"window": {"workDoneProgress": True}})
+        editor = self.editor(capabilities={"window": {"workDoneProgress": True}})
         editor.open(self.uri, "g A `p`;;\ne SLOW_TAC;;\n")
         editor.until(lambda: "end" in editor.progress)
         self.assertEqual(editor.progress[0], "begin")
-
-
-@unittest.skipUnless(BUILT.is_file(), "hol_serve isn't built")
-class OverTheProgram(unittest.TestCase):
-    def test_an_example_is_proved_broken_and_mended(self):
-        editor = Editor(str(BUILT))
-        self.addCleanup(editor.kill)
-        editor.begin()
-        uri, text = "file:///first.hol", (ROOT / "examples" / "theories" / "first.hol").read_text()
-        editor.open(uri, text)
-        line = text[:text.index("e CONJ_TAC")].count("\n")
-        goals = editor.goals(uri, line, 3)["goals"]["goals"]
-        self.assertEqual([goal["ty"] for goal in goals], ["x = x", "(?y. R x y) <=> (?z. R x z)"])
-        editor.until(lambda: uri in editor.published)
-        self.assertEqual(editor.said(uri), [])
-        editor.change(uri, 2, "DISJ1_TAC", ((line, 2), (line, 10)))
-        editor.until(lambda: (line, 1) in [found[:2] for found in editor.said(uri)])
-        editor.change(uri, 3, "CONJ_TAC", ((line, 2), (line, 11)))
-        editor.until(lambda: editor.said(uri) == [] and editor.versions[uri] == 3)
-        last = text[:text.rindex("qed")].count("\n")
-        hover = editor.ask("textDocument/hover", {"textDocument": {"uri": uri}, "position": {"line": last, "character": 1}})
-        self.assertIn("thm EITHER |- (p <=> q) \\/ (r <=> r)\nrests on no axioms", hover["contents"]["value"])
-        self.assertEqual(editor.end(), 0)
 
 
 def _position(text, place):

@@ -9,7 +9,7 @@ import sys
 import tempfile
 import unittest
 
-from tests.helpers import CLIENTS, EDITS, HOLLS, fake, proofs
+from tests.helpers import CLIENTS, HOLLS, SECONDS, fake, proofs
 
 NVIM = shutil.which("nvim")
 A = "g A `p /\\ q`;;\ne CONJ_TAC;;\ne FOO_TAC;;\nqed;;\n\ng B `x x`;;\nqed;;\nqedx;;\noops;;\n"
@@ -28,6 +28,8 @@ class InNeovim(unittest.TestCase):
         self.assertEqual(found.pop("failure", None), None)
         window = found.pop("window")
         self.assertTrue(window.startswith("goal 1 of 2\n  p : bool\n"), window)
+        self.assertEqual(found.pop("found"), "ETA_AX |- !t:A->B. (\\x. t x) = t  (the prelude)")
+        self.assertEqual(found.pop("concluded"), ["SELECT_AX"])
         for step, seen in found.items():
             self.assertTrue(seen["reached"], (step, seen["said"]))
         places = [said[:2] for said in found["six things to say"]["said"]]
@@ -35,12 +37,12 @@ class InNeovim(unittest.TestCase):
         self.assertEqual(found["an error in a file of CRLF lines"]["said"][0][:2], [5, 1])
 
     def run_in(self, folder):
-        server = fake(folder, "--serve", EDITS + ",oops", "--fault", "die:2950", "--once", str(folder / "once"))
+        server = fake(folder, "--fault", "die:2950", "--once", str(folder / "once"))
         given = dict(os.environ, FOLDER=str(folder), RESULTS=str(folder / "results"), PYTHON=sys.executable, HOLLS=str(HOLLS), SERVER=server,
                      XDG_STATE_HOME=str(folder), XDG_DATA_HOME=str(folder), XDG_CONFIG_HOME=str(folder))
         words = [NVIM, "--headless", "-u", "NONE", "-i", "NONE", "--cmd", "set rtp^=%s noswapfile" % (CLIENTS / "neovim"),
                  "-S", str(CLIENTS / "tests" / "neovim.lua")]
-        done = subprocess.run(words, env=given, cwd=folder, capture_output=True, timeout=200)
+        done = subprocess.run(words, env=given, cwd=folder, capture_output=True, timeout=SECONDS)
         self.assertTrue((folder / "results").exists(), done.stderr.decode())
         return json.loads((folder / "results").read_text())
 

@@ -1,7 +1,9 @@
 """Keeping theories in step, and what is kept of what is known: random edits of three files that import one another."""
 
 import json
+import pathlib
 import random
+import tempfile
 import unittest
 
 from holls import protocol
@@ -12,6 +14,11 @@ from tests.fake_server import Documents
 NAMES = ("A", "B", "C")
 PIECES = ("g X `p /\\ q`;;\n", "g Y `a = a`;;", "e CONJ_TAC;;\n", "e REFL_TAC;;\n", "qed;;\n", "oops;;\n", "import A;;", "import B;;",
           "import C;;", "(* c *)", "(*", "*)", ";;", " ", "∀")
+
+
+def of(workspace):
+    """The theories of the one project of a workspace."""
+    return [file.theory for files in workspace.groups().values() for file in files]
 
 
 class Mirror:
@@ -42,17 +49,16 @@ class Mirror:
 
 class InStep(unittest.TestCase):
     def test_1000_random_edits_leave_what_a_fresh_server_says(self):
-        for seed, served in enumerate((("replace", "remove", "drop_theory", "oops", "import"), ("replace", "remove", "import"), ("oops",), ())):
+        for seed, served in enumerate((("replace", "remove", "drop_theory"), ("replace", "remove"), ("remove",), ())):
             with self.subTest(served):
                 self.random_edits(random.Random(seed), served)
 
     def random_edits(self, source, served):
         workspace, mirror = Workspace(), Mirror(served)
-        workspace.with_oops = "oops" in served
         documents = [workspace.open("file:///%s.hol" % name, 1, "") for name in NAMES]
         for _ in range(250):
             self.edit(source, workspace, source.choice(documents))
-            theories = [file.theory for file in workspace.files()]
+            theories = of(workspace)
             mirror.bring(theories)
             self.assertEqual(mirror.bring(theories), 0)
             self.compare(mirror, theories, served)
@@ -80,29 +86,40 @@ class InStep(unittest.TestCase):
             workspace, mirror = Workspace(), Mirror(served)
             for name in NAMES[:2]:
                 workspace.open("file:///%s.hol" % name, 1, "qed;;")
-            mirror.bring([file.theory for file in workspace.files()])
+            mirror.bring(of(workspace))
             del workspace.documents["file:///A.hol"]
-            mirror.bring([file.theory for file in workspace.files()])
+            mirror.bring(of(workspace))
             self.assertEqual([name for name, _ in mirror.documents.theories], names)
 
     def test_what_an_import_gave_is_forgotten_when_its_file_is_closed(self):
         workspace = Workspace()
         workspace.open("file:///A.hol", 1, "qed;;")
         importing = workspace.open("file:///B.hol", 1, "qed;; import A;;").file.theory
-        workspace.files()
+        of(workspace)
         importing.entries[0].report = importing.entries[1].report = protocol.Made(())
-        workspace.files()
+        of(workspace)
         self.assertEqual([entry.report for entry in importing.entries], [protocol.Made(()), protocol.Made(())])
         del workspace.documents["file:///A.hol"]
-        workspace.files()
+        of(workspace)
         self.assertEqual([entry.report for entry in importing.entries], [protocol.Made(()), None])
 
     def test_a_65th_file_is_told_so(self):
         workspace = Workspace()
         for number in range(65):
             workspace.open("file:///F%d.hol" % number, 1, "qed;;")
-        self.assertEqual(len(workspace.files()), 64)
+        self.assertEqual(len(of(workspace)), 64)
         self.assertIn("a server holds 64 theories", workspace.documents["file:///F64.hol"].file.context[0].text)
+
+    def test_a_file_with_more_imports_than_a_server_holds_is_told_so_until_it_has_fewer(self):
+        with tempfile.TemporaryDirectory() as folder:
+            for number in range(64):
+                pathlib.Path(folder, "F%d.hol" % number).write_text("oops;;")
+            workspace, imports = Workspace(), ["import F%d;;" % number for number in range(64)]
+            document = workspace.open(pathlib.Path(folder, "A.hol").as_uri(), 1, "\n".join(imports))
+            self.assertEqual((len(of(workspace)), document.file.is_sent), (64, False))
+            self.assertIn("the open files with those that they import are 65", document.file.context[0].text)
+            workspace.change(document, 2, [{"text": "\n".join(imports[1:])}])
+            self.assertEqual((len(of(workspace)), document.file.is_sent, document.file.context), (64, True, []))
 
 
 if __name__ == "__main__":

@@ -5,11 +5,10 @@ import os
 import pathlib
 import shutil
 import subprocess
-import sys
 import tempfile
 import unittest
 
-from tests.helpers import CLIENTS, EDITS, HOLLS, fake
+from tests.helpers import CLIENTS, HOLLS, PYTHON, SECONDS, fake
 
 NODE = shutil.which("node")
 
@@ -18,17 +17,21 @@ NODE = shutil.which("node")
 class InVSCode(unittest.TestCase):
     def test_what_a_user_does(self):
         with tempfile.TemporaryDirectory() as name:
-            program = fake(pathlib.Path(name), "--serve", EDITS)
-            command = [sys.executable, str(HOLLS), "lsp", "--server", program]
+            program = fake(pathlib.Path(name))
+            command = [*PYTHON, str(HOLLS), "lsp", "--server", program]
             given = dict(os.environ, COMMAND=json.dumps(command), TEXT="g A `p /\\ q`;;\ne CONJ_TAC;;\ne FOO_TAC;;\n")
-            done = subprocess.run([NODE, str(CLIENTS / "tests" / "vscode.js")], env=given, capture_output=True, timeout=120)
+            done = subprocess.run([NODE, str(CLIENTS / "tests" / "vscode.js")], env=given, capture_output=True, timeout=SECONDS)
         self.assertEqual(done.returncode, 0, done.stderr.decode())
         found = json.loads(done.stdout)
-        self.assertEqual(found["before"], [[2, 0, "there is no function on goals FOO_TAC; did you mean NO_TAC?"]])
+        self.assertEqual(found["before"], [[2, 0, "there is no function on goals FOO_TAC"]])
         self.assertTrue(found["goals"].startswith("goal 1 of 2\n  p : bool\n"))
         self.assertEqual(found["after"], [[0, 1, "the proof of A is never ended: add qed;; or oops;;"]])
-        self.assertTrue(found["hover"].startswith("```hol\ngoal 1 of 2"))
+        self.assertTrue(found["hover"].startswith("```hol\nCONJ_TAC\n```\nOf `p /\\ q` leaves `p`, then `q`.\n\n```hol\ngoal 1 of 2"), found["hover"])
         self.assertEqual((found["symbols"], found["lenses"], found["completions"]), ([["A", 11]], 0, True))
+        self.assertEqual(found["actions"], [["End the proof by qed", "\nqed;;"], ["Give the proof up by oops", "\noops;;"]])
+        self.assertEqual((found["symbolOf"], found["references"], found["links"]), (["A"], 1, 0))
+        self.assertEqual((found["signature"], found["searched"]), ("MATCH_MP_TAC th", [["INFINITY_AX"], ["SELECT_AX"]]))
+        self.assertEqual((found["typed"], found["unknown"]), (["INFINITY_AX", "SELECT_AX", [13, 20, "∀"]], 0))
         self.assertIn("The bridge holls doesn't run", found["shown"][0])
 
 

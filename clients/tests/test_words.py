@@ -2,6 +2,7 @@
 
 import unittest
 
+from holls import notation
 from holls.protocol import Refusal
 from holls.words import explain
 
@@ -23,6 +24,65 @@ class OfDefinitions(unittest.TestCase):
         self.assertNotIn("made twice", said(text, 10, "type:ty"))
         self.assertIn("is no application", said(text, 14, "new_basic_type_definition"))
         self.assertIn("has to be closed", said(text, 11, "y"))
+
+
+class OfImports(unittest.TestCase):
+    def test_a_clash_says_what_of_which_kind(self):
+        self.assertIn("gives the theorem TH another value", said("import A", 21, "thm:TH"))
+        self.assertIn("gives the constant c another value", said("import A", 21, "const:c"))
+
+
+class OfSlips(unittest.TestCase):
+    """What is said of what people write by mistake, and where it is marked."""
+
+    def marked(self, text, number, argument):
+        start, end, words = explain(text, Refusal(number, argument, ""))
+        return text[start:end], words
+
+    def test_a_name_or_an_end_is_missing(self):
+        self.assertEqual(self.marked("g `p`", 1, "2"), ("`", "a name is missing before the quotation: g NAME `term`"))
+        for text, number, argument in (("e REFL_TAC\nqed", 5, "qed"), ("e REFL_TAC qed", 5, "qed"), ("qed qed", 1, "4")):
+            self.assertEqual(self.marked(text, number, argument), ("qed", "a `;;` is missing before `qed`"))
+        self.assertEqual(self.marked("e CONJ_TAC\n  e REFL_TAC", 5, "e")[1], "a `;;` is missing before `e`")
+        self.assertEqual(said("e ACCEPT_TAC qed_thm", 5, "qed_thm"), "no theorem qed_thm stands before this command")
+        self.assertEqual(said("e REWRITE_TAC [x;\n  r; s]", 5, "s"), "no theorem s stands before this command")
+        self.assertEqual(self.marked("e REWRITE_TAC [x]\nr 2", 1, "18")[1], "a `;;` is missing before `r`")
+
+    def test_a_backquote_is_missing(self):
+        self.assertEqual(self.marked("g A `x = x", 1, "10"), ("`", "this quotation is never closed: a backquote is missing"))
+        start, _, _ = explain("g A `p\n\ne SPEC_TAC (`x`,`y`)", Refusal(1, "9", ""))
+        self.assertEqual(start, 4)
+
+    def test_functions_and_rules_of_hol_light_that_are_not_here(self):
+        self.assertIn("HOL Light's MESON_TAC isn't here", said("e MESON_TAC []", 6, "MESON_TAC"))
+        self.assertIn("ASM_REWRITE_TAC rewrites", said("e ASM_SIMP_TAC []", 6, "ASM_SIMP_TAC"))
+        word, words = self.marked("e REWRITE_TAC[GSYM FOO]", 1, "19")
+        self.assertEqual((word, "is none of the forward rules" in words, "(SYM (SPEC" in words), ("GSYM", True, True))
+        self.assertIn("stand apart by `;`", said("e REWRITE_TAC [ONE TWO]", 1, "19"))
+        self.assertIn("did you mean REWRITE_TAC?", said("e REWRIT_TAC []", 6, "REWRIT_TAC"))
+        self.assertIn("begins with e", said("CONJ_TAC", 1, "0"))
+        self.assertIn("did you mean qed?", said("qedx", 1, "0"))
+
+    def test_what_a_function_wants_and_which_goal_it_met(self):
+        self.assertEqual(self.marked("e CONJ_TAC", 17, "CONJ_TAC"), ("CONJ_TAC", "CONJ_TAC doesn't fit the first goal: it wants p /\\ q"))
+        self.assertEqual(self.marked("e CONJ_TAC THEN GEN_TAC", 17, "GEN_TAC"), ("GEN_TAC", "GEN_TAC doesn't fit the goal that it is run on: it wants !x. p"))
+        self.assertEqual(self.marked("e CONJ_TAC THEN CONJ_TAC", 17, "CONJ_TAC")[0], "CONJ_TAC THEN CONJ_TAC")
+        self.assertIn("as many expressions", said("e CONJ_TAC THENL [ALL_TAC]", 17, "THENL"))
+        self.assertIn("leaves the goal as it was", said("e CHANGED_TAC ALL_TAC", 17, "CHANGED_TAC"))
+        wanting = [name for name in notation.TACS if "wants" in said("e " + name, 17, name)]
+        never = ["ALL_TAC", "MP_TAC", "ASSUME_TAC", "STRIP_ASSUME_TAC", "BETA_TAC"]
+        self.assertEqual(set(notation.TACS) - set(wanting), set(never) | {name for name in notation.TACS if "REWRITE" in name})
+
+    def test_hints_in_terms_stand_at_tokens_of_terms(self):
+        self.assertIn("binder as an argument", said("g A `f !x. P`", 1, "7"))
+        self.assertNotIn("binder", said("e ACCEPT_TAC !x", 1, "13"))
+
+    def test_what_a_tactical_hands_over(self):
+        words = said("e POP_ASSUM (REWRITE_TAC)", 6, "REWRITE_TAC")
+        self.assertIn("POP_ASSUM hands a theorem to the function behind it, and REWRITE_TAC takes a list of theorems", words)
+        self.assertIn("ASM_REWRITE_TAC []", words)
+        self.assertIn("write POP_ASSUM ACCEPT_TAC", said("e POP_ASSUM (ACCEPT_TAC TRUTH)", 6, "ACCEPT_TAC"))
+        self.assertEqual(said("e MP_TAC", 6, "MP_TAC"), "MP_TAC takes a theorem")
 
 
 if __name__ == "__main__":

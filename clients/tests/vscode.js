@@ -4,11 +4,13 @@
 const Module = require('module');
 const path = require('path');
 
+const SECONDS = 240;
 const [command, text] = [JSON.parse(process.env.COMMAND), process.env.TEXT];
 const providers = {};
 const events = {};
 const shown = [];
 let settings = { command };
+let query = 'infinity';
 
 class Position { constructor(line, character) { Object.assign(this, { line, character }); } }
 class Range {
@@ -27,22 +29,37 @@ const on = (name) => (listener) => { events[name] = listener; return { dispose()
 const found = new Map();
 const file = {
   languageId: 'hol', version: 1, uri: Uri.parse('file:///A.hol'), text,
-  getText() { return this.text; },
+  getText() { return this.text; }, lineAt(line) { return { text: this.text.split('\n')[line] }; },
 };
 const goals = { document: { uri: Uri.parse('hol-goals:goals'), languageId: 'plaintext' } };
-const editor = { document: file, selection: { active: new Position(1, 2) }, visibleRanges: [new Range(0, 0, 9, 0)] };
+const results = { searched: [] };
+const typed = [];
+const editor = {
+  document: file, setDecorations: (kind, ranges) => { results.unknown = ranges.length; },
+  edit: async (work) => work({
+    insert: (position, text) => typed.push(text), replace: (range, text) => typed.push([range.start.character, range.end.character, text]),
+  }),
+  selection: { active: new Position(1, 2) }, visibleRanges: [new Range(0, 0, 9, 0)],
+};
 
 const vscode = {
   Position, Range, EventEmitter, Uri,
   Diagnostic: plain('range', 'message', 'severity'), Hover: plain('contents', 'range'), MarkdownString: plain('value'),
   Location: plain('uri', 'range'), DocumentSymbol: plain('name', 'detail', 'kind', 'range', 'selectionRange'),
   FoldingRange: plain('start', 'end', 'kind'), FoldingRangeKind: { Comment: 1, Region: 3 }, CompletionItem: plain('label', 'kind'),
-  CodeLens: plain('range'), ViewColumn: { Beside: -2 },
+  CodeLens: plain('range'), ViewColumn: { Beside: -2 }, SymbolInformation: plain('name', 'kind', 'containerName', 'location'),
+  DocumentLink: plain('range', 'target'), CodeAction: plain('title', 'kind'), CodeActionKind: { QuickFix: 'quickfix' }, SignatureHelp: plain(),
+  SignatureInformation: plain('label', 'documentation'), ParameterInformation: plain('label'),
+  WorkspaceEdit: class { constructor() { this.edits = []; } replace(...edit) { this.edits.push(edit); } },
   languages: {
     createDiagnosticCollection: () => ({ set: (uri, all) => found.set(uri.toString(), all), clear: () => found.clear(), dispose() {} }),
     registerHoverProvider: register('hover'), registerDefinitionProvider: register('definition'),
     registerDocumentSymbolProvider: register('symbols'), registerFoldingRangeProvider: register('foldings'),
-    registerCompletionItemProvider: register('completions'), registerCodeLensProvider: register('lenses'),
+    registerCompletionItemProvider: (language, provider) => { providers.completions = provider; return { dispose() {} }; },
+    registerCodeLensProvider: register('lenses'), registerReferenceProvider: register('references'),
+    registerWorkspaceSymbolProvider: register('allSymbols'), registerDocumentLinkProvider: register('links'),
+    registerCodeActionsProvider: register('actions'),
+    registerSignatureHelpProvider: (language, provider) => { providers.signature = provider; return { dispose() {} }; },
   },
   workspace: {
     getConfiguration: () => ({ get: (key) => settings[key] }), textDocuments: [file], openTextDocument: async () => goals.document,
@@ -51,6 +68,8 @@ const vscode = {
   },
   window: {
     activeTextEditor: editor, visibleTextEditors: [editor, goals], showTextDocument: async () => goals,
+    createTextEditorDecorationType: () => ({}), showInputBox: async () => query,
+    showQuickPick: async (items) => { results.searched.push(items.map((one) => one.label)); return items[0]; },
     showErrorMessage: (message) => shown.push(message), onDidChangeTextEditorSelection: on('selection'),
     onDidChangeTextEditorVisibleRanges: on('visible'), onDidChangeActiveTextEditor: on('active'),
   },
@@ -62,9 +81,9 @@ Module._load = (name, ...rest) => (name === 'vscode' ? vscode : load(name, ...re
 const extension = require(path.join(__dirname, '..', 'vscode', 'extension.js'));
 
 async function until(holds) {
-  const end = Date.now() + 30000;
+  const end = Date.now() + SECONDS * 1000;
   while (!holds()) {
-    if (Date.now() > end) throw new Error(`not within 30 seconds: ${holds}`);
+    if (Date.now() > end) throw new Error(`not within ${SECONDS} seconds: ${holds}`);
     await new Promise((go) => setTimeout(go, 20));
   }
 }
@@ -72,7 +91,6 @@ async function until(holds) {
 const said = () => (found.get('file:///A.hol') || []).map((one) => [one.range.start.line, one.severity, one.message]);
 
 async function run() {
-  const results = {};
   await extension.activate({ subscriptions: [] });
   await until(() => said().length === 1);
   results.before = said();
@@ -87,6 +105,22 @@ async function run() {
   results.symbols = (await providers.symbols.provideDocumentSymbols(file)).map((one) => [one.name, one.kind]);
   results.lenses = (await providers.lenses.provideCodeLenses(file)).length;
   results.completions = (await providers.completions.provideCompletionItems(file, new Position(1, 2))).length > 40;
+  results.actions = (await providers.actions.provideCodeActions(file, new Range(0, 0, 0, 1))).map((one) => [one.title, one.edit.edits[0][2]]);
+  results.symbolOf = (await providers.allSymbols.provideWorkspaceSymbols('a')).map((one) => one.name);
+  results.references = (await providers.references.provideReferences(file, new Position(0, 2))).length;
+  results.links = (await providers.links.provideDocumentLinks(file)).length;
+  file.version = 3;
+  events.change({ document: file, contentChanges: [{ range: new Range(3, 0, 3, 0), text: 'e MATCH_MP_TAC ' }] });
+  results.signature = (await providers.signature.provideSignatureHelp(file, new Position(3, 15))).signatures[0].label;
+  await providers['holls.search']();
+  query = '_ ==> P (_)';
+  await providers['holls.searchConclusions']();
+  settings.symbols = true;
+  file.version = 4;
+  file.text = 'g A `p /\\and \\forall ';
+  for (const at of [12, 20]) events.change({ document: file, contentChanges: [{ range: new Range(0, at, 0, at), text: ' ' }] });
+  await until(() => results.unknown === 0);
+  results.typed = typed;
   extension.deactivate();
   settings = { command: ['/nowhere/holls'] };
   await extension.activate({ subscriptions: [] });

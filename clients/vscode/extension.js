@@ -1,6 +1,7 @@
 'use strict';
 // hol-serve in VS Code: errors and goals as one types, over the bridge `holls lsp`. docs/EDITORS.md says how to use it.
 
+const fs = require('fs');
 const path = require('path');
 const vscode = require('vscode');
 const { Bridge } = require('./bridge.js');
@@ -8,6 +9,9 @@ const { Bridge } = require('./bridge.js');
 const LANGUAGE = 'hol';
 const GOALS = vscode.Uri.parse('hol-goals:goals');
 const SEEN_MILLISECONDS = 50;
+const SYMBOLS = {
+  forall: '∀', exists: '∃', unique: '∃!', lambda: 'λ', select: 'ε', and: '∧', or: '∨', not: '¬', implies: '⇒', iff: '⇔', to: '→',
+};
 
 let bridge = null;
 let diagnostics = null;
@@ -16,6 +20,8 @@ let asked = 0;
 let timer = null;
 const goalsChanged = new vscode.EventEmitter();
 const lensesChanged = new vscode.EventEmitter();
+const unknown = new Map(); // The ranges that aren't known yet, by the documents' addresses.
+const waiting = vscode.window.createTextEditorDecorationType({ isWholeLine: true, opacity: '0.6' });
 
 const isHol = (document) => document.languageId === LANGUAGE;
 const at = (document, position) => ({ textDocument: { uri: document.uri.toString() }, position });
@@ -23,7 +29,11 @@ const range = (found) => new vscode.Range(found.start.line, found.start.characte
 
 function command() {
   const given = vscode.workspace.getConfiguration('holls').get('command') || [];
-  return given.length ? given : [path.join(__dirname, '..', 'bin', 'holls'), 'lsp'];
+  if (given.length) return given;
+  const own = path.join(__dirname, 'bin', 'holls'); // As in the package that clients/vscode/package makes.
+  const bridge = fs.existsSync(own) ? own : path.join(__dirname, '..', 'bin', 'holls');
+  const server = vscode.workspace.getConfiguration('holls').get('server');
+  return ['python3', bridge, 'lsp', ...(server ? ['--server', server] : [])];
 }
 
 // Starts the bridge and gives it all that is open.
@@ -54,6 +64,9 @@ function heard(method, params) {
       return shown;
     }));
     showGoals();
+  } else if (method === '$/hol/fileProgress') {
+    unknown.set(params.textDocument.uri, params.processing.map((found) => range(found.range)));
+    showUnknown();
   } else if (method === 'workspace/codeLens/refresh') {
     lensesChanged.fire();
   } else if (method === 'window/showMessage') {
@@ -75,6 +88,21 @@ function changed(event) {
       textDocument: { uri: event.document.uri.toString(), version: event.document.version },
       contentChanges: event.contentChanges.map(({ range: { start, end }, text }) => ({ range: { start, end }, text })),
     });
+    putSymbol(event);
+  }
+}
+
+// With the setting `holls.symbols`, \forall and the like become symbols once the next character is typed.
+function putSymbol(event) {
+  const editor = vscode.window.activeTextEditor;
+  const isSet = vscode.workspace.getConfiguration('holls').get('symbols');
+  if (!isSet || !editor || editor.document !== event.document || event.contentChanges.length !== 1) return;
+  const [{ range: { start }, text }] = event.contentChanges;
+  if (!/^[^\w']$/.test(text)) return;
+  const found = /(?:^|[^/\\])\\([a-z]+)$/.exec(event.document.lineAt(start.line).text.slice(0, start.character));
+  if (found && Object.prototype.hasOwnProperty.call(SYMBOLS, found[1])) {
+    const first = start.character - found[1].length - 1;
+    editor.edit((edit) => edit.replace(new vscode.Range(start.line, first, start.line, start.character), SYMBOLS[found[1]]));
   }
 }
 
@@ -107,6 +135,38 @@ async function showGoals() {
   if (number === asked && result) {
     goalsText = result.text;
     goalsChanged.fire(GOALS);
+  }
+}
+
+// Shows in pale what isn't known yet.
+function showUnknown() {
+  for (const editor of vscode.window.visibleTextEditors) {
+    const ranges = unknown.get(editor.document.uri.toString());
+    if (ranges && editor.setDecorations) editor.setDecorations(waiting, ranges);
+  }
+}
+
+// Finds theorems, perhaps by what they conclude alone; the one that is chosen is shown, or where it is the prelude's, its name is put in.
+async function search(conclusion) {
+  const query = await vscode.window.showInputBox({ prompt: 'Parts of names, or a pattern such as _ /\\ _ ==> _' });
+  if (!query || !bridge) return;
+  let found = [];
+  try {
+    found = await bridge.request('hol/search', { query, conclusion });
+  } catch (error) {
+    vscode.window.showErrorMessage(error.message);
+    return;
+  }
+  const chosen = await vscode.window.showQuickPick(
+    found.map((one) => ({
+      label: one.name, description: one.isMade ? one.theory : `${one.theory}, not proved or checked yet`, detail: `|- ${one.statement}`, one,
+    })), { placeHolder: `${found.length} found` });
+  const editor = vscode.window.activeTextEditor;
+  if (chosen && chosen.one.location) {
+    const target = await vscode.workspace.openTextDocument(vscode.Uri.parse(chosen.one.location.uri));
+    await vscode.window.showTextDocument(target, { selection: range(chosen.one.location.range) });
+  } else if (chosen && editor) {
+    await editor.edit((edit) => edit.insert(editor.selection.active, chosen.label));
   }
 }
 
@@ -149,7 +209,42 @@ const providers = {
   },
   async completions(document, position) {
     const found = await request('textDocument/completion', at(document, position)) || [];
-    return found.map((one) => Object.assign(new vscode.CompletionItem(one.label, one.kind - 1), { detail: one.detail }));
+    return found.map((one) => Object.assign(
+      new vscode.CompletionItem(one.label, one.kind - 1),
+      { detail: one.detail, documentation: one.documentation, sortText: one.sortText },
+      one.textEdit && { insertText: one.textEdit.newText, range: range(one.textEdit.range), filterText: one.filterText }));
+  },
+  async references(document, position) {
+    const found = await request('textDocument/references', { ...at(document, position), context: { includeDeclaration: true } }) || [];
+    return found.map((one) => new vscode.Location(vscode.Uri.parse(one.uri), range(one.range)));
+  },
+  async allSymbols(query) {
+    const found = await request('workspace/symbol', { query }) || [];
+    return found.map((one) => new vscode.SymbolInformation(
+      one.name, one.kind - 1, one.containerName, new vscode.Location(vscode.Uri.parse(one.location.uri), range(one.location.range))));
+  },
+  async links(document) {
+    const found = await request('textDocument/documentLink', at(document)) || [];
+    return found.map((one) => new vscode.DocumentLink(range(one.range), vscode.Uri.parse(one.target)));
+  },
+  async actions(document, where) {
+    const found = await request('textDocument/codeAction', { ...at(document), range: { start: where.start, end: where.end }, context: { diagnostics: [] } }) || [];
+    return found.map((one) => {
+      const action = new vscode.CodeAction(one.title, vscode.CodeActionKind.QuickFix);
+      action.edit = new vscode.WorkspaceEdit();
+      for (const [uri, edits] of Object.entries(one.edit.changes)) {
+        edits.forEach((edit) => action.edit.replace(vscode.Uri.parse(uri), range(edit.range), edit.newText));
+      }
+      return action;
+    });
+  },
+  async signature(document, position) {
+    const found = await request('textDocument/signatureHelp', at(document, position));
+    if (!found) return null;
+    const help = new vscode.SignatureHelp();
+    help.signatures = found.signatures.map((one) => Object.assign(
+      new vscode.SignatureInformation(one.label, one.documentation), { parameters: one.parameters.map((part) => new vscode.ParameterInformation(part.label)) }));
+    return Object.assign(help, { activeSignature: found.activeSignature, activeParameter: found.activeParameter });
   },
   async lenses(document) {
     const found = await request('textDocument/codeLens', at(document)) || [];
@@ -169,7 +264,12 @@ function register() {
     languages.registerDefinitionProvider(LANGUAGE, { provideDefinition: providers.definition }),
     languages.registerDocumentSymbolProvider(LANGUAGE, { provideDocumentSymbols: providers.symbols }),
     languages.registerFoldingRangeProvider(LANGUAGE, { provideFoldingRanges: providers.foldings }),
-    languages.registerCompletionItemProvider(LANGUAGE, { provideCompletionItems: providers.completions }),
+    languages.registerCompletionItemProvider(LANGUAGE, { provideCompletionItems: providers.completions }, '\\'),
+    languages.registerReferenceProvider(LANGUAGE, { provideReferences: providers.references }),
+    languages.registerWorkspaceSymbolProvider({ provideWorkspaceSymbols: providers.allSymbols }),
+    languages.registerDocumentLinkProvider(LANGUAGE, { provideDocumentLinks: providers.links }),
+    languages.registerCodeActionsProvider(LANGUAGE, { provideCodeActions: providers.actions }),
+    languages.registerSignatureHelpProvider(LANGUAGE, { provideSignatureHelp: providers.signature }, ' ', '(', '[', '`'),
     languages.registerCodeLensProvider(LANGUAGE, {
       onDidChangeCodeLenses: lensesChanged.event, provideCodeLenses: providers.lenses, resolveCodeLens: providers.lens,
     }),
@@ -182,8 +282,10 @@ function register() {
     workspace.onDidSaveTextDocument((document) => bridge && isHol(document) && bridge.notify('textDocument/didSave', at(document))),
     window.onDidChangeTextEditorSelection(seen),
     window.onDidChangeTextEditorVisibleRanges(seen),
-    window.onDidChangeActiveTextEditor(seen),
+    window.onDidChangeActiveTextEditor(() => { showUnknown(); seen(); }),
     commands.registerCommand('holls.goals', openGoals),
+    commands.registerCommand('holls.search', () => search(false)),
+    commands.registerCommand('holls.searchConclusions', () => search(true)),
     commands.registerCommand('holls.restart', restart),
   ];
 }

@@ -2,18 +2,27 @@
 
 from __future__ import annotations
 
+import time
 from dataclasses import dataclass, replace
 from typing import TYPE_CHECKING, Any, Callable, Dict, List, Optional
 
-from holls import protocol, words
-from holls.lsp import features, goals
+from holls import binders, protocol, words
+from holls.files import File
+from holls.lsp import completion, features, goals, helping, hovering, lookup
+from holls.lsp.navigation import Navigation
 from holls.lsp.workspace import Document
+from holls.manual import COMMANDS
+from holls.names import THEOREM
+from holls.search import BadQuery
 
 if TYPE_CHECKING:
     from holls.lsp.bridge import Bridge
 
 INTERNAL = -32603
 """The protocol's number of an error in the server itself."""
+
+BASIS_SECONDS = 5.0
+"""So long a hover waits for what a theorem rests on, or for a type; then it shows the rest."""
 
 Params = Dict[str, Any]
 
@@ -27,10 +36,11 @@ class Answered:
 
 @dataclass
 class Waiter:
-    """A request that is answered once reports are there. `attempt` answers None as long as it isn't."""
+    """A request that is answered once reports are there. `attempt` answers None as long as it isn't; after `until` it asks for less."""
 
     number: Any
     attempt: Callable[[], Optional[Answered]]
+    until: Optional[float] = None
 
 
 class BadParams(Exception):
@@ -43,10 +53,22 @@ class Answers:
     def __init__(self, bridge: "Bridge") -> None:
         self.bridge = bridge
         self.waiters: List[Waiter] = []
+        self.navigation = Navigation(bridge.workspace)
         self.served: Dict[str, Callable[[Any, Params], Optional[Answered]]] = {
-            "textDocument/hover": self._hover, "proof/goals": self._goals, "textDocument/definition": self._definition,
-            "textDocument/completion": self._completion, "textDocument/codeLens": self._lenses, "codeLens/resolve": self._resolve,
-            "textDocument/documentSymbol": self._symbols, "textDocument/foldingRange": self._foldings,
+            "textDocument/hover": self._hover,
+            "proof/goals": self._goals,
+            "textDocument/definition": self._definition,
+            "textDocument/references": self._references,
+            "textDocument/documentLink": self._links,
+            "workspace/symbol": self._all_symbols,
+            "hol/search": self._search,
+            "textDocument/codeAction": self._actions,
+            "textDocument/signatureHelp": self._signature,
+            "textDocument/completion": self._completion,
+            "textDocument/codeLens": self._lenses,
+            "codeLens/resolve": self._resolve,
+            "textDocument/documentSymbol": self._symbols,
+            "textDocument/foldingRange": self._foldings,
         }
 
     def document(self, params: Params) -> Document:
@@ -82,11 +104,16 @@ class Answers:
     def _foldings(self, _: Any, params: Params) -> Answered:
         return Answered(features.foldings(self.document(params).file))
 
-    def _wait(self, number: Any, attempt: Callable[[], Optional[Answered]]) -> Optional[Answered]:
+    def _wait(self, number: Any, attempt: Callable[[], Optional[Answered]], until: Optional[float] = None) -> Optional[Answered]:
         done = attempt()
         if done is None:
-            self.waiters.append(Waiter(number, attempt))
+            self.waiters.append(Waiter(number, attempt, until))
         return done
+
+    def times(self) -> List[float]:
+        """When a request that waits is to be tried again, whatever comes."""
+        now = time.monotonic()
+        return [waiter.until for waiter in self.waiters if waiter.until is not None and waiter.until > now]
 
     def _state(self, document: Document, number: Optional[int]) -> Optional[goals.State]:
         """The state after a command; None while a report is missing, which is then asked for before all others."""
@@ -95,14 +122,13 @@ class Answers:
             return known
         if self.bridge.workspace.documents.get(document.uri) is not document:
             return goals.State(number, None, None, ["the file was closed"], False)
-        session = self.bridge.session
-        failure = session.failure if session else self.bridge.failure
+        server = self.bridge.server_of(document)
+        failure = server.failure if server else self.bridge.failure
         if failure:
             return goals.State(number, None, None, ["hol_serve isn't running: " + failure], False)
-        if session is None:
-            return None
-        self.bridge.sweep.prefer([known])
-        session.pump()
+        if server is not None and server.session is not None:
+            server.sweep.prefer([known])
+            server.session.pump()
         return None
 
     def _goals(self, number: Any, params: Params) -> Optional[Answered]:
@@ -127,29 +153,65 @@ class Answers:
         return self._wait(number, attempt)
 
     def _hover(self, number: Any, params: Params) -> Optional[Answered]:
+        """A name's meaning with what it rests on, if that is known soon; elsewhere the goals after the command."""
         document = self.document(params)
         place = document.place(params["position"])
         basis: List[Optional[str]] = []
+        until = time.monotonic() + BASIS_SECONDS
 
         def attempt() -> Optional[Answered]:
             file = document.file
-            at = file.number_at(place)
-            if at is None or not file.covers(at, place):
-                return Answered(None)
-            state = self._state(document, at)
-            name = features.theorem(file, at) if state else None
-            if state is None or name and not self._has_basis(document, name, basis):
-                return None
-            rests = basis[-1] + "\n" if name and basis and basis[-1] else ""
-            shown = {"kind": "markdown", "value": "```hol\n%s%s```" % (goals.text(state), rests)}
-            return Answered({"contents": shown, "range": features.span(file, file.commands[at].start, file.commands[at].end)})
+            word = lookup.word(self._files(document), file, place)
+            is_command = word and word.entry and word.name in COMMANDS
+            if word and not is_command and (word.entry or word.theory or word.known or word.is_quoted):
+                if time.monotonic() < until and not self._has_more(document, word, basis):
+                    return None
+                text = hovering.of_word(word, basis[-1] if basis else None)
+                if text:
+                    return _hover_of(file, text + (self._goals_there(file, place) if word.entry else ""), word.start, word.end)
+            return self._hover_goals(document, place, basis, until)
 
-        return self._wait(number, attempt)
+        return self._wait(number, attempt, until)
+
+    def _has_more(self, document: Document, word: lookup.Word, more: List[Optional[str]]) -> bool:
+        """Whether there is what can be asked of a name: on what a theorem rests, or the type of a variable."""
+        known = word.known
+        if known is not None:
+            is_asked = known.kind == THEOREM and known.file is not None and known.is_made
+            return not is_asked or self._has_basis(document, known.name, more)
+        server = self.bridge.server_of(document)
+        question = hovering.question(document.file, word)
+        if question is None or server is None or server.session is None or server.failure:
+            return True
+        if not more:
+            more.append(None)
+            server.session.ask_beside(
+                "holls_types", ["import " + document.file.theory.name, question], lambda reply: more.append(_type(reply)))
+        return len(more) > 1
+
+    @staticmethod
+    def _goals_there(file: File, place: int) -> str:
+        """The goals after the command at a place, if they are known."""
+        known = goals.state(file, file.number_at(place))
+        return "\n\n" + hovering.fenced(goals.text(known)) if isinstance(known, goals.State) else ""
+
+    def _hover_goals(self, document: Document, place: int, basis: List[Optional[str]], until: float) -> Optional[Answered]:
+        """The goals after the command at a place, or the theorem that it made."""
+        file = document.file
+        at = file.number_at(place)
+        if at is None or not file.covers(at, place):
+            return Answered(None)
+        state = self._state(document, at)
+        name = features.theorem(file, at) if state else None
+        if state is None or name and time.monotonic() < until and not self._has_basis(document, name, basis):
+            return None
+        rests = basis[-1] + "\n" if name and basis and basis[-1] else ""
+        return _hover_of(file, hovering.fenced(goals.text(state) + rests), file.commands[at].start, file.commands[at].end)
 
     def _has_basis(self, document: Document, name: str, basis: List[Optional[str]]) -> bool:
         """Whether the words on a theorem's basis are there; they are asked for once."""
-        session = self.bridge.session
-        if session is None or session.failure:
+        server = self.bridge.server_of(document)
+        if server is None or server.session is None or server.failure:
             return True
         if not basis:
             basis.append(None)
@@ -162,19 +224,54 @@ class Answers:
             items = reply.items if isinstance(reply, protocol.Items) else None
             then("(what it rests on isn't known)" if items is None else words.rests(items))
 
-        self.bridge.session.ask(protocol.line({"op": "basis", "theory": document.file.theory.name, "name": name}), answer)
+        self.bridge.server_of(document).session.ask(protocol.line({"op": "basis", "theory": document.file.theory.name, "name": name}), answer)
 
     def _definition(self, _: Any, params: Params) -> Answered:
         document = self.document(params)
-        found = features.definition(self.bridge.sweep.files, document.file, document.place(params["position"]))
-        if found is None:
-            return Answered(None)
-        owners = [other.uri for other in self.bridge.workspace.documents.values() if other.file is found[0]]
-        return Answered({"uri": owners[0] if owners else "file://" + found[0].path, "range": found[1]})
+        return Answered(self.navigation.definition(document, self._files(document), document.place(params["position"])))
+
+    def _references(self, _: Any, params: Params) -> Answered:
+        document = self.document(params)
+        with_definition = bool((params.get("context") or {}).get("includeDeclaration", True))
+        place = document.place(params["position"])
+        return Answered(self.navigation.references(document, self._files(document), place, with_definition))
+
+    def _links(self, _: Any, params: Params) -> Answered:
+        document = self.document(params)
+        return Answered(self.navigation.links(document, self._files(document)))
+
+    def _actions(self, _: Any, params: Params) -> Answered:
+        document = self.document(params)
+        start, end = (document.place(params["range"][side]) for side in ("start", "end"))
+        files = self._files(document)
+        every = self.bridge.workspace.every_file(document.project, files)
+        return Answered(helping.actions(document.file, document.uri, files, every, start, end))
+
+    def _signature(self, _: Any, params: Params) -> Answered:
+        document = self.document(params)
+        return Answered(helping.signature(document.file, document.place(params["position"])))
+
+    def _search(self, _: Any, params: Params) -> Answered:
+        sent = [server.files for server in self.bridge.servers.values()]
+        try:
+            return Answered(self.navigation.search(str(params["query"]), bool(params.get("conclusion")), sent))
+        except BadQuery as error:
+            raise BadParams(str(error)) from None
+
+    def _all_symbols(self, _: Any, params: Params) -> Answered:
+        sent = [server.files for server in self.bridge.servers.values()]
+        return Answered(self.navigation.symbols(str(params["query"]), sent))
+
+    def _files(self, document: Document) -> List[File]:
+        """The files of a document's project that are sent."""
+        server = self.bridge.server_of(document)
+        return server.files if server else [document.file]
 
     def _completion(self, _: Any, params: Params) -> Answered:
         document = self.document(params)
-        return Answered(features.completions(document.file, document.place(params["position"])))
+        files = self._files(document)
+        theories = list(dict.fromkeys([file.theory.name for file in files] + document.project.names()))
+        return Answered(completion.at(files, theories, document.file, document.place(params["position"])))
 
     def _lenses(self, _: Any, params: Params) -> Answered:
         document = self.document(params)
@@ -191,3 +288,12 @@ class Answers:
             return Answered(dict(params, command={"title": title, "command": ""}))
 
         return self._wait(number, attempt)
+
+
+def _type(reply: object) -> Optional[str]:
+    """The type that a question's report tells."""
+    return binders.answer(reply.goals[0].free) if isinstance(reply, protocol.Goals) and reply.goals else None
+
+
+def _hover_of(file: File, text: str, start: int, end: int) -> Answered:
+    return Answered({"contents": {"kind": "markdown", "value": text}, "range": features.span(file, start, end)})

@@ -9,19 +9,20 @@ import sys
 import threading
 import time
 from dataclasses import dataclass
-from typing import Any, BinaryIO, Callable, Dict, List, Optional
+from typing import Any, BinaryIO, Callable, Dict, FrozenSet, Iterator, List, Optional
 
 from holls import server
 from holls.lsp import wire
 from holls.lsp.answers import Answered, Answers, BadParams
+from holls.lsp.project_server import ProjectServer
 from holls.lsp.publisher import Publisher
 from holls.lsp.workspace import Document, Workspace
-from holls.server import Ended, Line, NoServer, Served
-from holls.session import Session
-from holls.sweep import Sweep
+from holls.server import Ended, Line, NoServer
 
-REST_SECONDS = 0.2
-"""So long after an edit only what is seen is asked for."""
+LOOK_SECONDS = 1.0
+"""So often files on disk are looked at."""
+SPARE_SECONDS = 0.01
+"""So long at a time what can wait is done while nothing comes."""
 
 NOT_STARTED, BAD_JSON, BAD_REQUEST, NO_METHOD, BAD_PARAMS, CANCELLED = -32002, -32700, -32600, -32601, -32602, -32800
 
@@ -32,7 +33,12 @@ CAPABILITIES = {
     "documentSymbolProvider": True,
     "foldingRangeProvider": True,
     "definitionProvider": True,
-    "completionProvider": {},
+    "completionProvider": {"triggerCharacters": ["\\"]},
+    "referencesProvider": True,
+    "codeActionProvider": {"codeActionKinds": ["quickfix"]},
+    "signatureHelpProvider": {"triggerCharacters": [" ", "(", "[", "`"]},
+    "workspaceSymbolProvider": True,
+    "documentLinkProvider": {},
     "codeLensProvider": {"resolveProvider": True},
     "executeCommandProvider": {"commands": ["holls.restart"]},
 }
@@ -41,11 +47,18 @@ Params = Dict[str, Any]
 
 
 @dataclass(frozen=True)
-class Probed:
-    """What the program serves, or why there is none."""
+class Program:
+    """The program's words, and which edits it serves."""
 
-    program: List[str]
-    served: Served
+    words: List[str]
+    served: FrozenSet[str]
+
+
+@dataclass(frozen=True)
+class Probed:
+    """The program, or why there is none."""
+
+    program: Optional[Program]
     failure: Optional[str]
 
 
@@ -57,37 +70,39 @@ class Bridge:
         self.output, self.named, self.seconds = output, named, seconds
         self.workspace = Workspace()
         self.publisher = Publisher(self)
-        self.sweep = Sweep()
-        self.session: Optional[Session] = None
+        self.program: Optional[Program] = None
         self.failure: Optional[str] = None
+        self.servers: Dict[str, ProjectServer] = {}
         self.answers = Answers(self)
-        self.resting_until: Optional[float] = None
         self.is_probing = self.is_begun = self.is_shut = False
         self.status: Optional[int] = None
+        self._look_at = 0.0
+        self._spare: Iterator[None] = iter(())
+        self._has_spare = False
 
     def run(self) -> int:
         """Until the editor ends."""
         while self.status is None:
             try:
-                self._take(self.events.get(timeout=self._patience()))
+                self._take(self.events.get(timeout=0.0 if self._has_spare else self._patience()))
             except queue.Empty:
-                pass
+                self._guard(self._spend)
             self._guard(self._settle)
-        if self.session:
-            self.session.stop()
+        for server in self.servers.values():
+            server.stop()
         return self.status
 
     def _patience(self) -> Optional[float]:
         """How long nothing has to be done."""
         now = time.monotonic()
-        times = [self.resting_until] + self.publisher.times()
+        times = self.publisher.times() + self.answers.times() + ([self._look_at] if self.workspace.documents else [])
         waits = [max(0.0, moment - now) for moment in times if moment is not None]
-        deadline = self.session.deadline() if self.session else None
-        return min(waits + ([] if deadline is None else [deadline]), default=None)
+        return min(waits + [wait for server in self.servers.values() for wait in server.patience()], default=None)
 
     def _take(self, event: object) -> None:
         if isinstance(event, (Line, Ended)):
-            self._guard(lambda: self.session.hear(event) if self.session else None)
+            for server in list(self.servers.values()):
+                self._guard(lambda server=server: server.session.hear(event) if server.session else None)
         elif isinstance(event, Probed):
             self._guard(lambda: self._begin(event))
         elif isinstance(event, int):
@@ -106,14 +121,28 @@ class Bridge:
 
     def _settle(self) -> None:
         """After each event: times, answers that can be given, diagnostics."""
-        if self.resting_until is not None and time.monotonic() >= self.resting_until:
-            self.resting_until, self.sweep.is_resting = None, False
-            if self.session:
-                self.session.pump()
-        if self.session:
-            self.session.tick()
+        for server in self.servers.values():
+            server.settle()
+        if self.workspace.documents and time.monotonic() >= self._look_at:
+            self._look_at = time.monotonic() + LOOK_SECONDS
+            if self.workspace.is_stale():
+                self._changed(None)
         self.answers.answer_waiters()
         self.publisher.publish()
+
+    def all_known(self) -> None:
+        """All that was asked for is known: there is time to read the statements for searches."""
+        self._spare = self.answers.navigation.reading([server.files for server in self.servers.values()])
+        self._has_spare = True
+
+    def _spend(self) -> None:
+        """Does some of what can wait."""
+        until = time.monotonic() + SPARE_SECONDS
+        self._has_spare = False  # Also where an error ends it.
+        for _ in self._spare:
+            if time.monotonic() >= until:
+                self._has_spare = True
+                return
 
     # Messages of the editor
 
@@ -176,6 +205,7 @@ class Bridge:
         served = {
             "textDocument/didOpen": self._open, "textDocument/didChange": self._change, "textDocument/didClose": self._close,
             "textDocument/didSave": self._save, "proof/viewRange": self._view, "$/cancelRequest": self._cancel,
+            "workspace/didChangeWatchedFiles": self._watched,
         }
         if method == "exit":
             self.status = 0 if self.is_shut else 1
@@ -203,34 +233,43 @@ class Bridge:
 
     def _save(self, _: Params) -> None:
         """At a file that is opened or saved, a program that wasn't there is looked for again."""
-        if self.failure and not self.session:
+        if self.failure and not self.program:
             self._probe()
+
+    def _watched(self, _: Params) -> None:
+        """Files have changed on disk, as the editor says."""
+        self._look_at = 0.0
 
     def _view(self, params: Params) -> None:
         document = self.answers.document(params)
         seen = params["range"]
         document.seen = int(seen["start"]["line"]), int(seen["end"]["line"])
         document.cursor = document.place(params["position"]) if params.get("position") else document.cursor
-        self._prefer(document)
+        server = self.server_of(document)
+        if server:
+            server.sweep.prefer(document.view())
+            if server.session:
+                server.session.pump()
 
     def _changed(self, document: Optional[Document]) -> None:
-        """The texts have changed: the server is brought in step, and what is seen is asked for first."""
-        files = self.workspace.files()
-        self.sweep.begin(files)
-        self.sweep.is_resting = True
-        self.resting_until = time.monotonic() + REST_SECONDS
+        """The texts have changed: the servers are brought in step, and what is seen is asked for first."""
+        groups = self.workspace.groups()
+        for root in [root for root in self.servers if root not in groups]:
+            self.servers.pop(root).stop()
+        for root, files in groups.items():
+            server = self.servers.setdefault(root, ProjectServer(self, root))
+            is_changed = server.take(files)
+            if document and document.project.root == root:
+                server.sweep.prefer(document.view())
+            if is_changed:
+                server.bring_in_step()
         self.publisher.changed()
-        if document:
-            self.sweep.prefer(document.view())
-        if self.session:
-            self.session.want([file.theory for file in files])
 
-    def _prefer(self, document: Document) -> None:
-        self.sweep.prefer(document.view())
-        if self.session:
-            self.session.pump()
+    # The servers
 
-    # The server
+    def server_of(self, document: Document) -> Optional[ProjectServer]:
+        """The server of a document's project, if the document is a theory there."""
+        return self.servers.get(document.project.root)
 
     def _probe(self) -> None:
         """Looks for the program and asks what it serves, in a thread of its own."""
@@ -241,33 +280,29 @@ class Bridge:
 
     def _begin(self, probed: Probed) -> None:
         self.is_probing = False
-        self.failure = probed.failure
-        if probed.failure:
-            self.told()
-            return
-        self.session = Session(probed.program, self.events, probed.served, self.sweep.pick, self.told, self.seconds)
-        self.workspace.take_again(probed.served.oops)
+        self.program, self.failure = probed.program, probed.failure
         self._changed(next(iter(self.workspace.documents.values()), None))
+        self.told()
 
     def told(self) -> None:
-        """There is news of some command, or of the server."""
-        failure = self.session.failure if self.session else self.failure
-        self.publisher.news(failure)
+        """There is news of some command, or of a server."""
+        self.publisher.news()
+
+    def _stop(self) -> None:
+        for server in self.servers.values():
+            server.stop()
+        self.program = None
 
     def _execute(self, _: Any, params: Params) -> Answered:
         if params["command"] != "holls.restart":
             raise BadParams("no command %s" % params["command"])
-        if self.session:
-            self.session.stop()
-            self.session = None
+        self._stop()
         self._probe()
         return Answered(None)
 
     def _shutdown(self, _: Any, __: Params) -> Answered:
         self.is_shut = True
-        if self.session:
-            self.session.stop()
-            self.session = None
+        self._stop()
         return Answered(None)
 
     def _cancel(self, params: Params) -> None:
@@ -277,10 +312,10 @@ class Bridge:
 
 def _probed(named: Optional[str]) -> Probed:
     try:
-        program = server.find(named)
-        return Probed(program, server.probe(program), None)
+        words = server.find(named)
+        return Probed(Program(words, server.probe(words)), None)
     except NoServer as error:
-        return Probed([], Served(), str(error))
+        return Probed(None, str(error))
 
 
 def _listen(stream: BinaryIO, events: "queue.Queue[object]") -> None:

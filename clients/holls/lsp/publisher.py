@@ -5,6 +5,7 @@ from __future__ import annotations
 import time
 from typing import TYPE_CHECKING, Any, Dict, List, Optional
 
+from holls import findings
 from holls.lsp import features
 from holls.lsp.workspace import Document
 
@@ -17,14 +18,16 @@ NEWS_SECONDS = 0.25
 """So long after news at most."""
 PROGRESS_SECONDS = 0.7
 """Work that takes longer is shown as progress."""
+WAITING, RUNNING_LONG = 1, 2
+"""Why a range isn't known yet."""
 
 
 class Publisher:
-    """Sends diagnostics, progress and a failure of the server."""
+    """Sends diagnostics, what isn't known yet, progress and a failure of a server."""
 
     def __init__(self, bridge: "Bridge") -> None:
         self.bridge = bridge
-        self.failure: Optional[str] = None
+        self._failures: List[str] = []
         self._shows_progress = self._refreshes_lenses = False
         self._busy_since: Optional[float] = None
         self._token: Optional[str] = None
@@ -37,19 +40,18 @@ class Publisher:
 
     def changed(self) -> None:
         """Texts have changed."""
-        now = time.monotonic()
-        self._busy_since = self._busy_since or now
-        for document in self._documents():
-            document.due = min(document.due or now + EDIT_SECONDS, now + EDIT_SECONDS)
+        self._busy_since = self._busy_since or time.monotonic()
+        self._due_in(EDIT_SECONDS)
 
-    def news(self, failure: Optional[str]) -> None:
-        """Something is known that wasn't; or the server has failed."""
-        now = time.monotonic()
-        if failure and failure != self.failure:
-            self.bridge.notify("window/showMessage", {"type": 1, "message": failure})
-        self.failure = failure
-        for document in self._documents():
-            document.due = min(document.due or now + NEWS_SECONDS, now + NEWS_SECONDS)
+    def news(self) -> None:
+        """Something is known that wasn't; or a server has failed."""
+        failures = [server.failure for server in self.bridge.servers.values()] + [self.bridge.failure]
+        now = list(dict.fromkeys(failure for failure in failures if failure))
+        for failure in now:
+            if failure not in self._failures:
+                self.bridge.notify("window/showMessage", {"type": 1, "message": failure})
+        self._failures = now
+        self._due_in(NEWS_SECONDS)
 
     def times(self) -> List[Optional[float]]:
         """When there is something to do."""
@@ -59,29 +61,39 @@ class Publisher:
 
     def publish(self) -> None:
         """Sends what is due."""
-        is_done = self._is_done()
         now = time.monotonic()
         for document in self._documents():
+            is_done = self._is_done(document)
             if document.due is not None and (is_done or document.due <= now or self._is_seen_news(document)):
                 self._send(document)
-                self._progress(is_done)
+                self._progress(self._is_all_done())
+        is_all_done = self._is_all_done()
         if self._token is None:
-            self._progress(is_done)
-        if is_done and self._busy_since is not None:
+            self._progress(is_all_done)
+        if is_all_done and self._busy_since is not None:
             self._busy_since = None
             self._progress(True)
+            self.bridge.all_known()
             if self._refreshes_lenses:
                 self.bridge.send({"id": "holls-lenses", "method": "workspace/codeLens/refresh"})
+
+    def _due_in(self, seconds: float) -> None:
+        moment = time.monotonic() + seconds
+        for document in self._documents():
+            document.due = min(document.due or moment, moment)
 
     def _documents(self) -> List[Document]:
         return list(self.bridge.workspace.documents.values())
 
-    def _is_done(self) -> bool:
-        """Whether nothing is under way."""
-        session = self.bridge.session
-        if session is None:
-            return self.failure is not None
-        return session.failure is not None or session.is_idle and self.bridge.resting_until is None
+    def _is_done(self, document: Document) -> bool:
+        """Whether nothing is under way in a document's project."""
+        server = self.bridge.server_of(document)
+        if server is not None:
+            return server.is_done
+        return self.bridge.failure is not None or not self.bridge.is_probing
+
+    def _is_all_done(self) -> bool:
+        return all(self._is_done(document) for document in self._documents())
 
     @staticmethod
     def _is_seen_news(document: Document) -> bool:
@@ -93,9 +105,12 @@ class Publisher:
         if document.is_seen_known():
             document.told = document.version
         found = features.diagnostics(document.file)
-        if self.failure:
+        server = self.bridge.server_of(document)
+        failure = server.failure if server else self.bridge.failure
+        if failure:
             start = {"line": 0, "character": 0}
-            found.insert(0, {"range": {"start": start, "end": start}, "severity": 1, "source": "hol", "message": self.failure})
+            found.insert(0, {"range": {"start": start, "end": start}, "severity": 1, "source": "hol", "message": failure})
+        self._send_unknown(document, failure)
         if (document.version, found) == document.published:
             return
         document.published = document.version, found
@@ -103,6 +118,17 @@ class Publisher:
         if document.version is not None:
             params["version"] = document.version
         self.bridge.notify("textDocument/publishDiagnostics", params)
+
+    def _send_unknown(self, document: Document, failure: Optional[str]) -> None:
+        """Shows which commands' outcomes aren't known yet, as Lean's editors show what is being processed."""
+        ranges = [] if failure else findings.unknown(document.file)
+        found = [
+            {"range": features.span(document.file, start, end), "kind": RUNNING_LONG if is_slow else WAITING}
+            for start, end, is_slow in ranges]
+        if found != document.unknown:
+            document.unknown = found
+            about = {"uri": document.uri, "version": document.version}
+            self.bridge.notify("$/hol/fileProgress", {"textDocument": about, "processing": found})
 
     def _progress(self, is_done: bool) -> None:
         """Shows how far the sweep is, where it takes long."""
@@ -114,14 +140,18 @@ class Publisher:
             self._token = "holls-%d" % self._tokens
             self.bridge.send({"id": self._token, "method": "window/workDoneProgress/create", "params": {"token": self._token}})
             self._tell({"kind": "begin", "title": "hol", "percentage": 0})
-        entries = [entry for file in self.bridge.sweep.files for entry in file.theory.entries if not entry.is_hidden]
-        known = sum(entry.report is not None for entry in entries)
         if is_done:
             self._tell({"kind": "end"})
             self._token = None
-        else:
-            message = "%d of %d commands" % (known, len(entries))
-            self._tell({"kind": "report", "percentage": 100 * known // max(1, len(entries)), "message": message})
+            return
+        files = [file for server in self.bridge.servers.values() for file in server.files]
+        entries = [entry for file in files for entry in file.theory.entries if not entry.is_hidden]
+        known = sum(entry.report is not None for entry in entries)
+        message = "%d of %d commands" % (known, len(entries))
+        slow = next((entry for entry in entries if entry.is_slow), None)
+        if slow is not None:
+            message += "; running for over 5 seconds: " + slow.text.split("\n")[0][:60]
+        self._tell({"kind": "report", "percentage": 100 * known // max(1, len(entries)), "message": message})
 
     def _tell(self, value: Dict[str, Any]) -> None:
         self.bridge.notify("$/progress", {"token": self._token, "value": value})

@@ -1,14 +1,15 @@
-"""The open files, and those on disk that they import, as theories of one server."""
+"""The open files, and those on disk that they import, as theories of a server for each project."""
 
 from __future__ import annotations
 
 import os
 from dataclasses import dataclass
-from typing import Any, Dict, List, Optional, Tuple
+from typing import Any, Dict, List, Optional, Sequence, Tuple, Union
 from urllib.parse import unquote, urlparse
 
-from holls import check, graph, places, protocol
+from holls import files, graph, places, protocol
 from holls.files import File
+from holls.projects import Moment, Project, Projects, changed
 from holls.session import Job
 
 AROUND = 40
@@ -29,33 +30,38 @@ def path_of(uri: str) -> str:
 
 @dataclass
 class Document:
-    """An open file: its version, where the cursor is, and which lines are seen.
+    """An open file: its project, its version, where the cursor is, and which lines are seen.
 
-    `told` is the last version of which all that is seen was published, `published` what was sent last, `due` when more is.
+    `told` is the last version of which all that is seen was published, `published` what was sent last, `unknown` which ranges were
+    shown as not known last, `due` when more is sent.
     """
 
     uri: str
     file: File
+    project: Project
     version: Optional[int]
     cursor: int = 0
     seen: Optional[Range] = None
     told: Any = -1
     due: Optional[float] = None
     published: Any = None
+    unknown: Any = None
 
     def place(self, position: Dict[str, int]) -> int:
         """The place of an editor's position."""
         return self.file.lines.place(int(position["line"]), int(position["character"]))
 
     def view(self) -> List[Job]:
-        """The jobs of what is seen: the command at the cursor first."""
+        """The jobs of what is seen: the command at the cursor first, then those above it in its proof, whose reports say what its own
+        means; then the rest, from the beginning of the first one's proof."""
         lines = self.file.lines
         middle = lines.line(min(self.cursor, len(lines.text)))
         first, last = self.seen or (middle - AROUND, middle + AROUND)
         start, end = lines.place(first, 0), lines.place(last + 1, 0)
         at = self.file.number_at(self.cursor)
-        numbers = [] if at is None else [at]
-        numbers += [number for number, command in enumerate(self.file.commands) if command.end >= start and command.start <= end]
+        numbers = [] if at is None else [at] + list(range(self.file.proof_begin(at), at))
+        seen = [number for number, command in enumerate(self.file.commands) if command.end >= start and command.start <= end]
+        numbers += list(range(self.file.proof_begin(seen[0]), seen[-1] + 1)) if seen else []
         slots = [self.file.slot(number) for number in numbers]
         return [(self.file.theory, slot) for slot in slots if slot is not None]
 
@@ -69,14 +75,16 @@ class Workspace:
 
     def __init__(self) -> None:
         self.documents: Dict[str, Document] = {}
-        self.with_oops = False
-        self._loaded: Dict[str, Tuple[float, File]] = {}
+        self.projects = Projects()
+        self._loaded: Dict[str, Tuple[Moment, File]] = {}
+        self._looked_at: Dict[str, Tuple[Moment, File]] = {}
         self._imported: Dict[str, Versions] = {}
 
     def open(self, uri: str, version: Optional[int], text: str) -> Document:
         """A document is opened."""
-        document = Document(uri, File(path_of(uri)), version)
-        document.file.take(text, self.with_oops)
+        path = path_of(uri)
+        document = Document(uri, File(path), self.projects.of(path), version)
+        document.file.take(text)
         self.documents[uri] = document
         return document
 
@@ -92,39 +100,89 @@ class Workspace:
             text = places.changed(text, before[0], before[1], change["text"])
             document.cursor = places.Lines(text).place(*before[0]) + len(change["text"])
         document.version = version
-        document.file.take(text, self.with_oops)
+        document.file.take(text)
 
-    def take_again(self, with_oops: bool) -> None:
-        """What the server serves is known now."""
-        self.with_oops = with_oops
+    def is_stale(self) -> bool:
+        """Whether a file that was read from disk has changed there, or a project has other files."""
+        is_changed = self.projects.refresh()
         for document in self.documents.values():
-            document.file.take(document.file.lines.text, with_oops)
+            document.project = self.projects.of(document.file.path)
+        return is_changed or any(changed(path) != moment for path, (moment, _) in self._loaded.items())
 
-    def files(self) -> List[File]:
-        """The files that are sent, each after those that it imports. What an import changed is forgotten below it."""
-        admitted = self._admitted()
-        files = graph.ordered([file for file in graph.with_imports(admitted, self._load) if file.is_sent])[:protocol.THEORIES]
-        edits = {file.theory.name: (id(file), file.theory) for file in files}
-        for file in files:
+    def groups(self) -> Dict[str, List[File]]:
+        """By projects, the files that are sent, each after those that it imports. What an import changed is forgotten below it."""
+        admitted: Dict[str, List[File]] = {}
+        used: List[str] = []
+        for document in self._admitted():
+            admitted.setdefault(document.project.root, []).append(document.file)
+        for root, own in admitted.items():
+            admitted[root] = self._sent(own, used)
+        self._loaded = {path: loaded for path, loaded in self._loaded.items() if path in used}
+        return admitted
+
+    def look(self, project: Project, name: str) -> Optional[File]:
+        """The file of a theory of a project, as it is open or on disk; None where there is none."""
+        path = project.find(name)
+        return None if isinstance(path, list) else self._at(path)
+
+    def every_file(self, project: Project, sent: Sequence[File]) -> List[File]:
+        """All files of a project: those that are open or sent, and the others on disk."""
+        known = {os.path.abspath(file.path): file for file in sent if self.projects.of(file.path) is project}
+        known.update((os.path.abspath(document.file.path), document.file) for document in self.documents.values() if document.project is project)
+        others = [self._at(path) for path in project.paths() if os.path.abspath(path) not in known]
+        return list(known.values()) + [file for file in others if file is not None]
+
+    def _at(self, path: str) -> Optional[File]:
+        """The file at a path."""
+        opened = next((document.file for document in self.documents.values() if os.path.abspath(document.file.path) == path), None)
+        if opened:
+            return opened
+        moment = changed(path)
+        if path in self._loaded and self._loaded[path][0] == moment:
+            return self._loaded[path][1]
+        if path not in self._looked_at or self._looked_at[path][0] != moment:
+            try:
+                with open(path, "rb") as stream:
+                    self._looked_at[path] = moment, files.read(path, stream.read())
+            except OSError:
+                return None
+        return self._looked_at[path][1]
+
+    def _sent(self, own: List[File], used: List[str]) -> List[File]:
+        """The files of a project that are sent; `used` takes the paths of those that were read."""
+        def load(file: File, name: str) -> Union[File, str]:
+            return self._load(self.projects.of(file.path), name, used)
+
+        found = graph.ordered([file for file in graph.with_imports(own, load) if file.is_sent])
+        for file in found[protocol.THEORIES:]:
+            told = "a server holds %d theories, and the open files with those that they import are %d: close some, or import fewer" % (
+                protocol.THEORIES, len(found))
+            file.is_shadowed = True
+            file.context.append(file.first_line(told))
+        del found[protocol.THEORIES:]
+        edits = {file.theory.name: (id(file), file.theory) for file in found}
+        for file in found:
             imported = [edits[name] for name in file.theory.imports if name in edits]
             self._forget(file, tuple((number, theory.edits) for number, theory in imported))
-        return files
+        return found
 
-    def _admitted(self) -> List[File]:
+    def _admitted(self) -> List[Document]:
         """The documents that can be theories; the others are told why they can't."""
-        owners: Dict[str, File] = {}
+        owners: Dict[Tuple[str, str], File] = {}
         for document in self.documents.values():
-            file = document.file
-            owner = owners.setdefault(file.theory.name, file)
-            is_over = owner is file and len(owners) > protocol.THEORIES
+            file, root = document.file, document.project.root
+            owner = owners.setdefault((root, file.theory.name), file)
+            is_over = owner is file and sum(other == root for other, _ in owners) > protocol.THEORIES
             file.context, file.is_shadowed = [], owner is not file or is_over
+            if document.project.error:
+                file.context.append(file.first_line(document.project.error))
             if is_over:
                 told = "a server holds %d theories, and as many files are open before this one: close some" % protocol.THEORIES
                 file.context.append(file.first_line(told))
             elif owner is not file:
                 told = "the open file %s is the theory %s already: close it, or rename one" % (owner.path, file.theory.name)
                 file.context.append(file.first_line(told))
-        return [document.file for document in self.documents.values() if document.file.is_sent]
+        return [document for document in self.documents.values() if document.file.is_sent]
 
     def _forget(self, file: File, imported: Versions) -> None:
         """Forgets what is known below a file's first import, where an import's theory has changed."""
@@ -134,13 +192,19 @@ class Workspace:
             file.theory.forget(slot)
         self._imported[file.path] = imported
 
-    def _load(self, path: str) -> Optional[File]:
-        """A file on disk, as it is now."""
-        try:
-            changed = os.stat(path).st_mtime
-            if path not in self._loaded or self._loaded[path][0] != changed:
+    def _load(self, project: Project, name: str, used: List[str]) -> Union[File, str]:
+        """A file on disk, as it is now; or why there is none."""
+        path = project.find(name)
+        if isinstance(path, list):
+            return project.missing(name)
+        moment = changed(path)
+        used.append(path)
+        if path not in self._loaded or self._loaded[path][0] != moment:
+            try:
                 with open(path, "rb") as stream:
-                    self._loaded[path] = changed, check.read(path, stream.read())
-        except OSError:
-            return None
-        return self._loaded[path][1]
+                    self._loaded[path] = moment, files.read(path, stream.read())
+            except OSError as error:
+                return "%s can't be read: %s" % (path, error.strerror or error)
+        file = self._loaded[path][1]
+        file.is_shadowed = False
+        return file

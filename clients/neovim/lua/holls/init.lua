@@ -8,7 +8,9 @@ local M = {}
 local here = vim.fn.fnamemodify(debug.getinfo(1, 'S').source:sub(2), ':p:h:h:h:h')
 local settings = vim.g.holls or {}
 local client_id = nil
-local goals = { buffer = nil, asked = 0 }
+local goals = { buffer = nil, asked = 0, answered = 0 }
+local patience = 300 -- So many milliseconds the goals at the cursor may take before the window says that they aren't known yet.
+local unknown = vim.api.nvim_create_namespace('holls_unknown')
 
 local symbols = {
   forall = '∀', exists = '∃', unique = '∃!', lambda = 'λ', select = 'ε', ['and'] = '∧', ['or'] = '∨', ['not'] = '¬',
@@ -50,11 +52,33 @@ function M.update()
   end
   goals.asked = goals.asked + 1
   local number = goals.asked
+  vim.defer_fn(function()
+    if number == goals.asked and goals.answered < number then
+      show('not known yet: hol_serve is at work')
+    end
+  end, patience)
   client().request('proof/goals', position(), function(failure, result)
     if number == goals.asked then
+      goals.answered = number
       show(failure and ('no answer: ' .. (failure.message or '')) or result and result.text or '')
     end
   end, 0)
+end
+
+-- Marks the lines of commands whose outcome isn't known yet by a sign: `.`, or `:` where one has been running for over 5 seconds.
+local function mark_unknown(_, params)
+  local buffer = vim.uri_to_bufnr(params.textDocument.uri)
+  if not vim.api.nvim_buf_is_loaded(buffer) then
+    return
+  end
+  vim.api.nvim_buf_clear_namespace(buffer, unknown, 0, -1)
+  local last = vim.api.nvim_buf_line_count(buffer) - 1
+  for _, found in ipairs(params.processing) do
+    local text = found.kind == 2 and ':' or '.'
+    for line = found.range.start.line, math.min(found.range['end'].line, last) do
+      vim.api.nvim_buf_set_extmark(buffer, unknown, line, 0, { sign_text = text, sign_hl_group = 'NonText', priority = 1 })
+    end
+  end
 end
 
 -- Tells the bridge what is seen, so that it asks for that first.
@@ -111,6 +135,32 @@ function M.restart()
   end
 end
 
+-- Finds theorems by parts of names or by a pattern of what they state, or of what they conclude alone; the quickfix list takes them, the
+-- best first.
+function M.search(query, conclusion)
+  if not client() then
+    return
+  end
+  client().request('hol/search', { query = query, conclusion = conclusion }, function(failure, result)
+    if failure then
+      vim.notify((failure.message or 'no answer'):gsub('^.*: ', ''), vim.log.levels.WARN)
+      return
+    end
+    local items = {}
+    for _, one in ipairs(result) do
+      local place = one.location
+      local origin = not place and '  (the prelude)' or not one.isMade and '  (not proved or checked yet)' or ''
+      table.insert(items, {
+        filename = place and vim.uri_to_fname(place.uri) or nil, lnum = place and place.range.start.line + 1 or nil,
+        col = place and place.range.start.character + 1 or nil,
+        text = one.name .. ' |- ' .. one.statement .. origin,
+      })
+    end
+    vim.fn.setqflist({}, ' ', { title = 'HolSearch ' .. query, items = items })
+    vim.cmd(#items > 0 and 'botright copen' or "echo 'no theorem found'")
+  end, 0)
+end
+
 local function config()
   local command = settings.command or { here .. '/bin/holls', 'lsp' }
   return {
@@ -124,6 +174,7 @@ local function config()
         vim.lsp.handlers['textDocument/publishDiagnostics'](...)
         M.update()
       end,
+      ['$/hol/fileProgress'] = mark_unknown,
     },
     on_exit = function(status)
       client_id = nil
@@ -149,9 +200,26 @@ local function keys()
   map('<LocalLeader>g', M.toggle, 'goal window')
   map('K', vim.lsp.buf.hover, 'goals after the command')
   map('gd', vim.lsp.buf.definition, 'where the name is made')
+  map('gr', vim.lsp.buf.references, 'where the name is used')
+  map('<LocalLeader>a', vim.lsp.buf.code_action, 'what could be done about the error')
+  map('<LocalLeader>w', vim.lsp.buf.workspace_symbol, 'a name of the project')
+  vim.keymap.set('i', '<C-s>', vim.lsp.buf.signature_help, { buffer = true, silent = true, desc = 'arguments of the function' })
   map('<LocalLeader>d', vim.diagnostic.open_float, 'the error in full')
   map(']d', vim.diagnostic.goto_next, 'next error')
   map('[d', vim.diagnostic.goto_prev, 'error before')
+end
+
+-- What `attach` did to the current buffer is undone, as before it is read anew.
+function M.detach()
+  local buffer = vim.api.nvim_get_current_buf()
+  pcall(vim.api.nvim_del_augroup_by_name, 'holls_' .. buffer)
+  for _, name in ipairs({ 'HolGoals', 'HolRestart' }) do
+    pcall(vim.api.nvim_buf_del_user_command, buffer, name)
+  end
+  vim.api.nvim_buf_clear_namespace(buffer, unknown, 0, -1)
+  if client() and vim.lsp.buf_is_attached(buffer, client_id) then
+    vim.lsp.buf_detach_client(buffer, client_id)
+  end
 end
 
 -- Attaches the current buffer to the bridge, which is started for the first one.
@@ -180,6 +248,8 @@ function M.attach()
   vim.api.nvim_create_autocmd('QuitPre', { group = group, buffer = buffer, callback = close_with_last })
   vim.api.nvim_create_autocmd({ 'CursorHold', 'BufEnter', 'WinScrolled' }, { group = group, buffer = buffer, callback = M.tell_view })
   vim.api.nvim_buf_create_user_command(buffer, 'HolGoals', M.toggle, {})
+  -- Of all buffers, so that one may search again from the list of what was found.
+  vim.api.nvim_create_user_command('HolSearch', function(given) M.search(given.args, given.bang) end, { nargs = '+', bang = true })
   vim.api.nvim_buf_create_user_command(buffer, 'HolRestart', function()
     if client() then M.restart() else M.attach() end
   end, {})

@@ -1,0 +1,171 @@
+"""Checks files by several servers side by side: each takes one file after the other, with those that it imports before it."""
+
+from __future__ import annotations
+
+import os
+import queue
+import threading
+from dataclasses import dataclass, field
+from typing import Callable, Dict, List, Optional, Sequence, Set, Tuple
+
+from holls import graph, protocol
+from holls.difference import REMOVE, REPLACE
+from holls.files import File
+from holls.protocol import Made
+from holls.session import Session
+from holls.sweep import Sweep, is_known
+from holls.theory import DROP
+
+SERVED = frozenset((REPLACE, REMOVE, DROP))
+
+
+@dataclass(frozen=True)
+class Basis:
+    """On what a theorem rests, with its line."""
+
+    line: int
+    theorem: str
+    items: Tuple[str, ...]
+
+
+@dataclass(eq=False)
+class Unit:
+    """A file that is to be checked, and those that it imports, in order. `failure` says why nothing can be said of it."""
+
+    file: File
+    root: str
+    imports: List[File]
+    bases: List[Basis] = field(default_factory=list)
+    failure: Optional[str] = None
+    done: threading.Event = field(default_factory=threading.Event)
+
+    def cost(self, standing: Set[File]) -> int:
+        """How many commands a server has to run in which some files stand already."""
+        return sum(len(file.commands) for file in self.imports + [self.file] if file not in standing)
+
+
+class Pool:
+    """The units that wait, and the servers that take them."""
+
+    def __init__(self, units: Sequence[Unit], program: List[str], seconds: int, with_bases: bool) -> None:
+        self.waiting = list(units)
+        self.program, self.seconds, self.with_bases = program, seconds, with_bases
+        self._lock = threading.Lock()
+        number = min(len(units), max(1, os.cpu_count() or 1))
+        self._threads = [threading.Thread(target=_Worker(self).run, daemon=True) for _ in range(number)]
+
+    def start(self) -> None:
+        """Begins."""
+        for thread in self._threads:
+            thread.start()
+
+    def take(self, root: str, standing: Set[File]) -> Optional[Unit]:
+        """The unit that costs least where some files of a project stand: of several the first one."""
+        with self._lock:
+            if not self.waiting:
+                return None
+            unit = min(self.waiting, key=lambda one: one.cost(standing if one.root == root else set()))
+            self.waiting.remove(unit)
+            return unit
+
+
+class _Worker:
+    """One server at a time, and the files that stand in it."""
+
+    def __init__(self, pool: Pool) -> None:
+        self.pool = pool
+        self.root = ""
+        self.standing: List[File] = []
+        self.session: Optional[Session] = None
+        self.sweep = Sweep()
+        self.events: "queue.Queue[object]" = queue.Queue()
+        self.unanswered = 0
+
+    def run(self) -> None:
+        """Until no unit waits."""
+        while True:
+            unit = self.pool.take(self.root, set(self.standing))
+            if unit is None:
+                break
+            try:
+                unit.failure = self._check(unit)
+            except Exception as error:  # noqa: BLE001: told as this file's failure, and the others go on
+                unit.failure = "an error in holls: %s: %s" % (type(error).__name__, error)
+            if unit.failure and self.session:
+                self.session.stop()
+                self.session, self.standing = None, []
+            unit.done.set()
+        if self.session:
+            self.session.stop()
+
+    def _check(self, unit: Unit) -> Optional[str]:
+        """Asks for all of a file. Answers why nothing can be said of it, or None."""
+        if self.session is None:
+            self.session = Session(self.pool.program, self.events, SERVED, self.sweep.pick, lambda: None, self.pool.seconds)
+        files = unit.imports + [unit.file]
+        if len(files) > protocol.THEORIES:
+            return "%s hangs together with %d files by imports, and a server holds %d theories" % (
+                unit.file.path, len(files), protocol.THEORIES)
+        self.standing = joined(self.standing if self.root == unit.root else [], files)
+        self.root = unit.root
+        self.sweep.begin([unit.file])
+        self.session.want([file.theory for file in self.standing])
+        self._wait(lambda: self.session.is_idle and is_known([unit.file]))
+        unknown: List[str] = []
+        if self.pool.with_bases and not self.session.failure:
+            self._ask_bases(unit, unknown)
+            self._wait(lambda: self.unanswered == 0)
+        lost = [_lost(unit.file)] + unknown
+        return self.session.failure or next(filter(None, lost), None)
+
+    def _wait(self, is_done: Callable[[], bool]) -> None:
+        while not self.session.failure and not is_done():
+            try:
+                self.session.hear(self.events.get(timeout=self.session.deadline()))
+            except queue.Empty:
+                self.session.tick()
+
+    def _ask_bases(self, unit: Unit, unknown: List[str]) -> None:
+        for number, command in enumerate(unit.file.commands):
+            entry = unit.file.entry(number)
+            if entry and isinstance(entry.report, Made) and command.word != "import":
+                line = unit.file.lines.line(command.start) + 1
+                for name in [made.split()[1] for made in entry.report.entries if made.startswith("thm ")]:
+                    self._ask_basis(unit, line, name, unknown)
+
+    def _ask_basis(self, unit: Unit, line: int, name: str, unknown: List[str]) -> None:
+        def answer(reply: object) -> None:
+            self.unanswered -= 1
+            if isinstance(reply, protocol.Items) and reply.items is not None:
+                unit.bases.append(Basis(line, name, reply.items))
+            else:
+                where = "%s:%d: on what %s rests isn't known" % (unit.file.path, line, name)
+                unknown.append(where + ": hol_serve ended, or had no memory")
+
+        self.unanswered += 1
+        self.session.ask(protocol.line({"op": "basis", "theory": unit.file.theory.name, "name": name}), answer)
+
+
+def joined(standing: List[File], files: List[File]) -> List[File]:
+    """The files that are to stand in a server, in order: these, and those that do where all are few enough."""
+    kept = [file for file in standing if file not in files]
+    return graph.ordered(kept + files) if kept and len(kept) + len(files) <= protocol.THEORIES else files
+
+
+def _lost(file: File) -> Optional[str]:
+    """The first command of which the server said nothing, in words."""
+    for number, command in enumerate(file.commands):
+        entry = file.entry(number)
+        if entry and isinstance(entry.report, protocol.Lost):
+            line = file.lines.line(command.start) + 1
+            return "%s:%d: nothing is known of this command: %s" % (file.path, line, entry.report.reason)
+    return None
+
+
+def units(files: Dict[str, List[File]]) -> List[Unit]:
+    """The files of each project, in order, with what each imports."""
+    made: List[Unit] = []
+    for root, own in files.items():
+        by_name = {file.theory.name: file for file in own}
+        made += [Unit(file, root, graph.all_imports(file, by_name)) for file in own]
+    return made

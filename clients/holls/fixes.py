@@ -1,0 +1,110 @@
+"""What could be done about a finding: edits of the file that an editor offers."""
+
+from __future__ import annotations
+
+import difflib
+from dataclasses import dataclass
+from typing import Iterator, List, Optional, Sequence
+
+from holls import graph, manual, names, notation, protocol, syntax
+from holls.files import File
+from holls.findings import Finding, Severity
+from holls.names import THEOREM
+
+
+@dataclass(frozen=True)
+class Fix:
+    """An edit with words: what stands from `start` to `end` becomes the text."""
+
+    title: str
+    start: int
+    end: int
+    text: str
+
+
+def fixes(finding: Finding, file: File, files: Sequence[File], every: Sequence[File]) -> List[Fix]:
+    """What could be done; `files` are those that stand in the server, `every` all of the project."""
+    if finding.is_open:
+        return list(_ends(file, finding.number))
+    if finding.number is None:
+        return list(_last_end(file, finding))
+    if finding.refusal is not None:
+        return list(_of_refusal(finding, finding.refusal, file, files, every))
+    is_behind_open = finding.severity == Severity.ERROR
+    return [_before(file, finding.number, word) for word in ("qed", "oops")] if is_behind_open else []
+
+
+def _ends(file: File, number: int) -> Iterator[Fix]:
+    """A proof that is never ended, ended behind its last command."""
+    last = next(last for first, last in names.blocks(file) if first == number)
+    place = _behind(file, file.commands[last].end)
+    missing = "" if file.lines.text[file.commands[last].end:place].strip() else ";;"
+    for word, title in (("qed", "End the proof by qed"), ("oops", "Give the proof up by oops")):
+        yield Fix(title, place, place, "%s\n%s;;" % (missing, word))
+
+
+def _behind(file: File, place: int) -> int:
+    """The place behind a command's `;;`, if it has one."""
+    rest = file.lines.text[place:]
+    blank = len(rest) - len(rest.lstrip())
+    return place + blank + 2 if rest[blank:].startswith(";;") else place
+
+
+def _last_end(file: File, finding: Finding) -> Iterator[Fix]:
+    """The `;;` that the last command lacks."""
+    if file.commands and finding.end == file.commands[-1].end and finding.start == finding.end - 1:
+        yield Fix("Add ;;", finding.end, finding.end, ";;")
+
+
+def _before(file: File, number: int, word: str) -> Fix:
+    """A proof that was open, ended before a command."""
+    place = file.commands[number].start
+    return Fix("End the proof before by %s" % word, place, place, word + ";;\n")
+
+
+def _of_refusal(finding: Finding, refusal: protocol.Refusal, file: File, files: Sequence[File], every: Sequence[File]) -> Iterator[Fix]:
+    command = file.commands[finding.number]
+    missing = syntax.missing_end(command.text)
+    if missing and finding.start == command.place(missing[0]):
+        place = command.place(len(command.text[:missing[0]].rstrip()) - 1) + 1
+        yield Fix("Add ;;", place, place, ";;")
+    elif refusal.number == protocol.UNKNOWN_THEOREM:
+        yield from _theorem(finding, refusal.argument, file, files, every)
+    elif refusal.number == protocol.UNKNOWN_TAC and not {refusal.argument} & (notation.TACS.keys() | notation.ELSEWHERE.keys()):
+        near = notation.near(refusal.argument, manual.FUNCTIONS)
+        if near:
+            yield Fix("Replace by %s" % near, finding.start, finding.end, near)
+    elif refusal.number == protocol.SYNTAX and finding.start == command.start and command.word not in notation.COMMANDS:
+        near = notation.near(command.word, [word.upper() for word in notation.COMMANDS])
+        if near:
+            yield Fix("Replace by %s" % near.lower(), finding.start, finding.end, near.lower())
+        if command.word in notation.TACS or command.word in notation.TACTICALS:
+            yield Fix("Begin the step by e", finding.start, finding.start, "e ")
+    elif refusal.number == protocol.GOALS_REMAIN:
+        yield Fix("Give the proof up by oops", command.start, command.end, "oops")
+
+
+def _theorem(finding: Finding, name: str, file: File, files: Sequence[File], every: Sequence[File]) -> Iterator[Fix]:
+    """A theorem that doesn't stand: the theory that makes it, to be imported; or the name that was meant."""
+    by_name = {other.theory.name: other for other in every}
+    for other in every:
+        makes = any(one.kind == THEOREM and one.name == name for one in names.written(other))
+        if makes and other is not file and file not in graph.all_imports(other, by_name):
+            place = _import_place(file)
+            yield Fix("Import %s, which makes %s" % (other.theory.name, name), place, place, "import %s;;\n" % other.theory.name)
+    known = list(dict.fromkeys(one.name for one in names.visible(files, file, finding.start) if one.kind == THEOREM))
+    for near in difflib.get_close_matches(name, known, 3, 0.6):
+        yield Fix("Replace by %s" % near, finding.start, finding.end, near)
+
+
+def _import_place(file: File) -> int:
+    """Where an import is put: in the line behind the last one at the file's beginning, else before the first command."""
+    last: Optional[int] = None
+    for command in file.commands:
+        if command.word != "import":
+            break
+        last = command.end
+    if last is None:
+        return file.lines.starts[file.lines.line(file.commands[0].start)]
+    line = file.lines.line(last) + 1
+    return file.lines.starts[line] if line < len(file.lines.starts) else len(file.lines.text)

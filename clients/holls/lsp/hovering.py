@@ -1,0 +1,59 @@
+"""What an editor shows beside a name: how it is written and what it does, or its statement and on what it rests."""
+
+from __future__ import annotations
+
+from typing import Optional
+
+from holls import binders, manual, names
+from holls.files import File
+from holls.lsp.lookup import Word
+from holls.names import CONSTANT, THEOREM, Known
+
+KINDS = {THEOREM: "theorem", CONSTANT: "constant"}
+
+
+def of_word(word: Word, more: Optional[str]) -> Optional[str]:
+    """The text on a name, in Markdown, with what it rests on, or a variable's type; None where nothing is known of it."""
+    if word.entry:
+        return fenced(word.entry.form) + "\n" + word.entry.does
+    if word.theory:
+        return "the theory %s" % word.theory
+    if word.known is None:
+        return fenced("%s : %s" % (word.name, more)) if more else None
+    known = word.known
+    lines = [fenced(known.line)]
+    if known.file is None:
+        lines.append("%s of the prelude" % _of_prelude(known))
+    else:
+        lines.append("%s of %s%s" % (KINDS.get(known.kind, "type"), known.origin, "" if known.is_made else ", not proved or checked yet"))
+    if more:
+        lines.append(more)
+    return "\n\n".join(lines)
+
+
+def _of_prelude(known: Known) -> str:
+    """What a name of the prelude is."""
+    if known.kind != THEOREM:
+        return "a " + KINDS.get(known.kind, "type")
+    if known.name.endswith("_AX"):
+        return "an axiom"
+    return "a definition" if known.name.endswith("_DEF") or known.name in manual.CONSTANTS else "a theorem"
+
+
+def question(file: File, word: Word) -> Optional[str]:
+    """The command that asks for the type of a variable in a quotation.
+
+    None where there is none, or where a name in it is made further down: it is asked at the theory's end, where that would be read.
+    """
+    if not word.is_quoted:
+        return None
+    place = word.command.offset(word.start)
+    used = binders.names(word.command.text, place)
+    is_other = any(
+        one.name in used and one.kind != THEOREM and file.commands[one.number].start > word.command.start for one in names.written(file))
+    return None if is_other else binders.question(word.command.text, place)
+
+
+def fenced(text: str) -> str:
+    """Text in the notation, as Markdown has it."""
+    return "```hol\n%s\n```" % text.rstrip("\n")

@@ -1,0 +1,149 @@
+"""What the notation's own names are, in a sentence each, from docs/TACTICS.md, docs/NOTATION.md and docs/PROTOCOL.md.
+
+Of each: how it is written, and what it does. A test compares the names, and the prelude's statements, with those pages.
+"""
+
+from __future__ import annotations
+
+from typing import Dict, NamedTuple, Optional
+
+
+class Entry(NamedTuple):
+    """How a name is written, its arguments as parts of that, and what it does."""
+
+    form: str
+    does: str
+
+    @property
+    def arguments(self) -> str:
+        """What follows the name."""
+        return self.form.partition(" ")[2]
+
+
+def _entries(lines: str) -> Dict[str, Entry]:
+    """The entries of a table, `FORM | SENTENCE` a line."""
+    rows = [line.split(" | ", 1) for line in lines.strip().splitlines()]
+    return {form.split()[0]: Entry(form.strip(), does.strip()) for form, does in rows}
+
+
+FUNCTIONS = _entries(r"""
+ALL_TAC | Fits any goal and leaves it as it is.
+NO_TAC | Fits no goal: it is always refused.
+REFL_TAC | Closes `s = s`; the sides may differ in bound names.
+ACCEPT_TAC th | Closes the goal that the theorem concludes.
+CONJ_TAC | Of `p /\ q` leaves `p`, then `q`.
+DISJ1_TAC | Of `p \/ q` leaves `p`.
+DISJ2_TAC | Of `p \/ q` leaves `q`.
+EQ_TAC | Of `p <=> q` leaves `p ==> q`, then `q ==> p`.
+DISCH_TAC | Of `p ==> q`, or `~p`, leaves `q`, or `F`, with `p` assumed.
+GEN_TAC | Of `!x. p` leaves `p` at a fresh variable.
+X_GEN_TAC `v` | Of `!x. p` leaves `p` at v, a variable of x's type that is free nowhere in the goal.
+EXISTS_TAC `t` | Of `?x. p` leaves `p` at t, a term of x's type.
+SPEC_TAC (`t`, `x`) | Leaves `!x.` the conclusion with x for each t; x is a variable of t's type that isn't free there, unless it is t.
+MP_TAC th | Of any goal `w` leaves `c ==> w`, c being what the theorem concludes.
+ASSUME_TAC th | Leaves the goal with what the theorem concludes assumed.
+CONTR_TAC th | Closes any goal by a theorem that concludes `F`.
+CHOOSE_TAC th | By a theorem `?x. p` leaves the goal with `p` assumed at a fresh variable.
+X_CHOOSE_TAC `v` th | By a theorem `?x. p` leaves the goal with `p` assumed at v, a variable of x's type that is free in neither.
+DISJ_CASES_TAC th | By a theorem `p \/ q` leaves the goal with `p` assumed, then with `q`.
+SUBST1_TAC th | By a theorem `s = t` leaves the conclusion with t for each s.
+AP_TERM_TAC | Of `f x = f y` leaves `x = y`.
+AP_THM_TAC | Of `f x = g x` leaves `f = g`.
+MK_COMB_TAC | Of `f x = g y`, f and g of one type, leaves `f = g`, then `x = y`.
+UNDISCH_TAC `p` | Takes the newest assumption that is p out, and leaves `p ==> w` of the conclusion `w`.
+STRIP_ASSUME_TAC th | Assumes the parts of what the theorem concludes: both of a `/\`, a witness of a `?`, a goal for each side of a `\/`.
+STRIP_TAC | Does what GEN_TAC or CONJ_TAC does; of `p ==> q`, or `~p`, leaves `q`, or `F`, with the parts of `p` assumed.
+MATCH_MP_TAC th | By a theorem `!xs. s ==> t` whose t matches the goal leaves `s` at the instance, under `?` for variables that t lacks; matching is first order.
+BETA_TAC | Reduces each `(\x. b) a` of the conclusion; closes the goal where that is `T`.
+REWRITE_TAC [th; ..] | Rewrites the conclusion by the theorems and the basic rewrites until no rule matches; closes the goal where that is `T`.
+ASM_REWRITE_TAC [th; ..] | Does what REWRITE_TAC does, by the assumptions too, which come before the basic rewrites.
+PURE_REWRITE_TAC [th; ..] | Rewrites the conclusion by the theorems alone until no rule matches; closes the goal where that is `T`.
+ONCE_REWRITE_TAC [th; ..] | Replaces each topmost part of the conclusion that a theorem or a basic rewrite matches, once; closes the goal where that gives `T`.
+ONCE_ASM_REWRITE_TAC [th; ..] | Does what ONCE_REWRITE_TAC does, by the assumptions too, which come before the basic rewrites.
+""")
+"""The functions on goals."""
+
+TACTICALS = _entries(r"""
+THEN tac | `t THEN u` runs t, then u on each goal that is left; it binds tighter than ORELSE.
+THENL [tac; ..] | `t THENL [u; ..]` runs t, then each on the goal of its place; there have to be as many as goals.
+ORELSE tac | `t ORELSE u` runs t, or where it is refused u.
+REPEAT tac | Runs the expression, and itself again on each goal that is left, until it is refused; each round costs a turn.
+TRY tac | Runs the expression, or where it is refused leaves the goal.
+CHANGED_TAC tac | Runs the expression, and is refused where just the goal is left.
+EVERY [tac; ..] | Runs the expressions one after the other, each on all goals that are left.
+FIRST [tac; ..] | Runs the first expression that isn't refused.
+REPLICATE_TAC n tac | Runs the expression n times, each time on all goals that are left.
+DISCH_THEN tac | Of `p ==> q`, or `~p`, hands `p` as a theorem to the function, on `q` or `F`.
+POP_ASSUM tac | Takes the newest assumption out and hands it to the function as a theorem.
+FIRST_ASSUM tac | Hands the first assumption to the function with which it isn't refused, the newest first; the goal keeps all.
+SUBGOAL_THEN `p` tac | Leaves `p` first, and then what the function leaves of the goal with `p` as a theorem.
+""")
+"""The tacticals."""
+
+RULES = _entries(r"""
+ASSUME `p` | Makes `p` under the hypothesis `p`, which has to be among the goal's assumptions where it is used.
+REFL `t` | Makes `t = t`.
+SPEC `t` th | Of `!x. p` makes `p` at t, a term of x's type.
+SYM th | Of `s = t` makes `t = s`.
+CONJUNCT1 th | Of `p /\ q` makes `p`.
+CONJUNCT2 th | Of `p /\ q` makes `q`.
+MP th th | Of `p ==> q` and `p` makes `q`.
+INST_TYPE [`:ty`, `:A`; ..] th | Makes the theorem with types for its type variables.
+""")
+"""The forward rules."""
+
+COMMANDS = _entries(r"""
+g NAME `term` | Opens a proof of the term, of type `bool`, under this name.
+e tac | Runs an expression of functions on goals on the first goal.
+b | Undoes the newest `e` or `r` of the proof.
+r n | Puts the first goal last, n times.
+qed | Ends the proof and makes the theorem.
+oops | Gives the proof up.
+import THEORY | Takes the theorems, constants and types of the theory THEORY.hol.
+new_type NAME n | Declares a type constructor of so many arguments, 0 to 16.
+new_constant NAME `:type` | Declares a constant of this type.
+new_axiom NAME `term` | States an axiom.
+new_definition NAME `c v1 .. vn = term` | Defines the constant c and makes the theorem NAME.
+new_basic_type_definition TY ABS REP N1 N2 TH | Defines a type by a theorem TH, `P x`; makes ABS to it, REP from it, and the theorems N1 and N2.
+""")
+"""The commands."""
+
+PRELUDE = {
+    "T_DEF": r"T = ((\p:bool. p) = (\p. p))",
+    "AND_DEF": r"(/\) = (\p q. (\f:bool->bool->bool. f p q) = (\f. f T T))",
+    "IMP_DEF": r"(==>) = (\p q. p /\ q <=> p)",
+    "FORALL_DEF": r"(!) = (\P:A->bool. P = (\x. T))",
+    "EXISTS_DEF": r"(?) = (\P:A->bool. !q. (!x. P x ==> q) ==> q)",
+    "OR_DEF": r"(\/) = (\p q. !r. (p ==> r) ==> (q ==> r) ==> r)",
+    "F_DEF": r"F = (!p. p)",
+    "NOT_DEF": r"(~) = (\p. p ==> F)",
+    "EXISTS_UNIQUE_DEF": r"(?!) = (\P:A->bool. (?) P /\ (!x y. P x /\ P y ==> x = y))",
+    "ETA_AX": r"!t:A->B. (\x. t x) = t",
+    "SELECT_AX": r"!(P:A->bool) x. P x ==> P ((@) P)",
+    "ONE_ONE": r"!f:A->B. ONE_ONE f <=> (!x1 x2. f x1 = f x2 ==> x1 = x2)",
+    "ONTO": r"!f:A->B. ONTO f <=> (!y. ?x. y = f x)",
+    "INFINITY_AX": r"?f:ind->ind. ONE_ONE f /\ ~ONTO f",
+    "TRUTH": r"T",
+    "REFL_CLAUSE": r"!x:A. x = x <=> T",
+    "EQ_CLAUSES": r"!t. ((T <=> t) <=> t) /\ ((t <=> T) <=> t) /\ ((F <=> t) <=> ~t) /\ ((t <=> F) <=> ~t)",
+    "NOT_CLAUSES_WEAK": r"(~T <=> F) /\ (~F <=> T)",
+    "AND_CLAUSES": r"!t. (T /\ t <=> t) /\ (t /\ T <=> t) /\ (F /\ t <=> F) /\ (t /\ F <=> F) /\ (t /\ t <=> t)",
+    "OR_CLAUSES": r"!t. (T \/ t <=> T) /\ (t \/ T <=> T) /\ (F \/ t <=> t) /\ (t \/ F <=> t) /\ (t \/ t <=> t)",
+    "IMP_CLAUSES": r"!t. (T ==> t <=> t) /\ (t ==> T <=> T) /\ (F ==> t <=> T) /\ (t ==> t <=> T) /\ (t ==> F <=> ~t)",
+}
+"""The prelude's theorems with their statements."""
+
+CONSTANTS = {
+    "T": "bool", "F": "bool", "=": "A->A->bool", "<=>": "bool->bool->bool", "==>": "bool->bool->bool", "/\\": "bool->bool->bool",
+    "\\/": "bool->bool->bool", "~": "bool->bool", "!": "(A->bool)->bool", "?": "(A->bool)->bool", "?!": "(A->bool)->bool",
+    "@": "(A->bool)->A", "ONE_ONE": "(A->B)->bool", "ONTO": "(A->B)->bool",
+}
+"""The prelude's constants with their types."""
+
+TYPES = {"bool": "the truth values, T and F", "ind": "an infinite type (INFINITY_AX)", "fun": "functions, written A->B"}
+"""The prelude's types."""
+
+
+def entry(name: str) -> Optional[Entry]:
+    """What there is to say of a function, a tactical, a rule or a command."""
+    return FUNCTIONS.get(name) or TACTICALS.get(name) or RULES.get(name) or COMMANDS.get(name)

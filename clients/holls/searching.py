@@ -1,0 +1,104 @@
+"""`holls search`: finds theorems in files, by words of their names and by a pattern of what they state."""
+
+from __future__ import annotations
+
+import argparse
+import json
+import os
+import queue
+import sys
+from typing import Dict, Iterator, List, Optional, Sequence
+
+from holls import check, checking, names, protocol, search, server
+from holls.checking import SERVED, Unit
+from holls.files import File
+from holls.names import PRELUDE, THEOREM, Known
+from holls.session import Session
+
+NONE, BROKEN = 1, 2
+
+
+def add_words(parser: argparse.ArgumentParser) -> None:
+    """The words of the command line."""
+    parser.add_argument("query", nargs="+", metavar="QUERY", help="parts of names; or a pattern of the statement, as '_ /\\ _ ==> _', "
+                        "beside names between backquotes")
+    parser.add_argument("--in", dest="files", action="append", metavar="FILE", help="a file or folder to search (the folder one works in); "
+                        "may be given again")
+    parser.add_argument("--conclusion", action="store_true", help="the pattern is of the whole statement or of what it concludes, of no part")
+    parser.add_argument("--written", action="store_true", help="take the statements as they are written, proved or not, without the program")
+    parser.add_argument("--server", metavar="PROGRAM", help="the program hol_serve")
+    parser.add_argument("--json", action="store_true", help="one JSON object a line")
+    parser.add_argument("--seconds", type=int, default=120, help="how long one file may take (120)")
+
+
+def main(given: argparse.Namespace) -> int:
+    """Writes the theorems found, the best first: status 0 where there are some, 1 where none, 2 where nothing can be searched."""
+    try:
+        asked = search.query(" ".join(given.query), given.conclusion)
+        units = checking.units(check.ordered(_files(given.files)))
+        known = PRELUDE + list(_written(units) if given.written else _standing(units, server.find(given.server), given.seconds))
+    except (search.BadQuery, check.CannotCheck, server.NoServer) as error:
+        print("holls: %s" % error, file=sys.stderr)
+        return BROKEN
+    found = search.Index().find(asked, known)
+    for one in found:
+        _show(one, given.json)
+    return 0 if found else NONE
+
+
+def _files(named: Optional[List[str]]) -> List[str]:
+    """The files and folders that are named; else the folder that one works in, if it has files."""
+    if named:
+        return named
+    return ["."] if any(name.endswith(check.SUFFIX) for _, _, below in os.walk(".") for name in below) else []
+
+
+def _written(units: Sequence[Unit]) -> Iterator[Known]:
+    """All that the files make, as it is written."""
+    for unit in units:
+        yield from names.known(unit.file)
+
+
+def _standing(units: Sequence[Unit], program: List[str], seconds: int) -> Iterator[Known]:
+    """What stands at each file's end, as the program shows it."""
+    events: "queue.Queue[object]" = queue.Queue()
+    session = Session(program, events, SERVED, lambda: None, lambda: None, seconds)
+    standing: List[File] = []
+    root = ""
+    for unit in units:
+        files = unit.imports + [unit.file]
+        if not unit.file.is_sent or len(files) > protocol.THEORIES:
+            print("holls: %s isn't searched: it can be no theory of one server" % unit.file.path, file=sys.stderr)
+            continue
+        standing, root = checking.joined(standing if root == unit.root else [], files), unit.root
+        session.want([file.theory for file in standing])
+        shown = _ask(session, events, unit.file)
+        for one in names.written(unit.file):
+            if one.kind != THEOREM:
+                yield Known(one.kind, one.name, one.text, unit.file, one.number)
+            elif one.name in shown:
+                yield Known(one.kind, one.name, shown[one.name], unit.file, one.number)
+    session.stop()
+
+
+def _ask(session: Session, events: "queue.Queue[object]", file: File) -> Dict[str, str]:
+    """The statements of the theorems that stand at a file's end, by their names."""
+    said: List[object] = []
+    session.ask(protocol.line({"op": "theorems", "theory": file.theory.name}), said.append)
+    while not said and not session.failure:
+        try:
+            session.hear(events.get(timeout=session.deadline()))
+        except queue.Empty:
+            session.tick()
+    if session.failure or not isinstance(said[0], protocol.Theorems):
+        raise server.NoServer(session.failure or "hol_serve gave no list of the theorems of %s" % file.path)
+    parts = [text.split(" ", 2) for text in said[0].texts]
+    return {name: rest[len("|- "):] for _, name, rest in parts}
+
+
+def _show(one: Known, as_json: bool) -> None:
+    where = (one.file.path, one.file.lines.line(names.name_range(one)[0]) + 1) if one.file else ("prelude", 0)
+    if as_json:
+        print(json.dumps({"file": where[0], "line": where[1], "name": one.name, "statement": one.shown}))
+    else:
+        print("%s: %s |- %s" % ("%s:%d" % where if one.file else where[0], one.name, " ".join(one.shown.split())))

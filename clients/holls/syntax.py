@@ -1,0 +1,125 @@
+"""Words for a text that is no command: where it fails, and what was probably meant."""
+
+from __future__ import annotations
+
+import re
+from typing import List, Optional, Tuple
+
+from holls import notation, protocol
+
+Told = Tuple[int, int, str]
+"""A range in the command's text, and words."""
+
+_IN_TERMS = {
+    "!": "; a binder as an argument stands in parentheses: f (!x. P x)",
+    "\\": "; a binder as an argument stands in parentheses: f (\\x. t)",
+    "`": "; the quotation ends too soon, or a backquote is missing",
+    ":": "; a binder's variable with a type before another one stands in parentheses: !(x:A) y. p",
+}
+"""Hints at tokens in a quotation."""
+_LINE_WORD = re.compile(r"\n[ \t\r]*([A-Za-z_][A-Za-z0-9_']*)")
+_GOES_ON = {"r": re.compile(r"\s*[0-9]"), "e": re.compile(r"\s*[A-Za-z(]"), "b": re.compile(r"\s*\Z|\s*\n")}
+"""How a command goes on whose word may well be the name of a theorem."""
+
+
+def explain(text: str, place: int) -> Told:
+    """The words for refusal 1 at a place."""
+    token = notation.token(text, place)
+    before = notation.tokens_before(text, place)
+    told = unclosed(text) or missing_end(text) or _without_name(text, before)
+    if told:
+        return told
+    if place >= len(text):
+        return max(0, place - 1), place, "the command ends too soon: something has to follow here"
+    if not before and token in notation.COMMANDS:
+        return place, place + len(token), "the program reads `%s` and doesn't run it in this form" % token
+    if not before and token and token[0].isalpha():
+        return place, place + len(token), _no_command(token)
+    if len(before) >= protocol.TOKENS:
+        return place, place + 1, "a command has at most %d tokens: split the statement" % protocol.TOKENS
+    if sum(before.count(bracket) for bracket in "([") - sum(before.count(bracket) for bracket in ")]") >= protocol.BRACKETS:
+        return place, place + 1, "more than %d brackets are open at once here" % protocol.BRACKETS
+    return _unexpected(text, place, token, before)
+
+
+def unclosed(text: str) -> Optional[Told]:
+    """A backquote that is missing: quotations have two each."""
+    places = [at for at, character in enumerate(text) if character == "`"]
+    if len(places) % 2 == 0:
+        return None
+    start = _unpaired(text, places)
+    return start, start + 1, "this quotation is never closed: a backquote is missing"
+
+
+def _unpaired(text: str, places: List[int]) -> int:
+    """The backquote that has none to go with: the first one whose partner stands at a line's first word that is a command, else the last."""
+    for first, second in zip(places[::2], places[1::2]):
+        if any(word in notation.COMMANDS for word in _LINE_WORD.findall(text, first, second)):
+            return first
+    return places[-1]
+
+
+def missing_end(text: str) -> Optional[Told]:
+    """A `;;` that is missing before a line that begins with a command's word, or before `qed`; nothing in quotations counts."""
+    blank = notation.without_quotations(text)
+    for found in _LINE_WORD.finditer(blank):
+        goes_on = _GOES_ON.get(found.group(1))
+        if goes_on and not goes_on.match(blank, found.end()):
+            continue
+        if found.group(1) in notation.COMMANDS and blank[:found.start()].strip():
+            return found.start(1), found.end(1), "a `;;` is missing before `%s`" % found.group(1)
+    last = re.search(r"\S\s+(qed|oops)\s*\Z", blank)
+    if last and not re.search(r"\b(g|import|new_\w+)\s+(qed|oops)\s*\Z", blank):
+        return last.start(1), last.end(1), "a `;;` is missing before `%s`" % last.group(1)
+    return None
+
+
+def _without_name(text: str, before: List[str]) -> Optional[Told]:
+    """A command that makes something, and has no name for it."""
+    found = re.match(r"(g|new_axiom|new_definition|new_constant)\s*`", text)
+    if not found or len(before) > 1:
+        return None
+    word = found.group(1)
+    return found.end() - 1, found.end(), "a name is missing before the quotation: %s" % notation.COMMANDS[word]
+
+
+def _no_command(token: str) -> str:
+    """The words for a first word that begins no command."""
+    near = notation.near(token, [word.upper() for word in notation.COMMANDS])
+    if token in notation.TACS or token in notation.TACTICALS:
+        return "`%s` begins no command: a step begins with e, as in e %s;;" % (token, token)
+    if near:
+        return "`%s` begins no command; did you mean %s?" % (token, near.lower())
+    return "`%s` begins no command; commands begin with %s" % (token, ", ".join(notation.COMMANDS))
+
+
+def _unexpected(text: str, place: int, token: Optional[str], before: List[str]) -> Told:
+    """The words for a token with which no command goes on, or for a character that begins none."""
+    if token is None:
+        shown = text[place] if text[place].isprintable() else "U+%04X" % ord(text[place])
+        hint = "; `*)` closes no comment here" if text.startswith("*)", place) else ""
+        return place, place + 1, "`%s` begins no symbol of the notation%s" % (shown, hint)
+    rule = _rule(text, place, before)
+    if rule:
+        return rule
+    is_quoted = before.count("`") % 2 == 1
+    hint = _IN_TERMS.get(token, "") if is_quoted else "; a command ends with `;;`" if token == ";" else ""
+    if text.startswith("new_type") and token.isdigit():
+        hint = "; a type constructor takes 0 to 16 arguments"
+    if text.startswith("new_definition") and token in ("/\\", "\\/", "==>", "<=>"):
+        hint = "; the right side of a definition's = stands in parentheses, or has <=> before it"
+    return place, place + len(token), "no command goes on with `%s` here%s" % (token, hint)
+
+
+def _rule(text: str, place: int, before: List[str]) -> Optional[Told]:
+    """A name that is used as a forward rule, and is none: as GSYM in [GSYM th]."""
+    if len(before) < 2 or before[-2] not in ("[", "(", ";") or before.count("`") % 2 or not before[-1][0].isalpha():
+        return None
+    name = before[-1]
+    if name in notation.FORWARD or name in notation.TACS or name in notation.TACTICALS:
+        return None
+    start = text.rindex(name, 0, place)
+    instead = notation.RULES_ELSEWHERE.get(name)
+    hint = "; in its place: %s" % instead if instead else "" if name in notation.RULES_ELSEWHERE or before[-2] == "(" else (
+        "; theorems in a list stand apart by `;`")
+    return start, start + len(name), "`%s` is none of the forward rules, which are %s%s" % (name, ", ".join(notation.FORWARD), hint)

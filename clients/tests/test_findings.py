@@ -1,0 +1,160 @@
+"""What is said of a file while its reports come: nothing that a later one takes back, and all of it in the end."""
+
+import json
+import random
+import unittest
+
+from holls import protocol
+from holls.files import File
+from holls.findings import Severity, findings, unknown
+from tests.fake_server import Documents
+from tests.helpers import ROOT, proofs
+
+CORRECT = (
+    proofs(3),
+    "g A `p /\\ p = p`;;\ne ALL_TAC;;\noops;;\n" + proofs(1),
+    "new_constant c `:bool`;;\n" + proofs(2) + "new_axiom AX `c`;;\n",
+    "g A `x = x`;; e REFL_TAC;; qed;;\ng B `x = x /\\ y = y`;; e CONJ_TAC;; e REFL_TAC;; e REFL_TAC;; qed;;",
+    "(* c *)\n" + proofs(2),
+    "g A `x = x`;; oops;;\ng A `x = x`;; oops;;\n" + proofs(1),
+    "new_axiom A `p`;;\nnew_axiom B `q`;;\nnew_constant d `:A`;;\n",
+    proofs(1) + "g T `a = a`;;\ne ALL_TAC;;\ne ALL_TAC;;\ne ALL_TAC;;\ne REFL_TAC;;\nqed;;\nnew_axiom AX `c`;;\n",
+    "g A `p`;;\noops;;\nnew_constant c `:A`;;\ng B `x = x`;;\ne REFL_TAC;;\nqed;;\n",
+    proofs(6),
+)
+WRONG = (
+    "g A `p = q`;;\ne REFL_TAC;;\nqed;;\n" + proofs(2),
+    "g A `x = x`;;\ne REFL_TAC;;\n" + proofs(1),
+    "g A `p /\\ q`;;\ne CONJ_TAC;;\ne FOO_TAC;;\ne REFL_TAC;;\nqed;;\n\ng B `x x`;;\ne CONJ_TAC;;\nqed;;\nqedx;;\noops;;\n",
+    "qed;; e ALL_TAC;; g A `x = x`;; e NO_TAC;; e REFL_TAC;; e REFL_TAC;; qed;; qed;;",
+    proofs(1) + "g N0 `x = x`;; e REFL_TAC;; qed;;",
+    "g A `p`;; e CONJ_TAC;;\nnew_constant c `:A`;;\nnew_axiom B `c`;;\ng C `x = x`;;\ne REFL_TAC;; qed;; qed;;",
+    "g A `p`;;\ne f g;; e ALL_TAC;;\nqed;;\ng B `x = x`;; e REFL_TAC;; qed;;\ng C `p`;;",
+    "g A `p`;;\nnew_axiom AX `p`;;\nnew_axiom AX `p`;;\ng B `x x`;;\ng C `x x`;;\ne ALL_TAC;;",
+    "import none;;\ng A `p = q`;;\ne NO_TAC;;\ne REFL_TAC;;\nqed;;\nimport none;;\ng;;\n",
+    "g A `x = x`;; e REFL_TAC;;\ne REFL_TAC;;\nqed;;\ng B `x = x`;; e REFL_TAC;; e REFL_TAC;; qed;;\nqed",
+)
+
+
+def reports(file):
+    """The reports on the commands of a file, by their places in the theory."""
+    documents = Documents()
+    documents.new_theory({"name": file.theory.name, "at": 0})
+    for at, entry in enumerate(file.theory.entries):
+        documents.insert({"theory": file.theory.name, "at": at, "text": entry.text})
+    found = [documents.report({"theory": file.theory.name, "at": at}) for at in range(len(file.theory.entries))]
+    return [protocol.reply(json.dumps(report).encode()) for report in found]
+
+
+def taken(text):
+    """A file of a text."""
+    file = File("A.hol")
+    file.take(text)
+    return file
+
+
+class WhileReportsCome(unittest.TestCase):
+    def test_no_finding_goes_away_by_itself(self):
+        for number, text in enumerate(CORRECT + WRONG):
+            file = taken(text)
+            for order in orders(len(file.theory.entries)):
+                with self.subTest(number=number, order=order):
+                    self.walk(file, reports(file), order, is_correct=number < len(CORRECT))
+
+    def walk(self, file, told, order, is_correct):
+        for entry in file.theory.entries:
+            entry.report = None
+        before = findings(file)
+        for at in order:
+            if not file.theory.entries[at].is_hidden:
+                file.theory.entries[at].report = told[at]
+            now = findings(file)
+            self.assertEqual([finding for finding in before if finding not in now], [], "gone when %d came" % at)
+            before = now
+        self.assertEqual(any(finding.severity == Severity.ERROR or finding.is_open for finding in before), not is_correct)
+        self.assertEqual(unknown(file), [])
+
+    def test_the_programs_own_reports_on_the_examples_give_no_finding_at_any_time(self):
+        for name in ("connectives", "maps", "pairs", "groups"):
+            folder = ROOT / "examples" / "theories"
+            file = taken((folder / (name + ".hol")).read_text(encoding="utf-8"))
+            lines = (folder / (name + ".replies")).read_text(encoding="utf-8").splitlines()
+            replies = [line for line in lines if line.startswith("{")][:len(file.commands)]
+            self.assertEqual(len(replies), len(file.commands))
+            for order in orders(len(replies), 1):
+                for entry in file.theory.entries:
+                    entry.report = None
+                for number in order:
+                    file.entry(number).report = protocol.reply(replies[number].encode())
+                    self.assertEqual(findings(file), [], (name, number))
+
+    def test_what_is_not_known_is_told_apart(self):
+        file = taken(proofs(1))
+        self.assertEqual(unknown(file), [(0, file.commands[3].end, False)])
+        file.entry(1).report = protocol.Made(())
+        file.entry(2).is_slow = True
+        places = [(command.start, command.end) for command in file.commands]
+        self.assertEqual(unknown(file), [places[0] + (False,), places[2] + (True,), places[3] + (False,)])
+
+
+class WhereLittleIsKnown(unittest.TestCase):
+    """What follows from a command of which nothing is known, or that isn't sent, isn't told as an error."""
+
+    def said(self, file):
+        return [(file.lines.line(finding.start) + 1, finding.text.split(":")[0]) for finding in findings(file)]
+
+    def test_behind_a_command_that_was_lost(self):
+        file = taken("g A `x = x`;;\ne REFL_TAC;;\nqed;;\ng B `x = x`;;\ne REFL_TAC;;\nqed;;\n")
+        for entry, report in zip(file.theory.entries, reports(file)):
+            entry.report = report
+        file.entry(2).report = protocol.Lost("hol_serve ended")
+        self.assertEqual(self.said(file), [(3, "nothing is known of this command")])
+
+    def test_behind_a_command_that_is_too_long_to_be_sent(self):
+        file = taken("g A `%s`;;\ne REFL_TAC;;\nqed;;\ng B `p = q`;;\ne REFL_TAC;;\n" % ("x" * protocol.LINE_BYTES))
+        for entry, report in zip(file.theory.entries, reports(file)):
+            entry.report = report
+        self.assertEqual(self.said(file), [(1, "this command is too long"), (5, "REFL_TAC doesn't fit the first goal")])
+
+    def test_behind_the_last_command_that_is_sent(self):
+        file = taken(proofs(249) + "g A `x = x`;;\n" + "e ALL_TAC;;\n" * 5 + "e REFL_TAC;;\nqed;;\n")
+        self.assertEqual(len(file.theory.entries), 1000)
+        for entry, report in zip(file.theory.entries, reports(file)):
+            entry.report = report
+        self.assertEqual(self.said(file), [(1250, "a theory has at most 1000 commands")])
+
+
+class OneFailureHidesNoOther(unittest.TestCase):
+    def said(self, text):
+        file = taken(text)
+        for entry, report in zip(file.theory.entries, reports(file)):
+            entry.report = report
+        return [(file.lines.line(finding.start) + 1, finding.severity.name, finding.text) for finding in findings(file)]
+
+    def test_a_failed_proof_is_ended_before_whatever_cannot_stand_in_it(self):
+        said = self.said("g A `p = q`;;\ne REFL_TAC;;\nqed;;\nnew_constant c `:A`;;\ng B `p = q`;;\ne REFL_TAC;;\nnew_axiom AX `c`;;\nnew_axiom AX `c`;;")
+        self.assertEqual([found[:2] for found in said], [(2, "ERROR"), (3, "NOTE"), (6, "ERROR"), (8, "ERROR")])
+
+    def test_what_follows_a_syntax_error_in_a_step_is_a_note(self):
+        said = self.said("g A `x = x`;;\nqed x;;\nqed;;\n")
+        self.assertEqual([found[:2] for found in said], [(2, "ERROR"), (3, "NOTE")])
+        self.assertIn("(after the error on line 2)", said[1][2])
+
+    def test_a_name_that_is_no_function_is_an_error_wherever_it_stands(self):
+        said = self.said("g A `x = x`;;\ne FOO_TAC;;\ne BAR_TAC;;\ne CONJ_TAC;;\n")
+        self.assertEqual([found[:2] for found in said], [(2, "ERROR"), (3, "ERROR"), (4, "NOTE")])
+
+
+def orders(number, more=8):
+    """Orders in which reports may come: that of the file, backwards, and others."""
+    source = random.Random(3)
+    yield list(range(number))
+    yield list(reversed(range(number)))
+    for _ in range(more):
+        order = list(range(number))
+        source.shuffle(order)
+        yield order
+
+
+if __name__ == "__main__":
+    unittest.main()
