@@ -1,0 +1,11 @@
+use Rattle.hol_document.proofs.docs.Docs.report.Goals as goal
+
+pub returns-clause-ok : goal.returns-clause-ok
+returns-clause-ok g c =
+    let proved = rw c.deref.ensures.value at c.in_ok-report.ensures in
+    rw c.in_ok-i.ensures.found (c.in_ok-i.ensures.stands, (proved c.args.self.now.cache).is)
+
+pub returns-clause-proved : goal.returns-clause-proved
+returns-clause-proved g c =
+    let proved = rw c.deref.ensures.value at c.in_ok-report.ensures in
+    rw c.in_ok-i.ensures.found (c.in_ok-i.ensures.stands, proved c.args.self.now.cache)
