@@ -360,6 +360,7 @@ class Bridging(unittest.TestCase):
         editor = self.editor()
         self.assertEqual(editor.ask("textDocument/hover", {"textDocument": {"uri": "file:///none.hol"}})["code"], -32602)
         self.assertEqual(editor.ask("what/ever", {})["code"], -32601)
+        self.assertEqual(editor.ask("hol/search", {"query": "(_"})["message"], "the pattern can't be read: `)` is missing")
         editor.process.stdin.write(b"Content-Length: 3\r\n\r\n{x}")
         self.assertEqual(editor.ask("textDocument/completion", {})["code"], -32602)
         self.assertEqual(editor.end(), 0)
