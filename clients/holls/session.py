@@ -21,7 +21,7 @@ SLOW_SECONDS = 5.0
 PATIENCE_SECONDS = 0.5
 """So long an edit waits for the report under way, or twice as long as a server takes to start and to take the theories, if that is longer.
 Then the server is ended, and another one takes the edited theories."""
-EDIT_SECONDS = 60.0
+EDIT_SECONDS = 120.0
 """An edit that takes longer has a server that hangs."""
 ENDS = 6
 """After so many ends of the server since the last edit it isn't started again."""
