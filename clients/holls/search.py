@@ -98,6 +98,8 @@ class Index:
 
     def _pattern_fit(self, shown: str, asked: Query, needed: FrozenSet[str], constants: FrozenSet[str]) -> Optional[int]:
         """How well a pattern fits: 0 for all of a statement under its `!`, 1 for what it concludes, 2 and more for a part; None where not."""
+        if any(name not in shown for name in needed):  # So that most statements needn't be read.
+            return None
         statement = self.statement(shown)
         if statement is None or not needed <= statement.symbols:
             return None

@@ -91,7 +91,8 @@ def _ask(session: Session, events: "queue.Queue[object]", file: File) -> Dict[st
         except queue.Empty:
             session.tick()
     if session.failure or not isinstance(said[0], protocol.Theorems):
-        raise server.NoServer(session.failure or "hol_serve gave no list of the theorems of %s" % file.path)
+        told = "hol_serve gave no list of the theorems of %s; --seconds N gives it more time" % file.path
+        raise server.NoServer(session.failure or told)
     parts = [text.split(" ", 2) for text in said[0].texts]
     return {name: rest[len("|- "):] for _, name, rest in parts}
 

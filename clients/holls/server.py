@@ -132,7 +132,7 @@ def find(named: Optional[str] = None) -> List[str]:
     return [found]
 
 
-def probe(program: List[str], seconds: float = 60) -> FrozenSet[str]:
+def probe(program: List[str], seconds: float = 120) -> FrozenSet[str]:
     """Asks a program of its own, which ends again, which edits it serves beside `insert`: an unknown op is refused as `shape`."""
     requests = [dict(keys, op=op) for op, keys in _PROBES]
     replies = [protocol.reply(line) for line in _answers(program, requests, seconds)]

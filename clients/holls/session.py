@@ -19,8 +19,9 @@ from holls.theory import DROP, NEW, Change, Entry, Standing, Theory
 SLOW_SECONDS = 5.0
 """A report that takes longer is marked."""
 PATIENCE_SECONDS = 0.5
-"""So long an edit waits for the report under way; then the server is ended, and another one takes the edited theories."""
-EDIT_SECONDS = 60.0
+"""So long an edit waits for the report under way, or twice as long as a server takes to start and to take the theories, if that is longer.
+Then the server is ended, and another one takes the edited theories."""
+EDIT_SECONDS = 120.0
 """An edit that takes longer has a server that hangs."""
 ENDS = 6
 """After so many ends of the server since the last edit it isn't started again."""
@@ -58,6 +59,8 @@ class Session:
         self._wanted_at: Optional[float] = None
         self._since = 0.0
         self._took = 0.0
+        self._begun: Optional[float] = None
+        self._patience = PATIENCE_SECONDS
         self._ends = 0
         self._refused: List[str] = []
         self._rounds = 0
@@ -67,7 +70,7 @@ class Session:
         self.theories = theories
         self.failure, self._ends, self._rounds, self._is_in_step = None, 0, 0, False
         self._wanted_at = time.monotonic() if self._wanted_at is None else self._wanted_at
-        if self._pending and self._pending[0].entry and self._age() > PATIENCE_SECONDS and self._events.empty():
+        if self._pending and self._pending[0].entry and self._age() > self._patience and self._events.empty():
             self.stop()
         self.pump()
 
@@ -100,6 +103,9 @@ class Session:
             self._edit(changes)
             return
         self._wanted_at = None
+        if self._begun is not None:
+            self._patience = max(PATIENCE_SECONDS, 2 * (time.monotonic() - self._begun))
+            self._begun = None
         while self._questions:
             request, answer = self._questions.popleft()
             self._send(request, _Pending(answer))
@@ -110,7 +116,7 @@ class Session:
         changes = self._standing.changes(self.theories, self._served) if self._server else None
         if changes is None:
             self.stop()
-            self._server = Server(self._program, self._events)
+            self._server, self._begun = Server(self._program, self._events), time.monotonic()
             changes = self._standing.changes(self.theories, self._served)
         return changes or []
 
@@ -224,7 +230,7 @@ class Session:
         if head.entry and not head.entry.is_slow:
             limit = min(limit, SLOW_SECONDS)
         if head.entry and self._wanted_at is not None:
-            limit = min(limit, PATIENCE_SECONDS + self._wanted_at - self._since)
+            limit = min(limit, self._patience + self._wanted_at - self._since)
         return max(0.0, limit - self._age())
 
     def tick(self) -> None:

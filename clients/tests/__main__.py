@@ -14,6 +14,8 @@ import unittest
 HERE = pathlib.Path(__file__).resolve().parent
 AT_ONCE = 4
 SLOW_SECONDS = 10
+FIRST = ("test_examples", "test_over_program", "Examples", "test_neovim", "hang", "faults", "nonsense", "random_edits", "5000")
+"""Words of the names of tests that take long: they begin first."""
 
 
 def names(suite):
@@ -38,6 +40,7 @@ def main():
     sys.path.insert(0, str(HERE.parent))
     found = list(names(unittest.defaultTestLoader.discover(str(HERE), top_level_dir=str(HERE.parent))))
     found = [name for name in found if not sys.argv[1:] or any(word in name for word in sys.argv[1:])]
+    found.sort(key=lambda name: not any(word in name for word in FIRST))
     failed = skipped = 0
     with multiprocessing.Pool(AT_ONCE) as pool:
         for name, is_failed, is_skipped, written, seconds in pool.imap_unordered(run, found):

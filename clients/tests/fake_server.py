@@ -6,8 +6,8 @@
 It runs `g`, `e`, `qed`, `oops`, `import`, `new_constant`, `new_axiom`, and serves `replace`, `remove`, `drop_theory` or those of them
 that are named. It keeps the states that it made, as the program does. Its terms are texts: CONJ_TAC splits at the first ` /\\ `, REFL_TAC
 closes `s = s`, ALL_TAC keeps the goal, SLOW_TAC takes two seconds, and MEET_TAC waits for a second server that runs it. A fault comes at
-the Nth request: die (in the middle of a line), end, hang, bad (a line that is no reply) or memory (the Nth and the next request get the
-memory line). With --once the fault that ends a process comes in the first process alone, which makes FILE. The log gets each request.
+the Nth request: die (in the middle of a line), end, hang, late (by two seconds), bad (a line that is no reply) or memory (the Nth and the
+next request get the memory line). With --once the fault that ends a process comes in the first process alone, which makes FILE. The log gets each request.
 """
 
 import argparse
@@ -267,8 +267,8 @@ def main():
             open(given.once, "w").close()
         if is_due and kind == "end":
             sys.exit(3)
-        if is_due and kind == "hang":
-            time.sleep(600)
+        if is_due and kind in ("hang", "late"):
+            time.sleep(600 if kind == "hang" else 2)
         if is_due and kind == "die":
             sys.stdout.write(reply[:5])
             sys.stdout.flush()

@@ -356,10 +356,20 @@ class Bridging(unittest.TestCase):
         self.assertEqual(editor.goals(self.uri, 0, 1)["goals"]["goals"][0]["ty"], "q /\\ q")
         self.assertEqual(editor.end(), 0)
 
+    def test_an_edit_waits_for_a_report_where_a_server_takes_long_to_start(self):
+        editor = self.editor("--fault", "late:1")
+        editor.open(self.uri, "g A `p /\\ q`;;\ne SLOW_TAC;;\n")
+        editor.until(lambda: len(self.requests()) >= 3 + 5)  # Three ask what is served; the last one runs SLOW_TAC.
+        editor.change(self.uri, 2, "q", ((0, 5), (0, 6)))
+        self.assertEqual(editor.goals(self.uri, 1, 1)["goals"]["goals"][0]["ty"], "q /\\ q")
+        self.assertEqual(self.edits().count("new_theory"), 1)
+        self.assertEqual(editor.end(), 0)
+
     def test_bad_messages_are_refused_and_nothing_ends(self):
         editor = self.editor()
         self.assertEqual(editor.ask("textDocument/hover", {"textDocument": {"uri": "file:///none.hol"}})["code"], -32602)
         self.assertEqual(editor.ask("what/ever", {})["code"], -32601)
+        self.assertEqual(editor.ask("hol/search", {"query": "(_"})["message"], "the pattern can't be read: `)` is missing")
         editor.process.stdin.write(b"Content-Length: 3\r\n\r\n{x}")
         self.assertEqual(editor.ask("textDocument/completion", {})["code"], -32602)
         self.assertEqual(editor.end(), 0)

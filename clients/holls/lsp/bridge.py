@@ -195,7 +195,10 @@ class Bridge:
             return
         try:
             done = served[method](number, params)
-        except (BadParams, KeyError, TypeError, ValueError, AttributeError) as error:
+        except BadParams as error:
+            self.error(number, BAD_PARAMS, str(error))
+            return
+        except (KeyError, TypeError, ValueError, AttributeError) as error:
             self.error(number, BAD_PARAMS, "bad parameters: %s: %s" % (type(error).__name__, error))
             return
         if done is not None:

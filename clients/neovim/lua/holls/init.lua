@@ -143,7 +143,7 @@ function M.search(query, conclusion)
   end
   client().request('hol/search', { query = query, conclusion = conclusion }, function(failure, result)
     if failure then
-      vim.notify((failure.message or 'no answer'):gsub('^.*: ', ''), vim.log.levels.WARN)
+      vim.notify(failure.message or 'no answer', vim.log.levels.WARN)
       return
     end
     local items = {}
