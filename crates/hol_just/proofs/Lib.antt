@@ -29,7 +29,6 @@ pub mod MatchChain
 pub mod MatchTyped
 pub mod ByTheorems
 pub mod Handed
-pub mod Proposition
 pub mod Joined
 pub mod Pieces
 pub mod Weaker

@@ -3,6 +3,7 @@ pub mod Matching
 pub mod Reasons
 pub mod Gives
 pub mod Valid
+pub mod Proposition
 pub mod Over
 pub mod Made
 pub mod Justifies

@@ -27,7 +27,7 @@ use Rattle.hol_just.specs.QuantifierTacs.{terms_by}
 
 -- ---- the theorem
 
--- !vs. p
+-- !vs. p, where the first is outermost; in `generalized` of hol_match the last is
 abbrev pub universals : List (List ℕ × TypeTree) → Nameless → Nameless
 universals [] p = p
 universals (v ∷ vs) p = universal (over_variable v (universals vs p))
@@ -76,7 +76,8 @@ undetermined s t vs = filter (is_undetermined s t) vs
 abbrev pub own_name : List Nameless → List ℕ × TypeTree → List ℕ × TypeTree
 own_name terms v = cond (is_free_in terms v) (free_name terms v.0, v.1) v
 
--- what is called apart, at an instance of types, becomes the variable whose name stands beside it, told from those of the terms and from those before it
+-- Each pair is a variable of the theorem's own and what it is called apart. The latter, at an instance of types, becomes a variable of the former's name, told from those of
+-- the terms and from those before it.
 abbrev pub kept : List (TypeTree × List ℕ) → List Nameless → List ((List ℕ × TypeTree) × (List ℕ × TypeTree)) → List (Nameless × (List ℕ × TypeTree))
 kept types terms [] = []
 kept types terms (p ∷ ps) =

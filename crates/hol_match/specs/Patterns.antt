@@ -1,5 +1,6 @@
 -- Patterns whose variables are apart, so that no match takes one for another.
--- Source: HOL Light's drule.ml, where PART_MATCH calls a theorem's variables apart before it matches.
+-- Source: this project. HOL Light tells variables apart by name and type, and its MATCH_MP_TAC generalizes the theorem (GEN_ALL) before it matches; that a pattern's
+-- variables are called apart by name, so that no two of them become one where types are instantiated, is this project's rule.
 use Rattle.std.specs.Prelude.{ℕ, List, [], ◌∷◌, Bool, not, ◌||◌, bytes_eq}
 use Rattle.std.specs.List.{list_all}
 use Rattle.hol_types.specs.Tree.{TypeTree}

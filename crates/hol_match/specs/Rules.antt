@@ -82,7 +82,7 @@ nodes (lam a s b) = 1 + nodes b
 abbrev pub rules_under : List Nameless → Nameless → List RuleValue
 rules_under hyps p = rules_in (nodes p) hyps p
 
--- p, generalized over each of the variables in turn
+-- p, generalized over each of the variables in turn, as by GEN: the last is outermost
 abbrev pub generalized : List (List ℕ × TypeTree) → Nameless → Nameless
 generalized [] p = p
 generalized (v ∷ vs) p = generalized vs (universal (record { base = base_of v.0; domain = v.1; body = close v 0 p }))

@@ -10,7 +10,7 @@ use Rattle.hol_just.specs.Answering.{IsResult, IsAnswered, AnswersCode, IsJustif
 use Rattle.hol_just.specs.declared.tried.Tried.{Tried}
 use Rattle.hol_just.specs.declared.tried.TacFault.{TacFault}
 use Rattle.hol_just.specs.declared.tried.TacFault.TheVariants as fault
-use Rattle.hol_just.proofs.Proposition.{valid_prop}
+use Rattle.hol_just.specs.Proposition.{valid_prop}
 
 result_prop : (answer : AnswerResult) (used : UsedValue) (result : Result Tried TacFault) → IsProp (IsResult answer used result)
 result_prop (Left goals) used (Ok tried) = ×_prop (Coded-set (coded_list goal_code) _ _) (Coded-set coded_ℕ _ _)

@@ -18,7 +18,7 @@ use hol_types::{Name, Ty};
 use std::alloc::{AllocError, Global};
 
 /// The match, where the theorem's own variables stay as they are if it doesn't determine them: `apart` begins with what they are called,
-/// and `open` are the other variables that it doesn't determine.
+/// and `others` are the other variables that it doesn't determine.
 pub(crate) fn completed(
     alloc: Global,
     th: &Given,
@@ -26,22 +26,22 @@ pub(crate) fn completed(
     apart: &[Variable],
     s: &Term,
     t: &Term,
-    open: &[Variable],
+    others: &[Variable],
     found: Instance,
 ) -> Result<Instance, AllocError>
-    requires { open.now ≡ left_open own.now apart.now (nameless [] s.now, nameless [] t.now) found }
+    requires { others.now ≡ left_open own.now apart.now (nameless [] s.now, nameless [] t.now) found }
     ensures { IfOk result (λ a. a ≡ completed (set.items (given_sequent th.now).hyps) own.now apart.now (nameless [] s.now, nameless [] t.now) found) }
 {
-    let avoid = terms_apart(alloc, th, open)?;
+    let avoid = terms_apart(alloc, th, others)?;
     kept(alloc, own, apart, s, t, avoid, found)
 }
 
 // The variables, as terms, and then the theorem's hypotheses.
-fn terms_apart(alloc: Global, th: &Given, open: &[Variable]) -> Result<Vec<Term>, AllocError>
-    ensures { IfOk result (λ terms. HaveSame (map (nameless []) terms.items) (map (λ v. free v) open.now ++ set.items (given_sequent th.now).hyps)) }
+fn terms_apart(alloc: Global, th: &Given, others: &[Variable]) -> Result<Vec<Term>, AllocError>
+    ensures { IfOk result (λ terms. HaveSame (map (nameless []) terms.items) (map (λ v. free v) others.now ++ set.items (given_sequent th.now).hyps)) }
 {
     let mut terms = Vec::new(alloc);
-    for v in open {
+    for v in others {
         terms.push(occurrence(alloc, v)?)?;
     }
     add_copies(&mut terms, th.hyps())?;

@@ -1,4 +1,4 @@
-use Rattle.hol_just.proofs.Proposition.{valid_prop}
+use Rattle.hol_just.specs.Proposition.{valid_prop}
 use Rattle.hol_just.proofs.laws.validity_is_a_proposition.Goals as goal
 
 pub returns : goal.returns
