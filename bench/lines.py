@@ -41,6 +41,9 @@ def misfits():
         for r in edit.read_text().splitlines():
             if r.startswith("file: "):
                 target = r[len("file: "):].strip()
+                if not (edit.parent.parent / target).is_file():
+                    yield f"{edit.relative_to(ROOT)}: there is no {target}"
+                    break
                 texts.setdefault(target, (edit.parent.parent / target).read_text())
             elif r.startswith("old: "):
                 old = r[len("old: "):]
@@ -50,15 +53,19 @@ def misfits():
                 texts[target] = texts[target].replace(old, r[len("new:"):].removeprefix(" "))
 
 
-def main():
-    print("| crate | code with contracts | tests | definitions | proofs | must-fail edits |")
-    print("|---|---:|---:|---:|---:|---:|")
+def table():
+    """The lines of the table."""
+    found = ["| crate | code with contracts | tests | definitions | proofs | must-fail edits |", "|---|---:|---:|---:|---:|---:|"]
     total = [0] * 5
     for name in crates():
         numbers = row(name)
         total = [a + b for a, b in zip(total, numbers)]
-        print(f"| {name} | " + " | ".join(f"{n:,}" for n in numbers) + " |")
-    print("| all | " + " | ".join(f"{n:,}" for n in total) + " |")
+        found.append(f"| {name} | " + " | ".join(f"{n:,}" for n in numbers) + " |")
+    return [*found, "| all | " + " | ".join(f"{n:,}" for n in total) + " |"]
+
+
+def main():
+    print("\n".join(table()))
     wrong = list(misfits())
     for line in wrong:
         print(line, file=sys.stderr)

@@ -2,7 +2,7 @@
 """Checks the pages, and makes what they say of the definitions from these.
 
     python3 tests/pages.py            checks; the last line is 'pages: N passed, M failed'
-    python3 tests/pages.py --write    writes the lists of docs/DEFINITIONS.md and the counts of README.md, and then checks
+    python3 tests/pages.py --write    writes the lists of docs/DEFINITIONS.md, the counts of README.md and the lines of docs/GATE.md, and then checks
 
 The definitions that have to be believed are those that the contracts of some functions name, and what these name, and so on (tests/antt.py). They
 stand in three tiers, each without what stands in those before. tests/definitions.txt has sentences for files and definitions; where it has none,
@@ -18,9 +18,13 @@ import tempfile
 import antt
 
 ROOT = pathlib.Path(__file__).resolve().parent.parent
+sys.path.insert(0, str(ROOT / "bench"))
+import lines as counting  # noqa: E402 (bench/lines.py)
+
 CRATES = ROOT / "crates"
 SENTENCES = ROOT / "tests" / "definitions.txt"
 PAGE = ROOT / "docs" / "DEFINITIONS.md"
+GATE = ROOT / "docs" / "GATE.md"
 README = ROOT / "README.md"
 WIDTH = 120
 LONGEST_LINE = 160
@@ -258,11 +262,11 @@ class Definitions:
 
 
 def with_lists(text, lines):
-    """The page with these lines between its two marks."""
+    """A page with these lines between its two marks."""
     before, begin, rest = text.partition(BEGIN)
     _, end, after = rest.partition(END)
     if not begin or not end:
-        raise antt.Unread(f"{PAGE.name} lacks its marks")
+        raise antt.Unread("a page lacks its marks")
     return f"{before}{BEGIN}\n\n" + "\n".join(squeezed(lines)) + f"\n\n{END}{after}"
 
 
@@ -399,15 +403,18 @@ def check(name, faults):
 def definitions_checks(write):
     """The checks of the lists and the counts, after these are written, if they are to be."""
     made = Definitions()
-    lists = with_lists(PAGE.read_text(encoding="utf-8"), made.page())
-    counts = with_rows(README.read_text(encoding="utf-8"), made.rows())
-    if write:
-        PAGE.write_text(lists, encoding="utf-8")
-        README.write_text(counts, encoding="utf-8")
-    stale = "it isn't what the definitions make it: python3 tests/pages.py --write"
+    pages = {
+        PAGE: with_lists(PAGE.read_text(encoding="utf-8"), made.page()),
+        README: with_rows(README.read_text(encoding="utf-8"), made.rows()),
+        GATE: with_lists(GATE.read_text(encoding="utf-8"), counting.table()),
+    }
     yield check("sentences", made.faults())
-    yield check("docs/DEFINITIONS.md", [stale] if lists != PAGE.read_text(encoding="utf-8") else [])
-    yield check("README.md", [stale] if counts != README.read_text(encoding="utf-8") else [])
+    for page, text in pages.items():
+        if write:
+            page.write_text(text, encoding="utf-8")
+        stale = [] if text == page.read_text(encoding="utf-8") else ["it isn't what the files make it: python3 tests/pages.py --write"]
+        yield check(str(page.relative_to(ROOT)), stale)
+    yield check("wrong bodies", counting.misfits())
 
 
 def page_checks():
