@@ -275,7 +275,7 @@ def goals_left(function, cycle, said):
     folder = "/".join(function.split("::"))
     places = {folder} | {"/".join([*it.split("::")[:-1], "+" + it.split("::")[-1]]) for it in cycle}
     own = "|".join(re.escape(it) for it in sorted(places))
-    told = re.findall(rf"(?m)^(?:\./)?proofs/(?:{own})/Answers\.antt:\d+:\d+: error: `([^`]+)`(.*)$", said)
+    told = re.findall(rf"(?m)^(?:\./)?proofs/(?:{own})/Answers\.antt:\d+:\d+: error: `([^`]+)`(.*(?:\n  \S.*)*)$", said)
     found = [f"{goal} ({BY_NAME})" if GONE.search(why) else goal for goal, why in told]
     found += re.findall(r"`([^`]+)`", state.partition("did not prove")[2].partition(";")[0])
     return list(dict.fromkeys(found)) or None
