@@ -357,27 +357,33 @@ class Trial:
         return not why
 
     def tried(self, sources, edits):
-        """Tries some edits together, says what came of them, and returns what has to be tried again, apart."""
+        """Tries some edits together, says what came of them, and returns what has to be tried again: those that the check doesn't tell, each apart, and
+        those that other goals alone refuse, without the rest, since of functions that call one another a check that stops at one tells less of the others."""
         check = Check(self.crates, sources, edits, self.unedited)
         if self.verbose:
             self.say(None, check.said.rstrip())
-        again = []
+        untold = [it for it in edits if check.goals[it] is None and len(edits) > 1]
+        others = [it for it in edits if check.goals[it] and it.goal not in [*check.goals[it], "?"] and len(edits) > 1 and not self.unedited]
         for edit in edits:
-            goals = check.goals[edit]
-            if goals is None and len(edits) > 1:
-                again.append((sources, [edit]))
-            elif goals is None:
-                self.say(False, f"{edit.label}: BAD EDIT: of {edit.function} the check says: {check.why()}")
-            elif self.unedited:
-                self.say(not goals, f"{edit.label}: {edit.function} unedited {'leaves ' + ', '.join(goals) if goals else 'is proved'}")
-            elif not goals:
-                self.say(False, f"{edit.label}: NOT REFUSED: {edit.function} is still proved")
-            elif edit.goal not in goals:
-                self.say(False, f"{edit.label}: refused by {', '.join(goals)}, and not by {edit.goal}")
-            else:
-                self.say(True, f"{edit.label}: refused by {edit.goal} of {edit.function}")
+            if edit not in untold and edit not in others:
+                self.judge(edit, check)
         self.say(None, f"{sources.name}: {check.seconds:.0f} seconds for {len(edits)} edit{'s' * (len(edits) > 1)}")
-        return again
+        groups = [others] if 0 < len(others) < len(edits) else [[it] for it in others]
+        return [(sources, group) for group in [*([it] for it in untold), *groups]]
+
+    def judge(self, edit, check):
+        """Says what came of an edit."""
+        goals = check.goals[edit]
+        if goals is None:
+            self.say(False, f"{edit.label}: BAD EDIT: of {edit.function} the check says: {check.why()}")
+        elif self.unedited:
+            self.say(not goals, f"{edit.label}: {edit.function} unedited {'leaves ' + ', '.join(goals) if goals else 'is proved'}")
+        elif not goals:
+            self.say(False, f"{edit.label}: NOT REFUSED: {edit.function} is still proved")
+        elif edit.goal not in goals:
+            self.say(False, f"{edit.label}: refused by {', '.join(goals)}, and not by {edit.goal}")
+        else:
+            self.say(True, f"{edit.label}: refused by {edit.goal} of {edit.function}")
 
 
 def batches(sources, edits):
