@@ -307,7 +307,7 @@ class Check:
     def why(self):
         """The first thing that a check says where it doesn't come to an end, or says nothing of a function."""
         lines = [line for line in self.said.split("\n") if line.strip()]
-        return next((line for line in lines if "error" in line), lines[-1] if lines else "it says nothing")[:300]
+        return next((line for line in lines if re.search(r"\berror:", line)), lines[-1] if lines else "it says nothing")[:300]
 
 
 class Trial:
