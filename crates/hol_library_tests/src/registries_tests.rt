@@ -5,7 +5,7 @@ ghost use Rattle.hol_goal.specs.declared.tac_code.TacCode.TheVariants as code;
 ghost use Rattle.hol_just.specs.Answering.{AnswersCode, IsJustified};
 
 use crate::steps::first_unmet;
-use hol_exec::Setup;
+use hol_exec::{Meter, Setup};
 use hol_goal::{Goal, TacArgs, TacCode};
 use hol_just::{TacFault, Tried};
 use hol_registry::{Entry, Registry, RegistryError};
@@ -83,8 +83,8 @@ fn no_name_stands_twice(rt: HostRuntime) -> Result<(), Fail> {
 fn amiss(alloc: Global) -> Result<&'static str, Fail> {
     match registered(alloc, &["STOP"])? {
         Ok(registry) => {
-            let setup = Setup::new(alloc, registry, 10)?;
-            Ok(first_unmet(alloc, &setup)?)
+            let mut meter = Meter::new(Setup::new(alloc, registry, 10)?);
+            Ok(first_unmet(alloc, &mut meter)?)
         }
         Err(RegistryError::Twice(_)) => Err("a name stands twice".into()),
     }

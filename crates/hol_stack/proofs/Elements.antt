@@ -18,7 +18,7 @@ use Rattle.hol_just.proofs.Validity.{valid_none, valid_at}
 use Rattle.hol_stack.specs.StackValue.{StepValue, StackValue, followed, rotated}
 use Rattle.hol_stack.specs.Calls.{IsStep}
 use Rattle.hol_stack.specs.Sound.{Follows}
-use Rattle.hol_stack.specs.declared.step.Change.TheVariants.{Left, Turned}
+use Rattle.hol_stack.specs.declared.element.Change.TheVariants.{Left, Turned}
 use Rattle.hol_stack.proofs.Turns.{turned_by}
 
 pub no_clash : (a b : Items) (n : List ℕ) (answer : Result Items KernelError) → Agree a b → answer ≡ Err (Clash n) → Joins a b answer → ⊥

@@ -4,11 +4,12 @@
 #![tactic(auto)]
 
 mod basis;
+mod element;
 mod error;
 mod finishing;
 mod stack;
-mod step;
 
 pub use basis::joined;
+pub use element::Element;
 pub use error::StackError;
 pub use stack::Stack;

@@ -1,11 +1,13 @@
 //! What a command does to a state.
-ghost use Rattle.std.specs.Prelude.{◌≡◌, ◌↔◌, IsTrue, IfOk, string_bytes, []};
+ghost use Rattle.std.specs.Prelude.{◌≡◌, ◌↔◌, true, IsTrue, IfOk, string_bytes, []};
 ghost use Rattle.hol_terms.specs.Nameless.{nameless};
 ghost use Rattle.std.specs.List.{IsDistinct};
 ghost use Rattle.std.specs.Map.{keys_of};
 ghost use Rattle.hol_theory.specs.Key.{key_eq};
 ghost use Rattle.hol_theory.specs.Entry.{EachIsEntry};
-ghost use Rattle.hol_exec.specs.OutcomeValue.{OutcomeValue, Opens, Leaves, Undoes, Rotates, Makes, Refuses, MakesTheorems};
+ghost use Rattle.hol_exec.specs.OutcomeValue.{OutcomeValue, Opens, Leaves, Undoes, Rotates, Makes, Refuses, MakesTheorems, after};
+ghost use Rattle.hol_exec.specs.StateValue.{StateValue};
+ghost use Rattle.hol_exec.specs.Changes.{keys_made};
 ghost use Rattle.hol_exec.specs.OutcomeView.{outcome_of};
 ghost use Rattle.hol_exec.specs.Valid.{IsStatement, IsLeft, IsValidChange};
 
@@ -19,6 +21,7 @@ use hol_terms::Term;
 use hol_theory::{Entries, same_basis};
 use std::alloc::{AllocError, Global};
 use std::marker::Model;
+use std::rc::Rc;
 
 /// What a command does to a state. Only running a command makes one.
 #[derive(Drop)]
@@ -32,7 +35,7 @@ pub(crate) enum Change {
     /// Opens a proof of this name and statement, on this basis.
     Opens(String, Term, Basis),
     /// The first goal, which is this one, gives way to those that the step left; the basis is that of all that was resolved.
-    Leaves(Goal, Step, Basis),
+    Leaves(Goal, Rc<Step>, Basis),
     /// Drops the newest element of the proof's history.
     Undoes,
     /// Puts the first goal last, so many times.
@@ -70,9 +73,9 @@ impl Outcome {
     }
 
     /// The step that leaves these goals of the first one; the basis is that of all that was resolved.
-    pub(crate) fn leaves(goal: Goal, step: Step, basis: Basis) -> Outcome
-        requires { IsLeft basis step.just goal step.goals.items }
-        ensures { result ≡ Leaves goal step.goals.items basis }
+    pub(crate) fn leaves(goal: Goal, step: Rc<Step>, basis: Basis) -> Outcome
+        requires { IsLeft basis step.value.just goal step.value.goals.items }
+        ensures { result ≡ Leaves goal step.value.goals.items basis }
     {
         Outcome {
             change: Change::Leaves(goal, step, basis),
@@ -123,6 +126,34 @@ impl Outcome {
         ensures valid { IsValidChange result.now }
     {
         &self.change
+    }
+
+    /// Whether it makes no entries.
+    pub fn makes_nothing(&self) -> bool
+        ensures { IsTrue result ↔ (keys_made self.now ≡ []) }
+    {
+        match self.change() {
+            Change::Makes(entries) => entries.is_empty(),
+            Change::Opens(_, _, _)
+            | Change::Leaves(_, _, _)
+            | Change::Undoes
+            | Change::Rotates(_)
+            | Change::Refuses(_, _) => true,
+        }
+    }
+
+    /// Whether it is a refusal, after which every state is as it was.
+    pub fn is_refusal(&self) -> bool
+        ensures { result ≡ true → (s : StateValue) → after s self.now ≡ s }
+    {
+        match self.change() {
+            Change::Refuses(_, _) => true,
+            Change::Opens(_, _, _)
+            | Change::Leaves(_, _, _)
+            | Change::Undoes
+            | Change::Rotates(_)
+            | Change::Makes(_) => false,
+        }
     }
 
     /// What it makes are entries: theorems without hypotheses that have derivations over their bases, which are legal, and types and constants that items of their
@@ -210,13 +241,13 @@ fn opening_copy(
 fn leaving_copy(
     alloc: Global,
     goal: &Goal,
-    step: &Step,
+    step: &Rc<Step>,
     basis: &Basis,
 ) -> Result<Outcome, AllocError>
-    requires { IsLeft basis.now step.now.just goal.now step.now.goals.items }
-    ensures { IfOk result (λ o. o ≡ Leaves goal.now step.now.goals.items basis.now) }
+    requires { IsLeft basis.now step.now.value.just goal.now step.now.value.goals.items }
+    ensures { IfOk result (λ o. o ≡ Leaves goal.now step.now.value.goals.items basis.now) }
 {
     let goal = goal.copy(alloc)?;
-    let step = step.copy(alloc)?;
+    let step = step.clone()?;
     Ok(Outcome::leaves(goal, step, basis.copy()?))
 }

@@ -1,11 +1,12 @@
 //! The outcome of a command from what it reads.
-ghost use Rattle.std.specs.Prelude.{◌≡◌, IfOk, [], ◌∷◌, true};
+ghost use Rattle.std.specs.Prelude.{◌≡◌, ◌≤◌, ◌+◌, ◌-◌, ◌^◌, min, IfOk, [], ◌∷◌, true};
 ghost use Rattle.hol_terms.specs.Nameless.{nameless};
 ghost use Rattle.hol_resolve.specs.Reading.{ReadsAs, IsTermReadAs};
 ghost use Rattle.hol_resolve.specs.Readings.{ATerm};
 ghost use Rattle.hol_notation_terms.specs.Text.{TermText};
 ghost use Rattle.hol_notation_commands.specs.CommandView.{local_text};
 ghost use Rattle.hol_exec.specs.ReadsValue.{AreKeyed};
+ghost use Rattle.hol_exec.specs.MeterView.{setup_of, ran_of};
 ghost use Rattle.hol_exec.specs.SetupView.{setup_value};
 ghost use Rattle.hol_exec.specs.Local.{IsLocalOutcome, IsOpening, IsApplying, opens, opens_term, applied, finishes, finished};
 ghost use Rattle.hol_exec.specs.Signature.{signature_of};
@@ -18,6 +19,7 @@ use crate::reading::{is_statement, of_quotation, read_cited};
 use crate::reads::{Closing, Reads};
 use crate::reports::RefusalKind;
 use crate::resolving::{Resolution, resolve, resolved_basis};
+use crate::running::meter::Meter;
 use crate::running::outcome::Outcome;
 use crate::running::refused::{name_taken, refused, refused_at, refused_name};
 use crate::running::setup::Setup;
@@ -30,9 +32,27 @@ use hol_resolve::{Quoted, Reading};
 use hol_terms::Term;
 use hol_theory::{Key, Kind, Value};
 use std::alloc::{AllocError, Global};
+use std::rc::Rc;
 
-/// The outcome of a command, from what it reads of a state: it is determined by the set-up, the command and this.
+/// The outcome of a command, from what it reads of a state: it is determined by the set-up, the command and this. It counts one.
 pub fn run_local(
+    alloc: Global,
+    meter: &mut Meter,
+    command: &LocalCommand,
+    reads: &Reads,
+) -> Result<Outcome, AllocError>
+    requires { AreKeyed (local_text command.now) reads.now }
+    ensures outcome { IfOk result (λ outcome. IsLocalOutcome (setup_of meter.old) (local_text command.now) reads.now outcome) }
+    ensures setup { setup_of meter.new ≡ setup_of meter.old }
+    ensures ran { ran_of meter.new ≡ min (ran_of meter.old + 1) (2 ^ 64 - 1) }
+    ensures rises { ran_of meter.old ≤ ran_of meter.new }
+{
+    let setup = meter.count();
+    outcome_from(alloc, setup, command, reads)
+}
+
+/// The same, where no count is kept.
+pub fn outcome_from(
     alloc: Global,
     setup: &Setup,
     command: &LocalCommand,
@@ -143,7 +163,10 @@ fn applied(
         return Ok(refused(alloc, RefusalKind::NoGoalOpen));
     };
     match run(alloc, expr, goal, setup.registry(), setup.turns()) {
-        Ok(ran) => Ok(Outcome::leaves(goal.copy(alloc)?, ran.step, basis)),
+        Ok(ran) => {
+            let step = Rc::new(alloc, ran.step)?;
+            Ok(Outcome::leaves(goal.copy(alloc)?, step, basis))
+        }
         Err(RunError::Refused(Refusal::DoesNotFit(name), _)) => {
             Ok(Outcome::refuses(RefusalKind::Refused, name))
         }
@@ -177,6 +200,6 @@ fn finished(alloc: Global, closing: &Closing) -> Result<Outcome, AllocError>
     theorem.promise();
     let key = Key::new(alloc, Kind::Theorem, closing.name())?;
     let mut entries = Vec::new(alloc);
-    entries.push((key, Value::theorem(theorem)))?;
+    entries.push((key, Value::theorem(alloc, theorem)?))?;
     Ok(Outcome::makes(entries))
 }

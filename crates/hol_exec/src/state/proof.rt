@@ -9,10 +9,11 @@ ghost use Rattle.hol_exec.specs.Valid.{IsStatement, CanStep};
 use hol_goal::Goal;
 use hol_just::Step;
 use hol_kernel::Basis;
-use hol_stack::{Stack, StackError};
+use hol_stack::{Element, Stack, StackError};
 use hol_terms::Term;
 use std::alloc::{AllocError, Global};
 use std::marker::Model;
+use std::rc::Rc;
 
 /// An open proof: the name that it was opened with, and the stack of its statement.
 #[derive(Drop)]
@@ -78,15 +79,37 @@ impl Proof {
     pub(crate) fn step(
         &mut self,
         alloc: Global,
-        step: &Step,
+        step: &Rc<Step>,
         basis: &Basis,
     ) -> Result<(), AllocError>
-        requires { CanStep basis.now step.now.just step.now.goals.items self.old }
-        ensures ok { OnOk result (self.new ≡ stepped step.now.goals.items basis.now self.old) }
+        requires { CanStep basis.now step.now.value.just step.now.value.goals.items self.old }
+        ensures ok { OnOk result (self.new ≡ stepped step.now.value.goals.items basis.now self.old) }
         ensures err { OnErr result (self.new ≡ self.old) }
     {
-        let Step { goals, just } = step.copy(alloc)?;
-        self.stack.apply(alloc, goals, just, basis)
+        self.stack.apply(alloc, step, basis)
+    }
+
+    /// The same by an element that is there already.
+    pub(crate) fn step_with(
+        &mut self,
+        step: &Rc<Step>,
+        basis: &Basis,
+        next: &Element,
+    ) -> Result<(), AllocError>
+        requires step { CanStep basis.now step.now.value.just step.now.value.goals.items self.old }
+        requires next { next.now ≡ (stepped step.now.value.goals.items basis.now self.old).newest }
+        ensures ok { OnOk result (self.new ≡ stepped step.now.value.goals.items basis.now self.old) }
+        ensures err { OnErr result (self.new ≡ self.old) }
+    {
+        let _ = basis;
+        self.stack.follow_with(step, next)
+    }
+
+    /// The newest element of the history.
+    pub(crate) fn newest(&self) -> &Element
+        ensures { result.now ≡ self.now.newest }
+    {
+        self.stack.newest()
     }
 
     /// How many elements of the history stand before the newest one.
@@ -116,6 +139,16 @@ impl Proof {
             Err(StackError::NothingToUndo) => unreachable!(),
             Err(StackError::GoalsRemain) => unreachable!(),
         }
+    }
+
+    /// The same by an element that is there already.
+    pub(crate) fn rotate_with(&mut self, times: usize, next: &Element) -> Result<(), AllocError>
+        requires open { self.old.newest.goals ≢ [] }
+        requires next { next.now ≡ (rotated times self.old).newest }
+        ensures ok { OnOk result (self.new ≡ rotated times self.old) }
+        ensures err { OnErr result (self.new ≡ self.old) }
+    {
+        self.stack.rotate_with(times, next)
     }
 }
 
