@@ -9,7 +9,7 @@ ghost use Rattle.hol_registry.specs.Refusal.{IsRefusal};
 
 use crate::entry::Entry;
 use crate::error::RegistryError;
-use crate::named;
+use crate::named::{self, Named};
 use hol_goal::{Goal, TacArgs, TacCode};
 use hol_just::{TacFault, Tried};
 use std::alloc::{AllocError, Global};
