@@ -9,7 +9,7 @@ ghost use Rattle.hol_notation_commands.specs.CommandView.{local_text};
 ghost use Rattle.hol_exec.specs.SameReads.{same_reads};
 ghost use Rattle.hol_exec.specs.Valid.{AreOfTheory};
 ghost use Rattle.hol_exec.specs.Changes.{AreApart};
-ghost use Rattle.hol_exec.specs.Keys.{command_keys};
+ghost use Rattle.hol_exec.specs.Keys.{cited_keys, made_keys, command_keys};
 ghost use Rattle.hol_exec.specs.ReadsValue.{ReadsValue, AreKeyed, values_of, goal_for, closing_for, reads_of};
 
 mod changes;
@@ -47,11 +47,10 @@ pub struct Reads {
 }
 
 impl Model for Reads {
-    ghost use Rattle.std.specs.Prelude.{◌≡◌, ◌++◌};
     ghost use Rattle.std.specs.Map.{keys_of};
     ghost use Rattle.hol_exec.specs.ReadsValue.{ReadsValue};
     ghost use Rattle.hol_exec.specs.Codes.{coded_reads};
-    ghost use Rattle.hol_exec.specs.Filters.{keys_filter};
+    ghost use Rattle.hol_exec.specs.Filters.{HasNames};
     ghost use Rattle.hol_exec.specs.Valid.{AreOfTheory};
 
     ghost Value = { ReadsValue };
@@ -60,7 +59,7 @@ impl Model for Reads {
 
     ghost view = { λ r. record { cited = r.cited.items; made = r.made.items; in_proof = r.in_proof; goal = r.goal; closing = r.closing } };
 
-    ghost invariant = { λ r. AreOfTheory r.cited.items r.made.items × (r.names.bits ≡ keys_filter (keys_of r.cited.items ++ keys_of r.made.items)) };
+    ghost invariant = { λ r. AreOfTheory r.cited.items r.made.items × HasNames r.names.bits (keys_of r.cited.items) × HasNames r.names.bits (keys_of r.made.items) };
 }
 
 impl PartialEq for Reads {
@@ -99,7 +98,7 @@ impl Hash for Reads {
 
 impl Reads {
     /// What the command of these keys reads of the state.
-    #[tactic(auto, using(crate::proofs::CitedBases::reads_stand, crate::proofs::CitedBases::keyed))]
+    #[tactic(auto, using(crate::proofs::CitedBases::reads_stand, crate::proofs::CitedBases::names_stand))]
     pub fn of(
         alloc: Global,
         command: &LocalCommand,
@@ -131,19 +130,50 @@ impl Reads {
         requires { AreKeyed (local_text command.now) self.now }
         ensures { result ≡ same_reads self.now (reads_of (local_text command.now) state.now) }
     {
-        stand_in(&self.cited, state)
-            && stand_in(&self.made, state)
+        self.has_parts_at(command, state)
+    }
+
+    // Whether the parts are what the command reads of the state, one by one.
+    fn has_parts_at(&self, command: &LocalCommand, state: &State) -> bool
+        requires { AreKeyed (local_text command.now) self.now }
+        ensures { IsTrue result ↔ (self.now ≡ reads_of (local_text command.now) state.now) }
+    {
+        self.has_cited_at(command, state)
+            && self.has_made_at(command, state)
             && self.in_proof == state.proof().is_some()
             && is_goal_for(&self.goal, command, state)
             && is_closing_for(&self.closing, command, state)
     }
 
+    // Whether what the command cites stands in the state.
+    #[tactic(auto, using(crate::proofs::Agreeing::agree_keyed))]
+    fn has_cited_at(&self, command: &LocalCommand, state: &State) -> bool
+        requires { AreKeyed (local_text command.now) self.now }
+        ensures { IsTrue result ↔ (self.now.cited ≡ values_of state.now.entries (cited_keys (local_text command.now))) }
+    {
+        let _ = command;
+        stand_in(&self.cited, state)
+    }
+
+    // Whether what stands under the keys that the command makes is so in the state.
+    #[tactic(auto, using(crate::proofs::Agreeing::agree_keyed))]
+    fn has_made_at(&self, command: &LocalCommand, state: &State) -> bool
+        requires { AreKeyed (local_text command.now) self.now }
+        ensures { IsTrue result ↔ (self.now.made ≡ values_of state.now.entries (made_keys (local_text command.now))) }
+    {
+        let _ = command;
+        stand_in(&self.made, state)
+    }
+
     /// Whether no key that the command cites or makes is a changed one. It takes no memory.
+    #[tactic(auto, using(crate::proofs::NameFilters::no_names))]
     pub fn is_apart(&self, changes: &Changes) -> bool
         ensures { result ≡ true → AreApart changes.now (keys_of self.now.cited) × AreApart changes.now (keys_of self.now.made) }
     {
-        !self.names.meets(changes.names())
-            || (are_apart(&self.cited, changes) && are_apart(&self.made, changes))
+        if !self.names.meets(changes.names()) {
+            return true;
+        }
+        are_apart(&self.cited, changes) && are_apart(&self.made, changes)
     }
 
     /// With what it cites and makes, it is of some theory.
@@ -227,7 +257,7 @@ impl Reads {
     }
 
     /// Equal reads.
-    #[tactic(auto, using(crate::proofs::CitedBases::same_stand))]
+    #[tactic(auto, using(crate::proofs::CitedBases::same_stand, crate::proofs::CitedBases::same_named))]
     pub fn copy(&self, alloc: Global) -> Result<Reads, AllocError>
         ensures { IfOk result (λ r. r ≡ self.now) }
     {
@@ -288,6 +318,7 @@ fn value_of(key: &Key, state: &State) -> Result<(Key, Option<Value>), AllocError
 }
 
 // Whether the values are what stands under their keys.
+#[tactic(auto, using(crate::proofs::Agreeing::agree_step, crate::proofs::Agreeing::agree_fails, crate::proofs::Agreeing::agree_ends))]
 fn stand_in(values: &[(Key, Option<Value>)], state: &State) -> bool
     ensures { IsTrue result ↔ (values.now ≡ values_of state.now.entries (keys_of values.now)) }
 {
@@ -311,6 +342,7 @@ fn stands_in(key: &Key, value: &Option<Value>, state: &State) -> bool
 }
 
 // Whether the keys of the values are none of the changed ones.
+#[tactic(auto, using(crate::proofs::Agreeing::apart_step, crate::proofs::Agreeing::apart_ends))]
 fn are_apart(values: &[(Key, Option<Value>)], changes: &Changes) -> bool
     ensures { result ≡ true → AreApart changes.now (keys_of values.now) }
 {

@@ -16,14 +16,12 @@ mod proof;
 
 pub(crate) use entry::copies;
 use hol_goal::Goal;
-use hol_just::Step;
 use hol_kernel::Basis;
-use hol_stack::Element;
+use hol_stack::{Element, SharedStep};
 use hol_theory::{Env, Key, Value};
 pub(crate) use proof::Proof;
 use std::alloc::{AllocError, Global};
 use std::marker::Model;
-use std::rc::Rc;
 
 /// The state of a theory while it is run: its entries, and at most one open proof, under whose name no theorem stands, and which rests on items of the entries.
 #[derive(Drop)]
@@ -122,12 +120,12 @@ impl State {
     pub(crate) fn step(
         &mut self,
         alloc: Global,
-        step: &Rc<Step>,
+        step: &SharedStep,
         basis: &Basis,
     ) -> Result<(), AllocError>
-        requires step { IfSome self.old.proof (CanStep basis.now step.now.value.just step.now.value.goals.items) }
+        requires step { IfSome self.old.proof (CanStep basis.now step.now.moves step.now.goals) }
         requires within { IsSubset basis.now (items_in self.old.entries) }
-        ensures ok { OnOk result (self.new ≡ record { entries = self.old.entries; proof = stepped_in step.now.value.goals.items basis.now self.old.proof }) }
+        ensures ok { OnOk result (self.new ≡ record { entries = self.old.entries; proof = stepped_in step.now.goals basis.now self.old.proof }) }
         ensures err { OnErr result (self.new ≡ self.old) }
     {
         match &mut self.proof {
@@ -140,14 +138,14 @@ impl State {
     #[tactic(auto, using(crate::proofs::Entries::step_within))]
     pub(crate) fn step_with(
         &mut self,
-        step: &Rc<Step>,
+        step: &SharedStep,
         basis: &Basis,
         next: &Element,
     ) -> Result<(), AllocError>
-        requires step { IfSome self.old.proof (CanStep basis.now step.now.value.just step.now.value.goals.items) }
+        requires step { IfSome self.old.proof (CanStep basis.now step.now.moves step.now.goals) }
         requires within { IsSubset basis.now (items_in self.old.entries) }
-        requires next { IfSome self.old.proof (λ p. next.now ≡ (stepped step.now.value.goals.items basis.now p).newest) }
-        ensures ok { OnOk result (self.new ≡ record { entries = self.old.entries; proof = stepped_in step.now.value.goals.items basis.now self.old.proof }) }
+        requires next { IfSome self.old.proof (λ p. next.now ≡ (stepped step.now.goals basis.now p).newest) }
+        ensures ok { OnOk result (self.new ≡ record { entries = self.old.entries; proof = stepped_in step.now.goals basis.now self.old.proof }) }
         ensures err { OnErr result (self.new ≡ self.old) }
     {
         match &mut self.proof {

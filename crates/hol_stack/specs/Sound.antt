@@ -14,7 +14,7 @@ use Rattle.hol_stack.specs.declared.element.Earlier.{Earlier}
 
 -- the goals after are what the change makes of those before
 abbrev pub IsChange : Items → Change → List GoalValue → List GoalValue → Type 0
-IsChange basis (Left step) before after = IsValid (set.is_subset basis) no_hyps step.value.just before after
+IsChange basis (Left step) before after = IsValid (set.is_subset basis) no_hyps step.moves before after
 IsChange basis (Turned n) before after = (n ≤ length before) × (after ≡ drop n before ++ take n before)
 
 -- the element made by a change of the one before it

@@ -4,8 +4,8 @@ ghost use Rattle.std.specs.FinSet as set;
 ghost use Rattle.hol_kernel.specs.Extends.{Agree};
 
 use crate::basis::joined;
+use crate::shared_step::SharedStep;
 use hol_goal::{Goal, add_copies, copies};
-use hol_just::Step;
 use hol_kernel::Basis;
 use std::alloc::{AllocError, Global};
 use std::marker::Model;
@@ -39,7 +39,7 @@ impl Model for Element {
 #[derive(Drop)]
 pub(crate) enum Change {
     /// By a step, which left the first goal's goals in its place.
-    Left(Rc<Step>),
+    Left(SharedStep),
     /// By so many of the first goals put last.
     Turned(usize),
 }
@@ -132,7 +132,7 @@ impl Change {
         ensures { IfOk result (λ change. change ≡ self.now) }
     {
         Ok(match self {
-            Change::Left(step) => Change::Left(step.clone()?),
+            Change::Left(step) => Change::Left(step.copy()?),
             Change::Turned(by) => Change::Turned(*by),
         })
     }

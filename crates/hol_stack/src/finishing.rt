@@ -54,7 +54,7 @@ fn before(
     ensures achieved { IfOk result (λ out. AchieveAll no_hyps (sequents out.items) one.now.step.goals) }
 {
     match &one.change {
-        Change::Left(step) => justify(alloc, &step.just, thms, basis),
+        Change::Left(step) => justify(alloc, step.just(), thms, basis),
         Change::Turned(by) => {
             let mut thms = thms;
             thms.rotate_right(*by);

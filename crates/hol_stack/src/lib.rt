@@ -7,9 +7,11 @@ mod basis;
 mod element;
 mod error;
 mod finishing;
+mod shared_step;
 mod stack;
 
 pub use basis::joined;
 pub use element::Element;
 pub use error::StackError;
+pub use shared_step::SharedStep;
 pub use stack::Stack;

@@ -11,13 +11,12 @@ ghost use Rattle.hol_stack.specs.Sound.{Follows};
 use crate::element::{Change, Earlier, Element};
 use crate::error::StackError;
 use crate::finishing::theorem;
+use crate::shared_step::SharedStep;
 use hol_goal::Goal;
-use hol_just::Step;
 use hol_kernel::{Basis, Thm};
 use std::alloc::{AllocError, Global};
 use std::marker::Model;
 use std::mem;
-use std::rc::Rc;
 
 /// A goal stack: the goal that it was set to, and its history. Of the earlier elements the newest stands last.
 #[derive(Drop)]
@@ -95,25 +94,33 @@ impl Stack {
 
     /// The goals that the step left of the first one stand in its place, in a new element of the history (tactics.ml, e). The basis is joined with what was
     /// resolved for that.
-    pub fn apply(&mut self, alloc: Global, step: &Rc<Step>, basis: &Basis) -> Result<(), AllocError>
+    pub fn apply(
+        &mut self,
+        alloc: Global,
+        step: &SharedStep,
+        basis: &Basis,
+    ) -> Result<(), AllocError>
         requires joins { Agree self.old.newest.basis basis.now }
-        requires step { IsStep (set.union self.old.newest.basis basis.now) step.now.value.just step.now.value.goals.items self.old.newest.goals }
-        ensures ok { OnOk result (self.new ≡ stepped step.now.value.goals.items basis.now self.old) }
+        requires step { IsStep (set.union self.old.newest.basis basis.now) step.now.moves step.now.goals self.old.newest.goals }
+        ensures ok { OnOk result (self.new ≡ stepped step.now.goals basis.now self.old) }
         ensures err { OnErr result (self.new ≡ self.old) }
     {
-        let next = self.newest.replaced(alloc, &step.goals, basis)?;
-        self.follow(Change::Left(step.clone()?), next)
+        let next = self.newest.replaced(alloc, step.goals(), basis)?;
+        let own = step.copy()?;
+        self.follow(Change::Left(own), next)
     }
 
     /// The same by an element that is there already: no goal is copied and no basis is joined.
-    pub fn follow_with(&mut self, step: &Rc<Step>, next: &Element) -> Result<(), AllocError>
+    pub fn follow_with(&mut self, step: &SharedStep, next: &Element) -> Result<(), AllocError>
         requires within { IsSubset self.old.newest.basis next.now.basis }
-        requires step { IsStep next.now.basis step.now.value.just step.now.value.goals.items self.old.newest.goals }
-        requires goals { next.now.goals ≡ step.now.value.goals.items ++ drop 1 self.old.newest.goals }
+        requires step { IsStep next.now.basis step.now.moves step.now.goals self.old.newest.goals }
+        requires goals { next.now.goals ≡ step.now.goals ++ drop 1 self.old.newest.goals }
         ensures ok { OnOk result (self.new ≡ followed next.now self.old) }
         ensures err { OnErr result (self.new ≡ self.old) }
     {
-        self.follow(Change::Left(step.clone()?), next.copy()?)
+        let own = step.copy()?;
+        let element = next.copy()?;
+        self.follow(Change::Left(own), element)
     }
 
     /// The element before the newest one is the newest again (tactics.ml, b).
@@ -145,14 +152,17 @@ impl Stack {
     }
 
     /// The same by an element that is there already.
+    #[tactic(auto, using(crate::proofs::Elements::some_open))]
     pub fn rotate_with(&mut self, times: usize, next: &Element) -> Result<(), AllocError>
         requires open { self.old.newest.goals ≢ [] }
         requires turned { next.now ≡ record { goals = turned times self.old.newest.goals; basis = self.old.newest.basis } }
         ensures ok { OnOk result (self.new ≡ rotated times self.old) }
         ensures err { OnErr result (self.new ≡ self.old) }
     {
-        let by = times % self.goals().len();
-        self.follow(Change::Turned(by), next.copy()?)
+        let open = self.goals().len();
+        let by = times % open;
+        let element = next.copy()?;
+        self.follow(Change::Turned(by), element)
     }
 
     /// The theorem of the goal that it was set to, on the newest element's basis (tactics.ml, top_thm).

@@ -3,7 +3,7 @@ ghost use Rattle.std.specs.Prelude.{◌≡◌, ◌||◌, [], OnOk, map};
 ghost use Rattle.indexmap.specs.IndexSet.{IsUnique};
 ghost use Rattle.hol_theory.specs.Key.{KeyValue, key_eq};
 ghost use Rattle.hol_exec.specs.Changes.{is_one_of, keys_made};
-ghost use Rattle.hol_exec.specs.Filters.{keys_filter};
+ghost use Rattle.hol_exec.specs.Filters.{HasNames};
 
 use crate::running::{Change, Outcome};
 use hol_theory::{Key, Value};
@@ -20,12 +20,12 @@ pub struct Changes {
 }
 
 impl Model for Changes {
-    ghost use Rattle.std.specs.Prelude.{◌≡◌, List};
+    ghost use Rattle.std.specs.Prelude.{List};
     ghost use Rattle.std.specs.Coded.{coded_list};
     ghost use Rattle.indexmap.specs.IndexSet.{IsUnique};
     ghost use Rattle.hol_theory.specs.Codes.{coded_key};
     ghost use Rattle.hol_theory.specs.Key.{KeyValue, key_eq};
-    ghost use Rattle.hol_exec.specs.Filters.{keys_filter};
+    ghost use Rattle.hol_exec.specs.Filters.{HasNames};
 
     ghost Value = { List KeyValue };
 
@@ -33,7 +33,7 @@ impl Model for Changes {
 
     ghost view = { λ c. c.keys.keys };
 
-    ghost invariant = { λ c. IsUnique key_eq c.keys × (c.names.bits ≡ keys_filter c.keys.keys) };
+    ghost invariant = { λ c. IsUnique key_eq c.keys × HasNames c.names.bits c.keys.keys };
 }
 
 impl Changes {
@@ -48,20 +48,25 @@ impl Changes {
     }
 
     /// Whether the key is one of them.
+    #[tactic(auto, using(crate::proofs::NameFilters::no_name, crate::proofs::NameFilters::own_place))]
     pub(crate) fn has(&self, key: &Key) -> bool
         ensures { result ≡ is_one_of self.now key.now }
     {
-        self.names.meets(key.filter()) && self.keys.contains(key)
+        if !self.names.meets(key.filter()) {
+            return false;
+        }
+        self.keys.contains(key)
     }
 
-    /// A filter of their names.
+    /// A filter that has their names.
     pub(crate) fn names(&self) -> NameFilter
-        ensures { result.bits ≡ keys_filter self.now }
+        ensures { HasNames result.bits self.now }
     {
         self.names
     }
 
     /// Adds a key.
+    #[tactic(auto, using(crate::proofs::Changing::inserted, crate::proofs::Changing::inserted_names))]
     pub fn add(&mut self, key: &Key) -> Result<(), AllocError>
         ensures { OnOk result ((k : KeyValue) → is_one_of self.new k ≡ (is_one_of self.old k || key_eq k key.now)) }
     {
@@ -85,6 +90,7 @@ impl Changes {
     }
 
     /// Adds the other keys.
+    #[tactic(auto, using(crate::proofs::Changing::none_more, crate::proofs::Changing::key_added))]
     pub fn add_all(&mut self, other: &Changes) -> Result<(), AllocError>
         ensures { OnOk result ((k : KeyValue) → is_one_of self.new k ≡ (is_one_of self.old k || is_one_of other.now k)) }
     {
@@ -95,6 +101,7 @@ impl Changes {
     }
 
     // Adds the keys of entries.
+    #[tactic(auto, using(crate::proofs::Changing::none_more, crate::proofs::Changing::entry_added))]
     fn add_keys_of(&mut self, entries: &[(Key, Value)]) -> Result<(), AllocError>
         ensures { OnOk result ((k : KeyValue) → is_one_of self.new k ≡ (is_one_of self.old k || is_one_of (map (λ entry. entry.0) entries.now) k)) }
     {

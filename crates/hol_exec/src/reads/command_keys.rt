@@ -1,7 +1,7 @@
 //! The keys that a command cites and makes, with a filter of their names.
 ghost use Rattle.std.specs.Prelude.{◌≡◌, IfOk};
 ghost use Rattle.hol_notation_commands.specs.CommandView.{local_text};
-ghost use Rattle.hol_exec.specs.Filters.{keys_filter};
+ghost use Rattle.hol_exec.specs.Filters.{HasNames};
 ghost use Rattle.hol_exec.specs.Keys.{command_keys};
 
 use crate::reads::keys::{cited_keys, made_keys};
@@ -21,9 +21,8 @@ pub struct CommandKeys {
 }
 
 impl Model for CommandKeys {
-    ghost use Rattle.std.specs.Prelude.{◌≡◌, ◌++◌};
     ghost use Rattle.hol_exec.specs.Codes.{coded_command_keys};
-    ghost use Rattle.hol_exec.specs.Filters.{keys_filter};
+    ghost use Rattle.hol_exec.specs.Filters.{HasNames};
     ghost use Rattle.hol_exec.specs.Keys.{CommandKeysValue};
 
     ghost Value = { CommandKeysValue };
@@ -32,11 +31,12 @@ impl Model for CommandKeys {
 
     ghost view = { λ k. record { cited = k.cited.items; made = k.made.items } };
 
-    ghost invariant = { λ k. k.names.bits ≡ keys_filter (k.cited.items ++ k.made.items) };
+    ghost invariant = { λ k. HasNames k.names.bits k.cited.items × HasNames k.names.bits k.made.items };
 }
 
 impl CommandKeys {
     /// The keys of the command.
+    #[tactic(auto, using(crate::proofs::NameFilters::names_left, crate::proofs::NameFilters::names_right))]
     pub fn of(alloc: Global, command: &LocalCommand) -> Result<CommandKeys, AllocError>
         ensures { IfOk result (λ keys. keys ≡ command_keys (local_text command.now)) }
     {
@@ -60,9 +60,10 @@ impl CommandKeys {
         self.made.as_slice()
     }
 
-    /// A filter of their names.
+    /// A filter that has their names.
     pub(crate) fn names(&self) -> NameFilter
-        ensures { result.bits ≡ keys_filter (self.now.cited ++ self.now.made) }
+        ensures cited { HasNames result.bits self.now.cited }
+        ensures made { HasNames result.bits self.now.made }
     {
         self.names
     }

@@ -15,13 +15,12 @@ use crate::reads::{Same, same_each};
 use crate::reports::RefusalKind;
 use crate::state::copies;
 use hol_goal::Goal;
-use hol_just::Step;
 use hol_kernel::Basis;
+use hol_stack::SharedStep;
 use hol_terms::Term;
 use hol_theory::{Entries, same_basis};
 use std::alloc::{AllocError, Global};
 use std::marker::Model;
-use std::rc::Rc;
 
 /// What a command does to a state. Only running a command makes one.
 #[derive(Drop)]
@@ -35,7 +34,7 @@ pub(crate) enum Change {
     /// Opens a proof of this name and statement, on this basis.
     Opens(String, Term, Basis),
     /// The first goal, which is this one, gives way to those that the step left; the basis is that of all that was resolved.
-    Leaves(Goal, Rc<Step>, Basis),
+    Leaves(Goal, SharedStep, Basis),
     /// Drops the newest element of the proof's history.
     Undoes,
     /// Puts the first goal last, so many times.
@@ -73,9 +72,9 @@ impl Outcome {
     }
 
     /// The step that leaves these goals of the first one; the basis is that of all that was resolved.
-    pub(crate) fn leaves(goal: Goal, step: Rc<Step>, basis: Basis) -> Outcome
-        requires { IsLeft basis step.value.just goal step.value.goals.items }
-        ensures { result ≡ Leaves goal step.value.goals.items basis }
+    pub(crate) fn leaves(goal: Goal, step: SharedStep, basis: Basis) -> Outcome
+        requires { IsLeft basis step.moves goal step.goals }
+        ensures { result ≡ Leaves goal step.goals basis }
     {
         Outcome {
             change: Change::Leaves(goal, step, basis),
@@ -183,7 +182,7 @@ impl Outcome {
                     return false;
                 };
                 goal.same_as(goal2)
-                    && same_each(&step.goals, &step2.goals)
+                    && same_each(step.goals(), step2.goals())
                     && same_basis(basis, basis2)
             }
             Change::Undoes => matches!(other.change(), Change::Undoes),
@@ -241,13 +240,13 @@ fn opening_copy(
 fn leaving_copy(
     alloc: Global,
     goal: &Goal,
-    step: &Rc<Step>,
+    step: &SharedStep,
     basis: &Basis,
 ) -> Result<Outcome, AllocError>
-    requires { IsLeft basis.now step.now.value.just goal.now step.now.value.goals.items }
-    ensures { IfOk result (λ o. o ≡ Leaves goal.now step.now.value.goals.items basis.now) }
+    requires { IsLeft basis.now step.now.moves goal.now step.now.goals }
+    ensures { IfOk result (λ o. o ≡ Leaves goal.now step.now.goals basis.now) }
 {
     let goal = goal.copy(alloc)?;
-    let step = step.clone()?;
+    let step = step.copy()?;
     Ok(Outcome::leaves(goal, step, basis.copy()?))
 }

@@ -12,7 +12,8 @@ ghost use Rattle.hol_exec.specs.Local.{IsLocalOutcome, IsOpening, IsApplying, op
 ghost use Rattle.hol_exec.specs.Signature.{signature_of};
 ghost use Rattle.hol_exec.specs.Resolved.{resolved_basis};
 ghost use Rattle.hol_exec.specs.Standing.{first_taken};
-ghost use Rattle.hol_exec.specs.Valid.{IsStatement, IsRunnableExpr};
+ghost use Rattle.hol_exec.specs.OutcomeValue.{Leaves};
+ghost use Rattle.hol_exec.specs.Valid.{IsStatement, IsLeft, IsRunnableExpr};
 
 use crate::declaring::making;
 use crate::reading::{is_statement, of_quotation, read_cited};
@@ -24,15 +25,17 @@ use crate::running::outcome::Outcome;
 use crate::running::refused::{name_taken, refused, refused_at, refused_name};
 use crate::running::setup::Setup;
 use hol_combine::{Expr, Refusal, RunError, run};
+use hol_goal::Goal;
+use hol_just::Step;
 use hol_kernel::Basis;
 use hol_notation_commands::LocalCommand;
 use hol_notation_tactics::TacExpr;
 use hol_notation_terms::Quotation;
 use hol_resolve::{Quoted, Reading};
+use hol_stack::SharedStep;
 use hol_terms::Term;
 use hol_theory::{Key, Kind, Value};
 use std::alloc::{AllocError, Global};
-use std::rc::Rc;
 
 /// The outcome of a command, from what it reads of a state: it is determined by the set-up, the command and this. It counts one.
 pub fn run_local(
@@ -163,10 +166,7 @@ fn applied(
         return Ok(refused(alloc, RefusalKind::NoGoalOpen));
     };
     match run(alloc, expr, goal, setup.registry(), setup.turns()) {
-        Ok(ran) => {
-            let step = Rc::new(alloc, ran.step)?;
-            Ok(Outcome::leaves(goal.copy(alloc)?, step, basis))
-        }
+        Ok(ran) => left(alloc, goal, ran.step, basis),
         Err(RunError::Refused(Refusal::DoesNotFit(name), _)) => {
             Ok(Outcome::refuses(RefusalKind::Refused, name))
         }
@@ -177,6 +177,16 @@ fn applied(
         Err(RunError::LargeGoal) => Ok(refused(alloc, RefusalKind::TooLarge)),
         Err(RunError::Memory) => Err(AllocError),
     }
+}
+
+// What a step left of the goal.
+fn left(alloc: Global, goal: &Goal, step: Step, basis: Basis) -> Result<Outcome, AllocError>
+    requires { IsLeft basis step.just goal.now step.goals.items }
+    ensures { IfOk result (λ outcome. outcome ≡ Leaves goal.now step.goals.items basis) }
+{
+    let goal = goal.copy(alloc)?;
+    let step = SharedStep::new(alloc, step)?;
+    Ok(Outcome::leaves(goal, step, basis))
 }
 
 // `qed`: no proof open; goals remain.

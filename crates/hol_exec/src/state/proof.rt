@@ -7,13 +7,11 @@ ghost use Rattle.hol_exec.specs.OutcomeValue.{opened, stepped, without_newest, r
 ghost use Rattle.hol_exec.specs.Valid.{IsStatement, CanStep};
 
 use hol_goal::Goal;
-use hol_just::Step;
 use hol_kernel::Basis;
-use hol_stack::{Element, Stack, StackError};
+use hol_stack::{Element, SharedStep, Stack, StackError};
 use hol_terms::Term;
 use std::alloc::{AllocError, Global};
 use std::marker::Model;
-use std::rc::Rc;
 
 /// An open proof: the name that it was opened with, and the stack of its statement.
 #[derive(Drop)]
@@ -75,15 +73,14 @@ impl Proof {
     }
 
     /// The goals that the step left stand in the place of the first goal, in a new element of the history; the basis is joined with what was resolved.
-    #[tactic(auto, using(crate::proofs::Steps::same_step))]
     pub(crate) fn step(
         &mut self,
         alloc: Global,
-        step: &Rc<Step>,
+        step: &SharedStep,
         basis: &Basis,
     ) -> Result<(), AllocError>
-        requires { CanStep basis.now step.now.value.just step.now.value.goals.items self.old }
-        ensures ok { OnOk result (self.new ≡ stepped step.now.value.goals.items basis.now self.old) }
+        requires { CanStep basis.now step.now.moves step.now.goals self.old }
+        ensures ok { OnOk result (self.new ≡ stepped step.now.goals basis.now self.old) }
         ensures err { OnErr result (self.new ≡ self.old) }
     {
         self.stack.apply(alloc, step, basis)
@@ -92,13 +89,13 @@ impl Proof {
     /// The same by an element that is there already.
     pub(crate) fn step_with(
         &mut self,
-        step: &Rc<Step>,
+        step: &SharedStep,
         basis: &Basis,
         next: &Element,
     ) -> Result<(), AllocError>
-        requires step { CanStep basis.now step.now.value.just step.now.value.goals.items self.old }
-        requires next { next.now ≡ (stepped step.now.value.goals.items basis.now self.old).newest }
-        ensures ok { OnOk result (self.new ≡ stepped step.now.value.goals.items basis.now self.old) }
+        requires step { CanStep basis.now step.now.moves step.now.goals self.old }
+        requires next { next.now ≡ (stepped step.now.goals basis.now self.old).newest }
+        ensures ok { OnOk result (self.new ≡ stepped step.now.goals basis.now self.old) }
         ensures err { OnErr result (self.new ≡ self.old) }
     {
         let _ = basis;
