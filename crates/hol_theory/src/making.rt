@@ -137,7 +137,8 @@ pub fn new_constant(
     let larger = basis.declare_const(alloc, name, ty)?;
     let item = own_item(&larger, ItemKind::Constant, name)?;
     let key = Key::new(alloc, Kind::Constant, name.as_str())?;
-    Ok((key, Value::constant(alloc, ty.copy()?, item, larger)?))
+    let value = Value::constant(alloc, ty.copy()?, item, larger)?;
+    Ok((key, value))
 }
 
 /// The entry of an axiom, declared over the basis (fusion.ml, new_axiom).
@@ -154,7 +155,8 @@ pub fn new_axiom(
     let larger = basis.declare_axiom(alloc, name, p)?;
     let theorem = Thm::axiom_of(alloc, &larger, name)?;
     let key = Key::new(alloc, Kind::Theorem, name.as_str())?;
-    Ok((key, Value::theorem(alloc, theorem)?))
+    let value = Value::theorem(alloc, theorem)?;
+    Ok((key, value))
 }
 
 /// The entry of a constant that is defined over the basis as the term `right`, and its definition `|- name = right` (fusion.ml,
@@ -239,6 +241,7 @@ fn with_theorem(
     ensures { IfOk result (λ more. more.items ≡ entries.items ++ (theorem_key name.now, ATheorem theorem) ∷ []) }
 {
     let key = Key::new(alloc, Kind::Theorem, name)?;
-    entries.push((key, Value::theorem(alloc, theorem)?))?;
+    let value = Value::theorem(alloc, theorem)?;
+    entries.push((key, value))?;
     Ok(entries)
 }

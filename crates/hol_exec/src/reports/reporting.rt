@@ -38,7 +38,7 @@ pub fn report_with(alloc: Global, outcome: &Outcome, goals: &[Goal]) -> Result<R
 }
 
 /// The goals of an element of a proof's history, or none.
-#[tactic(auto, using(crate::proofs::Histories::goals_of_newest))]
+#[tactic(auto, using(crate::proofs::Histories::goals_of_newest, crate::proofs::Histories::goals_of_none))]
 pub fn goals_of(element: &Option<Element>) -> &[Goal]
     ensures { (proof : Option ProofValue) → element.now ≡ newest_of proof → result.now ≡ open_goals proof }
 {

@@ -39,14 +39,19 @@ impl Meter {
         self.setup.table(alloc)
     }
 
-    /// Counts a command that is run, by this set-up.
-    pub(crate) fn count(&mut self) -> &Setup
-        ensures value { setup_value result.now ≡ setup_of self.old }
+    /// The set-up.
+    pub(crate) fn setup(&self) -> &Setup
+        ensures { setup_value result.now ≡ setup_of self.now }
+    {
+        &self.setup
+    }
+
+    /// Counts a command that is run.
+    pub(crate) fn count(&mut self)
         ensures setup { setup_of self.new ≡ setup_of self.old }
         ensures ran { ran_of self.new ≡ min (ran_of self.old + 1) (2 ^ 64 - 1) }
         ensures rises { ran_of self.old ≤ ran_of self.new }
     {
         self.ran = self.ran.saturating_add(1);
-        &self.setup
     }
 }

@@ -50,8 +50,8 @@ pub fn run_local(
     ensures ran { ran_of meter.new ≡ min (ran_of meter.old + 1) (2 ^ 64 - 1) }
     ensures rises { ran_of meter.old ≤ ran_of meter.new }
 {
-    let setup = meter.count();
-    outcome_from(alloc, setup, command, reads)
+    meter.count();
+    outcome_from(alloc, meter.setup(), command, reads)
 }
 
 /// The same, where no count is kept.
