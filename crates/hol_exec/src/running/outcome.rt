@@ -18,7 +18,7 @@ use hol_goal::Goal;
 use hol_kernel::Basis;
 use hol_stack::SharedStep;
 use hol_terms::Term;
-use hol_theory::{Entries, same_basis};
+use hol_theory::{Entries, Key, Value, same_basis};
 use std::alloc::{AllocError, Global};
 use std::marker::Model;
 
@@ -132,7 +132,7 @@ impl Outcome {
         ensures { IsTrue result ↔ (keys_made self.now ≡ []) }
     {
         match self.change() {
-            Change::Makes(entries) => entries.is_empty(),
+            Change::Makes(entries) => are_none(entries),
             Change::Opens(_, _, _)
             | Change::Leaves(_, _, _)
             | Change::Undoes
@@ -221,6 +221,13 @@ impl Outcome {
             )),
         }
     }
+}
+
+// Whether these are no entries.
+fn are_none(entries: &[(Key, Value)]) -> bool
+    ensures { IsTrue result ↔ (keys_of entries.now ≡ []) }
+{
+    matches!(entries, [])
 }
 
 fn opening_copy(
