@@ -16,11 +16,15 @@ Agree es values = values ≡ values_of es (keys_of values)
 agree_cons : (es : Entries) (x : KeyValue × Option EntryValue) (rest : Values) → x.1 ≡ entry_at x.0 es → Agree es rest → Agree es (x ∷ rest)
 agree_cons es x rest e h = λ i. (x.0, e i) ∷ h i
 
+-- the first of them, and the others
+agree_parts : (es : Entries) (x : KeyValue × Option EntryValue) (rest : Values) → Agree es (x ∷ rest) → (x ≡ (x.0, entry_at x.0 es)) × Agree es rest
+agree_parts es x rest h = let both : x ∷ rest ≡ (x.0, entry_at x.0 es) ∷ values_of es (keys_of rest) = h in (cc, cc)
+
 agree_head : (es : Entries) (x : KeyValue × Option EntryValue) (rest : Values) → Agree es (x ∷ rest) → x.1 ≡ entry_at x.0 es
-agree_head es x rest h = let first : x ≡ (x.0, entry_at x.0 es) = cc in ap (λ (p : KeyValue × Option EntryValue). p.1) first
+agree_head es x rest h = ap (λ (p : KeyValue × Option EntryValue). p.1) (agree_parts es x rest h).0
 
 agree_tail : (es : Entries) (x : KeyValue × Option EntryValue) (rest : Values) → Agree es (x ∷ rest) → Agree es rest
-agree_tail es x rest h = cc
+agree_tail es x rest h = (agree_parts es x rest h).1
 
 -- what a loop over values knows
 abbrev pub AgreeFrom : Entries → Values → Values → Type 0

@@ -114,7 +114,7 @@ fn is_carried_out(
     is_shown(alloc, reads, &outcome, step, state)
 }
 
-// The same from what the command reads.
+// The same from what the command reads, which agrees with the state.
 fn is_run(
     alloc: Global,
     meter: &mut Meter,
@@ -124,6 +124,9 @@ fn is_run(
 ) -> Result<bool, AllocError> {
     let keys = CommandKeys::of(alloc, command)?;
     let reads = Reads::of(alloc, command, &keys, state)?;
+    if !reads.agree(command, state) {
+        return Ok(false);
+    }
     is_carried_out(alloc, meter, command, &reads, step, state)
 }
 

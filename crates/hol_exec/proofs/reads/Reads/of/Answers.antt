@@ -7,4 +7,4 @@ use Rattle.hol_exec.proofs.reads.Reads.of.Goals as goal
 pub returns-clause-keys : goal.returns-clause-keys
 returns-clause-keys c =
     keyed c.args.state.now.entries (local_text c.args.command.now) _ _ _
-    (c.cited-cited.ensures ∙ ap (λ (k : CommandKeysValue). k.cited) c.requires) (c.made-made.ensures ∙ ap (λ (k : CommandKeysValue). k.made) c.requires) c.in_ok-cited.ensures c.in_ok-made.ensures
+    (c.cited.ensures ∙ ap (λ (k : CommandKeysValue). k.cited) c.requires) (c.made.ensures ∙ ap (λ (k : CommandKeysValue). k.made) c.requires) c.in_ok-cited.ensures c.in_ok-made.ensures

@@ -12,4 +12,4 @@ replaced-requires c = subst (λ (s : StackValue). Agree s.newest.basis c.args.ba
 pub follow-requires : goal.follow-requires
 follow-requires c =
     step_follows c.args.self.now.newest c.in_ok-next.next c.args.basis.now c.args.step.now c.in_ok-own.own c.in_ok-own.ensures c.requires.step
-    (c.in_ok-next.ensures ∙ (λ i. record { goals = c.goals-next.ensures i ++ drop 1 (c.self.view_is i).newest.goals; basis = set.union (c.self.view_is i).newest.basis c.args.basis.now }))
+    (c.in_ok-next.ensures ∙ (λ i. record { goals = c.goals.ensures i ++ drop 1 (c.self.view_is i).newest.goals; basis = set.union (c.self.view_is i).newest.basis c.args.basis.now }))
