@@ -37,11 +37,11 @@ names_all n keys i over h = subst (HasNames n) (take_all i keys over) h
 
 named_bit : (n : ℕ) (keys : List KeyValue) (key : KeyValue) → HasNames n keys → is_one_of keys key ≡ true → bit_at n (name_place 0 key.name) ≡ 1
 named_bit n [] key h e = absurd (cc)
-named_bit n (k ∷ keys) key h e = by (key_eq key k) refl e
+named_bit n (k ∷ keys) key h e = by (key_eq key k) refl (named_bit n keys key h.1) e
   where
-    by : (b : Bool) → key_eq key k ≡ b → (b || is_one_of keys key) ≡ true → bit_at n (name_place 0 key.name) ≡ 1
-    by true f g = subst (λ (other : KeyValue). bit_at n (name_place 0 other.name) ≡ 1) (sym (key_is key k f)) h.0
-    by false f g = named_bit n keys key h.1 g
+    by : (b : Bool) → key_eq key k ≡ b → (is_one_of keys key ≡ true → bit_at n (name_place 0 key.name) ≡ 1) → (b || is_one_of keys key) ≡ true → bit_at n (name_place 0 key.name) ≡ 1
+    by true f rest g = subst (λ (other : KeyValue). bit_at n (name_place 0 other.name) ≡ 1) (sym (key_is key k f)) h.0
+    by false f rest g = rest g
 
 no_common : (m n : ℕ) (r : Bool) → IsTrue r ↔ (bit_and m n ≢ 0) → r ≡ false → bit_and m n ≡ 0
 no_common m n r h e = by (bit_and m n) (λ f. sym e ∙ h.1 f)

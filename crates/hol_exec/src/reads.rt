@@ -166,7 +166,6 @@ impl Reads {
     }
 
     /// Whether no key that the command cites or makes is a changed one. It takes no memory.
-    #[tactic(auto, using(crate::proofs::NameFilters::no_names))]
     pub fn is_apart(&self, changes: &Changes) -> bool
         ensures { result ≡ true → AreApart changes.now (keys_of self.now.cited) × AreApart changes.now (keys_of self.now.made) }
     {

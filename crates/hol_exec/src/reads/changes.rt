@@ -48,7 +48,6 @@ impl Changes {
     }
 
     /// Whether the key is one of them.
-    #[tactic(auto, using(crate::proofs::NameFilters::no_name, crate::proofs::NameFilters::own_place))]
     pub(crate) fn has(&self, key: &Key) -> bool
         ensures { result ≡ is_one_of self.now key.now }
     {
@@ -66,7 +65,6 @@ impl Changes {
     }
 
     /// Adds a key.
-    #[tactic(auto, using(crate::proofs::Changing::inserted, crate::proofs::Changing::inserted_names))]
     pub fn add(&mut self, key: &Key) -> Result<(), AllocError>
         ensures { OnOk result ((k : KeyValue) → is_one_of self.new k ≡ (is_one_of self.old k || key_eq k key.now)) }
     {

@@ -142,6 +142,7 @@ impl Outcome {
     }
 
     /// Whether it is a refusal, after which every state is as it was.
+    #[tactic(auto, using(crate::proofs::Histories::refused_stays))]
     pub fn is_refusal(&self) -> bool
         ensures { result ≡ true → (s : StateValue) → after s self.now ≡ s }
     {
