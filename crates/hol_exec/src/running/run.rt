@@ -210,6 +210,7 @@ fn finished(alloc: Global, closing: &Closing) -> Result<Outcome, AllocError>
     theorem.promise();
     let key = Key::new(alloc, Kind::Theorem, closing.name())?;
     let mut entries = Vec::new(alloc);
-    entries.push((key, Value::theorem(alloc, theorem)?))?;
+    let value = Value::theorem(alloc, theorem)?;
+    entries.push((key, value))?;
     Ok(Outcome::makes(entries))
 }

@@ -15,8 +15,8 @@ step_with-requires-clause-within c =
 
 pub step_with-requires-clause-next : goal.step_with-requires-clause-next
 step_with-requires-clause-next c =
-    next_stepped c.args.state.now c.args.outcome.now c.args.opened.now c.in-Some.next.now c.in-Some.is c.requires.opened _ _ _ (sym c.change.ensures.change ∙ ap outcome_of c.in-Leaves.is)
+    next_stepped c.args.state.now c.args.outcome.now c.args.opened.now c.in-Some.next c.in-Some.is c.requires.opened _ _ _ (sym c.change.ensures.change ∙ ap outcome_of c.in-Leaves.is)
 
 pub rotate_with-requires-clause-next : goal.rotate_with-requires-clause-next
 rotate_with-requires-clause-next c =
-    next_rotated c.args.state.now c.args.outcome.now c.args.opened.now c.in-Some.next.now c.in-Some.is c.requires.opened _ (sym c.change.ensures.change ∙ ap outcome_of c.in-Rotates.is)
+    next_rotated c.args.state.now c.args.outcome.now c.args.opened.now c.in-Some.next c.in-Some.is c.requires.opened _ (sym c.change.ensures.change ∙ ap outcome_of c.in-Rotates.is)
