@@ -207,12 +207,7 @@ impl Reads {
         ensures key { option_copied result ≡ first_taken [] self.now.made }
         ensures theory { AreOfTheory self.now.cited self.now.made }
     {
-        for (i, value) in self.made.iter().enumerate() {
-            if is_standing(&value.0, &value.1) || has_key(&self.made[..i], &value.0) {
-                return Some(&value.0);
-            }
-        }
-        None
+        first_taken(&self.made)
     }
 
     /// Whether a proof is open.
@@ -277,6 +272,18 @@ impl Reads {
             closing,
         })
     }
+}
+
+// The first of the keys under which something stands, or which is met again.
+fn first_taken(values: &[(Key, Option<Value>)]) -> Option<&Key>
+    ensures { option_copied result ≡ first_taken [] values.now }
+{
+    for (i, value) in values.iter().enumerate() {
+        if is_standing(&value.0, &value.1) || has_key(&values[..i], &value.0) {
+            return Some(&value.0);
+        }
+    }
+    None
 }
 
 // Whether the key is one of those of the values.
