@@ -237,7 +237,7 @@ texts_inserted standing at t' =
     ∙ (append_assoc (map text_of (take at standing)) (text_of t' ∷ []) (map text_of (drop at standing)) ∙ sym (inserted_map text_of standing at (text_of t')))
 
 -- the place of a name
-place_in : {A : Type 0} → (A → Bool) → List A → ℕ
+abbrev place_in : {A : Type 0} → (A → Bool) → List A → ℕ
 place_in p [] = 0
 place_in p (x ∷ xs) = cond (p x) 0 (1 + place_in p xs)
 
