@@ -84,7 +84,9 @@ impl Docs {
         ensures rises { ran_of self.old ≤ ran_of self.new }
     {
         self.check_theory(name, at)?;
-        let theories = self.theories.with_theory(self.alloc, &mut self.meter, name, at)?;
+        let theories = self
+            .theories
+            .with_theory(self.alloc, &mut self.meter, name, at)?;
         self.theories = theories;
         Ok(())
     }
@@ -103,7 +105,9 @@ impl Docs {
         ensures rises { ran_of self.old ≤ ran_of self.new }
     {
         let i = self.place_of(name)?;
-        let theories = self.theories.without_theory(self.alloc, &mut self.meter, i)?;
+        let theories = self
+            .theories
+            .without_theory(self.alloc, &mut self.meter, i)?;
         self.theories = theories;
         Ok(())
     }
@@ -124,7 +128,9 @@ impl Docs {
         let i = self.place_to_insert(theory, at)?;
         let line = Rc::new(self.alloc, Line::new(self.alloc, text)?)?;
         let edit = Edit::Insert(line);
-        let theories = self.theories.with_edit(self.alloc, &mut self.meter, i, at, &edit)?;
+        let theories = self
+            .theories
+            .with_edit(self.alloc, &mut self.meter, i, at, &edit)?;
         self.theories = theories;
         Ok(())
     }
@@ -145,7 +151,9 @@ impl Docs {
         let i = self.place_of_command(theory, at)?;
         let line = Rc::new(self.alloc, Line::new(self.alloc, text)?)?;
         let edit = Edit::Replace(line);
-        let theories = self.theories.with_edit(self.alloc, &mut self.meter, i, at, &edit)?;
+        let theories = self
+            .theories
+            .with_edit(self.alloc, &mut self.meter, i, at, &edit)?;
         self.theories = theories;
         Ok(())
     }
@@ -164,7 +172,9 @@ impl Docs {
         ensures rises { ran_of self.old ≤ ran_of self.new }
     {
         let i = self.place_of_command(theory, at)?;
-        let theories = self.theories.with_edit(self.alloc, &mut self.meter, i, at, &Edit::Remove)?;
+        let theories = self
+            .theories
+            .with_edit(self.alloc, &mut self.meter, i, at, &Edit::Remove)?;
         self.theories = theories;
         Ok(())
     }

@@ -62,11 +62,7 @@ pub(crate) fn front(
 }
 
 // The slots that a theory begins with, as they stand.
-fn resumed(
-    alloc: Global,
-    earlier: &[Theory],
-    slots: &[Rc<Slot>],
-) -> Result<Growing, AllocError>
+fn resumed(alloc: Global, earlier: &[Theory], slots: &[Rc<Slot>]) -> Result<Growing, AllocError>
     requires { (setup : SetupValue) × (last : StateValue) × AreSlots setup (map ended_of earlier.now) start (map (λ x. x.value) slots.now) last }
     ensures slots { IfOk result (λ growing. map (λ x. x.value) growing.slots.items ≡ map (λ x. x.value) slots.now) }
     ensures state { IfOk result (λ growing. (setup : SetupValue) (before : List EndedTheory) (last : StateValue) → AreSlots setup before start (map (λ x. x.value) slots.now) last → growing.state ≡ last) }

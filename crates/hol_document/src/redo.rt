@@ -100,7 +100,14 @@ fn replaced(
 {
     promise_each(earlier);
     let mut growing = front(alloc, earlier, theory, at)?;
-    replace(alloc, meter, earlier, &theory.slots()[at], line, &mut growing)?;
+    replace(
+        alloc,
+        meter,
+        earlier,
+        &theory.slots()[at],
+        line,
+        &mut growing,
+    )?;
     redo(alloc, meter, earlier, theory, at + 1, 0, growing)
 }
 
@@ -166,7 +173,9 @@ fn replace(
     ensures rises { ran_of meter.old ≤ ran_of meter.new }
 {
     let slot = run(alloc, meter, earlier, line, &mut growing.state)?;
-    growing.drift.follow(old.outcome(), slot.outcome(), is_open_after(old, &slot))?;
+    growing
+        .drift
+        .follow(old.outcome(), slot.outcome(), is_open_after(old, &slot))?;
     Ok(growing.slots.push(slot)?)
 }
 

@@ -23,8 +23,8 @@ use crate::line::Line;
 use crate::slot::Slot;
 use crate::theory::Theory;
 use hol_exec::{
-    Command, CommandKeys, CommandNode, DirectCommand, LocalCommand, Meter, Outcome, Parsed,
-    Reads, State, apply, direct, resume, run_local, unread,
+    Command, CommandKeys, CommandNode, DirectCommand, LocalCommand, Meter, Outcome, Parsed, Reads,
+    State, apply, direct, resume, run_local, unread,
 };
 use std::alloc::{AllocError, Global};
 use std::rc::Rc;

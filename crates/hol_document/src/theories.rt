@@ -142,8 +142,8 @@ impl Theories {
         requires within { i < length self.now.theories }
         requires fits { FitsAt edit.now at (length (slice_index_or self.now.theories i no_theory).commands) }
         ensures theories { IfOk result (λ t. t.theories ≡ slice_set self.now.theories i (record {
-            name = (slice_index_or self.now.theories i no_theory).name;
-            commands = edited_texts edit.now at (slice_index_or self.now.theories i no_theory).commands;
+          name = (slice_index_or self.now.theories i no_theory).name;
+          commands = edited_texts edit.now at (slice_index_or self.now.theories i no_theory).commands;
         })) }
         ensures same { IfOk result (λ t. t.setup ≡ self.now.setup) }
         ensures affected { IfOk result (λ t. RunsAffected self.now t (edit_place edit.now at i) (ran_of meter.old) (ran_of meter.new)) }

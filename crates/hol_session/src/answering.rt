@@ -14,8 +14,8 @@ ghost use Rattle.hol_session.specs.Served.{IsServed};
 
 use hol_document::{DocsError, Editable};
 use hol_wire::{
-    Reply, Request, closed, counts, done, lists, memory, not_json, refused, reports, request_of, rests_on,
-    shape,
+    Reply, Request, closed, counts, done, lists, memory, not_json, refused, reports, request_of,
+    rests_on, shape,
 };
 use serde_json::{Error, Value};
 use std::alloc::{AllocError, Global};
@@ -97,7 +97,11 @@ fn served<D: Editable>(
         Request::NewTheory { name, at } => edit_reply(docs.new_theory(name, at as usize)),
         Request::DropTheory { name } => edit_reply(docs.drop_theory(name)),
         Request::Insert { theory, at, text } => edit_reply(docs.insert(theory, at as usize, text)),
-        Request::Replace { theory, at, text } => edit_reply(docs.replace(theory, at as usize, text)),
+        Request::Replace { theory, at, text } => edit_reply(docs.replace(
+            theory,
+            at as usize,
+            text,
+        )),
         Request::Remove { theory, at } => edit_reply(docs.remove(theory, at as usize)),
         Request::Report { theory, at } => reported(alloc, docs, theory, at),
         Request::Theorems { theory } => listed(alloc, docs, theory),
