@@ -208,7 +208,7 @@ def random_edit(rng, docs):
     """A request, and the documents after it; None where it has to be refused."""
     kind = rng.choice(["insert"] * 9 + ["replace"] * 4 + ["remove"] * 3 + ["new_theory"] * 2 + ["drop_theory"])
     names = [name for name, _ in docs]
-    name, at = rng.choice(THEORIES), rng.randrange(LIMIT)
+    name, at = rng.choice(names if names and kind != "new_theory" and rng.random() < 0.9 else THEORIES), rng.randrange(LIMIT)
     text = rng.choice(COMMANDS)[0]
     new = [(n, list(commands)) for n, commands in docs]
     if kind == "new_theory":
