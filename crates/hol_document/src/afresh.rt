@@ -18,8 +18,8 @@ use crate::items::item_texts;
 use crate::line::Line;
 use crate::theory::Theory;
 use hol_exec::{
-    Command, CommandNode, Outcome, Parsed, Reads, Report, Setup, State, apply, direct, entry_text,
-    promise_each, report_of, run_local, unread,
+    Command, CommandKeys, CommandNode, Outcome, Parsed, Reads, Report, Setup, State, apply, direct,
+    entry_text, outcome_from, promise_each, report_of, unread,
 };
 use hol_theory::{Env, Key, Kind, Value, ValueNode};
 use std::alloc::{AllocError, Global};
@@ -52,8 +52,9 @@ fn outcome_of_command(
 {
     match command.node() {
         CommandNode::Local(command) => {
-            let reads = Reads::of(alloc, command, state)?;
-            run_local(alloc, setup, command, &reads)
+            let keys = CommandKeys::of(alloc, command)?;
+            let reads = Reads::of(alloc, command, &keys, state)?;
+            outcome_from(alloc, setup, command, &reads)
         }
         CommandNode::Direct(command) => direct(alloc, command, state, earlier),
     }

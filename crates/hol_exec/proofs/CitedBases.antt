@@ -15,6 +15,7 @@ use Rattle.hol_theory.specs.Entry.{EntryValue, AType, AConstant, ATheorem, Entri
 use Rattle.hol_theory.specs.Theory.{items_in, IsTheory}
 use Rattle.hol_theory.proofs.Theories.{items_agree}
 use Rattle.hol_notation_commands.specs.Text.{LocalText}
+use Rattle.hol_exec.specs.Filters.{HasNames}
 use Rattle.hol_exec.specs.Keys.{cited_keys, made_keys}
 use Rattle.hol_exec.specs.ReadsValue.{Values, ReadsValue, AreKeyed, values_of}
 use Rattle.hol_exec.specs.Resolved.{occurs_in, with_value, with_values, resolved_basis}
@@ -46,6 +47,13 @@ reads_stand es cited_keys made_keys cited made e f t = record {
   cited_stand = subst (StandIn es) (sym e) (values_stand es cited_keys);
   made_stand = subst (StandIn es) (sym f) (values_stand es made_keys);
 }
+
+-- a filter that has the names of the keys has those of the values
+pub names_stand : (es : Entries) (keys : List KeyValue) (values : Values) (n : ℕ) → values ≡ values_of es keys → HasNames n keys → HasNames n (keys_of values)
+names_stand es keys values n e h = subst (HasNames n) (sym (ap keys_of e ∙ values_keys es keys)) h
+
+pub same_named : (values own : Values) (n : ℕ) → own ≡ values → HasNames n (keys_of values) → HasNames n (keys_of own)
+same_named values own n e h = subst (λ (vs : Values). HasNames n (keys_of vs)) (sym e) h
 
 -- the same of equal values
 pub same_stand : (cited made own_cited own_made : Values) → own_cited ≡ cited → own_made ≡ made → AreOfTheory cited made → AreOfTheory own_cited own_made

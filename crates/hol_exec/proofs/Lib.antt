@@ -1,5 +1,8 @@
 pub mod Entries
+pub mod NameFilters
 pub mod CitedBases
+pub mod Agreeing
+pub mod Changing
 pub mod Known
 pub mod Narrow
 pub mod ReadOver

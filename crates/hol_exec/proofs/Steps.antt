@@ -14,6 +14,7 @@ use Rattle.hol_just.specs.Valid.{IsValid}
 use Rattle.hol_just.specs.declared.reason.Move.{Move}
 use Rattle.hol_just.specs.declared.tried.Step.{Step}
 use Rattle.hol_just.proofs.Validity.{valid_under}
+use Rattle.hol_stack.specs.StackValue.{SharedStepValue}
 use Rattle.hol_stack.specs.Calls.{IsStep}
 use Rattle.hol_exec.specs.StateValue.{ProofValue}
 use Rattle.hol_exec.specs.ReadsValue.{first_of}
@@ -28,16 +29,11 @@ left_by basis e first goal step suited same h =
     (valid_under (suits_expr e) (set.is_subset basis) no_hyps step.just (first ∷ []) step.goals.items (λ more k. suits_larger e basis more k suited) h)
 
 -- equal values are left so too
-pub left_same : (basis own : Items) (moves kept : List Move) (goal first : GoalValue) (left goals : List GoalValue) → own ≡ basis → kept ≡ moves → first ≡ goal → goals ≡ left → IsLeft basis moves goal left → IsLeft own kept first goals
-left_same basis own moves kept goal first left goals d e f g h =
-    subst (λ (b : Items). IsLeft b kept first goals) (sym d)
-    (subst (λ (ms : List Move). IsLeft basis ms first goals) (sym e)
-    (subst (λ (x : GoalValue). IsLeft basis moves x goals) (sym f)
-    (subst (λ (gs : List GoalValue). IsLeft basis moves goal gs) (sym g) h)))
-
-pub same_step : (basis : Items) (moves kept : List Move) (left goals standing : List GoalValue) → kept ≡ moves → goals ≡ left → IsStep basis moves left standing → IsStep basis kept goals standing
-same_step basis moves kept left goals standing e f h =
-    subst (λ (ms : List Move). IsStep basis ms goals standing) (sym e) (subst (λ (gs : List GoalValue). IsStep basis moves gs standing) (sym f) h)
+pub left_same : (basis own : Items) (step kept : SharedStepValue) (goal first : GoalValue) → own ≡ basis → kept ≡ step → first ≡ goal → IsLeft basis step.moves goal step.goals → IsLeft own kept.moves first kept.goals
+left_same basis own step kept goal first d e f h =
+    subst (λ (b : Items). IsLeft b kept.moves first kept.goals) (sym d)
+    (subst (λ (s : SharedStepValue). IsLeft basis s.moves first s.goals) (sym e)
+    (subst (λ (x : GoalValue). IsLeft basis step.moves x step.goals) (sym f) h))
 
 -- ---- the step of a proof
 

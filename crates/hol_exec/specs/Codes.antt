@@ -12,8 +12,10 @@ use Rattle.hol_stack.specs.StackValue.{StepValue}
 use Rattle.hol_stack.specs.Codes.{step_code}
 use Rattle.hol_exec.specs.declared.reports.refusal.RefusalKind.{RefusalKind}
 use Rattle.hol_exec.specs.declared.reports.refusal.RefusalKind.TheVariants.{Syntax, InProof, NoProofOpen, UnknownTheory, UnknownTheorem, UnknownTac, Untypable, NotBool, Arity, NameTaken, NotClosed, NotReflected, TooLarge, BadRule, HypsNotAssumed, NoGoalOpen, Refused, TurnLimit, GoalsRemain, NothingToUndo, ImportClash}
+use Rattle.hol_theory.specs.Key.{KeyValue}
 use Rattle.hol_theory.specs.Entry.{Entries}
 use Rattle.hol_theory.specs.Codes.{coded_key, coded_entry, coded_entries}
+use Rattle.hol_exec.specs.Keys.{CommandKeysValue}
 use Rattle.hol_exec.specs.StateValue.{ProofValue, StateValue}
 use Rattle.hol_exec.specs.ReadsValue.{ClosingValue, Values, ReadsValue}
 use Rattle.hol_exec.specs.OutcomeValue.{OutcomeValue, Opens, Leaves, Undoes, Rotates, Makes, Refuses}
@@ -54,6 +56,15 @@ coded_reads =
     (coded× (coded× coded_values coded_values) (coded× coded_bool (coded× (coded_option goal_code) (coded_option coded_closing))))
     (λ r. ((r.cited, r.made), (r.in_proof, (r.goal, r.closing))))
     (λ p. record { cited = p.0.0; made = p.0.1; in_proof = p.1.0; goal = p.1.1.0; closing = p.1.1.1 })
+    (λ _. refl)
+
+-- ---- keys of commands
+
+abbrev pub coded_command_keys : Coded CommandKeysValue
+coded_command_keys =
+    code_by (List KeyValue × List KeyValue) (coded× (coded_list coded_key) (coded_list coded_key))
+    (λ k. (k.cited, k.made))
+    (λ p. record { cited = p.0; made = p.1 })
     (λ _. refl)
 
 -- ---- outcomes

@@ -74,3 +74,11 @@ made_keys (Goal name quotation) = theorem_key name ∷ []
 made_keys (Apply tactic) = []
 made_keys Qed = []
 made_keys (Make making) = made_by_making making
+
+-- both
+pub record CommandKeysValue : Type 0 where
+  pub cited : List KeyValue
+  pub made : List KeyValue
+
+abbrev pub command_keys : LocalText → CommandKeysValue
+command_keys command = record { cited = cited_keys command; made = made_keys command }

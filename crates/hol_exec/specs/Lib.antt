@@ -4,7 +4,9 @@ pub use Rattle.hol_notation_commands.specs.Reading
 pub use Rattle.hol_print.specs.ShowGoal
 pub mod Occurring
 pub mod Setup
+pub mod SetupCode
 pub mod SetupView
+pub mod MeterView
 pub mod ParsedView
 pub mod Keys
 pub mod StateValue
@@ -20,6 +22,8 @@ pub mod ContextView
 pub mod Refusal
 pub mod OutcomeValue
 pub mod OutcomeView
+pub mod Changes
+pub mod Filters
 pub mod Defining
 pub mod Making
 pub mod Local

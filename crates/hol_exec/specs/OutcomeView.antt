@@ -7,7 +7,7 @@ use Rattle.hol_exec.specs.OutcomeValue.{OutcomeValue, Opens, Leaves, Undoes, Rot
 
 abbrev pub outcome_of : Change → OutcomeValue
 outcome_of (change.Opens name statement basis) = Opens (string_bytes name) (nameless [] statement) basis
-outcome_of (change.Leaves goal step basis) = Leaves goal step.goals.items basis
+outcome_of (change.Leaves goal step basis) = Leaves goal step.goals basis
 outcome_of change.Undoes = Undoes
 outcome_of (change.Rotates times) = Rotates times
 outcome_of (change.Makes entries) = Makes entries.items

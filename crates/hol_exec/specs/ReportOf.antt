@@ -28,11 +28,15 @@ entry_text_at key (ATheorem th) = codes "thm " ++ key.name ++ codes " " ++ theor
 abbrev pub entry_text : KeyValue × EntryValue → List ℕ
 entry_text e = entry_text_at e.0 e.1
 
--- the report on an outcome, `s` being the state after it
+-- the report on an outcome, after which these goals are open
+abbrev pub report_with : OutcomeValue → List GoalValue → ReportValue
+report_with (Opens name statement basis) goals = ShowsGoals (map shown_goal goals)
+report_with (Leaves goal left basis) goals = ShowsGoals (map shown_goal goals)
+report_with Undoes goals = ShowsGoals (map shown_goal goals)
+report_with (Rotates times) goals = ShowsGoals (map shown_goal goals)
+report_with (Makes entries) goals = HasMade (map entry_text entries)
+report_with (Refuses kind arg) goals = WasRefused kind arg
+
+-- the same, `s` being the state after it
 abbrev pub report_of : OutcomeValue → StateValue → ReportValue
-report_of (Opens name statement basis) s = ShowsGoals (map shown_goal (open_goals s.proof))
-report_of (Leaves goal goals basis) s = ShowsGoals (map shown_goal (open_goals s.proof))
-report_of Undoes s = ShowsGoals (map shown_goal (open_goals s.proof))
-report_of (Rotates times) s = ShowsGoals (map shown_goal (open_goals s.proof))
-report_of (Makes entries) s = HasMade (map entry_text entries)
-report_of (Refuses kind arg) s = WasRefused kind arg
+report_of outcome s = report_with outcome (open_goals s.proof)

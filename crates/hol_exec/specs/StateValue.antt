@@ -28,6 +28,11 @@ abbrev pub open_goals : Option ProofValue → List GoalValue
 open_goals None = []
 open_goals (Some p) = p.newest.goals
 
+-- the newest element of the open proof's history
+abbrev pub newest_of : Option ProofValue → Option StepValue
+newest_of None = None
+newest_of (Some p) = Some p.newest
+
 -- a theory that stands earlier, as an import sees it: its name, and the entries of its last state
 pub record EndedTheory : Type 0 where
   pub name : List ℕ

@@ -83,7 +83,7 @@ IsLeft basis moves goal left = IsValid (set.is_subset basis) no_hyps moves (goal
 -- An opened statement is well typed; goals that are left are so by the justification that is kept beside them; what is made are entries, no two of which have one key.
 abbrev pub IsValidChange : Change → Type 0
 IsValidChange (Opens name statement basis) = IsStatement basis (nameless [] statement)
-IsValidChange (Leaves goal step basis) = IsLeft basis step.just goal step.goals.items
+IsValidChange (Leaves goal step basis) = IsLeft basis step.moves goal step.goals
 IsValidChange Undoes = Unit {0}
 IsValidChange (Rotates times) = Unit {0}
 IsValidChange (Makes entries) = EachIsEntry entries.items × IsDistinct key_eq (keys_of entries.items)

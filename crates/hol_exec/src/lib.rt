@@ -14,9 +14,13 @@ mod state;
 
 pub use hol_notation_commands::{Command, CommandNode, DirectCommand, LocalCommand, Making};
 pub use hol_print::ShownGoal;
+pub use hol_stack::Element;
 pub use laws::one_outcome;
 pub use reading::{Parsed, parse, unread};
-pub use reads::Reads;
-pub use reports::{RefusalKind, Report, entry_text, report_of};
-pub use running::{EarlierTheory, Outcome, Setup, apply, direct, promise_each, run_local};
+pub use reads::{Changes, CommandKeys, Reads};
+pub use reports::{RefusalKind, Report, entry_text, goals_of, report_of, report_with};
+pub use running::{
+    EarlierTheory, Meter, Outcome, Setup, SetupTable, apply, direct, outcome_from, promise_each,
+    resume, run_local,
+};
 pub use state::State;

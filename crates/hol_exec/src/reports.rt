@@ -6,4 +6,4 @@ mod reporting;
 
 pub use refusal::RefusalKind;
 pub use report::Report;
-pub use reporting::{entry_text, report_of};
+pub use reporting::{entry_text, goals_of, report_of, report_with};

@@ -1,5 +1,5 @@
 //! The state of a theory while it is run.
-ghost use Rattle.std.specs.Prelude.{◌≡◌, ◌≢◌, ◌++◌, OnOk, OnErr, IfSome, Some, None, [], option_copied};
+ghost use Rattle.std.specs.Prelude.{◌≡◌, ◌≢◌, ◌++◌, IfOk, OnOk, OnErr, IfSome, Some, None, [], option_copied};
 ghost use Rattle.std.specs.List.{IsDistinct};
 ghost use Rattle.std.specs.Map.{keys_of};
 ghost use Rattle.hol_kernel.specs.Items.{IsSubset};
@@ -7,8 +7,8 @@ ghost use Rattle.hol_theory.specs.Adding.{AreNew, CanFollow};
 ghost use Rattle.hol_theory.specs.Entry.{entry_at};
 ghost use Rattle.hol_theory.specs.Key.{key_eq, theorem_key};
 ghost use Rattle.hol_theory.specs.Theory.{items_in, IsTheory};
-ghost use Rattle.hol_exec.specs.StateValue.{StateValue, start, open_goals};
-ghost use Rattle.hol_exec.specs.OutcomeValue.{stepped_in, undone_in, rotated_in};
+ghost use Rattle.hol_exec.specs.StateValue.{StateValue, start, open_goals, newest_of};
+ghost use Rattle.hol_exec.specs.OutcomeValue.{stepped, stepped_in, undone_in, rotated, rotated_in};
 ghost use Rattle.hol_exec.specs.Valid.{CanStep, IsFreeFor, IsProofWithin};
 
 mod entry;
@@ -16,8 +16,8 @@ mod proof;
 
 pub(crate) use entry::copies;
 use hol_goal::Goal;
-use hol_just::Step;
 use hol_kernel::Basis;
+use hol_stack::{Element, SharedStep};
 use hol_theory::{Env, Key, Value};
 pub(crate) use proof::Proof;
 use std::alloc::{AllocError, Global};
@@ -86,6 +86,16 @@ impl State {
         }
     }
 
+    /// The newest element of the open proof's history.
+    pub fn newest(&self) -> Result<Option<Element>, AllocError>
+        ensures { IfOk result (λ element. element ≡ newest_of self.now.proof) }
+    {
+        match self.proof() {
+            Some(proof) => Ok(Some(proof.newest().copy()?)),
+            None => Ok(None),
+        }
+    }
+
     /// Its entries are a theory, and no two of them have one key; under the name of the open proof no theorem stands, and it rests on items of the entries.
     pub fn promise(&self)
         ensures theory { IsTheory self.now.entries }
@@ -110,16 +120,36 @@ impl State {
     pub(crate) fn step(
         &mut self,
         alloc: Global,
-        step: &Step,
+        step: &SharedStep,
         basis: &Basis,
     ) -> Result<(), AllocError>
-        requires step { IfSome self.old.proof (CanStep basis.now step.now.just step.now.goals.items) }
+        requires step { IfSome self.old.proof (CanStep basis.now step.now.moves step.now.goals) }
         requires within { IsSubset basis.now (items_in self.old.entries) }
-        ensures ok { OnOk result (self.new ≡ record { entries = self.old.entries; proof = stepped_in step.now.goals.items basis.now self.old.proof }) }
+        ensures ok { OnOk result (self.new ≡ record { entries = self.old.entries; proof = stepped_in step.now.goals basis.now self.old.proof }) }
         ensures err { OnErr result (self.new ≡ self.old) }
     {
         match &mut self.proof {
             Some(proof) => proof.step(alloc, step, basis),
+            None => Ok(()),
+        }
+    }
+
+    /// The same by an element that is there already.
+    #[tactic(auto, using(crate::proofs::Entries::step_within))]
+    pub(crate) fn step_with(
+        &mut self,
+        step: &SharedStep,
+        basis: &Basis,
+        next: &Element,
+    ) -> Result<(), AllocError>
+        requires step { IfSome self.old.proof (CanStep basis.now step.now.moves step.now.goals) }
+        requires within { IsSubset basis.now (items_in self.old.entries) }
+        requires next { IfSome self.old.proof (λ p. next.now ≡ (stepped step.now.goals basis.now p).newest) }
+        ensures ok { OnOk result (self.new ≡ record { entries = self.old.entries; proof = stepped_in step.now.goals basis.now self.old.proof }) }
+        ensures err { OnErr result (self.new ≡ self.old) }
+    {
+        match &mut self.proof {
+            Some(proof) => proof.step_with(step, basis, next),
             None => Ok(()),
         }
     }
@@ -143,6 +173,20 @@ impl State {
     {
         match &mut self.proof {
             Some(proof) => proof.rotate(alloc, times),
+            None => Ok(()),
+        }
+    }
+
+    /// The same by an element that is there already.
+    #[tactic(auto, using(crate::proofs::Entries::rotate_within))]
+    pub(crate) fn rotate_with(&mut self, times: usize, next: &Element) -> Result<(), AllocError>
+        requires open { IfSome self.old.proof (λ p. p.newest.goals ≢ []) }
+        requires next { IfSome self.old.proof (λ p. next.now ≡ (rotated times p).newest) }
+        ensures ok { OnOk result (self.new ≡ record { entries = self.old.entries; proof = rotated_in times self.old.proof }) }
+        ensures err { OnErr result (self.new ≡ self.old) }
+    {
+        match &mut self.proof {
+            Some(proof) => proof.rotate_with(times, next),
             None => Ok(()),
         }
     }

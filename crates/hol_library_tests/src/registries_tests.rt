@@ -5,7 +5,7 @@ ghost use Rattle.hol_goal.specs.declared.tac_code.TacCode.TheVariants as code;
 ghost use Rattle.hol_just.specs.Answering.{AnswersCode, IsJustified};
 
 use crate::steps::first_unmet;
-use hol_exec::Setup;
+use hol_exec::{Meter, Setup};
 use hol_goal::{Goal, TacArgs, TacCode};
 use hol_just::{TacFault, Tried};
 use hol_registry::{Entry, Registry, RegistryError};
@@ -79,12 +79,16 @@ fn no_name_stands_twice(rt: HostRuntime) -> Result<(), Fail> {
     Ok(())
 }
 
-// The command of the first step that isn't met where NO_TAC is registered as STOP, or nothing.
+// The command of the first step that isn't met where NO_TAC is registered as STOP, or nothing; each of the twelve steps is counted.
 fn amiss(alloc: Global) -> Result<&'static str, Fail> {
     match registered(alloc, &["STOP"])? {
         Ok(registry) => {
-            let setup = Setup::new(alloc, registry, 10)?;
-            Ok(first_unmet(alloc, &setup)?)
+            let mut meter = Meter::new(Setup::new(alloc, registry, 10)?);
+            let unmet = first_unmet(alloc, &mut meter)?;
+            if meter.ran() != 12 {
+                return Ok("steps that aren't counted");
+            }
+            Ok(unmet)
         }
         Err(RegistryError::Twice(_)) => Err("a name stands twice".into()),
     }

@@ -4,8 +4,8 @@ ghost use Rattle.hol_exec.specs.CommandView.{local_text};
 ghost use Rattle.hol_exec.specs.ReadsValue.{reads_of, AreKeyed};
 
 use hol_exec::{
-    CommandNode, LocalCommand, Outcome, Parsed, Reads, Report, Setup, State, apply, parse,
-    report_of, run_local,
+    CommandKeys, CommandNode, LocalCommand, Meter, Outcome, Parsed, Reads, Report, State, apply,
+    parse, report_of, run_local,
 };
 use std::alloc::{AllocError, Global};
 use std::hash::{DefaultHasher, Hash, Hasher};
@@ -100,7 +100,7 @@ fn is_shown(
 #[tactic(auto, using(crate::proofs::Applied::local_outcome_applies))]
 fn is_carried_out(
     alloc: Global,
-    setup: &Setup,
+    meter: &mut Meter,
     command: &LocalCommand,
     reads: &Reads,
     step: &Step,
@@ -109,27 +109,31 @@ fn is_carried_out(
     requires keys { AreKeyed (local_text command.now) reads.now }
     requires reads { reads.now ≡ reads_of (local_text command.now) state.old }
 {
-    let outcome = run_local(alloc, setup, command, reads)?;
+    let outcome = run_local(alloc, meter, command, reads)?;
     apply(alloc, state, &outcome)?;
     is_shown(alloc, reads, &outcome, step, state)
 }
 
-// The same from what the command reads.
+// The same from what the command reads, which agrees with the state.
 fn is_run(
     alloc: Global,
-    setup: &Setup,
+    meter: &mut Meter,
     command: &LocalCommand,
     step: &Step,
     state: &mut State,
 ) -> Result<bool, AllocError> {
-    let reads = Reads::of(alloc, command, state)?;
-    is_carried_out(alloc, setup, command, &reads, step, state)
+    let keys = CommandKeys::of(alloc, command)?;
+    let reads = Reads::of(alloc, command, &keys, state)?;
+    if !reads.agree(command, state) {
+        return Ok(false);
+    }
+    is_carried_out(alloc, meter, command, &reads, step, state)
 }
 
 // The same from what a text is read as.
 fn is_read(
     alloc: Global,
-    setup: &Setup,
+    meter: &mut Meter,
     parsed: Parsed,
     step: &Step,
     state: &mut State,
@@ -138,29 +142,29 @@ fn is_read(
         return Ok(false);
     };
     match command.node() {
-        CommandNode::Local(command) => is_run(alloc, setup, command, step, state),
+        CommandNode::Local(command) => is_run(alloc, meter, command, step, state),
         CommandNode::Direct(_) => Ok(false),
     }
 }
 
 fn is_met(
     alloc: Global,
-    setup: &Setup,
+    meter: &mut Meter,
     step: &Step,
     state: &mut State,
 ) -> Result<bool, AllocError> {
-    is_read(alloc, setup, parse(alloc, step.0)?, step, state)
+    is_read(alloc, meter, parse(alloc, step.0)?, step, state)
 }
 
 // The command of the first step of which this is not so, or nothing.
 fn unmet(
     alloc: Global,
-    setup: &Setup,
+    meter: &mut Meter,
     steps: &[Step],
     state: &mut State,
 ) -> Result<&'static str, AllocError> {
     for step in steps {
-        if !is_met(alloc, setup, step, state)? {
+        if !is_met(alloc, meter, step, state)? {
             return Ok(step.0);
         }
     }
@@ -168,7 +172,7 @@ fn unmet(
 }
 
 /// The command of the first step that isn't met, or nothing.
-pub(crate) fn first_unmet(alloc: Global, setup: &Setup) -> Result<&'static str, AllocError> {
+pub(crate) fn first_unmet(alloc: Global, meter: &mut Meter) -> Result<&'static str, AllocError> {
     let mut state = State::new(alloc);
-    unmet(alloc, setup, &STEPS, &mut state)
+    unmet(alloc, meter, &STEPS, &mut state)
 }

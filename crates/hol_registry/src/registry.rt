@@ -9,9 +9,10 @@ ghost use Rattle.hol_registry.specs.Refusal.{IsRefusal};
 
 use crate::entry::Entry;
 use crate::error::RegistryError;
-use crate::named;
+use crate::named::{self, Named};
 use hol_goal::{Goal, TacArgs, TacCode};
 use hol_just::{TacFault, Tried};
+use std::alloc::{AllocError, Global};
 
 /// Functions on goals whose names differ.
 #[derive(Drop)]
@@ -20,7 +21,7 @@ pub struct Registry {
 }
 
 impl Registry {
-    ghost use Rattle.hol_registry.specs.RegistryView.{name, row, table};
+    ghost use Rattle.hol_registry.specs.RegistryView.{name, row, table, listed};
 
     /// The registry of these entries, in order.
     ///
@@ -51,6 +52,17 @@ impl Registry {
         ensures { option_map (λ row. row.1) (slice_get (table self.now) index) ≡ Some result }
     {
         self.entries[index].code()
+    }
+
+    /// The names and codes of the entries, in order.
+    pub fn rows(&self, alloc: Global) -> Result<Vec<(String, TacCode)>, AllocError>
+        ensures { IfOk result (λ rows. map listed rows.items ≡ table self.now) }
+    {
+        let mut rows = Vec::with_capacity(alloc, self.entries.len())?;
+        for entry in &self.entries {
+            rows.push((String::from_str(alloc, entry.name())?, entry.code()))?;
+        }
+        Ok(rows)
     }
 
     /// Calls the function of the entry at an index: it answers what the entry's code means, with a justified step, or that memory is short.

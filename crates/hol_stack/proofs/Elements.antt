@@ -3,7 +3,7 @@ use Rattle.std.specs.Prelude.{◌≡◌, ℕ, zero, suc, ◌+◌, ◌%◌, ◌<�
 use Rattle.std.specs.FinSet as set
 use Rattle.std.proofs.Common.{ap, sym, ◌∙◌, subst, arith}
 use Rattle.std.proofs.Math.Nat.{mod-lt}
-use Rattle.hol_kernel.specs.Items.{Items}
+use Rattle.hol_kernel.specs.Items.{Items, IsSubset}
 use Rattle.hol_kernel.specs.Sequent.{no_hyps}
 use Rattle.hol_kernel.specs.Extends.{Agree}
 use Rattle.hol_kernel.specs.Gives.{Joins}
@@ -15,10 +15,10 @@ use Rattle.hol_just.specs.Gives.{moved}
 use Rattle.hol_just.specs.Valid.{IsValid}
 use Rattle.hol_just.specs.declared.reason.Move.{Move}
 use Rattle.hol_just.proofs.Validity.{valid_none, valid_at}
-use Rattle.hol_stack.specs.StackValue.{StepValue, StackValue, followed, rotated}
+use Rattle.hol_stack.specs.StackValue.{StepValue, SharedStepValue, StackValue, followed, turned, rotated}
 use Rattle.hol_stack.specs.Calls.{IsStep}
 use Rattle.hol_stack.specs.Sound.{Follows}
-use Rattle.hol_stack.specs.declared.step.Change.TheVariants.{Left, Turned}
+use Rattle.hol_stack.specs.declared.element.Change.TheVariants.{Left, Turned}
 use Rattle.hol_stack.proofs.Turns.{turned_by}
 
 pub no_clash : (a b : Items) (n : List ℕ) (answer : Result Items KernelError) → Agree a b → answer ≡ Err (Clash n) → Joins a b answer → ⊥
@@ -42,12 +42,23 @@ step_valid basis moves left (g ∷ gs) step =
     subst (λ ms. IsValid (set.is_subset basis) no_hyps ms (g ∷ gs) (left ++ gs)) (unmoved moves)
     (valid_at (set.is_subset basis) no_hyps [] moves (g ∷ gs) [] (g ∷ []) left gs 0 refl (valid_none (set.is_subset basis) no_hyps (g ∷ gs)) step)
 
+-- what a step makes of an element, over a basis that contains that of the element
+pub goals_follow :
+    (before next : StepValue) (step own : SharedStepValue) → own ≡ step → IsSubset before.basis next.basis → IsStep next.basis step.moves step.goals before.goals →
+    next.goals ≡ step.goals ++ drop 1 before.goals → Follows before (Left own) next
+goals_follow before next step own same within is goals = record {
+  within = within;
+  changed =
+      subst (λ (s : SharedStepValue). IsValid (set.is_subset next.basis) no_hyps s.moves before.goals next.goals) (sym same)
+      (subst (IsValid (set.is_subset next.basis) no_hyps step.moves before.goals) (sym goals) (step_valid next.basis step.moves step.goals before.goals is));
+}
+
 pub step_follows :
-    (before next : StepValue) (left : List GoalValue) (basis : Items) (moves : List Move) → IsStep (set.union before.basis basis) moves left before.goals →
-    next ≡ record { goals = left ++ drop 1 before.goals; basis = set.union before.basis basis } → Follows before (Left moves) next
-step_follows before next left basis moves step is =
-    subst (Follows before (Left moves)) (sym is)
-    (record { within = subset_left before.basis basis; changed = step_valid (set.union before.basis basis) moves left before.goals step })
+    (before next : StepValue) (basis : Items) (step own : SharedStepValue) → own ≡ step → IsStep (set.union before.basis basis) step.moves step.goals before.goals →
+    next ≡ record { goals = step.goals ++ drop 1 before.goals; basis = set.union before.basis basis } → Follows before (Left own) next
+step_follows before next basis step own same is made =
+    subst (Follows before (Left own)) (sym made)
+    (goals_follow before (record { goals = step.goals ++ drop 1 before.goals; basis = set.union before.basis basis }) step own same (subset_left before.basis basis) is refl)
 
 -- ---- by a turn
 
@@ -74,3 +85,18 @@ turn_fits times goals open_goals same some =
     let below = mod-lt times (positive (length goals) some) in
     let as_long : length goals ≡ length open_goals = ap length same in
     omega (arith, below, as_long)
+
+-- ---- by a turn to an element that is there
+
+pub some_open : (goals open_goals : List GoalValue) → goals ≡ open_goals → (open_goals ≡ [] → ⊥) → length goals ≡ 0 → ⊥
+some_open goals open_goals same some none = by open_goals some (sym (ap length same) ∙ none)
+  where
+    by : (gs : List GoalValue) → (gs ≡ [] → ⊥) → length gs ≡ 0 → ⊥
+    by [] f e = f refl
+    by (g ∷ gs) f e = absurd (cc)
+
+pub kept_turn :
+    (before next element : StepValue) (times by count : ℕ) → element ≡ next → next ≡ record { goals = turned times before.goals; basis = before.basis } →
+    count ≡ length before.goals → by ≡ times % count → by ≤ length before.goals → Follows before (Turned by) element
+kept_turn before next element times by count same is counts rest h =
+    turn_follows before element by h (same ∙ is ∙ ap (λ (gs : List GoalValue). record { goals = gs; basis = before.basis }) (turned_by times by count before.goals counts rest h))

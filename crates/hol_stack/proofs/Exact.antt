@@ -20,9 +20,9 @@ use Rattle.hol_just.specs.Over.{AreOver, sequents}
 use Rattle.hol_just.specs.Valid.{AchieveAll}
 use Rattle.hol_stack.specs.StackValue.{StepValue}
 use Rattle.hol_stack.specs.Sound.{IsChange, AchievesNext, AreSound}
-use Rattle.hol_stack.specs.declared.step.Change.{Change}
-use Rattle.hol_stack.specs.declared.step.Change.TheVariants.{Turned}
-use Rattle.hol_stack.specs.declared.step.Earlier.{Earlier}
+use Rattle.hol_stack.specs.declared.element.Change.{Change}
+use Rattle.hol_stack.specs.declared.element.Change.TheVariants.{Turned}
+use Rattle.hol_stack.specs.declared.element.Earlier.{Earlier}
 use Rattle.hol_stack.proofs.Histories.{IsBack, back_ends, goal_typed, goal_plain}
 use Rattle.hol_stack.proofs.Achieving.{as_many, turned_back, no_hypotheses}
 

@@ -17,9 +17,9 @@ use Rattle.hol_goal.specs.Achieves.{IsTyped}
 use Rattle.hol_just.specs.Valid.{AchieveAll}
 use Rattle.hol_stack.specs.StackValue.{StepValue}
 use Rattle.hol_stack.specs.Sound.{IsChange, AreSound, AchievesNext}
-use Rattle.hol_stack.specs.declared.step.Change.{Change}
-use Rattle.hol_stack.specs.declared.step.Change.TheVariants.{Left, Turned}
-use Rattle.hol_stack.specs.declared.step.Earlier.{Earlier}
+use Rattle.hol_stack.specs.declared.element.Change.{Change}
+use Rattle.hol_stack.specs.declared.element.Change.TheVariants.{Left, Turned}
+use Rattle.hol_stack.specs.declared.element.Earlier.{Earlier}
 use Rattle.hol_stack.proofs.Turns.{turned_all, reverse_taken}
 
 -- ---- goals over larger bases

@@ -8,13 +8,13 @@ use Rattle.hol_goal.specs.Goal.{GoalValue}
 use Rattle.hol_goal.specs.Achieves.{IsTyped}
 use Rattle.hol_just.specs.Valid.{IsValid, AchieveAll}
 use Rattle.hol_stack.specs.StackValue.{StepValue}
-use Rattle.hol_stack.specs.declared.step.Change.{Change}
-use Rattle.hol_stack.specs.declared.step.Change.TheVariants.{Left, Turned}
-use Rattle.hol_stack.specs.declared.step.Earlier.{Earlier}
+use Rattle.hol_stack.specs.declared.element.Change.{Change}
+use Rattle.hol_stack.specs.declared.element.Change.TheVariants.{Left, Turned}
+use Rattle.hol_stack.specs.declared.element.Earlier.{Earlier}
 
 -- the goals after are what the change makes of those before
 abbrev pub IsChange : Items → Change → List GoalValue → List GoalValue → Type 0
-IsChange basis (Left moves) before after = IsValid (set.is_subset basis) no_hyps moves before after
+IsChange basis (Left step) before after = IsValid (set.is_subset basis) no_hyps step.moves before after
 IsChange basis (Turned n) before after = (n ≤ length before) × (after ≡ drop n before ++ take n before)
 
 -- the element made by a change of the one before it

@@ -3,11 +3,17 @@ use Rattle.std.specs.Prelude.{ℕ, zero, suc, List, [], ◌∷◌, ◌++◌, Opt
 use Rattle.std.specs.FinSet as set
 use Rattle.hol_kernel.specs.Items.{Items}
 use Rattle.hol_goal.specs.Goal.{GoalValue}
+use Rattle.hol_just.specs.declared.reason.Move.{Move}
 
 -- an element of the history: the open goals, and the basis of all that was resolved so far
 pub record StepValue : Type 0 where
   pub goals : List GoalValue
   pub basis : Items
+
+-- a step that is kept: the goals that were left of a goal, and the moves by which they were
+pub record SharedStepValue : Type 0 where
+  pub goals : List GoalValue
+  pub moves : List Move
 
 -- the goal that it was set to, and its history: the newest element apart from the earlier ones, of which the newest comes first
 pub record StackValue : Type 0 where

@@ -10,7 +10,7 @@ ghost use Rattle.hol_just.specs.Over.{AreOver, sequents};
 ghost use Rattle.hol_just.specs.Valid.{AchieveAll};
 ghost use Rattle.hol_stack.specs.Sound.{AreSound, AchievesNext};
 
-use crate::step::{Change, Earlier, Step};
+use crate::element::{Change, Earlier, Element};
 use hol_equal::applied;
 use hol_goal::Goal;
 use hol_just::justify;
@@ -23,7 +23,7 @@ pub(crate) fn theorem(
     alloc: Global,
     goal: &Goal,
     earlier: &[Earlier],
-    newest: &Step,
+    newest: &Element,
 ) -> Result<Thm, AllocError>
     requires closed { newest.now.goals ≡ [] }
     requires sound { AreSound goal.now newest.now (reverse earlier.now) }
@@ -54,7 +54,7 @@ fn before(
     ensures achieved { IfOk result (λ out. AchieveAll no_hyps (sequents out.items) one.now.step.goals) }
 {
     match &one.change {
-        Change::Left(just) => justify(alloc, just, thms, basis),
+        Change::Left(step) => justify(alloc, step.just(), thms, basis),
         Change::Turned(by) => {
             let mut thms = thms;
             thms.rotate_right(*by);

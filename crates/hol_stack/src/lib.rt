@@ -4,11 +4,14 @@
 #![tactic(auto)]
 
 mod basis;
+mod element;
 mod error;
 mod finishing;
+mod shared_step;
 mod stack;
-mod step;
 
 pub use basis::joined;
+pub use element::Element;
 pub use error::StackError;
+pub use shared_step::SharedStep;
 pub use stack::Stack;

@@ -1,17 +1,18 @@
 //! Goal stacks.
-ghost use Rattle.std.specs.Prelude.{◌≡◌, [], IfOk, OnOk, OnErr, length};
+ghost use Rattle.std.specs.Prelude.{◌≡◌, ◌≢◌, ◌++◌, [], IfOk, OnOk, OnErr, drop, length};
 ghost use Rattle.std.specs.FinSet as set;
 ghost use Rattle.hol_kernel.specs.Extends.{Agree};
+ghost use Rattle.hol_kernel.specs.Items.{IsSubset};
 ghost use Rattle.hol_goal.specs.Achieves.{IsTyped};
-ghost use Rattle.hol_stack.specs.StackValue.{begun, followed, stepped};
+ghost use Rattle.hol_stack.specs.StackValue.{begun, followed, stepped, rotated, turned};
 ghost use Rattle.hol_stack.specs.Calls.{IsStep, Undoes, Rotates, Finishes};
 ghost use Rattle.hol_stack.specs.Sound.{Follows};
 
+use crate::element::{Change, Earlier, Element};
 use crate::error::StackError;
 use crate::finishing::theorem;
-use crate::step::{Change, Earlier, Step};
+use crate::shared_step::SharedStep;
 use hol_goal::Goal;
-use hol_just::Just;
 use hol_kernel::{Basis, Thm};
 use std::alloc::{AllocError, Global};
 use std::marker::Model;
@@ -21,7 +22,7 @@ use std::mem;
 #[derive(Drop)]
 pub struct Stack {
     goal: Goal,
-    newest: Step,
+    newest: Element,
     earlier: Vec<Earlier>,
 }
 
@@ -48,7 +49,7 @@ impl Stack {
         ensures { IfOk result (λ stack. stack ≡ begun goal basis) }
     {
         let first = goal.copy(alloc)?;
-        let newest = Step::first(alloc, first, basis)?;
+        let newest = Element::first(alloc, first, basis)?;
         Ok(Stack {
             goal,
             newest,
@@ -77,6 +78,13 @@ impl Stack {
         self.newest.basis()
     }
 
+    /// The newest element of the history.
+    pub fn newest(&self) -> &Element
+        ensures { result.now ≡ self.now.newest }
+    {
+        &self.newest
+    }
+
     /// How many elements of the history stand before the newest one.
     pub fn steps(&self) -> usize
         ensures { result ≡ length self.now.earlier }
@@ -84,22 +92,35 @@ impl Stack {
         self.earlier.len()
     }
 
-    /// The goals that were left of the first one stand in its place, in a new element of the history (tactics.ml, e). The basis is joined with what was
+    /// The goals that the step left of the first one stand in its place, in a new element of the history (tactics.ml, e). The basis is joined with what was
     /// resolved for that.
     pub fn apply(
         &mut self,
         alloc: Global,
-        left: Vec<Goal>,
-        just: Just,
+        step: &SharedStep,
         basis: &Basis,
     ) -> Result<(), AllocError>
         requires joins { Agree self.old.newest.basis basis.now }
-        requires step { IsStep (set.union self.old.newest.basis basis.now) just left.items self.old.newest.goals }
-        ensures ok { OnOk result (self.new ≡ stepped left.items basis.now self.old) }
+        requires step { IsStep (set.union self.old.newest.basis basis.now) step.now.moves step.now.goals self.old.newest.goals }
+        ensures ok { OnOk result (self.new ≡ stepped step.now.goals basis.now self.old) }
         ensures err { OnErr result (self.new ≡ self.old) }
     {
-        let next = self.newest.replaced(alloc, left, basis)?;
-        self.follow(Change::Left(just), next)
+        let next = self.newest.replaced(alloc, step.goals(), basis)?;
+        let own = step.copy()?;
+        self.follow(Change::Left(own), next)
+    }
+
+    /// The same by an element that is there already: no goal is copied and no basis is joined.
+    pub fn follow_with(&mut self, step: &SharedStep, next: &Element) -> Result<(), AllocError>
+        requires within { IsSubset self.old.newest.basis next.now.basis }
+        requires step { IsStep next.now.basis step.now.moves step.now.goals self.old.newest.goals }
+        requires goals { next.now.goals ≡ step.now.goals ++ drop 1 self.old.newest.goals }
+        ensures ok { OnOk result (self.new ≡ followed next.now self.old) }
+        ensures err { OnErr result (self.new ≡ self.old) }
+    {
+        let own = step.copy()?;
+        let element = next.copy()?;
+        self.follow(Change::Left(own), element)
     }
 
     /// The element before the newest one is the newest again (tactics.ml, b).
@@ -130,6 +151,20 @@ impl Stack {
         Ok(self.follow(Change::Turned(by), next)?)
     }
 
+    /// The same by an element that is there already.
+    #[tactic(auto, using(crate::proofs::Elements::some_open))]
+    pub fn rotate_with(&mut self, times: usize, next: &Element) -> Result<(), AllocError>
+        requires open { self.old.newest.goals ≢ [] }
+        requires turned { next.now ≡ record { goals = turned times self.old.newest.goals; basis = self.old.newest.basis } }
+        ensures ok { OnOk result (self.new ≡ rotated times self.old) }
+        ensures err { OnErr result (self.new ≡ self.old) }
+    {
+        let open = self.goals().len();
+        let by = times % open;
+        let element = next.copy()?;
+        self.follow(Change::Turned(by), element)
+    }
+
     /// The theorem of the goal that it was set to, on the newest element's basis (tactics.ml, top_thm).
     ///
     /// Refused by [`StackError::GoalsRemain`] where a goal is open.
@@ -147,7 +182,7 @@ impl Stack {
         ensures { IfOk result (λ stack. stack ≡ self.now) }
     {
         let goal = self.goal.copy(alloc)?;
-        let newest = self.newest.copy(alloc)?;
+        let newest = self.newest.copy()?;
         let earlier = copies(alloc, self.earlier.as_slice())?;
         Ok(Stack {
             goal,
@@ -157,7 +192,7 @@ impl Stack {
     }
 
     // A new element of the history, made of the newest one.
-    fn follow(&mut self, change: Change, next: Step) -> Result<(), AllocError>
+    fn follow(&mut self, change: Change, next: Element) -> Result<(), AllocError>
         requires { Follows self.old.newest change next }
         ensures ok { OnOk result (self.new ≡ followed next self.old) }
         ensures err { OnErr result (self.new ≡ self.old) }
@@ -175,7 +210,7 @@ fn copies(alloc: Global, earlier: &[Earlier]) -> Result<Vec<Earlier>, AllocError
 {
     let mut copied = Vec::with_capacity(alloc, earlier.len())?;
     for one in earlier {
-        copied.push(one.copy(alloc)?)?;
+        copied.push(one.copy()?)?;
     }
     Ok(copied)
 }

@@ -1,6 +1,7 @@
 -- How the logic stores keys and entries.
 use Rattle.std.specs.Prelude.{◌≡◌, ◌⊎◌, ◌==◌, ℕ, List, if◌then◌else◌, refl}
 use Rattle.std.proofs.Common.{inl, inr}
+use base.Stored.{Gv}
 use Rattle.std.specs.Coded.{Coded, code_by, coded×, coded⊎, coded_ℕ, coded_list}
 use Rattle.hol_types.specs.Tree.{TypeTree}
 use Rattle.hol_types.specs.Code.{coded_name, coded_type}
@@ -57,3 +58,7 @@ coded_entry =
 
 abbrev pub coded_entries : Coded Entries
 coded_entries = coded_list (coded× coded_key coded_entry)
+
+-- what a value's mark says
+abbrev pub entry_code : EntryValue → Gv
+entry_code = coded_entry.code

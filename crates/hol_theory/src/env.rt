@@ -91,9 +91,9 @@ impl Env {
         ensures { Adds key.now value.now self.old self.new result }
     {
         if self.entries.contains_key(key) {
-            return Err(EnvError::Taken(key.copy(self.alloc)?));
+            return Err(EnvError::Taken(key.copy()?));
         }
-        let (key, value) = entry_copy(self.alloc, key, value)?;
+        let (key, value) = entry_copy(key, value)?;
         self.entries.insert(key, value)?;
         Ok(())
     }
@@ -117,7 +117,7 @@ impl Env {
     {
         other.promise();
         if let Some(key) = self.first_clash(other) {
-            return Err(EnvError::ImportClash(key.copy(self.alloc)?));
+            return Err(EnvError::ImportClash(key.copy()?));
         }
         let more = self.missing(other)?;
         insert_each(&mut self.entries, more)?;
@@ -153,7 +153,7 @@ impl Env {
         let mut more = Vec::new(self.alloc);
         for (key, value) in other.entries.iter() {
             if self.get(key).is_none() {
-                more.push(entry_copy(self.alloc, key, value)?)?;
+                more.push(entry_copy(key, value)?)?;
             }
         }
         Ok(more)
@@ -161,10 +161,10 @@ impl Env {
 }
 
 // A copy of a key and a value.
-fn entry_copy(alloc: Global, key: &Key, value: &Value) -> Result<(Key, Value), AllocError>
+fn entry_copy(key: &Key, value: &Value) -> Result<(Key, Value), AllocError>
     ensures { IfOk result (λ entry. entry ≡ (key.now, value.now)) }
 {
-    Ok((key.copy(alloc)?, value.copy()?))
+    Ok((key.copy()?, value.copy()?))
 }
 
 // Copies of entries.
@@ -173,7 +173,7 @@ fn copies(alloc: Global, entries: &[(Key, Value)]) -> Result<Vec<(Key, Value)>, 
 {
     let mut copied = Vec::with_capacity(alloc, entries.len())?;
     for entry in entries {
-        copied.push(entry_copy(alloc, &entry.0, &entry.1)?)?;
+        copied.push(entry_copy(&entry.0, &entry.1)?)?;
     }
     Ok(copied)
 }

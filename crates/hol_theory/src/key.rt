@@ -1,7 +1,9 @@
 //! Keys of entries.
 ghost use Rattle.std.specs.Prelude.{◌≡◌, IfOk, string_bytes};
+ghost use Rattle.hol_types.specs.Filter.{name_bit};
 ghost use Rattle.hol_theory.specs.Key.{KeyValue, kind_rank, kind_prefix, key_eq, key_text};
 
+use hol_types::{Name, NameFilter};
 use std::alloc::{AllocError, Global};
 use std::hash::{Hash, Hasher};
 use std::marker::Model;
@@ -39,15 +41,14 @@ impl Kind {
     }
 }
 
-/// A key of entries: a kind and a name.
+/// A key of entries: a kind and a name. Its copies share the name.
 #[derive(Drop)]
 pub struct Key {
     kind: Kind,
-    name: String,
+    name: Name,
 }
 
 impl Model for Key {
-    ghost use Rattle.std.specs.Prelude.{string_bytes};
     ghost use Rattle.hol_theory.specs.Key.{KeyValue};
     ghost use Rattle.hol_theory.specs.Codes.{coded_key};
 
@@ -55,7 +56,7 @@ impl Model for Key {
 
     ghost coded = { coded_key };
 
-    ghost view = { λ k. record { kind = k.kind; name = string_bytes k.name } };
+    ghost view = { λ k. record { kind = k.kind; name = k.name } };
 }
 
 impl Key {
@@ -63,7 +64,7 @@ impl Key {
     pub fn new(alloc: Global, kind: Kind, name: &str) -> Result<Key, AllocError>
         ensures { IfOk result (λ key. key ≡ record { kind = kind; name = name.now }) }
     {
-        let name = String::from_str(alloc, name)?;
+        let name = Name::new(alloc, name)?;
         Ok(Key { kind, name })
     }
 
@@ -90,13 +91,21 @@ impl Key {
         Ok(text)
     }
 
-    /// An equal key.
-    pub fn copy(&self, alloc: Global) -> Result<Key, AllocError>
+    /// A filter that has its name.
+    pub fn filter(&self) -> NameFilter
+        ensures { result.bits ≡ name_bit self.now.name }
+    {
+        NameFilter::of_name(&self.name)
+    }
+
+    /// The same key, sharing its name.
+    /// An error says that no count is left for one more copy.
+    pub fn copy(&self) -> Result<Key, AllocError>
         ensures { IfOk result (λ key. key ≡ self.now) }
     {
         Ok(Key {
             kind: self.kind,
-            name: String::from_str(alloc, self.name.as_str())?,
+            name: self.name.copy()?,
         })
     }
 }

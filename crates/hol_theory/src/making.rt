@@ -82,7 +82,7 @@ fn add_types(
 {
     for (name, arity) in item.types(alloc)? {
         let key = Key::new(alloc, Kind::Type, name.as_str())?;
-        let value = Value::type_constructor(arity, item.copy()?, basis.copy()?);
+        let value = Value::type_constructor(alloc, arity, item.copy()?, basis.copy()?)?;
         entries.push((key, value))?;
     }
     Ok(())
@@ -99,7 +99,7 @@ fn add_constants(
 {
     for (name, ty) in item.constants(alloc)? {
         let key = Key::new(alloc, Kind::Constant, name.as_str())?;
-        let value = Value::constant(ty, item.copy()?, basis.copy()?);
+        let value = Value::constant(alloc, ty, item.copy()?, basis.copy()?)?;
         entries.push((key, value))?;
     }
     Ok(())
@@ -119,7 +119,8 @@ pub fn new_type(
     let larger = basis.declare_type(alloc, name, arity)?;
     let item = own_item(&larger, ItemKind::Type, name)?;
     let key = Key::new(alloc, Kind::Type, name.as_str())?;
-    Ok((key, Value::type_constructor(arity as usize, item, larger)))
+    let value = Value::type_constructor(alloc, arity as usize, item, larger)?;
+    Ok((key, value))
 }
 
 /// The entry of a constant of this generic type, declared over the basis (fusion.ml, new_constant).
@@ -136,7 +137,8 @@ pub fn new_constant(
     let larger = basis.declare_const(alloc, name, ty)?;
     let item = own_item(&larger, ItemKind::Constant, name)?;
     let key = Key::new(alloc, Kind::Constant, name.as_str())?;
-    Ok((key, Value::constant(ty.copy()?, item, larger)))
+    let value = Value::constant(alloc, ty.copy()?, item, larger)?;
+    Ok((key, value))
 }
 
 /// The entry of an axiom, declared over the basis (fusion.ml, new_axiom).
@@ -153,7 +155,8 @@ pub fn new_axiom(
     let larger = basis.declare_axiom(alloc, name, p)?;
     let theorem = Thm::axiom_of(alloc, &larger, name)?;
     let key = Key::new(alloc, Kind::Theorem, name.as_str())?;
-    Ok((key, Value::theorem(theorem)))
+    let value = Value::theorem(alloc, theorem)?;
+    Ok((key, value))
 }
 
 /// The entry of a constant that is defined over the basis as the term `right`, and its definition `|- name = right` (fusion.ml,
@@ -238,6 +241,7 @@ fn with_theorem(
     ensures { IfOk result (λ more. more.items ≡ entries.items ++ (theorem_key name.now, ATheorem theorem) ∷ []) }
 {
     let key = Key::new(alloc, Kind::Theorem, name)?;
-    entries.push((key, Value::theorem(theorem)))?;
+    let value = Value::theorem(alloc, theorem)?;
+    entries.push((key, value))?;
     Ok(entries)
 }

@@ -11,6 +11,13 @@ impl Value {
     pub fn same(&self, other: &Value) -> bool
         ensures { IsTrue result ↔ (self.now ≡ other.now) }
     {
+        self.same_node(other) || self.has_same_parts(other)
+    }
+
+    // Whether the parts are the same, one by one.
+    fn has_same_parts(&self, other: &Value) -> bool
+        ensures { IsTrue result ↔ (self.now ≡ other.now) }
+    {
         match (self.node(), other.node()) {
             (
                 ValueNode::Type { arity, item, basis },

@@ -1,17 +1,26 @@
 //! What stands under keys.
-ghost use Rattle.std.specs.Prelude.{◌≡◌, IfOk};
+ghost use Rattle.std.specs.Prelude.{◌≡◌, IsTrue, IfOk};
 ghost use Rattle.hol_theory.specs.Entry.{AType, AConstant, ATheorem};
 ghost use Rattle.hol_theory.specs.EntryView.{entry_of_node};
 
 use hol_kernel::{Basis, Item, Thm};
+use hol_mark::Mark;
 use hol_types::Ty;
-use std::alloc::AllocError;
+use std::alloc::{AllocError, Global};
 use std::marker::Model;
+use std::rc::Rc;
 
-/// What stands under a key: a type constructor, a constant or a theorem.
+/// What stands under a key: a type constructor, a constant or a theorem. Its copies share it.
 #[derive(Drop)]
 pub struct Value {
+    shared: Rc<ValueShared>,
+}
+
+// What the copies of a value share: what it is, and the mark by which two copies are known to be of one value.
+#[derive(Drop)]
+struct ValueShared {
     node: ValueNode,
+    mark: Mark,
 }
 
 /// The kinds of what stands.
@@ -42,64 +51,76 @@ pub enum ValueNode {
 impl Model for Value {
     ghost use Rattle.hol_theory.specs.Entry.{EntryValue};
     ghost use Rattle.hol_theory.specs.EntryView.{entry_of_node};
-    ghost use Rattle.hol_theory.specs.Codes.{coded_entry};
+    ghost use Rattle.std.specs.Prelude.{◌≡◌};
+    ghost use Rattle.hol_theory.specs.Codes.{coded_entry, entry_code};
 
     ghost Value = { EntryValue };
 
     ghost coded = { coded_entry };
 
-    ghost view = { λ v. entry_of_node v.node };
+    ghost view = { λ v. entry_of_node v.shared.value.node };
+
+    ghost invariant = { λ v. v.shared.value.mark ≡ entry_code (entry_of_node v.shared.value.node) };
 }
 
 impl Value {
-    /// A type constructor that the item makes, over a basis.
-    pub fn type_constructor(arity: usize, item: Item, basis: Basis) -> Value
-        ensures { result ≡ AType arity item basis }
+    // The value that this is.
+    fn made(alloc: Global, node: ValueNode) -> Result<Value, AllocError>
+        ensures { IfOk result (λ v. v ≡ entry_of_node node) }
     {
-        Value {
-            node: ValueNode::Type { arity, item, basis },
-        }
+        let mark = Mark::about(&node);
+        Ok(Value {
+            shared: Rc::new(alloc, ValueShared { node, mark })?,
+        })
+    }
+
+    /// A type constructor that the item makes, over a basis.
+    pub fn type_constructor(
+        alloc: Global,
+        arity: usize,
+        item: Item,
+        basis: Basis,
+    ) -> Result<Value, AllocError>
+        ensures { IfOk result (λ v. v ≡ AType arity item basis) }
+    {
+        Value::made(alloc, ValueNode::Type { arity, item, basis })
     }
 
     /// A constant of this generic type that the item makes, over a basis.
-    pub fn constant(ty: Ty, item: Item, basis: Basis) -> Value
-        ensures { result ≡ AConstant ty item basis }
+    pub fn constant(alloc: Global, ty: Ty, item: Item, basis: Basis) -> Result<Value, AllocError>
+        ensures { IfOk result (λ v. v ≡ AConstant ty item basis) }
     {
-        Value {
-            node: ValueNode::Constant { ty, item, basis },
-        }
+        Value::made(alloc, ValueNode::Constant { ty, item, basis })
     }
 
     /// A theorem.
-    pub fn theorem(theorem: Thm) -> Value
-        ensures { result ≡ ATheorem theorem }
+    pub fn theorem(alloc: Global, theorem: Thm) -> Result<Value, AllocError>
+        ensures { IfOk result (λ v. v ≡ ATheorem theorem) }
     {
-        Value {
-            node: ValueNode::Theorem(theorem),
-        }
+        Value::made(alloc, ValueNode::Theorem(theorem))
     }
 
     /// What it is.
     pub fn node(&self) -> &ValueNode
         ensures { entry_of_node result.now ≡ self.now }
     {
-        &self.node
+        &self.shared.node
     }
 
-    /// An equal value.
+    /// Whether both have one node. Where they don't, they may still be the same.
+    pub(crate) fn same_node(&self, other: &Value) -> bool
+        ensures { IsTrue result → self.now ≡ other.now }
+    {
+        self.shared.mark.same(&other.shared.mark)
+    }
+
+    /// The same value.
+    /// An error says that no count is left for one more copy.
     pub fn copy(&self) -> Result<Value, AllocError>
         ensures { IfOk result (λ v. v ≡ self.now) }
     {
-        match &self.node {
-            ValueNode::Type { arity, item, basis } => {
-                let (item, basis) = (item.copy()?, basis.copy()?);
-                Ok(Value::type_constructor(*arity, item, basis))
-            }
-            ValueNode::Constant { ty, item, basis } => {
-                let (ty, item, basis) = (ty.copy()?, item.copy()?, basis.copy()?);
-                Ok(Value::constant(ty, item, basis))
-            }
-            ValueNode::Theorem(theorem) => Ok(Value::theorem(theorem.copy()?)),
-        }
+        Ok(Value {
+            shared: self.shared.clone()?,
+        })
     }
 }

@@ -285,7 +285,8 @@ fn defined(
             let theorem = for_all(alloc, definition_theorem, definition.parameters.len())?;
             theorem.promise();
             let key = Key::new(alloc, Kind::Theorem, name)?;
-            entries.push((key, Value::theorem(theorem)))?;
+            let value = Value::theorem(alloc, theorem)?;
+            entries.push((key, value))?;
             Ok(Outcome::makes(entries))
         }
         Err(error) => Err(memory_alone(error)),

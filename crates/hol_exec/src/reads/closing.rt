@@ -1,5 +1,5 @@
 //! What the end of a proof reads of it.
-ghost use Rattle.std.specs.Prelude.{◌≡◌, [], IfOk, Some};
+ghost use Rattle.std.specs.Prelude.{◌≡◌, ◌↔◌, [], IsTrue, IfOk, Some};
 ghost use Rattle.hol_terms.specs.Nameless.{nameless};
 ghost use Rattle.hol_kernel.specs.Sequent.{no_hyps};
 ghost use Rattle.hol_kernel.specs.Theorem.{theorem_over};
@@ -51,6 +51,17 @@ impl Closing {
             name: String::from_str(alloc, proof.name())?,
             stack: proof.stack().copy(alloc)?,
         })
+    }
+
+    /// Whether it is what the end of the proof reads of it. It takes no memory.
+    pub(crate) fn is_of(&self, proof: &Proof) -> bool
+        ensures { IsTrue result ↔ (closing_of (Some proof.now) ≡ Some self.now) }
+    {
+        let stack = proof.stack();
+        self.name.as_str() == proof.name()
+            && self.statement().same(stack.goal().conclusion())
+            && same_basis(self.basis(), stack.basis())
+            && self.open_goals() == stack.goals().len()
     }
 
     /// The theorem's name.

@@ -1,7 +1,8 @@
 //! The report on a command.
-ghost use Rattle.std.specs.Prelude.{◌≡◌, ◌++◌, IfOk, map, string_bytes};
-ghost use Rattle.hol_exec.specs.ReportOf.{report_of, entry_text, shown_goal};
+ghost use Rattle.std.specs.Prelude.{◌≡◌, ◌++◌, IfOk, map, string_bytes, Option};
+ghost use Rattle.hol_exec.specs.ReportOf.{report_of, report_with, entry_text, shown_goal};
 ghost use Rattle.hol_exec.specs.ReportView.{report_value};
+ghost use Rattle.hol_exec.specs.StateValue.{ProofValue, open_goals, newest_of};
 ghost use Rattle.hol_print.specs.ShowGoal.{goal_text};
 
 use crate::reports::report::Report;
@@ -9,6 +10,7 @@ use crate::running::{Change, Outcome};
 use crate::state::State;
 use hol_goal::Goal;
 use hol_print::{ShownGoal, show_goal, show_term, show_type};
+use hol_stack::Element;
 use hol_theory::{Key, Value, ValueNode};
 use std::alloc::{AllocError, Global};
 
@@ -16,15 +18,33 @@ use std::alloc::{AllocError, Global};
 pub fn report_of(alloc: Global, outcome: &Outcome, state: &State) -> Result<Report, AllocError>
     ensures { IfOk result (λ report. report_value report ≡ report_of outcome.now state.now) }
 {
+    report_with(alloc, outcome, state.goals())
+}
+
+/// The report on an outcome, after which these goals are open.
+pub fn report_with(alloc: Global, outcome: &Outcome, goals: &[Goal]) -> Result<Report, AllocError>
+    ensures { IfOk result (λ report. report_value report ≡ report_with outcome.now goals.now) }
+{
     match outcome.change() {
         Change::Opens(_, _, _) | Change::Leaves(_, _, _) | Change::Undoes | Change::Rotates(_) => {
-            Ok(Report::Goals(shown_goals(alloc, state.goals())?))
+            Ok(Report::Goals(shown_goals(alloc, goals)?))
         }
         Change::Makes(entries) => Ok(Report::Made(entry_texts(alloc, entries)?)),
         Change::Refuses(no, arg) => Ok(Report::Refusal {
             no: *no,
             arg: String::from_str(alloc, arg.as_str())?,
         }),
+    }
+}
+
+/// The goals of an element of a proof's history, or none.
+#[tactic(auto, using(crate::proofs::Histories::goals_of_newest, crate::proofs::Histories::goals_of_none))]
+pub fn goals_of(element: &Option<Element>) -> &[Goal]
+    ensures { (proof : Option ProofValue) → element.now ≡ newest_of proof → result.now ≡ open_goals proof }
+{
+    match element {
+        Some(element) => element.goals(),
+        None => &[],
     }
 }
 

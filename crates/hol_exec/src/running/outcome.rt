@@ -1,11 +1,13 @@
 //! What a command does to a state.
-ghost use Rattle.std.specs.Prelude.{◌≡◌, ◌↔◌, IsTrue, IfOk, string_bytes, []};
+ghost use Rattle.std.specs.Prelude.{◌≡◌, ◌↔◌, true, IsTrue, IfOk, string_bytes, []};
 ghost use Rattle.hol_terms.specs.Nameless.{nameless};
 ghost use Rattle.std.specs.List.{IsDistinct};
 ghost use Rattle.std.specs.Map.{keys_of};
 ghost use Rattle.hol_theory.specs.Key.{key_eq};
 ghost use Rattle.hol_theory.specs.Entry.{EachIsEntry};
-ghost use Rattle.hol_exec.specs.OutcomeValue.{OutcomeValue, Opens, Leaves, Undoes, Rotates, Makes, Refuses, MakesTheorems};
+ghost use Rattle.hol_exec.specs.OutcomeValue.{OutcomeValue, Opens, Leaves, Undoes, Rotates, Makes, Refuses, MakesTheorems, after};
+ghost use Rattle.hol_exec.specs.StateValue.{StateValue};
+ghost use Rattle.hol_exec.specs.Changes.{keys_made};
 ghost use Rattle.hol_exec.specs.OutcomeView.{outcome_of};
 ghost use Rattle.hol_exec.specs.Valid.{IsStatement, IsLeft, IsValidChange};
 
@@ -13,10 +15,10 @@ use crate::reads::{Same, same_each};
 use crate::reports::RefusalKind;
 use crate::state::copies;
 use hol_goal::Goal;
-use hol_just::Step;
 use hol_kernel::Basis;
+use hol_stack::SharedStep;
 use hol_terms::Term;
-use hol_theory::{Entries, same_basis};
+use hol_theory::{Entries, Key, Value, same_basis};
 use std::alloc::{AllocError, Global};
 use std::marker::Model;
 
@@ -32,7 +34,7 @@ pub(crate) enum Change {
     /// Opens a proof of this name and statement, on this basis.
     Opens(String, Term, Basis),
     /// The first goal, which is this one, gives way to those that the step left; the basis is that of all that was resolved.
-    Leaves(Goal, Step, Basis),
+    Leaves(Goal, SharedStep, Basis),
     /// Drops the newest element of the proof's history.
     Undoes,
     /// Puts the first goal last, so many times.
@@ -70,9 +72,9 @@ impl Outcome {
     }
 
     /// The step that leaves these goals of the first one; the basis is that of all that was resolved.
-    pub(crate) fn leaves(goal: Goal, step: Step, basis: Basis) -> Outcome
-        requires { IsLeft basis step.just goal step.goals.items }
-        ensures { result ≡ Leaves goal step.goals.items basis }
+    pub(crate) fn leaves(goal: Goal, step: SharedStep, basis: Basis) -> Outcome
+        requires { IsLeft basis step.moves goal step.goals }
+        ensures { result ≡ Leaves goal step.goals basis }
     {
         Outcome {
             change: Change::Leaves(goal, step, basis),
@@ -125,6 +127,35 @@ impl Outcome {
         &self.change
     }
 
+    /// Whether it makes no entries.
+    pub fn makes_nothing(&self) -> bool
+        ensures { IsTrue result ↔ (keys_made self.now ≡ []) }
+    {
+        match self.change() {
+            Change::Makes(entries) => are_none(entries),
+            Change::Opens(_, _, _)
+            | Change::Leaves(_, _, _)
+            | Change::Undoes
+            | Change::Rotates(_)
+            | Change::Refuses(_, _) => true,
+        }
+    }
+
+    /// Whether it is a refusal, after which every state is as it was.
+    #[tactic(auto, using(crate::proofs::Histories::refused_stays))]
+    pub fn is_refusal(&self) -> bool
+        ensures { result ≡ true → (s : StateValue) → after s self.now ≡ s }
+    {
+        match self.change() {
+            Change::Refuses(_, _) => true,
+            Change::Opens(_, _, _)
+            | Change::Leaves(_, _, _)
+            | Change::Undoes
+            | Change::Rotates(_)
+            | Change::Makes(_) => false,
+        }
+    }
+
     /// What it makes are entries: theorems without hypotheses that have derivations over their bases, which are legal, and types and constants that items of their
     /// bases make.
     #[tactic(auto, using(crate::proofs::Outcomes::makes_theorems))]
@@ -152,7 +183,7 @@ impl Outcome {
                     return false;
                 };
                 goal.same_as(goal2)
-                    && same_each(&step.goals, &step2.goals)
+                    && same_each(step.goals(), step2.goals())
                     && same_basis(basis, basis2)
             }
             Change::Undoes => matches!(other.change(), Change::Undoes),
@@ -193,6 +224,13 @@ impl Outcome {
     }
 }
 
+// Whether these are no entries.
+fn are_none(entries: &[(Key, Value)]) -> bool
+    ensures { IsTrue result ↔ (keys_of entries.now ≡ []) }
+{
+    matches!(entries, [])
+}
+
 fn opening_copy(
     alloc: Global,
     name: &str,
@@ -210,13 +248,13 @@ fn opening_copy(
 fn leaving_copy(
     alloc: Global,
     goal: &Goal,
-    step: &Step,
+    step: &SharedStep,
     basis: &Basis,
 ) -> Result<Outcome, AllocError>
-    requires { IsLeft basis.now step.now.just goal.now step.now.goals.items }
-    ensures { IfOk result (λ o. o ≡ Leaves goal.now step.now.goals.items basis.now) }
+    requires { IsLeft basis.now step.now.moves goal.now step.now.goals }
+    ensures { IfOk result (λ o. o ≡ Leaves goal.now step.now.goals basis.now) }
 {
     let goal = goal.copy(alloc)?;
-    let step = step.copy(alloc)?;
+    let step = step.copy()?;
     Ok(Outcome::leaves(goal, step, basis.copy()?))
 }

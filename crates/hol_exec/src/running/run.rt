@@ -1,38 +1,61 @@
 //! The outcome of a command from what it reads.
-ghost use Rattle.std.specs.Prelude.{◌≡◌, IfOk, [], ◌∷◌, true};
+ghost use Rattle.std.specs.Prelude.{◌≡◌, ◌≤◌, ◌+◌, ◌-◌, ◌^◌, min, IfOk, [], ◌∷◌, true};
 ghost use Rattle.hol_terms.specs.Nameless.{nameless};
 ghost use Rattle.hol_resolve.specs.Reading.{ReadsAs, IsTermReadAs};
 ghost use Rattle.hol_resolve.specs.Readings.{ATerm};
 ghost use Rattle.hol_notation_terms.specs.Text.{TermText};
 ghost use Rattle.hol_notation_commands.specs.CommandView.{local_text};
 ghost use Rattle.hol_exec.specs.ReadsValue.{AreKeyed};
+ghost use Rattle.hol_exec.specs.MeterView.{setup_of, ran_of};
 ghost use Rattle.hol_exec.specs.SetupView.{setup_value};
 ghost use Rattle.hol_exec.specs.Local.{IsLocalOutcome, IsOpening, IsApplying, opens, opens_term, applied, finishes, finished};
 ghost use Rattle.hol_exec.specs.Signature.{signature_of};
 ghost use Rattle.hol_exec.specs.Resolved.{resolved_basis};
 ghost use Rattle.hol_exec.specs.Standing.{first_taken};
-ghost use Rattle.hol_exec.specs.Valid.{IsStatement, IsRunnableExpr};
+ghost use Rattle.hol_exec.specs.OutcomeValue.{Leaves};
+ghost use Rattle.hol_exec.specs.Valid.{IsStatement, IsLeft, IsRunnableExpr};
 
 use crate::declaring::making;
 use crate::reading::{is_statement, of_quotation, read_cited};
 use crate::reads::{Closing, Reads};
 use crate::reports::RefusalKind;
 use crate::resolving::{Resolution, resolve, resolved_basis};
+use crate::running::meter::Meter;
 use crate::running::outcome::Outcome;
 use crate::running::refused::{name_taken, refused, refused_at, refused_name};
 use crate::running::setup::Setup;
 use hol_combine::{Expr, Refusal, RunError, run};
+use hol_goal::Goal;
+use hol_just::Step;
 use hol_kernel::Basis;
 use hol_notation_commands::LocalCommand;
 use hol_notation_tactics::TacExpr;
 use hol_notation_terms::Quotation;
 use hol_resolve::{Quoted, Reading};
+use hol_stack::SharedStep;
 use hol_terms::Term;
 use hol_theory::{Key, Kind, Value};
 use std::alloc::{AllocError, Global};
 
-/// The outcome of a command, from what it reads of a state: it is determined by the set-up, the command and this.
+/// The outcome of a command, from what it reads of a state: it is determined by the set-up, the command and this. It counts one.
 pub fn run_local(
+    alloc: Global,
+    meter: &mut Meter,
+    command: &LocalCommand,
+    reads: &Reads,
+) -> Result<Outcome, AllocError>
+    requires { AreKeyed (local_text command.now) reads.now }
+    ensures outcome { IfOk result (λ outcome. IsLocalOutcome (setup_of meter.old) (local_text command.now) reads.now outcome) }
+    ensures setup { setup_of meter.new ≡ setup_of meter.old }
+    ensures ran { ran_of meter.new ≡ min (ran_of meter.old + 1) (2 ^ 64 - 1) }
+    ensures rises { ran_of meter.old ≤ ran_of meter.new }
+{
+    meter.count();
+    outcome_from(alloc, meter.setup(), command, reads)
+}
+
+/// The same, where no count is kept.
+pub fn outcome_from(
     alloc: Global,
     setup: &Setup,
     command: &LocalCommand,
@@ -143,7 +166,7 @@ fn applied(
         return Ok(refused(alloc, RefusalKind::NoGoalOpen));
     };
     match run(alloc, expr, goal, setup.registry(), setup.turns()) {
-        Ok(ran) => Ok(Outcome::leaves(goal.copy(alloc)?, ran.step, basis)),
+        Ok(ran) => left(alloc, goal, ran.step, basis),
         Err(RunError::Refused(Refusal::DoesNotFit(name), _)) => {
             Ok(Outcome::refuses(RefusalKind::Refused, name))
         }
@@ -154,6 +177,16 @@ fn applied(
         Err(RunError::LargeGoal) => Ok(refused(alloc, RefusalKind::TooLarge)),
         Err(RunError::Memory) => Err(AllocError),
     }
+}
+
+// What a step left of the goal.
+fn left(alloc: Global, goal: &Goal, step: Step, basis: Basis) -> Result<Outcome, AllocError>
+    requires { IsLeft basis step.just goal.now step.goals.items }
+    ensures { IfOk result (λ outcome. outcome ≡ Leaves goal.now step.goals.items basis) }
+{
+    let goal = goal.copy(alloc)?;
+    let step = SharedStep::new(alloc, step)?;
+    Ok(Outcome::leaves(goal, step, basis))
 }
 
 // `qed`: no proof open; goals remain.
@@ -177,6 +210,7 @@ fn finished(alloc: Global, closing: &Closing) -> Result<Outcome, AllocError>
     theorem.promise();
     let key = Key::new(alloc, Kind::Theorem, closing.name())?;
     let mut entries = Vec::new(alloc);
-    entries.push((key, Value::theorem(theorem)))?;
+    let value = Value::theorem(alloc, theorem)?;
+    entries.push((key, value))?;
     Ok(Outcome::makes(entries))
 }

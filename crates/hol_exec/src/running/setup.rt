@@ -5,6 +5,7 @@ ghost use Rattle.hol_types.specs.Code.{coded_name, coded_type};
 ghost use Rattle.hol_formulas.specs.Constants.{prelude_types, prelude_constants};
 
 use crate::running::registered::RegisteredTac;
+use crate::running::setup_table::SetupTable;
 use hol_kernel::{Thm, prelude_constants, prelude_types};
 use hol_prelude::Prelude;
 use hol_registry::Registry;
@@ -81,6 +82,13 @@ impl Setup {
         let index = self.registry.find(name)?;
         let code = self.registry.code(index);
         Some(RegisteredTac { index, code })
+    }
+
+    /// The same as plain data.
+    pub(crate) fn table(&self, alloc: Global) -> Result<SetupTable, AllocError>
+        ensures { IfOk result (λ table. table ≡ setup_value self.now) }
+    {
+        Ok(SetupTable::new(self.registry.rows(alloc)?, self.turns))
     }
 
     /// The registered functions.

@@ -7,9 +7,8 @@ ghost use Rattle.hol_exec.specs.OutcomeValue.{opened, stepped, without_newest, r
 ghost use Rattle.hol_exec.specs.Valid.{IsStatement, CanStep};
 
 use hol_goal::Goal;
-use hol_just::Step;
 use hol_kernel::Basis;
-use hol_stack::{Stack, StackError};
+use hol_stack::{Element, SharedStep, Stack, StackError};
 use hol_terms::Term;
 use std::alloc::{AllocError, Global};
 use std::marker::Model;
@@ -74,19 +73,40 @@ impl Proof {
     }
 
     /// The goals that the step left stand in the place of the first goal, in a new element of the history; the basis is joined with what was resolved.
-    #[tactic(auto, using(crate::proofs::Steps::same_step))]
     pub(crate) fn step(
         &mut self,
         alloc: Global,
-        step: &Step,
+        step: &SharedStep,
         basis: &Basis,
     ) -> Result<(), AllocError>
-        requires { CanStep basis.now step.now.just step.now.goals.items self.old }
-        ensures ok { OnOk result (self.new ≡ stepped step.now.goals.items basis.now self.old) }
+        requires { CanStep basis.now step.now.moves step.now.goals self.old }
+        ensures ok { OnOk result (self.new ≡ stepped step.now.goals basis.now self.old) }
         ensures err { OnErr result (self.new ≡ self.old) }
     {
-        let Step { goals, just } = step.copy(alloc)?;
-        self.stack.apply(alloc, goals, just, basis)
+        self.stack.apply(alloc, step, basis)
+    }
+
+    /// The same by an element that is there already.
+    pub(crate) fn step_with(
+        &mut self,
+        step: &SharedStep,
+        basis: &Basis,
+        next: &Element,
+    ) -> Result<(), AllocError>
+        requires step { CanStep basis.now step.now.moves step.now.goals self.old }
+        requires next { next.now ≡ (stepped step.now.goals basis.now self.old).newest }
+        ensures ok { OnOk result (self.new ≡ stepped step.now.goals basis.now self.old) }
+        ensures err { OnErr result (self.new ≡ self.old) }
+    {
+        let _ = basis;
+        self.stack.follow_with(step, next)
+    }
+
+    /// The newest element of the history.
+    pub(crate) fn newest(&self) -> &Element
+        ensures { result.now ≡ self.now.newest }
+    {
+        self.stack.newest()
     }
 
     /// How many elements of the history stand before the newest one.
@@ -116,6 +136,16 @@ impl Proof {
             Err(StackError::NothingToUndo) => unreachable!(),
             Err(StackError::GoalsRemain) => unreachable!(),
         }
+    }
+
+    /// The same by an element that is there already.
+    pub(crate) fn rotate_with(&mut self, times: usize, next: &Element) -> Result<(), AllocError>
+        requires open { self.old.newest.goals ≢ [] }
+        requires next { next.now ≡ (rotated times self.old).newest }
+        ensures ok { OnOk result (self.new ≡ rotated times self.old) }
+        ensures err { OnErr result (self.new ≡ self.old) }
+    {
+        self.stack.rotate_with(times, next)
     }
 }
 

@@ -11,4 +11,4 @@ returns-in_err-theorem c =
     rw (p.1, p.2) (axiom_fails c.args.basis.now c.in_ok-larger.larger c.args.name.now (nameless [] c.args.p.now) (IsNewAxiom c.args.basis.now c.args.name.now (nameless [] c.args.p.now)) _ c.in_ok-larger.ensures.made c.in_err-theorem.ensures)
 
 pub returns : goal.returns
-returns c = axiom_made c.args.basis.now c.in_ok-larger.larger c.args.name.now c.as_str.result.now (nameless [] c.args.p.now) c.in_ok-theorem.theorem c.in_ok-key.key c.theorem-2.result c.in_ok-larger.ensures.made c.in_ok-theorem.ensures c.in_ok-key.ensures c.as_str.ensures c.theorem-2.ensures
+returns c = axiom_made c.args.basis.now c.in_ok-larger.larger c.args.name.now c.as_str.result.now (nameless [] c.args.p.now) c.in_ok-theorem.theorem c.in_ok-key.key c.in_ok-value.value c.in_ok-larger.ensures.made c.in_ok-theorem.ensures c.in_ok-key.ensures c.as_str.ensures c.in_ok-value.ensures

@@ -1,5 +1,5 @@
 use Rattle.std.specs.Prelude.{◌++◌, drop}
-use Rattle.std.proofs.Common.{ap, sym, ◌∙◌, subst}
+use Rattle.std.proofs.Common.{sym, ◌∙◌, subst}
 use Rattle.std.specs.FinSet as set
 use Rattle.hol_kernel.specs.Extends.{Agree}
 use Rattle.hol_stack.specs.StackValue.{StackValue}
@@ -11,5 +11,5 @@ replaced-requires c = subst (λ (s : StackValue). Agree s.newest.basis c.args.ba
 
 pub follow-requires : goal.follow-requires
 follow-requires c =
-    step_follows c.args.self.now.newest c.in_ok-next.next c.args.left.items c.args.basis.now c.args.just c.requires.step
-    (c.in_ok-next.ensures ∙ ap (λ (s : StackValue). record { goals = c.args.left.items ++ drop 1 s.newest.goals; basis = set.union s.newest.basis c.args.basis.now }) c.self.view_is)
+    step_follows c.args.self.now.newest c.in_ok-next.next c.args.basis.now c.args.step.now c.in_ok-own.own c.in_ok-own.ensures c.requires.step
+    (c.in_ok-next.ensures ∙ (λ i. record { goals = c.goals.ensures i ++ drop 1 (c.self.view_is i).newest.goals; basis = set.union (c.self.view_is i).newest.basis c.args.basis.now }))
