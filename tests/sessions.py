@@ -161,7 +161,6 @@ TURN_LIMIT, TOO_LARGE = refuses(18, "turn limit"), refuses(13, "too large")
 SHAPE, NOT_JSON = '{"error":3,"ok":false,"text":"shape"}', '{"error":2,"ok":false,"text":"not JSON"}'
 UNKNOWN, LONG = '{"error":4,"ok":false,"text":"unknown theory"}', '{"error":1,"ok":false,"text":"line too long"}'
 SHAPES = r"""{"op":"x"}
-{"op":"stats"}
 {"op":"drop_theory","theory":"B"}
 {"op":"replace","theory":"B","at":0}
 {"op":"remove","theory":"B"}

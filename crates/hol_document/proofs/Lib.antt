@@ -1,6 +1,15 @@
-pub mod Running
 pub mod Sorting
 pub mod Unique
 pub mod Bases
 pub mod Goals
 pub mod Made
+pub mod Alike
+pub mod Apart
+pub mod Agreeing
+pub mod Settled
+pub mod Counting
+pub mod Standing
+pub mod Redone
+pub mod Edited
+pub mod Followed
+pub mod Reported

@@ -1,7 +1,12 @@
--- The documents that the program's value stands for. Clauses say what documents are by these words alone.
-use Rattle.hol_exec.specs.SetupView.{setup_value}
+-- The documents that the program's value stands for, and how many commands were run. Clauses say what documents are by these words alone.
+use Rattle.std.specs.Prelude.{ℕ}
+use Rattle.hol_exec.specs.MeterView as meter
 use Rattle.hol_document.specs.declared.docs.Docs.{Docs}
 use Rattle.hol_document.specs.Documents.{Documents}
 
 abbrev pub documents : {X W g : _} → Docs X W g → Documents
-documents d = record { theories = d.theories.items; setup = setup_value d.setup; cache = d.cache }
+documents d = d.theories
+
+-- the number of commands that were run
+abbrev pub ran_of : {X W g : _} → Docs X W g → ℕ
+ran_of d = meter.ran_of d.meter

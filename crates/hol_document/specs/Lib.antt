@@ -1,8 +1,10 @@
 pub mod Documents
 pub mod DocsView
 pub mod Afresh
+pub mod Affected
 pub mod ItemTexts
 pub mod Asked
 pub mod Shown
-pub mod EndView
-pub mod Run
+pub mod Slots
+pub mod Alike
+pub mod Settled

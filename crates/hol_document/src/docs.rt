@@ -1,12 +1,18 @@
 //! The documents.
+ghost use Rattle.std.specs.Prelude.{◌≡◌};
+ghost use Rattle.std.specs.Coded.{Coded-set};
+ghost use Rattle.hol_exec.specs.MeterView.{setup_of};
+ghost use Rattle.hol_exec.specs.SetupCode.{coded_setup};
 
-use crate::afresh;
+use crate::asked;
 use crate::error::{DocsError, Refusal};
 use crate::line::Line;
-use crate::theory::Theory;
-use hol_exec::{Report, Setup};
+use crate::redo::Edit;
+use crate::theories::Theories;
+use hol_exec::{Meter, Report, Setup};
 use hol_notation_tokens::is_identifier;
-use std::alloc::Global;
+use std::alloc::{AllocError, Global};
+use std::rc::Rc;
 
 /// The most theories that may stand.
 pub const THEORY_LIMIT: usize = 64;
@@ -19,13 +25,13 @@ const NAME_LIMIT: usize = 64;
 
 /// Documents under edit: theories in order, each a name and the texts of its commands, and what they are run by.
 ///
-/// What is asked of them is what running them afresh says. An edit runs nothing, and a refused call changes nothing.
+/// What is asked of them is what running them afresh says. An edit runs the commands that it affects, and a refused call changes nothing.
 #[derive(Drop)]
 pub struct Docs {
     alloc: Global,
-    setup: Setup,
-    cache: u32,
-    theories: Vec<Theory>,
+    meter: Meter,
+    theories: Theories,
+    ghost same: { theories.setup ≡ setup_of meter } by { Coded-set coded_setup theories.setup (setup_of meter) },
 }
 
 impl Docs {
@@ -34,26 +40,36 @@ impl Docs {
     ghost use Rattle.std.specs.Option.{option_map};
     ghost use Rattle.hol_exec.specs.ReportView.{report_value};
     ghost use Rattle.hol_exec.specs.SetupView.{setup_value};
+    ghost use Rattle.hol_document.specs.Affected.{AddsTheory, DropsTheory, InsertsAt, ReplacesAt, RemovesAt, RunsAffected, RunsAt};
     ghost use Rattle.hol_document.specs.Asked.{IfRefused, Reported, BasisOf, TheoremsOf, commands_at};
-    ghost use Rattle.hol_document.specs.DocsView.{documents};
+    ghost use Rattle.hol_document.specs.DocsView.{documents, ran_of};
     ghost use Rattle.hol_document.specs.Documents.{find_theory, with_theory, without_theory, with_command, with_text, without_command, command_limit};
     ghost use Rattle.hol_document.specs.Shown.{ShowsProved, TellsOfProved, ListsProved};
 
     /// Documents without theories, run by this set-up. `cache` is the number of outcomes that are kept after they have left the documents, from 1 to 4,096.
-    pub fn new(alloc: Global, setup: Setup, cache: u32) -> Docs
+    pub fn new(alloc: Global, setup: Setup, cache: u32) -> Result<Docs, AllocError>
         requires some { 1 ≤ cache }
         requires fits { cache ≤ 4096 }
-        ensures { documents result ≡ record { theories = []; setup = setup_value setup; cache = cache } }
+        ensures documents { IfOk result (λ docs. documents docs ≡ record { theories = []; setup = setup_value setup; cache = cache }) }
+        ensures ran { IfOk result (λ docs. ran_of docs ≡ 0) }
     {
-        Docs {
+        let meter = Meter::new(setup);
+        let table = Rc::new(alloc, meter.table(alloc)?)?;
+        Ok(Docs {
             alloc,
-            setup,
-            cache,
-            theories: Vec::new(alloc),
-        }
+            meter,
+            theories: Theories::new(alloc, table, cache),
+        })
     }
 
-    /// Makes a theory without commands at a place of the list of theories.
+    /// How many commands were run, or 2^64 - 1 for more.
+    pub fn ran(&self) -> u64
+        ensures { result ≡ ran_of self.now }
+    {
+        self.meter.ran()
+    }
+
+    /// Makes a theory without commands at a place of the list of theories. What imports a theory of its name is run again.
     ///
     /// Refused where the name is taken, is bad, the place is above the number of theories, or 64 theories stand: in this order.
     pub fn new_theory(&mut self, name: &str, at: usize) -> Result<(), DocsError>
@@ -62,29 +78,40 @@ impl Docs {
         ensures kept { OnErr result (documents self.new ≡ documents self.old) }
         ensures setup { (documents self.new).setup ≡ (documents self.old).setup }
         ensures cache { (documents self.new).cache ≡ (documents self.old).cache }
+        ensures ran { OnOk result (RunsAffected (documents self.old) (documents self.new) (AddsTheory at) (ran_of self.old) (ran_of self.new)) }
+        ensures uncounted { IfErr result (IfRefused (λ refusal. ran_of self.new ≡ ran_of self.old)) }
+        ensures rises { ran_of self.old ≤ ran_of self.new }
     {
         self.check_theory(name, at)?;
-        let theory = Theory::new(self.alloc, name)?;
-        self.theories.insert(at, theory)?;
+        let theories = self
+            .theories
+            .with_theory(self.alloc, &mut self.meter, name, at)?;
+        self.theories = theories;
         Ok(())
     }
 
-    /// Drops a theory with its commands. It takes no memory.
+    /// Drops a theory with its commands. What imports it is run again.
     ///
     /// Refused where the theory is unknown.
-    pub fn drop_theory(&mut self, name: &str) -> Result<(), Refusal>
+    pub fn drop_theory(&mut self, name: &str) -> Result<(), DocsError>
         ensures ok { OnOk result (without_theory (documents self.old).theories name.now ≡ Ok (documents self.new).theories) }
-        ensures refused { IfErr result (λ refusal. without_theory (documents self.old).theories name.now ≡ Err refusal) }
+        ensures refused { IfErr result (IfRefused (λ refusal. without_theory (documents self.old).theories name.now ≡ Err refusal)) }
         ensures kept { OnErr result (documents self.new ≡ documents self.old) }
         ensures setup { (documents self.new).setup ≡ (documents self.old).setup }
         ensures cache { (documents self.new).cache ≡ (documents self.old).cache }
+        ensures ran { OnOk result (RunsAt DropsTheory name.now (documents self.old) (documents self.new) (ran_of self.old) (ran_of self.new)) }
+        ensures uncounted { IfErr result (IfRefused (λ refusal. ran_of self.new ≡ ran_of self.old)) }
+        ensures rises { ran_of self.old ≤ ran_of self.new }
     {
         let i = self.place_of(name)?;
-        let _theory = self.theories.remove(i);
+        let theories = self
+            .theories
+            .without_theory(self.alloc, &mut self.meter, i)?;
+        self.theories = theories;
         Ok(())
     }
 
-    /// Puts a command's text at a place of a theory.
+    /// Puts a command's text at a place of a theory. It is run, as is what reads something else than before.
     ///
     /// Refused where the theory is unknown, the place is above the number of its commands, or 1,000 commands stand: in this order.
     pub fn insert(&mut self, theory: &str, at: usize, text: &str) -> Result<(), DocsError>
@@ -93,14 +120,21 @@ impl Docs {
         ensures kept { OnErr result (documents self.new ≡ documents self.old) }
         ensures setup { (documents self.new).setup ≡ (documents self.old).setup }
         ensures cache { (documents self.new).cache ≡ (documents self.old).cache }
+        ensures ran { OnOk result (RunsAt (λ i. InsertsAt i at) theory.now (documents self.old) (documents self.new) (ran_of self.old) (ran_of self.new)) }
+        ensures uncounted { IfErr result (IfRefused (λ refusal. ran_of self.new ≡ ran_of self.old)) }
+        ensures rises { ran_of self.old ≤ ran_of self.new }
     {
         let i = self.place_to_insert(theory, at)?;
-        let line = Line::new(self.alloc, text)?;
-        self.theories[i].insert(at, line)?;
+        let line = Rc::new(self.alloc, Line::new(self.alloc, text)?)?;
+        let edit = Edit::Insert(line);
+        let theories = self
+            .theories
+            .with_edit(self.alloc, &mut self.meter, i, at, &edit)?;
+        self.theories = theories;
         Ok(())
     }
 
-    /// Puts a text in the place of that of a command of a theory.
+    /// Puts a text in the place of that of a command of a theory. It is run, as is what reads something else than before.
     ///
     /// Refused where the theory is unknown or no command stands at the place: in this order.
     pub fn replace(&mut self, theory: &str, at: usize, text: &str) -> Result<(), DocsError>
@@ -109,25 +143,38 @@ impl Docs {
         ensures kept { OnErr result (documents self.new ≡ documents self.old) }
         ensures setup { (documents self.new).setup ≡ (documents self.old).setup }
         ensures cache { (documents self.new).cache ≡ (documents self.old).cache }
+        ensures ran { OnOk result (RunsAt (λ i. ReplacesAt i at) theory.now (documents self.old) (documents self.new) (ran_of self.old) (ran_of self.new)) }
+        ensures uncounted { IfErr result (IfRefused (λ refusal. ran_of self.new ≡ ran_of self.old)) }
+        ensures rises { ran_of self.old ≤ ran_of self.new }
     {
         let i = self.place_of_command(theory, at)?;
-        let line = Line::new(self.alloc, text)?;
-        self.theories[i].replace(at, line);
+        let line = Rc::new(self.alloc, Line::new(self.alloc, text)?)?;
+        let edit = Edit::Replace(line);
+        let theories = self
+            .theories
+            .with_edit(self.alloc, &mut self.meter, i, at, &edit)?;
+        self.theories = theories;
         Ok(())
     }
 
-    /// Takes a command of a theory away. It takes no memory.
+    /// Takes a command of a theory away. What reads something else than before is run.
     ///
     /// Refused where the theory is unknown or no command stands at the place: in this order.
-    pub fn remove(&mut self, theory: &str, at: usize) -> Result<(), Refusal>
+    pub fn remove(&mut self, theory: &str, at: usize) -> Result<(), DocsError>
         ensures ok { OnOk result (without_command (documents self.old).theories theory.now at ≡ Ok (documents self.new).theories) }
-        ensures refused { IfErr result (λ refusal. without_command (documents self.old).theories theory.now at ≡ Err refusal) }
+        ensures refused { IfErr result (IfRefused (λ refusal. without_command (documents self.old).theories theory.now at ≡ Err refusal)) }
         ensures kept { OnErr result (documents self.new ≡ documents self.old) }
         ensures setup { (documents self.new).setup ≡ (documents self.old).setup }
         ensures cache { (documents self.new).cache ≡ (documents self.old).cache }
+        ensures ran { OnOk result (RunsAt (λ i. RemovesAt i at) theory.now (documents self.old) (documents self.new) (ran_of self.old) (ran_of self.new)) }
+        ensures uncounted { IfErr result (IfRefused (λ refusal. ran_of self.new ≡ ran_of self.old)) }
+        ensures rises { ran_of self.old ≤ ran_of self.new }
     {
         let i = self.place_of_command(theory, at)?;
-        self.theories[i].remove(at);
+        let theories = self
+            .theories
+            .with_edit(self.alloc, &mut self.meter, i, at, &Edit::Remove)?;
+        self.theories = theories;
         Ok(())
     }
 
@@ -141,7 +188,7 @@ impl Docs {
         ensures refused { IfErr result (IfRefused (λ refusal. Reported (documents self.now) theory.now at (Err refusal))) }
     {
         let i = self.place_of_command(theory, at)?;
-        Ok(afresh::report(self.alloc, &self.setup, &self.theories, i, at)?)
+        Ok(asked::report(self.alloc, &self.theories, i, at)?)
     }
 
     /// The theorems that stand at the end of a theory, imported ones too, in standing order: what running the documents afresh says. They are
@@ -154,7 +201,7 @@ impl Docs {
         ensures refused { IfErr result (IfRefused (λ refusal. TheoremsOf (documents self.now) theory.now (Err refusal))) }
     {
         let i = self.place_of(theory)?;
-        Ok(afresh::theorems(self.alloc, &self.setup, &self.theories, i)?)
+        Ok(asked::theorems(self.alloc, &self.theories, i)?)
     }
 
     /// The items of the basis of a theorem that stands at the end of a theory, as texts in the order of their bytes; nothing
@@ -167,7 +214,7 @@ impl Docs {
         ensures refused { IfErr result (IfRefused (λ refusal. BasisOf (documents self.now) theory.now name.now (Err refusal))) }
     {
         let i = self.place_of(theory)?;
-        Ok(afresh::basis(self.alloc, &self.setup, &self.theories, i, name)?)
+        Ok(asked::basis(self.alloc, &self.theories, i, name)?)
     }
 
     // Whether a theory of the name may stand at the place. It takes no memory.
@@ -201,7 +248,7 @@ impl Docs {
         ensures refused { IfErr result (λ refusal. (text : List ℕ) → with_command (documents self.now).theories theory.now at text ≡ Err refusal) }
     {
         let i = self.place_of(theory)?;
-        let count = self.theories[i].lines().len();
+        let count = self.theories.count_at(i);
         if at > count {
             return Err(Refusal::PositionOutOfRange);
         }
@@ -221,7 +268,7 @@ impl Docs {
         ensures removed { IfErr result (λ refusal. without_command (documents self.now).theories theory.now at ≡ Err refusal) }
     {
         let i = self.place_of(theory)?;
-        if at >= self.theories[i].lines().len() {
+        if at >= self.theories.count_at(i) {
             return Err(Refusal::PositionOutOfRange);
         }
         Ok(i)
@@ -241,8 +288,6 @@ impl Docs {
     fn find(&self, name: &str) -> Option<usize>
         ensures { result ≡ find_theory name.now (documents self.now).theories }
     {
-        self.theories
-            .iter()
-            .position(|theory| theory.name() == name)
+        self.theories.find(name)
     }
 }

@@ -1,13 +1,14 @@
 //! Documents under edit, as lines are answered over them.
-ghost use Rattle.std.specs.Prelude.{◌≡◌, Ok, Err, IfOk, IfErr, OnOk, OnErr, map, string_bytes};
+ghost use Rattle.std.specs.Prelude.{◌≡◌, ◌≤◌, ℕ, Ok, Err, IfOk, IfErr, OnOk, OnErr, map, string_bytes};
 ghost use Rattle.std.specs.Option.{option_map};
 ghost use Rattle.hol_exec.specs.ReportView.{report_value};
+ghost use Rattle.hol_document.specs.Affected.{AddsTheory, DropsTheory, InsertsAt, ReplacesAt, RemovesAt, RunsAffected, RunsAt};
 ghost use Rattle.hol_document.specs.Asked.{IfRefused, Reported, BasisOf, TheoremsOf};
 ghost use Rattle.hol_document.specs.Documents.{Documents, with_theory, without_theory, with_command, with_text, without_command};
 ghost use Rattle.hol_document.specs.Shown.{ShowsProved, TellsOfProved, ListsProved};
 
 use crate::docs::Docs;
-use crate::error::{DocsError, Refusal};
+use crate::error::DocsError;
 use hol_exec::Report;
 
 /// Documents under edit, as those who answer requests over them see them. [`Docs`] are such; they hold closures, and what is generic over this trait may make
@@ -16,21 +17,30 @@ pub trait Editable {
     /// What they are.
     ghost value: { Self → Documents };
 
+    /// How many commands were run.
+    ghost ran: { Self → ℕ };
+
     /// Makes a theory, as [`Docs::new_theory`].
     fn new_theory(&mut self, name: &str, at: usize) -> Result<(), DocsError>
         ensures ok { OnOk result (with_theory (value self.old).theories name.now at ≡ Ok (value self.new).theories) }
         ensures refused { IfErr result (IfRefused (λ refusal. with_theory (value self.old).theories name.now at ≡ Err refusal)) }
         ensures kept { OnErr result (value self.new ≡ value self.old) }
         ensures setup { (value self.new).setup ≡ (value self.old).setup }
-        ensures cache { (value self.new).cache ≡ (value self.old).cache };
+        ensures cache { (value self.new).cache ≡ (value self.old).cache }
+        ensures ran { OnOk result (RunsAffected (value self.old) (value self.new) (AddsTheory at) (ran self.old) (ran self.new)) }
+        ensures uncounted { IfErr result (IfRefused (λ refusal. ran self.new ≡ ran self.old)) }
+        ensures rises { ran self.old ≤ ran self.new };
 
     /// Drops a theory, as [`Docs::drop_theory`].
-    fn drop_theory(&mut self, name: &str) -> Result<(), Refusal>
+    fn drop_theory(&mut self, name: &str) -> Result<(), DocsError>
         ensures ok { OnOk result (without_theory (value self.old).theories name.now ≡ Ok (value self.new).theories) }
-        ensures refused { IfErr result (λ refusal. without_theory (value self.old).theories name.now ≡ Err refusal) }
+        ensures refused { IfErr result (IfRefused (λ refusal. without_theory (value self.old).theories name.now ≡ Err refusal)) }
         ensures kept { OnErr result (value self.new ≡ value self.old) }
         ensures setup { (value self.new).setup ≡ (value self.old).setup }
-        ensures cache { (value self.new).cache ≡ (value self.old).cache };
+        ensures cache { (value self.new).cache ≡ (value self.old).cache }
+        ensures ran { OnOk result (RunsAt DropsTheory name.now (value self.old) (value self.new) (ran self.old) (ran self.new)) }
+        ensures uncounted { IfErr result (IfRefused (λ refusal. ran self.new ≡ ran self.old)) }
+        ensures rises { ran self.old ≤ ran self.new };
 
     /// Puts a command's text at a place, as [`Docs::insert`].
     fn insert(&mut self, theory: &str, at: usize, text: &str) -> Result<(), DocsError>
@@ -38,7 +48,10 @@ pub trait Editable {
         ensures refused { IfErr result (IfRefused (λ refusal. with_command (value self.old).theories theory.now at text.now ≡ Err refusal)) }
         ensures kept { OnErr result (value self.new ≡ value self.old) }
         ensures setup { (value self.new).setup ≡ (value self.old).setup }
-        ensures cache { (value self.new).cache ≡ (value self.old).cache };
+        ensures cache { (value self.new).cache ≡ (value self.old).cache }
+        ensures ran { OnOk result (RunsAt (λ i. InsertsAt i at) theory.now (value self.old) (value self.new) (ran self.old) (ran self.new)) }
+        ensures uncounted { IfErr result (IfRefused (λ refusal. ran self.new ≡ ran self.old)) }
+        ensures rises { ran self.old ≤ ran self.new };
 
     /// Puts another text in a command's place, as [`Docs::replace`].
     fn replace(&mut self, theory: &str, at: usize, text: &str) -> Result<(), DocsError>
@@ -46,15 +59,25 @@ pub trait Editable {
         ensures refused { IfErr result (IfRefused (λ refusal. with_text (value self.old).theories theory.now at text.now ≡ Err refusal)) }
         ensures kept { OnErr result (value self.new ≡ value self.old) }
         ensures setup { (value self.new).setup ≡ (value self.old).setup }
-        ensures cache { (value self.new).cache ≡ (value self.old).cache };
+        ensures cache { (value self.new).cache ≡ (value self.old).cache }
+        ensures ran { OnOk result (RunsAt (λ i. ReplacesAt i at) theory.now (value self.old) (value self.new) (ran self.old) (ran self.new)) }
+        ensures uncounted { IfErr result (IfRefused (λ refusal. ran self.new ≡ ran self.old)) }
+        ensures rises { ran self.old ≤ ran self.new };
 
     /// Takes a command away, as [`Docs::remove`].
-    fn remove(&mut self, theory: &str, at: usize) -> Result<(), Refusal>
+    fn remove(&mut self, theory: &str, at: usize) -> Result<(), DocsError>
         ensures ok { OnOk result (without_command (value self.old).theories theory.now at ≡ Ok (value self.new).theories) }
-        ensures refused { IfErr result (λ refusal. without_command (value self.old).theories theory.now at ≡ Err refusal) }
+        ensures refused { IfErr result (IfRefused (λ refusal. without_command (value self.old).theories theory.now at ≡ Err refusal)) }
         ensures kept { OnErr result (value self.new ≡ value self.old) }
         ensures setup { (value self.new).setup ≡ (value self.old).setup }
-        ensures cache { (value self.new).cache ≡ (value self.old).cache };
+        ensures cache { (value self.new).cache ≡ (value self.old).cache }
+        ensures ran { OnOk result (RunsAt (λ i. RemovesAt i at) theory.now (value self.old) (value self.new) (ran self.old) (ran self.new)) }
+        ensures uncounted { IfErr result (IfRefused (λ refusal. ran self.new ≡ ran self.old)) }
+        ensures rises { ran self.old ≤ ran self.new };
+
+    /// How many commands were run, as [`Docs::ran`].
+    fn ran(&self) -> u64
+        ensures { result ≡ ran self.now };
 
     /// The report on a command, as [`Docs::report`].
     fn report(&self, theory: &str, at: usize) -> Result<Report, DocsError>
@@ -76,15 +99,17 @@ pub trait Editable {
 }
 
 impl Editable for Docs {
-    ghost use Rattle.hol_document.specs.DocsView.{documents};
+    ghost use Rattle.hol_document.specs.DocsView.{documents, ran_of};
 
     ghost value = { λ docs. documents docs };
+
+    ghost ran = { λ docs. ran_of docs };
 
     fn new_theory(&mut self, name: &str, at: usize) -> Result<(), DocsError> {
         Docs::new_theory(self, name, at)
     }
 
-    fn drop_theory(&mut self, name: &str) -> Result<(), Refusal> {
+    fn drop_theory(&mut self, name: &str) -> Result<(), DocsError> {
         Docs::drop_theory(self, name)
     }
 
@@ -96,8 +121,12 @@ impl Editable for Docs {
         Docs::replace(self, theory, at, text)
     }
 
-    fn remove(&mut self, theory: &str, at: usize) -> Result<(), Refusal> {
+    fn remove(&mut self, theory: &str, at: usize) -> Result<(), DocsError> {
         Docs::remove(self, theory, at)
+    }
+
+    fn ran(&self) -> u64 {
+        Docs::ran(self)
     }
 
     fn report(&self, theory: &str, at: usize) -> Result<Report, DocsError> {

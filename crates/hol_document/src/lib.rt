@@ -3,14 +3,19 @@
 //! A call that answers a `Result` answers its memory error where memory is short, and nowhere else.
 #![tactic(auto)]
 
-mod afresh;
+mod asked;
 mod docs;
+mod drift;
 mod editable;
-mod end;
 mod error;
+mod growing;
 mod items;
 mod laws;
 mod line;
+mod redo;
+mod settle;
+mod slot;
+mod theories;
 mod theory;
 
 pub use docs::{COMMAND_LIMIT, Docs, THEORY_LIMIT};

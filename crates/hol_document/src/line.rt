@@ -15,13 +15,14 @@ pub(crate) struct Line {
 }
 
 impl Model for Line {
-    ghost use Rattle.std.specs.Prelude.{ℕ, List, string_bytes};
+    ghost use Rattle.std.specs.Prelude.{string_bytes};
     ghost use Rattle.hol_exec.specs.Reading.{IsRead};
     ghost use Rattle.hol_exec.specs.ParsedView.{parsed_value};
+    ghost use Rattle.hol_document.specs.Slots.{LineValue};
 
-    ghost Value = { List ℕ };
+    ghost Value = { LineValue };
 
-    ghost view = { λ l. string_bytes l.text };
+    ghost view = { λ l. record { text = string_bytes l.text; value = parsed_value l.parsed } };
 
     ghost invariant = { λ l. IsRead (string_bytes l.text) (parsed_value l.parsed) };
 }
@@ -29,7 +30,7 @@ impl Model for Line {
 impl Line {
     /// Reads the text.
     pub(crate) fn new(alloc: Global, text: &str) -> Result<Line, AllocError>
-        ensures { IfOk result (λ line. line ≡ text.now) }
+        ensures { IfOk result (λ line. line.text ≡ text.now) }
     {
         let parsed = parse(alloc, text)?;
         let text = String::from_str(alloc, text)?;
@@ -38,7 +39,8 @@ impl Line {
 
     /// What the text reads as.
     pub(crate) fn parsed(&self) -> &Parsed
-        ensures { IsRead self.now (parsed_value result.now) }
+        ensures value { parsed_value result.now ≡ self.now.value }
+        ensures read { IsRead self.now.text self.now.value }
     {
         &self.parsed
     }

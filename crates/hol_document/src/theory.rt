@@ -1,76 +1,93 @@
-//! A theory: its name and its commands' texts.
-ghost use Rattle.std.specs.Prelude.{◌≡◌, ◌≤◌, ◌<◌, [], IfOk, OnOk, OnErr, length, slice_set};
-ghost use Rattle.std.specs.List.{insert, remove};
-ghost use Rattle.hol_document.specs.Documents.{TheoryText};
+//! A theory that stands.
+ghost use Rattle.std.specs.Prelude.{◌≡◌, IfOk, map, string_bytes};
+ghost use Rattle.hol_document.specs.Slots.{ended_of};
 
-use crate::line::Line;
+use crate::slot::Slot;
+use hol_exec::{EarlierTheory, State};
 use std::alloc::{AllocError, Global};
 use std::marker::Model;
+use std::rc::Rc;
 
-/// A theory: its name and its commands' texts, in order.
+/// A theory that stands: its name, its slots and its last state. Its copies share these.
 #[derive(Drop)]
 pub(crate) struct Theory {
-    name: String,
-    lines: Vec<Line>,
+    shared: Rc<TheoryShared>,
+}
+
+// What the copies of a theory share.
+#[derive(Drop)]
+struct TheoryShared {
+    name: Rc<String>,
+    slots: Vec<Rc<Slot>>,
+    last: Rc<State>,
 }
 
 impl Model for Theory {
-    ghost use Rattle.std.specs.Prelude.{string_bytes};
-    ghost use Rattle.hol_document.specs.Documents.{TheoryText};
+    ghost use Rattle.std.specs.Prelude.{map, string_bytes};
+    ghost use Rattle.hol_document.specs.Slots.{StandingValue};
 
-    ghost Value = { TheoryText };
+    ghost Value = { StandingValue };
 
-    ghost view = { λ t. record { name = string_bytes t.name; commands = t.lines.items } };
+    ghost view = { λ t. record { name = string_bytes t.shared.value.name.value; slots = map (λ slot. slot.value) t.shared.value.slots.items; last = t.shared.value.last.value } };
 }
 
 impl Theory {
-    /// A theory without commands.
-    pub(crate) fn new(alloc: Global, name: &str) -> Result<Theory, AllocError>
-        ensures { IfOk result (λ theory. theory ≡ record { name = name.now; commands = [] }) }
+    /// The theory of these.
+    pub(crate) fn new(
+        alloc: Global,
+        name: Rc<String>,
+        slots: Vec<Rc<Slot>>,
+        last: Rc<State>,
+    ) -> Result<Theory, AllocError>
+        ensures { IfOk result (λ theory. theory ≡ record { name = string_bytes name.value; slots = map (λ slot. slot.value) slots.items; last = last.value }) }
     {
+        let shared = TheoryShared { name, slots, last };
         Ok(Theory {
-            name: String::from_str(alloc, name)?,
-            lines: Vec::new(alloc),
+            shared: Rc::new(alloc, shared)?,
         })
     }
 
-    /// Its name.
-    pub(crate) fn name(&self) -> &str
-        ensures { result.now ≡ self.now.name }
+    /// The same theory.
+    pub(crate) fn copy(&self) -> Result<Theory, AllocError>
+        ensures { IfOk result (λ theory. theory ≡ self.now) }
     {
-        self.name.as_str()
+        Ok(Theory {
+            shared: self.shared.clone()?,
+        })
     }
 
-    /// Its commands, in order.
-    pub(crate) fn lines(&self) -> &[Line]
-        ensures { result.now ≡ self.now.commands }
+    /// Its name, to share.
+    pub(crate) fn shared_name(&self) -> &Rc<String>
+        ensures { string_bytes result.now.value ≡ self.now.name }
     {
-        self.lines.as_slice()
+        &self.shared.name
     }
 
-    /// Puts a command at a place.
-    pub(crate) fn insert(&mut self, at: usize, line: Line) -> Result<(), AllocError>
-        requires { at ≤ length self.old.commands }
-        ensures ok { OnOk result (self.new ≡ record { name = self.old.name; commands = insert self.old.commands at line }) }
-        ensures err { OnErr result (self.new ≡ self.old) }
+    /// Its slots, in order.
+    pub(crate) fn slots(&self) -> &[Rc<Slot>]
+        ensures { map (λ slot. slot.value) result.now ≡ self.now.slots }
     {
-        self.lines.insert(at, line)?;
-        Ok(())
+        &self.shared.slots
     }
 
-    /// Puts a command in the place of the one there.
-    pub(crate) fn replace(&mut self, at: usize, line: Line)
-        requires { at < length self.old.commands }
-        ensures { self.new ≡ record { name = self.old.name; commands = slice_set self.old.commands at line } }
+    /// Its last state, to share.
+    pub(crate) fn last(&self) -> &Rc<State>
+        ensures { result.now.value ≡ self.now.last }
     {
-        self.lines[at] = line;
+        &self.shared.last
+    }
+}
+
+impl EarlierTheory for Theory {
+    ghost use Rattle.hol_document.specs.Slots.{ended_of};
+
+    ghost ended = { ended_of };
+
+    fn name(&self) -> &str {
+        self.shared.name.as_str()
     }
 
-    /// Takes the command at a place away.
-    pub(crate) fn remove(&mut self, at: usize)
-        requires { at < length self.old.commands }
-        ensures { self.new ≡ record { name = self.old.name; commands = remove self.old.commands at } }
-    {
-        let _line = self.lines.remove(at);
+    fn state(&self) -> &State {
+        &self.shared.last
     }
 }

@@ -13,7 +13,9 @@ use Rattle.hol_registry.specs.Refusal.{IsRefusal}
 use Rattle.hol_registry.specs.declared.error.RegistryError.{RegistryError}
 use Rattle.hol_registry.specs.declared.error.RegistryError.TheVariants.{Twice}
 use Rattle.hol_document.specs.Documents.{Documents}
+use Rattle.hol_serve.specs.Begun.{begun_by}
 use Rattle.hol_serve.specs.BegunView.{row_of, names_differ}
+use Rattle.hol_session.specs.Machine.{Counted, counted}
 
 -- ---- all of them
 
@@ -58,5 +60,9 @@ twice_not names (Twice name) e h = again h.before h.after (string_bytes name) h.
 pub rows_taken : (codes : List TacCode) (n : ℕ) (rows : List (List ℕ × TacCode)) → length codes ≤ n → rows ≡ map row_of (take n codes) → rows ≡ map row_of codes
 rows_taken codes n rows end is = is ∙ ap (map row_of) (take_all n codes end)
 
-pub begins : (P : Documents → Documents → Type 0) (old new start : Documents) → old ≡ start → P old new → (n : Documents) × P start n
+-- documents without theories, by which nothing was run
+pub counted_begun : (docs : Documents) (table : List (List ℕ × TacCode)) (turns cache ran : ℕ) → docs ≡ (begun_by table turns cache).documents → ran ≡ 0 → counted docs ran ≡ begun_by table turns cache
+counted_begun docs table turns cache ran d r = λ i. counted (d i) (r i)
+
+pub begins : (P : Counted → Counted → Type 0) (old new start : Counted) → old ≡ start → P old new → (n : Counted) × P start n
 begins P old new start e h = (new, rw e at h)

@@ -3,7 +3,7 @@ use Rattle.std.specs.Prelude.{◌≡◌, ℕ, List, [], ◌∷◌, codes}
 use Rattle.clap.specs.Words.{Text}
 use Rattle.hol_goal.specs.declared.tac_code.TacCode.{TacCode}
 use Rattle.hol_goal.specs.declared.tac_code.TacCode.TheVariants.{AllTac, NoTac, ReflTac, AcceptTac, ConjTac, Disj1Tac, Disj2Tac, EqTac, DischTac, GenTac, XGenTac, ExistsTac, SpecTac, MpTac, AssumeTac, ContrTac, ChooseTac, XChooseTac, DisjCasesTac, Subst1Tac, ApTermTac, ApThmTac, MkCombTac, UndischTac, StripTac, StripAssumeTac, BetaTac, MatchMpTac, RewriteTac, OnceRewriteTac, AsmRewriteTac, OnceAsmRewriteTac, PureRewriteTac}
-use Rattle.hol_document.specs.Documents.{Documents}
+use Rattle.hol_session.specs.Machine.{Counted}
 use Rattle.hol_serve.specs.Settings.{AreTaken, IsTurns, IsCache}
 
 -- the functions on goals that the program knows, by name and code
@@ -18,15 +18,15 @@ tacs =
     ∷ (codes "REWRITE_TAC", RewriteTac) ∷ (codes "ONCE_REWRITE_TAC", OnceRewriteTac) ∷ (codes "ASM_REWRITE_TAC", AsmRewriteTac) ∷ (codes "ONCE_ASM_REWRITE_TAC", OnceAsmRewriteTac)
     ∷ (codes "PURE_REWRITE_TAC", PureRewriteTac) ∷ []
 
--- no theories stand; they are run by a table of functions and a number of turns, and keep a number of outcomes
-abbrev pub begun_by : List (List ℕ × TacCode) → ℕ → ℕ → Documents
-begun_by table turns cache = record { theories = []; setup = record { table = table; turns = turns }; cache = cache }
+-- no theories stand; they are run by a table of functions and a number of turns, and keep a number of outcomes; and nothing was run
+abbrev pub begun_by : List (List ℕ × TacCode) → ℕ → ℕ → Counted
+begun_by table turns cache = record { documents = record { theories = []; setup = record { table = table; turns = turns }; cache = cache }; ran = 0 }
 
 -- clap takes the words; the documents are run by the table above and the number of turns that the words name, or 10,000, and keep the number of outcomes that the words
 -- name, or 256
-abbrev pub IsBegun : List Text → Documents → Type 0
+abbrev pub IsBegun : List Text → Counted → Type 0
 IsBegun words docs = AreTaken words × (turns : ℕ) × (cache : ℕ) × IsTurns words turns × IsCache words cache × (docs ≡ begun_by tacs turns cache)
 
 -- this holds of documents that the program begins with, as the words say, and of those that it ends with
-abbrev pub Begins : List Text → (Documents → Documents → Type 0) → Type 0
-Begins words P = (old : Documents) × (new : Documents) × IsBegun words old × P old new
+abbrev pub Begins : List Text → (Counted → Counted → Type 0) → Type 0
+Begins words P = (old : Counted) × (new : Counted) × IsBegun words old × P old new

@@ -1,13 +1,12 @@
 //! Sessions over documents that begin without theories.
 ghost use Rattle.std.specs.Prelude.{◌≡◌, ◌≢◌, ◌⊎◌, ◌≤◌, true, Err, IfOk, OnOk, map};
-ghost use Rattle.hol_document.specs.Documents.{Documents};
 ghost use Rattle.hol_goal.specs.TacNames.{tac_name};
 ghost use Rattle.hol_exec.specs.SetupView.{setup_value};
 ghost use Rattle.hol_registry.specs.RegistryView.{name, row};
 ghost use Rattle.hol_serve.specs.Begun.{tacs, begun_by};
 ghost use Rattle.hol_serve.specs.BegunView.{row_of, names_differ};
 ghost use Rattle.hol_session.specs.Lines.{read_limit};
-ghost use Rattle.hol_session.specs.Machine.{MayAnswer};
+ghost use Rattle.hol_session.specs.Machine.{Counted, MayAnswer};
 ghost use Rattle.hol_session.specs.Session.{CountsUp, Finishes, StopsReading, StopsWriting};
 
 use crate::coded_tac::CodedTac;
@@ -73,12 +72,12 @@ pub(crate) fn serve_begun<R: Source, W: Sink>(
     requires turns_fit { turns ≤ 100000 }
     requires some_cache { 1 ≤ cache }
     requires cache_fits { cache ≤ 4096 }
-    ensures ok { OnOk result ((new : Documents) × Finishes MayAnswer (begun_by tacs turns cache) new
+    ensures ok { OnOk result ((new : Counted) × Finishes MayAnswer (begun_by tacs turns cache) new
         (R.remaining reader.old) (R.remaining reader.new) (W.contents writer.old) (W.contents writer.new)) }
-    ensures read_fault { result ≡ Err Fault.Read → ((new : Documents) × StopsReading MayAnswer (begun_by tacs turns cache) new
+    ensures read_fault { result ≡ Err Fault.Read → ((new : Counted) × StopsReading MayAnswer (begun_by tacs turns cache) new
         (R.remaining reader.old) (R.remaining reader.new) (W.contents writer.old) (W.contents writer.new))
         × (R.has_failed reader.new ⊎ CountsUp read_limit (R.reads reader.old) (R.reads reader.new)) }
-    ensures write_fault { result ≡ Err Fault.Write → ((new : Documents) × StopsWriting MayAnswer (begun_by tacs turns cache) new
+    ensures write_fault { result ≡ Err Fault.Write → ((new : Counted) × StopsWriting MayAnswer (begun_by tacs turns cache) new
         (R.remaining reader.old) (R.remaining reader.new) (W.contents writer.old) (W.contents writer.new))
         × W.has_failed writer.new }
     ensures reads { result ≢ Err Fault.Read → R.has_failed reader.new → R.has_failed reader.old }
@@ -103,12 +102,12 @@ fn serve_with<R: Source, W: Sink>(
     requires some_cache { 1 ≤ cache }
     requires cache_fits { cache ≤ 4096 }
     requires differ { names_differ (map tac_name codes.now) ≡ true }
-    ensures ok { OnOk result ((new : Documents) × Finishes MayAnswer (begun_by (map row_of codes.now) turns cache) new
+    ensures ok { OnOk result ((new : Counted) × Finishes MayAnswer (begun_by (map row_of codes.now) turns cache) new
         (R.remaining reader.old) (R.remaining reader.new) (W.contents writer.old) (W.contents writer.new)) }
-    ensures read_fault { result ≡ Err Fault.Read → ((new : Documents) × StopsReading MayAnswer (begun_by (map row_of codes.now) turns cache) new
+    ensures read_fault { result ≡ Err Fault.Read → ((new : Counted) × StopsReading MayAnswer (begun_by (map row_of codes.now) turns cache) new
         (R.remaining reader.old) (R.remaining reader.new) (W.contents writer.old) (W.contents writer.new))
         × (R.has_failed reader.new ⊎ CountsUp read_limit (R.reads reader.old) (R.reads reader.new)) }
-    ensures write_fault { result ≡ Err Fault.Write → ((new : Documents) × StopsWriting MayAnswer (begun_by (map row_of codes.now) turns cache) new
+    ensures write_fault { result ≡ Err Fault.Write → ((new : Counted) × StopsWriting MayAnswer (begun_by (map row_of codes.now) turns cache) new
         (R.remaining reader.old) (R.remaining reader.new) (W.contents writer.old) (W.contents writer.new))
         × W.has_failed writer.new }
     ensures reads { result ≢ Err Fault.Read → R.has_failed reader.new → R.has_failed reader.old }
@@ -129,7 +128,7 @@ fn serve_with<R: Source, W: Sink>(
         entries.push(Entry::new(name, *code, tac))?;
     }
     let setup = setup_of(alloc, entries, turns)?;
-    let mut docs = Docs::new(alloc, setup, cache);
+    let mut docs = Docs::new(alloc, setup, cache)?;
     run(alloc, reader, writer, &mut docs)
 }
 

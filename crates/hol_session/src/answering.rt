@@ -9,13 +9,13 @@ ghost use Rattle.hol_wire.specs.Requests.{Report, Theorems, Basis};
 ghost use Rattle.hol_wire.specs.Texts.{Says};
 ghost use Rattle.hol_wire.specs.Views.{request_text};
 ghost use Rattle.hol_session.specs.Lines.{line_limit};
-ghost use Rattle.hol_session.specs.Machine.{MayAnswer};
+ghost use Rattle.hol_session.specs.Machine.{MayAnswer, counted};
 ghost use Rattle.hol_session.specs.Served.{IsServed};
 
-use hol_document::{DocsError, Editable, Refusal};
+use hol_document::{DocsError, Editable};
 use hol_wire::{
-    Reply, Request, closed, done, lists, memory, not_json, refused, reports, request_of, rests_on,
-    shape,
+    Reply, Request, closed, counts, done, lists, memory, not_json, refused, reports, request_of,
+    rests_on, shape,
 };
 use serde_json::{Error, Value};
 use std::alloc::{AllocError, Global};
@@ -31,14 +31,15 @@ fn refusal_reply(error: DocsError) -> Result<Reply, AllocError>
     }
 }
 
-// The reply to an edit that takes no memory.
-fn edit_reply(edit: Result<(), Refusal>) -> Reply
-    ensures done { OnOk edit (Says Done result) }
-    ensures refused { IfErr edit (λ refusal. Says (Refused (ByDocuments refusal)) result) }
+// The reply to an edit.
+fn edit_reply(edit: Result<(), DocsError>) -> Result<Reply, AllocError>
+    ensures done { IfOk result (λ reply. OnOk edit (Says Done reply)) }
+    ensures refused { IfOk result (λ reply. IfErr edit (λ error. (refusal : Refusal) × (error ≡ DocsError.Refused refusal) × Says (Refused (ByDocuments refusal)) reply)) }
+    ensures memory { OnErr result (edit ≡ Err DocsError.Memory) }
 {
     match edit {
-        Ok(()) => done(),
-        Err(refusal) => refused(refusal),
+        Ok(()) => Ok(done()),
+        Err(error) => refusal_reply(error),
     }
 }
 
@@ -49,7 +50,7 @@ fn reported<D: Editable>(
     theory: &str,
     at: u64,
 ) -> Result<Reply, AllocError>
-    ensures { IfOk result (IsServed (D.value docs.now) (Report theory.now at) (D.value docs.now)) }
+    ensures { IfOk result (IsServed (counted (D.value docs.now) (D.ran docs.now)) (Report theory.now at) (counted (D.value docs.now) (D.ran docs.now))) }
 {
     match docs.report(theory, at as usize) {
         Ok(report) => reports(alloc, report),
@@ -59,7 +60,7 @@ fn reported<D: Editable>(
 
 // Serves a question for theorems.
 fn listed<D: Editable>(alloc: Global, docs: &D, theory: &str) -> Result<Reply, AllocError>
-    ensures { IfOk result (IsServed (D.value docs.now) (Theorems theory.now) (D.value docs.now)) }
+    ensures { IfOk result (IsServed (counted (D.value docs.now) (D.ran docs.now)) (Theorems theory.now) (counted (D.value docs.now) (D.ran docs.now))) }
 {
     match docs.theorems(theory) {
         Ok(texts) => lists(alloc, texts),
@@ -74,7 +75,7 @@ fn based<D: Editable>(
     theory: &str,
     name: &str,
 ) -> Result<Reply, AllocError>
-    ensures { IfOk result (IsServed (D.value docs.now) (Basis theory.now name.now) (D.value docs.now)) }
+    ensures { IfOk result (IsServed (counted (D.value docs.now) (D.ran docs.now)) (Basis theory.now name.now) (counted (D.value docs.now) (D.ran docs.now))) }
 {
     match docs.basis(theory, name) {
         Ok(items) => rests_on(alloc, items),
@@ -88,27 +89,24 @@ fn served<D: Editable>(
     docs: &mut D,
     request: Request<'_>,
 ) -> Result<Reply, AllocError>
-    ensures ok { IfOk result (IsServed (D.value docs.old) (request_text request.entry) (D.value docs.new)) }
+    ensures ok { IfOk result (IsServed (counted (D.value docs.old) (D.ran docs.old)) (request_text request.entry) (counted (D.value docs.new) (D.ran docs.new))) }
     ensures kept { OnErr result (D.value docs.new ≡ D.value docs.old) }
+    ensures rises { D.ran docs.old ≤ D.ran docs.new }
 {
     match request {
-        Request::NewTheory { name, at } => match docs.new_theory(name, at as usize) {
-            Ok(()) => Ok(done()),
-            Err(error) => refusal_reply(error),
-        },
-        Request::DropTheory { name } => Ok(edit_reply(docs.drop_theory(name))),
-        Request::Insert { theory, at, text } => match docs.insert(theory, at as usize, text) {
-            Ok(()) => Ok(done()),
-            Err(error) => refusal_reply(error),
-        },
-        Request::Replace { theory, at, text } => match docs.replace(theory, at as usize, text) {
-            Ok(()) => Ok(done()),
-            Err(error) => refusal_reply(error),
-        },
-        Request::Remove { theory, at } => Ok(edit_reply(docs.remove(theory, at as usize))),
+        Request::NewTheory { name, at } => edit_reply(docs.new_theory(name, at as usize)),
+        Request::DropTheory { name } => edit_reply(docs.drop_theory(name)),
+        Request::Insert { theory, at, text } => edit_reply(docs.insert(theory, at as usize, text)),
+        Request::Replace { theory, at, text } => edit_reply(docs.replace(
+            theory,
+            at as usize,
+            text,
+        )),
+        Request::Remove { theory, at } => edit_reply(docs.remove(theory, at as usize)),
         Request::Report { theory, at } => reported(alloc, docs, theory, at),
         Request::Theorems { theory } => listed(alloc, docs, theory),
         Request::Basis { theory, name } => based(alloc, docs, theory, name),
+        Request::Stats => counts(alloc, docs.ran()),
         Request::Close => Ok(closed()),
     }
 }
@@ -126,7 +124,7 @@ fn unread_reply(error: &Error) -> Reply
 /// The reply to a line, with its newline.
 pub(crate) fn answer<D: Editable>(alloc: Global, docs: &mut D, line: &[u8]) -> Reply
     requires { length line.now ≤ line_limit }
-    ensures { MayAnswer (D.value docs.old) line.now (reply_bytes result.text) result.closes (D.value docs.new) }
+    ensures { MayAnswer (counted (D.value docs.old) (D.ran docs.old)) line.now (reply_bytes result.text) result.closes (counted (D.value docs.new) (D.ran docs.new)) }
 {
     let value = match Value::from_slice(alloc, line) {
         Ok(value) => value,

@@ -2,7 +2,7 @@
 
 ghost use Rattle.std.specs.Prelude.{◌≡◌, ◌≢◌, ◌⊎◌, Err, OnOk};
 ghost use Rattle.hol_session.specs.Lines.{read_limit};
-ghost use Rattle.hol_session.specs.Machine.{MayAnswer};
+ghost use Rattle.hol_session.specs.Machine.{MayAnswer, counted};
 ghost use Rattle.hol_session.specs.Session.{CountsUp, Finishes, StopsReading, StopsWriting};
 
 use crate::answering::answer;
@@ -16,7 +16,7 @@ use std::alloc::Global;
 struct JsonLines;
 
 impl<D: Editable> Service<D> for JsonLines {
-    ghost may_answer = { λ old line text closed new. MayAnswer (D.value old) line text closed (D.value new) };
+    ghost may_answer = { λ old line text closed new. MayAnswer (counted (D.value old) (D.ran old)) line text closed (counted (D.value new) (D.ran new)) };
 
     fn answer(&self, alloc: Global, state: &mut D, line: &[u8]) -> Reply {
         answer(alloc, state, line)
@@ -42,21 +42,21 @@ pub fn run<R: Source, W: Sink, D: Editable>(
     docs: &mut D,
 ) -> Result<(), Fault>
     // The replies of a run of the machine over the lines of what was read, and nothing else.
-    ensures ok { OnOk result (Finishes MayAnswer (D.value docs.old) (D.value docs.new)
+    ensures ok { OnOk result (Finishes MayAnswer (counted (D.value docs.old) (D.ran docs.old)) (counted (D.value docs.new) (D.ran docs.new))
         (R.remaining reader.old) (R.remaining reader.new) (W.contents writer.old) (W.contents writer.new)) }
     // The replies to the whole lines of what was read.
-    ensures read_fault { result ≡ Err Fault.Read → StopsReading MayAnswer (D.value docs.old) (D.value docs.new)
+    ensures read_fault { result ≡ Err Fault.Read → StopsReading MayAnswer (counted (D.value docs.old) (D.ran docs.old)) (counted (D.value docs.new) (D.ran docs.new))
         (R.remaining reader.old) (R.remaining reader.new) (W.contents writer.old) (W.contents writer.new)
         × (R.has_failed reader.new ⊎ CountsUp read_limit (R.reads reader.old) (R.reads reader.new)) }
     // The replies but for an end of the last, which was served.
-    ensures write_fault { result ≡ Err Fault.Write → StopsWriting MayAnswer (D.value docs.old) (D.value docs.new)
+    ensures write_fault { result ≡ Err Fault.Write → StopsWriting MayAnswer (counted (D.value docs.old) (D.ran docs.old)) (counted (D.value docs.new) (D.ran docs.new))
         (R.remaining reader.old) (R.remaining reader.new) (W.contents writer.old) (W.contents writer.new)
         × W.has_failed writer.new }
     // No fault is passed over.
     ensures reads { result ≢ Err Fault.Read → R.has_failed reader.new → R.has_failed reader.old }
     ensures writes { result ≢ Err Fault.Write → W.has_failed writer.new → W.has_failed writer.old }
     ensures memory { result ≡ Err Fault.Memory
-        → (reader.new ≡ reader.old) × (writer.new ≡ writer.old) × (D.value docs.new ≡ D.value docs.old) }
+        → (reader.new ≡ reader.old) × (writer.new ≡ writer.old) × (D.value docs.new ≡ D.value docs.old) × (D.ran docs.new ≡ D.ran docs.old) }
 {
     run_lines(alloc, reader, writer, &JsonLines, docs)
 }

@@ -49,6 +49,8 @@ pub data ReplyValue : Type 0 where
   Lists : List (List ℕ) → ReplyValue
   -- the items that a theorem rests on, or none where there is no such theorem
   RestsOn : Option (List (List ℕ)) → ReplyValue
+  -- how many commands were run
+  Counts : ℕ → ReplyValue
   -- the session ends
   Closed : ReplyValue
 
@@ -80,6 +82,7 @@ reply_data Done = object (member (codes "ok") (boolean true) no_members)
 reply_data (Reports report) = report_data report
 reply_data (Lists texts) = object (member (codes "ok") (boolean true) (member (codes "theorems") (texts_data texts) no_members))
 reply_data (RestsOn items) = object (member (codes "items") (items_data items) (member (codes "ok") (boolean true) no_members))
+reply_data (Counts ran) = object (member (codes "ok") (boolean true) (member (codes "ran") (number (unsigned ran)) no_members))
 reply_data Closed = object (member (codes "ok") (boolean true) no_members)
 
 -- compact JSON with its keys in byte order, and a newline
@@ -93,4 +96,5 @@ closes Done = false
 closes (Reports report) = false
 closes (Lists texts) = false
 closes (RestsOn items) = false
+closes (Counts ran) = false
 closes Closed = true

@@ -13,6 +13,7 @@ pub data RequestText : Type 0 where
   Report : List ℕ → ℕ → RequestText
   Theorems : List ℕ → RequestText
   Basis : List ℕ → List ℕ → RequestText
+  Stats : RequestText
   Close : RequestText
 
 -- the string under a key
@@ -54,7 +55,8 @@ request_for op d =
     (if bytes_eq op (codes "report") then at_place Report d else
     (if bytes_eq op (codes "theorems") then theorems_of d else
     (if bytes_eq op (codes "basis") then basis_of d else
-    (if bytes_eq op (codes "close") then Some Close else None))))))))
+    (if bytes_eq op (codes "stats") then Some Stats else
+    (if bytes_eq op (codes "close") then Some Close else None)))))))))
 
 -- the request, or none where an op is unknown, or a key is missing or of the wrong kind
 abbrev pub request_of : Data → Option RequestText

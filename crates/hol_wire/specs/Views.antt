@@ -3,7 +3,7 @@ use Rattle.std.specs.Prelude.{ℕ, List, Option, String, option_map, map, string
 use Rattle.std.specs.Global.{Vec, Global}
 use Rattle.hol_wire.specs.declared.requests.Request.{Request}
 use Rattle.hol_wire.specs.declared.requests.Request.TheVariants as code
-use Rattle.hol_wire.specs.Requests.{RequestText, NewTheory, DropTheory, Insert, Replace, Remove, Report, Theorems, Basis, Close}
+use Rattle.hol_wire.specs.Requests.{RequestText, NewTheory, DropTheory, Insert, Replace, Remove, Report, Theorems, Basis, Stats, Close}
 
 abbrev pub request_text : Request → RequestText
 request_text (code.NewTheory name at) = NewTheory name.now at
@@ -14,6 +14,7 @@ request_text (code.Remove theory at) = Remove theory.now at
 request_text (code.Report theory at) = Report theory.now at
 request_text (code.Theorems theory) = Theorems theory.now
 request_text (code.Basis theory name) = Basis theory.now name.now
+request_text code.Stats = Stats
 request_text code.Close = Close
 
 -- the texts of items, or none

@@ -11,6 +11,6 @@ mod requests;
 
 pub use constants::{closed, done, line_too_long, memory, not_json, refused, shape};
 pub use reading::request_of;
-pub use replies::{lists, reports, rests_on};
+pub use replies::{counts, lists, reports, rests_on};
 pub use reply::{Reply, ReplyText};
 pub use requests::Request;

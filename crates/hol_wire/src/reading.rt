@@ -100,6 +100,7 @@ pub fn request_of<'v>(value: &'v Value) -> Option<Request<'v>>
         "report" => report_of(value),
         "theorems" => theorems_of(value),
         "basis" => basis_of(value),
+        "stats" => Some(Request::Stats),
         "close" => Some(Request::Close),
         _ => None,
     }

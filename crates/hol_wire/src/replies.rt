@@ -9,7 +9,7 @@ ghost use Rattle.hol_exec.specs.ReportValue.{ShowsGoals, HasMade, WasRefused};
 ghost use Rattle.hol_exec.specs.ReportView.{report_value};
 ghost use Rattle.hol_exec.specs.ShowGoal.{goal_text};
 ghost use Rattle.hol_wire.specs.ReplyBytes.{reply_bytes};
-ghost use Rattle.hol_wire.specs.Replies.{Reports, Lists, RestsOn, texts_data, goal_data, report_data, items_data, reply_data};
+ghost use Rattle.hol_wire.specs.Replies.{Reports, Lists, RestsOn, Counts, texts_data, goal_data, report_data, items_data, reply_data};
 ghost use Rattle.hol_wire.specs.Texts.{Says};
 ghost use Rattle.hol_wire.specs.Views.{items_text};
 
@@ -138,5 +138,19 @@ pub fn rests_on(alloc: Global, items: Option<Vec<String>>) -> Result<Reply, Allo
     ensures { IfOk result (Says (RestsOn (items_text items))) }
 {
     let value = basis_value(alloc, items)?;
+    line_of(alloc, &value)
+}
+
+fn count_value(alloc: Global, ran: u64) -> Result<Value, AllocError>
+    ensures { IfOk result (λ value. view value ≡ reply_data (Counts ran)) }
+{
+    json!(in alloc; {"ok": true, "ran": ran})
+}
+
+/// The reply to `stats`.
+pub fn counts(alloc: Global, ran: u64) -> Result<Reply, AllocError>
+    ensures { IfOk result (Says (Counts ran)) }
+{
+    let value = count_value(alloc, ran)?;
     line_of(alloc, &value)
 }

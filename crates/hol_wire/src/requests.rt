@@ -43,6 +43,8 @@ pub enum Request<'v> {
         theory: &'v str,
         name: &'v str,
     },
+    /// How many commands were run.
+    Stats,
     /// The session ends.
     Close,
 }

@@ -1,10 +1,10 @@
-use Rattle.std.proofs.Common.{◌∙◌, ap, []}
+use Rattle.std.proofs.Common.{◌∙◌, ap, [], map}
 use Rattle.std.proofs.lemmas.Result.{on_ok_weaker}
 use Rattle.hol_serve.specs.Begun.{begun_by}
-use Rattle.hol_serve.specs.BegunView.{names_differ}
+use Rattle.hol_serve.specs.BegunView.{row_of, names_differ}
 use Rattle.hol_session.specs.Machine.{MayAnswer}
 use Rattle.hol_session.specs.Session.{Finishes, StopsReading, StopsWriting}
-use Rattle.hol_serve.proofs.Registering.{names_of_rows, names_plain, rows_taken, begins}
+use Rattle.hol_serve.proofs.Registering.{names_of_rows, names_plain, rows_taken, begins, counted_begun}
 use Rattle.hol_serve.proofs.begun.serve_with.Goals as goal
 
 pub setup_of-requires-clause-differ : goal.setup_of-requires-clause-differ
@@ -14,7 +14,9 @@ pub returns-clause-ok : goal.returns-clause-ok
 returns-clause-ok g c =
     on_ok_weaker c.run.result (λ h.
     begins (λ old new. Finishes MayAnswer old new (g.R.Read.remaining c.args.reader.now) (g.R.Read.remaining c.run.new.reader) (g.W.Write.contents c.args.writer.now) (g.W.Write.contents c.run.new.writer)) _ _ _
-    (c.new-docs.ensures ∙ ap (λ s. record { theories = []; setup = s; cache = c.args.cache }) c.in_ok-setup.ensures ∙ ap (λ rows. begun_by rows c.args.turns c.args.cache) (rows_taken c.args.codes.now c.loop-code.code-index _ c.loop-code-test.false c.loop-code.invariant))
+    (counted_begun _ (map row_of c.args.codes.now) c.args.turns c.args.cache _
+        (c.in_ok-docs.ensures.documents ∙ ap (λ s. record { theories = []; setup = s; cache = c.args.cache }) c.in_ok-setup.ensures ∙ ap (λ rows. (begun_by rows c.args.turns c.args.cache).documents) (rows_taken c.args.codes.now c.loop-code.code-index _ c.loop-code-test.false c.loop-code.invariant))
+        c.in_ok-docs.ensures.ran)
     h)
     c.run.ensures.ok
 
@@ -22,7 +24,9 @@ pub returns-clause-read_fault : goal.returns-clause-read_fault
 returns-clause-read_fault g c e =
     let (stops, failed) = c.run.ensures.read_fault e in (
       begins (λ old new. StopsReading MayAnswer old new (g.R.Read.remaining c.args.reader.now) (g.R.Read.remaining c.run.new.reader) (g.W.Write.contents c.args.writer.now) (g.W.Write.contents c.run.new.writer)) _ _ _
-          (c.new-docs.ensures ∙ ap (λ s. record { theories = []; setup = s; cache = c.args.cache }) c.in_ok-setup.ensures ∙ ap (λ rows. begun_by rows c.args.turns c.args.cache) (rows_taken c.args.codes.now c.loop-code.code-index _ c.loop-code-test.false c.loop-code.invariant))
+          (counted_begun _ (map row_of c.args.codes.now) c.args.turns c.args.cache _
+              (c.in_ok-docs.ensures.documents ∙ ap (λ s. record { theories = []; setup = s; cache = c.args.cache }) c.in_ok-setup.ensures ∙ ap (λ rows. (begun_by rows c.args.turns c.args.cache).documents) (rows_taken c.args.codes.now c.loop-code.code-index _ c.loop-code-test.false c.loop-code.invariant))
+              c.in_ok-docs.ensures.ran)
           stops,
       failed,
     )
@@ -31,7 +35,9 @@ pub returns-clause-write_fault : goal.returns-clause-write_fault
 returns-clause-write_fault g c e =
     let (stops, failed) = c.run.ensures.write_fault e in (
       begins (λ old new. StopsWriting MayAnswer old new (g.R.Read.remaining c.args.reader.now) (g.R.Read.remaining c.run.new.reader) (g.W.Write.contents c.args.writer.now) (g.W.Write.contents c.run.new.writer)) _ _ _
-          (c.new-docs.ensures ∙ ap (λ s. record { theories = []; setup = s; cache = c.args.cache }) c.in_ok-setup.ensures ∙ ap (λ rows. begun_by rows c.args.turns c.args.cache) (rows_taken c.args.codes.now c.loop-code.code-index _ c.loop-code-test.false c.loop-code.invariant))
+          (counted_begun _ (map row_of c.args.codes.now) c.args.turns c.args.cache _
+              (c.in_ok-docs.ensures.documents ∙ ap (λ s. record { theories = []; setup = s; cache = c.args.cache }) c.in_ok-setup.ensures ∙ ap (λ rows. (begun_by rows c.args.turns c.args.cache).documents) (rows_taken c.args.codes.now c.loop-code.code-index _ c.loop-code-test.false c.loop-code.invariant))
+              c.in_ok-docs.ensures.ran)
           stops,
       failed,
     )
