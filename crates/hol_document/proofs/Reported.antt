@@ -44,14 +44,14 @@ text_there (x ∷ slots) (suc at) slot is h = text_there slots at slot is (omega
 pub report_stands : (docs : Documents) (i at : ℕ) (theory : StandingValue) (slot : SlotValue) (goals : List GoalValue) (report : ReportValue)
     → IsStandingAt docs i theory → at < length (commands_at docs i) → slot ≡ get_or theory.slots at slot → ((proof : Option ProofValue) → slot.opened ≡ newest_of proof → goals ≡ open_goals proof) → MakesTheorems slot.row.outcome
     → report ≡ report_with slot.row.outcome goals → IsProvedReport docs i at report
-report_stands docs i at theory slot goals report h stands is open makes says =
+report_stands docs i at theory slot goals report h stands is shows makes says =
     let within = within_theory docs i at theory h stands in
     let split = slots_split docs.setup (map ended h.before) start theory.last at theory.slots h.are in
     let here : IsSlot docs.setup (map ended h.before) split.0 slot = (subst (λ slots. AreSlots docs.setup (map ended h.before) split.0 slots theory.last) (slot_there theory.slots at slot within is) split.2).0 in
     let text : slice_index_or (commands_at docs i) at [] ≡ slot.text = ap (λ (texts : List (List ℕ)). slice_index_or texts at []) (commands_are docs i theory h) ∙ text_there theory.slots at slot is within in
     let texts : take at (commands_at docs i) ≡ texts_of (take at theory.slots) = ap (take at) (commands_are docs i theory h) ∙ sym (take_map (λ (slot : SlotValue). slot.text) theory.slots at) in
     let leads : AreRows docs.setup (map ended h.before) start (texts_of (take at theory.slots)) (rows_of (take at theory.slots)) split.0 = rows_of_slots docs.setup (map ended h.before) start (take at theory.slots) split.0 split.1 in
-    let shown : goals ≡ open_goals (after split.0 slot.row.outcome).proof = open (after split.0 slot.row.outcome).proof here.opened in
+    let shown : goals ≡ open_goals (after split.0 slot.row.outcome).proof = shows (after split.0 slot.row.outcome).proof here.opened in
     record {
       is = record {
         before = h.before;

@@ -16,11 +16,15 @@ pub(crate) struct Line {
 
 impl Model for Line {
     ghost use Rattle.std.specs.Prelude.{string_bytes};
+    ghost use Rattle.std.specs.Coded.{codes};
+    ghost use Rattle.hol_exec.specs.CommandCode.{coded_command};
     ghost use Rattle.hol_exec.specs.Reading.{IsRead};
     ghost use Rattle.hol_exec.specs.ParsedView.{parsed_value};
     ghost use Rattle.hol_document.specs.Slots.{LineValue};
 
     ghost Value = { LineValue };
+
+    ghost coded = { Prim.hlevel (codes, coded_command) };
 
     ghost view = { λ l. record { text = string_bytes l.text; value = parsed_value l.parsed } };
 

@@ -18,9 +18,15 @@ pub(crate) struct Slot {
 
 impl Model for Slot {
     ghost use Rattle.std.specs.Option.{option_map};
+    ghost use Rattle.std.specs.Coded.{codes};
+    ghost use Rattle.hol_exec.specs.CommandCode.{coded_command};
+    ghost use Rattle.hol_stack.specs.Codes.{step_code};
+    ghost use Rattle.hol_exec.specs.Codes.{coded_reads, coded_outcome};
     ghost use Rattle.hol_document.specs.Slots.{SlotValue};
 
     ghost Value = { SlotValue };
+
+    ghost coded = { Prim.hlevel (codes, coded_command, coded_reads, coded_outcome, step_code) };
 
     ghost view = { λ s. record { text = s.line.value.text; row = record { value = s.line.value.value; reads = option_map (λ r. r.value) s.reads; outcome = s.outcome.value }; opened = s.opened } };
 }

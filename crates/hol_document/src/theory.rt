@@ -24,9 +24,15 @@ struct TheoryShared {
 
 impl Model for Theory {
     ghost use Rattle.std.specs.Prelude.{map, string_bytes};
+    ghost use Rattle.std.specs.Coded.{codes};
+    ghost use Rattle.hol_exec.specs.CommandCode.{coded_command};
+    ghost use Rattle.hol_stack.specs.Codes.{step_code};
+    ghost use Rattle.hol_exec.specs.Codes.{coded_reads, coded_outcome, coded_state};
     ghost use Rattle.hol_document.specs.Slots.{StandingValue};
 
     ghost Value = { StandingValue };
+
+    ghost coded = { Prim.hlevel (codes, coded_command, coded_reads, coded_outcome, step_code, coded_state) };
 
     ghost view = { λ t. record { name = string_bytes t.shared.value.name.value; slots = map (λ slot. slot.value) t.shared.value.slots.items; last = t.shared.value.last.value } };
 }

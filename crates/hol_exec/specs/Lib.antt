@@ -1,4 +1,5 @@
 pub use Rattle.hol_notation_commands.specs.Text as CommandText
+pub use Rattle.hol_notation_commands.specs.Code as CommandCode
 pub use Rattle.hol_notation_commands.specs.CommandView
 pub use Rattle.hol_notation_commands.specs.Reading
 pub use Rattle.hol_print.specs.ShowGoal

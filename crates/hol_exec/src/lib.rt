@@ -20,7 +20,7 @@ pub use reading::{Parsed, parse, unread};
 pub use reads::{Changes, CommandKeys, Reads};
 pub use reports::{RefusalKind, Report, entry_text, goals_of, report_of, report_with};
 pub use running::{
-    EarlierTheory, Meter, Outcome, Setup, SetupTable, apply, direct, outcome_from, promise_each,
-    resume, run_local,
+    EarlierTheory, Meter, Outcome, Setup, SetupTable, apply, direct, promise_each, resume,
+    run_local,
 };
 pub use state::State;

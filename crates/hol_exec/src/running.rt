@@ -17,6 +17,6 @@ pub(crate) use outcome::Change;
 pub use outcome::Outcome;
 pub(crate) use refused::{name_taken, refused, refused_at, refused_name};
 pub(crate) use registered::RegisteredTac;
-pub use run::{outcome_from, run_local};
+pub use run::run_local;
 pub use setup::Setup;
 pub use setup_table::SetupTable;

@@ -54,7 +54,7 @@ pub fn run_local(
     outcome_from(alloc, meter.setup(), command, reads)
 }
 
-/// The same, where no count is kept.
+/// The same
 pub fn outcome_from(
     alloc: Global,
     setup: &Setup,
