@@ -120,7 +120,7 @@ affected_after front mids news omids more len =
 pub record IsAfter (setup : SetupValue) (standing : List StandingValue) (place : EditPlace) (texts : List TheoryText) (n r : ℕ) (done : List StandingValue) : Type 0 where
   pub stand : AreStanding setup [] done
   pub texts_are : map text_of done ≡ texts
-  pub runs : RunsAffected (record { theories = map text_of standing; setup = setup }) (record { theories = map text_of done; setup = setup }) place n r
+  pub runs : (cache : ℕ) → RunsAffected (record { theories = map text_of standing; setup = setup; cache = cache }) (record { theories = map text_of done; setup = setup; cache = cache }) place n r
 
 after_all : (setup : SetupValue) (standing front mids rest done : List StandingValue) (place : EditPlace) (omids : List (List (Option Row))) (n m r : ℕ)
     → AreStanding setup [] standing → AreStanding setup [] (front ++ mids) → length omids ≡ length mids
@@ -133,7 +133,7 @@ after_all setup standing front mids rest done place omids n m r old stand len si
     record {
       stand = new;
       texts_are = ap (map text_of) all ∙ (map_more text_of (front ++ mids) news ∙ ap (λ ts. map text_of (front ++ mids) ++ ts) follow.texts_are);
-      runs = record {
+      runs = λ cache. record {
         before = map run_of standing;
         stood = runs_of_standing setup [] standing old;
         runs = map run_of done;
@@ -204,9 +204,9 @@ text_there [] i t h is = absurd (none i h)
 text_there (x ∷ standing) zero t h is = ap text_of (sym is)
 text_there (x ∷ standing) (suc i) t h is = text_there standing i t (omega (arith, h)) is
 
-pub standing_at : (docs : Documents) (setup : SetupValue) (standing : List StandingValue) (i : ℕ) (t : StandingValue) → record { theories = map text_of standing; setup = setup } ≡ docs
+pub standing_at : (docs : Documents) (setup : SetupValue) (cache : ℕ) (standing : List StandingValue) (i : ℕ) (t : StandingValue) → record { theories = map text_of standing; setup = setup; cache = cache } ≡ docs
     → AreStanding setup [] standing → i < length standing → t ≡ get_or standing i t → IsStandingAt docs i t
-standing_at docs setup standing i t is stand h here =
+standing_at docs setup cache standing i t is stand h here =
     let parts = standing_split setup [] i standing stand in
     let slots = theory_here setup (map ended_of (take i standing)) standing i t h here parts.1 in
     subst (λ (d : Documents). IsStandingAt d i t) is (record {
@@ -305,9 +305,9 @@ pub runs_as : (a a' b b' : Documents) (place : EditPlace) (n r : ℕ) → a ≡ 
 runs_as a a' b b' place n r e f h = subst (λ d. RunsAffected d b' place n r) e (subst (λ d. RunsAffected a d place n r) f h)
 
 -- documents by another name of their set-up
-pub docs_as : (theories : List TheoryText) (setup other : SetupValue) → setup ≡ other
-    → ◌≡◌ {A = Documents} (record { theories = theories; setup = other }) (record { theories = theories; setup = setup })
-docs_as theories setup other e = λ i. record { theories = theories; setup = sym e i }
+pub docs_as : (theories : List TheoryText) (setup other : SetupValue) (cache : ℕ) → setup ≡ other
+    → ◌≡◌ {A = Documents} (record { theories = theories; setup = other; cache = cache }) (record { theories = theories; setup = setup; cache = cache })
+docs_as theories setup other cache e = λ i. record { theories = theories; setup = sym e i; cache = cache }
 
 pub standing_as : (setup other : SetupValue) (done : List StandingValue) → other ≡ setup → AreStanding setup [] done → AreStanding other [] done
 standing_as setup other done e h = subst (λ s. AreStanding s [] done) (sym e) h

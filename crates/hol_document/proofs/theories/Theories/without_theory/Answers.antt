@@ -51,5 +51,5 @@ returns-clause-affected g c =
         (rest_of c.self.inside.standing.items c.deref-2.result.now (c.args.i + 1) c.deref-2.ensures.value) c.in_ok-follow.ensures.follow in
     let own : c.in_ok-clone-2.field-0.value ≡ c.self.inside.setup.value = search rules in
     runs_as _ _ _ _ (DropsTheory c.args.i) (ran_of c.args.meter.now) (ran_of c.follow.new.meter)
-        (docs_as (map text_of c.self.inside.standing.items) c.self.inside.setup.value (setup_of c.args.meter.now) same ∙ c.self.view_is)
-        (docs_as (map text_of c.follow.new.done.items) c.in_ok-clone-2.field-0.value (setup_of c.args.meter.now) (own ∙ same)) after.runs
+        (docs_as (map text_of c.self.inside.standing.items) c.self.inside.setup.value (setup_of c.args.meter.now) c.self.inside.cache same ∙ c.self.view_is)
+        (docs_as (map text_of c.follow.new.done.items) c.in_ok-clone-2.field-0.value (setup_of c.args.meter.now) c.self.inside.cache (own ∙ same)) (after.runs c.self.inside.cache)
