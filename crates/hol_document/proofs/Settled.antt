@@ -59,6 +59,18 @@ row_keyed setup earlier s text row is = λ command e. (
   record { cited = keys_here s.entries (cited_keys command); made = keys_here s.entries (made_keys command) },
 )
 
+-- what a command reads is untouched, and the open proof is the same
+pub passed_over : (drift : DriftValue) (row : Row) (command : LocalText) (reads : ReadsValue) → row.value ≡ Reads (Local command) → row.reads ≡ Some reads → IsKeyed row → drift.proof ≡ true
+    → AreApart drift.changed (keys_of reads.cited) × AreApart drift.changed (keys_of reads.made) → IsPassedOver drift row.value
+passed_over drift row command reads is read keyed held apart =
+    let (own, own_read, keys) = keyed command is in
+    let one : Some own ≡ Some reads = sym own_read ∙ read in
+    let same : own ≡ reads = cc in
+    subst (IsPassedOver drift) (sym is) ((
+      subst (AreApart drift.changed) (ap (λ (r : ReadsValue). keys_of r.cited) (sym same) ∙ keys.cited) apart.0,
+      subst (AreApart drift.changed) (ap (λ (r : ReadsValue). keys_of r.made) (sym same) ∙ keys.made) apart.1,
+    ), held)
+
 -- the slot of a row that stands at the state
 pub row_slot : (setup : SetupValue) (earlier : List EndedTheory) (s next : StateValue) (slot : SlotValue)
     → IsRow setup earlier s slot.text slot.row → next ≡ after s slot.row.outcome → slot.opened ≡ newest_of next.proof → IsTheory next.entries → IsSlot setup earlier s slot

@@ -26,10 +26,10 @@ same_counted : (a b : Counted) → a.documents ≡ b.documents → a.ran ≡ b.r
 same_counted a b d r = λ i. counted (d i) (r i)
 
 made_edit : (old new : Counted) (edit : Result (List TheoryText) Refusal) (Runs : Type 0) → edit ≡ Ok new.documents.theories → new.documents.setup ≡ old.documents.setup
-    → new.documents.cache ≡ old.documents.cache → Runs → Edits old edit Runs Done new
-made_edit old new edit Runs made setup cache runs =
+    → new.documents.cache ≡ old.documents.cache → old.ran ≤ new.ran → Runs → Edits old edit Runs Done new
+made_edit old new edit Runs made setup cache rises runs =
     subst (λ (e : Result (List TheoryText) Refusal). Edits old e Runs Done new) (sym made)
-        (refl, λ i. record { theories = new.documents.theories; setup = setup i; cache = cache i }, runs)
+        (refl, λ i. record { theories = new.documents.theories; setup = setup i; cache = cache i }, rises, runs)
 
 refused_edit : (old new : Counted) (edit : Result (List TheoryText) Refusal) (Runs : Type 0) (refusal : Refusal)
     → edit ≡ Err refusal → new.documents ≡ old.documents → new.ran ≡ old.ran → Edits old edit Runs (Refused (ByDocuments refusal)) new
@@ -39,14 +39,14 @@ refused_edit old new edit Runs refusal is kept uncounted =
 -- the reply to an edit, which is made or refused
 pub served_edit : {E : Type 0} (old new : Counted) (edit : Result (List TheoryText) Refusal) (Runs : Type 0) (r : Result (Unit {0}) DocsError) (answer : Result Reply E)
     → OnOk r (edit ≡ Ok new.documents.theories) → IfErr r (IfRefused (λ refusal. edit ≡ Err refusal)) → OnErr r (new.documents ≡ old.documents) → new.documents.setup ≡ old.documents.setup
-    → new.documents.cache ≡ old.documents.cache → OnOk r Runs → IfErr r (IfRefused (λ refusal. new.ran ≡ old.ran))
+    → new.documents.cache ≡ old.documents.cache → old.ran ≤ new.ran → OnOk r Runs → IfErr r (IfRefused (λ refusal. new.ran ≡ old.ran))
     → IfOk answer (λ reply. OnOk r (Says Done reply))
     → IfOk answer (λ reply. IfErr r (λ error. (refusal : Refusal) × (error ≡ DocsError.Refused refusal) × Says (Refused (ByDocuments refusal)) reply))
     → IfOk answer (λ reply. (value : ReplyValue) × Says value reply × Edits old edit Runs value new)
-served_edit old new edit Runs (Ok done) (Ok reply) made refused kept setup cache runs uncounted says_done says_refused = (Done, says_done, made_edit old new edit Runs made setup cache runs)
-served_edit old new edit Runs (Err error) (Ok reply) made refused kept setup cache runs uncounted says_done (refusal, is, says) =
+served_edit old new edit Runs (Ok done) (Ok reply) made refused kept setup cache rises runs uncounted says_done says_refused = (Done, says_done, made_edit old new edit Runs made setup cache rises runs)
+served_edit old new edit Runs (Err error) (Ok reply) made refused kept setup cache rises runs uncounted says_done (refusal, is, says) =
     (Refused (ByDocuments refusal), says, refused_edit old new edit Runs refusal (told (λ f. edit ≡ Err f) error refusal is refused) kept (told (λ f. new.ran ≡ old.ran) error refusal is uncounted))
-served_edit old new edit Runs r (Err e) made refused kept setup cache runs uncounted says_done says_refused = tt
+served_edit old new edit Runs r (Err e) made refused kept setup cache rises runs uncounted says_done says_refused = tt
 
 -- an edit that finds no memory changes nothing
 pub kept_edit : {A E : Type 0} (P : Type 0) (r : Result (Unit {0}) DocsError) (answer : Result A E) → OnErr answer (r ≡ Err DocsError.Memory) → OnErr r P → OnErr answer P

@@ -27,7 +27,7 @@ counted documents ran = record { documents = documents; ran = ran }
 
 -- An edit that gives these theories, with what is said of the commands that it ran; or it is refused, and runs none.
 abbrev pub Edits : Counted → Result (List TheoryText) Refusal → Type 0 → ReplyValue → Counted → Type 0
-Edits old (Ok theories) Runs reply new = (reply ≡ Done) × (new.documents ≡ with_theories old.documents theories) × Runs
+Edits old (Ok theories) Runs reply new = (reply ≡ Done) × (new.documents ≡ with_theories old.documents theories) × (old.ran ≤ new.ran) × Runs
 Edits old (Err refusal) Runs reply new = (reply ≡ Refused (ByDocuments refusal)) × (new ≡ old)
 
 -- the reply to what the documents answer
