@@ -1,19 +1,16 @@
 -- States that are alike give the commands that read nothing changed the same rows, and stay alike.
-use Rattle.std.specs.Prelude.{◌≡◌, ℕ, List, [], ◌∷◌, ◌++◌, Bool, true, false, cond, Option, Some, None, is_some, IsTrue, refl}
-use Rattle.std.specs.List.{list_any}
+use Rattle.std.specs.Prelude.{◌≡◌, ℕ, List, [], ◌∷◌, ◌++◌, Bool, true, false, cond, Option, Some, None, is_some, refl}
 use Rattle.std.proofs.Common.{ap, sym, ◌∙◌, subst}
-use Rattle.hol_goal.specs.Goal.{GoalValue}
-use Rattle.hol_stack.specs.StackValue.{StepValue}
 use Rattle.hol_theory.specs.Entry.{EntryValue, Entries, entry_at}
 use Rattle.hol_theory.specs.Key.{KeyValue, key_eq}
 use Rattle.hol_exec.specs.declared.reports.refusal.RefusalKind.TheVariants as refusal
 use Rattle.hol_exec.specs.At.{IsOutcome, direct, undoes, rotates, drops, imports_theory}
-use Rattle.hol_exec.specs.Changes.{IsApart, AreApart}
+use Rattle.hol_exec.specs.ChangedKeys.{IsApart, AreApart}
 use Rattle.hol_exec.specs.CommandText.{LocalText, DirectText, Back, Rotate, Oops, Import, Local, Direct}
 use Rattle.hol_exec.specs.Keys.{cited_keys, made_keys}
 use Rattle.hol_exec.specs.OutcomeValue.{OutcomeValue, Opens, Leaves, Undoes, Rotates, Makes, Refuses, stepped_in, undone_in, rotated_in, after}
 use Rattle.hol_exec.specs.Reading.{ReadText, Reads, Breaks}
-use Rattle.hol_exec.specs.ReadsValue.{Values, ReadsValue, values_of, goal_for, closing_for, reads_of, reads_at}
+use Rattle.hol_exec.specs.ReadsValue.{ReadsValue, values_of, goal_for, closing_for, reads_of, reads_at}
 use Rattle.hol_exec.specs.Setup.{SetupValue}
 use Rattle.hol_exec.specs.StateValue.{ProofValue, StateValue, EndedTheory, newest_of}
 use Rattle.hol_document.specs.Afresh.{Row, IsRow}

@@ -1,13 +1,13 @@
 -- States after outcomes that differ, apart from the keys that both make.
-use Rattle.std.specs.Prelude.{◌≡◌, ◌||◌, ℕ, List, [], ◌∷◌, ◌++◌, Bool, true, false, cond, not, Option, Some, None, refl}
+use Rattle.std.specs.Prelude.{◌≡◌, ◌||◌, [], ◌∷◌, ◌++◌, Bool, true, false, cond, not, Option, Some, None, refl}
 use Rattle.std.specs.List.{list_any}
 use Rattle.std.specs.Map.{keys_of}
-use Rattle.std.proofs.Common.{ap, sym, ◌∙◌, subst}
+use Rattle.std.proofs.Common.{ap, sym, ◌∙◌}
 use Rattle.hol_theory.specs.Entry.{EntryValue, Entries, entry_at}
 use Rattle.hol_theory.specs.Key.{KeyValue, key_eq}
-use Rattle.hol_exec.specs.Changes.{is_one_of, IsApart, keys_made}
+use Rattle.hol_exec.specs.ChangedKeys.{IsApart, keys_made}
 use Rattle.hol_exec.specs.OutcomeValue.{OutcomeValue, Opens, Leaves, Undoes, Rotates, Makes, Refuses, after}
-use Rattle.hol_exec.specs.StateValue.{ProofValue, StateValue, newest_of}
+use Rattle.hol_exec.specs.StateValue.{StateValue, newest_of}
 use Rattle.hol_document.specs.Alike.{DriftValue, AreAlike, after_any, keys_made_any}
 use Rattle.hol_document.proofs.Alike.{or_else, at_left, none_open}
 

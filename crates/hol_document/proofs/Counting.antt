@@ -1,9 +1,8 @@
 -- How many commands are affected: sums over parts.
-use Rattle.std.specs.Prelude.{◌≡◌, ◌≤◌, ◌<◌, ◌+◌, ℕ, zero, suc, List, [], ◌∷◌, ◌++◌, cond, map, take, drop, length, Option, Some, None, slice_set, refl}
-use Rattle.std.specs.List.{insert, remove}
-use Rattle.std.proofs.Common.{ap, sym, ◌∙◌, subst, arith}
+use Rattle.std.specs.Prelude.{◌≡◌, ◌+◌, List, [], ◌∷◌, ◌++◌, cond, map, length, Option, Some, None, refl}
+use Rattle.std.proofs.Common.{ap, ◌∙◌, arith}
 use Rattle.hol_exec.specs.ReadsValue.{ReadsValue}
-use Rattle.hol_exec.specs.SameReads.{same_reads, same_reads_are}
+use Rattle.hol_exec.specs.SameReads.{same_reads_are}
 use Rattle.hol_document.specs.Affected.{counts_beside, counts, affected_rows, affected_in, rows_before, changed_at}
 use Rattle.hol_document.specs.Afresh.{Row, TheoryRun}
 

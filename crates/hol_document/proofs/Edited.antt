@@ -7,13 +7,13 @@ use Rattle.std.proofs.Math.Seq.{drop-cons}
 use Rattle.hol_exec.specs.OutcomeValue.{after}
 use Rattle.hol_exec.specs.Setup.{SetupValue}
 use Rattle.hol_exec.specs.StateValue.{StateValue, EndedTheory, start}
-use Rattle.hol_document.specs.Affected.{counts, affected_rows}
+use Rattle.hol_document.specs.Affected.{affected_rows}
 use Rattle.hol_document.specs.Afresh.{Row}
-use Rattle.hol_document.specs.Settled.{AreRedone, HaveAdded, IsPut, IsEdited, rows_of, texts_of}
+use Rattle.hol_document.specs.Settled.{HaveAdded, IsPut, IsEdited, rows_of, texts_of}
 use Rattle.hol_document.specs.Slots.{SlotValue, IsSlot, AreSlots}
 use Rattle.hol_document.proofs.Counting.{rows_append, rows_same}
 use Rattle.hol_document.proofs.Redone.{map_more, map_length, take_map, drop_map}
-use Rattle.hol_document.proofs.Standing.{slots_append, slots_more}
+use Rattle.hol_document.proofs.Standing.{slots_append}
 
 texts_more : (xs ys : List SlotValue) → texts_of (xs ++ ys) ≡ texts_of xs ++ texts_of ys
 texts_more = map_more (λ (slot : SlotValue). slot.text)

@@ -1,14 +1,14 @@
 -- Theories after an edit: those before it as they were, one that is edited, new or dropped, and those that follow.
 use Rattle.std.specs.Prelude.{◌≡◌, ◌≤◌, ◌<◌, ◌+◌, ◌-◌, ℕ, zero, suc, List, [], ◌∷◌, ◌++◌, map, take, drop, length, get_or, slice_set, slice_index_or, cond, nat_lt, Bool, bytes_eq, position, Option, Some, None, refl}
-use Rattle.std.specs.List.{insert, remove, position_or_len}
+use Rattle.std.specs.List.{insert, position_or_len}
 use Rattle.std.proofs.lemmas.List.Recursion.{is_position_or_len}
 use Rattle.std.proofs.Common.{ap, sym, ◌∙◌, subst, append_assoc, arith, add-one}
 use Rattle.std.proofs.lemmas.List.{length-drop, take_all}
 use Rattle.std.proofs.Math.Seq.{drop-cons, take-suc}
 use Rattle.hol_exec.specs.Setup.{SetupValue}
 use Rattle.hol_exec.specs.StateValue.{StateValue, EndedTheory, start}
-use Rattle.hol_document.specs.Affected.{EditPlace, AddsTheory, DropsTheory, InsertsAt, ReplacesAt, RemovesAt, affected_rows, affected_in, rows_before, changed_at, beside, affected, RunsAffected}
-use Rattle.hol_document.specs.Afresh.{Row, TheoryRun, AreRuns, ended}
+use Rattle.hol_document.specs.Affected.{EditPlace, AddsTheory, DropsTheory, affected_rows, affected_in, rows_before, changed_at, beside, affected, RunsAffected}
+use Rattle.hol_document.specs.Afresh.{Row, AreRuns, ended}
 use Rattle.hol_document.specs.Documents.{Documents, TheoryText, find_theory, no_theory}
 use Rattle.hol_document.specs.Settled.{HaveAdded, IsEdited, AreFollowing, HaveFollowed, rows_of, texts_of, rows_beside, edit_place, edited_texts}
 use Rattle.hol_document.specs.Slots.{SlotValue, AreSlots, StandingValue, AreStanding, IsStandingAt, ended_of, text_of, run_of}

@@ -1,14 +1,13 @@
 -- Slots that are settled one after the other, and a theory that is put together of them.
-use Rattle.std.specs.Prelude.{◌≡◌, ◌≤◌, ◌<◌, ◌+◌, ◌-◌, ℕ, true, zero, suc, List, [], ◌∷◌, ◌++◌, map, take, drop, length, Option, Some, None, get_or, refl}
+use Rattle.std.specs.Prelude.{◌≡◌, ◌≤◌, ◌<◌, ◌+◌, ◌-◌, ℕ, true, zero, suc, List, [], ◌∷◌, ◌++◌, map, take, drop, length, Some, get_or, refl}
 use Rattle.std.proofs.Common.{ap, sym, ◌∙◌, subst, append_assoc, arith, add-one}
 use Rattle.std.proofs.lemmas.List.{length-drop, take_all}
 use Rattle.std.proofs.Math.ListN.{drop_of_length-le}
-use Rattle.std.proofs.Math.Seq.{drop-cons, take-suc, take-length}
+use Rattle.std.proofs.Math.Seq.{drop-cons, take-suc}
 use Rattle.hol_exec.specs.OutcomeValue.{OutcomeValue, after}
 use Rattle.hol_exec.specs.Setup.{SetupValue}
-use Rattle.hol_exec.specs.StateValue.{StateValue, EndedTheory, start}
+use Rattle.hol_exec.specs.StateValue.{StateValue, EndedTheory}
 use Rattle.hol_document.specs.Affected.{counts, affected_rows}
-use Rattle.hol_document.specs.Afresh.{Row}
 use Rattle.hol_document.specs.Alike.{DriftValue, AreAlike, EachImportsAlike}
 use Rattle.hol_document.specs.Settled.{AreRedone, HaveAdded, HaveLeft, rows_of, texts_of}
 use Rattle.hol_document.specs.Slots.{SlotValue, IsSlot, AreSlots}

@@ -1,22 +1,22 @@
 -- What is asked of a theory that stands is what running the documents afresh says.
-use Rattle.std.specs.Prelude.{◌≡◌, ◌<◌, ◌+◌, ℕ, List, [], ◌∷◌, ◌++◌, map, take, drop, length, Option, Some, None, get_or, slice_index_or, slice_get, zero, suc, refl}
+use Rattle.std.specs.Prelude.{◌≡◌, ◌<◌, ◌+◌, ℕ, List, [], ◌∷◌, ◌++◌, map, take, drop, length, Option, Some, get_or, slice_index_or, slice_get, zero, suc, refl}
 use Rattle.std.proofs.Common.{ap, sym, ◌∙◌, subst, append_assoc, add-one, arith}
-use Rattle.std.proofs.lemmas.List.{get_or_default, append-nil}
+use Rattle.std.proofs.lemmas.List.{append-nil}
 use Rattle.std.proofs.Math.Seq.{drop-cons, take-length}
 use Rattle.hol_goal.specs.Goal.{GoalValue}
-use Rattle.hol_exec.specs.OutcomeValue.{OutcomeValue, after, MakesTheorems}
-use Rattle.hol_exec.specs.ReportOf.{report_of, report_with}
+use Rattle.hol_exec.specs.OutcomeValue.{after, MakesTheorems}
+use Rattle.hol_exec.specs.ReportOf.{report_with}
 use Rattle.hol_exec.specs.ReportValue.{ReportValue}
-use Rattle.hol_exec.specs.StateValue.{ProofValue, StateValue, open_goals, newest_of, start}
+use Rattle.hol_exec.specs.StateValue.{ProofValue, open_goals, newest_of, start}
 use Rattle.hol_theory.specs.Entry.{EntryValue, Entries, entry_at}
 use Rattle.hol_theory.specs.Key.{KeyValue, theorem_key}
 use Rattle.hol_theory.specs.Theory.{IsTheory}
-use Rattle.hol_document.specs.Afresh.{Row, IsRow, AreRows, ended}
+use Rattle.hol_document.specs.Afresh.{IsRow, AreRows, ended}
 use Rattle.hol_document.specs.Asked.{commands_at, IsRunUpTo, BasisTexts, theorem_texts, theorem_texts_of}
-use Rattle.hol_document.specs.Documents.{TheoryText, Documents, no_theory}
+use Rattle.hol_document.specs.Documents.{TheoryText, Documents}
 use Rattle.hol_document.specs.Settled.{rows_of, texts_of}
 use Rattle.hol_document.specs.Shown.{IsProvedReport, IsProvedBasis, AreProvedTheorems}
-use Rattle.hol_document.specs.Slots.{SlotValue, IsSlot, AreSlots, StandingValue, IsStandingAt, text_of}
+use Rattle.hol_document.specs.Slots.{SlotValue, IsSlot, AreSlots, StandingValue, IsStandingAt}
 use Rattle.hol_document.proofs.Goals.{next_finishes}
 use Rattle.hol_document.proofs.Made.{all_made, runs_finished}
 use Rattle.hol_document.proofs.Redone.{map_length, take_map}

@@ -1,26 +1,26 @@
 -- Slots of answers, and of rows that stand again.
-use Rattle.std.specs.Prelude.{◌≡◌, ◌≤◌, ◌+◌, ℕ, List, [], ◌∷◌, Bool, true, false, cond, Option, Some, None, IsTrue, Result, Ok, Err, IfOk, map, refl}
+use Rattle.std.specs.Prelude.{◌≡◌, ◌≤◌, ◌+◌, ℕ, List, [], ◌∷◌, true, false, cond, Option, Some, None, Result, Ok, Err, IfOk, refl}
 use Rattle.std.specs.Map.{keys_of}
-use Rattle.std.proofs.Common.{ap, sym, ◌∙◌, subst, arith}
+use Rattle.std.proofs.Common.{ap, sym, ◌∙◌, subst}
 use Rattle.hol_theory.specs.Entry.{Entries}
 use Rattle.hol_theory.specs.Key.{KeyValue}
 use Rattle.hol_theory.specs.Theory.{IsTheory}
 use Rattle.hol_exec.specs.At.{IsOutcome, IsOutcomeAt}
-use Rattle.hol_exec.specs.Changes.{AreApart}
-use Rattle.hol_exec.specs.CommandText.{LocalText, Local, Direct, Back, Rotate, Oops, Import}
+use Rattle.hol_exec.specs.ChangedKeys.{AreApart}
+use Rattle.hol_exec.specs.CommandText.{LocalText, Local}
 use Rattle.hol_exec.specs.Keys.{cited_keys, made_keys}
 use Rattle.hol_exec.specs.OutcomeValue.{OutcomeValue, after}
-use Rattle.hol_exec.specs.Reading.{ReadText, Reads, Breaks, IsRead}
-use Rattle.hol_exec.specs.ReadsValue.{Values, ReadsValue, AreKeyed, values_of, reads_of, reads_at}
-use Rattle.hol_exec.specs.SameReads.{same_reads, same_reads_are}
+use Rattle.hol_exec.specs.Reading.{ReadText, Reads, IsRead}
+use Rattle.hol_exec.specs.ReadsValue.{ReadsValue, values_of, reads_of, reads_at}
+use Rattle.hol_exec.specs.SameReads.{same_reads}
 use Rattle.hol_exec.specs.Setup.{SetupValue}
 use Rattle.hol_exec.specs.StateValue.{StateValue, EndedTheory, AreTheories, newest_of}
 use Rattle.hol_document.specs.Affected.{counts_beside, counts}
 use Rattle.hol_document.specs.Afresh.{Row, IsRow}
 use Rattle.hol_document.specs.Alike.{DriftValue, AreAlike, IsPassedOver}
-use Rattle.hol_document.specs.Settled.{IsAnswer, IsKeyed, StoodAlike}
+use Rattle.hol_document.specs.Settled.{IsAnswer, IsKeyed}
 use Rattle.hol_document.specs.Slots.{SlotValue, IsSlot}
-use Rattle.hol_document.proofs.Alike.{next_alike, row_passed}
+use Rattle.hol_document.proofs.Alike.{next_alike}
 
 -- ---- answers
 

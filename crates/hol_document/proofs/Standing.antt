@@ -1,15 +1,15 @@
 -- Slots and theories that stand: put one after the other, split, and taken as they are.
-use Rattle.std.specs.Prelude.{◌≡◌, ◌≤◌, ◌<◌, ◌+◌, ◌||◌, ℕ, zero, suc, List, [], ◌∷◌, ◌++◌, Bool, true, false, cond, bytes_eq, map, take, drop, length, Option, Some, None, refl}
+use Rattle.std.specs.Prelude.{◌≡◌, ◌≤◌, ◌+◌, ◌||◌, ℕ, zero, suc, List, [], ◌∷◌, ◌++◌, Bool, true, false, cond, bytes_eq, map, take, drop, Option, Some, None, refl}
 use Rattle.std.specs.List.{list_any}
 use Rattle.std.proofs.Common.{ap, sym, ◌∙◌, subst, append_assoc, arith}
 use Rattle.hol_exec.specs.At.{IsOutcomeAt, entries_named}
 use Rattle.hol_exec.specs.CommandText.{Back, Rotate, Oops, Import, Local, Direct}
-use Rattle.hol_exec.specs.OutcomeValue.{OutcomeValue, after}
+use Rattle.hol_exec.specs.OutcomeValue.{after}
 use Rattle.hol_exec.specs.Reading.{ReadText, Reads, Breaks}
 use Rattle.hol_exec.specs.Setup.{SetupValue}
 use Rattle.hol_exec.specs.StateValue.{StateValue, EndedTheory, AreTheories, start}
 use Rattle.hol_theory.specs.Entry.{Entries}
-use Rattle.hol_document.specs.Afresh.{Row, IsRow, AreRows, TheoryRun, IsRun, AreRuns, ended}
+use Rattle.hol_document.specs.Afresh.{Row, IsRow, AreRows, AreRuns}
 use Rattle.hol_document.specs.Alike.{ImportsAlike, EachImportsAlike, EndAlike}
 use Rattle.hol_document.specs.Settled.{rows_of, texts_of}
 use Rattle.hol_document.specs.Slots.{SlotValue, IsSlot, AreSlots, StandingValue, AreStanding, ended_of, text_of, run_of}

@@ -1,9 +1,9 @@
 -- What a state has in common with the one that stood in its place before an edit: what private functions promise of these.
 use Rattle.std.specs.Prelude.{◌≡◌, ℕ, List, [], ◌∷◌, Bool, true, false, bytes_eq, Option, Some, None}
 use Rattle.std.specs.List.{list_any}
-use Rattle.hol_exec.specs.Changes.{IsApart, AreApart, keys_made}
+use Rattle.hol_exec.specs.ChangedKeys.{IsApart, AreApart, keys_made}
 use Rattle.hol_exec.specs.At.{entries_named}
-use Rattle.hol_exec.specs.CommandText.{LocalText, DirectText, Back, Rotate, Oops, Import, Local, Direct}
+use Rattle.hol_exec.specs.CommandText.{LocalText, Back, Rotate, Oops, Import, Local, Direct}
 use Rattle.hol_exec.specs.Keys.{cited_keys, made_keys}
 use Rattle.hol_exec.specs.Reading.{ReadText, Reads, Breaks}
 use Rattle.hol_exec.specs.OutcomeValue.{OutcomeValue, after}

@@ -1,5 +1,5 @@
 -- What private functions promise each other of running texts at a state, and of what stood there before an edit.
-use Rattle.std.specs.Prelude.{◌≡◌, ◌+◌, ◌≤◌, ◌<◌, ℕ, List, [], ◌∷◌, ◌++◌, map, slice_set, Option, Some, None}
+use Rattle.std.specs.Prelude.{◌≡◌, ◌+◌, ◌≤◌, ◌<◌, ℕ, List, ◌++◌, map, slice_set, Option, Some, None}
 use Rattle.std.specs.List.{insert, remove}
 use Rattle.hol_exec.specs.At.{IsOutcome}
 use Rattle.hol_exec.specs.CommandText.{LocalText, Local}

@@ -1,6 +1,6 @@
 -- What stands of documents: of each theory its slots, each with a text, what running that came to, and the proof's newest element after it. What private functions promise of
 -- these.
-use Rattle.std.specs.Prelude.{◌≡◌, ℕ, List, [], ◌∷◌, ◌++◌, map, take, slice_index_or, Option, Some, None}
+use Rattle.std.specs.Prelude.{◌≡◌, ℕ, List, [], ◌∷◌, ◌++◌, map, take, slice_index_or, Option}
 use Rattle.hol_exec.specs.OutcomeValue.{after}
 use Rattle.hol_exec.specs.Reading.{ReadText}
 use Rattle.hol_exec.specs.Setup.{SetupValue}

@@ -1,5 +1,5 @@
 //! What the theories that stand say.
-ghost use Rattle.std.specs.Prelude.{◌≡◌, ◌<◌, ◌++◌, IfOk, OnOk, Some, length, map, string_bytes, slice_index_or};
+ghost use Rattle.std.specs.Prelude.{◌≡◌, ◌<◌, ◌++◌, IfOk, OnOk, Some, length, map, string_bytes};
 ghost use Rattle.std.specs.Option.{option_map};
 ghost use Rattle.hol_exec.specs.ReportView.{report_value};
 ghost use Rattle.hol_document.specs.Asked.{BasisTexts, commands_at, theorem_texts, theorem_texts_of};

@@ -35,7 +35,7 @@ pub struct Docs {
 }
 
 impl Docs {
-    ghost use Rattle.std.specs.Prelude.{◌≡◌, ◌≤◌, ◌<◌, Ok, Err, Some, IfOk, IfErr, OnOk, OnErr, [], ℕ, List, length, string_bytes, map, slice_index_or};
+    ghost use Rattle.std.specs.Prelude.{◌≡◌, ◌≤◌, ◌<◌, Ok, Err, Some, IfOk, IfErr, OnOk, OnErr, [], ℕ, List, length, string_bytes, map};
     ghost use Rattle.std.specs.List.{insert, remove};
     ghost use Rattle.std.specs.Option.{option_map};
     ghost use Rattle.hol_exec.specs.ReportView.{report_value};
@@ -69,7 +69,7 @@ impl Docs {
         self.meter.ran()
     }
 
-    /// Makes a theory without commands at a place of the list of theories. What imports a theory of its name is run again.
+    /// Makes a theory without commands at a place of the list of theories. What reads something else than before is run.
     ///
     /// Refused where the name is taken, is bad, the place is above the number of theories, or 64 theories stand: in this order.
     pub fn new_theory(&mut self, name: &str, at: usize) -> Result<(), DocsError>
@@ -90,7 +90,7 @@ impl Docs {
         Ok(())
     }
 
-    /// Drops a theory with its commands. What imports it is run again.
+    /// Drops a theory with its commands. What reads something else than before is run.
     ///
     /// Refused where the theory is unknown.
     pub fn drop_theory(&mut self, name: &str) -> Result<(), DocsError>

@@ -1,19 +1,19 @@
 //! What is known of how a state differs from the one before an edit.
 ghost use Rattle.std.specs.Prelude.{◌≡◌, [], true, false, OnOk, Option, None, option_copied};
 ghost use Rattle.hol_exec.specs.StateValue.{StateValue, newest_of};
-ghost use Rattle.hol_exec.specs.Changes.{IsApart};
+ghost use Rattle.hol_exec.specs.ChangedKeys.{IsApart};
 ghost use Rattle.hol_exec.specs.OutcomeValue.{after};
 ghost use Rattle.hol_theory.specs.Key.{KeyValue};
 ghost use Rattle.hol_document.specs.Alike.{AreAlike, no_drift, after_any, keys_made_any};
 
-use hol_exec::{Changes, Outcome};
+use hol_exec::{ChangedKeys, Outcome};
 use std::alloc::{AllocError, Global};
 use std::marker::Model;
 
 /// What is known of how a state differs from the one before an edit: the changed keys, whether the entries are the same, and whether the open proof is.
 #[derive(Drop)]
 pub(crate) struct Drift {
-    changes: Changes,
+    changes: ChangedKeys,
     entries: bool,
     proof: bool,
 }
@@ -32,14 +32,14 @@ impl Drift {
         ensures { result ≡ no_drift }
     {
         Drift {
-            changes: Changes::new(alloc),
+            changes: ChangedKeys::new(alloc),
             entries: true,
             proof: true,
         }
     }
 
     /// The changed keys.
-    pub(crate) fn changes(&self) -> &Changes
+    pub(crate) fn changes(&self) -> &ChangedKeys
         ensures { result.now ≡ self.now.changed }
     {
         &self.changes

@@ -1,5 +1,5 @@
 //! A theory after an edit in it, and the theories after that.
-ghost use Rattle.std.specs.Prelude.{◌≡◌, ◌≤◌, ◌<◌, ◌+◌, ◌++◌, ◌∷◌, true, false, [], List, IfOk, OnOk, Some, None, map, take, drop, length, slice_set, string_bytes, bytes_eq};
+ghost use Rattle.std.specs.Prelude.{◌≡◌, ◌≤◌, ◌<◌, ◌+◌, ◌++◌, ◌∷◌, true, false, [], List, IfOk, OnOk, Some, None, map, drop, length, slice_set, string_bytes, bytes_eq};
 ghost use Rattle.std.specs.List.{insert, list_any, remove};
 ghost use Rattle.hol_exec.specs.MeterView.{setup_of, ran_of};
 ghost use Rattle.hol_exec.specs.CommandText.{Direct};

@@ -1,4 +1,4 @@
-//! A text at the state of now.
+//! What a text comes to at a state: its slot from before, where that stands there as well, or one that is made by running the text.
 ghost use Rattle.std.specs.Prelude.{◌≡◌, ◌≤◌, ◌+◌, List, true, false, IfOk, Some, None, map};
 ghost use Rattle.std.specs.Option.{option_map};
 ghost use Rattle.hol_exec.specs.At.{IsOutcomeAt};
@@ -29,11 +29,11 @@ use hol_exec::{
 use std::alloc::{AllocError, Global};
 use std::rc::Rc;
 
-/// What a text reads of a state, and its outcome there.
+// What a text reads of a state, and its outcome there.
 #[derive(Drop)]
-pub(crate) struct Answer {
-    pub(crate) reads: Option<Rc<Reads>>,
-    pub(crate) outcome: Outcome,
+struct Answer {
+    reads: Option<Rc<Reads>>,
+    outcome: Outcome,
 }
 
 // What the text reads of the state, and its outcome there.
@@ -102,7 +102,7 @@ fn answer_of_local(
     })
 }
 
-// The slot of an outcome, with which the state goes on.
+// The slot of an outcome, which the state is brought on by.
 fn carried_out(
     alloc: Global,
     line: &Rc<Line>,
@@ -148,7 +148,7 @@ pub(crate) fn run(
     carried_out(alloc, line, reads, outcome, state)
 }
 
-// Whether the row of the slot stands at the state as well: it was passed over, or it reads the same.
+// Whether the row of the slot stands at the state as well: nothing that it reads was changed, or it is found to read the same.
 fn keeps(slot: &Slot, state: &State, drift: &Drift) -> bool
     requires { IsKeyed slot.now.row }
     ensures yes { result ≡ true → (setup : SetupValue) (before earlier : List EndedTheory) (s : StateValue) → AreAlike drift.now s state.now

@@ -1,9 +1,9 @@
 //! The theories that stand.
-ghost use Rattle.std.specs.Prelude.{◌≡◌, ◌≤◌, ◌<◌, [], IfOk, IfSome, Some, map, length, string_bytes, slice_index_or, slice_set, position, bytes_eq};
+ghost use Rattle.std.specs.Prelude.{◌≡◌, ◌≤◌, ◌<◌, [], IfOk, map, length, slice_index_or, slice_set, position, bytes_eq};
 ghost use Rattle.std.specs.List.{insert, remove};
 ghost use Rattle.hol_exec.specs.MeterView.{setup_of, ran_of};
 ghost use Rattle.hol_document.specs.Affected.{RunsAffected, AddsTheory, DropsTheory};
-ghost use Rattle.hol_document.specs.Documents.{Documents, TheoryText, find_theory, no_theory};
+ghost use Rattle.hol_document.specs.Documents.{Documents, find_theory, no_theory};
 ghost use Rattle.hol_document.specs.Settled.{FitsAt, edited_texts, edit_place};
 ghost use Rattle.hol_document.specs.Slots.{IsStandingAt};
 

@@ -1,5 +1,5 @@
 -- Values that are compared with what stands under their keys, and keys that are looked up among changed ones, one after the other.
-use Rattle.std.proofs.Common.{◌≡◌, ℕ, ◌+◌, ◌<◌, ◌≤◌, List, [], ◌∷◌, length, get_or, drop, refl, sym, ap, ◌∙◌, subst, Bool, true, false, IsTrue, arith}
+use Rattle.std.proofs.Common.{◌≡◌, ℕ, ◌+◌, ◌<◌, ◌≤◌, List, ◌∷◌, length, get_or, drop, refl, sym, ap, subst, Bool, false, IsTrue}
 use Rattle.std.specs.Prelude.{◌↔◌, Option}
 use Rattle.std.specs.Map.{keys_of}
 use Rattle.std.proofs.lemmas.List.{drop_all}
@@ -7,7 +7,7 @@ use Rattle.hol_types.proofs.Steps.{next_of}
 use Rattle.hol_theory.specs.Key.{KeyValue}
 use Rattle.hol_theory.specs.Entry.{Entries, EntryValue, entry_at}
 use Rattle.hol_exec.specs.ReadsValue.{Values, values_of}
-use Rattle.hol_exec.specs.Changes.{is_one_of, AreApart}
+use Rattle.hol_exec.specs.ChangedKeys.{is_one_of, AreApart}
 
 -- the values are what stands under their keys
 abbrev pub Agree : Entries → Values → Type 0

@@ -1,5 +1,5 @@
 -- Changed keys, and more of them.
-use Rattle.std.proofs.Common.{◌≡◌, ℕ, ◌+◌, ◌<◌, ◌≤◌, List, [], ◌∷◌, ◌++◌, length, get_or, take, map, refl, sym, ap, ◌∙◌, subst, Bool, true, false, ◌||◌, if◌then◌else◌}
+use Rattle.std.proofs.Common.{◌≡◌, ℕ, ◌+◌, ◌<◌, List, [], ◌∷◌, ◌++◌, length, get_or, take, map, refl, sym, ap, ◌∙◌, Bool, true, false, ◌||◌, if◌then◌else◌}
 use lib.Bits.{bit_or}
 use Rattle.std.specs.List.{list_any}
 use Rattle.std.proofs.lemmas.List.{take_more, map_more}
@@ -7,7 +7,7 @@ use Rattle.indexmap.specs.IndexSet.{insert_key}
 use Rattle.hol_types.specs.Filter.{name_bit}
 use Rattle.hol_theory.specs.Key.{KeyValue, key_eq}
 use Rattle.hol_theory.proofs.Keys.{key_is}
-use Rattle.hol_exec.specs.Changes.{is_one_of}
+use Rattle.hol_exec.specs.ChangedKeys.{is_one_of}
 use Rattle.hol_exec.specs.Filters.{HasNames}
 use Rattle.hol_exec.proofs.NameFilters.{names_left, names_more}
 

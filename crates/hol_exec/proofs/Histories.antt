@@ -1,6 +1,6 @@
 -- The commands on an open proof's history: what undoing and rotating come to, from what the code found.
 use Rattle.std.specs.Prelude.{◌≡◌, ◌≢◌, ℕ, List, [], ◌∷◌, length, Option, Some, None, IfSome, refl}
-use Rattle.std.proofs.Common.{sym, ◌∙◌, ap, subst}
+use Rattle.std.proofs.Common.{sym, ◌∙◌, ap}
 use Rattle.hol_stack.specs.StackValue.{StepValue}
 use Rattle.hol_exec.specs.declared.reports.refusal.RefusalKind.{RefusalKind}
 use Rattle.hol_exec.specs.declared.reports.refusal.RefusalKind.TheVariants as refusal
@@ -23,10 +23,6 @@ nothing_undone o p outcome is e f = f ∙ sym (none_earlier p.earlier e) ∙ ap 
 
 pub step_undone : (o : Option ProofValue) (p : ProofValue) (outcome : OutcomeValue) → o ≡ Some p → length p.earlier ≢ 0 → outcome ≡ Undoes → outcome ≡ undoes o
 step_undone o p outcome is e f = f ∙ sym (some_earlier p.earlier e) ∙ ap undoes (sym is)
-
--- after a refusal a state is as it was
-pub refused_stays : (o : OutcomeValue) (kind : RefusalKind) (arg : List ℕ) → o ≡ Refuses kind arg → (s : StateValue) → after s o ≡ s
-refused_stays o kind arg e s = ap (after s) e
 
 -- ---- the newest element
 

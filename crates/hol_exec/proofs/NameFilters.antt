@@ -8,7 +8,7 @@ use Rattle.hol_types.specs.Filter.{name_place, name_bit}
 use Rattle.hol_types.proofs.Filters.{apart_bits, own_bit, or_has_left, or_has_right}
 use Rattle.hol_theory.specs.Key.{KeyValue, key_eq}
 use Rattle.hol_theory.proofs.Keys.{key_is}
-use Rattle.hol_exec.specs.Changes.{is_one_of, AreApart}
+use Rattle.hol_exec.specs.ChangedKeys.{is_one_of, AreApart}
 use Rattle.hol_exec.specs.Filters.{HasNames}
 
 -- ---- larger filters

@@ -23,7 +23,7 @@ pub mod ContextView
 pub mod Refusal
 pub mod OutcomeValue
 pub mod OutcomeView
-pub mod Changes
+pub mod ChangedKeys
 pub mod Filters
 pub mod Defining
 pub mod Making

@@ -17,7 +17,7 @@ pub use hol_print::ShownGoal;
 pub use hol_stack::Element;
 pub use laws::one_outcome;
 pub use reading::{Parsed, parse, unread};
-pub use reads::{Changes, CommandKeys, Reads};
+pub use reads::{ChangedKeys, CommandKeys, Reads};
 pub use reports::{RefusalKind, Report, entry_text, goals_of, report_of, report_with};
 pub use running::{
     EarlierTheory, Meter, Outcome, Setup, SetupTable, apply, direct, promise_each, resume,

@@ -8,11 +8,11 @@ ghost use Rattle.hol_exec.specs.Standing.{first_taken, first_unknown};
 ghost use Rattle.hol_notation_commands.specs.CommandView.{local_text};
 ghost use Rattle.hol_exec.specs.SameReads.{same_reads};
 ghost use Rattle.hol_exec.specs.Valid.{AreOfTheory};
-ghost use Rattle.hol_exec.specs.Changes.{AreApart};
+ghost use Rattle.hol_exec.specs.ChangedKeys.{AreApart};
 ghost use Rattle.hol_exec.specs.Keys.{cited_keys, made_keys, command_keys};
 ghost use Rattle.hol_exec.specs.ReadsValue.{ReadsValue, AreKeyed, values_of, goal_for, closing_for, reads_of};
 
-mod changes;
+mod changed_keys;
 mod closing;
 mod command_keys;
 mod keys;
@@ -23,7 +23,7 @@ mod standing;
 use crate::reads::same::same_options;
 use crate::reads::standing::{is_standing, is_unknown};
 use crate::state::State;
-pub use changes::Changes;
+pub use changed_keys::ChangedKeys;
 pub(crate) use closing::Closing;
 pub use command_keys::CommandKeys;
 use hol_goal::Goal;
@@ -166,7 +166,7 @@ impl Reads {
     }
 
     /// Whether no key that the command cites or makes is a changed one. It takes no memory.
-    pub fn is_apart(&self, changes: &Changes) -> bool
+    pub fn is_apart(&self, changes: &ChangedKeys) -> bool
         ensures { result ≡ true → AreApart changes.now (keys_of self.now.cited) × AreApart changes.now (keys_of self.now.made) }
     {
         if !self.names.meets(changes.names()) {
@@ -349,7 +349,7 @@ fn stands_in(key: &Key, value: &Option<Value>, state: &State) -> bool
 
 // Whether the keys of the values are none of the changed ones.
 #[tactic(auto, using(crate::proofs::Agreeing::apart_step, crate::proofs::Agreeing::apart_ends))]
-fn are_apart(values: &[(Key, Option<Value>)], changes: &Changes) -> bool
+fn are_apart(values: &[(Key, Option<Value>)], changes: &ChangedKeys) -> bool
     ensures { result ≡ true → AreApart changes.now (keys_of values.now) }
 {
     for value in values {

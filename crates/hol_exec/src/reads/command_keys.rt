@@ -12,7 +12,7 @@ use hol_types::NameFilter;
 use std::alloc::{AllocError, Global};
 use std::marker::Model;
 
-/// The keys that a command cites and those that it makes, each in text order. They are made once a text.
+/// The keys that a command cites and those that it makes, each in text order. Each has the names of its keys in a filter.
 #[derive(Drop)]
 pub struct CommandKeys {
     cited: Vec<Key>,

@@ -7,7 +7,7 @@ ghost use Rattle.hol_theory.specs.Key.{key_eq};
 ghost use Rattle.hol_theory.specs.Entry.{EachIsEntry};
 ghost use Rattle.hol_exec.specs.OutcomeValue.{OutcomeValue, Opens, Leaves, Undoes, Rotates, Makes, Refuses, MakesTheorems, after};
 ghost use Rattle.hol_exec.specs.StateValue.{StateValue};
-ghost use Rattle.hol_exec.specs.Changes.{keys_made};
+ghost use Rattle.hol_exec.specs.ChangedKeys.{keys_made};
 ghost use Rattle.hol_exec.specs.OutcomeView.{outcome_of};
 ghost use Rattle.hol_exec.specs.Valid.{IsStatement, IsLeft, IsValidChange};
 
@@ -138,21 +138,6 @@ impl Outcome {
             | Change::Undoes
             | Change::Rotates(_)
             | Change::Refuses(_, _) => true,
-        }
-    }
-
-    /// Whether it is a refusal, after which every state is as it was.
-    #[tactic(auto, using(crate::proofs::Histories::refused_stays))]
-    pub fn is_refusal(&self) -> bool
-        ensures { result ≡ true → (s : StateValue) → after s self.now ≡ s }
-    {
-        match self.change() {
-            Change::Refuses(_, _) => true,
-            Change::Opens(_, _, _)
-            | Change::Leaves(_, _, _)
-            | Change::Undoes
-            | Change::Rotates(_)
-            | Change::Makes(_) => false,
         }
     }
 

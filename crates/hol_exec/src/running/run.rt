@@ -1,5 +1,5 @@
 //! The outcome of a command from what it reads.
-ghost use Rattle.std.specs.Prelude.{◌≡◌, ◌≤◌, ◌+◌, ◌-◌, ◌^◌, min, IfOk, [], ◌∷◌, true};
+ghost use Rattle.std.specs.Prelude.{◌≡◌, ◌≤◌, ◌+◌, ◌-◌, ◌^◌, min, IfOk, [], ◌∷◌};
 ghost use Rattle.hol_terms.specs.Nameless.{nameless};
 ghost use Rattle.hol_resolve.specs.Reading.{ReadsAs, IsTermReadAs};
 ghost use Rattle.hol_resolve.specs.Readings.{ATerm};
@@ -54,8 +54,8 @@ pub fn run_local(
     outcome_from(alloc, meter.setup(), command, reads)
 }
 
-/// The same
-pub fn outcome_from(
+// The outcome alone.
+fn outcome_from(
     alloc: Global,
     setup: &Setup,
     command: &LocalCommand,

@@ -1,4 +1,4 @@
-use Rattle.std.proofs.Common.{Some, None}
+use Rattle.std.proofs.Common.{None}
 use Rattle.std.proofs.lemmas.Result.{IfOk-weaker}
 use Rattle.hol_document.proofs.Reported.{basis_stands}
 use Rattle.hol_document.proofs.asked.basis.Goals as goal

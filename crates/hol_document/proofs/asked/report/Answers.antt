@@ -1,4 +1,3 @@
-use Rattle.std.proofs.Common.{◌≡◌, ap, sym, ◌∙◌}
 use Rattle.std.proofs.lemmas.Result.{IfOk-weaker}
 use Rattle.hol_exec.specs.ReportView.{report_value}
 use Rattle.hol_document.proofs.Edited.{value_there}

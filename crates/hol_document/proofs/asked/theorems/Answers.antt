@@ -1,4 +1,3 @@
-use Rattle.std.proofs.Common.{ap, ◌∙◌}
 use Rattle.std.proofs.lemmas.Result.{IfOk-weaker}
 use Rattle.hol_document.specs.Asked.{theorem_texts}
 use Rattle.hol_document.proofs.Reported.{theorems_stand}

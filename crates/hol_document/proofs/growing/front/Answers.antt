@@ -1,4 +1,4 @@
-use Rattle.std.proofs.Common.{◌≡◌, ap, sym, ◌∙◌, subst, map, take}
+use Rattle.std.proofs.Common.{ap, sym, ◌∙◌, subst, map, take}
 use Rattle.std.proofs.lemmas.Result.{IfOk-weaker}
 use Rattle.hol_exec.specs.StateValue.{start}
 use Rattle.hol_document.specs.Slots.{AreSlots, ended_of}

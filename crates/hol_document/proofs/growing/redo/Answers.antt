@@ -1,5 +1,5 @@
 -- What was settled, and after that either all of the old slots were, or the rest is taken as it stands.
-use Rattle.std.proofs.Common.{◌≡◌, ◌++◌, ◌-◌, ap, sym, ◌∙◌, subst, map, take, drop, length, arith, rules}
+use Rattle.std.proofs.Common.{◌≡◌, ◌++◌, ◌-◌, ap, sym, ◌∙◌, subst, map, take, drop, length, rules}
 use Rattle.hol_exec.specs.MeterView.{setup_of, ran_of}
 use Rattle.hol_exec.specs.StateValue.{StateValue}
 use Rattle.hol_document.specs.Slots.{AreSlots, StandingValue, ended_of}

@@ -1,11 +1,6 @@
 -- One turn of the loop: the slot here is the first of those that are left, and what settles it is added to what is done.
-use Rattle.std.proofs.Common.{◌≡◌, ◌≤◌, ap, sym, ◌∙◌, subst, map, take, drop, arith}
+use Rattle.std.proofs.Common.{◌∙◌, map, arith}
 use Rattle.hol_exec.specs.MeterView.{setup_of, ran_of}
-use Rattle.hol_exec.specs.OutcomeValue.{after}
-use Rattle.hol_exec.specs.Setup.{SetupValue}
-use Rattle.hol_exec.specs.StateValue.{StateValue, EndedTheory}
-use Rattle.hol_document.specs.Alike.{AreAlike}
-use Rattle.hol_document.specs.Settled.{HaveLeft}
 use Rattle.hol_document.specs.Slots.{IsSlot, ended_of}
 use Rattle.hol_document.proofs.Redone.{added_next, slot_here, left_next, pushed}
 use Rattle.hol_document.proofs.growing.settle_each.Goals as goal

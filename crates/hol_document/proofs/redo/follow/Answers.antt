@@ -1,5 +1,5 @@
 -- One turn of the loop: the theory here is the first of those that are left, and the one after it is added to those that are done.
-use Rattle.std.proofs.Common.{◌≡◌, ◌≤◌, ◌++◌, ◌∷◌, [], ap, sym, ◌∙◌, subst, map, drop, string_bytes, arith}
+use Rattle.std.proofs.Common.{◌++◌, ◌∷◌, [], sym, ◌∙◌, subst, map, string_bytes, arith}
 use Rattle.hol_exec.specs.MeterView.{setup_of, ran_of}
 use Rattle.hol_document.specs.Alike.{EndAlike}
 use Rattle.hol_document.specs.Slots.{ended_of}

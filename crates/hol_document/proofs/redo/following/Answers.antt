@@ -1,5 +1,5 @@
 -- A theory that imports none of the names stands as it is; another one is redone from its first slot.
-use Rattle.std.proofs.Common.{◌≡◌, ap, sym, ◌∙◌, subst, map, drop, refl, arith}
+use Rattle.std.proofs.Common.{ap, map, arith}
 use Rattle.std.proofs.lemmas.Result.{IfOk-weaker}
 use Rattle.hol_exec.specs.MeterView.{setup_of, ran_of}
 use Rattle.hol_exec.specs.StateValue.{start}

@@ -1,4 +1,4 @@
-use Rattle.std.proofs.Common.{◌≡◌, ap, sym, ◌∙◌, subst, suc, ◌-◌, map, drop, refl, arith}
+use Rattle.std.proofs.Common.{◌≡◌, sym, subst, suc, ◌-◌, map, drop, refl, arith}
 use Rattle.hol_document.specs.Alike.{EachImportsAlike}
 use Rattle.hol_document.proofs.Redone.{last_left}
 use Rattle.hol_document.proofs.redo.past_imports.Goals as goal

@@ -1,4 +1,4 @@
-use Rattle.std.proofs.Common.{◌≡◌, ◌≤◌, List, map, drop, length, string_bytes}
+use Rattle.std.proofs.Common.{◌≤◌, List, map, drop, length, string_bytes}
 use Rattle.hol_exec.specs.StateValue.{EndedTheory}
 use Rattle.hol_document.specs.Alike.{EndAlike, EachImportsAlike}
 use Rattle.hol_document.proofs.redo.past_imports.Given as goal

@@ -1,5 +1,5 @@
 -- The theory goes on after its first slots with the new one in the place of the old, and with what is redone of the rest.
-use Rattle.std.proofs.Common.{◌≡◌, ◌++◌, ◌∷◌, [], ap, sym, ◌∙◌, map, drop, ◌+◌, arith}
+use Rattle.std.proofs.Common.{◌++◌, ◌∷◌, [], ap, ◌∙◌, map, drop, ◌+◌, arith}
 use Rattle.std.proofs.lemmas.Result.{IfOk-weaker}
 use Rattle.hol_exec.specs.MeterView.{setup_of, ran_of}
 use Rattle.hol_exec.specs.OutcomeValue.{after}

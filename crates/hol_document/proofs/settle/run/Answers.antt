@@ -1,4 +1,4 @@
-use Rattle.std.proofs.Common.{ap, sym, ◌∙◌, map}
+use Rattle.std.proofs.Common.{map}
 use Rattle.hol_exec.specs.MeterView.{setup_of}
 use Rattle.hol_document.specs.Slots.{ended_of}
 use Rattle.hol_document.proofs.Settled.{run_slots}

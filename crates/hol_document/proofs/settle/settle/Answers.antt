@@ -1,8 +1,7 @@
-use Rattle.std.proofs.Common.{ap, sym, ◌∙◌, map, refl}
-use Rattle.std.proofs.lemmas.Result.{IfOk-weaker}
-use Rattle.hol_exec.specs.MeterView.{setup_of, ran_of}
+use Rattle.std.proofs.Common.{map, refl}
+use Rattle.hol_exec.specs.MeterView.{setup_of}
 use Rattle.hol_document.specs.Slots.{ended_of}
-use Rattle.hol_document.proofs.Settled.{row_keyed, opened_again, kept_slot, run_counts}
+use Rattle.hol_document.proofs.Settled.{row_keyed, opened_again}
 use Rattle.hol_document.proofs.Standing.{slot_at}
 use Rattle.hol_document.proofs.settle.settle.Goals as goal
 

@@ -1,5 +1,3 @@
-use Rattle.std.proofs.Common.{ap, sym, ◌∙◌, refl}
-use Rattle.hol_document.specs.Alike.{DriftValue}
 use Rattle.hol_document.proofs.Alike.{next_alike, closed_alike}
 use Rattle.hol_document.proofs.drift.Drift.go_on.Goals as goal
 

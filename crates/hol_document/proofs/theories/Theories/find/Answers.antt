@@ -1,4 +1,4 @@
-use Rattle.std.proofs.Common.{◌≡◌, ap, sym, ◌∙◌}
+use Rattle.std.proofs.Common.{ap, ◌∙◌}
 use Rattle.hol_document.specs.Documents.{Documents, find_theory}
 use Rattle.hol_document.proofs.Followed.{find_text}
 use Rattle.hol_document.proofs.theories.Theories.find.Goals as goal

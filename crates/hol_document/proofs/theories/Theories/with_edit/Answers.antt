@@ -1,16 +1,13 @@
 use Rattle.std.specs.Prelude.{slice_set, slice_index_or}
-use Rattle.std.proofs.Common.{◌≡◌, ◌++◌, ◌∷◌, [], ◌+◌, ap, sym, ◌∙◌, subst, map, take, drop, length, string_bytes, refl, rules, arith}
+use Rattle.std.proofs.Common.{◌≡◌, ◌++◌, ◌∷◌, [], ◌+◌, ap, sym, ◌∙◌, subst, map, take, string_bytes, rules}
 use Rattle.hol_exec.specs.MeterView.{setup_of, ran_of}
-use Rattle.hol_exec.specs.StateValue.{start}
 use Rattle.hol_document.specs.Alike.{EndAlike}
 use Rattle.hol_document.specs.Documents.{Documents, no_theory}
 use Rattle.hol_document.specs.Settled.{FitsAt, edit_place, edited_texts}
-use Rattle.hol_document.specs.Slots.{StandingValue, ended_of, text_of}
-use Rattle.hol_document.specs.Affected.{AddsTheory, DropsTheory}
-use Rattle.hol_document.proofs.Followed.{within_of, standing_here, count_there, rest_of, edit_after, new_after, drop_after, runs_as, docs_as, standing_as, texts_edited, texts_inserted}
-use Rattle.hol_document.proofs.Edited.{removed_map}
+use Rattle.hol_document.specs.Slots.{ended_of, text_of}
+use Rattle.hol_document.proofs.Followed.{within_of, standing_here, count_there, rest_of, edit_after, runs_as, docs_as, standing_as, texts_edited}
 use Rattle.hol_document.proofs.Redone.{pushed}
-use Rattle.hol_document.proofs.Standing.{alike_none, alike_new, alike_dropped, standing_split}
+use Rattle.hol_document.proofs.Standing.{alike_none}
 use Rattle.hol_document.proofs.theories.Theories.with_edit.Goals as goal
 
 pub edited-requires : goal.edited-requires

@@ -1,15 +1,14 @@
-use Rattle.std.specs.List.{insert, remove}
-use Rattle.std.proofs.Common.{◌≡◌, ◌++◌, ◌∷◌, [], ◌+◌, ap, sym, ◌∙◌, subst, map, take, drop, length, string_bytes, refl, rules, arith}
+use Rattle.std.specs.List.{insert}
+use Rattle.std.proofs.Common.{◌≡◌, ◌++◌, ◌∷◌, [], ◌+◌, ap, sym, ◌∙◌, subst, map, take, string_bytes, rules}
 use Rattle.hol_exec.specs.MeterView.{setup_of, ran_of}
 use Rattle.hol_exec.specs.StateValue.{start}
-use Rattle.hol_document.specs.Affected.{AddsTheory, DropsTheory}
+use Rattle.hol_document.specs.Affected.{AddsTheory}
 use Rattle.hol_document.specs.Alike.{EndAlike}
 use Rattle.hol_document.specs.Documents.{Documents}
-use Rattle.hol_document.specs.Slots.{AreStanding, StandingValue, ended_of, text_of}
-use Rattle.hol_document.proofs.Edited.{removed_map}
-use Rattle.hol_document.proofs.Followed.{within_of, standing_here, rest_of, new_after, drop_after, runs_as, docs_as, standing_as, texts_inserted}
+use Rattle.hol_document.specs.Slots.{AreStanding, ended_of, text_of}
+use Rattle.hol_document.proofs.Followed.{rest_of, new_after, runs_as, docs_as, standing_as, texts_inserted}
 use Rattle.hol_document.proofs.Redone.{pushed}
-use Rattle.hol_document.proofs.Standing.{alike_new, alike_dropped, standing_split}
+use Rattle.hol_document.proofs.Standing.{alike_new, standing_split}
 use Rattle.hol_document.proofs.theories.Theories.with_theory.Goals as goal
 
 pub follow-requires : goal.follow-requires

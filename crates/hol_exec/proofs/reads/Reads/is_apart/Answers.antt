@@ -1,6 +1,6 @@
 use Rattle.std.proofs.Common.{refl, false, subst}
 use Rattle.std.specs.Map.{keys_of}
-use Rattle.hol_exec.specs.Changes.{AreApart}
+use Rattle.hol_exec.specs.ChangedKeys.{AreApart}
 use Rattle.hol_exec.specs.ReadsValue.{ReadsValue}
 use Rattle.hol_exec.proofs.NameFilters.{no_names}
 use Rattle.hol_exec.proofs.reads.Reads.is_apart.Goals as goal

@@ -1,8 +1,8 @@
 use Rattle.std.proofs.Common.{ap, sym, ◌∙◌, refl, false, List}
 use Rattle.hol_theory.specs.Key.{KeyValue}
-use Rattle.hol_exec.specs.Changes.{is_one_of}
+use Rattle.hol_exec.specs.ChangedKeys.{is_one_of}
 use Rattle.hol_exec.proofs.NameFilters.{no_name, own_place}
-use Rattle.hol_exec.proofs.reads.changes.Changes.has.Goals as goal
+use Rattle.hol_exec.proofs.reads.changed_keys.ChangedKeys.has.Goals as goal
 
 pub returns-then-not-meets : goal.returns-then-not-meets
 returns-then-not-meets c =

@@ -2,7 +2,7 @@
 ghost use Rattle.std.specs.Prelude.{◌≡◌, ◌||◌, [], OnOk, map};
 ghost use Rattle.indexmap.specs.IndexSet.{IsUnique};
 ghost use Rattle.hol_theory.specs.Key.{KeyValue, key_eq};
-ghost use Rattle.hol_exec.specs.Changes.{is_one_of, keys_made};
+ghost use Rattle.hol_exec.specs.ChangedKeys.{is_one_of, keys_made};
 ghost use Rattle.hol_exec.specs.Filters.{HasNames};
 
 use crate::running::{Change, Outcome};
@@ -14,12 +14,12 @@ use std::marker::Model;
 
 /// Keys under which something else stands than before.
 #[derive(Drop)]
-pub struct Changes {
+pub struct ChangedKeys {
     keys: IndexSet<Key>,
     names: NameFilter,
 }
 
-impl Model for Changes {
+impl Model for ChangedKeys {
     ghost use Rattle.std.specs.Prelude.{List};
     ghost use Rattle.std.specs.Coded.{coded_list};
     ghost use Rattle.indexmap.specs.IndexSet.{IsUnique};
@@ -36,12 +36,12 @@ impl Model for Changes {
     ghost invariant = { λ c. IsUnique key_eq c.keys × HasNames c.names.bits c.keys.keys };
 }
 
-impl Changes {
+impl ChangedKeys {
     /// No keys.
-    pub fn new(alloc: Global) -> Changes
+    pub fn new(alloc: Global) -> ChangedKeys
         ensures { result ≡ [] }
     {
-        Changes {
+        ChangedKeys {
             keys: IndexSet::new(alloc),
             names: NameFilter::empty(),
         }
@@ -64,8 +64,8 @@ impl Changes {
         self.names
     }
 
-    /// Adds a key.
-    pub fn add(&mut self, key: &Key) -> Result<(), AllocError>
+    // Adds a key.
+    fn add(&mut self, key: &Key) -> Result<(), AllocError>
         ensures { OnOk result ((k : KeyValue) → is_one_of self.new k ≡ (is_one_of self.old k || key_eq k key.now)) }
     {
         self.keys.insert(key.copy()?)?;
@@ -85,17 +85,6 @@ impl Changes {
             | Change::Rotates(_)
             | Change::Refuses(_, _) => Ok(()),
         }
-    }
-
-    /// Adds the other keys.
-    #[tactic(auto, using(crate::proofs::Changing::none_more, crate::proofs::Changing::key_added))]
-    pub fn add_all(&mut self, other: &Changes) -> Result<(), AllocError>
-        ensures { OnOk result ((k : KeyValue) → is_one_of self.new k ≡ (is_one_of self.old k || is_one_of other.now k)) }
-    {
-        for key in other.keys.as_slice() {
-            self.add(key)?;
-        }
-        Ok(())
     }
 
     // Adds the keys of entries.
