@@ -17,7 +17,7 @@ returns-then-is_apart-clause-yes c = λ yes setup before earlier s alike is.
           row_passed setup before earlier c.args.drift.now s c.args.state.now c.args.slot.now.text c.args.slot.now.row alike
               (passed_over c.args.drift.now c.args.slot.now.row (local_text c.args.command.now) c.in-Some.reads.value c.requires.value read c.requires.keyed
               (sym c.has_same_proof.ensures ∙ w.if-has_same_proof.true) ((rw (w.changes.ensures, w.deref.ensures) at w.is_apart.ensures) (sym w.value-is ∙ yes))) is
-      | else-has_same_proof w ↦ absurd (true≢false (sym yes ∙ w.value-is))
+      | else-has_same_proof w ↦ absurd (true≢false (sym yes ∙ (w.value-is ∙ w.if-has_same_proof.false)))
     ]
 
 pub returns-else-is_apart-clause-yes : goal.returns-else-is_apart-clause-yes
