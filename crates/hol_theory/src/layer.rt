@@ -90,29 +90,29 @@ impl Layer {
     pub(crate) fn copy(&self, alloc: Global) -> Result<Layer, AllocError>
         ensures { IfOk result (λ layer. layer ≡ self.now) }
     {
-        let mut copy = Layer::with_room(alloc, self.len())?;
-        copy.add_copies(self)?;
-        Ok(copy)
+        self.with_room(alloc, 0)
     }
 
-    /// The entries of both, one after the other.
-    pub(crate) fn joined(alloc: Global, before: &Layer, after: &Layer) -> Result<Layer, AllocError>
-        requires { AreNew before.now after.now }
-        ensures { IfOk result (λ layer. layer ≡ before.now ++ after.now) }
+    /// These entries, and after them those of the next layer.
+    pub(crate) fn joined(&self, alloc: Global, next: &Layer) -> Result<Layer, AllocError>
+        requires { AreNew self.now next.now }
+        ensures { IfOk result (λ layer. layer ≡ self.now ++ next.now) }
     {
-        let mut both = Layer::with_room(alloc, before.len().saturating_add(after.len()))?;
-        both.add_copies(before)?;
-        both.add_copies(after)?;
+        let mut both = self.with_room(alloc, next.len())?;
+        both.add_copies(next)?;
         Ok(both)
     }
 
-    // The layer without entries, with room for so many.
-    fn with_room(alloc: Global, count: usize) -> Result<Layer, AllocError>
-        ensures { IfOk result (λ layer. layer ≡ []) }
+    // The same entries, with room for so many more.
+    fn with_room(&self, alloc: Global, more: usize) -> Result<Layer, AllocError>
+        ensures { IfOk result (λ layer. layer ≡ self.now) }
     {
-        Ok(Layer {
-            entries: IndexMap::with_capacity(alloc, count)?,
-        })
+        let room = self.entries.len().saturating_add(more);
+        let mut copy = Layer {
+            entries: IndexMap::with_capacity(alloc, room)?,
+        };
+        copy.add_copies(self)?;
+        Ok(copy)
     }
 
     // Adds copies of the entries, which come last in their order.

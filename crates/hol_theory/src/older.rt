@@ -140,6 +140,6 @@ fn both(alloc: Global, before: &Layer, last: &Layer) -> Option<Rc<Layer>>
     if last.len() <= before.len() / 2 {
         return None;
     }
-    let layer = Layer::joined(alloc, before, last).ok()?;
+    let layer = before.joined(alloc, last).ok()?;
     Rc::new(alloc, layer).ok()
 }
