@@ -30,7 +30,7 @@ new_joined es [] gs new more = subst (λ (t : Entries). AreNew t gs) (append-nil
 new_joined es (f ∷ fs) gs new more =
     (new.0, new_joined (es ++ f ∷ []) fs gs new.1 (subst (λ (t : Entries). AreNew t gs) (sym (append_assoc es (f ∷ []) fs)) more))
 
-none_right : (key : KeyValue) (es fs : Entries) → entry_at key (es ++ fs) ≡ None → entry_at key fs ≡ None
+pub none_right : (key : KeyValue) (es fs : Entries) → entry_at key (es ++ fs) ≡ None → entry_at key fs ≡ None
 none_right key es fs h = sym (at_right key es fs (none_left key es fs h)) ∙ h
 
 -- new after all of them, so new after the last of them

@@ -1,5 +1,5 @@
 //! The entries of a theory.
-ghost use Rattle.std.specs.Prelude.{◌≡◌, ◌<◌, ◌≤◌, ◌+◌, ◌^◌, ◌++◌, [], ◌∷◌, length, slice_get, IfOk, OnOk, OnErr, Some, None, option_copied};
+ghost use Rattle.std.specs.Prelude.{◌≡◌, ◌<◌, ◌≤◌, ◌+◌, ◌^◌, ◌++◌, [], ◌∷◌, length, slice_get, IfOk, OnOk, OnErr, Some, None, is_some, option_copied};
 ghost use Rattle.std.specs.List.{IsDistinct};
 ghost use Rattle.std.specs.Map.{keys_of};
 ghost use Rattle.hol_theory.specs.Key.{key_eq};
@@ -115,7 +115,7 @@ impl Env {
         requires { entry_at key.now self.old ≡ None → CanFollow self.old ((key.now, value.now) ∷ []) }
         ensures { Adds key.now value.now self.old self.new result }
     {
-        if self.get(key).is_some() {
+        if self.contains_key(key) {
             return Err(EnvError::Taken(key.copy()?));
         }
         let count = self.count_with(1)?;
@@ -144,8 +144,7 @@ impl Env {
         ensures { Imports other.now self.old self.new result }
     {
         if self.count == 0 {
-            *self = other.checkpoint()?;
-            return Ok(());
+            return Ok(self.become_checkpoint(other)?);
         }
         other.promise();
         if let Some(key) = self.first_clash(other) {
@@ -186,11 +185,27 @@ impl Env {
         let mut more = Vec::new(self.alloc);
         for i in 0..other.count {
             let (key, value) = other.entry(i);
-            if self.get(key).is_none() {
+            if !self.contains_key(key) {
                 more.push(entry_copy(key, value)?)?;
             }
         }
         Ok(more)
+    }
+
+    // Whether something stands under the key.
+    fn contains_key(&self, key: &Key) -> bool
+        ensures { result ≡ is_some (entry_at key.now self.now) }
+    {
+        self.get(key).is_some()
+    }
+
+    // This becomes the other theory.
+    fn become_checkpoint(&mut self, other: &Env) -> Result<(), AllocError>
+        ensures ok { OnOk result (self.new ≡ other.now) }
+        ensures err { OnErr result (self.new ≡ self.old) }
+    {
+        *self = other.checkpoint()?;
+        Ok(())
     }
 
     // The number of entries with so many more.
