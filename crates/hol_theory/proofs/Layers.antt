@@ -117,7 +117,7 @@ module _ {A : Type 0} (f : A → Entries) where
       rest < length (joined (map f (drop i layers))) → n ≤ rest → rest - n < length (joined (map f (drop (i + 1) layers)))
   places_later rest n layers i layer within is len few h =
       let all : length (joined (map f (drop i layers))) ≡ length (f layer) + length (joined (map f (drop (i + 1) layers))) =
-              ap length (from_here layers i layer within is) ∙ length-append (f layer) (joined (map f (drop (i + 1) layers))) in
+      ap length (from_here layers i layer within is) ∙ length-append (f layer) (joined (map f (drop (i + 1) layers))) in
       omega (arith, few, h, len, all)
 
   -- the last two layers after the others

@@ -4,6 +4,8 @@
 #![tactic(auto)]
 
 mod env;
+#[cfg(test)]
+mod env_tests;
 mod error;
 mod key;
 mod laws;

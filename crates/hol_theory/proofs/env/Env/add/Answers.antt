@@ -15,5 +15,5 @@ pub invariant_of-self-2 : goal.invariant_of-self-2
 invariant_of-self-2 c =
     let none = free_key c.contains_key.result c.args.self.now c.args.key.now c.contains_key.ensures c.if-contains_key.false in
     theory_grown c.self.inside.older c.self.inside.newest c.args.self.now ((c.args.key.now, c.args.value.now) ∷ []) c.add.new.self c.self.view_is
-        (c.in_ok-add.ensures.ok ∙ ap (λ (e : KeyValue × EntryValue). c.self.inside.newest ++ e ∷ []) c.in_ok-key.ensures)
-        c.in_ok-count.count 1 c.self.invariant.0 c.self.invariant.1 (none, tt) (c.requires none) refl c.in_ok-count.ensures
+    (c.in_ok-add.ensures.ok ∙ ap (λ (e : KeyValue × EntryValue). c.self.inside.newest ++ e ∷ []) c.in_ok-key.ensures)
+    c.in_ok-count.count 1 c.self.invariant.0 c.self.invariant.1 (none, tt) (c.requires none) refl c.in_ok-count.ensures

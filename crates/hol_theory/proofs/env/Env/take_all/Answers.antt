@@ -13,4 +13,4 @@ pub invariant_of-self-2 : goal.invariant_of-self-2
 invariant_of-self-2 c =
     let len : c.len.result ≡ length c.args.more.items = omega (arith, c.len.ensures, c.args.more.ok.0) in
     theory_grown c.self.inside.older c.self.inside.newest c.args.self.now c.args.more.items c.add_all.new.self c.self.view_is c.in_ok-add_all.ensures.ok c.in_ok-count.count c.len.result
-        c.self.invariant.0 c.self.invariant.1 c.requires.new c.requires.follow len c.in_ok-count.ensures
+    c.self.invariant.0 c.self.invariant.1 c.requires.new c.requires.follow len c.in_ok-count.ensures

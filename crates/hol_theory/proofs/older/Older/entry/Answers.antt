@@ -8,7 +8,7 @@ pub returns-then-rest-len : goal.returns-then-rest-len
 returns-then-rest-len c =
     let here : c.loop-layer.rest < length c.layer-item.result.value = omega (arith, c.if-rest-len.true, c.len-len.ensures, ap length c.deref.ensures) in
     entry_here (λ layer. layer.value) c.args.self.now c.args.index c.loop-layer.rest c.deref-layer-items.result.now c.loop-layer.layer-index c.layer-item.result c.loop-layer-test.true c.layer-item.is
-        c.loop-layer.invariant.entry here
+    c.loop-layer.invariant.entry here
     ∙ ap (λ (t : Entries). slice_get t c.loop-layer.rest) (sym c.deref-then-rest-len.ensures)
     ∙ c.entry.ensures
 
