@@ -13,6 +13,7 @@ use Rattle.hol_document.specs.declared.redo.Edit.TheVariants as edit
 use Rattle.hol_document.specs.Affected.{EditPlace, InsertsAt, ReplacesAt, RemovesAt, counts, affected_rows, affected_in, rows_before}
 use Rattle.hol_document.specs.Afresh.{Row}
 use Rattle.hol_document.specs.Alike.{DriftValue, AreAlike}
+use Rattle.hol_document.specs.Documents.{TheoryText}
 use Rattle.hol_document.specs.Slots.{SlotValue, IsSlot, AreSlots, StandingValue, AreStanding, ended_of, text_of, run_of}
 
 -- what is read at the state, and the outcome from that
@@ -66,6 +67,10 @@ abbrev pub edited_texts : Edit → ℕ → List (List ℕ) → List (List ℕ)
 edited_texts (edit.Insert line) at texts = insert texts at line.value.text
 edited_texts (edit.Replace line) at texts = slice_set texts at line.value.text
 edited_texts edit.Remove at texts = remove texts at
+
+-- the theory after the edit at a place
+abbrev pub edited_text : Edit → ℕ → TheoryText → TheoryText
+edited_text edit at theory = record { name = theory.name; commands = edited_texts edit at theory.commands }
 
 -- beside each text after the edit, the row that it had, if it stood there
 abbrev pub rows_beside : Edit → ℕ → List (Option Row) → List (Option Row)

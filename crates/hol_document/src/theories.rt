@@ -4,7 +4,7 @@ ghost use Rattle.std.specs.List.{insert, remove};
 ghost use Rattle.hol_exec.specs.MeterView.{setup_of, ran_of};
 ghost use Rattle.hol_document.specs.Affected.{RunsAffected, AddsTheory, DropsTheory};
 ghost use Rattle.hol_document.specs.Documents.{Documents, find_theory, no_theory};
-ghost use Rattle.hol_document.specs.Settled.{FitsAt, edited_texts, edit_place};
+ghost use Rattle.hol_document.specs.Settled.{FitsAt, edited_text, edit_place};
 ghost use Rattle.hol_document.specs.Slots.{IsStandingAt};
 
 use crate::redo::{Edit, add_unless, edited, follow};
@@ -147,10 +147,7 @@ impl Theories {
         requires setup { self.now.setup ≡ setup_of meter.old }
         requires within { i < length self.now.theories }
         requires fits { FitsAt edit.now at (length (slice_index_or self.now.theories i no_theory).commands) }
-        ensures theories { IfOk result (λ t. t.theories ≡ slice_set self.now.theories i (record {
-          name = (slice_index_or self.now.theories i no_theory).name;
-          commands = edited_texts edit.now at (slice_index_or self.now.theories i no_theory).commands;
-        })) }
+        ensures theories { IfOk result (λ t. t.theories ≡ slice_set self.now.theories i (edited_text edit.now at (slice_index_or self.now.theories i no_theory))) }
         ensures same { IfOk result (λ t. t.setup ≡ self.now.setup) }
         ensures cache { IfOk result (λ t. t.cache ≡ self.now.cache) }
         ensures affected { IfOk result (λ t. RunsAffected self.now t (edit_place edit.now at i) (ran_of meter.old) (ran_of meter.new)) }
