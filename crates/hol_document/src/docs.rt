@@ -171,10 +171,10 @@ impl Docs {
         ensures rises { ran_of self.old ≤ ran_of self.new }
     {
         let i = self.place_of_command(theory, at)?;
-        let theories = self
+        let left = self
             .theories
             .with_edit(self.alloc, &mut self.meter, i, at, &Edit::Remove)?;
-        self.theories = theories;
+        self.theories = left;
         Ok(())
     }
 
