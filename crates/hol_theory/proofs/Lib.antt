@@ -1,6 +1,5 @@
 pub mod Keys
 pub mod Entries
-pub mod Layers
 pub mod Items
 pub mod Theories
 pub mod Imports

@@ -5,5 +5,4 @@ pub mod Codes
 pub mod Theory
 pub mod SameValue
 pub mod Adding
-pub mod Layers
 pub mod Making
