@@ -186,7 +186,7 @@ def main():
     parser.add_argument("--program", required=True, help="the built program")
     parser.add_argument("--rounds", type=int, default=3, help="how often each job is run (3)")
     parser.add_argument("--only", default="", help="jobs whose name has this in it")
-    parser.add_argument("--slow", action="store_true", help="also a `qed` by a rule of 1,000 variables, which takes minutes")
+    parser.add_argument("--slow", action="store_true", help="also a `qed` by a rule of 1,000 variables, which takes seconds")
     words = parser.parse_args()
     if words.rounds < 1:
         parser.error("--rounds takes a number above 0")
