@@ -1,19 +1,21 @@
 #!/usr/bin/env python3
 """How many lines a second hol-serve answers, and how much memory it takes.
 
-    python3 bench/bench.py --program PATH [--rounds N]
+    python3 bench/bench.py --program PATH [--rounds N] [--only WORD]
 
-PATH is the built program, crates/hol_serve/out/hol_serve. Three jobs are measured, each in a process of its own:
+PATH is the built program, crates/hol_serve/out/hol_serve. Six jobs are measured, each in a process of its own:
 
-  inserts   1,000 inserts at the end of one theory
-  reports   1,000 reports on the commands of a theory of 200, each place five times
-  steps     a report on the `qed` after 998 steps, half of which take a quotation: a theory of 1,000 commands, the most that one may have
+  inserts   1,000 inserts at the end of one theory, each of which runs its command
+  replaces  1,000 commands of a theory of 200, each place five times, are replaced by their own text: each runs its command, and none of those behind it
+  heads     100 times the head of a theory, a constant, is declared with another type, which runs the 200 commands behind it
+  reports   1,000 reports on the commands of a theory of 200, each place five times: these run nothing
+  steps     a proof of 998 steps, half of which take a quotation, is put into a theory, with its `qed`: 1,000 commands, the most that one may have
+  qed       the `qed` of this proof is replaced by itself, which runs it alone
 
-Each request is a line on the program's standard input, and its reply is read from its standard output. The clock
-runs from the first request of the job to its last reply; what sets the job up (the theory, and the 200 commands
-that are reported on) is not counted. The times shown are medians of the rounds; `processor` is the user and system time of the
-whole process. The memory is the greatest of the rounds: the peak resident set of the whole process. A reply that isn't of the
-expected kind ends the run with status 1.
+Each request is a line on the program's standard input, and its reply is read from its standard output. The clock runs from the first request of the job to its last
+reply, and so does `processor`, the program's processor time; what sets the job up (its theory and the commands) is not counted. So an edit is measured with reading its
+line. How many commands the requests run is asked for by `stats`, before and after the job. The times shown are medians of the rounds; the memory is the greatest of
+them: the peak resident set of the whole process. A reply that isn't of the expected kind, or another number of commands run, ends the run with status 1.
 
 What goals cost, also those whose types share their nodes, is measured by goals.py, beside this. The tests of hol_logic_tests named
 `.._shared_..` have types and terms that no text within the limits makes: over trees of 2^60 leaves and 60 or 120 nodes, sizes, types, what
@@ -32,7 +34,8 @@ import threading
 import time
 
 INSERTS = 1000
-REPORTS = 1000
+REQUESTS = 1000
+HEADS = 100
 COMMANDS = 200
 STEPS = 998
 
@@ -46,25 +49,48 @@ def new_theory():
     return request(op="new_theory", name="A", at=0)
 
 
-def command(place):
+def put(texts, theory="A"):
+    """The commands of a theory, in order."""
+    return [request(op="insert", theory=theory, at=place, text=text) for place, text in enumerate(texts)]
+
+
+def replace(at, text, theory="A"):
+    return request(op="replace", theory=theory, at=at, text=text)
+
+
+def report(at, theory="A"):
+    return request(op="report", theory=theory, at=at)
+
+
+def command(place, statement="x:A = x"):
     """A command that is accepted at this place: each third one opens a proof, and the next two close it."""
-    texts = ("g T%d `x:A = x`" % place, "e REFL_TAC", "qed")
+    texts = ("g T%d `%s`" % (place, statement), "e REFL_TAC", "qed")
     return texts[place % 3]
 
 
-def inserts(count):
-    return [request(op="insert", theory="A", at=place, text=command(place)) for place in range(count)]
+def commands(count, statement="x:A = x"):
+    return [command(place, statement) for place in range(count)]
+
+
+def replaces(count):
+    """Commands of a theory in turn, each of which takes its own place."""
+    return [replace(number % COMMANDS, command(number % COMMANDS)) for number in range(count)]
+
+
+def head(number):
+    """A constant on which commands behind it rest, of another type each other time."""
+    return "new_constant c `:%s`" % ("bool", "bool->bool")[number % 2]
 
 
 def proof(steps):
     """A proof of so many steps, which is an even number: an assumption is made and taken back, and used at the end."""
     back_and_forth = ["e DISCH_TAC", "e UNDISCH_TAC `p:bool`"] * (steps // 2 - 1)
-    texts = ["g N `p ==> p`", *back_and_forth, "e DISCH_TAC", "e ACCEPT_TAC (ASSUME `p:bool`)", "qed"]
-    return [request(op="insert", theory="A", at=place, text=text) for place, text in enumerate(texts)]
+    return ["g N `p ==> p`", *back_and_forth, "e DISCH_TAC", "e ACCEPT_TAC (ASSUME `p:bool`)", "qed"]
 
 
-def reports(count):
-    return [request(op="report", theory="A", at=number % COMMANDS) for number in range(count)]
+def is_run(text):
+    """Whether `stats` counts this command: the others are answered from the state."""
+    return text.split()[0] not in ("import", "b", "r", "oops")
 
 
 class Session:
@@ -101,8 +127,14 @@ class Session:
 
     def processor(self):
         """The processor time that the program has taken so far, in seconds."""
-        with open("/proc/%d/schedstat" % self.process.pid) as status:
-            return int(status.read().split()[0]) / 1e9
+        return time.clock_gettime((~self.process.pid << 3) | 2)  # the clock CPUCLOCK_SCHED of that process, up to now
+
+    def ran(self):
+        """How many commands the session has run so far."""
+        (reply,), _ = self.send([request(op="stats")])
+        if not reply.startswith(b'{"ok":true,"ran":'):
+            sys.exit("bench: the program answers stats by %r" % reply)
+        return json.loads(reply)["ran"]
 
     def close(self):
         self.process.stdin.close()
@@ -131,18 +163,44 @@ def is_report(reply):
     return reply.startswith((b'{"goals":', b'{"made":')) and reply.endswith(b',"ok":true}\n')
 
 
-def measure(program, setup, lines, is_right, what, options=()):
-    """The seconds and the peak memory of one round of a job."""
+def expect_ran(session, before, runs, what):
+    """Ends the run where other than so many commands were run since there were so many."""
+    ran = session.ran() - before
+    if ran != runs:
+        sys.exit("bench: %s runs %d commands, and not %d" % (what, ran, runs))
+
+
+def measure(program, setup, lines, is_right, what, runs, shown=None, options=()):
+    """The seconds, the peak memory and the processor time of one round of a job, which runs so many commands. Afterwards the answer to `shown`, a request and what is
+    expected of its reply, is looked at."""
     session = Session(program, *options)
     replies, _ = session.send(setup)
     expect(replies, is_done, "what sets up " + what)
+    ran, processor = session.ran(), session.processor()
     replies, took = session.send(lines)
+    processor = session.processor() - processor
     expect(replies, is_right, what)
+    expect_ran(session, ran, runs, what)
+    if shown:
+        replies, _ = session.send([shown[0]])
+        expect(replies, shown[1], "what shows " + what)
     peak = session.peak()
-    status, usage = session.close()
+    status, _ = session.close()
     if status != 0:
         sys.exit("bench: the program ended with status %d" % status)
-    return took, peak, usage.ru_utime + usage.ru_stime
+    return took, peak, processor
+
+
+def repeated(session, lines, runs, what, seconds, is_right=is_done):
+    """The processor time of these requests together, over as many times as fit into so many seconds, where each time runs so many commands."""
+    count, done, used, ran = 1, 0, 0.0, session.ran()
+    while used < seconds:
+        before = session.processor()
+        replies, _ = session.send(lines * count)
+        used, done, count = used + session.processor() - before, done + count, count * 2
+        expect(replies, is_right, what)
+    expect_ran(session, ran, runs * done, what)
+    return used / done
 
 
 def row(name, lines, rounds):
@@ -150,26 +208,42 @@ def row(name, lines, rounds):
     took = statistics.median(each[0] for each in rounds)
     peak = max(each[1] for each in rounds)
     processor = statistics.median(each[2] for each in rounds)
-    return "%-44s %9.3f s %11.0f %12.3f s %9.1f MB" % (name, took, lines / took, processor, peak / 1024)
+    return "%-50s %9.3f s %11.0f %12.3f s %9.1f MB" % (name, took, lines / took, processor, peak / 1024)
 
 
-def main():
-    parser = argparse.ArgumentParser(description="Measures a built hol-serve.")
+def table(jobs, program, rounds, only=""):
+    """Measures these jobs, the name first and the arguments of `measure` behind it, and prints the table."""
+    print("%-50s %11s %11s %14s %12s" % ("job", "time", "lines/s", "processor", "peak memory"))
+    for name, setup, lines, is_right, *more in jobs:
+        if only in name:
+            taken = [measure(program, setup, lines, is_right, name, *more) for _ in range(rounds)]
+            print(row(name, len(lines), taken), flush=True)
+
+
+def arguments(description):
+    """The program, the rounds and the word of the command line."""
+    parser = argparse.ArgumentParser(description=description, formatter_class=argparse.RawDescriptionHelpFormatter)
     parser.add_argument("--program", required=True, help="the built program")
     parser.add_argument("--rounds", type=int, default=3, help="how often each job is run (3)")
+    parser.add_argument("--only", default="", help="only the jobs whose names have this in them")
     words = parser.parse_args()
     if words.rounds < 1:
         parser.error("--rounds takes a number above 0")
-    program = os.path.abspath(words.program)
+    return os.path.abspath(words.program), words.rounds, words.only
+
+
+def main():
+    small, long = [new_theory(), *put(commands(COMMANDS))], [new_theory(), *put(proof(STEPS))]
+    headed = [new_theory(), *put([head(0), *commands(COMMANDS, "c = c")])]
     jobs = [
-        ("1,000 inserts into one theory", [new_theory()], inserts(INSERTS), is_done),
-        ("1,000 reports over 200 commands", [new_theory(), *inserts(COMMANDS)], reports(REPORTS), is_report),
-        ("a report on the end of 998 steps", [new_theory(), *proof(STEPS)], [request(op="report", theory="A", at=STEPS + 1)], is_made),
+        ("1,000 inserts into one theory", [new_theory()], put(commands(INSERTS)), is_done, INSERTS),
+        ("1,000 replaces over 200 commands", small, replaces(REQUESTS), is_done, REQUESTS),
+        ("100 other heads of 200 commands", headed, [replace(0, head(k + 1)) for k in range(HEADS)], is_done, HEADS * (COMMANDS + 1)),
+        ("1,000 reports over 200 commands", small, [report(number % COMMANDS) for number in range(REQUESTS)], is_report, 0),
+        ("a proof of 998 steps", [], long, is_done, STEPS + 2, (report(STEPS + 1), is_made)),
+        ("the qed after 998 steps", long, [replace(STEPS + 1, "qed")], is_done, 1, (report(STEPS + 1), is_made)),
     ]
-    print("%-44s %11s %11s %14s %12s" % ("job", "time", "lines/s", "processor", "peak memory"))
-    for name, setup, lines, is_right in jobs:
-        rounds = [measure(program, setup, lines, is_right, name) for _ in range(words.rounds)]
-        print(row(name, len(lines), rounds))
+    table(jobs, *arguments(__doc__))
 
 
 if __name__ == "__main__":

@@ -1,12 +1,16 @@
 #!/usr/bin/env python3
 """How many goals a second hol-serve types and shows, and how long the hardest within the limits take.
 
-    python3 bench/goals.py --program PATH [--seconds S]
+    python3 bench/goals.py --program PATH [--seconds S] [--only WORD]
 
-PATH is the built program, crates/hol_serve/out/hol_serve. A job is one command `g N` with a quotation. The command is inserted once (which
-reads its text), and then reported on again and again: each report types the quotation, opens the proof and shows its goal, or says why
-the quotation is refused. The clock runs from the first report to the last reply; a job goes on until it has taken S seconds (1 by default),
-and has one report at least. A reply that isn't of the expected kind ends the run with status 1.
+PATH is the built program, crates/hol_serve/out/hol_serve. A job is one command `g N` with a quotation, in a process of its own. Three things are measured, each again and
+again until it has taken S seconds of processor time (1 by default), and once at least:
+
+  reading  the command is replaced by itself behind an open proof, where its text is read and it is refused at once
+  typing   what it takes longer to replace it by itself where no proof is open: there it types the quotation and opens the proof, or says why the quotation is refused
+  showing  a report on it, which shows its goal or the refusal, and runs nothing
+
+How many commands are run is asked for by `stats`. A reply that isn't of the expected kind, or another number of commands run, ends the run with status 1.
 
 The jobs:
 
@@ -25,7 +29,7 @@ Needs Python 3.8 and Linux, and nothing else.
 import argparse
 import os
 
-from bench import Session, expect, is_done, new_theory, request
+from bench import Session, expect, is_done, put, repeated, replace, report, request
 
 
 def doubling(count):
@@ -72,29 +76,32 @@ JOBS = [
 
 
 def measure(program, label, quotation, expected, seconds):
-    """The seconds that a report takes, over as many as fit."""
+    """The seconds that reading, typing and showing take."""
+    text = "g N `%s`" % quotation
     session = Session(program)
-    replies, _ = session.send([new_theory(), request(op="insert", theory="A", at=0, text="g N `%s`" % quotation)])
+    theories = [request(op="new_theory", name=name, at=0) for name in "AZ"]
+    replies, _ = session.send([*theories, *put([text]), *put(["g Z `T`", text], "Z")])
     expect(replies, is_done, "what sets up " + label)
-    count, done, taken = 1, 0, 0.0
-    while taken < seconds:
-        replies, took = session.send([request(op="report", theory="A", at=0)] * count)
-        expect(replies, lambda reply: expected in reply, label)
-        done, taken, count = done + count, taken + took, count * 2
+    reading = repeated(session, [replace(1, text, "Z")], 1, label, seconds)
+    running = repeated(session, [replace(0, text)], 1, label, seconds)
+    showing = repeated(session, [report(0)], 0, label, seconds, lambda reply: expected in reply)
     session.close()
-    return taken / done
+    return reading, running - reading, showing
 
 
 def main():
-    parser = argparse.ArgumentParser(description="How many goals a second a built hol-serve types and shows.")
+    parser = argparse.ArgumentParser(description=__doc__, formatter_class=argparse.RawDescriptionHelpFormatter)
     parser.add_argument("--program", required=True, help="the built program")
-    parser.add_argument("--seconds", type=float, default=1.0, help="how long each job goes on (1)")
+    parser.add_argument("--seconds", type=float, default=1.0, help="how long each of the three goes on (1)")
+    parser.add_argument("--only", default="", help="only the jobs whose names have this in them")
     words = parser.parse_args()
     program = os.path.abspath(words.program)
-    print("%-42s %13s %14s" % ("job", "a report", "a second"))
+    print("%-42s %13s %13s %13s %21s" % ("job", "reading", "typing", "showing", "typed and shown"))
     for label, quotation, expected in JOBS:
-        took = measure(program, label, quotation, expected, words.seconds)
-        print("%-42s %11.6f s %14.1f" % (label, took, 1 / took))
+        if words.only in label:
+            reading, typing, showing = measure(program, label, quotation, expected, words.seconds)
+            times = tuple(1000 * each for each in (reading, typing, showing))
+            print("%-42s %10.4f ms %10.4f ms %10.4f ms %10.1f a second" % (label, *times, 1 / (typing + showing)), flush=True)
 
 
 if __name__ == "__main__":

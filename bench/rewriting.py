@@ -3,10 +3,12 @@
 
     python3 bench/rewriting.py --program PATH [--rounds N] [--only WORD] [--slow]
 
-PATH is the built program, crates/hol_serve/out/hol_serve. Each job has documents of its own: what it needs, a goal, and an expression on it, in some jobs the `qed` behind it
-too. A report on the last command is measured, in a process of its own, and so is one on the goal: each runs the documents from the start. The time shown is the processor time
-of the first process less that of the second, a median of the rounds, beside the time that is wanted; then follow the seconds that the first report took, and the greatest peak
-of resident memory, of which 100 MB are wanted. A program that ends before it answers is told, and a reply that isn't of the expected kind; the run goes on, and ends with status 1.
+PATH is the built program, crates/hol_serve/out/hol_serve. Each job has documents of its own, in a process of its own: what it needs, a goal, and an expression on
+it, in some jobs the `qed` behind it too. Each command behind the goal is replaced by itself, which reads it and runs it alone; and so is the same text in a theory
+where no proof is open, which reads it and refuses it. The time shown is the processor time of the first less that of the second, a median of the rounds, beside the time
+that is wanted; then follow the seconds that a report on the last command takes, which runs nothing, and the greatest peak of resident memory, of which 100 MB are wanted.
+That each replace runs one command is asked for by `stats`. A program that ends before it answers is told, and a reply or a number of commands run that isn't the expected
+one; the run goes on, and ends with status 1.
 
   negation    `p <=> ~p` as a rule: 4,000 turns make a goal of over 20,000 nodes
   1,000 rules by 1,000 axioms a goal of 10,000 nodes is rewritten of which no part matches, and one of which 667 parts do, each by a rule of its own; goals of 7,800 and 6,500
@@ -24,7 +26,7 @@ import os
 import statistics
 import sys
 
-from bench import Session, request
+from bench import Session, is_done, put, replace, report, request
 
 MEMORY = 100 << 10
 RULES = 1000
@@ -35,8 +37,7 @@ def documents(theories):
     """The requests that make these theories, in order."""
     for place, (name, texts) in enumerate(theories):
         yield request(op="new_theory", name=name, at=place)
-        for at, text in enumerate(texts):
-            yield request(op="insert", theory=name, at=at, text=text)
+        yield from put(texts, name)
 
 
 def grouped(parts, group=32):
@@ -88,40 +89,58 @@ def too_large(reply):
     return b'"refusal":13' in reply
 
 
+class Fault(Exception):
+    """What is wrong with a job."""
+
+
 class Job:
-    """Theories, and in the last one the commands before the goal, the goal and what comes behind it, of which the last command is measured."""
+    """Theories, and in the last one the commands before the goal, the goal and what comes behind it, which is measured."""
 
     def __init__(self, name, wanted, is_right, goal, *behind, before=(), theories=()):
         self.name, self.wanted, self.is_right = name, wanted, is_right
-        self.documents = list(documents([*theories, ("A", [*before, "g N `%s`" % goal, *behind])]))
-        self.goal, self.last = len(before), len(before) + len(behind)
+        self.behind, self.first = behind, len(before) + 1
+        self.documents = list(documents([*theories, ("A", [*before, "g N `%s`" % goal, *behind]), ("Z", behind)]))
 
-    def report(self, program, at, is_right):
-        """The seconds of a report, its process's processor time and peak memory, and what was wrong, if anything."""
+    def used(self, session, line):
+        """The processor time of an edit that runs one command."""
+        ran, before = session.ran(), session.processor()
+        (reply,), _ = session.send([line])
+        used = session.processor() - before
+        if not is_done(reply):
+            raise Fault("answered %r" % reply[:120])
+        if session.ran() != ran + 1:
+            raise Fault("ran %d commands" % (session.ran() - ran))
+        return used
+
+    def once(self, program):
+        """The processor time of what is behind the goal, the seconds of the report and the peak memory, in one round."""
         session = Session(program)
         replies, _ = session.send(self.documents)
-        fault = None if all(reply == b'{"ok":true}\n' for reply in replies) else "isn't set up"
-        (reply,), took = session.send([request(op="report", theory="A", at=at)])
+        if not all(map(is_done, replies)):
+            raise Fault("isn't set up")
+        used = 0.0
+        for place, text in enumerate(self.behind):
+            used += self.used(session, replace(self.first + place, text)) - self.used(session, replace(place, text, "Z"))
+        (reply,), took = session.send([report(self.first + len(self.behind) - 1)])
+        if not self.is_right(reply):
+            raise Fault("answered %r" % reply[:120])
         peak = session.peak()
-        status, usage = session.close()
+        status, _ = session.close()
         if status != 0:
-            fault = "ended with status %d" % status
-        elif not is_right(reply):
-            fault = "answered %r" % reply[:120]
-        return took, usage.ru_utime + usage.ru_stime, peak, fault
+            raise Fault("ended with status %d" % status)
+        return used, took, peak
 
     def row(self, program, rounds):
         """A row of the table, and whether all was right."""
-        before = [self.report(program, self.goal, goals) for _ in range(rounds)]
-        whole = [self.report(program, self.last, self.is_right) for _ in range(rounds)]
-        faults = [each[3] for each in before + whole if each[3]]
-        if faults:
-            return "%-58s %s" % (self.name, faults[0]), False
-        took, processor = (statistics.median(each[k] for each in whole) for k in (0, 1))
-        alone, peak = processor - statistics.median(each[1] for each in before), max(each[2] for each in whole)
+        try:
+            taken = [self.once(program) for _ in range(rounds)]
+        except Fault as fault:
+            return "%-58s %s" % (self.name, fault), False
+        alone, took = (statistics.median(each[k] for each in taken) for k in (0, 1))
+        peak = max(each[2] for each in taken)
         over = [word for word, is_over in (("time", self.wanted and alone > self.wanted), ("memory", peak > MEMORY)) if is_over]
         wanted = "%.1f s" % self.wanted if self.wanted else "-"
-        return "%-58s %9.3f s %7s %9.3f s %8.1f MB %s" % (self.name, alone, wanted, took, peak / 1024, over and "over: " + " and ".join(over) or ""), True
+        return "%-58s %9.4f s %7s %9.4f s %8.1f MB %s" % (self.name, alone, wanted, took, peak / 1024, over and "over: " + " and ".join(over) or ""), True
 
 
 def jobs(slow):
@@ -167,7 +186,7 @@ def main():
     parser.add_argument("--program", required=True, help="the built program")
     parser.add_argument("--rounds", type=int, default=3, help="how often each job is run (3)")
     parser.add_argument("--only", default="", help="jobs whose name has this in it")
-    parser.add_argument("--slow", action="store_true", help="also a `qed` by a rule of 1,000 variables, which takes minutes")
+    parser.add_argument("--slow", action="store_true", help="also a `qed` by a rule of 1,000 variables, which takes seconds")
     words = parser.parse_args()
     if words.rounds < 1:
         parser.error("--rounds takes a number above 0")

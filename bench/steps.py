@@ -3,9 +3,11 @@
 
     python3 bench/steps.py --program PATH [--rounds N] [--only WORD]
 
-PATH is the built program, crates/hol_serve/out/hol_serve. Each job is a theory whose last command is `oops` or `qed`, so that no goal is shown; reports on it are measured by
-processor time, and what they take that isn't asked for is taken off: the same report on a theory without the steps. Each report runs the theory from nothing. The times shown are
-medians of the rounds. A reply that isn't of the expected kind ends the run with status 1.
+PATH is the built program, crates/hol_serve/out/hol_serve. Each job is a theory with one proof. Behind its `g` stands an `e ASSUME_TAC` of a theorem without
+variables, and the steps are run again by replacing this by an `e ASSUME_TAC` of another one: then each goal has another assumption, so each `e` behind reads another
+goal and is run, without its text being read again. What that takes is measured by processor time, less what the same takes in a theory without the steps. A `qed`
+is replaced by itself, which runs it alone; what replacing an `oops` in its place by itself takes, which runs nothing, is taken off. How many commands are run is
+asked for by `stats`. The times shown are medians of the rounds. A reply that isn't of the expected kind, or another number of commands run, ends the run with status 1.
 
   steps   a function on a goal of about 100 and of about 10,000 nodes, and the `b` that takes it back, 400 times each in one proof. The goals are made of towers `~ (~ .. p)`, of 5
           nodes an application: GEN_TAC, say, has `!x. ~ (~ .. x)`, CONJ_TAC `q /\\ q` for such a tower q of half the nodes, and MP_TAC the theorem and the goal q
@@ -16,16 +18,15 @@ medians of the rounds. A reply that isn't of the expected kind ends the run with
 Needs Python 3.8 and Linux, and nothing else.
 """
 
-import argparse
-import os
 import statistics
 
-from bench import Session, expect, is_done, new_theory, request
+from bench import Session, arguments, expect, is_done, is_run, new_theory, put, repeated, replace, report
 
 PAIRS = 400
 STEPS = 200
 LEAVES = 1024
-SECONDS = 0.2  # of reports in a round, at least
+SECONDS = 0.2  # of edits in a round, at least
+ASSUMED = ["e ASSUME_TAC TRUTH", "e ASSUME_TAC T_DEF"]
 
 
 def tower(nodes, inner="p"):
@@ -97,10 +98,6 @@ def leaves():
     yield "MK_COMB, at the last goal", equation, "REPEAT (MK_COMB_TAC THENL [REFL_TAC; ALL_TAC]) THEN REFL_TAC"
 
 
-def is_dropped(reply):
-    return reply == b'{"made":[],"ok":true}\n'
-
-
 def is_goals(reply):
     return reply.startswith(b'{"goals":[')
 
@@ -115,63 +112,79 @@ class Measure:
     def __init__(self, program, rounds):
         self.program, self.rounds = program, rounds
 
-    def seconds(self, name, texts, is_right):
-        """The processor time of a report on the last of the commands, where each `e` before it is accepted; the median of the rounds."""
-        return statistics.median(self.once(name, texts, is_right) for _ in range(self.rounds))
+    def medians(self, once, name, *more):
+        """The medians of what is measured in each round."""
+        return [statistics.median(each) for each in zip(*(once(name, *more) for _ in range(self.rounds)))]
 
-    def once(self, name, texts, is_right):
+    def theory(self, name, texts, is_right, at):
+        """A session over these commands, where this is what stands at a place."""
         session = Session(self.program)
-        replies, _ = session.send([new_theory(), *(request(op="insert", theory="A", at=place, text=text) for place, text in enumerate(texts))])
+        replies, _ = session.send([new_theory(), *put(texts)])
         expect(replies, is_done, "what sets up " + name)
-        last = len(texts) - 1
-        replies, _ = session.send([request(op="report", theory="A", at=last - 1)])
+        replies, _ = session.send([report(at)])
+        expect(replies, is_right, "the steps of " + name)
+        return session
+
+    def rerun(self, session, name, before, texts):
+        """The processor time of running the commands again that follow so many ones and the goal."""
+        at, runs = len(before) + 1, sum(is_run(text) for text in texts)
+        edits = [replace(at, text) for text in reversed(ASSUMED)]
+        return repeated(session, edits, 2 * (1 + runs), name, SECONDS) / 2
+
+    def seconds(self, name, goal, before, texts):
+        """The processor time of running these commands again that come behind the goal, and the next one."""
+        whole = [*before, "g N `%s`" % goal, ASSUMED[0], *texts]
+        session = self.theory(name, whole, is_goals, len(whole) - 1)
+        used = self.rerun(session, name, before, texts)
+        replies, _ = session.send([report(len(whole) - 1)])
         expect(replies, is_goals, "the steps of " + name)
-        count, done, used = 1, 0, 0.0
-        while used < SECONDS:
-            before = session.processor()
-            replies, _ = session.send([request(op="report", theory="A", at=last)] * count)
-            used, done, count = used + session.processor() - before, done + count, count * 2
-            expect(replies, is_right, name)
         session.close()
-        return used / done
+        return used
+
+    def pairs(self, name, goal, expression, before=(), behind=()):
+        """The processor time of the expression, and of the `b` that takes it back, in one round."""
+        tried = [*behind, *["e " + expression, "b"] * PAIRS]
+        whole, without = (self.seconds(name, goal, before, texts) for texts in (tried, behind))
+        return [(whole - without) / PAIRS]
+
+    def ends(self, name, goal, steps, before=()):
+        """The processor time of all steps, and of the `qed`, in one round."""
+        steps = ["e " + step for step in steps]
+        whole = [*before, "g N `%s`" % goal, ASSUMED[0], *steps, "qed"]
+        last = len(whole) - 1
+        session = self.theory(name, whole, is_made, last)
+        qed = repeated(session, [replace(last, "qed")], 1, name, SECONDS)
+        expect(session.send([replace(last, "oops")])[0], is_done, name)
+        oops = repeated(session, [replace(last, "oops")], 0, name, SECONDS / 10)
+        session.close()
+        whole, without = (self.seconds(name, goal, before, texts) for texts in (steps, []))
+        return whole - without, qed - oops
 
     def step(self, expression, goal, before=(), behind=()):
         """The seconds of the expression, and of the `b` that takes it back."""
-        begun = [*before, "g N `%s`" % goal, *behind]
-        tried = [*begun, *["e " + expression, "b"] * PAIRS]
-        without, whole = (self.seconds(expression, [*texts, "oops"], is_dropped) for texts in (begun, tried))
-        return (whole - without) / PAIRS
+        return self.medians(self.pairs, expression.split()[0], goal, expression, before, behind)[0]
 
     def proof(self, name, goal, steps, before=()):
         """The seconds of all steps, and of the `qed`."""
-        begun = [*before, "g N `%s`" % goal]
-        proved = [*begun, *("e " + step for step in steps)]
-        without, dropped = (self.seconds(name, [*texts, "oops"], is_dropped) for texts in (begun, proved))
-        return dropped - without, self.seconds(name, [*proved, "qed"], is_made) - dropped
+        return self.medians(self.ends, name, goal, steps, before)
 
 
 def main():
-    parser = argparse.ArgumentParser(description=__doc__, formatter_class=argparse.RawDescriptionHelpFormatter)
-    parser.add_argument("--program", required=True, help="the built program")
-    parser.add_argument("--rounds", type=int, default=3, help="how often each job is run (3)")
-    parser.add_argument("--only", default="", help="jobs whose name has this in it")
-    words = parser.parse_args()
-    if words.rounds < 1:
-        parser.error("--rounds takes a number above 0")
-    measure = Measure(os.path.abspath(words.program), words.rounds)
+    program, rounds, only = arguments(__doc__)
+    measure = Measure(program, rounds)
     print("%-32s %14s %14s" % ("an `e` and its `b`", "100 nodes", "10,000 nodes"))
     for small, large in zip(functions(100), functions(10000)):
         name = small[0].split()[0]
-        if words.only in name:
+        if only in name:
             print("%-32s %11.1f us %11.1f us" % (name, *(1e6 * measure.step(*job) for job in (small, large))), flush=True)
     print("%-32s %14s %14s %14s" % ("proofs", "steps", "a step", "qed"))
     for name, goal, steps, *before in proofs():
-        if words.only in name:
+        if only in name:
             each, end = measure.proof(name, goal, steps, *before)
             print("%-32s %14d %11.1f us %11.2f ms" % (name, len(steps), 1e6 * each / len(steps), 1e3 * end), flush=True)
     print("%-32s %14s %14s" % ("%d leaves" % LEAVES, "e", "qed"))
     for name, goal, expression in leaves():
-        if words.only in name:
+        if only in name:
             print("%-32s %11.2f ms %11.2f ms" % (name, *(1e3 * each for each in measure.proof(name, goal, [expression]))), flush=True)
 
 

@@ -3,27 +3,27 @@
 
     python3 bench/theories.py --program PATH [--rounds N]
 
-PATH is the built program, crates/hol_serve/out/hol_serve. Each job has documents of its own, in a process of its own; the request at their end is measured, which runs
-all theories from nothing. The times shown are medians of the rounds; the memory is the greatest of them. A reply that isn't of the expected kind ends the run with status 1.
+PATH is the built program, crates/hol_serve/out/hol_serve. Each job puts documents of its own into a process of its own, in order, so that each command is read and
+run once, which `stats` is asked for; an `import` isn't counted by it, but is made. The clock and the processor time run from the first request to the last reply; the
+start of the program isn't in them. Then a report on the last command is looked at. The times shown are medians of the rounds; the memory is the greatest of them. A
+reply that isn't of the expected kind, or another number of commands run, ends the run with status 1.
 
-  examples     the four theories of examples/theories that import one another, from the first request on, and the theorems of the last one
-  constants    a report on the last of 1,000 `new_constant`
-  definitions  a report on the last of 1,000 `new_definition`, each of which uses the one before
-  bases        a report on the last of 100 proofs over the last ten of 500 such definitions, so that each command joins bases of 500 items
-  parameters   a report on a `new_definition` of 100 parameters
-  chain        a report on the last command of 64 theories, each of which imports the one before and adds a definition, an axiom and a proof; and the same without the imports
-  imports      a report on the last of ten imports, of 1,000 constants each
-  large        a report on the last command of 64 theories of 1,000 commands, each of which imports the one before: 63,937 entries stand in the last one
+  examples     the four theories of examples/theories that import one another, and the theorems of the last one
+  constants    1,000 `new_constant`
+  definitions  1,000 `new_definition`, each of which uses the one before
+  bases        500 such definitions and 100 proofs over the last ten of them, so that each command joins bases of 500 items
+  parameters   a `new_definition` of 100 parameters
+  chain        64 theories, each of which imports the one before and adds a definition, an axiom and a proof; and the same without the imports
+  imports      ten theories of 1,000 constants, and one that imports all ten
+  large        64 theories of 1,000 commands, each of which imports the one before: 63,937 entries stand in the last one
 
 Needs Python 3.8 and Linux, and nothing else.
 """
 
-import argparse
-import os
 import pathlib
 import sys
 
-from bench import is_done, measure, request, row
+from bench import arguments, is_done, is_run, put, report, request, table
 
 ROOT = pathlib.Path(__file__).resolve().parents[1]
 EXAMPLES = ("connectives", "maps", "pairs", "groups")
@@ -32,15 +32,9 @@ CONSTANTS = 1000
 IMPORTED = 10
 
 
-def theory(place, name, texts):
-    """A theory of these commands, at this place."""
-    return [request(op="new_theory", name=name, at=place),
-            *(request(op="insert", theory=name, at=at, text=text) for at, text in enumerate(texts))]
-
-
 def documents(theories):
     """The requests that make these theories, in order."""
-    return [line for place, (name, texts) in enumerate(theories) for line in theory(place, name, texts)]
+    return [line for place, (name, texts) in enumerate(theories) for line in (request(op="new_theory", name=name, at=place), *put(texts, name))]
 
 
 def commands(name):
@@ -94,11 +88,6 @@ def full(number):
     return ("F%d" % number, [*(["import F%d" % (number - 1)] if number else []), *constants("f%d" % number)][:CONSTANTS])
 
 
-def report(name, texts):
-    """A report on the last of a theory's commands."""
-    return [request(op="report", theory=name, at=len(texts) - 1)]
-
-
 def is_made(reply):
     return reply.startswith(b'{"made":["')
 
@@ -108,43 +97,29 @@ def has_theorems(count):
     return lambda reply: reply.startswith(b'{"ok":true,"theorems":[') and reply.count(b'"thm ') == count
 
 
+def job(name, theories, shown=None):
+    """A job that puts these theories; what is looked at behind it is a report on the last command, where nothing else is said."""
+    last, texts = theories[-1]
+    runs = sum(is_run(text) for _, texts in theories for text in texts)
+    return name, [], documents(theories), is_done, runs, shown or (report(len(texts) - 1, last), is_made)
+
+
 def jobs():
-    """The name of each job, what sets it up, what is measured, and the test of a reply."""
-    texts = {name: commands(name) for name in EXAMPLES}
-    proved = sum(text.startswith(("g ", "new_definition", "new_axiom")) for name in ("connectives", "maps", "groups") for text in texts[name])
-    linked, plain = chain(True), chain(False)
-    large = [("L%d" % k, constants("l%d" % k)) for k in range(IMPORTED)]
-    imports = ["import L%d" % k for k in range(IMPORTED)]
-    full_ones = [full(k) for k in range(THEORIES)]
-    is_whole = has_theorems(proved)
+    examples = [(name, commands(name)) for name in EXAMPLES]
+    stated = [text for name, texts in examples if name != "pairs" for text in texts]  # of groups and of those that it imports
+    proved = sum(text.startswith(("g ", "new_definition", "new_axiom")) for text in stated)
     return [
-        ("examples/theories", [], [*documents(texts.items()), request(op="theorems", theory="groups")], lambda reply: is_done(reply) or is_whole(reply)),
-        ("1,000 new_constant", documents([("A", constants())]), report("A", constants()), is_made),
-        ("1,000 new_definition", documents([("A", definitions())]), report("A", definitions()), is_made),
-        ("100 proofs over 500 definitions", documents([("A", proofs_over(500))]), report("A", proofs_over(500)), is_made),
-        ("a definition of 100 parameters", documents([("A", wide(100))]), report("A", wide(100)), is_made),
-        ("64 theories that import one another", documents(linked), report(*linked[-1]), is_made),
-        ("the same without the imports", documents(plain), report(*plain[-1]), is_made),
-        ("imports of 10,000 constants", documents([*large, ("Z", imports)]), report("Z", imports), is_made),
-        ("64 theories of 1,000 commands", documents(full_ones), report(*full_ones[-1]), is_made),
+        job("examples/theories", examples, (request(op="theorems", theory="groups"), has_theorems(proved))),
+        job("1,000 new_constant", [("A", constants())]),
+        job("1,000 new_definition", [("A", definitions())]),
+        job("100 proofs over 500 definitions", [("A", proofs_over(500))]),
+        job("a definition of 100 parameters", [("A", wide(100))]),
+        job("64 theories that import one another", chain(True)),
+        job("the same without the imports", chain(False)),
+        job("imports of 10,000 constants", [*(("L%d" % k, constants("l%d" % k)) for k in range(IMPORTED)), ("Z", ["import L%d" % k for k in range(IMPORTED)])]),
+        job("64 theories of 1,000 commands", [full(k) for k in range(THEORIES)]),
     ]
 
 
-def main():
-    parser = argparse.ArgumentParser(description="Measures theories in a built hol-serve.")
-    parser.add_argument("--program", required=True, help="the built program")
-    parser.add_argument("--rounds", type=int, default=3, help="how often each job is run (3)")
-    parser.add_argument("--only", default="", help="only the jobs whose names have this in them")
-    words = parser.parse_args()
-    if words.rounds < 1:
-        parser.error("--rounds takes a number above 0")
-    program = os.path.abspath(words.program)
-    print("%-44s %11s %11s %14s %12s" % ("job", "time", "lines/s", "processor", "peak memory"))
-    for name, setup, lines, is_right in jobs():
-        if words.only in name:
-            rounds = [measure(program, setup, lines, is_right, name) for _ in range(words.rounds)]
-            print(row(name, len(lines), rounds))
-
-
 if __name__ == "__main__":
-    main()
+    table(jobs(), *arguments(__doc__))
