@@ -6,6 +6,8 @@ from dataclasses import dataclass
 from difflib import SequenceMatcher
 from typing import List, Optional, Sequence
 
+from holls.protocol import COMMANDS
+
 REPLACE, REMOVE, INSERT = "replace", "remove", "insert"
 
 
@@ -57,14 +59,23 @@ def difference(old: Sequence[str], new: Sequence[str], served: Sequence[str] = (
         return _anew(part, new) if removes else None
     if part.old > part.new and not removes:
         return None
-    end = part.start + part.old
-    if not removes or min(part.old, part.new) < 2:
-        return _hunk(old[part.start:end], part.start, new[part.start:part.start + part.new])
-    found = SequenceMatcher(None, old[part.start:end], new[part.start:part.start + part.new])
-    edits: List[Edit] = []
-    for _, first, last, start, stop in found.get_opcodes():
-        edits += _hunk(old[part.start + first:part.start + last], part.start + start, new[part.start + start:part.start + stop])
-    return edits
+    parts = old[part.start:part.start + part.old], new[part.start:part.start + part.new]
+    if removes and min(part.old, part.new) > 1:
+        edits: List[Edit] = []
+        for _, first, last, start, stop in SequenceMatcher(None, *parts).get_opcodes():
+            edits += _hunk(parts[0][first:last], part.start + start, parts[1][start:stop])
+        if _most(len(old), edits) <= COMMANDS:
+            return edits
+    return _hunk(parts[0], part.start, parts[1])
+
+
+def _most(number: int, edits: Sequence[Edit]) -> int:
+    """How many commands stand at most while the edits are made."""
+    most = number
+    for edit in edits:
+        number += (edit.op == INSERT) - (edit.op == REMOVE)
+        most = max(most, number)
+    return most
 
 
 def _hunk(old: Sequence[str], start: int, new: Sequence[str]) -> List[Edit]:
