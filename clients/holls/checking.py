@@ -101,7 +101,7 @@ class _Worker:
     def _check(self, unit: Unit) -> Optional[str]:
         """Asks for all of a file. Answers why nothing can be said of it, or None."""
         if self.session is None:
-            self.session = Session(self.pool.program, self.events, SERVED, self.sweep.pick, lambda: None, self.pool.seconds)
+            self.session = Session(self.pool.program, self.events, SERVED, self.sweep, lambda: None, self.pool.seconds)
         files = unit.imports + [unit.file]
         if len(files) > protocol.THEORIES:
             return "%s hangs together with %d files by imports, and a server holds %d theories" % (

@@ -14,6 +14,7 @@ from holls.checking import SERVED, Unit
 from holls.files import File
 from holls.names import PRELUDE, THEOREM, Known
 from holls.session import Session
+from holls.sweep import Sweep
 
 NONE, BROKEN = 1, 2
 
@@ -28,7 +29,7 @@ def add_words(parser: argparse.ArgumentParser) -> None:
     parser.add_argument("--written", action="store_true", help="take the statements as they are written, proved or not, without the program")
     parser.add_argument("--server", metavar="PROGRAM", help="the program hol_serve")
     parser.add_argument("--json", action="store_true", help="one JSON object a line")
-    parser.add_argument("--seconds", type=int, default=120, help="how long one file may take (120)")
+    parser.add_argument("--seconds", type=int, default=120, help="how long one command may take (120)")
 
 
 def main(given: argparse.Namespace) -> int:
@@ -62,7 +63,7 @@ def _written(units: Sequence[Unit]) -> Iterator[Known]:
 def _standing(units: Sequence[Unit], program: List[str], seconds: int) -> Iterator[Known]:
     """What stands at each file's end, as the program shows it."""
     events: "queue.Queue[object]" = queue.Queue()
-    session = Session(program, events, SERVED, lambda: None, lambda: None, seconds)
+    session = Session(program, events, SERVED, Sweep(), lambda: None, seconds)
     standing: List[File] = []
     root = ""
     for unit in units:

@@ -1,6 +1,10 @@
 """A session: one server, kept in step with the theories that are wanted, and asked for what is still unknown of them.
 
 Nothing here waits. The owner hands each event of the server to `hear`, and calls `tick` at the time that `deadline` names.
+
+The server runs commands at edits, and answers an edit when all that it affects has run; a report only shows what stands. So what
+takes long, ends the server or finds no memory does it at an edit. Where nothing stands behind the edit's command, this command is why,
+and is left out from then on. Else it may be another one, and the session is begun again: there each command is put at an end.
 """
 
 from __future__ import annotations
@@ -12,66 +16,69 @@ from dataclasses import dataclass
 from typing import Callable, Deque, FrozenSet, List, Optional, Tuple, Union
 
 from holls import protocol
-from holls.difference import INSERT
+from holls.difference import INSERT, REPLACE
 from holls.server import Ended, Line, NoServer, Server
-from holls.theory import DROP, NEW, Change, Entry, Standing, Theory
+from holls.sweep import Sweep
+from holls.theory import DROP, NEW, Change, Entry, Job, Standing, Theory
 
 SLOW_SECONDS = 5.0
-"""A report that takes longer is marked."""
+"""A command that runs longer is marked."""
 PATIENCE_SECONDS = 0.5
-"""So long an edit waits for the report under way, or twice as long as a server takes to start and to take the theories, if that is longer.
-Then the server is ended, and another one takes the edited theories."""
-EDIT_SECONDS = 120.0
-"""An edit that takes longer has a server that hangs."""
+"""What is under way for so long is looked at: whether it is worth to be waited for."""
+START_SECONDS = 120.0
+"""What runs no command and takes longer has a server that hangs."""
 ENDS = 6
 """After so many ends of the server since the last edit it isn't started again."""
-WINDOW = 8
-"""So many reports are asked for ahead, where the last one came quickly: an edit waits for these."""
-QUICK_SECONDS = 0.02
+WINDOW = 16
+"""So many requests are sent ahead at most, and hardly more than take so long: a later edit waits for these."""
+WINDOW_SECONDS = 0.02
 
-Job = Tuple[Theory, int]
 Answer = Callable[[Union[protocol.Reply, protocol.Lost]], None]
 
 
 @dataclass
 class _Pending:
-    """A request that was sent: what takes its reply, and the entry that it asks for or None."""
+    """A request that was sent and what takes its reply: an edit's change, or the entry that is asked for, or a question.
+
+    After PATIENCE_SECONDS it has a `limit`, and `is_in_the_way` where the server is then started again for what is wanted now.
+    """
 
     answer: Answer
+    change: Optional[Change] = None
     entry: Optional[Entry] = None
-    is_edit: bool = False
+    limit: Optional[float] = None
+    is_in_the_way: bool = False
 
 
 class Session:
-    """One server in step with `theories`. `pick` names the next command to be asked for; `told` is called after each news."""
+    """One server in step with `theories`. `sweep` names the commands to be asked for; `told` is called after each news."""
 
-    def __init__(self, program: List[str], events: "queue.Queue[object]", served: FrozenSet[str], pick: Callable[[], Optional[Job]],
+    def __init__(self, program: List[str], events: "queue.Queue[object]", served: FrozenSet[str], sweep: Sweep,
                  told: Callable[[], None], seconds: float) -> None:
         self.theories: List[Theory] = []
         self.failure: Optional[str] = None
         self._program, self._events, self._served, self._seconds = program, events, served, seconds
-        self._pick, self._told = pick, told
+        self._sweep, self._told = sweep, told
         self._server: Optional[Server] = None
         self._standing = Standing()
         self._is_in_step = False
         self._pending: Deque[_Pending] = deque()
+        self._changes: Deque[Change] = deque()
         self._questions: Deque[Tuple[bytes, Answer]] = deque()
-        self._wanted_at: Optional[float] = None
         self._since = 0.0
-        self._took = 0.0
+        self._took_edit = self._took = 0.0
         self._begun: Optional[float] = None
-        self._patience = PATIENCE_SECONDS
-        self._ends = 0
-        self._refused: List[str] = []
-        self._rounds = 0
+        self._start_seconds = 0.0
+        self._ends = self._rounds = 0
+        self._is_refused = False
 
     def want(self, theories: List[Theory]) -> None:
-        """Takes the theories as they are to stand, in order. A report that keeps the edits waiting is given up, at once or in `tick`."""
+        """Takes the theories as they are to stand, in the order in which they are to be run."""
         self.theories = theories
-        self.failure, self._ends, self._rounds, self._is_in_step = None, 0, 0, False
-        self._wanted_at = time.monotonic() if self._wanted_at is None else self._wanted_at
-        if self._pending and self._pending[0].entry and self._age() > self._patience and self._events.empty():
-            self.stop()
+        self.failure, self._ends, self._rounds = None, 0, 0
+        self._begin_edit()
+        if self._pending:
+            self._pending[0].limit = None
         self.pump()
 
     def ask(self, request: bytes, answer: Answer) -> None:
@@ -88,89 +95,88 @@ class Session:
         self.ask(protocol.line({"op": "report", "theory": theory, "at": len(commands) - 1}), answer)
         self.ask(protocol.line({"op": DROP, "name": theory}), lambda _: None)
 
+    # Sending
+
     def pump(self) -> None:
         """Sends what can be sent now."""
-        if self.failure or any(pending.is_edit for pending in self._pending):
+        if self.failure or not self._is_in_step and not self._find_changes():
             return
-        try:
-            changes = [] if self._is_in_step else self._changes()
-        except NoServer as error:
-            self.failure = str(error)
-            self._told()
+        window = _window(self._took_edit)
+        while self._changes and len(self._pending) < window:
+            self._edit(self._changes.popleft())
+        if self._changes or any(pending.change for pending in self._pending):
             return
-        self._is_in_step = not changes
-        if changes:
-            self._edit(changes)
-            return
-        self._wanted_at = None
-        if self._begun is not None:
-            self._patience = max(PATIENCE_SECONDS, 2 * (time.monotonic() - self._begun))
-            self._begun = None
+        self._rounds = 0
         while self._questions:
             request, answer = self._questions.popleft()
             self._send(request, _Pending(answer))
         self._ask_ahead()
 
-    def _changes(self) -> List[Change]:
-        """What is to be sent to be in step, to a fresh server where that is needed."""
-        changes = self._standing.changes(self.theories, self._served) if self._server else None
-        if changes is None:
-            self.stop()
-            self._server, self._begun = Server(self._program, self._events), time.monotonic()
-            changes = self._standing.changes(self.theories, self._served)
-        return changes or []
+    def _begin_edit(self) -> None:
+        """What was still to be sent isn't: the changes are found anew once all has been answered."""
+        self._changes.clear()
+        self._is_in_step = False
 
-    def _edit(self, changes: List[Change]) -> None:
-        self._refused = []
-        for change in changes:
-            self._send(change.line(), _Pending(lambda reply, change=change: self._edited(change, reply), is_edit=True))
+    def _find_changes(self) -> bool:
+        """Finds what is to be sent to be in step, to a fresh server where that is needed, once nothing is under way."""
+        if self._pending:
+            return False
+        try:
+            changes = self._standing.changes(self.theories, self._served) if self._server else None
+            if changes is None:
+                self.stop()
+                self._server, self._begun = Server(self._program, self._events), time.monotonic()
+                changes = self._standing.changes(self.theories, self._served)
+        except NoServer as error:
+            self.failure = str(error)
+            self._told()
+            return False
+        self._changes = deque(changes or [])
+        self._is_in_step, self._is_refused = True, False
+        return True
 
-    def _edited(self, change: Change, reply: Union[protocol.Reply, protocol.Lost]) -> None:
-        """Takes the reply to a change. After the last one the difference, which is what was refused, is sent again once."""
-        if isinstance(reply, protocol.Done):
-            self._standing.apply(change)
-        else:
-            self._refused.append(reply.text if isinstance(reply, protocol.Error) else "a reply of another kind")
-        if any(pending.is_edit for pending in self._pending):
-            return
-        self._rounds = self._rounds + 1 if self._refused else 0
-        if self._rounds > 1:
-            self._lose("refused an edit twice: " + self._refused[0])
+    def _edit(self, change: Change) -> None:
+        """Sends a change, and asks for its command right behind it: no later change comes before this one's place."""
+        self._send(change.line(), _Pending(lambda reply: self._edited(change, reply), change))
+        entry = self._entry(change)
+        theory = self._theory(change.theory)
+        if entry and theory and self._sweep.asks(theory) and entry.report is None and not entry.is_asked:
+            self._ask(theory, change.at)
 
     def _ask_ahead(self) -> None:
-        window = WINDOW if self._took < QUICK_SECONDS else 1
+        window = _window(self._took)
         while len(self._pending) < window:
-            job = self._pick()
+            job = self._sweep.pick()
             if job is None:
                 return
             theory, at = job
-            if theory not in self.theories:
-                continue
-            entry = theory.entries[at]
-            entry.is_asked = True
-            request = protocol.line({"op": "report", "theory": theory.name, "at": at})
-            self._send(request, _Pending(lambda reply, entry=entry: self._reported(entry, reply), entry))
+            if theory in self.theories:
+                self._ask(theory, at)
 
-    def _reported(self, entry: Entry, reply: Union[protocol.Reply, protocol.Lost]) -> None:
-        entry.is_asked = entry.is_slow = False
-        if isinstance(reply, (protocol.Goals, protocol.Made, protocol.Refusal)):
-            entry.report = reply
-        elif isinstance(reply, protocol.Error) and reply.number == protocol.MEMORY:
-            self._strike(entry, "hol_serve had no memory for it")
-        elif not isinstance(reply, protocol.Lost):
-            self._lose("gave no report when asked for one")
-
-    def _strike(self, entry: Entry, reason: str) -> None:
-        """A command that has cost two servers, or memory twice, isn't asked for again."""
-        entry.strikes += 1
-        if entry.strikes > 1:
-            entry.report = protocol.Lost(reason)
+    def _ask(self, theory: Theory, at: int) -> None:
+        entry = theory.entries[at]
+        entry.is_asked = True
+        request = protocol.line({"op": "report", "theory": theory.name, "at": at})
+        self._send(request, _Pending(lambda reply: self._reported(entry, reply), entry=entry))
 
     def _send(self, line: bytes, pending: _Pending) -> None:
         if not self._pending:
             self._since = time.monotonic()
         self._pending.append(pending)
         self._server.send(line)
+
+    def _theory(self, name: str) -> Optional[Theory]:
+        return next((theory for theory in self.theories if theory.name == name), None)
+
+    def _entry(self, change: Change) -> Optional[Entry]:
+        """The command that a change puts, if it is wanted there and can be left out. A hidden one never is why a server fails."""
+        theory = self._theory(change.theory)
+        if change.op not in (INSERT, REPLACE) or theory is None or change.at >= len(theory.entries):
+            return None
+        entry = theory.entries[change.at]
+        return None if entry.text != change.text or entry.is_left_out or entry.is_hidden else entry
+
+    # Hearing
 
     def hear(self, event: Union[Line, Ended]) -> None:
         """Takes an event of a server; one of an earlier server is of no interest."""
@@ -187,36 +193,93 @@ class Session:
         if isinstance(reply, protocol.Unreadable) or not self._pending:
             self._lose("wrote a line that is no reply")
             return
-        self._took = self._age()
+        age, pending = self._age(), self._pending.popleft()
         self._since = time.monotonic()
-        self._pending.popleft().answer(reply)
+        if self._begun is not None:
+            self._start_seconds, self._begun = self._since - self._begun, None
+        if pending.change:
+            self._took_edit = age
+        else:
+            self._took = age
+        pending.answer(reply)
+
+    def _edited(self, change: Change, reply: protocol.Reply) -> None:
+        """Takes the reply to a change. What was sent behind a refused one may have gone to a wrong place: the difference is sent then."""
+        entry = self._entry(change)
+        if entry:
+            entry.is_slow = False
+        if isinstance(reply, protocol.Done):
+            self._standing.apply(change, self._took_edit)
+        elif not self._is_refused:
+            self._is_refused = True
+            self._begin_edit()
+            self._refused(change, entry, reply)
+
+    def _refused(self, change: Change, entry: Optional[Entry], reply: protocol.Reply) -> None:
+        """An edit that changed nothing: sent again once, or from the start where another command may have had no memory."""
+        has_no_memory = isinstance(reply, protocol.Error) and reply.number == protocol.MEMORY
+        if has_no_memory and not self._standing.is_last(change, self.theories):
+            self.stop()
+        elif has_no_memory and entry:
+            self._strike(entry, "hol_serve had no memory for it", True)
+        else:
+            self._rounds += 1
+            if self._rounds > 1:
+                self._lose("refused an edit twice: " + (reply.text if isinstance(reply, protocol.Error) else "a reply of another kind"))
+
+    def _reported(self, entry: Entry, reply: Union[protocol.Reply, protocol.Lost]) -> None:
+        entry.is_asked = False
+        if self._is_refused or isinstance(reply, protocol.Lost):
+            return
+        if isinstance(reply, (protocol.Goals, protocol.Made, protocol.Refusal)):
+            entry.report = reply
+        elif isinstance(reply, protocol.Error) and reply.number == protocol.MEMORY:
+            self._strike(entry, "hol_serve had no memory to show it", False)
+        else:
+            self._lose("gave no report when asked for one")
+
+    @staticmethod
+    def _strike(entry: Entry, reason: str, is_left_out: bool) -> None:
+        """A command that has cost two servers, or memory twice, isn't asked for again; nor run, where that was why."""
+        entry.strikes += 1
+        if entry.strikes > 1:
+            entry.report, entry.is_left_out = protocol.Lost(reason), is_left_out
 
     def _lose(self, reason: str) -> None:
-        """Gives the server up. The command that it ran may be why; an end at an edit is forgiven once, as are a few others."""
+        """Gives the server up. The command that it ran may be why; an end where none was run is forgiven once, as are a few others."""
         head = self._pending[0] if self._pending else None
+        entry = self._entry(head.change) if head and head.change else head.entry if head else None
+        is_last = not (head and head.change) or self._standing.is_last(head.change, self.theories)
+        is_edit = bool(head and head.change)
         self.stop()
         self._ends += 1
-        if head is not None and head.entry is not None:
-            self._strike(head.entry, "hol_serve " + reason)
-            head = None
-        if self._ends > ENDS or (head is not None or self._rounds > 1) and self._ends > 1:
+        if entry and is_last:
+            self._strike(entry, "hol_serve " + reason, is_edit)
+        is_unexplained = head is not None and entry is None or self._rounds > 1
+        if self._ends > ENDS or is_unexplained and self._ends > 1:
             self.failure = "hol_serve %s, and again when it was started anew" % reason
 
     def stop(self) -> None:
         """Ends the server. What was asked of it is Lost."""
         lost, self._pending = self._pending, deque()
-        server, self._server, self._wanted_at = self._server, None, None
-        self._standing, self._is_in_step = Standing(), False
+        server, self._server, self._begun = self._server, None, None
+        self._begin_edit()
+        self._standing = Standing()
         if server:
             server.stop()
         for pending in lost:
-            if not pending.is_edit:
+            entry = self._entry(pending.change) if pending.change else None
+            if entry:
+                entry.is_slow = False
+            if not pending.change:
                 pending.answer(protocol.Lost("hol_serve was started anew"))
+
+    # Times
 
     @property
     def is_idle(self) -> bool:
         """Whether no reply is awaited."""
-        return not self._pending
+        return not self._pending and not self._changes
 
     def _age(self) -> float:
         return time.monotonic() - self._since
@@ -226,29 +289,62 @@ class Session:
         if not self._pending:
             return None
         head = self._pending[0]
-        limit = EDIT_SECONDS if head.is_edit else self._seconds
-        if head.entry and not head.entry.is_slow:
+        limit = PATIENCE_SECONDS if head.limit is None else head.limit
+        entry = self._entry(head.change) if head.limit is not None and head.change else None
+        if entry and not entry.is_slow:
             limit = min(limit, SLOW_SECONDS)
-        if head.entry and self._wanted_at is not None:
-            limit = min(limit, self._patience + self._wanted_at - self._since)
         return max(0.0, limit - self._age())
 
     def tick(self) -> None:
-        """Marks a report that takes long, gives one up that keeps edits waiting, and a server that hangs.
+        """Looks whether what takes long is worth to be waited for, marks it later, and gives it up in the end.
 
         As long as events wait to be heard, one of them may be what is waited for.
         """
         if not self._pending or self.deadline() or not self._events.empty():
             return
         head = self._pending[0]
-        if head.entry and self._wanted_at is not None and self._age() < self._seconds:
-            self.stop()
-        elif head.entry and self._age() < self._seconds:
-            head.entry.is_slow = True
-        elif head.entry:
-            head.entry.report = protocol.Lost("hol_serve gave no answer within %d seconds" % self._seconds)
+        if head.limit is None:
+            self._judge(head)
+            return
+        if self._age() < head.limit:
+            self._entry(head.change).is_slow = True
+        elif head.is_in_the_way:
             self.stop()
         else:
-            self._lose("gave no answer within %d seconds" % (EDIT_SECONDS if head.is_edit else self._seconds))
+            self._give_up(head)
         self._told()
         self.pump()
+
+    def _judge(self, head: _Pending) -> None:
+        """Sets how long a request may take. One that isn't wanted any more may take as long as it would to come back to its place in
+        another server; one that affects more than its command as long as all that stands took, since there each would come by itself."""
+        change = head.change
+        back = self._standing.seconds_before(change) if change else self._standing.seconds
+        head.is_in_the_way = not self._is_in_step and not self._is_wanted(change)
+        if not head.is_in_the_way and change and not self._standing.is_last(change, self.theories):
+            head.is_in_the_way, back = True, self._standing.seconds
+        if head.is_in_the_way:
+            head.limit = max(PATIENCE_SECONDS, self._start_seconds + back)
+        else:
+            runs = change is None or self._entry(change)
+            head.limit = self._seconds if runs else max(START_SECONDS, self._seconds)
+
+    def _is_wanted(self, change: Optional[Change]) -> bool:
+        """Whether a change under way is what would be sent first now."""
+        wanted = self._standing.changes(self.theories, self._served)
+        return bool(wanted) and wanted[0] == change
+
+    def _give_up(self, head: _Pending) -> None:
+        """A request takes too long, and no other command is why."""
+        entry = self._entry(head.change) if head.change else head.entry
+        if entry is None:
+            self._lose("gave no answer within %d seconds" % head.limit)
+            return
+        entry.report = protocol.Lost("hol_serve gave no answer within %d seconds" % self._seconds)
+        entry.is_left_out = head.change is not None
+        self.stop()
+
+
+def _window(took: float) -> int:
+    """How many requests are sent ahead, where the last one took so many seconds."""
+    return max(1, min(WINDOW, int(WINDOW_SECONDS / max(took, 1e-6))))

@@ -6,8 +6,7 @@ from collections import deque
 from typing import Deque, Iterable, Iterator, List, Optional, Sequence
 
 from holls.files import File
-from holls.session import Job
-from holls.theory import Theory
+from holls.theory import Job, Theory
 
 
 def unknown(theory: Theory, places: Iterable[int]) -> Iterator[Job]:
@@ -44,7 +43,13 @@ class Sweep:
 
     def prefer(self, jobs: Iterable[Job]) -> None:
         """Puts jobs before all others. While the sweep is resting these alone are asked for."""
-        self._first.extendleft(reversed(list(jobs)))
+        for job in reversed(list(jobs)):
+            if not self._first or self._first[0] != job:
+                self._first.appendleft(job)
+
+    def asks(self, theory: Theory) -> bool:
+        """Whether a theory's commands are asked for."""
+        return any(file.theory is theory for file in self.files)
 
     def pick(self) -> Optional[Job]:
         """The next job."""

@@ -4,10 +4,13 @@
     fake_server.py [--serve OP,..] [--fault KIND:N] [--once FILE] [--log FILE] [--meet FOLDER]
 
 It runs `g`, `e`, `qed`, `oops`, `import`, `new_constant`, `new_axiom`, and serves `replace`, `remove`, `drop_theory` or those of them
-that are named. It keeps the states that it made, as the program does. Its terms are texts: CONJ_TAC splits at the first ` /\\ `, REFL_TAC
-closes `s = s`, ALL_TAC keeps the goal, SLOW_TAC takes two seconds, and MEET_TAC waits for a second server that runs it. A fault comes at
-the Nth request: die (in the middle of a line), end, hang, late (by two seconds), bad (a line that is no reply) or memory (the Nth and the
-next request get the memory line). With --once the fault that ends a process comes in the first process alone, which makes FILE. The log gets each request.
+that are named. As the program does, an edit runs the command that it puts and each one that reads something else than before, is answered
+when these have run, and is made as a whole or not at all; a report runs nothing. Its terms are texts: CONJ_TAC splits at the first ` /\\ `,
+REFL_TAC closes `s = s`, ALL_TAC keeps the goal, and so do those that take their time: SLOW_TAC two seconds, MEET_TAC until a second server
+runs it, and on a goal that has `loop` in it HANG_TAC ten minutes; on one that has `big` in it MEMORY_TAC finds no memory, and DIE_TAC ends
+the process. A fault comes at the Nth request: die (in the middle of a line), end, hang, late (by two seconds), bad (a line that is no reply)
+or memory (the Nth and the next request get the memory line). With --once the fault that ends a process comes in the first process alone,
+which makes FILE. The log gets each request.
 """
 
 import argparse
@@ -18,7 +21,7 @@ import sys
 import time
 
 COMMAND = re.compile(r"\s*(\w+)\s*(.*?)\s*\Z", re.S)
-FUNCTIONS = ("ALL_TAC", "CONJ_TAC", "REFL_TAC", "SLOW_TAC", "MEET_TAC")
+FUNCTIONS = ("ALL_TAC", "CONJ_TAC", "REFL_TAC", "SLOW_TAC", "MEET_TAC", "HANG_TAC", "MEMORY_TAC", "DIE_TAC")
 EDITS = ("replace", "remove", "drop_theory")
 MEETING = []
 
@@ -32,6 +35,22 @@ def meet():
     open(os.path.join(MEETING[0], str(os.getpid())), "w").close()
     while len(os.listdir(MEETING[0])) < 2:
         time.sleep(0.01)
+
+
+class NoMemory(Exception):
+    """A command finds no memory."""
+
+
+def take_time(name, goal):
+    """What a function does beside its work."""
+    if name == "SLOW_TAC" or name == "HANG_TAC" and "loop" in goal:
+        time.sleep(2 if name == "SLOW_TAC" else 600)
+    if name == "MEET_TAC":
+        meet()
+    if name == "MEMORY_TAC" and "big" in goal:
+        raise NoMemory
+    if name == "DIE_TAC" and "big" in goal:
+        os.abort()
 
 
 class State:
@@ -59,6 +78,14 @@ class State:
         if word == "import":
             return self.take(rest, earlier)
         return refusal(1, "syntax", str(len(text) - len(text.lstrip())))
+
+    def reads(self, text):
+        """What a command reads, which decides what it does; None of a text that isn't run but answered from the state."""
+        word, rest = COMMAND.match(text).groups() if COMMAND.match(text) else ("", "")
+        if word in ("e", "qed"):
+            return self.proof if word == "qed" else self.proof is None, tuple(self.goals if word == "qed" else self.goals[:1])
+        name = rest.split("`")[0].strip()
+        return (self.proof is None, name in self.theorems) if word in ("g", "new_axiom", "new_constant") else None
 
     def open(self, rest, text):
         named = re.match(r"(\w+)\s*`([^`]*)`\Z", rest)
@@ -101,10 +128,6 @@ class State:
 
     def left(self, name, goal):
         parts = goal.split(" /\\ ", 1)
-        if name == "SLOW_TAC":
-            time.sleep(2)
-        if name == "MEET_TAC":
-            meet()
         if name == "CONJ_TAC":
             return parts if len(parts) == 2 else None
         if name == "REFL_TAC":
@@ -139,11 +162,40 @@ class State:
         return {"made": ["thm %s |- %s" % pair for pair in new.items()], "ok": True}
 
 
+EMPTY = State()
+
+
+class Slot:
+    """A command that stands: its text, what it read when it was run, the states before and after it, and what it came to."""
+
+    def __init__(self, text, old=None, before=None, earlier=None):
+        """A command as it is put; or an old one run again. It isn't run where it reads what it read before: it comes to the same."""
+        self.text, self.before, self.read, self.is_run = text, before, None, False
+        if before is None:
+            return
+        self.imports = self.imported(earlier)
+        self.read, after = before.reads(text), before.copy()
+        self.is_run = self.read is not None and self.read != old.read
+        if self.is_run and text.startswith("e ") and before.goals:
+            take_time(text[2:].strip(), before.goals[0])
+        self.reply = after.run(text, earlier)
+        self.after = old.after if old.before is not None and vars(old.after) == vars(after) else after
+
+    def imported(self, earlier):
+        """The state that an import takes from."""
+        return earlier.get(self.text.split()[-1]) if self.text.startswith("import ") else None
+
+    def again(self, before, earlier):
+        """The command behind another state: itself where nothing has changed."""
+        is_same = self.before is before and self.imports is self.imported(earlier)
+        return self if is_same else Slot(self.text, self, before, earlier)
+
+
 class Documents:
-    """Theories in order, each a list of texts; answers one request at a time."""
+    """Theories in order, each a list of commands; answers one request at a time. `ran` counts the commands that were run."""
 
     def __init__(self, served=EDITS):
-        self.served, self.theories, self.kept = set(served), [], {}
+        self.served, self.theories, self.ran = set(served), [], 0
 
     def answer(self, line):
         try:
@@ -153,16 +205,16 @@ class Documents:
         if len(line) > 65_536:
             return {"error": 1, "ok": False, "text": "line too long"}
         op = request.get("op") if isinstance(request, dict) else None
-        known = {"new_theory", "insert", "report", "basis", "theorems"} | (self.served & set(EDITS))
+        known = {"new_theory", "insert", "report", "basis", "theorems", "stats"} | (self.served & set(EDITS))
         if op not in known:
             return {"error": 3, "ok": False, "text": "shape"}
         return getattr(self, op)(request)
 
-    def texts(self, name):
-        return next((texts for standing, texts in self.theories if standing == name), None)
+    def slots(self, name):
+        return next((slots for standing, slots in self.theories if standing == name), None)
 
     def new_theory(self, request):
-        if self.texts(request["name"]) is not None:
+        if self.slots(request["name"]) is not None:
             return {"error": 5, "ok": False, "text": "theory name taken"}
         if not re.match(r"[A-Za-z_][\w']{0,63}\Z", request["name"]):
             return {"error": 6, "ok": False, "text": "bad theory name"}
@@ -170,79 +222,80 @@ class Documents:
             return {"error": 7, "ok": False, "text": "position out of range"}
         if len(self.theories) == 64:
             return {"error": 8, "ok": False, "text": "too many"}
-        self.theories.insert(request["at"], (request["name"], []))
-        self.kept = {}
-        return {"ok": True}
+        return self.made(lambda theories: theories.insert(request["at"], (request["name"], [])))
+
+    def at(self, request, most, do):
+        slots = self.slots(request["theory"])
+        if slots is None:
+            return {"error": 4, "ok": False, "text": "unknown theory"}
+        if request["at"] >= len(slots) + most:
+            return {"error": 7, "ok": False, "text": "position out of range"}
+        if most and len(slots) == 1000:
+            return {"error": 8, "ok": False, "text": "too many"}
+        return do(slots)
 
     def edit(self, request, most, do):
-        texts = self.texts(request["theory"])
-        if texts is None:
-            return {"error": 4, "ok": False, "text": "unknown theory"}
-        if request["at"] >= len(texts) + most:
-            return {"error": 7, "ok": False, "text": "position out of range"}
-        if most and len(texts) == 1000:
-            return {"error": 8, "ok": False, "text": "too many"}
-        return do(texts) or {"ok": True}
+        return self.at(request, most, lambda _: self.made(lambda theories: do(dict(theories)[request["theory"]])))
 
-    def forget(self, name, at):
-        """Keeps what was run above an edit, and of the theories behind it nothing."""
-        names = [theory for theory, _ in self.theories]
-        self.kept = {theory: kept for theory, kept in self.kept.items() if names.index(theory) <= names.index(name)}
-        self.kept[name] = self.kept.get(name, [])[:at]
-
-    def insert(self, request):
-        return self.edit(request, 1, lambda texts: (self.forget(request["theory"], request["at"]),
-                                                    texts.insert(request["at"], request["text"])) and None)
-
-    def replace(self, request):
-        return self.edit(request, 0, lambda texts: (self.forget(request["theory"], request["at"]),
-                                                    texts.__setitem__(request["at"], request["text"])) and None)
-
-    def remove(self, request):
-        return self.edit(request, 0, lambda texts: (self.forget(request["theory"], request["at"]),
-                                                    texts.__delitem__(request["at"])) and None)
-
-    def report(self, request):
-        return self.edit(request, 0, lambda _: self.afresh(request["theory"], request["at"])[1])
-
-    def drop_theory(self, request):
-        texts = self.texts(request["name"])
-        if texts is None:
-            return {"error": 4, "ok": False, "text": "unknown theory"}
-        self.theories = [theory for theory in self.theories if theory[0] != request["name"]]
-        self.kept = {}
+    def made(self, do):
+        """Makes an edit and runs what it affects, beside what stands: as a whole or not at all."""
+        theories = [(name, list(slots)) for name, slots in self.theories]
+        do(theories)
+        try:
+            self.theories = self.run(theories)
+        except NoMemory:
+            return {"error": 9, "ok": False, "text": "memory"}
         return {"ok": True}
 
-    def basis(self, request):
-        if self.texts(request["theory"]) is None:
+    def run(self, theories):
+        """The theories with all commands run that read something else than before."""
+        earlier, found = {}, []
+        for name, slots in theories:
+            found.append((name, []))
+            earlier[name] = EMPTY
+            for slot in slots:
+                now = slot.again(earlier[name], earlier)
+                self.ran += now is not slot and now.is_run
+                earlier[name] = now.after
+                found[-1][1].append(now)
+        return found
+
+    def insert(self, request):
+        return self.edit(request, 1, lambda slots: slots.insert(request["at"], Slot(request["text"])))
+
+    def replace(self, request):
+        return self.edit(request, 0, lambda slots: slots.__setitem__(request["at"], Slot(request["text"])))
+
+    def remove(self, request):
+        return self.edit(request, 0, lambda slots: slots.__delitem__(request["at"]))
+
+    def report(self, request):
+        return self.at(request, 0, lambda slots: slots[request["at"]].reply)
+
+    def drop_theory(self, request):
+        if self.slots(request["name"]) is None:
             return {"error": 4, "ok": False, "text": "unknown theory"}
-        state, _ = self.afresh(request["theory"])
-        texts = [text for _, texts in self.theories for text in texts]
+        return self.made(lambda theories: theories.remove(next(one for one in theories if one[0] == request["name"])))
+
+    def stats(self, _):
+        return {"ok": True, "ran": self.ran}
+
+    def basis(self, request):
+        if self.slots(request["theory"]) is None:
+            return {"error": 4, "ok": False, "text": "unknown theory"}
+        texts = [slot.text for _, slots in self.theories for slot in slots]
         axioms = ["axiom:" + request["name"]] if any(text.startswith("new_axiom %s " % request["name"]) for text in texts) else []
-        return {"items": axioms if request["name"] in state.theorems else None, "ok": True}
+        return {"items": axioms if request["name"] in self.end(request["theory"]).theorems else None, "ok": True}
 
     def theorems(self, request):
-        if self.texts(request["theory"]) is None:
+        if self.slots(request["theory"]) is None:
             return {"error": 4, "ok": False, "text": "unknown theory"}
-        state, _ = self.afresh(request["theory"])
-        return {"ok": True, "theorems": ["thm %s |- %s" % pair for pair in state.theorems.items()]}
+        return {"ok": True, "theorems": ["thm %s |- %s" % pair for pair in self.end(request["theory"]).theorems.items()]}
 
-    def afresh(self, name, at=None):
-        """The state and the reply behind a command, or at a theory's end: what was kept, and the rest run."""
-        earlier = {}
-        for theory, texts in self.theories:
-            last = self.run(theory, texts if theory != name or at is None else texts[:at + 1], earlier)
-            if theory == name:
-                return last
-            earlier[theory] = last[0]
-
-    def run(self, theory, texts, earlier):
-        kept = self.kept.setdefault(theory, [])
-        for text in texts[len(kept):]:
-            state = kept[-1][0].copy() if kept else State()
-            reply = state.run(text, earlier)
-            kept.append((state, reply))
-        return kept[len(texts) - 1] if texts else (State(), None)
+    def end(self, name):
+        """The state at a theory's end."""
+        slots = self.slots(name)
+        return slots[-1].after if slots else EMPTY
 
 
 def main():

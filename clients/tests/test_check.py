@@ -92,11 +92,22 @@ class Checking(unittest.TestCase):
                 status, output, _ = self.check({"A.hol": proofs(2)}, server=("--fault", fault, "--once", str(once)))
                 self.assertEqual((status, output), (0, "A.hol: 8 commands, 2 theorems, all accepted\n"))
 
-    def test_a_server_that_hangs_is_status_2_and_names_the_command(self):
-        server = ("--fault", "hang:7", "--once", str(self.folder / "once"))
-        status, _, errors = self.check({"A.hol": proofs(1)}, "--seconds", "6", server=server)
-        self.assertEqual(status, 2)
-        self.assertIn("A.hol:2: nothing is known of this command: hol_serve gave no answer within 6 seconds", errors)
+    def test_a_command_that_runs_too_long_is_status_2_and_the_rest_is_checked(self):
+        text = "g A `loop = loop`;;\ne HANG_TAC;;\ne REFL_TAC;;\nqed;;\n" + proofs(1) + "g B `p = q`;;\ne REFL_TAC;;\n"
+        status, output, errors = self.check({"A.hol": text, "B.hol": "import A;;\n" + proofs(1).replace("N0", "M")}, "--seconds", "6")
+        self.assertEqual((status, errors), (2, (
+            "holls: A.hol:2: nothing is known of this command: hol_serve gave no answer within 6 seconds\n")))
+        self.assertIn("A.hol:11:3: error: REFL_TAC doesn't fit the first goal", output)
+        self.assertIn("B.hol: 5 commands, 1 theorem, all accepted\n", output)
+
+    def test_a_command_that_ends_the_program_or_its_memory_is_status_2_and_the_rest_is_checked(self):
+        for name, reason in (("DIE_TAC", "was ended by signal 6"), ("MEMORY_TAC", "had no memory for it")):
+            with self.subTest(name):
+                status, output, errors = self.check({"A.hol": "g A `big = big`;;\ne %s;;\ne REFL_TAC;;\nqed;;\n" % name + proofs(1)})
+                told = "nothing is known of this command: hol_serve " + reason
+                self.assertEqual((status, errors), (2, "holls: A.hol:2: %s\n" % told))
+                self.assertEqual(output.splitlines(), [
+                    "A.hol:2:1: warning: " + told, "A.hol: 8 commands, 2 theorems, not checked to the end"])
 
     def test_files_are_checked_after_those_that_they_import(self):
         files = {"B.hol": "import A;; " + proofs(1).replace("N0", "M"), "A.hol": proofs(1)}

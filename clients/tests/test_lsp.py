@@ -263,13 +263,91 @@ class Bridging(unittest.TestCase):
         self.assertIn("never closed", editor.published[self.uri][1]["message"])
         self.assertEqual(editor.end(), 0)
 
-    def test_a_hanging_command_is_marked_and_an_edit_goes_on(self):
-        editor = self.editor("--fault", "hang:8", "--once", str(self.folder / "once"))
-        editor.open(self.uri, proofs(1))
+    def inserts(self, text):
+        return sum(request["op"] == "insert" and request["text"] == text for request in self.requests())
+
+    def servers(self):
+        """How many servers have taken the theory A."""
+        return self.edits().count("new_theory")
+
+    def test_a_hanging_command_is_marked_and_when_its_text_changes_the_session_is_begun_again(self):
+        editor = self.editor()
+        editor.open(self.uri, "g A `loop = loop`;;\ne HANG_TAC;;\ne REFL_TAC;;\nqed;;\n")
         editor.until(lambda: 2 in [found["kind"] for found in editor.unknown.get(self.uri, [])])
         self.assertEqual(editor.said(self.uri), [])
-        editor.change(self.uri, 2, "e NO_TAC", ((1, 0), (1, 9)))
+        self.assertEqual(editor.goals(self.uri, 0, 1)["goals"]["goals"][0]["ty"], "loop = loop")  # What stands above is known.
+        editor.change(self.uri, 2, "e NO_TAC", ((1, 0), (1, 10)))
         editor.until(lambda: (1, 1) in [found[:2] for found in editor.said(self.uri)])
+        self.assertEqual(self.servers(), 2)
+        self.assertEqual(editor.end(), 0)
+
+    def test_a_change_below_what_runs_for_long_waits_for_it(self):
+        editor = self.editor()
+        editor.open(self.uri, "g A `x = x`;;\ne SLOW_TAC;;\ne REFL_TAC;;\nqed;;\n")
+        editor.until(lambda: self.inserts("e SLOW_TAC"))
+        time.sleep(0.7)
+        editor.change(self.uri, 2, "ALL", ((2, 2), (2, 6)))
+        self.assertEqual(editor.goals(self.uri, 2, 1)["goals"]["goals"][0]["ty"], "x = x")
+        self.assertEqual((self.servers(), self.inserts("e SLOW_TAC")), (1, 1))
+        self.assertEqual(editor.end(), 0)
+
+    def test_a_command_that_runs_too_long_is_left_out_and_the_session_goes_on(self):
+        editor = self.editor(words=("--seconds", "3"))
+        editor.open(self.uri, "g A `loop = loop`;;\ne HANG_TAC;;\ne REFL_TAC;;\nqed;;\n")
+        editor.until(lambda: editor.said(self.uri) == [(1, 2, "nothing is known of this command")])
+        self.assertIn("hol_serve gave no answer within 3 seconds", editor.published[self.uri][0]["message"])
+        self.assertEqual(editor.goals(self.uri, 3, 1)["messages"], ["thm A |- loop = loop"])
+        self.assertEqual((self.servers(), self.inserts("e HANG_TAC"), self.inserts("")), (2, 1, 1))
+        editor.change(self.uri, 2, "ALL", ((1, 2), (1, 6)))
+        editor.until(lambda: editor.said(self.uri) == [])
+        self.assertEqual((self.servers(), editor.shown), (2, []))
+        self.assertEqual(editor.end(), 0)
+
+    def test_a_command_that_an_edit_above_makes_run_too_long_is_found_and_left_out(self):
+        editor = self.editor(words=("--seconds", "3"))
+        editor.open(self.uri, "g A `x = x`;;\ne ALL_TAC;;\ne HANG_TAC;;\ne REFL_TAC;;\nqed;;\n" + proofs(1))
+        editor.until(lambda: self.uri in editor.published and editor.unknown[self.uri] == [])
+        editor.change(self.uri, 2, "loop = loop", ((0, 5), (0, 10)))  # This edit gives no answer.
+        self.assertEqual(editor.goals(self.uri, 1, 1)["goals"]["goals"][0]["ty"], "loop = loop")
+        editor.until(lambda: editor.said(self.uri) == [(2, 2, "nothing is known of this command")])
+        self.assertEqual(editor.goals(self.uri, 4, 1)["messages"], ["thm A |- loop = loop"])
+        self.assertEqual((self.servers(), editor.shown), (3, []))
+        self.assertEqual(editor.end(), 0)
+
+    def test_a_command_that_finds_no_memory_is_left_out_and_the_session_goes_on(self):
+        editor = self.editor()
+        editor.open(self.uri, "g A `big = big`;;\ne MEMORY_TAC;;\ne REFL_TAC;;\nqed;;\n")
+        editor.until(lambda: editor.said(self.uri) == [(1, 2, "nothing is known of this command")])
+        self.assertIn("hol_serve had no memory for it", editor.published[self.uri][0]["message"])
+        self.assertEqual(editor.goals(self.uri, 3, 1)["messages"], ["thm A |- big = big"])
+        self.assertEqual((self.servers(), self.inserts("e MEMORY_TAC"), self.inserts(""), editor.shown), (1, 2, 1, []))
+        self.assertEqual(editor.end(), 0)
+
+    def test_a_command_that_finds_no_memory_after_an_edit_above_is_found_and_left_out(self):
+        editor = self.editor()
+        editor.open(self.uri, "g A `x = x`;;\ne ALL_TAC;;\ne MEMORY_TAC;;\ne REFL_TAC;;\nqed;;\n")
+        editor.until(lambda: self.uri in editor.published and editor.unknown[self.uri] == [])
+        editor.change(self.uri, 2, "big = big", ((0, 5), (0, 10)))  # This edit is answered by the memory line.
+        editor.until(lambda: editor.said(self.uri) == [(2, 2, "nothing is known of this command")])
+        self.assertEqual(editor.goals(self.uri, 4, 1)["messages"], ["thm A |- big = big"])
+        self.assertEqual((self.servers(), editor.shown), (2, []))
+        self.assertEqual(editor.end(), 0)
+
+    def test_a_command_that_ends_the_program_is_left_out(self):
+        editor = self.editor()
+        editor.open(self.uri, "g A `big = big`;;\ne DIE_TAC;;\ne REFL_TAC;;\nqed;;\n")
+        editor.until(lambda: editor.said(self.uri) == [(1, 2, "nothing is known of this command")])
+        self.assertIn("hol_serve was ended by signal 6", editor.published[self.uri][0]["message"])
+        self.assertEqual(editor.goals(self.uri, 3, 1)["messages"], ["thm A |- big = big"])
+        self.assertEqual((self.servers(), editor.shown), (3, []))
+        self.assertEqual(editor.end(), 0)
+
+    def test_what_one_works_on_comes_before_what_runs_for_long_elsewhere(self):
+        editor, other = self.editor(), (self.folder / "B.hol").as_uri()
+        editor.open(self.uri, "g A `loop = loop`;;\ne HANG_TAC;;\n")
+        editor.until(lambda: self.inserts("e HANG_TAC"))
+        editor.open(other, "g B `x = x`;;\n")
+        self.assertEqual(editor.goals(other, 0, 1)["goals"]["goals"][0]["ty"], "x = x")
         self.assertEqual(editor.end(), 0)
 
     def test_symbols_folding_definition_completion_lenses_and_hover(self):
@@ -348,21 +426,21 @@ class Bridging(unittest.TestCase):
         self.assertIn("hol-project.json can't be read", editor.published[other][0]["message"])
         self.assertEqual(editor.end(), 0)
 
-    def test_an_edit_does_not_wait_for_a_report_that_takes_long(self):
+    def test_an_edit_does_not_wait_for_a_server_that_hangs(self):
         editor = self.editor("--fault", "hang:70", "--once", str(self.folder / "once"))
         editor.open(self.uri, "g A `p /\\ q`;;\n" + "e ALL_TAC;;\n" * 61)
         editor.until(lambda: len(self.requests()) >= 70)
-        editor.change(self.uri, 2, "q", ((0, 5), (0, 6)))  # The report under way would take ten minutes.
+        editor.change(self.uri, 2, "q", ((0, 5), (0, 6)))  # The answer under way would take ten minutes.
         self.assertEqual(editor.goals(self.uri, 0, 1)["goals"]["goals"][0]["ty"], "q /\\ q")
         self.assertEqual(editor.end(), 0)
 
-    def test_an_edit_waits_for_a_report_where_a_server_takes_long_to_start(self):
+    def test_an_edit_waits_where_a_server_takes_long_to_start(self):
         editor = self.editor("--fault", "late:1")
         editor.open(self.uri, "g A `p /\\ q`;;\ne SLOW_TAC;;\n")
-        editor.until(lambda: len(self.requests()) >= 3 + 5)  # Three ask what is served; the last one runs SLOW_TAC.
+        editor.until(lambda: self.inserts("e SLOW_TAC"))
         editor.change(self.uri, 2, "q", ((0, 5), (0, 6)))
         self.assertEqual(editor.goals(self.uri, 1, 1)["goals"]["goals"][0]["ty"], "q /\\ q")
-        self.assertEqual(self.edits().count("new_theory"), 1)
+        self.assertEqual(self.servers(), 1)
         self.assertEqual(editor.end(), 0)
 
     def test_bad_messages_are_refused_and_nothing_ends(self):
@@ -375,9 +453,9 @@ class Bridging(unittest.TestCase):
         self.assertEqual(editor.end(), 0)
 
     def test_an_editor_that_goes_away_leaves_no_process(self):
-        editor = self.editor("--fault", "hang:8")
-        editor.open(self.uri, proofs(1))
-        editor.until(lambda: len(self.requests()) >= 11)
+        editor = self.editor()
+        editor.open(self.uri, "g A `loop = loop`;;\ne HANG_TAC;;\n")
+        editor.until(lambda: self.inserts("e HANG_TAC"))
         editor.process.stdin.close()
         self.assertEqual(editor.process.wait(SECONDS), 1)
 

@@ -111,6 +111,17 @@ class Differences(unittest.TestCase):
                     edit.apply(standing)
                 self.assertEqual(standing, new)
 
+    def test_changes_apart_are_edits_of_their_own_where_there_is_room(self):
+        old = texts(proofs(240))
+        new = ["qed", *old[:500], "e OTHER", *old[501:-2]]
+        wanted = [("insert", 0), ("replace", 501), ("remove", 960), ("remove", 959)]
+        self.assertEqual([(edit.op, edit.at) for edit in difference(old, new)], wanted)
+        old = texts(proofs(250))
+        edits, most = difference(old, ["qed", *old[:500], *old[501:]]), [1000]
+        for edit in edits:
+            most.append(most[-1] + (edit.op == "insert") - (edit.op == "remove"))
+        self.assertEqual(max(most), 1000)
+
     def test_an_insertion_needs_nothing_but_insert(self):
         self.assertEqual([(edit.op, edit.at) for edit in difference(["a", "b"], ["a", "c", "b"], ())], [("insert", 1)])
         self.assertIsNone(difference(["a", "b"], ["a", "c"], ()))

@@ -255,14 +255,15 @@ class Bridge:
                 server.session.pump()
 
     def _changed(self, document: Optional[Document]) -> None:
-        """The texts have changed: the servers are brought in step, and what is seen is asked for first."""
+        """The texts have changed: the servers are brought in step, and what is worked on and seen comes first."""
         groups = self.workspace.groups()
         for root in [root for root in self.servers if root not in groups]:
             self.servers.pop(root).stop()
         for root, files in groups.items():
             server = self.servers.setdefault(root, ProjectServer(self, root))
-            is_changed = server.take(files)
-            if document and document.project.root == root:
+            is_here = document is not None and document.project.root == root
+            is_changed = server.take(files, document.file if is_here else None)
+            if is_here:
                 server.sweep.prefer(document.view())
             if is_changed:
                 server.bring_in_step()

@@ -8,7 +8,7 @@ from typing import Any, Dict, List, Optional, Union
 from holls import words
 from holls.files import File
 from holls.protocol import Goal, Goals, Lost, Made, Refusal
-from holls.session import Job
+from holls.theory import Job
 
 
 SHOWN = 20_000

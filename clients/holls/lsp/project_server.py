@@ -5,6 +5,7 @@ from __future__ import annotations
 import time
 from typing import TYPE_CHECKING, Any, List, Optional
 
+from holls import graph
 from holls.files import File
 from holls.session import Session
 from holls.sweep import Sweep
@@ -26,26 +27,35 @@ class ProjectServer:
         self.resting_until: Optional[float] = None
         self.files: List[File] = []
         self._taken: Any = None
+        self._first: Optional[File] = None
 
-    def take(self, files: List[File]) -> bool:
-        """Takes the files, each after those that it imports. Answers whether something has changed."""
+    def take(self, files: List[File], first: Optional[File]) -> bool:
+        """Takes the files, each after those that it imports, and which one is worked on. Answers whether something has changed."""
+        self._first = first or self._first
         taken = [(id(file.theory), file.theory.edits, tuple(file.theory.imports)) for file in files]
         if taken == self._taken and (self.session is not None or not self.bridge.program):
             return False
         self._taken, self.files = taken, files
-        self.sweep.begin(files)
+        self.sweep.begin(self._in_order())
         self.sweep.is_resting = True
         self.resting_until = time.monotonic() + REST_SECONDS
         return True
+
+    def _in_order(self) -> List[File]:
+        """The files in the order in which they are run: what is worked on and its imports come first."""
+        if self._first not in self.files:
+            return self.files
+        first = graph.ordered_from(self._first, {file.theory.name: file for file in self.files})
+        return first + [file for file in self.files if file not in first]
 
     def bring_in_step(self) -> None:
         """Brings the server in step with the files; it is started where the program is known."""
         if self.session is None and self.bridge.program:
             probed = self.bridge.program
             self.session = Session(
-                probed.words, self.bridge.events, probed.served, self.sweep.pick, self.bridge.told, self.bridge.seconds)
+                probed.words, self.bridge.events, probed.served, self.sweep, self.bridge.told, self.bridge.seconds)
         if self.session:
-            self.session.want([file.theory for file in self.files])
+            self.session.want([file.theory for file in self._in_order()])
 
     def settle(self) -> None:
         """What is to be done at its time."""

@@ -10,7 +10,7 @@ from urllib.parse import unquote, urlparse
 from holls import files, graph, places, protocol
 from holls.files import File
 from holls.projects import Moment, Project, Projects, changed
-from holls.session import Job
+from holls.theory import Job
 
 AROUND = 40
 """So many lines around the cursor count as seen where the editor doesn't say what is."""
