@@ -376,7 +376,7 @@ def main():
         one_run(chosen.program, seed, chosen.edits, ["--cache", str((1, 256)[seed % 2])], tally)
     if tally.runs * 2 > tally.afresh:
         sys.exit(f"edits: {tally.runs} runs where running afresh each time takes {tally.afresh}")
-    if chosen.edits >= 150 and tally.lacks():
+    if tally.edits >= 600 and tally.lacks():
         sys.exit(f"edits: too little was tried of {', '.join(tally.lacks())}")
     print(f"documents under edit: {tally.edits} passed, 0 failed; they ran {tally.runs} commands, where running all afresh each time takes {tally.afresh}")
 
