@@ -35,10 +35,10 @@ edited_put setup earlier mid next last front rest slots slot text n m r h put (n
       texts_are = ap texts_of whole ∙ (texts_more front (slot ∷ news) ∙ (λ i. texts_of front ++ put.says i ∷ redone.texts_are i));
       few =
           let sum : affected_rows (map Some (rows_of front) ++ None ∷ map Some (rows_of rest)) (rows_of front ++ slot.row ∷ rows_of news)
-                  ≡ affected_rows (map Some (rows_of front)) (rows_of front) + affected_rows (None ∷ map Some (rows_of rest)) (slot.row ∷ rows_of news)
-              = rows_append (map Some (rows_of front)) (None ∷ map Some (rows_of rest)) (rows_of front) (slot.row ∷ rows_of news) (as_many_rows front) in
+          ≡ affected_rows (map Some (rows_of front)) (rows_of front) + affected_rows (None ∷ map Some (rows_of rest)) (slot.row ∷ rows_of news)
+          = rows_append (map Some (rows_of front)) (None ∷ map Some (rows_of rest)) (rows_of front) (slot.row ∷ rows_of news) (as_many_rows front) in
           subst (λ rows. r ≤ n + affected_rows (map Some (rows_of front) ++ None ∷ map Some (rows_of rest)) rows) (sym (ap rows_of whole ∙ rows_more front (slot ∷ news)))
-              (rw sum (omega (arith, rows_same (rows_of front), put.few, redone.few)));
+          (rw sum (omega (arith, rows_same (rows_of front), put.few, redone.few)));
     }
 
 -- with one left out after the first ones
@@ -50,10 +50,10 @@ edited_left setup earlier mid last front rest slots n r h (news, all, redone) = 
   texts_are = ap texts_of all ∙ (texts_more front news ∙ ap (λ ts. texts_of front ++ ts) redone.texts_are);
   few =
       let sum : affected_rows (map Some (rows_of front) ++ map Some (rows_of rest)) (rows_of front ++ rows_of news)
-              ≡ affected_rows (map Some (rows_of front)) (rows_of front) + affected_rows (map Some (rows_of rest)) (rows_of news)
-          = rows_append (map Some (rows_of front)) (map Some (rows_of rest)) (rows_of front) (rows_of news) (as_many_rows front) in
+      ≡ affected_rows (map Some (rows_of front)) (rows_of front) + affected_rows (map Some (rows_of rest)) (rows_of news)
+      = rows_append (map Some (rows_of front)) (map Some (rows_of rest)) (rows_of front) (rows_of news) (as_many_rows front) in
       subst (λ rows. r ≤ n + affected_rows (map Some (rows_of front) ++ map Some (rows_of rest)) rows) (sym (ap rows_of all ∙ rows_more front news))
-          (rw sum (omega (arith, rows_same (rows_of front), redone.few)));
+      (rw sum (omega (arith, rows_same (rows_of front), redone.few)));
 }
 
 -- ---- the lists after an edit, by the lists before the place and after it
@@ -103,21 +103,21 @@ pub insert_edited : (setup : SetupValue) (earlier : List EndedTheory) (mid next 
     → IsEdited setup earlier (insert (texts_of old) at text) (insert (map Some (rows_of old)) at None) n r slots last
 insert_edited setup earlier mid next last at old slots front slot text n m r h put is added =
     edited_as setup earlier _ _ _ _ n r slots last (inserted_map (λ (slot : SlotValue). slot.text) old at text) (put_rows old at)
-        (edited_put setup earlier mid next last (take at old) (drop at old) slots slot text n m r h put (subst (λ xs. HaveAdded setup earlier next (drop at old) m r xs slots last) is added))
+    (edited_put setup earlier mid next last (take at old) (drop at old) slots slot text n m r h put (subst (λ xs. HaveAdded setup earlier next (drop at old) m r xs slots last) is added))
 
 pub replace_edited : (setup : SetupValue) (earlier : List EndedTheory) (mid next last : StateValue) (at : ℕ) (old slots front : List SlotValue) (slot : SlotValue) (text : List ℕ) (n m r : ℕ) → at < length old
     → AreSlots setup earlier start (take at old) mid → IsPut setup earlier mid text n m slot next → front ≡ take at old ++ slot ∷ [] → HaveAdded setup earlier next (drop (at + 1) old) m r front slots last
     → IsEdited setup earlier (slice_set (texts_of old) at text) (slice_set (map Some (rows_of old)) at None) n r slots last
 replace_edited setup earlier mid next last at old slots front slot text n m r within h put is added =
     edited_as setup earlier _ _ _ _ n r slots last (replaced_map (λ (slot : SlotValue). slot.text) old at text within) (set_rows old at within)
-        (edited_put setup earlier mid next last (take at old) (drop (at + 1) old) slots slot text n m r h put (subst (λ xs. HaveAdded setup earlier next (drop (at + 1) old) m r xs slots last) is added))
+    (edited_put setup earlier mid next last (take at old) (drop (at + 1) old) slots slot text n m r h put (subst (λ xs. HaveAdded setup earlier next (drop (at + 1) old) m r xs slots last) is added))
 
 pub remove_edited : (setup : SetupValue) (earlier : List EndedTheory) (mid last : StateValue) (at : ℕ) (old slots front : List SlotValue) (n r : ℕ)
     → AreSlots setup earlier start (take at old) mid → front ≡ take at old → HaveAdded setup earlier mid (drop (at + 1) old) n r front slots last
     → IsEdited setup earlier (remove (texts_of old) at) (remove (map Some (rows_of old)) at) n r slots last
 remove_edited setup earlier mid last at old slots front n r h is added =
     edited_as setup earlier _ _ _ _ n r slots last (removed_map (λ (slot : SlotValue). slot.text) old at) (left_rows old at)
-        (edited_left setup earlier mid last (take at old) (drop (at + 1) old) slots n r h (subst (λ xs. HaveAdded setup earlier mid (drop (at + 1) old) n r xs slots last) is added))
+    (edited_left setup earlier mid last (take at old) (drop (at + 1) old) slots n r h (subst (λ xs. HaveAdded setup earlier mid (drop (at + 1) old) n r xs slots last) is added))
 
 -- the slot at the place, and the rest after it
 pub slot_there : (setup : SetupValue) (earlier : List EndedTheory) (mid last : StateValue) (at : ℕ) (old : List SlotValue) (slot : SlotValue) → at < length old → slot ≡ get_or old at slot

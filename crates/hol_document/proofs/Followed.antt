@@ -58,10 +58,10 @@ following_more setup earlier olds news t t' n m r h are name texts few = record 
   texts_are = map_more text_of news (t' ∷ []) ∙ ((λ i. h.texts_are i ++ text_same t t' name texts i ∷ []) ∙ sym (map_more text_of olds (t ∷ [])));
   few =
       let sum : affected_in (map rows_before (map run_of (olds ++ t ∷ []))) (map run_of (news ++ t' ∷ []))
-              ≡ affected_in (map rows_before (map run_of olds)) (map run_of news) + affected_in (map rows_before (map run_of (t ∷ []))) (map run_of (t' ∷ []))
-          = (λ i. affected_in (olds_append olds (t ∷ []) i) (map_more run_of news (t' ∷ []) i))
-          ∙ theories_append (map rows_before (map run_of olds)) (map rows_before (map run_of (t ∷ []))) (map run_of news) (map run_of (t' ∷ []))
-              (runs_length olds ∙ (sym (text_lengths news olds h.texts_are) ∙ sym (map_length run_of news))) in
+      ≡ affected_in (map rows_before (map run_of olds)) (map run_of news) + affected_in (map rows_before (map run_of (t ∷ []))) (map run_of (t' ∷ []))
+      = (λ i. affected_in (olds_append olds (t ∷ []) i) (map_more run_of news (t' ∷ []) i))
+      ∙ theories_append (map rows_before (map run_of olds)) (map rows_before (map run_of (t ∷ []))) (map run_of news) (map run_of (t' ∷ []))
+      (runs_length olds ∙ (sym (text_lengths news olds h.texts_are) ∙ sym (map_length run_of news))) in
       rw sum (omega (arith, h.few, few));
 }
 
@@ -108,12 +108,12 @@ affected_after : (front mids news : List StandingValue) (omids more : List (List
     → affected_in (map rows_before (map run_of front) ++ (omids ++ more)) (map run_of (front ++ (mids ++ news))) ≡ affected_in omids (map run_of mids) + affected_in more (map run_of news)
 affected_after front mids news omids more len =
     let all : affected_in (map rows_before (map run_of front) ++ (omids ++ more)) (map run_of (front ++ (mids ++ news)))
-            ≡ affected_in (map rows_before (map run_of front)) (map run_of front) + affected_in (omids ++ more) (map run_of (mids ++ news))
-        = ap (affected_in (map rows_before (map run_of front) ++ (omids ++ more))) (map_more run_of front (mids ++ news))
-        ∙ theories_append (map rows_before (map run_of front)) (omids ++ more) (map run_of front) (map run_of (mids ++ news)) (map_length rows_before (map run_of front)) in
+    ≡ affected_in (map rows_before (map run_of front)) (map run_of front) + affected_in (omids ++ more) (map run_of (mids ++ news))
+    = ap (affected_in (map rows_before (map run_of front) ++ (omids ++ more))) (map_more run_of front (mids ++ news))
+    ∙ theories_append (map rows_before (map run_of front)) (omids ++ more) (map run_of front) (map run_of (mids ++ news)) (map_length rows_before (map run_of front)) in
     let middle : affected_in (omids ++ more) (map run_of (mids ++ news)) ≡ affected_in omids (map run_of mids) + affected_in more (map run_of news)
-        = ap (affected_in (omids ++ more)) (map_more run_of mids news)
-        ∙ theories_append omids more (map run_of mids) (map run_of news) (len ∙ sym (map_length run_of mids)) in
+    = ap (affected_in (omids ++ more)) (map_more run_of mids news)
+    ∙ theories_append omids more (map run_of mids) (map run_of news) (len ∙ sym (map_length run_of mids)) in
     omega (arith, all, middle, theories_same (map run_of front))
 
 -- the theories after an edit stand, and it affects no more than was run
@@ -140,7 +140,7 @@ after_all setup standing front mids rest done place omids n m r old stand len si
         stand = runs_of_standing setup [] done new;
         few =
             let sum : affected place (map run_of standing) (map run_of done) ≡ affected_in omids (map run_of mids) + affected_in (map rows_before (map run_of rest)) (map run_of news)
-                = (λ i. affected_in (sides i) (map run_of (whole i))) ∙ affected_after front mids news omids (map rows_before (map run_of rest)) len in
+            = (λ i. affected_in (sides i) (map run_of (whole i))) ∙ affected_after front mids news omids (map rows_before (map run_of rest)) len in
             rw sum (omega (arith, few, follow.few));
       };
     }
@@ -159,13 +159,13 @@ pub after_edit : (setup : SetupValue) (standing done : List StandingValue) (t t'
 after_edit setup standing done t t' i at e n m r h is old front are few follow =
     let olds = λ (xs : List StandingValue). map rows_before (map run_of xs) in
     let place : beside (edit_place e at i) (olds standing) ≡ olds (take i standing) ++ (rows_beside e at (map Some (rows_of t.slots)) ∷ [] ++ olds (drop (i + 1) standing)) =
-        beside_edit e at i (olds standing)
-        ∙ (ap (λ xs. changed_at (rows_beside e at) i (olds xs)) (split_at standing i t h is)
-        ∙ (ap (changed_at (rows_beside e at) i) (olds_append (take i standing) (t ∷ drop (i + 1) standing))
-        ∙ (ap (λ k. changed_at (rows_beside e at) k (olds (take i standing) ++ olds (t ∷ drop (i + 1) standing))) (sym (runs_length (take i standing) ∙ take_length standing i h))
-        ∙ changed_there (rows_beside e at) (olds (take i standing)) (map Some (rows_of t.slots)) (olds (drop (i + 1) standing))))) in
+    beside_edit e at i (olds standing)
+    ∙ (ap (λ xs. changed_at (rows_beside e at) i (olds xs)) (split_at standing i t h is)
+    ∙ (ap (changed_at (rows_beside e at) i) (olds_append (take i standing) (t ∷ drop (i + 1) standing))
+    ∙ (ap (λ k. changed_at (rows_beside e at) k (olds (take i standing) ++ olds (t ∷ drop (i + 1) standing))) (sym (runs_length (take i standing) ∙ take_length standing i h))
+    ∙ changed_there (rows_beside e at) (olds (take i standing)) (map Some (rows_of t.slots)) (olds (drop (i + 1) standing))))) in
     after_all setup standing (take i standing) (t' ∷ []) (drop (i + 1) standing) done (edit_place e at i) (rows_beside e at (map Some (rows_of t.slots)) ∷ []) n m r
-        old (standing_append setup [] (take i standing) (t' ∷ []) front (are, tt)) refl place (omega (arith, few)) follow
+    old (standing_append setup [] (take i standing) (t' ∷ []) front (are, tt)) refl place (omega (arith, few)) follow
 
 -- with one more
 pub after_new : (setup : SetupValue) (standing done : List StandingValue) (t' : StandingValue) (at n r : ℕ)
@@ -175,10 +175,10 @@ pub after_new : (setup : SetupValue) (standing done : List StandingValue) (t' : 
 after_new setup standing done t' at n r old front none begins follow =
     let olds = λ (xs : List StandingValue). map rows_before (map run_of xs) in
     let place : beside (AddsTheory at) (olds standing) ≡ olds (take at standing) ++ ([] ∷ [] ++ olds (drop at standing)) =
-        inserted_map rows_before (map run_of standing) at [] ∙ (λ i. map rows_before (sym (take_map run_of standing at) i) ++ [] ∷ map rows_before (sym (drop_map run_of standing at) i)) in
+    inserted_map rows_before (map run_of standing) at [] ∙ (λ i. map rows_before (sym (take_map run_of standing at) i) ++ [] ∷ map rows_before (sym (drop_map run_of standing at) i)) in
     let are : AreSlots setup (map ended_of (take at standing)) start t'.slots t'.last = subst (λ xs. AreSlots setup (map ended_of (take at standing)) start xs t'.last) (sym none) begins in
     after_all setup standing (take at standing) (t' ∷ []) (drop at standing) done (AddsTheory at) ([] ∷ []) n n r
-        old (standing_append setup [] (take at standing) (t' ∷ []) front (are, tt)) refl place (omega arith) follow
+    old (standing_append setup [] (take at standing) (t' ∷ []) front (are, tt)) refl place (omega arith) follow
 
 -- without one
 pub after_drop : (setup : SetupValue) (standing done : List StandingValue) (i n r : ℕ)
@@ -187,11 +187,11 @@ pub after_drop : (setup : SetupValue) (standing done : List StandingValue) (i n 
 after_drop setup standing done i n r old front follow =
     let olds = λ (xs : List StandingValue). map rows_before (map run_of xs) in
     let place : beside (DropsTheory i) (olds standing) ≡ olds (take i standing) ++ olds (drop (i + 1) standing) =
-        removed_map rows_before (map run_of standing) i ∙ (λ j. map rows_before (sym (take_map run_of standing i) j) ++ map rows_before (sym (drop_map run_of standing (i + 1)) j)) in
+    removed_map rows_before (map run_of standing) i ∙ (λ j. map rows_before (sym (take_map run_of standing i) j) ++ map rows_before (sym (drop_map run_of standing (i + 1)) j)) in
     let none : take i standing ++ [] ≡ take i standing = append_none (take i standing) in
     subst (λ xs. IsAfter setup standing (DropsTheory i) (map text_of xs ++ map text_of (drop (i + 1) standing)) n r done) none
-        (after_all setup standing (take i standing) [] (drop (i + 1) standing) done (DropsTheory i) [] n n r
-            old (subst (AreStanding setup []) (sym none) front) refl place (omega arith) (subst (λ xs. HaveFollowed setup xs (drop (i + 1) standing) n r done) (sym none) follow))
+    (after_all setup standing (take i standing) [] (drop (i + 1) standing) done (DropsTheory i) [] n n r
+    old (subst (AreStanding setup []) (sym none) front) refl place (omega arith) (subst (λ xs. HaveFollowed setup xs (drop (i + 1) standing) n r done) (sym none) follow))
 
 -- ---- the theory at a place
 
@@ -225,7 +225,7 @@ pub texts_edited : (standing : List StandingValue) (i : ℕ) (t t' : StandingVal
 texts_edited standing i t t' change h is name texts =
     let there : slice_index_or (map text_of standing) i no_theory ≡ text_of t = text_there standing i t h is in
     let own : text_of t' ≡ record { name = (slice_index_or (map text_of standing) i no_theory).name; commands = change (slice_index_or (map text_of standing) i no_theory).commands } =
-        (λ j. record { name = name j; commands = texts j }) ∙ (λ j. record { name = (sym there j).name; commands = change (sym there j).commands }) in
+    (λ j. record { name = name j; commands = texts j }) ∙ (λ j. record { name = (sym there j).name; commands = change (sym there j).commands }) in
     ap (λ ts. ts ++ map text_of (drop (i + 1) standing)) (map_more text_of (take i standing) (t' ∷ []))
     ∙ (append_assoc (map text_of (take i standing)) (text_of t' ∷ []) (map text_of (drop (i + 1) standing))
     ∙ (ap (λ text. map text_of (take i standing) ++ text ∷ map text_of (drop (i + 1) standing)) own
@@ -244,9 +244,9 @@ place_in p (x ∷ xs) = cond (p x) 0 (1 + place_in p xs)
 pub find_text : (name : List ℕ) (standing : List StandingValue) → position (λ t. bytes_eq t.name name) standing ≡ find_theory name (map text_of standing)
 find_text name standing =
     let of_texts : place_in (λ (t : TheoryText). bytes_eq t.name name) (map text_of standing) ≡ position_or_len (λ (t : TheoryText). bytes_eq t.name name) (map text_of standing) =
-        is_position_or_len (place_in (λ (t : TheoryText). bytes_eq t.name name)) (λ (t : TheoryText). bytes_eq t.name name) refl (λ x xs. refl) (map text_of standing) in
+    is_position_or_len (place_in (λ (t : TheoryText). bytes_eq t.name name)) (λ (t : TheoryText). bytes_eq t.name name) refl (λ x xs. refl) (map text_of standing) in
     let of_theories : place_in (λ (t : TheoryText). bytes_eq t.name name) (map text_of standing) ≡ position_or_len (λ (t : StandingValue). bytes_eq t.name name) standing =
-        is_position_or_len (λ xs. place_in (λ (t : TheoryText). bytes_eq t.name name) (map text_of xs)) (λ (t : StandingValue). bytes_eq t.name name) refl (λ x xs. refl) standing in
+    is_position_or_len (λ xs. place_in (λ (t : TheoryText). bytes_eq t.name name) (map text_of xs)) (λ (t : StandingValue). bytes_eq t.name name) refl (λ x xs. refl) standing in
     let same = sym of_texts ∙ of_theories in
     λ i. cond (nat_lt (sym same i) (sym (map_length text_of standing) i)) (Some (sym same i)) None
 
@@ -259,7 +259,7 @@ standing_here setup other standing front i t same stand h is first =
     let whole = subst (λ s. AreStanding s [] standing) same stand in
     let parts = standing_split other [] i standing whole in
     subst (λ xs. AreSlots other (map ended_of xs) start t.slots t.last × AreStanding other (map ended_of xs ++ ended_of t ∷ []) (drop (i + 1) standing)) (sym first)
-        (theory_here other (map ended_of (take i standing)) standing i t h is parts.1)
+    (theory_here other (map ended_of (take i standing)) standing i t h is parts.1)
 
 pub count_there : (docs : Documents) (standing : List StandingValue) (i : ℕ) (t : StandingValue) → docs.theories ≡ map text_of standing → i < length standing → t ≡ get_or standing i t
     → length (slice_index_or docs.theories i no_theory).commands ≡ length t.slots
@@ -279,8 +279,8 @@ edit_after setup other standing front pushed rest done t t' i at e n m r same st
     let whole = subst (λ s. AreStanding s [] standing) same stand in
     let all : pushed ≡ take i standing ++ t' ∷ [] = more ∙ ap (λ xs. xs ++ t' ∷ []) first in
     after_edit other standing done t t' i at e n m r h is whole (standing_split other [] i standing whole).0
-        (subst (λ xs. AreSlots other (map ended_of xs) start t'.slots t'.last) first edited.are) edited.few
-        (subst (λ xs. HaveFollowed other xs (drop (i + 1) standing) m r done) all (subst (λ xs. HaveFollowed other pushed xs m r done) later follow))
+    (subst (λ xs. AreSlots other (map ended_of xs) start t'.slots t'.last) first edited.are) edited.few
+    (subst (λ xs. HaveFollowed other xs (drop (i + 1) standing) m r done) all (subst (λ xs. HaveFollowed other pushed xs m r done) later follow))
 
 pub new_after : (setup other : SetupValue) (standing front pushed rest done : List StandingValue) (t' : StandingValue) (at n r : ℕ)
     → setup ≡ other → AreStanding setup [] standing → front ≡ take at standing → t'.slots ≡ [] → t'.last ≡ start
@@ -290,7 +290,7 @@ new_after setup other standing front pushed rest done t' at n r same stand first
     let whole = subst (λ s. AreStanding s [] standing) same stand in
     let all : pushed ≡ take at standing ++ t' ∷ [] = more ∙ ap (λ xs. xs ++ t' ∷ []) first in
     after_new other standing done t' at n r whole (standing_split other [] at standing whole).0 none begins
-        (subst (λ xs. HaveFollowed other xs (drop at standing) n r done) all (subst (λ xs. HaveFollowed other pushed xs n r done) later follow))
+    (subst (λ xs. HaveFollowed other xs (drop at standing) n r done) all (subst (λ xs. HaveFollowed other pushed xs n r done) later follow))
 
 pub drop_after : (setup other : SetupValue) (standing front rest done : List StandingValue) (i n r : ℕ)
     → setup ≡ other → AreStanding setup [] standing → front ≡ take i standing → rest ≡ drop (i + 1) standing → HaveFollowed other front rest n r done
@@ -298,7 +298,7 @@ pub drop_after : (setup other : SetupValue) (standing front rest done : List Sta
 drop_after setup other standing front rest done i n r same stand first later follow =
     let whole = subst (λ s. AreStanding s [] standing) same stand in
     after_drop other standing done i n r whole (standing_split other [] i standing whole).0
-        (subst (λ xs. HaveFollowed other xs (drop (i + 1) standing) n r done) first (subst (λ xs. HaveFollowed other front xs n r done) later follow))
+    (subst (λ xs. HaveFollowed other xs (drop (i + 1) standing) n r done) first (subst (λ xs. HaveFollowed other front xs n r done) later follow))
 
 -- what an edit affects, of documents that are these
 pub runs_as : (a a' b b' : Documents) (place : EditPlace) (n r : ℕ) → a ≡ a' → b ≡ b' → RunsAffected a b place n r → RunsAffected a' b' place n r

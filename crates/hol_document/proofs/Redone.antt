@@ -58,7 +58,7 @@ redone_append setup earlier s mid last olds olds' news news' n m r h k = record 
   few =
       let rows : rows_of (news ++ news') ≡ rows_of news ++ rows_of news' = map_more (λ (slot : SlotValue). slot.row) news news' in
       let sum : affected_rows (map Some (rows_of (olds ++ olds'))) (rows_of (news ++ news')) ≡ affected_rows (map Some (rows_of olds)) (rows_of news) + affected_rows (map Some (rows_of olds')) (rows_of news')
-          = (λ i. affected_rows (olds_more olds olds' i) (rows i)) ∙ rows_append (map Some (rows_of olds)) (map Some (rows_of olds')) (rows_of news) (rows_of news') (lengths olds news (sym h.texts_are)) in
+      = (λ i. affected_rows (olds_more olds olds' i) (rows i)) ∙ rows_append (map Some (rows_of olds)) (map Some (rows_of olds')) (rows_of news) (rows_of news') (lengths olds news (sym h.texts_are)) in
       rw sum (omega (arith, h.few, k.few));
 }
 
@@ -92,7 +92,6 @@ module _ {A : Type 0} (f : A → SlotValue) where
       let all : drop i xs ≡ x ∷ drop (i + 1) xs = rw (add-one, drop-cons xs i x h, ← is) refl in
       ap (map f) all
 
-
   -- one turn of the loop: what is done, and what is left
   pub added_next : (setup : SetupValue) (earlier : List EndedTheory) (s mid next : StateValue) (xs : List A) (i : ℕ) (x : A) (front slots slots' : List SlotValue) (new : SlotValue) (n m r : ℕ)
       → i < length xs → x ≡ get_or xs i x → slots' ≡ slots ++ new ∷ [] → HaveAdded setup earlier s (map f (take i xs)) n m front slots mid
@@ -121,6 +120,7 @@ module _ {A X : Type 0} (f : A → X) where
   -- one more at the end
   pub pushed : (xs ys : List A) (y : A) → ys ≡ xs ++ y ∷ [] → map f ys ≡ map f xs ++ f y ∷ []
   pushed xs ys y e = ap (map f) e ∙ map_more f xs (y ∷ [])
+
   none : (n : ℕ) → n < 0 → ⊥
   none n h = omega (arith, h)
 
@@ -151,8 +151,8 @@ module _ {A : Type 0} (f : A → SlotValue) where
   added_all setup earlier s last last' xs at n m olds front slots slots' is end same ends added =
       let all : map f (take at xs) ≡ olds = ap (map f) (take_all at xs end) ∙ sym is in
       subst (λ os. HaveAdded setup earlier s os n m front slots' last') all
-          (subst (λ zs. HaveAdded setup earlier s (map f (take at xs)) n m front zs last') (sym same)
-          (subst (λ t. HaveAdded setup earlier s (map f (take at xs)) n m front slots t) (sym ends) added))
+      (subst (λ zs. HaveAdded setup earlier s (map f (take at xs)) n m front zs last') (sym same)
+      (subst (λ t. HaveAdded setup earlier s (map f (take at xs)) n m front slots t) (sym ends) added))
 
   -- from a place on the slots are taken as they stand, since the states are one there
   pub added_cut : (setup : SetupValue) (before earlier : List EndedTheory) (drift : DriftValue) (s mid last last' : StateValue) (xs : List A) (at n m : ℕ) (olds front slots slots' : List SlotValue) → olds ≡ map f xs
@@ -162,8 +162,8 @@ module _ {A : Type 0} (f : A → SlotValue) where
       let one : t ≡ mid = states_one drift t mid entries proof alike in
       let later : drop at olds ≡ map f (drop at xs) = ap (drop at) is ∙ sym (drop_map f xs at) in
       let rest : AreSlots setup earlier mid (map f (drop at xs)) last' =
-          subst (λ (e : StateValue). AreSlots setup earlier mid (map f (drop at xs)) e) (sym ends)
-              (slots_elsewhere setup before earlier mid (map f (drop at xs)) last (subst (EachImportsAlike before earlier) later same) (subst (λ (u : StateValue). AreSlots setup before u (map f (drop at xs)) last) one left)) in
+      subst (λ (e : StateValue). AreSlots setup earlier mid (map f (drop at xs)) e) (sym ends)
+      (slots_elsewhere setup before earlier mid (map f (drop at xs)) last (subst (EachImportsAlike before earlier) later same) (subst (λ (u : StateValue). AreSlots setup before u (map f (drop at xs)) last) one left)) in
       let whole : map f (take at xs) ++ map f (drop at xs) ≡ olds = sym (parts_of f xs at) ∙ sym is in (
         news ++ map f (drop at xs),
         more ∙ (ap (λ zs. zs ++ map f (drop at xs)) all ∙ append_assoc front news (map f (drop at xs))),

@@ -66,10 +66,13 @@ passed_over drift row command reads is read keyed held apart =
     let (own, own_read, keys) = keyed command is in
     let one : Some own ≡ Some reads = sym own_read ∙ read in
     let same : own ≡ reads = cc in
-    subst (IsPassedOver drift) (sym is) ((
-      subst (AreApart drift.changed) (ap (λ (r : ReadsValue). keys_of r.cited) (sym same) ∙ keys.cited) apart.0,
-      subst (AreApart drift.changed) (ap (λ (r : ReadsValue). keys_of r.made) (sym same) ∙ keys.made) apart.1,
-    ), held)
+    subst (IsPassedOver drift) (sym is) (
+      (
+        subst (AreApart drift.changed) (ap (λ (r : ReadsValue). keys_of r.cited) (sym same) ∙ keys.cited) apart.0,
+        subst (AreApart drift.changed) (ap (λ (r : ReadsValue). keys_of r.made) (sym same) ∙ keys.made) apart.1,
+      ),
+      held,
+    )
 
 -- the slot of a row that stands at the state
 pub row_slot : (setup : SetupValue) (earlier : List EndedTheory) (s next : StateValue) (slot : SlotValue)
@@ -97,7 +100,7 @@ pub kept_slot : (setup : SetupValue) (earlier : List EndedTheory) (s next : Stat
     → IsSlot setup earlier s new
 kept_slot setup earlier s next old new is text row e opened stands =
     row_slot setup earlier s next new (subst (λ t. IsRow setup earlier s t new.row) (sym text) (subst (λ r. IsRow setup earlier s old.text r) (sym row) is))
-        (e ∙ ap (λ (r : Row). after s r.outcome) (sym row)) opened stands
+    (e ∙ ap (λ (r : Row). after s r.outcome) (sym row)) opened stands
 
 -- what is run again is counted
 pub run_counts : (setup : SetupValue) (earlier : List EndedTheory) (s : StateValue) (old new : SlotValue) (n m : ℕ)
@@ -107,7 +110,7 @@ pub run_counts : (setup : SetupValue) (earlier : List EndedTheory) (s : StateVal
 run_counts setup earlier s old new n m is value counted few =
     let read : new.row.reads ≡ reads_at old.row.value s = is.row.read ∙ ap (λ v. reads_at v s) value in
     let same : counts (Some old.row) new.row ≡ counts None new.row =
-        ap (counts_beside old.row.reads) read ∙ (counted ∙ ap (counts_beside None) (sym read)) in
+    ap (counts_beside old.row.reads) read ∙ (counted ∙ ap (counts_beside None) (sym read)) in
     subst (λ c. m ≤ n + c) (sym same) few
 
 -- none is open after a slot

@@ -29,7 +29,7 @@ made_edit : (old new : Counted) (edit : Result (List TheoryText) Refusal) (Runs 
     → new.documents.cache ≡ old.documents.cache → old.ran ≤ new.ran → Runs → Edits old edit Runs Done new
 made_edit old new edit Runs made setup cache rises runs =
     subst (λ (e : Result (List TheoryText) Refusal). Edits old e Runs Done new) (sym made)
-        (refl, λ i. record { theories = new.documents.theories; setup = setup i; cache = cache i }, rises, runs)
+    (refl, λ i. record { theories = new.documents.theories; setup = setup i; cache = cache i }, rises, runs)
 
 refused_edit : (old new : Counted) (edit : Result (List TheoryText) Refusal) (Runs : Type 0) (refusal : Refusal)
     → edit ≡ Err refusal → new.documents ≡ old.documents → new.ran ≡ old.ran → Edits old edit Runs (Refused (ByDocuments refusal)) new

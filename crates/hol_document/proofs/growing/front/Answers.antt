@@ -20,4 +20,4 @@ pub returns-clause-are : goal.returns-clause-are
 returns-clause-are c =
     let slots = take_map (λ x. x.value) c.slots.result.now c.args.at ∙ ap (take c.args.at) c.slots.ensures in
     IfOk-weaker c.resumed.result _ _ (λ growing is. λ setup before last h. front_split setup before last growing.state c.args.at c.args.theory.now.slots h
-        (λ mid front. is setup before mid (subst (λ zs. AreSlots setup before start zs mid) (sym slots) front))) c.resumed.ensures.state
+    (λ mid front. is setup before mid (subst (λ zs. AreSlots setup before start zs mid) (sym slots) front))) c.resumed.ensures.state

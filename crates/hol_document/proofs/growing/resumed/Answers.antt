@@ -11,7 +11,7 @@ resume-requires-clause-at c =
     let left = c.loop-slot.invariant.left c.requires.0 (map ended_of c.args.earlier.now) c.requires.1 c.requires.2 in
     let here = slot_here (λ x. x.value) c.requires.0 (map ended_of c.args.earlier.now) c.loop-slot.growing.state c.requires.1 c.args.slots.now c.loop-slot.slot-index c.slot-item.result c.loop-slot-test.true c.slot-item.is left in
     rw (c.deref-in-loop-slot.ensures, c.outcome.ensures, c.deref.ensures)
-        (slot_at c.requires.0 (map ended_of c.args.earlier.now) c.loop-slot.growing.state c.slot-item.result.value.text c.slot-item.result.value.row c.promise_each.ensures here.0.row)
+    (slot_at c.requires.0 (map ended_of c.args.earlier.now) c.loop-slot.growing.state c.slot-item.result.value.text c.slot-item.result.value.row c.promise_each.ensures here.0.row)
 
 pub loop-slot-preserved : goal.loop-slot-preserved
 loop-slot-preserved c =

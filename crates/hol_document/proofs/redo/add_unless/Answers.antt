@@ -13,6 +13,6 @@ pub returns : goal.returns
 returns c = λ before earlier new named same alike.
     let own : string_bytes c.in_ok-clone.field-0.value ≡ c.args.theory.now.name = search rules in
     let all = pushed (λ name. string_bytes name.value) c.args.names.now.items c.push.new.self.items c.in_ok-clone.field-0 c.in_ok-push.ensures.items
-        ∙ ap (λ name. map (λ name. string_bytes name.value) c.args.names.now.items ++ name ∷ []) own in
+    ∙ ap (λ name. map (λ name. string_bytes name.value) c.args.names.now.items ++ name ∷ []) own in
     subst (λ names. EndAlike names (before ++ ended_of c.args.theory.now ∷ []) (earlier ++ new ∷ [])) (sym all)
-        (alike_other (map (λ name. string_bytes name.value) c.args.names.now.items) before earlier (ended_of c.args.theory.now) new named alike)
+    (alike_other (map (λ name. string_bytes name.value) c.args.names.now.items) before earlier (ended_of c.args.theory.now) new named alike)

@@ -23,6 +23,6 @@ returns-clause-edited g c =
     let parts = c.in_ok-growing.ensures.are (setup_of c.args.meter.now) (map ended_of c.args.earlier.now) c.args.theory.now.last c.requires.stood in
     let put = c.in_ok-insert.ensures.put in
     IfOk-weaker c.redo.result _ _ (λ r added.
-        insert_edited (setup_of c.args.meter.now) (map ended_of c.args.earlier.now) c.in_ok-growing.growing.state c.insert.new.growing.state r.theory.last c.args.at c.args.theory.now.slots r.theory.slots
-            (map (λ x. x.value) c.insert.new.growing.slots.items) put.0 c.args.line.now.value.text (ran_of c.args.meter.now) (ran_of c.insert.new.meter) (ran_of c.redo.new.meter)
-            parts.0 put.2 (put.1 ∙ ap (λ zs. zs ++ put.0 ∷ []) c.in_ok-growing.ensures.slots) (rw c.in_ok-insert.ensures.setup at added)) c.redo.ensures.slots
+    insert_edited (setup_of c.args.meter.now) (map ended_of c.args.earlier.now) c.in_ok-growing.growing.state c.insert.new.growing.state r.theory.last c.args.at c.args.theory.now.slots r.theory.slots
+    (map (λ x. x.value) c.insert.new.growing.slots.items) put.0 c.args.line.now.value.text (ran_of c.args.meter.now) (ran_of c.insert.new.meter) (ran_of c.redo.new.meter)
+    parts.0 put.2 (put.1 ∙ ap (λ zs. zs ++ put.0 ∷ []) c.in_ok-growing.ensures.slots) (rw c.in_ok-insert.ensures.setup at added)) c.redo.ensures.slots

@@ -7,4 +7,4 @@ pub returns-clause-alike : goal.returns-clause-alike
 returns-clause-alike c = λ s opened alike. c.go_on.ensures s c.args.state.now c.args.slot.now.value.row.outcome alike
     (λ e. sym opened ∙ (ap (λ (slot : SlotValue). slot.opened) (sym c.deref.ensures) ∙ c.is_open_after.ensures.old e))
     (λ e. ap (λ (t : StateValue). newest_of t.proof) (sym c.in_ok-new.ensures.state) ∙ (sym c.in_ok-new.ensures.opened
-        ∙ (ap (λ (slot : SlotValue). slot.opened) (sym c.deref-2.ensures) ∙ c.is_open_after.ensures.new e)))
+    ∙ (ap (λ (slot : SlotValue). slot.opened) (sym c.deref-2.ensures) ∙ c.is_open_after.ensures.new e)))

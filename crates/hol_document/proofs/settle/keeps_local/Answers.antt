@@ -15,8 +15,8 @@ returns-then-is_apart-clause-yes c = λ yes setup before earlier s alike is.
     elim c.if-has_same_proof.branch [
       | then-has_same_proof w ↦
           row_passed setup before earlier c.args.drift.now s c.args.state.now c.args.slot.now.text c.args.slot.now.row alike
-              (passed_over c.args.drift.now c.args.slot.now.row (local_text c.args.command.now) c.in-Some.reads.value c.requires.value read c.requires.keyed
-              (sym c.has_same_proof.ensures ∙ w.if-has_same_proof.true) ((rw (w.changes.ensures, w.deref.ensures) at w.is_apart.ensures) (sym w.value-is ∙ yes))) is
+          (passed_over c.args.drift.now c.args.slot.now.row (local_text c.args.command.now) c.in-Some.reads.value c.requires.value read c.requires.keyed
+          (sym c.has_same_proof.ensures ∙ w.if-has_same_proof.true) ((rw (w.changes.ensures, w.deref.ensures) at w.is_apart.ensures) (sym w.value-is ∙ yes))) is
       | else-has_same_proof w ↦ absurd (true≢false (sym yes ∙ (w.value-is ∙ w.if-has_same_proof.false)))
     ]
 
@@ -24,4 +24,4 @@ pub returns-else-is_apart-clause-yes : goal.returns-else-is_apart-clause-yes
 returns-else-is_apart-clause-yes c = λ yes setup before earlier s alike is.
     let read : c.args.slot.now.row.reads ≡ Some c.in-Some.reads.value = sym c.reads.ensures ∙ ap (option_map (λ r. r.value)) c.in-Some.is in
     row_read_again setup before earlier s c.args.state.now c.args.slot.now.text (local_text c.args.command.now) c.in-Some.reads.value c.args.slot.now.row c.requires.value read
-        (reads_agree _ _ c.agree.result (rw c.deref-else-is_apart.ensures at c.agree.ensures) yes) is
+    (reads_agree _ _ c.agree.result (rw c.deref-else-is_apart.ensures at c.agree.ensures) yes) is

@@ -15,8 +15,8 @@ returns-clause-ok g c =
     on_ok_weaker c.run.result (λ h.
     begins (λ old new. Finishes MayAnswer old new (g.R.Read.remaining c.args.reader.now) (g.R.Read.remaining c.run.new.reader) (g.W.Write.contents c.args.writer.now) (g.W.Write.contents c.run.new.writer)) _ _ _
     (counted_begun _ (map row_of c.args.codes.now) c.args.turns c.args.cache _
-        (c.in_ok-docs.ensures.documents ∙ ap (λ s. record { theories = []; setup = s; cache = c.args.cache }) c.in_ok-setup.ensures ∙ ap (λ rows. (begun_by rows c.args.turns c.args.cache).documents) (rows_taken c.args.codes.now c.loop-code.code-index _ c.loop-code-test.false c.loop-code.invariant))
-        c.in_ok-docs.ensures.ran)
+    (c.in_ok-docs.ensures.documents ∙ ap (λ s. record { theories = []; setup = s; cache = c.args.cache }) c.in_ok-setup.ensures ∙ ap (λ rows. (begun_by rows c.args.turns c.args.cache).documents) (rows_taken c.args.codes.now c.loop-code.code-index _ c.loop-code-test.false c.loop-code.invariant))
+    c.in_ok-docs.ensures.ran)
     h)
     c.run.ensures.ok
 
@@ -25,8 +25,8 @@ returns-clause-read_fault g c e =
     let (stops, failed) = c.run.ensures.read_fault e in (
       begins (λ old new. StopsReading MayAnswer old new (g.R.Read.remaining c.args.reader.now) (g.R.Read.remaining c.run.new.reader) (g.W.Write.contents c.args.writer.now) (g.W.Write.contents c.run.new.writer)) _ _ _
           (counted_begun _ (map row_of c.args.codes.now) c.args.turns c.args.cache _
-              (c.in_ok-docs.ensures.documents ∙ ap (λ s. record { theories = []; setup = s; cache = c.args.cache }) c.in_ok-setup.ensures ∙ ap (λ rows. (begun_by rows c.args.turns c.args.cache).documents) (rows_taken c.args.codes.now c.loop-code.code-index _ c.loop-code-test.false c.loop-code.invariant))
-              c.in_ok-docs.ensures.ran)
+          (c.in_ok-docs.ensures.documents ∙ ap (λ s. record { theories = []; setup = s; cache = c.args.cache }) c.in_ok-setup.ensures ∙ ap (λ rows. (begun_by rows c.args.turns c.args.cache).documents) (rows_taken c.args.codes.now c.loop-code.code-index _ c.loop-code-test.false c.loop-code.invariant))
+          c.in_ok-docs.ensures.ran)
           stops,
       failed,
     )
@@ -36,8 +36,8 @@ returns-clause-write_fault g c e =
     let (stops, failed) = c.run.ensures.write_fault e in (
       begins (λ old new. StopsWriting MayAnswer old new (g.R.Read.remaining c.args.reader.now) (g.R.Read.remaining c.run.new.reader) (g.W.Write.contents c.args.writer.now) (g.W.Write.contents c.run.new.writer)) _ _ _
           (counted_begun _ (map row_of c.args.codes.now) c.args.turns c.args.cache _
-              (c.in_ok-docs.ensures.documents ∙ ap (λ s. record { theories = []; setup = s; cache = c.args.cache }) c.in_ok-setup.ensures ∙ ap (λ rows. (begun_by rows c.args.turns c.args.cache).documents) (rows_taken c.args.codes.now c.loop-code.code-index _ c.loop-code-test.false c.loop-code.invariant))
-              c.in_ok-docs.ensures.ran)
+          (c.in_ok-docs.ensures.documents ∙ ap (λ s. record { theories = []; setup = s; cache = c.args.cache }) c.in_ok-setup.ensures ∙ ap (λ rows. (begun_by rows c.args.turns c.args.cache).documents) (rows_taken c.args.codes.now c.loop-code.code-index _ c.loop-code-test.false c.loop-code.invariant))
+          c.in_ok-docs.ensures.ran)
           stops,
       failed,
     )
