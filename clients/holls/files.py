@@ -23,22 +23,25 @@ class File:
 
     `blemishes` come from the file alone, `context` from what stands beside it; with `is_shadowed` there is no room for it in the server,
     or another file is its theory.
-    `written` is what the module `names` keeps of it.
+    `written` is what the module `names` keeps of it, `hints` what `findings` does.
     """
 
     def __init__(self, path: str) -> None:
         self.path = path
         self.theory = Theory(theory_name(path))
+        self._is_named = protocol.is_name(self.theory.name)
         self.blemishes: List[Blemish] = []
         self.context: List[Blemish] = []
         self.is_shadowed = False
         self.written: Optional[Tuple[Cut, List[Any]]] = None
+        self.hints: Optional[List[Any]] = None
         self._slots: List[Optional[int]] = []
         self.take("")
 
     def take(self, text: str) -> None:
         """Takes the file's text. A hidden `oops` ends a failed proof before a command that can't stand in one."""
         self.lines = Lines(text)
+        self.hints = None
         self.cut: Cut = cut(text)
         self.blemishes = list(self.cut.blemishes)
         self._check_name()
@@ -58,7 +61,7 @@ class File:
     @property
     def is_sent(self) -> bool:
         """Whether the file can be a theory."""
-        return protocol.is_name(self.theory.name) and not self.is_shadowed
+        return self._is_named and not self.is_shadowed
 
     def slot(self, number: int) -> Optional[int]:
         """A command's place in the theory."""
@@ -126,7 +129,7 @@ class File:
             % protocol.COMMANDS, True))
 
     def _check_name(self) -> None:
-        if protocol.is_name(self.theory.name):
+        if self._is_named:
             return
         self.blemishes.append(self.first_line((
             "the file's name without %s is the theory's, and `%s` can't be one: it has to be a letter or _, then letters, digits, "

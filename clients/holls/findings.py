@@ -211,7 +211,9 @@ def _form(file: File) -> List[Finding]:
 
 def _hints(file: File) -> List[Finding]:
     """Words that mean more in HOL Light than here."""
-    return [
-        Finding(command.place(start), command.place(end), Severity.HINT,
-                "`%s` is a plain name here: there are no conditionals and no let" % command.text[start:end])
-        for command in file.commands for start, end in notation.plain_words(command.text)]
+    if file.hints is None:
+        file.hints = [
+            Finding(command.place(start), command.place(end), Severity.HINT,
+                    "`%s` is a plain name here: there are no conditionals and no let" % command.text[start:end])
+            for command in file.commands for start, end in notation.plain_words(command.text)]
+    return file.hints

@@ -317,14 +317,15 @@ class Session:
 
     def _judge(self, head: _Pending) -> None:
         """Sets how long a request may take. One that isn't wanted any more may take as long as it would to come back to its place in
-        another server; one that affects more than its command as long as all that stands took, since there each would come by itself."""
+        another server, where a start counts twice; one that affects more than its command as long as all that stands took, since there
+        each would come by itself."""
         change = head.change
         back = self._standing.seconds_before(change) if change else self._standing.seconds
         head.is_in_the_way = not self._is_in_step and not self._is_wanted(change)
         if not head.is_in_the_way and change and not self._standing.is_last(change, self.theories):
             head.is_in_the_way, back = True, self._standing.seconds
         if head.is_in_the_way:
-            head.limit = max(PATIENCE_SECONDS, self._start_seconds + back)
+            head.limit = max(PATIENCE_SECONDS, 2 * self._start_seconds + back)
         else:
             runs = change is None or self._entry(change)
             head.limit = self._seconds if runs else max(START_SECONDS, self._seconds)

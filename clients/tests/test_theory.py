@@ -7,8 +7,9 @@ import tempfile
 import unittest
 
 from holls import protocol
+from holls.difference import INSERT, REMOVE, REPLACE
 from holls.lsp.workspace import Workspace
-from holls.theory import Standing
+from holls.theory import DROP, NEW, Change, Standing, Theory
 from tests.fake_server import Documents
 
 NAMES = ("A", "B", "C")
@@ -90,6 +91,23 @@ class InStep(unittest.TestCase):
             del workspace.documents["file:///A.hol"]
             mirror.bring(of(workspace))
             self.assertEqual([name for name, _ in mirror.documents.theories], names)
+
+    def test_which_edits_can_affect_no_other_command_and_how_long_what_stands_before_took(self):
+        standing, wanted = Standing(), [Theory("A"), Theory("B", imports=("A",)), Theory("C")]
+        for at, name in enumerate("ABC"):
+            standing.apply(Change(NEW, name, at))
+            self.assertTrue(standing.is_last(Change(INSERT, name, 0, "qed"), wanted))
+            standing.apply(Change(INSERT, name, 0, "qed"), 2.0)
+            standing.apply(Change(INSERT, name, 1, "qed"), 3.0)
+        cases = {("A", 2): False, ("B", 2): True, ("B", 1): False, ("C", 2): True}
+        self.assertEqual({case: standing.is_last(Change(INSERT, *case, "qed"), wanted) for case in cases}, cases)
+        cases = {(REPLACE, "B", 1): True, (REPLACE, "B", 0): False, (REMOVE, "C", 1): True, (DROP, "A", 0): False, (NEW, "D", 0): True}
+        self.assertEqual({case: standing.is_last(Change(*case), wanted) for case in cases}, cases)
+        self.assertEqual((standing.seconds_before(Change(REPLACE, "B", 1)), standing.seconds), (7.0, 15.0))
+        standing.apply(Change(REMOVE, "A", 1))
+        standing.apply(Change(INSERT, "B", 0, "qed"), 50.0)  # It may have run others too.
+        self.assertEqual((standing.seconds_before(Change(REPLACE, "B", 1)), standing.seconds), (2.0, 12.0))
+        self.assertEqual(standing.changes([], (DROP,)), [Change(DROP, name) for name in "CBA"])
 
     def test_what_an_import_gave_is_forgotten_when_its_file_is_closed(self):
         workspace = Workspace()
