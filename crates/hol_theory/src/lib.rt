@@ -4,10 +4,14 @@
 #![tactic(auto)]
 
 mod env;
+#[cfg(test)]
+mod env_tests;
 mod error;
 mod key;
 mod laws;
+mod layer;
 mod making;
+mod older;
 mod same;
 mod value;
 
