@@ -1,5 +1,5 @@
 -- Entries in layers, one after the other, in which no two have one key.
-use Rattle.std.specs.Prelude.{◌≡◌, ◌<◌, ◌≤◌, ◌-◌, ℕ, List, [], ◌∷◌, ◌++◌, map, length, take, drop, slice_get, slice_index_or, Option, Some, None, is_some, refl}
+use Rattle.std.specs.Prelude.{◌≡◌, ◌<◌, ◌≤◌, ◌-◌, ℕ, List, [], ◌∷◌, ◌++◌, map, length, take, drop, slice_get, slice_index_or, Some, None, is_some, refl}
 use Rattle.std.proofs.Common.{ap, sym, ◌∙◌, subst, ◌+◌, zero, suc, add-one, arith}
 use Rattle.std.proofs.Math.Seq.{drop-cons}
 use Rattle.std.proofs.lemmas.List.{append-nil, append_assoc, map-append, length-append, take_more, take-map}

@@ -4,8 +4,6 @@
 #![tactic(auto)]
 
 mod env;
-#[cfg(test)]
-mod env_tests;
 mod error;
 mod key;
 mod laws;

@@ -50,6 +50,15 @@ impl Proof {
         Ok(Proof { name, stack })
     }
 
+    /// An equal proof, which shares the elements of the history.
+    pub(crate) fn copy(&self, alloc: Global) -> Result<Proof, AllocError>
+        ensures { IfOk result (λ p. p ≡ self.now) }
+    {
+        let name = String::from_str(alloc, self.name.as_str())?;
+        let stack = self.stack.copy(alloc)?;
+        Ok(Proof { name, stack })
+    }
+
     /// The theorem's name.
     pub(crate) fn name(&self) -> &str
         ensures { result.now ≡ self.now.name }

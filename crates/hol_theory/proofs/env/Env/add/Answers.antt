@@ -1,4 +1,4 @@
-use Rattle.std.proofs.Common.{◌≡◌, ◌∙◌, ◌++◌, ◌∷◌, [], None, ap, sym, refl}
+use Rattle.std.proofs.Common.{◌∙◌, ◌++◌, ◌∷◌, [], ap, refl}
 use Rattle.hol_theory.specs.Entry.{EntryValue, entry_at}
 use Rattle.hol_theory.specs.Key.{KeyValue}
 use Rattle.hol_theory.proofs.Layers.{none_right}

@@ -1,4 +1,4 @@
-use Rattle.std.proofs.Common.{◌≡◌, [], ◌++◌, ◌∙◌, ap, sym, subst, length}
+use Rattle.std.proofs.Common.{[], ◌++◌, ◌∙◌, ap, sym, subst, length}
 use Rattle.hol_theory.specs.Entry.{Entries}
 use Rattle.hol_theory.specs.Adding.{AreNew}
 use Rattle.hol_theory.specs.Theory.{IsTheory}

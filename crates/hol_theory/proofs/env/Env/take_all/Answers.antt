@@ -1,4 +1,4 @@
-use Rattle.std.proofs.Common.{◌≡◌, [], length, arith, sym, subst}
+use Rattle.std.proofs.Common.{◌≡◌, length, arith, sym, subst}
 use Rattle.hol_theory.specs.Entry.{Entries}
 use Rattle.hol_theory.specs.Adding.{AreNew}
 use Rattle.hol_theory.proofs.Layers.{new_right}

@@ -1,4 +1,4 @@
-use Rattle.std.proofs.Common.{◌≡◌, ◌∙◌, ◌+◌, ap, map, take}
+use Rattle.std.proofs.Common.{◌∙◌, ap, map}
 use Rattle.hol_theory.proofs.Layers.{copied_more}
 use Rattle.hol_theory.proofs.older.Older.copy.Goals as goal
 

@@ -1,5 +1,4 @@
 use Rattle.std.proofs.Common.{[], ◌∙◌, sym, subst}
-use Rattle.hol_theory.specs.Entry.{Entries}
 use Rattle.hol_theory.specs.Adding.{AreNew}
 use Rattle.hol_theory.proofs.Layers.{layer_pushed, new_joined}
 use Rattle.hol_theory.proofs.older.Older.push.Goals as goal
