@@ -72,7 +72,7 @@ impl RuleSet {
     /// The number of the first rule that matches the term, and the match: the instance of its left side that is the term up to bound
     /// names, and leaves the variables and type variables of the theorem's hypotheses as they are.
     ///
-    /// Only rules of the term's head constant are tried, with those that have none at their heads.
+    /// Those tried are the rules in the bucket of the term's head constant, and those that have none at their heads.
     #[tactic(auto, using(crate::proofs::Buckets::one_bucket))]
     pub fn find(&self, alloc: Global, t: &Term) -> Result<Option<(usize, Instance)>, AllocError>
         ensures first { IfOk result (λ found. MatchOption found (first_fit 0 (set_rules self.now.rules.items) (nameless [] t.now) ≡ None) (λ f. first_fit 0 (set_rules self.now.rules.items) (nameless [] t.now) ≡ Some (f.0, f.1))) }
