@@ -163,5 +163,5 @@ fn stated(alloc: Global, statement: &Term) -> Result<Goal, AllocError>
     requires { named_type statement.now ≡ Some bool_type }
     ensures { IfOk result (λ g. g ≡ record { assumptions = []; conclusion = nameless [] statement.now }) }
 {
-    Ok(Goal::new(Vec::new(alloc), statement.copy()?))
+    Goal::new(alloc, Vec::new(alloc), statement.copy()?)
 }
