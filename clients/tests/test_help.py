@@ -60,6 +60,16 @@ class Actions(unittest.TestCase):
         titles, text = refused("g A `p`;; e ACCEPT_TAC TRUHT;; oops;;", 1, Refusal(5, "TRUHT", ""))
         self.assertEqual((titles[0], text), ("Replace by TRUTH", "g A `p`;; e ACCEPT_TAC TRUTH;; oops;;"))
 
+    def test_a_cursor_asks_of_its_line(self):
+        file = taken("g A `p`;;\ne RELF_TAC;;\noops;;")
+        for entry, report in zip(file.theory.entries, reports(file)):
+            entry.report = report
+        for place in (10, 14, 21):
+            titles = [it["title"] for it in helping.actions(file, "file:///A.hol", [file], [file], place, place)]
+            self.assertEqual(titles, ["Replace by REFL_TAC"], place)
+        for place in (0, 9, 23):
+            self.assertEqual(helping.actions(file, "file:///A.hol", [file], [file], place, place), [], place)
+
     def test_the_theory_that_has_a_theorem_is_imported(self):
         other = File("B.hol")
         other.take("(* none *)")

@@ -15,7 +15,9 @@ _CLOSERS = {")": "(", "]": "["}
 
 
 def actions(file: File, uri: str, files: Sequence[File], every: Sequence[File], start: int, end: int) -> List[Dict[str, Any]]:
-    """The code actions for the findings in a range."""
+    """The code actions for the findings in a range; at a cursor, for those on its line."""
+    if start == end:
+        start, end = _line(file.lines.text, start)
     found: List[Dict[str, Any]] = []
     for finding in findings(file):
         if finding.start > end or finding.end < start:
@@ -26,6 +28,12 @@ def actions(file: File, uri: str, files: Sequence[File], every: Sequence[File], 
                 "title": fix.title, "kind": "quickfix", "diagnostics": [features.diagnostic(file, finding)],
                 "edit": {"changes": {uri: [edit]}}})
     return found
+
+
+def _line(text: str, place: int) -> Tuple[int, int]:
+    """The first and the last place of the line that a place is in."""
+    end = text.find("\n", place)
+    return text.rfind("\n", 0, place) + 1, len(text) if end < 0 else end
 
 
 def signature(file: File, place: int) -> Optional[Dict[str, Any]]:
