@@ -113,7 +113,7 @@ impl Reads {
         let cited = values_of(alloc, keys.cited(), state)?;
         let made = values_of(alloc, keys.made(), state)?;
         let in_proof = state.proof().is_some();
-        let goal = goal_for(alloc, command, state)?;
+        let goal = goal_for(command, state)?;
         let closing = closing_for(alloc, command, state)?;
         Ok(Reads {
             cited,
@@ -256,7 +256,7 @@ impl Reads {
         ensures { IfOk result (λ r. r ≡ self.now) }
     {
         let goal = match &self.goal {
-            Some(goal) => Some(goal.copy(alloc)?),
+            Some(goal) => Some(goal.copy()?),
             None => None,
         };
         let closing = match &self.closing {
@@ -382,16 +382,12 @@ fn value_copies(
     Ok(copied)
 }
 
-fn goal_for(
-    alloc: Global,
-    command: &LocalCommand,
-    state: &State,
-) -> Result<Option<Goal>, AllocError>
+fn goal_for(command: &LocalCommand, state: &State) -> Result<Option<Goal>, AllocError>
     ensures { IfOk result (λ goal. goal ≡ goal_for (local_text command.now) state.now.proof) }
 {
     match command {
         LocalCommand::Apply(_) => match state.goals() {
-            [first, ..] => Ok(Some(first.copy(alloc)?)),
+            [first, ..] => Ok(Some(first.copy()?)),
             [] => Ok(None),
         },
         LocalCommand::Goal {

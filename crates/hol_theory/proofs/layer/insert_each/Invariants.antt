@@ -2,7 +2,7 @@ use Rattle.std.proofs.Common.{◌≡◌, ◌≤◌, length}
 use Rattle.std.specs.Vec.Iter.{into_iter_items}
 use Rattle.indexmap.specs.IndexMap.{insert_all, IsUnique, spare}
 use Rattle.hol_theory.specs.Key.{key_eq}
-use Rattle.hol_theory.proofs.env.insert_each.Given as goal
+use Rattle.hol_theory.proofs.layer.insert_each.Given as goal
 
 abbrev pub invariant-loop-key : goal.invariant-loop-key
 invariant-loop-key l = record {
