@@ -51,7 +51,7 @@ pub slots_elsewhere : (setup : SetupValue) (before earlier : List EndedTheory) (
     → EachImportsAlike before earlier slots → AreSlots setup before s slots last → AreSlots setup earlier s slots last
 slots_elsewhere setup before earlier s [] last same h = h
 slots_elsewhere setup before earlier s (slot ∷ slots) last same h = (
-  record { row = row_elsewhere setup before earlier s slot.text slot.row same.0 h.0.row; opened = h.0.opened; stands = h.0.stands },
+  record { row = row_elsewhere setup before earlier s slot.text slot.row same.0 h.0.row; opened = h.0.opened; stands = h.0.stands; kept = h.0.kept },
   slots_elsewhere setup before earlier (after s slot.row.outcome) slots last same.1 h.1,
 )
 

@@ -1,10 +1,10 @@
 //! A theory under way.
-ghost use Rattle.std.specs.Prelude.{◌≡◌, ◌≤◌, ◌<◌, ◌+◌, ◌++◌, true, [], List, IfOk, OnOk, map, take, drop, length};
+ghost use Rattle.std.specs.Prelude.{◌≡◌, ◌≤◌, ◌<◌, ◌+◌, ◌++◌, true, [], List, IfOk, IfSome, OnOk, map, take, drop, length};
 ghost use Rattle.hol_exec.specs.MeterView.{setup_of, ran_of};
 ghost use Rattle.hol_exec.specs.Setup.{SetupValue};
 ghost use Rattle.hol_exec.specs.StateValue.{StateValue, EndedTheory, AreTheories, start};
 ghost use Rattle.hol_document.specs.Alike.{AreAlike, EachImportsAlike, no_drift};
-ghost use Rattle.hol_document.specs.Settled.{HaveStood, HaveAdded, HaveLeft};
+ghost use Rattle.hol_document.specs.Settled.{HaveStood, HaveAdded, HaveLeft, LeadTo};
 ghost use Rattle.hol_document.specs.Slots.{AreSlots, ended_of};
 
 use crate::drift::Drift;
@@ -15,12 +15,17 @@ use hol_exec::{Meter, State, promise_each, resume};
 use std::alloc::{AllocError, Global};
 use std::rc::Rc;
 
-/// A theory under way: its slots so far, the state after them, and what is known of how that differs from the state before the edit.
+// So many slots in a row keep no state, at the most, where an edit passes over them.
+const SPACING: usize = 32;
+
+/// A theory under way: its slots so far, the state after them, and what is known of how that differs from the state before the edit; and how many slots were passed over since
+/// the last one that keeps its state.
 #[derive(Drop)]
 pub(crate) struct Growing {
     pub(crate) slots: Vec<Rc<Slot>>,
     pub(crate) state: State,
     pub(crate) drift: Drift,
+    since: usize,
 }
 
 /// A theory that was redone.
@@ -41,7 +46,18 @@ pub(crate) fn begun(alloc: Global) -> Growing
         slots: Vec::new(alloc),
         state: State::new(alloc),
         drift: Drift::none(alloc),
+        since: 0,
     }
+}
+
+/// The state, for the next slot to keep, where many slots were passed over since the last one that keeps its own.
+pub(crate) fn to_keep(alloc: Global, growing: &Growing) -> Result<Option<State>, AllocError>
+    ensures { IfOk result (λ kept. IfSome kept (λ s. s ≡ growing.now.state)) }
+{
+    if growing.since < SPACING {
+        return Ok(None);
+    }
+    Ok(Some(growing.state.checkpoint(alloc)?))
 }
 
 /// The first slots of a theory, as they stand.
@@ -61,7 +77,7 @@ pub(crate) fn front(
     resumed(alloc, earlier, &theory.slots()[..at])
 }
 
-// The slots that a theory begins with, as they stand.
+// The slots that a theory begins with, as they stand: the state is run through from the last one that is kept.
 fn resumed(alloc: Global, earlier: &[Theory], slots: &[Rc<Slot>]) -> Result<Growing, AllocError>
     requires { (setup : SetupValue) × (last : StateValue) × AreSlots setup (map ended_of earlier.now) start (map (λ x. x.value) slots.now) last }
     ensures slots { IfOk result (λ growing. map (λ x. x.value) growing.slots.items ≡ map (λ x. x.value) slots.now) }
@@ -69,12 +85,46 @@ fn resumed(alloc: Global, earlier: &[Theory], slots: &[Rc<Slot>]) -> Result<Grow
     ensures drift { IfOk result (λ growing. growing.drift ≡ no_drift) }
 {
     promise_each(earlier);
-    let mut growing = begun(alloc);
-    for slot in slots {
+    let mut growing = kept_front(alloc, slots)?;
+    let mut i = growing.slots.len();
+    growing.since = slots.len() - i;
+    'slots: while i < slots.len() {
+        let slot = &slots[i];
         resume(alloc, &mut growing.state, slot.outcome(), slot.opened())?;
         growing.slots.push(slot.clone()?)?;
+        i += 1;
     }
     Ok(growing)
+}
+
+// The slots before the last one whose state is kept, and that state; no slots, where none is.
+fn kept_front(alloc: Global, slots: &[Rc<Slot>]) -> Result<Growing, AllocError>
+    ensures within { IfOk result (λ growing. length growing.slots.items ≤ length slots.now) }
+    ensures slots { IfOk result (λ growing. map (λ x. x.value) growing.slots.items ≡ map (λ x. x.value) (take (length growing.slots.items) slots.now)) }
+    ensures state { IfOk result (λ growing. LeadTo (map (λ x. x.value) slots.now) (map (λ x. x.value) (drop (length growing.slots.items) slots.now)) growing.state) }
+    ensures drift { IfOk result (λ growing. growing.drift ≡ no_drift) }
+{
+    let mut growing = begun(alloc);
+    if let Some((at, state)) = last_kept(slots) {
+        growing.state = state.checkpoint(alloc)?;
+        add_each(&mut growing.slots, &slots[..at])?;
+    }
+    Ok(growing)
+}
+
+// The place of the last slot whose state is kept, and that state.
+fn last_kept(slots: &[Rc<Slot>]) -> Option<(usize, &State)>
+    ensures within { IfSome result (λ kept. kept.0 < length slots.now) }
+    ensures state { IfSome result (λ kept. LeadTo (map (λ x. x.value) slots.now) (map (λ x. x.value) (drop kept.0 slots.now)) kept.1.now) }
+{
+    let mut at = slots.len();
+    'slots: while at > 0 {
+        at -= 1;
+        if let Some(state) = slots[at].kept() {
+            return Some((at, state));
+        }
+    }
+    None
 }
 
 // Settles the slots, in order, up to the first place from `until` on where the states are one; gives that place, or the end.

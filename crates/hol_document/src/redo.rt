@@ -11,7 +11,7 @@ ghost use Rattle.hol_document.specs.Alike.{AreAlike, ImportsAlike, EachImportsAl
 ghost use Rattle.hol_document.specs.Settled.{HaveFollowed, IsEdited, IsPut, FitsAt, edited_texts, rows_beside, rows_of, texts_of};
 ghost use Rattle.hol_document.specs.Slots.{SlotValue, AreSlots, AreStanding, ended_of};
 
-use crate::growing::{Growing, Redone, begun, front, redo};
+use crate::growing::{Growing, Redone, begun, front, redo, to_keep};
 use crate::line::Line;
 use crate::settle::{is_open_after, run};
 use crate::slot::Slot;
@@ -149,7 +149,8 @@ fn insert(
     ensures rises { ran_of meter.old ≤ ran_of meter.new }
 {
     let before = growing.state.newest()?;
-    let slot = run(alloc, meter, earlier, line, &mut growing.state)?;
+    let kept = to_keep(alloc, growing)?;
+    let slot = run(alloc, meter, earlier, line, kept, &mut growing.state)?;
     let is_open = is_any_open(&before, slot.opened());
     growing.drift.differ(None, Some(slot.outcome()), is_open)?;
     Ok(growing.slots.push(slot)?)
@@ -172,7 +173,8 @@ fn replace(
     ensures setup { setup_of meter.new ≡ setup_of meter.old }
     ensures rises { ran_of meter.old ≤ ran_of meter.new }
 {
-    let slot = run(alloc, meter, earlier, line, &mut growing.state)?;
+    let kept = to_keep(alloc, growing)?;
+    let slot = run(alloc, meter, earlier, line, kept, &mut growing.state)?;
     growing
         .drift
         .follow(old.outcome(), slot.outcome(), is_open_after(old, &slot))?;

@@ -1,5 +1,5 @@
 //! What a text comes to at a state: its slot from before, where that stands there as well, or one that is made by running the text.
-ghost use Rattle.std.specs.Prelude.{◌≡◌, ◌≤◌, ◌+◌, List, true, false, IfOk, Some, None, map};
+ghost use Rattle.std.specs.Prelude.{◌≡◌, ◌≤◌, ◌+◌, List, true, false, IfOk, IfSome, Some, None, map};
 ghost use Rattle.std.specs.Option.{option_map};
 ghost use Rattle.hol_exec.specs.At.{IsOutcomeAt};
 ghost use Rattle.hol_exec.specs.CommandView.{local_text, direct_text};
@@ -20,7 +20,7 @@ ghost use Rattle.hol_document.specs.Slots.{IsSlot, ended_of};
 
 use crate::drift::Drift;
 use crate::line::Line;
-use crate::slot::Slot;
+use crate::slot::{Slot, keeping, kept_again};
 use crate::theory::Theory;
 use hol_exec::{
     Command, CommandKeys, CommandNode, DirectCommand, LocalCommand, Meter, Outcome, Parsed, Reads,
@@ -108,6 +108,7 @@ fn carried_out(
     line: &Rc<Line>,
     reads: Option<Rc<Reads>>,
     outcome: Rc<Outcome>,
+    kept: Option<State>,
     state: &mut State,
 ) -> Result<Rc<Slot>, AllocError>
     requires { IsOutcomeAt state.old outcome.value }
@@ -116,6 +117,7 @@ fn carried_out(
     ensures reads { IfOk result (λ slot. slot.value.row.reads ≡ option_map (λ r. r.value) reads) }
     ensures outcome { IfOk result (λ slot. slot.value.row.outcome ≡ outcome.value) }
     ensures opened { IfOk result (λ slot. slot.value.opened ≡ newest_of state.new.proof) }
+    ensures kept { IfOk result (λ slot. slot.value.kept ≡ kept) }
     ensures state { IfOk result (λ slot. state.new ≡ after state.old outcome.value) }
     ensures stands { IfOk result (λ slot. IsTheory state.new.entries) }
 {
@@ -123,18 +125,20 @@ fn carried_out(
     state.promise();
     let opened = state.newest()?;
     let line = line.clone()?;
-    Ok(Rc::new(alloc, Slot::new(line, reads, outcome, opened))?)
+    Ok(Rc::new(alloc, Slot::new(line, reads, outcome, opened, kept))?)
 }
 
-/// The slot of a text that is run at the state, which goes on with it.
+/// The slot of a text that is run at the state, which goes on with it; what is kept, if anything is, is that state.
 pub(crate) fn run(
     alloc: Global,
     meter: &mut Meter,
     earlier: &[Theory],
     line: &Rc<Line>,
+    kept: Option<State>,
     state: &mut State,
 ) -> Result<Rc<Slot>, AllocError>
-    requires { AreTheories (map ended_of earlier.now) }
+    requires theories { AreTheories (map ended_of earlier.now) }
+    requires kept { IfSome kept (λ s. s ≡ state.old) }
     ensures slot { IfOk result (λ new. IsSlot (setup_of meter.old) (map ended_of earlier.now) state.old new.value) }
     ensures text { IfOk result (λ new. new.value.text ≡ line.now.value.text) }
     ensures value { IfOk result (λ new. new.value.row.value ≡ line.now.value.value) }
@@ -145,7 +149,7 @@ pub(crate) fn run(
 {
     let Answer { reads, outcome } = answered(alloc, meter, earlier, line, state)?;
     let outcome = Rc::new(alloc, outcome)?;
-    carried_out(alloc, line, reads, outcome, state)
+    carried_out(alloc, line, reads, outcome, kept, state)
 }
 
 // Whether the row of the slot stands at the state as well: nothing that it reads was changed, or it is found to read the same.
@@ -196,6 +200,7 @@ fn keeps_direct(command: &DirectCommand, drift: &Drift) -> bool
 fn keep(
     alloc: Global,
     slot: &Rc<Slot>,
+    kept: Option<State>,
     state: &mut State,
     drift: &Drift,
 ) -> Result<Rc<Slot>, AllocError>
@@ -204,20 +209,21 @@ fn keep(
     ensures text { IfOk result (λ new. new.value.text ≡ slot.now.value.text) }
     ensures row { IfOk result (λ new. new.value.row ≡ slot.now.value.row) }
     ensures opened { IfOk result (λ new. new.value.opened ≡ newest_of state.new.proof) }
+    ensures kept { IfOk result (λ new. new.value.kept ≡ kept) }
     ensures state { IfOk result (λ new. state.new ≡ after state.old slot.now.value.row.outcome) }
     ensures stands { IfOk result (λ slot. IsTheory state.new.entries) }
 {
     if drift.has_same_proof() {
         resume(alloc, state, slot.outcome(), slot.opened())?;
         state.promise();
-        return slot.clone();
+        return keeping(alloc, slot, kept);
     }
     let reads = match slot.reads() {
         Some(reads) => Some(reads.clone()?),
         None => None,
     };
     let outcome = slot.outcome().clone()?;
-    carried_out(alloc, slot.line(), reads, outcome, state)
+    carried_out(alloc, slot.line(), reads, outcome, kept, state)
 }
 
 /// Whether a proof is open after either.
@@ -232,6 +238,7 @@ pub(crate) fn is_open_after(old: &Slot, new: &Slot) -> bool
 fn go_on(
     alloc: Global,
     slot: &Rc<Slot>,
+    kept: Option<State>,
     state: &mut State,
     drift: &mut Drift,
 ) -> Result<Rc<Slot>, AllocError>
@@ -240,12 +247,13 @@ fn go_on(
     ensures text { IfOk result (λ new. new.value.text ≡ slot.now.value.text) }
     ensures row { IfOk result (λ new. new.value.row ≡ slot.now.value.row) }
     ensures opened { IfOk result (λ new. new.value.opened ≡ newest_of state.new.proof) }
+    ensures kept { IfOk result (λ new. new.value.kept ≡ kept) }
     ensures state { IfOk result (λ new. state.new ≡ after state.old slot.now.value.row.outcome) }
     ensures stands { IfOk result (λ new. IsTheory state.new.entries) }
     ensures alike { IfOk result (λ new. (s : StateValue) → slot.now.value.opened ≡ newest_of (after s slot.now.value.row.outcome).proof → AreAlike drift.old s state.old
         → AreAlike drift.new (after s slot.now.value.row.outcome) (after state.old slot.now.value.row.outcome)) }
 {
-    let new = keep(alloc, slot, state, drift)?;
+    let new = keep(alloc, slot, kept, state, drift)?;
     drift.go_on(is_open_after(slot, &new));
     Ok(new)
 }
@@ -256,10 +264,12 @@ fn run_again(
     meter: &mut Meter,
     earlier: &[Theory],
     slot: &Slot,
+    kept: Option<State>,
     state: &mut State,
     drift: &mut Drift,
 ) -> Result<Rc<Slot>, AllocError>
-    requires { AreTheories (map ended_of earlier.now) }
+    requires theories { AreTheories (map ended_of earlier.now) }
+    requires kept { IfSome kept (λ s. s ≡ state.old) }
     ensures slot { IfOk result (λ new. IsSlot (setup_of meter.old) (map ended_of earlier.now) state.old new.value) }
     ensures text { IfOk result (λ new. new.value.text ≡ slot.now.text) }
     ensures value { IfOk result (λ new. new.value.row.value ≡ slot.now.row.value) }
@@ -270,7 +280,7 @@ fn run_again(
     ensures rises { ran_of meter.old ≤ ran_of meter.new }
     ensures few { IfOk result (λ new. ran_of meter.new ≤ ran_of meter.old + counts None new.value.row) }
 {
-    let new = run(alloc, meter, earlier, slot.line(), state)?;
+    let new = run(alloc, meter, earlier, slot.line(), kept, state)?;
     drift.follow(slot.outcome(), new.outcome(), is_open_after(slot, &new))?;
     Ok(new)
 }
@@ -295,8 +305,9 @@ pub(crate) fn settle(
     ensures rises { ran_of meter.old ≤ ran_of meter.new }
     ensures few { IfOk result (λ new. ran_of meter.new ≤ ran_of meter.old + counts (Some slot.now.value.row) new.value.row) }
 {
+    let kept = kept_again(alloc, slot, state)?;
     if keeps(slot, state, drift) {
-        return go_on(alloc, slot, state, drift);
+        return go_on(alloc, slot, kept, state, drift);
     }
-    run_again(alloc, meter, earlier, slot, state, drift)
+    run_again(alloc, meter, earlier, slot, kept, state, drift)
 }
