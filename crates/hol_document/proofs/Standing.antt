@@ -1,5 +1,5 @@
 -- Slots and theories that stand: put one after the other, split, and taken as they are.
-use Rattle.std.specs.Prelude.{◌≡◌, ◌≤◌, ◌+◌, ◌||◌, ℕ, zero, suc, List, [], ◌∷◌, ◌++◌, Bool, true, false, cond, bytes_eq, map, take, drop, Option, Some, None, refl}
+use Rattle.std.specs.Prelude.{◌≡◌, ◌≤◌, ◌+◌, ◌||◌, ℕ, zero, suc, List, [], ◌∷◌, ◌++◌, Bool, true, false, cond, bytes_eq, map, take, drop, Option, Some, None, IfSome, refl}
 use Rattle.std.specs.List.{list_any}
 use Rattle.std.proofs.Common.{ap, sym, ◌∙◌, subst, append_assoc, arith}
 use Rattle.hol_exec.specs.At.{IsOutcomeAt, entries_named}
@@ -39,6 +39,10 @@ slots_split setup earlier s last (suc i) [] h = (s, refl, h)
 slots_split setup earlier s last (suc i) (slot ∷ slots) h =
     let rest = slots_split setup earlier (after s slot.row.outcome) last i slots h.1 in
     (rest.0, (h.0, rest.1), rest.2)
+
+-- a state that a slot keeps is the one there
+pub kept_here : (setup : SetupValue) (earlier : List EndedTheory) (s t : StateValue) (slot : SlotValue) → slot.kept ≡ Some t → IsSlot setup earlier s slot → t ≡ s
+kept_here setup earlier s t slot e is = subst (λ kept. IfSome kept (λ u. u ≡ s)) e is.kept
 
 -- slots lead to one state
 pub slots_end : (setup setup' : SetupValue) (earlier earlier' : List EndedTheory) (s p q : StateValue) (slots : List SlotValue)

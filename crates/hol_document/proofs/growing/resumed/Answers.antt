@@ -9,8 +9,10 @@ use Rattle.hol_document.proofs.growing.resumed.Goals as goal
 pub resume-requires-clause-at : goal.resume-requires-clause-at
 resume-requires-clause-at c = ?
 
-pub loop-slots-preserved : goal.loop-slots-preserved
-loop-slots-preserved c = ?
+pub loop-i-preserved : goal.loop-i-preserved
+loop-i-preserved c = ?
 
 pub returns-clause-state : goal.returns-clause-state
-returns-clause-state c = ?
+returns-clause-state c =
+    let none : map (λ x. x.value) (drop c.loop-i.i c.args.slots.now) ≡ [] = ap (map (λ x. x.value)) (drop_of_length-le c.args.slots.now c.loop-i-test.false) in
+    λ setup before last are. sym (subst (λ slots. AreSlots setup before c.loop-i.growing.state slots last) none (c.loop-i.invariant.left setup before last are))
