@@ -20,8 +20,8 @@ use Rattle.hol_document.specs.Slots.{SlotValue, IsSlot}
 outcome_run : (setup : SetupValue) (earlier : List EndedTheory) (s : StateValue) (text : List ℕ) (value : ReadText) (reads : ReadsValue) (outcome : OutcomeValue)
     → IsOutcome setup earlier s value (Some reads) outcome → IsRun setup (record { text = text; value = value; reads = reads; outcome = outcome })
 outcome_run setup earlier s text (Reads (Local command)) reads outcome gets = record { command = command; reads_as = refl; gets = gets }
-outcome_run setup earlier s text (Reads (Direct command)) reads outcome ()
-outcome_run setup earlier s text (Breaks place) reads outcome ()
+outcome_run setup earlier s text (Reads (Direct command)) reads outcome gets = absurd gets
+outcome_run setup earlier s text (Breaks place) reads outcome gets = absurd gets
 
 -- what a slot that read something came to
 pub slot_run : (setup : SetupValue) (earlier : List EndedTheory) (s : StateValue) (slot : SlotValue) (reads : ReadsValue) → slot.row.reads ≡ Some reads → IsSlot setup earlier s slot

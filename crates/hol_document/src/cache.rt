@@ -33,9 +33,14 @@ struct Run {
 }
 
 impl Model for Run {
+    ghost use Rattle.std.specs.Coded.{codes};
+    ghost use Rattle.hol_exec.specs.CommandCode.{coded_command};
+    ghost use Rattle.hol_exec.specs.Codes.{coded_reads, coded_outcome};
     ghost use Rattle.hol_document.specs.Runs.{RunValue};
 
     ghost Value = { RunValue };
+
+    ghost coded = { Prim.hlevel (codes, coded_command, coded_reads, coded_outcome) };
 
     ghost view = { λ r. record { text = r.line.value.text; value = r.line.value.value; reads = r.reads.value; outcome = r.outcome.value } };
 }

@@ -1,16 +1,8 @@
 //! What runs commands.
-ghost use Rattle.std.specs.Prelude.{◌≡◌, ◌≤◌, ◌+◌, List, IfOk, map};
+ghost use Rattle.std.specs.Prelude.{◌≡◌};
 ghost use Rattle.std.specs.Coded.{Coded-set};
-ghost use Rattle.hol_exec.specs.CommandText.{Local};
-ghost use Rattle.hol_exec.specs.CommandView.{local_text};
-ghost use Rattle.hol_exec.specs.Local.{IsLocalOutcome};
-ghost use Rattle.hol_exec.specs.MeterView as meter;
-ghost use Rattle.hol_exec.specs.Reading as read;
-ghost use Rattle.hol_exec.specs.ReadsValue.{AreKeyed};
+ghost use Rattle.hol_exec.specs.MeterView as metered;
 ghost use Rattle.hol_exec.specs.SetupCode.{coded_setup};
-ghost use Rattle.hol_exec.specs.StateValue.{StateValue, EndedTheory};
-ghost use Rattle.hol_document.specs.RunnerView.{setup_of, ran_of};
-ghost use Rattle.hol_document.specs.Slots.{IsSlot, AreSlots};
 
 use crate::cache::Cache;
 use crate::line::Line;
@@ -24,10 +16,21 @@ use std::rc::Rc;
 pub(crate) struct Runner {
     meter: Meter,
     cache: Cache,
-    ghost same: { cache ≡ meter.setup_of meter } by { Coded-set coded_setup cache (meter.setup_of meter) },
+    ghost same: { cache ≡ metered.setup_of meter } by { Coded-set coded_setup cache (metered.setup_of meter) },
 }
 
 impl Runner {
+    ghost use Rattle.std.specs.Prelude.{◌≡◌, ◌≤◌, ◌+◌, List, IfOk, map};
+    ghost use Rattle.hol_exec.specs.CommandText.{Local};
+    ghost use Rattle.hol_exec.specs.CommandView.{local_text};
+    ghost use Rattle.hol_exec.specs.Local.{IsLocalOutcome};
+    ghost use Rattle.hol_exec.specs.MeterView as metered;
+    ghost use Rattle.hol_exec.specs.Reading as read;
+    ghost use Rattle.hol_exec.specs.ReadsValue.{AreKeyed};
+    ghost use Rattle.hol_exec.specs.StateValue.{StateValue, EndedTheory};
+    ghost use Rattle.hol_document.specs.RunnerView.{setup_of, ran_of};
+    ghost use Rattle.hol_document.specs.Slots.{IsSlot, AreSlots};
+
     /// By this meter, with room for so many outcomes.
     pub(crate) fn new(
         alloc: Global,
@@ -36,9 +39,9 @@ impl Runner {
         room: u32,
     ) -> Result<Runner, AllocError>
         requires room { 1 ≤ room }
-        requires setup { setup.value ≡ meter.setup_of meter }
-        ensures setup { IfOk result (λ runner. setup_of runner ≡ meter.setup_of meter) }
-        ensures ran { IfOk result (λ runner. ran_of runner ≡ meter.ran_of meter) }
+        requires setup { setup.value ≡ metered.setup_of meter }
+        ensures setup { IfOk result (λ runner. setup_of runner ≡ metered.setup_of meter) }
+        ensures ran { IfOk result (λ runner. ran_of runner ≡ metered.ran_of meter) }
     {
         let cache = Cache::new(alloc, setup, room)?;
         Ok(Runner { meter, cache })
