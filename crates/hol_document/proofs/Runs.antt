@@ -18,16 +18,16 @@ use Rattle.hol_document.specs.Slots.{SlotValue, IsSlot}
 -- ---- a slot's outcome
 
 outcome_run : (setup : SetupValue) (earlier : List EndedTheory) (s : StateValue) (text : List ℕ) (value : ReadText) (reads : ReadsValue) (outcome : OutcomeValue)
-    → IsOutcome setup earlier s value (Some reads) outcome → IsRun setup (record { text = text; value = value; reads = reads; outcome = outcome })
-outcome_run setup earlier s text (Reads (Local command)) reads outcome gets = record { command = command; reads_as = refl; gets = gets }
-outcome_run setup earlier s text (Reads (Direct command)) reads outcome gets = absurd gets
-outcome_run setup earlier s text (Breaks place) reads outcome gets = absurd gets
+    → IsRead text value → IsOutcome setup earlier s value (Some reads) outcome → IsRun setup (record { text = text; value = value; reads = reads; outcome = outcome })
+outcome_run setup earlier s text (Reads (Local command)) reads outcome parsed gets = record { parsed = parsed; command = command; reads_as = refl; gets = gets }
+outcome_run setup earlier s text (Reads (Direct command)) reads outcome parsed gets = absurd gets
+outcome_run setup earlier s text (Breaks place) reads outcome parsed gets = absurd gets
 
 -- what a slot that read something came to
 pub slot_run : (setup : SetupValue) (earlier : List EndedTheory) (s : StateValue) (slot : SlotValue) (reads : ReadsValue) → slot.row.reads ≡ Some reads → IsSlot setup earlier s slot
     → IsRun setup (record { text = slot.text; value = slot.row.value; reads = reads; outcome = slot.row.outcome })
 slot_run setup earlier s slot reads e is =
-    outcome_run setup earlier s slot.text slot.row.value reads slot.row.outcome (subst (λ r. IsOutcome setup earlier s slot.row.value r slot.row.outcome) e is.row.gets)
+    outcome_run setup earlier s slot.text slot.row.value reads slot.row.outcome is.row.parsed (subst (λ r. IsOutcome setup earlier s slot.row.value r slot.row.outcome) e is.row.gets)
 
 -- ---- what is found
 
@@ -36,9 +36,9 @@ same_command a b e = cc
 
 -- a run of the same text and the same reads is the command's
 pub found_run : (setup : SetupValue) (run : RunValue) (text : List ℕ) (value : ReadText) (command : LocalText) (reads : ReadsValue)
-    → IsRun setup run → IsRead run.text run.value → IsRead text value → run.text ≡ text → value ≡ Reads (Local command) → run.reads ≡ reads → IsLocalOutcome setup command reads run.outcome
-found_run setup run text value command reads is own read e v r =
-    let same : run.value ≡ value = one_text text run.value value (subst (λ t. IsRead t run.value) e own) read in
+    → IsRun setup run → IsRead text value → run.text ≡ text → value ≡ Reads (Local command) → run.reads ≡ reads → IsLocalOutcome setup command reads run.outcome
+found_run setup run text value command reads is read e v r =
+    let same : run.value ≡ value = one_text text run.value value (subst (λ t. IsRead t run.value) e is.parsed) read in
     let one : is.command ≡ command = same_command is.command command (sym is.reads_as ∙ (same ∙ v)) in
     subst (λ c. IsLocalOutcome setup c reads run.outcome) one (subst (λ rs. IsLocalOutcome setup is.command rs run.outcome) r is.gets)
 

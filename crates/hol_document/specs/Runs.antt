@@ -3,7 +3,7 @@ use Rattle.std.specs.Prelude.{◌≡◌, ℕ, List}
 use Rattle.hol_exec.specs.CommandText.{LocalText, Local}
 use Rattle.hol_exec.specs.Local.{IsLocalOutcome}
 use Rattle.hol_exec.specs.OutcomeValue.{OutcomeValue}
-use Rattle.hol_exec.specs.Reading.{ReadText, Reads}
+use Rattle.hol_exec.specs.Reading.{ReadText, Reads, IsRead}
 use Rattle.hol_exec.specs.ReadsValue.{ReadsValue}
 use Rattle.hol_exec.specs.Setup.{SetupValue}
 
@@ -15,6 +15,7 @@ pub record RunValue : Type 0 where
 
 -- the text is a command that has the outcome where it reads this
 pub record IsRun (setup : SetupValue) (run : RunValue) : Type 0 where
+  pub parsed : IsRead run.text run.value
   pub command : LocalText
   pub reads_as : run.value ≡ Reads (Local command)
   pub gets : IsLocalOutcome setup command run.reads run.outcome

@@ -3,7 +3,7 @@ ghost use Rattle.std.specs.Prelude.{◌≡◌, ◌≤◌, List, true, IfOk, IfSo
 ghost use Rattle.hol_exec.specs.CommandText.{Local};
 ghost use Rattle.hol_exec.specs.CommandView.{local_text};
 ghost use Rattle.hol_exec.specs.Local.{IsLocalOutcome};
-ghost use Rattle.hol_exec.specs.Reading.{Reads};
+ghost use Rattle.hol_exec.specs.Reading as read;
 ghost use Rattle.hol_exec.specs.StateValue.{StateValue, EndedTheory};
 ghost use Rattle.hol_document.specs.Runs.{IsRun};
 ghost use Rattle.hol_document.specs.Slots.{IsSlot};
@@ -106,7 +106,7 @@ impl Cache {
         command: &LocalCommand,
         reads: &Rc<Reads>,
     ) -> Result<Option<Rc<Outcome>>, AllocError>
-        requires { line.now.value ≡ Reads (Local (local_text command.now)) }
+        requires { line.now.value ≡ read.Reads (Local (local_text command.now)) }
         ensures setup { self.new ≡ self.old }
         ensures outcome { IfOk result (λ found. IfSome found (λ outcome. IsLocalOutcome self.old (local_text command.now) reads.now.value outcome.value)) }
     {
@@ -117,10 +117,11 @@ impl Cache {
         let Some((_, run)) = self.runs.pop_entry(&key) else {
             return Ok(None);
         };
-        if !is_of(&run, line, reads) {
-            return Ok(None);
+        let _ = line.parsed();
+        if is_of(&run, line, reads) {
+            return Ok(Some(run.outcome().clone()?));
         }
-        Ok(Some(run.outcome().clone()?))
+        Ok(None)
     }
 
     /// Puts in the slot's outcome, if its command was run. Where there is no memory for it, it is lost.
