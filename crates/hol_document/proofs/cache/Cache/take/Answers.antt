@@ -25,4 +25,4 @@ returns-then-is_of-clause-outcome c =
     subst (λ s. IsLocalOutcome s (local_text c.args.command.now) c.args.reads.now.value c.in_ok-clone-3.field-0.value) c.self.view_is
     (subst (λ o. IsLocalOutcome c.self.inside.setup.value (local_text c.args.command.now) c.args.reads.now.value o) (sym same)
     (found_run c.self.inside.setup.value c.in-Some.run' c.args.line.now.text c.args.line.now.value (local_text c.args.command.now) c.args.reads.now.value is c.parsed.ensures.read
-    (c.if-is_of.ensures.text refl) c.requires (c.if-is_of.ensures.reads refl)))
+    (c.if-is_of.ensures.text refl) c.requires (c.if-is_of.ensures.reads refl ∙ c.deref.ensures)))
