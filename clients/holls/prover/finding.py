@@ -1,81 +1,149 @@
-"""Finding proofs: which searches are made, in which order, and for how long."""
+"""Finding proofs of sequents: which searches are made, in which order, and for how long."""
 
 from __future__ import annotations
 
 import sys
 import time
-from typing import Dict, FrozenSet, List, NamedTuple, Optional, Sequence, Tuple
+from typing import Dict, FrozenSet, List, NamedTuple, Optional, Sequence, Set, Tuple
 
-from holls.prover import clauses, connection, ground, sequents, typed
+from holls.prover import clauses, connection, equality, ground, sequents, typed
 from holls.prover.ground import Ground, Instances, Proof
-from holls.prover.sequents import ALPHA, BETA, DELTA, GAMMA, LITERAL, Formula, Position, Signed
+from holls.prover.sequents import ALPHA, BETA, DELTA, Formula, Signed
 from holls.prover.typed import Term, Type
 
 _DEEP = 50_000
-_GROUND_SECONDS = 2.0
+_PROPOSITIONAL_SECONDS = 0.5
+_GROUND_SECONDS = 3.0
+_SHARES = ((True, 0.2), (False, 0.2))
+"""Which searches are made of a whole sequent, whether choices are cut, and for which part of the time; then it is taken apart."""
+_MOST_SPLITS = 6
 
 
-class Sequent(NamedTuple):
-    """What is to be proved: the formulas of the left, of which the first ones are assumptions, and the goal."""
+class Item(NamedTuple):
+    """A formula of a sequent; `is_goal`: it comes of what is to be shown."""
 
-    left: Tuple[Term, ...]
-    goal: Term
-
-    def formulas(self) -> List[Formula]:
-        """The formulas, each with its position."""
-        found = [Formula(True, term, (number,)) for number, term in enumerate(self.left)]
-        return found + [Formula(False, self.goal, (len(self.left),))]
-
-    def names(self) -> FrozenSet[str]:
-        """The names of the free variables."""
-        return frozenset(one[1] for term in self.left + (self.goal,) for one in typed.variables(term))
+    is_left: bool
+    term: Term
+    is_goal: bool
 
 
-def prove(sequent: Sequent, taken: FrozenSet[str], until: float) -> Optional[Proof]:
-    """A proof of a sequent, where one is found in time."""
-    sys.setrecursionlimit(max(sys.getrecursionlimit(), _DEEP))
-    now = time.monotonic()
-    try:
-        found = Ground({}, {}, taken, min(until, now + (until - now) / 4)).prove(sequent.formulas(), sequent.names())
-    except ground.OutOfTime:
-        found = None
-    return found or _by_instances(sequent, taken, until)
+class Search:
+    """A search of a proof, until a time. `taken` are the names of constants."""
 
+    def __init__(self, taken: FrozenSet[str], until: float) -> None:
+        sys.setrecursionlimit(max(sys.getrecursionlimit(), _DEEP))
+        self.taken, self.until = taken, until
 
-def _by_instances(sequent: Sequent, taken: FrozenSet[str], until: float) -> Optional[Proof]:
-    builder = clauses.Builder()
-    formulas = sequent.formulas()
-    for formula in formulas:
-        builder.add(formula, not formula.is_left)
-    now = time.monotonic()
-    for is_cutting, share in ((True, 0.4), (False, 1.0)):
-        search = connection.Connection(builder.clauses, now + share * (until - now), is_cutting)
+    def prove(self, items: Sequence[Item]) -> Optional[Proof]:
+        """A proof of a sequent, where one is found in time."""
+        found = self._ground(items, {}, {}, _PROPOSITIONAL_SECONDS)
+        if found or not has_quantifier(items):
+            return found
+        found = self._whole(items)
+        depth = 1
+        while found is None and depth <= _MOST_SPLITS and time.monotonic() < self.until:
+            found = self._split(list(items), depth, self.until)
+            depth += 1
+        return found
+
+    def _ground(self, items: Sequence[Item], instances: Instances, kept: Dict, seconds: float) -> Optional[Proof]:
+        """The proof at terms that are known."""
+        until = min(self.until, time.monotonic() + seconds)
+        try:
+            return Ground(instances, kept, self.taken, until).prove(_formulas(items), _names(items))
+        except ground.OutOfTime:
+            return None
+
+    def _whole(self, items: Sequence[Item]) -> Optional[Proof]:
+        """A proof of a sequent as it stands."""
+        begun, found = time.monotonic(), None
+        for is_cutting, share in _SHARES:
+            found = found or self._by_instances(items, is_cutting, time.monotonic() + share * (self.until - begun))
+        return found
+
+    def _by_instances(self, items: Sequence[Item], is_cutting: bool, until: float) -> Optional[Proof]:
+        """A proof by a search of the terms at which quantifiers are taken."""
+        builder = clauses.Builder()
+        for item, formula in zip(items, _formulas(items)):
+            builder.add(formula, item.is_goal)
+        search = connection.Connection(builder.clauses + equality.axioms(builder), min(until, self.until), is_cutting)
         try:
             found = search.search(search.starts())
         except connection.OutOfTime:
-            continue
-        if found is None:
-            continue
-        proof = _grounded(sequent, found, builder, taken, until)
-        if proof:
+            return None
+        return self._ground(items, _instances(items, found), builder.witnesses, _GROUND_SECONDS) if found else None
+
+    def _split(self, items: List[Item], depth: int, until: float) -> Optional[Proof]:
+        """A proof of a sequent that is taken apart first: by what leaves one sequent, and so many times by cases."""
+        for at, item in enumerate(items):
+            found = sequents.shape(item.is_left, item.term)
+            if found.kind in (ALPHA, DELTA):
+                return self._apart(items, at, found, depth, until)
+        budget = time.monotonic() + (until - time.monotonic()) / (2 + 2 * depth)
+        proof = self._ground(items, {}, {}, _PROPOSITIONAL_SECONDS) or self._by_instances(items, True, budget)
+        at = _case(items)
+        if proof or depth == 0 or at is None:
             return proof
-    return None
+        found = sequents.shape(items[at].is_left, items[at].term)
+        parts = sequents.parts(Formula(items[at].is_left, items[at].term), found)
+        subs: List[Proof] = []
+        for number, part in enumerate(parts):
+            share = time.monotonic() + (until - time.monotonic()) / (len(parts) - number)
+            sub = self._split(items[:at] + [Item(part.is_left, part.term, items[at].is_goal)] + items[at + 1:], depth - 1, share)
+            if sub is None or part.signed not in sub.used:
+                return sub
+            subs.append(sub)
+        return ground.wrapped(BETA, Formula(items[at].is_left, items[at].term), None, [[part] for part in parts], subs)
+
+    def _apart(self, items: List[Item], at: int, found: sequents.Shape, depth: int, until: float) -> Optional[Proof]:
+        """Takes a formula apart that leaves one sequent."""
+        formula, variable = Formula(items[at].is_left, items[at].term), None
+        if found.kind == ALPHA:
+            parts = sequents.parts(formula, found)
+        else:
+            variable = ("v", _fresh(found.name, _names(items) | self.taken), found.type)
+            parts = [Formula(formula.is_left, typed.opened(found.body, variable))]
+        for part in parts:
+            if sequents.is_trivial(*part.signed) or any((not one.is_left, one.term) == part.signed for one in items):
+                return self._ground(items, {}, {}, _PROPOSITIONAL_SECONDS)
+        own = [Item(part.is_left, part.term, items[at].is_goal) for part in parts]
+        sub = self._split(items[:at] + own + items[at + 1:], depth, until)
+        return ground.wrapped(found.kind, formula, variable, [parts], [sub])
 
 
-def _grounded(sequent: Sequent, found: Sequence[connection.Found], builder: clauses.Builder, taken: FrozenSet[str],
-              until: float) -> Optional[Proof]:
-    """The proof at the terms that were found."""
-    instances = _instances(sequent, found)
-    try:
-        return Ground(instances, builder.witnesses, taken, min(until, time.monotonic() + _GROUND_SECONDS)).prove(sequent.formulas(), sequent.names())
-    except ground.OutOfTime:
-        return None
+def _formulas(items: Sequence[Item]) -> List[Formula]:
+    """The formulas, each with its position."""
+    return [Formula(item.is_left, item.term, (number,)) for number, item in enumerate(items)]
 
 
-def _instances(sequent: Sequent, found: Sequence[connection.Found]) -> Instances:
+def _names(items: Sequence[Item]) -> FrozenSet[str]:
+    """The names of the free variables."""
+    return frozenset(one[1] for item in items for one in typed.variables(item.term))
+
+
+def _fresh(name: str, names: FrozenSet[str]) -> str:
+    name = str(name).rstrip("'") or "x"
+    while name in names:
+        name += "'"
+    return name
+
+
+def has_quantifier(items: Sequence[Item]) -> bool:
+    """Whether a formula has a quantifier, or an equation of other things than formulas."""
+    parts = [part for item in items for part in typed.subterms(item.term) if part[0] == "c"]
+    return any(part[1] in ("!", "?", "?!") or part[1] == "=" and part[2][1] != typed.BOOL for part in parts)
+
+
+def _case(items: Sequence[Item]) -> Optional[int]:
+    """The formula that is taken by cases: one of the right side first, then the largest."""
+    found = [at for at, item in enumerate(items) if sequents.shape(item.is_left, item.term).kind == BETA]
+    return min(found, key=lambda at: (items[at].is_left, -typed.size(items[at].term)), default=None)
+
+
+def _instances(items: Sequence[Item], found: Sequence[connection.Found]) -> Instances:
     """The terms at which quantifiers are taken; where any will do, a variable of the sequent."""
-    known = {one[2]: one for term in reversed(sequent.left + (sequent.goal,)) for one in sorted(typed.variables(term), reverse=True)}
-    names = set(sequent.names())
+    known = {one[2]: one for item in reversed(items) for one in sorted(typed.variables(item.term), reverse=True)}
+    names: Set[str] = set(_names(items))
     instances: Instances = {}
     for one in found:
         terms = tuple(_closed(term, known, names) for term in one.terms)
@@ -87,16 +155,13 @@ def _instances(sequent: Sequent, found: Sequence[connection.Found]) -> Instances
     return instances
 
 
-def _closed(term: Term, known: Dict[Type, Term], names: set) -> Term:
+def _closed(term: Term, known: Dict[Type, Term], names: Set[str]) -> Term:
     """A term with a variable of its type for what is open in it."""
     kind = term[0]
     if kind == "m":
         if term[2] not in known:
-            name = "a"
-            while name in names:
-                name += "'"
-            names.add(name)
-            known[term[2]] = ("v", name, term[2])
+            known[term[2]] = ("v", _fresh("a", frozenset(names)), term[2])
+            names.add(known[term[2]][1])
         return known[term[2]]
     if kind == "a":
         return ("a", _closed(term[1], known, names), _closed(term[2], known, names))

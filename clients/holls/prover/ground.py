@@ -98,7 +98,7 @@ class Ground:
             elif found.kind == ALPHA:
                 parts = sequents.parts(formula, found)
                 branch.waiting += reversed(parts)
-                return _wrapped(ALPHA, formula, None, [parts], [self._prove(branch)])
+                return wrapped(ALPHA, formula, None, [parts], [self._prove(branch)])
             elif found.kind == DELTA:
                 return self._delta(branch, formula, found)
             elif not is_known:
@@ -131,7 +131,7 @@ class Ground:
         branch.witnesses[witness] = variable
         part = Formula(formula.is_left, typed.opened(found.body, variable), formula.position + (0,), formula.terms)
         branch.waiting.append(part)
-        return _wrapped(DELTA, formula, variable, [[part]], [self._prove(branch)])
+        return wrapped(DELTA, formula, variable, [[part]], [self._prove(branch)])
 
     def _fresh(self, branch: _Branch, name: str) -> str:
         """A variable's name by a bound one's, with the fewest primes."""
@@ -154,7 +154,7 @@ class Ground:
                 branch.done.add(key)
                 part = Formula(formula.is_left, typed.opened(found.body, real), formula.position + (0,), formula.terms + (term,))
                 branch.waiting.append(part)
-                return _wrapped(GAMMA, formula, real, [[part]], [self._prove(branch)])
+                return wrapped(GAMMA, formula, real, [[part]], [self._prove(branch)])
         return NOT_HERE
 
     def _real(self, branch: _Branch, term: Term, is_last: bool) -> Optional[Term]:
@@ -186,7 +186,7 @@ class Ground:
             subs[at] = self._prove(own)
             if subs[at] is None or parts[at].signed not in subs[at].used:
                 return subs[at]
-        return _wrapped(BETA, formula, None, [[part] for part in parts], [subs[at] for at in range(len(parts))])
+        return wrapped(BETA, formula, None, [[part] for part in parts], [subs[at] for at in range(len(parts))])
 
     @staticmethod
     def _cost(branch: _Branch, formula: Formula, parts: Sequence[Formula]) -> Tuple[int, int, int]:
@@ -228,7 +228,7 @@ def _closed_by(equations: Sequence[Term], left: Optional[Term], right: Term, one
     return Proof(CLOSE, None, None, (both,), (), frozenset(both) | {(True, equation) for equation in needed}, tuple(needed))
 
 
-def _wrapped(rule: str, formula: Formula, term: Optional[Term], parts: Sequence[Sequence[Formula]],
+def wrapped(rule: str, formula: Formula, term: Optional[Term], parts: Sequence[Sequence[Formula]],
              subs: Sequence[Optional[Proof]]) -> Optional[Proof]:
     """A rule's proof, or that of what it leaves, where this needs none of the parts."""
     if any(sub is None for sub in subs):

@@ -163,6 +163,7 @@ class _Reader:
             if self.peek() == ":":
                 self.take()
                 ty = self.type()
+                self.expect(")" if is_enclosed else ".")
             if is_enclosed:
                 self.take(")")
             names.append((name, ty))
@@ -170,6 +171,11 @@ class _Reader:
         if not names:
             raise Unreadable("a binder without a variable")
         return names
+
+    def expect(self, token: str) -> None:
+        """Refuses what isn't followed by a token."""
+        if self.peek() != token:
+            raise Unreadable("`%s` is missing" % token)
 
     def name(self) -> str:
         token = self.take()

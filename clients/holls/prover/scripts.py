@@ -74,7 +74,10 @@ class Scribe:
 
     def steps(self, proof: Proof, goal: Term, theorems: Dict[Term, object]) -> Step:
         """The steps of a proof of a goal, where theorems of the left side are known."""
-        step = self.step(proof, State(goal, theorems))
+        return self.with_middle(self.step(proof, State(goal, theorems)))
+
+    def with_middle(self, step: Step) -> Step:
+        """Steps behind those that show the excluded middle, where they need it and no theorem has it."""
         if self.needs_middle and not self._middle:
             return Step("SUBGOAL_THEN %s ASSUME_TAC" % self.quoter.quote(MIDDLE), (Step(" THEN ".join(MIDDLE_STEPS)), step))
         return step

@@ -140,11 +140,14 @@ class Quoter:
         written = _Writer(term, annotated, self.taken)
         if self._reads(written.text, term):
             return _bare(written.text)
-        points = sorted(written.points, key=lambda point: isinstance(point, int))
-        annotated = frozenset(points)
+        names = [point for point in written.points if isinstance(point, str)]
+        places = [point for point in written.points if isinstance(point, int)]
+        annotated = frozenset(written.points)
+        if any(name.startswith("?") for name in typed.term_types(term)):
+            raise Unwritable(written.text)
         if not self._reads(_Writer(term, annotated, self.taken).text, term):
             raise Unwritable(written.text)
-        for point in reversed(points):
+        for point in places + names[::-1]:
             if self._reads(_Writer(term, annotated - {point}, self.taken).text, term):
                 annotated -= {point}
         return _bare(_Writer(term, annotated, self.taken).text)
