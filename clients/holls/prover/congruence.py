@@ -9,61 +9,65 @@ from holls.prover.typed import Term
 
 
 class Congruence:
-    """The classes of terms under equations between terms without variables of the search."""
+    """The classes of terms under equations. A class has the terms that are in it, and the applications that a term of it is part of."""
 
-    def __init__(self, equations: Sequence[Term]) -> None:
-        self._parents: Dict[Term, Term] = {}
+    def __init__(self, equations: Sequence[Term] = ()) -> None:
+        self._roots: Dict[Term, Term] = {}
+        self.members: Dict[Term, List[Term]] = {}
+        self._above: Dict[Term, List[Term]] = {}
         self._signatures: Dict[Tuple[Term, Term], Term] = {}
-        self._waiting: List[Tuple[Term, Term]] = []
         for equation in equations:
             _, left, right = typed.binary(equation)
-            self._add(left)
-            self._add(right)
-            self._waiting.append((left, right))
-        self._close()
+            self.join(left, right)
 
     def are_equal(self, one: Term, other: Term) -> bool:
         """Whether two terms are equal."""
         if one == other:
             return True
-        self._add(one)
-        self._add(other)
-        self._close()
+        self.add(one)
+        self.add(other)
         return self.find(one) == self.find(other)
 
     def find(self, term: Term) -> Term:
-        """The term that stands for a term's class."""
-        while self._parents[term] is not term:
-            term = self._parents[term]
-        return term
+        """The term that stands for the class of one that was added."""
+        return self._roots[term]
 
-    def _add(self, term: Term) -> None:
-        if term in self._parents:
-            return
+    def add(self, term: Term) -> Term:
+        """Takes a term with its parts. Answers what stands for its class."""
+        found = self._roots.get(term)
+        if found is not None:
+            return found
+        self._roots[term], self.members[term], self._above[term] = term, [term], []
         if term[0] == "a" and not typed.has_loose(term):
-            self._add(term[1])
-            self._add(term[2])
-        self._parents[term] = term
-        self._sign(term)
+            function, argument = self.add(term[1]), self.add(term[2])
+            self._above[function].append(term)
+            self._above[argument].append(term)
+            other = self._signatures.setdefault((function, argument), term)
+            if other is not term:
+                self.join(term, other)
+        return self._roots[term]
 
-    def _sign(self, term: Term) -> None:
-        if term[0] != "a" or typed.has_loose(term):
-            return
-        signature = self.find(term[1]), self.find(term[2])
-        other = self._signatures.setdefault(signature, term)
-        if other is not term:
-            self._waiting.append((term, other))
-
-    def _close(self) -> None:
-        """Joins what is to be joined, until nothing is."""
-        while self._waiting:
-            one, other = (self.find(term) for term in self._waiting.pop())
+    def join(self, one: Term, other: Term) -> None:
+        """Takes an equation."""
+        self.add(one)
+        self.add(other)
+        waiting = [(one, other)]
+        while waiting:
+            one, other = (self._roots[term] for term in waiting.pop())
             if one == other:
                 continue
-            self._parents[one] = other
-            self._signatures = {}
-            for term in list(self._parents):
-                self._sign(term)
+            if len(self.members[one]) > len(self.members[other]):
+                one, other = other, one
+            for term in self.members[one]:
+                self._roots[term] = other
+            self.members[other] += self.members.pop(one)
+            moved = self._above.pop(one)
+            self._above[other] += moved
+            for term in moved:
+                signature = self._roots[term[1]], self._roots[term[2]]
+                like = self._signatures.setdefault(signature, term)
+                if self._roots[like] != self._roots[term]:
+                    waiting.append((term, like))
 
 
 def explanation(equations: Sequence[Term], one: Term, other: Term) -> Optional[List[Term]]:
@@ -71,8 +75,14 @@ def explanation(equations: Sequence[Term], one: Term, other: Term) -> Optional[L
     if not Congruence(equations).are_equal(one, other):
         return None
     needed = list(equations)
-    for equation in equations:
-        fewer = [kept for kept in needed if kept is not equation]
-        if Congruence(fewer).are_equal(one, other):
-            needed = fewer
+    width = max(1, len(needed) // 2)
+    while width:
+        at = 0
+        while at < len(needed):
+            fewer = needed[:at] + needed[at + width:]
+            if Congruence(fewer).are_equal(one, other):
+                needed = fewer
+            else:
+                at += width
+        width //= 2
     return needed

@@ -3,7 +3,7 @@
 from __future__ import annotations
 
 import time
-from typing import Dict, List, NamedTuple, Optional, Sequence
+from typing import Dict, Iterator, List, NamedTuple, Optional, Sequence, Tuple
 
 from holls.protocol import Goal, Goals
 from holls.prover import finding, reading, scope, scripts, tables, trying, typed
@@ -16,20 +16,22 @@ from holls.prover.typed import Term, Type
 from holls.prover.writing import Quoter, Unwritable, type_text
 
 NEAREST = 10
-"""So many theorems are taken where none is named."""
-_WITHOUT = 0.4
+"""So many theorems are taken where none is named; a few of them first."""
+_FEW = 5
+_WITHOUT = 0.35
 """The part of the time in which no theorems are taken, where none is named."""
 
 
 class Unprovable(Exception):
-    """A goal that has no proof by what was to be taken; the text says why."""
+    """What was to be taken for a proof can't be; the text says why."""
 
 
 class _Given(NamedTuple):
-    """A theorem at some types: what it says, and its expression."""
+    """A theorem at some types: what it says, and its expression; or what follows from it by reducing, with the steps that show it."""
 
     term: Term
-    theorem: str
+    theorem: Optional[str]
+    steps: str = ""
 
 
 class Finder:
@@ -44,26 +46,40 @@ class Finder:
 
     def find(self, named: Optional[Sequence[str]]) -> Optional[List[str]]:
         """The texts of `e` commands that close the goal; None where none were found in time."""
+        for name in named or ():
+            if name not in self.scope.theorems:
+                raise Unprovable("no theorem %s stands here, or its statement can't be read" % name)
         try:
             items = self._items(self.goal)
-        except Unreadable:
-            items = None
-        best = self._quick(list(named or []))
-        if best or items is None:
-            return best
-        if named:
-            return self._search(items, list(named), self.until)
+        except (Unreadable, RecursionError):
+            return self._quick(trying.closers(named or ()))
+        return self._quick(trying.closers(())) or (self._by_named(items, list(named)) if named else self._by_any(items))
+
+    def _by_named(self, items: List[Item], names: List[str]) -> Optional[List[str]]:
+        return self._quick(trying.closers(names)) or self._search(items, names, self.until)
+
+    def _by_any(self, items: List[Item]) -> Optional[List[str]]:
+        """Steps of a proof by the goal alone, or by theorems like it."""
         found = self._table(items)
         if found is False:
             return None
         now = time.monotonic()
-        own = [found] if found else []
         searched = self._search(items, [], now + _WITHOUT * (self.until - now))
-        own += [searched] if searched else []
+        own = [one for one in (found, searched) if one]
         if own:
             return min(own, key=trying.length)
-        nearest = self.scope.nearest([item.term for item in items], NEAREST)
-        return (self._quick(nearest) or self._search(items, nearest, self.until)) if nearest else None
+        terms = [item.term for item in items]
+        defining, nearest = self.scope.defining(terms), self.scope.nearest(terms, NEAREST)
+        if not nearest:
+            return self._search(items, [], self.until)
+        equations = [name for name in nearest if _rewrites(self.scope.theorems[name])]
+        return (self._quick(trying.closers(defining)) or self._quick(trying.closers(equations))
+                or self._search(items, nearest[:_FEW], self._part(0.5)) or self._search(items, nearest, self.until))
+
+    def _part(self, share: float) -> float:
+        """The moment when a part of the time that is left is over."""
+        now = time.monotonic()
+        return now + share * (self.until - now)
 
     def _items(self, goal: Goal) -> List[Item]:
         """The goal as a sequent."""
@@ -75,9 +91,9 @@ class Finder:
         read = [reading.term(text, signature, free, typed.BOOL) for text in goal.assumptions + (goal.conclusion,)]
         return [Item(True, term, False) for term in read[:-1]] + [Item(False, read[-1], True)]
 
-    def _quick(self, theorems: Sequence[str]) -> Optional[List[str]]:
+    def _quick(self, closers: Sequence[str]) -> Optional[List[str]]:
         """A short step that needs no search."""
-        found = trying.Trial(self.asker, theorems, self.until).close(len(self.goals.goals))
+        found = trying.Trial(self.asker, closers, self._part(0.5)).close(len(self.goals.goals))
         return ["e " + found] if found else None
 
     def _table(self, items: Sequence[Item]) -> object:
@@ -94,38 +110,42 @@ class Finder:
             return None
         return self._run(scribe.with_middle(step), [])
 
-    def _search(self, items: Sequence[Item], names: Sequence[str], until: float) -> Optional[List[str]]:
+    def _search(self, items: List[Item], names: Sequence[str], until: float) -> Optional[List[str]]:
         """Steps of a proof that takes some theorems."""
-        given = self._given(items, names)
-        every = [Item(True, one.term, False) for one in given] + list(items)
+        items, first = _prepared(items)
+        given = [one for name in names for one in self._given(items, name)]
+        every = [Item(True, one.term, False) for one in given] + items
         proof = finding.Search(frozenset(self.scope.signature.constants), until).prove(every)
         if proof is None:
             return None
         scribe = Scribe(self.quoter, self.middle)
+        theorems: Dict[Term, object] = {}
         try:
-            theorems: Dict[Term, object] = {one.term: one.theorem for one in given}
+            for one in given:
+                theorems[one.term] = one.theorem or scribe.assume(one.term)
             theorems.update({item.term: scribe.assume(item.term) for item in items if item.is_left})
             step = scribe.steps(proof, items[-1].term, theorems)
+            for one in given:
+                if one.theorem is None and (True, one.term) in proof.used:
+                    step = Step("SUBGOAL_THEN %s ASSUME_TAC" % self.quoter.quote(one.term), (Step(one.steps), step))
         except Unwritable:
             return None
-        return self._run(step, names)
+        return self._run(Step(first, (step,)) if first else step, names)
 
-    def _given(self, items: Sequence[Item], names: Sequence[str]) -> List[_Given]:
-        """Theorems at the types at which the goal has their constants."""
-        made: List[_Given] = []
-        terms = [item.term for item in items]
-        for name in names:
-            if name not in self.scope.theorems:
-                raise Unprovable("no theorem %s stands here, or it can't be read" % name)
-            for types, statement in scope.instances(self.scope.theorems[name], terms):
-                pairs = "; ".join("`:%s`,`:%s`" % (type_text(ty), variable) for variable, ty in sorted(types.items()))
-                made.append(_Given(statement, "(INST_TYPE [%s] %s)" % (pairs, name) if pairs else name))
-        return made
+    def _given(self, items: Sequence[Item], name: str) -> Iterator[_Given]:
+        """A theorem at the types at which the goal has its constants; a definition by an abstraction also at its arguments."""
+        for types, statement in scope.instances(self.scope.theorems[name], [item.term for item in items]):
+            pairs = "; ".join("`:%s`,`:%s`" % (type_text(ty), variable) for variable, ty in sorted(types.items()))
+            applied = _applied(statement)
+            if applied is not None:
+                yield _Given(applied, None, "REPEAT GEN_TAC THEN PURE_REWRITE_TAC [%s] THEN BETA_TAC THEN REFL_TAC" % name)
+            else:
+                yield _Given(statement, "(INST_TYPE [%s] %s)" % (pairs, name) if pairs else name)
 
     def _run(self, step: Step, names: Sequence[str]) -> Optional[List[str]]:
         """Runs steps, and makes them fewer; those that are left are run once more."""
         count, mark = len(self.goals.goals), self.asker.count
-        trial = trying.Trial(self.asker, names, self.until)
+        trial = trying.Trial(self.asker, trying.closers(()) + (trying.closers(names) if names else []), self.until)
         done = trial.run(step, count)
         self.asker.back(mark)
         if done is None:
@@ -149,3 +169,45 @@ def _has(step: Step, text: str) -> bool:
     """Whether a text stands in steps."""
     return text in step.text or any(_has(sub, text) for sub in step.subs)
 
+
+def _prepared(items: List[Item]) -> Tuple[List[Item], str]:
+    """A sequent whose goal is reduced and has no `?!`, and the step that makes it so."""
+    goal = items[-1].term
+    uniques = {constant for constant in typed.constants(goal) if constant[1] == "?!"}
+    definition = typed.binary(reading.term(scope.manual.PRELUDE["EXISTS_UNIQUE_DEF"], reading.Signature()))[2]
+    for constant in uniques:
+        goal = typed.replaced(goal, constant, typed.inst_type(definition, {"A": constant[2][1][1]}))
+    goal = typed.reduced(goal)
+    text = "PURE_REWRITE_TAC [EXISTS_UNIQUE_DEF] THEN BETA_TAC" if uniques else "BETA_TAC" if goal != items[-1].term else ""
+    return items[:-1] + [Item(False, goal, True)], text
+
+
+def _applied(statement: Term) -> Optional[Term]:
+    """Of a theorem `!x. c x = (\\y. t)` what it says at each y: `!x y. c x y = t`."""
+    names: List[Tuple[str, Type]] = []
+    while typed.quantified(statement) and typed.quantified(statement)[0] == "!":
+        _, name, ty, statement = typed.quantified(statement)
+        names.append((name, ty))
+    sides = typed.binary(statement)
+    if not sides or sides[0] != "=" or sides[2][0] != "l":
+        return None
+    _, left, right = sides
+    while right[0] == "l":
+        left, names = ("a", typed.lifted(left, 1), ("b", 0)), names + [(right[1], right[2])]
+        right = right[3]
+    types = tuple(ty for _, ty in reversed(names))
+    ty = typed.type_of(right, types)
+    made: Term = typed.apply(("c", "=", typed.fun(ty, typed.fun(ty, typed.BOOL))), left, right)
+    for name, own in reversed(names):
+        made = ("a", ("c", "!", typed.fun(typed.fun(own, typed.BOOL), typed.BOOL)), ("l", typed.Hint(name), own, made))
+    return made
+
+
+def _rewrites(statement: Term) -> bool:
+    """Whether a theorem may rewrite: an equation whose left side is no variable, and whose sides aren't alike."""
+    while typed.quantified(statement) and typed.quantified(statement)[0] == "!":
+        statement = typed.quantified(statement)[3]
+    sides = typed.binary(statement)
+    if not sides or sides[0] not in ("=", "<=>"):
+        return False
+    return sides[1][0] not in "bv" and (typed.size(sides[1]) != typed.size(sides[2]) or typed.constants(sides[1]) != typed.constants(sides[2]))

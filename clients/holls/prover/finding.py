@@ -4,9 +4,9 @@ from __future__ import annotations
 
 import sys
 import time
-from typing import Dict, FrozenSet, List, NamedTuple, Optional, Sequence, Set, Tuple
+from typing import Callable, Dict, FrozenSet, List, NamedTuple, Optional, Sequence, Set, Tuple
 
-from holls.prover import clauses, connection, equality, ground, sequents, typed
+from holls.prover import clauses, connection, equality, ground, matching, sequents, typed
 from holls.prover.ground import Ground, Instances, Proof
 from holls.prover.sequents import ALPHA, BETA, DELTA, Formula, Signed
 from holls.prover.typed import Term, Type
@@ -14,9 +14,10 @@ from holls.prover.typed import Term, Type
 _DEEP = 50_000
 _PROPOSITIONAL_SECONDS = 0.5
 _GROUND_SECONDS = 3.0
-_SHARES = ((True, 0.2), (False, 0.2))
-"""Which searches are made of a whole sequent, whether choices are cut, and for which part of the time; then it is taken apart."""
+_ROUNDS = 4
 _MOST_SPLITS = 6
+_INNER_SECONDS = 0.2
+"""So long a sequent is searched as a whole that can be taken by more cases."""
 
 
 class Item(NamedTuple):
@@ -39,12 +40,24 @@ class Search:
         found = self._ground(items, {}, {}, _PROPOSITIONAL_SECONDS)
         if found or not has_quantifier(items):
             return found
-        found = self._whole(items)
-        depth = 1
-        while found is None and depth <= _MOST_SPLITS and time.monotonic() < self.until:
-            found = self._split(list(items), depth, self.until)
-            depth += 1
-        return found
+        for attempt, share in self._attempts(list(items)):
+            now = time.monotonic()
+            if now > self.until:
+                return None
+            found = attempt(now + share * (self.until - now))
+            if found:
+                return found
+        return None
+
+    def _attempts(self, items: List[Item]) -> List[Tuple[Callable[[float], Optional[Proof]], float]]:
+        """The searches in order, each with the part that it may have of the time that is left."""
+        splits = [(lambda until, depth=depth: self._split(items, depth, until), 0.6) for depth in range(3, _MOST_SPLITS)]
+        return [
+            (lambda until: self._by_instances(items, True, until), 0.12),
+            (lambda until: self._by_matching(items, until), 0.25),
+            (lambda until: self._split(items, 1, until), 0.25),
+            (lambda until: self._split(items, 2, until), 0.4),
+            (lambda until: self._by_instances(items, False, until), 0.5)] + splits
 
     def _ground(self, items: Sequence[Item], instances: Instances, kept: Dict, seconds: float) -> Optional[Proof]:
         """The proof at terms that are known."""
@@ -54,18 +67,29 @@ class Search:
         except ground.OutOfTime:
             return None
 
-    def _whole(self, items: Sequence[Item]) -> Optional[Proof]:
-        """A proof of a sequent as it stands."""
-        begun, found = time.monotonic(), None
-        for is_cutting, share in _SHARES:
-            found = found or self._by_instances(items, is_cutting, time.monotonic() + share * (self.until - begun))
-        return found
+    def _by_matching(self, items: Sequence[Item], until: float) -> Optional[Proof]:
+        """A proof at terms that stand already, where there are equations."""
+        builder = self._builder(items)
+        if not matching.is_useful(builder):
+            return None
+        search = matching.Matching(builder, until)
+        proof, rounds = None, 0
+        while proof is None and rounds < _ROUNDS and time.monotonic() < until and search.grow():
+            rounds += 1
+            proof = self._ground(items, _instances(items, search.found), builder.witnesses, max(0.05, until - time.monotonic()))
+        return proof
 
-    def _by_instances(self, items: Sequence[Item], is_cutting: bool, until: float) -> Optional[Proof]:
-        """A proof by a search of the terms at which quantifiers are taken."""
+    @staticmethod
+    def _builder(items: Sequence[Item]) -> clauses.Builder:
+        """The clauses of a sequent."""
         builder = clauses.Builder()
         for item, formula in zip(items, _formulas(items)):
             builder.add(formula, item.is_goal)
+        return builder
+
+    def _by_instances(self, items: Sequence[Item], is_cutting: bool, until: float) -> Optional[Proof]:
+        """A proof by a search of the terms at which quantifiers are taken."""
+        builder = self._builder(items)
         search = connection.Connection(builder.clauses + equality.axioms(builder), min(until, self.until), is_cutting)
         try:
             found = search.search(search.starts())
@@ -79,7 +103,7 @@ class Search:
             found = sequents.shape(item.is_left, item.term)
             if found.kind in (ALPHA, DELTA):
                 return self._apart(items, at, found, depth, until)
-        budget = time.monotonic() + (until - time.monotonic()) / (2 + 2 * depth)
+        budget = time.monotonic() + _INNER_SECONDS if depth else until
         proof = self._ground(items, {}, {}, _PROPOSITIONAL_SECONDS) or self._by_instances(items, True, budget)
         at = _case(items)
         if proof or depth == 0 or at is None:

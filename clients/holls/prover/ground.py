@@ -55,6 +55,7 @@ class _Branch:
         self.witnesses: Dict[Term, Term] = {}
         self.names: Set[str] = set()
         self.is_checked = False
+        self.known_equal: Optional[congruence.Congruence] = None
 
     def copy(self) -> "_Branch":
         """The same sequent, to go on in another way."""
@@ -62,6 +63,7 @@ class _Branch:
         other.known, other.waiting, other.betas = dict(self.known), list(self.waiting), list(self.betas)
         other.gammas, other.done = list(self.gammas), set(self.done)
         other.witnesses, other.names = dict(self.witnesses), set(self.names)
+        other.known_equal = self.known_equal
         return other
 
 
@@ -190,7 +192,7 @@ class Ground:
 
     @staticmethod
     def _cost(branch: _Branch, formula: Formula, parts: Sequence[Formula]) -> Tuple[int, int, int]:
-        closing = sum((not part.is_left, part.term) in branch.known for part in parts)
+        closing = sum((not part.is_left, part.term) in branch.known or _is_equal(branch, part) for part in parts)
         return -closing, formula.is_left, len(formula.position)
 
     def _equal(self, branch: _Branch) -> object:
@@ -202,7 +204,7 @@ class Ground:
         equations = [term for is_left, term in literals if is_left and typed.is_equation(term)]
         if not equations:
             return NOT_HERE
-        known = congruence.Congruence(equations)
+        known = branch.known_equal = congruence.Congruence(equations)
         for is_left, term in literals:
             if is_left:
                 continue
@@ -213,6 +215,14 @@ class Ground:
                 if _is_like(term, other) and known.are_equal(term, other):
                     return _closed_by(equations, other, term, term, other)
         return NOT_HERE
+
+
+def _is_equal(branch: _Branch, part: Formula) -> bool:
+    """Whether equations close a sequent with a part of the right side that is an equation."""
+    if part.is_left or branch.known_equal is None:
+        return False
+    sides = typed.binary(part.term)
+    return sides is not None and sides[0] == "=" and branch.known_equal.are_equal(sides[1], sides[2])
 
 
 def _is_like(one: Term, other: Term) -> bool:

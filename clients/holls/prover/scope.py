@@ -26,6 +26,7 @@ class Scope:
     def __init__(self) -> None:
         self.signature = Signature()
         self.theorems: Dict[str, Term] = {}
+        self.definitions: Dict[str, str] = {"ONE_ONE": "ONE_ONE", "ONTO": "ONTO"}
         for name, text in manual.PRELUDE.items():
             self.theorems[name] = reading.term(text, self.signature)
 
@@ -53,6 +54,7 @@ class Scope:
             constant = _defined(statement)
             self.signature.constants[constant[1]] = constant[2]
             self.theorems[given[0]] = statement
+            self.definitions[given[0]] = constant[1]
         elif word == "new_constant":
             self.signature.constants[given[0]] = reading.type_text(quoted.strip().lstrip(":"), self.signature)
         elif word == "new_type":
@@ -86,12 +88,18 @@ class Scope:
     def nearest(self, terms: Sequence[Term], most: int) -> List[str]:
         """The theorems that share most constants with some terms and have the fewest others, those of the prelude apart."""
         wanted = frozenset().union(*map(_own_constants, terms)) if terms else frozenset()
-        ranked: List[Tuple[Tuple[int, int, int], str]] = []
+        ranked: List[Tuple[Tuple[bool, int, int, int], str]] = []
         for number, (name, term) in enumerate(self.theorems.items()):
             own = _own_constants(term)
-            if own and own & wanted and (name not in manual.PRELUDE or own <= frozenset(("ONE_ONE", "ONTO"))):
-                ranked.append(((len(own - wanted), -len(own & wanted), typed.size(term) - number), name))
+            if own and own & wanted and name != "INFINITY_AX" and not typed.variables(term):
+                is_defining = name in self.definitions and self.definitions[name] in wanted
+                ranked.append(((not is_defining, len(own - wanted), -len(own & wanted), typed.size(term) - number), name))
         return [name for _, name in sorted(ranked)[:most]]
+
+    def defining(self, terms: Sequence[Term]) -> List[str]:
+        """The theorems that define constants of some terms."""
+        wanted = frozenset().union(*map(_own_constants, terms)) if terms else frozenset()
+        return [name for name, constant in self.definitions.items() if constant in wanted and name in self.theorems]
 
 
 def _defined(statement: Term) -> Term:

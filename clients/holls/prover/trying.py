@@ -17,20 +17,29 @@ _SHORTER = (
 _STRIPS = "REPEAT STRIP_TAC THEN "
 
 
-class Trial:
-    """Tries steps in a server until a time. `theorems` are the names of those that rewriting may take."""
+def closers(theorems: Sequence[str]) -> List[str]:
+    """Short steps that may close a goal, by rewriting with theorems."""
+    if not theorems:
+        return ["ASM_REWRITE_TAC []", _STRIPS + "ASM_REWRITE_TAC []", _STRIPS + "FIRST_ASSUM ACCEPT_TAC"]
+    named = "[%s]" % "; ".join(theorems)
+    alone = ["MATCH_MP_TAC %s THEN ASM_REWRITE_TAC []" % theorems[0]] if len(theorems) == 1 else []
+    reduced = "REWRITE_TAC %s THEN BETA_TAC THEN REWRITE_TAC [ETA_AX]" % named
+    return ["REWRITE_TAC " + named, _STRIPS + "ASM_REWRITE_TAC " + named, reduced, _STRIPS + reduced] + alone
 
-    def __init__(self, asker: Asker, theorems: Sequence[str], until: float) -> None:
+
+class Trial:
+    """Tries steps in a server until a time; `own_closers` are short ones that may close a goal."""
+
+    def __init__(self, asker: Asker, own_closers: Sequence[str], until: float) -> None:
         self.asker, self.until = asker, until
-        named = "[%s]" % "; ".join(theorems)
-        self.closers = ["ASM_REWRITE_TAC []", _STRIPS + "ASM_REWRITE_TAC []", _STRIPS + "FIRST_ASSUM ACCEPT_TAC"]
-        if theorems:
-            self.closers += ["REWRITE_TAC " + named, "ASM_REWRITE_TAC " + named, _STRIPS + "ASM_REWRITE_TAC " + named]
+        self.closers = sorted(own_closers, key=len)
 
     def close(self, open_goals: int) -> Optional[str]:
         """A short step that closes the first goal, if there is one; it is taken back."""
         mark = self.asker.count
         for text in self.closers:
+            if time.monotonic() > self.until:
+                break
             found = self._goals(text)
             self.asker.back(mark)
             if found is not None and len(found.goals) == open_goals - 1:

@@ -194,6 +194,52 @@ def has_redex(term: Term) -> bool:
     return any(part[0] == "a" and part[1][0] == "l" for part in subterms(term))
 
 
+MOST_REDUCTIONS = 200
+
+
+def reduced(term: Term) -> Term:
+    """A term in which no abstraction is applied, if it comes to that soon."""
+    for _ in range(MOST_REDUCTIONS):
+        smaller = _reduced_once(term)
+        if smaller is term:
+            break
+        term = smaller
+    return term
+
+
+def _reduced_once(term: Term) -> Term:
+    if term[0] == "a":
+        if term[1][0] == "l":
+            return opened(term[1][3], term[2]) if not has_loose(term[2]) else _opened_inside(term)
+        function, argument = _reduced_once(term[1]), _reduced_once(term[2])
+        return term if function is term[1] and argument is term[2] else ("a", function, argument)
+    if term[0] == "l":
+        body = _reduced_once(term[3])
+        return term if body is term[3] else ("l", term[1], term[2], body)
+    return term
+
+
+def _opened_inside(redex: Term) -> Term:
+    """A redex reduced, whose argument has variables that are bound outside."""
+    def put(body: Term, depth: int) -> Term:
+        if body[0] == "b":
+            return lifted(redex[2], depth) if body[1] == depth else ("b", body[1] - 1) if body[1] > depth else body
+        if body[0] == "a":
+            return ("a", put(body[1], depth), put(body[2], depth))
+        return ("l", body[1], body[2], put(body[3], depth + 1)) if body[0] == "l" else body
+
+    return put(redex[1][3], 0)
+
+
+def lifted(term: Term, by: int, depth: int = 0) -> Term:
+    """A term under so many more binders."""
+    if term[0] == "b":
+        return ("b", term[1] + by) if term[1] >= depth else term
+    if term[0] == "a":
+        return ("a", lifted(term[1], by, depth), lifted(term[2], by, depth))
+    return ("l", term[1], term[2], lifted(term[3], by, depth + 1)) if term[0] == "l" else term
+
+
 # Types
 
 def type_variables(ty: Type) -> FrozenSet[str]:

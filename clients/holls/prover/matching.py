@@ -1,0 +1,194 @@
+"""Another search of instances: clauses at the terms that stand already, up to known equations, in rounds.
+
+It finds what follows by a few instances from many equations, where connections lose themselves in the axioms of equality.
+"""
+
+from __future__ import annotations
+
+import time
+from typing import Dict, Iterator, List, NamedTuple, Optional, Sequence, Set, Tuple
+
+from holls.prover import clauses, typed
+from holls.prover.clauses import APPLY, Builder, Clause, Coded
+from holls.prover.congruence import Congruence
+from holls.prover.connection import Found
+from holls.prover.typed import BOOL, Term, Type
+
+MOST_NEW = 120
+"""So many instances are added in a round, the smallest first."""
+MOST_OF_CLAUSE = 60
+LARGEST = 40
+"""An instance in whose terms more names stand isn't taken."""
+_MOST_PATTERNS = 6
+
+Binding = Tuple[Optional[Term], ...]
+
+
+class _Ready(NamedTuple):
+    """A clause with its literals as terms, and the patterns of which one, with those beside it, gives its variables terms."""
+
+    clause: Clause
+    literals: Tuple[Tuple[bool, Term], ...]
+    patterns: Tuple[Tuple[Term, ...], ...]
+
+
+class Matching:
+    """Instances of clauses, in rounds."""
+
+    def __init__(self, builder: Builder, until: float) -> None:
+        self.until = until
+        self.found: List[Found] = []
+        self._seen: Set[Tuple[int, Binding]] = set()
+        self._known = Congruence()
+        self._ready = [_ready(clause) for clause in builder.clauses]
+        for one in self._ready:
+            if not one.clause.count:
+                self._take(one.literals)
+
+    def _take(self, literals: Sequence[Tuple[bool, Term]]) -> None:
+        """Takes a clause without variables: its terms, and an equation that is all of it."""
+        for is_true, atom in literals:
+            self._known.add(atom)
+            sides = typed.binary(atom)
+            if len(literals) == 1 and is_true and sides and sides[0] == "=":
+                self._known.join(sides[1], sides[2])
+
+    def grow(self) -> bool:
+        """Adds instances; whether there are more."""
+        new: List[Tuple[int, int, Binding]] = []
+        for number, one in enumerate(self._ready):
+            if not one.clause.count:
+                continue
+            own: Dict[Binding, int] = {}
+            for patterns in one.patterns:
+                for binding in self._matches(patterns, (None,) * one.clause.count):
+                    if (number, binding) not in self._seen:
+                        own[binding] = sum(typed.size(term) for term in binding if term is not None)
+                    if len(own) > MOST_OF_CLAUSE or time.monotonic() > self.until:
+                        break
+            new += [(cost, number, binding) for binding, cost in own.items() if cost <= LARGEST]
+        new.sort(key=lambda one: one[:2])
+        for _, number, binding in new[:MOST_NEW]:
+            self._seen.add((number, binding))
+            self._add(self._ready[number], binding)
+        return bool(new)
+
+    def _add(self, one: _Ready, binding: Binding) -> None:
+        terms = [("m", number, one.clause.variables[number].type) if term is None else term for number, term in enumerate(binding)]
+        self.found.append(Found(one.clause, tuple(_witnessed(term) for term in terms)))
+        self._take([(is_true, _filled(atom, binding)) for is_true, atom in one.literals])
+
+    def _matches(self, patterns: Sequence[Term], binding: Binding) -> Iterator[Binding]:
+        """The terms of variables at which patterns stand."""
+        if not patterns:
+            yield binding
+            return
+        for root in list(self._known.members):
+            if root in self._known.members:
+                for found in self._match(patterns[0], root, binding):
+                    yield from self._matches(patterns[1:], found)
+
+    def _match(self, pattern: Term, root: Term, binding: Binding) -> Iterator[Binding]:
+        """The terms of variables at which a pattern is of a class."""
+        if pattern[0] == "m":
+            known = binding[pattern[1]]
+            if known is not None:
+                if self._known.add(known) == root:
+                    yield binding
+            elif typed.type_of(root) == pattern[2]:
+                smallest = min(self._known.members[root], key=typed.size)
+                yield binding[:pattern[1]] + (smallest,) + binding[pattern[1] + 1:]
+            return
+        if pattern[0] != "a":
+            if pattern in self._known.members[root]:
+                yield binding
+            return
+        for member in list(self._known.members.get(root, ())):
+            if member[0] == "a" and not typed.has_loose(member):
+                for first in self._match(pattern[1], self._known.find(member[1]), binding):
+                    yield from self._match(pattern[2], self._known.find(member[2]), first)
+
+
+def _ready(clause: Clause) -> _Ready:
+    types = [variable.type for variable in clause.variables]
+    literals = tuple((literal.is_true, _term(literal.atom, types)) for literal in clause.literals)
+    return _Ready(clause, literals, tuple(_patterns(literals)))
+
+
+def _term(atom: Coded, types: Sequence[Type]) -> Term:
+    """A term of the search as a term; a witness is a symbol ("w", position, type, number) that is applied."""
+    if isinstance(atom, int):
+        return ("m", atom, types[atom])
+    arguments = [_term(argument, types) for argument in atom[1:]]
+    symbol = atom[0]
+    if symbol is APPLY:
+        return ("a", arguments[0], arguments[1])
+    if symbol.term is not None:
+        return typed.apply(clauses.filled(symbol.term, arguments[:symbol.own]), *arguments[symbol.own:])
+    ty = symbol.type
+    for argument in reversed(arguments[:symbol.own]):
+        ty = typed.fun(typed.type_of(argument), ty)
+    return typed.apply(("w", symbol.position if symbol.position is not None else symbol.label, ty, symbol.own), *arguments)
+
+
+def _witnessed(term: Term) -> Term:
+    """A term with its witnesses as terms."""
+    chain: List[Term] = []
+    while term[0] == "a":
+        chain.append(_witnessed(term[2]))
+        term = term[1]
+    chain.reverse()
+    if term[0] == "w":
+        ty = term[2]
+        for _ in range(term[3]):
+            ty = ty[2]
+        return typed.apply(("s", term[1], tuple(chain[:term[3]]), ty), *chain[term[3]:])
+    if term[0] == "l":
+        term = ("l", term[1], term[2], _witnessed(term[3]))
+    return typed.apply(term, *chain)
+
+
+def _filled(term: Term, binding: Binding) -> Term:
+    if term[0] == "m":
+        return binding[term[1]] or term
+    if term[0] == "a":
+        return ("a", _filled(term[1], binding), _filled(term[2], binding))
+    return ("l", term[1], term[2], _filled(term[3], binding)) if term[0] == "l" else term
+
+
+def _variables(term: Term) -> Set[int]:
+    return {part[1] for part in typed.subterms(term) if part[0] == "m"}
+
+
+def _patterns(literals: Sequence[Tuple[bool, Term]]) -> List[Tuple[Term, ...]]:
+    """Parts of a clause that have all its variables, the smallest first; where none has, some that have them together."""
+    parts: Dict[Term, Set[int]] = {}
+    for _, atom in literals:
+        for part in typed.subterms(atom):
+            is_whole = not typed.is_equation(part) and part[0] == "a" and not typed.has_loose(part) and _head(part)[0] != "m"
+            if is_whole and _variables(part):
+                parts[part] = _variables(part)
+    every = set().union(*(_variables(atom) for _, atom in literals)) if literals else set()
+    alone = sorted((part for part, own in parts.items() if own == every), key=typed.size)
+    if alone or not every:
+        return [(part,) for part in alone[:_MOST_PATTERNS]]
+    chosen: List[Term] = []
+    while every:
+        best = max(parts, key=lambda part: (len(parts[part] & every), -typed.size(part)), default=None)
+        if best is None or not parts[best] & every:
+            return []
+        chosen.append(best)
+        every = every - parts[best]
+    return [tuple(chosen)]
+
+
+def _head(term: Term) -> Term:
+    while term[0] == "a":
+        term = term[1]
+    return term
+
+
+def is_useful(builder: Builder) -> bool:
+    """Whether there are equations between other things than formulas."""
+    return any(symbol.term is not None and symbol.term[0] == "c" and symbol.term[1] == "=" and symbol.type[1] != BOOL
+               for symbol in builder.symbols.values())
