@@ -58,6 +58,9 @@ class Asker:
         requests = [{"op": "new_theory", "name": theory, "at": self._theories}]
         requests += [{"op": "insert", "theory": theory, "at": at, "text": text} for at, text in enumerate(texts)]
         self._theories += 1
+        self._ask_all(requests)
+
+    def _ask_all(self, requests: Sequence[Dict[str, Any]]) -> None:
         for request in requests:
             self._server.send(protocol.line(request))
         for _ in requests:
@@ -67,6 +70,16 @@ class Asker:
         """Puts the commands of a proof up to where it is."""
         self.add(THEORY, texts)
         self.count = len(texts)
+
+    def extend(self, texts: Sequence[str]) -> None:
+        """Puts more commands behind those of the copy."""
+        self._ask_all([{"op": "insert", "theory": THEORY, "at": self.count + at, "text": text} for at, text in enumerate(texts)])
+        self.count += len(texts)
+
+    def forget(self) -> None:
+        """Takes the copy out."""
+        self.ask({"op": "drop_theory", "name": THEORY})
+        self._theories -= 1
 
     def report(self, at: int) -> Union[Goals, Made, Refusal, protocol.Error]:
         """The report on a command of the copy."""

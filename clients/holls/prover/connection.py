@@ -125,7 +125,7 @@ class Connection:
     def _after(self, frame: Frame, literal: Literal) -> Optional[Frame]:
         """What is open where a literal is closed."""
         if frame.at + 1 < len(frame.literals):
-            return frame._replace(at=frame.at + 1, lemmas=(literal, frame.lemmas))
+            return Frame(frame.literals, frame.at + 1, frame.path, frame.length, (literal, frame.lemmas), frame.owner, frame.next)
         return frame.next
 
     def _reduce(self, frame: Frame, literal: Literal, rest: Optional[Frame]) -> Any:
@@ -155,7 +155,8 @@ class Connection:
                 continue
             mark, base, taken = len(self.trail), len(self.bindings), len(self.taken)
             self._copy(clause)
-            if self._unify(_shifted(clause.literals[place].atom, base), literal.atom):
+            atom = clause.literals[place].atom
+            if self._unify(_shifted(atom, base) if clause.count else atom, literal.atom):
                 done = self._open(self._opened(frame, literal, rest, own, clause, place, base))
                 if done is not FAILED and done is not own:
                     return done
@@ -169,7 +170,9 @@ class Connection:
         """What is open where a clause closes a literal: its other literals, and then the rest."""
         if len(clause.literals) == 1:
             return rest
-        others = tuple([_shifted_literal(one, base) for at, one in enumerate(clause.literals) if at != place])
+        others = clause.literals[:place] + clause.literals[place + 1:]
+        if clause.count:
+            others = tuple([_shifted_literal(one, base) for one in others])
         end = Frame((), 0, None, 0, None, own, rest) if self.is_cutting else rest
         return Frame(others, 0, (literal, frame.path), frame.length + 1, frame.lemmas, own, end)
 
@@ -206,28 +209,27 @@ class Connection:
         return all(self._is_same(left, right) for left, right in zip(one[1:], other[1:]))
 
     def _unify(self, one: Coded, other: Coded) -> bool:
-        waiting = [(one, other)]
+        bindings, waiting = self.bindings, [(one, other)]
         while waiting:
             one, other = waiting.pop()
-            one, other = self._found_term(one), self._found_term(other)
-            if one is other:
+            while type(one) is int and bindings[one] is not None:
+                one = bindings[one]
+            while type(other) is int and bindings[other] is not None:
+                other = bindings[other]
+            if one is other or type(one) is int and one == other:
                 continue
-            if isinstance(one, int) or isinstance(other, int):
-                if one == other:
-                    continue
-                if not (self._bind(one, other) if isinstance(one, int) else self._bind(other, one)):
+            if type(one) is int or type(other) is int:
+                if not (self._bind(one, other) if type(one) is int else self._bind(other, one)):
                     return False
             elif one[0] is other[0]:
                 if len(one) != len(other):
                     return False
                 waiting.extend(zip(one[1:], other[1:]))
-            elif one[0] is APPLY or other[0] is APPLY:
+            else:
                 left, right = _applied(one), _applied(other)
-                if left is None or right is None:
+                if left is None or right is None or one[0] is not APPLY and other[0] is not APPLY:
                     return False
                 waiting += [(left[1], right[1]), (left[0], right[0])]
-            else:
-                return False
         return True
 
     def _bind(self, number: int, term: Coded) -> bool:

@@ -145,9 +145,13 @@ class Scribe:
             first = then(own.showing(term))
             return Step("SUBGOAL_THEN %s MP_TAC" % self.quoter.quote(term), (first, Step("REWRITE_TAC [%s]" % _bare(negation))))
 
-        if (False, goal) in proof.used and typed.mk_not(goal) not in state.theorems and not self.is_denied(state, goal):
+        if (False, goal) in proof.used and not self.is_known_false(state, goal):
             return self.cases(goal, state, lambda own: self.accept(own, goal), shown)
         return shown(state)
+
+    def is_known_false(self, state: State, term: Term) -> bool:
+        """Whether a formula of the right side is known to be false, so that it needn't be shown."""
+        return typed.mk_not(term) in state.theorems or self.is_denied(state, term)
 
     @staticmethod
     def is_denied(state: State, term: Term) -> bool:
@@ -165,7 +169,14 @@ class Scribe:
         rule = {ALPHA: self.alpha, BETA: self.beta, GAMMA: self.gamma, DELTA: self.delta}[proof.rule]
         if is_left or self.is_denied(state, term) and proof.rule == ALPHA:
             return rule(proof, state)
-        return self.show(term, proof, state, lambda own: rule(proof, own))
+        is_kept = any(proof.formula in sub.used.difference(parts) for sub, parts in zip(proof.subs, proof.parts))
+
+        def shown(own: State) -> Step:
+            if is_kept and not self.is_known_false(own, term):
+                return self.cases(term, own, lambda other: self.accept(other, term), lambda other: rule(proof, other))
+            return rule(proof, own)
+
+        return self.show(term, proof, state, shown)
 
     def close(self, proof: Proof, state: State) -> Step:
         """Closes a goal."""
@@ -313,12 +324,7 @@ class Scribe:
         if is_left:
             return self.settled(sub, body, "(SPEC %s %s)" % (quoted, self.theorem(state, term)), state)
 
-        def shown(own: State) -> Step:
-            return Step("EXISTS_TAC " + quoted, (self.step(sub, own.showing(body)),))
-
-        if (False, term) in sub.used and typed.mk_not(term) not in state.theorems:
-            return self.cases(term, state, lambda own: self.accept(own, term), shown)
-        return shown(state)
+        return Step("EXISTS_TAC " + quoted, (self.step(sub, state.showing(body)),))
 
     def delta(self, proof: Proof, state: State) -> Step:
         """A quantifier that is taken at a variable of its own."""

@@ -11,6 +11,8 @@ from holls.prover.typed import Term, Type
 _LEVELS = {"<=>": 0, "==>": 2, "\\/": 4, "/\\": 6, "=": 8}
 _NEGATION, _APPLICATION = 10, 12
 _BINDERS = ("!", "?", "?!", "@")
+_CONSTANT, _BINDER = 0, 1
+"""Places that may have a type beside free variables, which are kept where they can be: those of constants are left out first."""
 _SYMBOLS = frozenset(("/\\", "\\/", "==>", "=", "~", "!", "?", "?!", "@"))
 
 
@@ -69,7 +71,7 @@ class _Writer:
             self.said.add(point)
         else:
             self.places += 1
-            point, is_first = self.places, True
+            point, is_first = (_CONSTANT, self.places), True
         name = "(%s)" % term[1] if term[1] in _SYMBOLS else term[1]
         if is_first:
             self.points.append(point)
@@ -83,9 +85,10 @@ class _Writer:
         while True:
             inner = term if kind == "\\" else term[2]
             self.places += 1
-            self.points.append(self.places)
+            point = _BINDER, self.places
+            self.points.append(point)
             name = self.fresh(inner, bound)
-            parts.append("(%s:%s)" % (name, type_text(inner[2])) if self.places in self.annotated else name)
+            parts.append("(%s:%s)" % (name, type_text(inner[2])) if point in self.annotated else name)
             bound, term = bound + [name], inner[3]
             if not (term[0] == "l" if kind == "\\" else self.is_like(term, kind)):
                 break
@@ -141,7 +144,7 @@ class Quoter:
         if self._reads(written.text, term):
             return _bare(written.text)
         names = [point for point in written.points if isinstance(point, str)]
-        places = [point for point in written.points if isinstance(point, int)]
+        places = sorted((point for point in written.points if not isinstance(point, str)), key=lambda point: (point[0], point[0] * -point[1]))
         annotated = frozenset(written.points)
         if any(name.startswith("?") for name in typed.term_types(term)):
             raise Unwritable(written.text)
