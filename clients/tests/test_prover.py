@@ -106,7 +106,7 @@ class Propositional(unittest.TestCase):
 
     def test_what_a_proof_does_not_need_is_left_out(self):
         signature = reading.Signature()
-        items = [finding.Item(True, reading.term(text, signature), False) for text in ("a \\/ b", "p", "c <=> d", "p ==> q")]
+        items = [finding.Item(True, reading.term(text, signature, ty=typed.BOOL), False) for text in ("a \\/ b", "p", "c <=> d", "p ==> q")]
         items.append(finding.Item(False, reading.term("r \\/ q", signature), True))
         proof = finding.Search(frozenset(), time.monotonic() + SECONDS).prove(items)
         self.assertEqual(proof.used, {items[1][:2], items[3][:2], items[4][:2]})
