@@ -28,6 +28,11 @@ class Congruence:
         self.add(other)
         return self.find(one) == self.find(other)
 
+    @property
+    def count(self) -> int:
+        """How many terms there are."""
+        return len(self._roots)
+
     def find(self, term: Term) -> Term:
         """The term that stands for the class of one that was added."""
         return self._roots[term]

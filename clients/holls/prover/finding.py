@@ -53,9 +53,10 @@ class Search:
         """The searches in order, each with the part that it may have of the time that is left."""
         splits = [(lambda until, depth=depth: self._split(items, depth, until), 0.6) for depth in range(3, _MOST_SPLITS)]
         return [
+            (lambda until: self._by_matching(items, until, _FIRST_ROUNDS), 0.15),
             (lambda until: self._by_instances(items, True, until), 0.12),
-            (lambda until: self._by_matching(items, until), 0.25),
             (lambda until: self._split(items, 1, until), 0.25),
+            (lambda until: self._by_matching(items, until, _ROUNDS), 0.3),
             (lambda until: self._split(items, 2, until), 0.4),
             (lambda until: self._by_instances(items, False, until), 0.5)] + splits
 
@@ -67,16 +68,16 @@ class Search:
         except ground.OutOfTime:
             return None
 
-    def _by_matching(self, items: Sequence[Item], until: float) -> Optional[Proof]:
-        """A proof at terms that stand already, where there are equations."""
+    def _by_matching(self, items: Sequence[Item], until: float, most: int) -> Optional[Proof]:
+        """A proof at terms that stand already, where there are equations, in so many rounds at most."""
         builder = self._builder(items)
         if not matching.is_useful(builder):
             return None
         search = matching.Matching(builder, until)
         proof, rounds = None, 0
-        while proof is None and rounds < _ROUNDS and time.monotonic() < until and search.grow():
+        while proof is None and rounds < most and time.monotonic() < until and search.grow():
             rounds += 1
-            proof = self._ground(items, _instances(items, search.found), builder.witnesses, max(0.05, until - time.monotonic()))
+            proof = self._ground(items, _instances(items, search.found), builder.witnesses, min(1.0, until - time.monotonic()))
         return proof
 
     @staticmethod

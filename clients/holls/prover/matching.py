@@ -14,9 +14,10 @@ from holls.prover.congruence import Congruence
 from holls.prover.connection import Found
 from holls.prover.typed import BOOL, Term, Type
 
-MOST_NEW = 120
+MOST_NEW = 100
 """So many instances are added in a round, the smallest first."""
 MOST_OF_CLAUSE = 60
+MOST_WITNESSES = 20
 LARGEST = 40
 """An instance in whose terms more names stand isn't taken."""
 _MOST_PATTERNS = 6
@@ -25,11 +26,13 @@ Binding = Tuple[Optional[Term], ...]
 
 
 class _Ready(NamedTuple):
-    """A clause with its literals as terms, and the patterns of which one, with those beside it, gives its variables terms."""
+    """A clause with its literals as terms, and the patterns of which one, with those beside it, gives its variables terms; and its witnesses, each
+    with the patterns that give terms to what it depends on."""
 
     clause: Clause
     literals: Tuple[Tuple[bool, Term], ...]
     patterns: Tuple[Tuple[Term, ...], ...]
+    witnesses: Tuple[Tuple[Term, Tuple[Term, ...]], ...]
 
 
 class Matching:
@@ -48,8 +51,9 @@ class Matching:
     def _take(self, literals: Sequence[Tuple[bool, Term]]) -> None:
         """Takes a clause without variables: its terms, and an equation that is all of it."""
         for is_true, atom in literals:
-            self._known.add(atom)
             sides = typed.binary(atom)
+            for part in sides[1:] if sides and sides[0] == "=" else (atom,):
+                self._known.add(part)
             if len(literals) == 1 and is_true and sides and sides[0] == "=":
                 self._known.join(sides[1], sides[2])
 
@@ -68,10 +72,21 @@ class Matching:
                         break
             new += [(cost, number, binding) for binding, cost in own.items() if cost <= LARGEST]
         new.sort(key=lambda one: one[:2])
+        made = self._make_witnesses()
         for _, number, binding in new[:MOST_NEW]:
             self._seen.add((number, binding))
             self._add(self._ready[number], binding)
-        return bool(new)
+        return bool(new) or made
+
+    def _make_witnesses(self) -> bool:
+        """Takes the witnesses of what stands already as terms; whether there are more."""
+        before = self._known.count
+        for one in self._ready:
+            for witness, patterns in one.witnesses:
+                for number, binding in enumerate(list(self._matches(patterns, (None,) * one.clause.count))):
+                    if number < MOST_WITNESSES:
+                        self._known.add(_filled(witness, binding))
+        return self._known.count > before
 
     def _add(self, one: _Ready, binding: Binding) -> None:
         terms = [("m", number, one.clause.variables[number].type) if term is None else term for number, term in enumerate(binding)]
@@ -84,6 +99,8 @@ class Matching:
             yield binding
             return
         for root in list(self._known.members):
+            if time.monotonic() > self.until:
+                return
             if root in self._known.members:
                 for found in self._match(patterns[0], root, binding):
                     yield from self._matches(patterns[1:], found)
@@ -112,7 +129,10 @@ class Matching:
 def _ready(clause: Clause) -> _Ready:
     types = [variable.type for variable in clause.variables]
     literals = tuple((literal.is_true, _term(literal.atom, types)) for literal in clause.literals)
-    return _Ready(clause, literals, tuple(_patterns(literals)))
+    witnesses = {part for _, atom in literals for part in typed.subterms(atom) if part[0] == "a" and _head(part)[0] == "w"}
+    whole = [part for part in witnesses if _variables(part) and len(_arguments(part)) == _head(part)[3]]
+    made = tuple((part, _patterns(literals, _variables(part))[0]) for part in sorted(whole, key=str))
+    return _Ready(clause, literals, tuple(_patterns(literals, None)), made)
 
 
 def _term(atom: Coded, types: Sequence[Type]) -> Term:
@@ -160,26 +180,43 @@ def _variables(term: Term) -> Set[int]:
     return {part[1] for part in typed.subterms(term) if part[0] == "m"}
 
 
-def _patterns(literals: Sequence[Tuple[bool, Term]]) -> List[Tuple[Term, ...]]:
-    """Parts of a clause that have all its variables, the smallest first; where none has, some that have them together."""
+def _patterns(literals: Sequence[Tuple[bool, Term]], wanted: Optional[Set[int]]) -> List[Tuple[Term, ...]]:
+    """Parts of a clause that have all its variables, or those that are wanted, the smallest first; where none has, some that have them together.
+
+    A part that begins with a variable comes after one that has it. A variable that no part has takes any term.
+    """
     parts: Dict[Term, Set[int]] = {}
     for _, atom in literals:
         for part in typed.subterms(atom):
-            is_whole = not typed.is_equation(part) and part[0] == "a" and not typed.has_loose(part) and _head(part)[0] != "m"
-            if is_whole and _variables(part):
+            is_plain = part[0] == "a" and _head(part)[:2] != ("c", "=") and not typed.has_loose(part)
+            if is_plain and _variables(part) and not any(one[0] == "w" and one[3] for one in typed.subterms(part)):
                 parts[part] = _variables(part)
-    every = set().union(*(_variables(atom) for _, atom in literals)) if literals else set()
-    alone = sorted((part for part, own in parts.items() if own == every), key=typed.size)
+    every = wanted or (set().union(*(_variables(atom) for _, atom in literals)) if literals else set())
+    parts = {part: own for part, own in parts.items() if own <= every}
+    alone = sorted((part for part, own in parts.items() if own == every and _head(part)[0] != "m"), key=typed.size)
     if alone or not every:
-        return [(part,) for part in alone[:_MOST_PATTERNS]]
+        return [(part,) for part in alone[:_MOST_PATTERNS]] or [()]
     chosen: List[Term] = []
-    while every:
-        best = max(parts, key=lambda part: (len(parts[part] & every), -typed.size(part)), default=None)
-        if best is None or not parts[best] & every:
-            return []
+    missing = set(every)
+    while missing:
+        fitting = [part for part, own in parts.items() if own & missing and not (_head(part)[0] == "m" and _head(part)[1] in missing)]
+        if not fitting:
+            break
+        best = max(fitting, key=lambda part: (len(parts[part] & missing), -typed.size(part)))
         chosen.append(best)
-        every = every - parts[best]
-    return [tuple(chosen)]
+        missing -= parts[best]
+    alone = {part[1]: part for _, atom in literals for part in typed.subterms(atom) if part[0] == "m"}
+    first = [part for part in chosen if _head(part)[0] != "m"]
+    found = [tuple(own + [alone[number] for number in sorted(every.difference(*(parts[part] for part in own)))]) for own in (chosen, first)]
+    return list(dict.fromkeys(found))
+
+
+def _arguments(term: Term) -> List[Term]:
+    found: List[Term] = []
+    while term[0] == "a":
+        found.append(term[2])
+        term = term[1]
+    return found
 
 
 def _head(term: Term) -> Term:

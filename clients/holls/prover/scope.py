@@ -6,7 +6,7 @@ was refused, is left out.
 
 from __future__ import annotations
 
-from typing import Dict, FrozenSet, Iterator, List, Optional, Sequence, Tuple
+from typing import Dict, FrozenSet, Iterator, List, Optional, Sequence, Set, Tuple
 
 from holls import manual, names
 from holls.files import File
@@ -86,14 +86,18 @@ class Scope:
         return next((name for name, term in self.theorems.items() if term == statement), None)
 
     def nearest(self, terms: Sequence[Term], most: int) -> List[str]:
-        """The theorems that share most constants with some terms and have the fewest others, those of the prelude apart."""
+        """The theorems that are most like some terms: those that define their constants, those that share constants with them and have few
+        others, and then those that share constants with the definitions."""
         wanted = frozenset().union(*map(_own_constants, terms)) if terms else frozenset()
-        ranked: List[Tuple[Tuple[bool, int, int, int], str]] = []
+        further = frozenset().union(*(_own_constants(self.theorems[name]) for name in self.defining(terms)))
+        ranked: List[Tuple[Tuple[bool, bool, int, int, int], str]] = []
         for number, (name, term) in enumerate(self.theorems.items()):
             own = _own_constants(term)
-            if own and own & wanted and name != "INFINITY_AX" and not typed.variables(term):
-                is_defining = name in self.definitions and self.definitions[name] in wanted
-                ranked.append(((not is_defining, len(own - wanted), -len(own & wanted), typed.size(term) - number), name))
+            if own & (wanted | further) and name != "INFINITY_AX":
+                is_defining = self.definitions.get(name) in wanted
+                shared = own & wanted or own & further
+                rank = not is_defining, not own & wanted, len(own - wanted - further), -len(shared), typed.size(term) - number
+                ranked.append((rank, name))
         return [name for _, name in sorted(ranked)[:most]]
 
     def defining(self, terms: Sequence[Term]) -> List[str]:
@@ -128,15 +132,33 @@ def instances(statement: Term, terms: Sequence[Term]) -> Iterator[Tuple[Dict[str
         return
     present = sorted({constant for term in terms for constant in typed.constants(term)}, key=str)
     own = sorted({constant for constant in typed.constants(statement) if typed.type_variables(constant[2])}, key=_generality)
+    found: Dict[str, Dict[str, Type]] = {}
+    starts = [number for number, constant in enumerate(own) if constant[1] not in _LOGICAL] or [0]
+    for first in starts if own else []:
+        for types in _instances(own[first:] + own[:first], present):
+            found.setdefault(str(sorted(types.items())), types)
+    names = set(present)
+    for key in [key for key, types in found.items() if not _is_there(own, types, names)]:
+        if any(_is_there(own, types, names) for types in found.values()):
+            del found[key]
+    for types in list(found.values())[:MOST_INSTANCES] or [{}]:
+        kept = {name: ty for name, ty in types.items() if ty != name}
+        yield kept, typed.inst_type(statement, kept)
+
+
+def _is_there(own: Sequence[Term], types: Dict[str, Type], present: Set[Term]) -> bool:
+    """Whether a theorem's constants, but for the connectives, are all there at some types."""
+    return all(typed.inst_type(constant, types) in present for constant in own if constant[1] not in _LOGICAL)
+
+
+def _instances(own: Sequence[Term], present: Sequence[Term]) -> List[Dict[str, Type]]:
+    """The types at which a theorem's constants are those that are there, the first ones first."""
     found: List[Dict[str, Type]] = [{}]
     for constant in own:
         if constant[1] in _LOGICAL and all(typed.type_variables(constant[2]) <= set(types) for types in found):
             continue
-        more = [types for known in found for types in _matching(constant, present, known)]
-        found = list({str(sorted(types.items())): types for types in more or found}.values())[:MOST_INSTANCES]
-    for types in found or [{}]:
-        kept = {name: ty for name, ty in types.items() if ty != name}
-        yield kept, typed.inst_type(statement, kept)
+        found = [types for known in found for types in list(_matching(constant, present, known)) or [known]][:2 * MOST_INSTANCES]
+    return [types for types in found if types]
 
 
 def _generality(constant: Term) -> Tuple[bool, int]:
