@@ -14,7 +14,8 @@ from holls.prover.typed import Term, Type
 _DEEP = 50_000
 _PROPOSITIONAL_SECONDS = 0.5
 _GROUND_SECONDS = 3.0
-_ROUNDS = 4
+_FIRST_ROUNDS, _ROUNDS = 2, 4
+"""So many rounds of instances are made of a whole sequent, at first and later."""
 _MOST_SPLITS = 6
 _INNER_SECONDS = 0.2
 """So long a sequent is searched as a whole that can be taken by more cases."""
