@@ -22,6 +22,10 @@ _WITHOUT = 0.35
 """The part of the time in which no theorems are taken, where none is named."""
 
 
+_SHORTER_SECONDS = 0.5
+"""So long shorter steps are searched than those of a truth table."""
+
+
 class Unprovable(Exception):
     """What was to be taken for a proof can't be; the text says why."""
 
@@ -64,7 +68,7 @@ class Finder:
         if found is False:
             return None
         now = time.monotonic()
-        searched = self._search(items, [], now + _WITHOUT * (self.until - now))
+        searched = self._search(items, [], now + (_SHORTER_SECONDS if found else _WITHOUT * (self.until - now)))
         own = [one for one in (found, searched) if one]
         if own:
             return min(own, key=trying.length)
@@ -103,13 +107,13 @@ class Finder:
         if len(atoms) > tables.MOST_ATOMS:
             return None
         if not tables.is_valid(items, atoms):
-            return None if finding.has_quantifier(items) else False
+            return False if tables.are_independent(atoms) else None
         scribe = Scribe(self.quoter, self.middle)
         try:
             step = tables.steps(items, atoms, scribe.middle, scribe.assume)
         except Unwritable:
             return None
-        return self._run(scribe.with_middle(step), [])
+        return None if _has(step, scripts.UNWRITTEN) else self._run(scribe.with_middle(step), [])
 
     def _search(self, items: List[Item], names: Sequence[str], until: float) -> Optional[List[str]]:
         """Steps of a proof that takes some theorems."""
@@ -131,7 +135,8 @@ class Finder:
                     step = Step("SUBGOAL_THEN %s ASSUME_TAC" % self.quoter.quote(one.term), (Step(one.steps), step))
         except Unwritable:
             return None
-        return self._run(Step(first, (step,)) if first else step, names)
+        step = Step(first, (step,)) if first else step
+        return None if _has(step, scripts.UNWRITTEN) else self._run(step, names)
 
     def _given(self, items: Sequence[Item], name: str) -> Iterator[_Given]:
         """A theorem at the types at which the goal has its constants; a definition by an abstraction also at its arguments."""

@@ -105,7 +105,8 @@ class Ground:
                 return self._delta(branch, formula, found)
             elif not is_known:
                 branch.is_checked = False
-        for rule in (lambda: self._instance(branch, False), lambda: self._equal(branch), lambda: self._beta(branch), lambda: self._instance(branch, True)):
+        rules = (lambda: self._instance(branch, False), lambda: self._equal(branch), lambda: self._beta(branch), lambda: self._instance(branch, True))
+        for rule in rules:
             proof = rule()
             if proof is not NOT_HERE:
                 return proof

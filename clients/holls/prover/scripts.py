@@ -12,7 +12,7 @@ from holls.prover import sequents, substituting, typed
 from holls.prover.ground import CLOSE, Proof
 from holls.prover.sequents import ALPHA, BETA, DELTA, GAMMA, Signed
 from holls.prover.typed import FALSITY, TRUTH, Term
-from holls.prover.writing import Quoter
+from holls.prover.writing import Quoter, Unwritable
 
 LONG = 60
 """A theorem's expression of more characters that is needed more than once is assumed."""
@@ -20,6 +20,9 @@ LONG = 60
 MIDDLE: Term = ("a", ("c", "!", typed.fun(typed.fun(typed.BOOL, typed.BOOL), typed.BOOL)), (
     "l", typed.Hint("t"), typed.BOOL, typed.mk_or(("b", 0), typed.mk_not(("b", 0)))))
 """The excluded middle."""
+
+UNWRITTEN = "(ASSUME `?`)"
+"""An assumption with a type that was left open: no step can name it, but for FIRST_ASSUM."""
 
 MIDDLE_STEPS = (
     "GEN_TAC THEN MP_TAC (SPEC `F` (SPEC `\\x. (x <=> F) \\/ t` (INST_TYPE [`:bool`,`:A`] SELECT_AX)))",
@@ -86,7 +89,10 @@ class Scribe:
 
     def assume(self, term: Term) -> str:
         """The theorem of an assumption."""
-        return "(ASSUME %s)" % self.quoter.quote(term)
+        try:
+            return "(ASSUME %s)" % self.quoter.quote(term)
+        except Unwritable:
+            return UNWRITTEN
 
     def assuming(self, state: State, term: Term) -> State:
         """A goal that assumes a term."""
@@ -203,12 +209,17 @@ class Scribe:
         right = formulas[-1][1]
         left = formulas[0][1] if len(formulas) == 2 else None
         kept = [typed.mk_not(right)] if state.goal != right else []
-        found = substituting.plan(proof.equations, left, right)
         parts = ["MP_TAC " + self.theorem(state, term) for term in kept + ([left] if left is not None else [])]
-        for equation, is_turned in reversed(found.equations):
+        direct = substituting.direct(proof.equations, left, right)
+        found = direct or substituting.plan(proof.equations, left, right)
+        theorems = []
+        for equation, is_turned in found.equations:
             theorem = self.theorem(state, equation)
-            parts.append("MP_TAC " + ("(SYM %s)" % theorem if is_turned else theorem))
-        parts += ["DISCH_THEN SUBST1_TAC"] * len(found.equations)
+            theorems.append("(SYM %s)" % theorem if is_turned else theorem)
+        if direct:
+            parts += ["SUBST1_TAC " + theorem for theorem in theorems]
+        else:
+            parts += ["MP_TAC " + theorem for theorem in reversed(theorems)] + ["DISCH_THEN SUBST1_TAC"] * len(theorems)
         if left is None:
             parts.append("REWRITE_TAC []" if kept else "REFL_TAC")
         elif kept:
@@ -239,15 +250,16 @@ class Scribe:
         return self.step(sub, state.knowing(left, "(CONJUNCT1 %s)" % theorem).knowing(right, "(CONJUNCT2 %s)" % theorem))
 
     def discharged(self, sub: Proof, premise: Term, goal: Term, state: State) -> Step:
-        """Assumes a premise: its parts, where it is a conjunction and they are what is needed."""
-        pieces = _pieces(premise)
-        if len(pieces) > 1 and not _needs(sub, premise):
+        """Assumes a premise: its parts, where it is a conjunction or has a witness, and they are what is needed."""
+        stripped = _stripped(sub, premise)
+        if stripped is not None:
+            pieces, rest = stripped
             if goal in pieces:
                 return Step("STRIP_TAC")
             state = state.showing(goal)
             for piece in pieces:
                 state = self.assuming(state, piece)
-            return Step("STRIP_TAC", (self.step(_without(sub, premise), state),))
+            return Step("STRIP_TAC", (self.step(rest, state),))
         if _is_accepted(sub, premise, goal):
             return Step("DISCH_THEN ACCEPT_TAC")
         return Step("DISCH_TAC", (self.step(sub, self.assuming(state.showing(goal), premise)),))
@@ -312,9 +324,22 @@ class Scribe:
 
     def settled(self, sub: Proof, term: Term, theorem: str, state: State) -> Step:
         """Goes on with a theorem, which becomes an assumption where it is long and needed often."""
-        if len(theorem) > max(LONG, len(self.assume(term))) and _uses(sub, term) > 1:
+        is_long = len(theorem) > max(LONG, len(self.assume(term)))
+        stripped = _stripped(sub, term) if is_long else None
+        if stripped is not None:
+            return self.strip_assumed(theorem, stripped, state)
+        if is_long and _uses(sub, term) > 1:
             return Step("ASSUME_TAC " + theorem, (self.step(sub, self.assuming(state, term)),))
         return self.step(sub, state.knowing(term, theorem))
+
+    def strip_assumed(self, theorem: str, stripped: Tuple[List[Term], Proof], state: State) -> Step:
+        """Goes on with the parts of a theorem."""
+        pieces, rest = stripped
+        if state.goal in pieces:
+            return Step("STRIP_ASSUME_TAC " + theorem)
+        for piece in pieces:
+            state = self.assuming(state, piece)
+        return Step("STRIP_ASSUME_TAC " + theorem, (self.step(rest, state),))
 
     def gamma(self, proof: Proof, state: State) -> Step:
         """A quantifier that is taken at a term."""
@@ -332,6 +357,9 @@ class Scribe:
         body = proof.parts[0][0][1]
         variable = self.quoter.quote(proof.term)
         if is_left:
+            stripped = _stripped(proof, term)
+            if stripped is not None:
+                return self.strip_assumed(self.theorem(state, term), stripped, state)
             text = "X_CHOOSE_TAC %s %s" % (variable, self.theorem(state, term))
             return Step(text, (self.step(sub, self.assuming(state, body)),))
         return Step("X_GEN_TAC " + variable, (self.step(sub, state.showing(body)),))
@@ -342,36 +370,42 @@ def _bare(theorem: str) -> str:
     return theorem[1:-1] if theorem.startswith("(") else theorem
 
 
-def _pieces(term: Term) -> List[Term]:
-    """The parts of a conjunction, as stripping has them, where no other connective is stripped."""
-    found = typed.binary(term)
+def _stripped(proof: Proof, premise: Term) -> Optional[Tuple[List[Term], Proof]]:
+    """The parts of a premise as stripping has them, and the proof that has them; None where it needs another one, or isn't to be stripped."""
+    wholes: List[Term] = []
+    pieces = _pieces(proof, premise, wholes)
+    if pieces is None or not wholes:
+        return None
+    if any((True, whole) in one.used for one in _nodes(proof) if one.rule == CLOSE for whole in wholes):
+        return None
+    return pieces, _without(proof, frozenset(wholes))
+
+
+def _pieces(proof: Proof, term: Term, wholes: List[Term]) -> Optional[List[Term]]:
+    """The parts of a conjunction, and of what has a witness with the variable that the proof gives it; `wholes` takes what has these parts.
+
+    The variable has to be the bound one without primes: that is the one that stripping takes, since it is free nowhere else.
+    """
+    found, bound = typed.binary(term), typed.quantified(term)
     if found and found[0] == "/\\":
-        return _pieces(found[1]) + _pieces(found[2])
-    bound = typed.quantified(term)
-    is_split = found and found[0] == "\\/" or bound and bound[0] == "?" or term in (TRUTH, FALSITY)
-    return [term] * 3 if is_split else [term]
+        wholes.append(term)
+        left, right = _pieces(proof, found[1], wholes), _pieces(proof, found[2], wholes)
+        return None if left is None or right is None else left + right
+    if bound and bound[0] == "?":
+        variables = {one.term for one in _nodes(proof) if one.rule == DELTA and one.formula == (True, term)}
+        if len(variables) != 1 or next(iter(variables))[1] != str(bound[1]).rstrip("'"):
+            return None
+        wholes.append(term)
+        return _pieces(proof, typed.opened(bound[3], next(iter(variables))), wholes)
+    is_split = found and found[0] == "\\/" or term in (TRUTH, FALSITY)
+    return None if is_split else [term]
 
 
-def _needs(proof: Proof, term: Term) -> bool:
-    """Whether a proof needs a conjunction as a whole, or one that is a part of it, or one that can't be stripped."""
-    pieces = _pieces(term)
-    if len(set(pieces)) < len(pieces):
-        return True
-    wholes = {part for part in _conjunctions(term)}
-    return any((True, whole) in one.used for whole in wholes for one in _nodes(proof) if one.rule == CLOSE)
-
-
-def _conjunctions(term: Term) -> List[Term]:
-    found = typed.binary(term)
-    return [term] + _conjunctions(found[1]) + _conjunctions(found[2]) if found and found[0] == "/\\" else []
-
-
-def _without(proof: Proof, premise: Term) -> Proof:
-    """A proof in which a premise's conjunctions are taken apart already."""
-    wholes = set(_conjunctions(premise))
-    if proof.rule == ALPHA and proof.formula[0] and proof.formula[1] in wholes:
-        return _without(proof.subs[0], premise)
-    return proof._replace(subs=tuple(_without(sub, premise) for sub in proof.subs))
+def _without(proof: Proof, wholes: FrozenSet[Term]) -> Proof:
+    """A proof in which some formulas of the left are taken apart already."""
+    if proof.rule in (ALPHA, DELTA) and proof.formula[0] and proof.formula[1] in wholes:
+        return _without(proof.subs[0], wholes)
+    return proof._replace(subs=tuple(_without(sub, wholes) for sub in proof.subs))
 
 
 def _nodes(proof: Proof) -> List[Proof]:

@@ -2,6 +2,7 @@
 
 from __future__ import annotations
 
+import itertools
 from typing import List, NamedTuple, Optional, Sequence, Tuple
 
 from holls.prover import typed
@@ -13,6 +14,27 @@ class Plan(NamedTuple):
 
     equations: List[Tuple[Term, bool]]
     left: Optional[Term]
+
+
+MOST_DIRECT = 4
+"""So many equations are tried in each order."""
+
+
+def direct(equations: Sequence[Term], left: Optional[Term], right: Term) -> Optional[Plan]:
+    """Each equation in turn is put into the formulas alone, where some order of them makes the formulas one; else None."""
+    if len(equations) > MOST_DIRECT:
+        return None
+    for order in itertools.permutations(equations):
+        for turns in itertools.product((False, True), repeat=len(order)):
+            one, other = left, right
+            for equation, is_turned in zip(order, turns):
+                _, old, new = typed.binary(equation)
+                old, new = (new, old) if is_turned else (old, new)
+                one, other = None if one is None else typed.replaced(one, old, new), typed.replaced(other, old, new)
+            sides = typed.binary(other) if one is None else (None, one, other)
+            if sides[1] == sides[2]:
+                return Plan(list(zip(order, turns)), one)
+    return None
 
 
 def plan(equations: Sequence[Term], left: Optional[Term], right: Term) -> Plan:

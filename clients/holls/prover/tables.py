@@ -31,6 +31,15 @@ def atoms(items: Sequence[Item]) -> List[Term]:
     return list(found)
 
 
+def are_independent(own: Sequence[Term]) -> bool:
+    """Whether atoms may hold or not, each by itself: they have variables alone, and no part that may be T or F."""
+    for atom in own:
+        for part in typed.subterms(atom):
+            if part[0] not in "va" or part is not atom and typed.type_of(part) == typed.BOOL:
+                return False
+    return True
+
+
 def is_valid(items: Sequence[Item], own: Sequence[Term]) -> bool:
     """Whether a sequent holds whatever its atoms are: each formula has a number with a bit for each row of the table."""
     rows = 1 << len(own)
