@@ -12,7 +12,7 @@ from holls.protocol import Goals
 from holls.prover import command, finding, ground, reading, scope, scripts, sequents, tables, typed, writing
 from holls.prover.asking import Asker
 from holls.prover.finder import Finder
-from tests.helpers import BUILT, CLIENTS, HOLLS, PYTHON, ROOT, SECONDS
+from tests.helpers import BUILT, CLIENTS, HOLLS, PYTHON, ROOT, SECONDS, fake
 
 GOALS = CLIENTS / "tests" / "goals"
 THEORIES = ("connectives", "maps", "pairs", "groups")
@@ -118,6 +118,38 @@ class Propositional(unittest.TestCase):
         formulas = [sequents.Formula(True, term, (at,)) for at, term in enumerate(left)] + [sequents.Formula(False, right, (3,))]
         proof = ground.Ground({}, {}, frozenset(), time.monotonic() + SECONDS).prove(formulas, frozenset("abcf"))
         self.assertEqual(set(proof.equations), set(left[:2]))
+
+
+class CommandLine(unittest.TestCase):
+    """`holls prove` over a small server made for tests."""
+
+    def prove(self, text, place, *words):
+        with tempfile.TemporaryDirectory() as folder:
+            path = pathlib.Path(folder) / "A.hol"
+            path.write_text(text)
+            given = [*PYTHON, str(HOLLS), "prove", "%s:%s" % (path, place), *words, "--server", fake(folder)]
+            done = subprocess.run(given, capture_output=True, timeout=SECONDS, text=True)
+        return done.returncode, done.stdout + done.stderr
+
+    def test_steps_are_written(self):
+        text = "g A `x = x /\\ y = y`;;\n  e CONJ_TAC;;\n\n\ng B `p`;;\n"
+        self.assertEqual(self.prove(text, 3), (0, "e REFL_TAC;;\n"))
+        self.assertEqual(self.prove(text, 2, "--json"), (0, '{"steps": ["e REFL_TAC"]}\n'))
+        self.assertEqual(self.prove(text, 5, "--seconds", "1"), (1, "none found within 1 seconds\n"))
+        self.assertEqual(self.prove(text, 5, "--seconds", "1", "--json"), (1, '{"steps": null}\n'))
+        self.assertEqual(self.prove(text, 2, "with", "TRUTH"), (0, "e REFL_TAC;;\n"))
+
+    def test_why_nothing_is_searched(self):
+        for text, place, words in (
+                ("g A `x = x`;; oops;;", 1, "no goal is open there"), ("\n\ng A `p`;;", 2, "no command stands there"),
+                ("g A `x = x`;;", "x", "write FILE:LINE"), ("new_constant c `:A`;;", 1, "no goal is open there")):
+            status, said = self.prove(text, place)
+            self.assertEqual((status, words in said), (2, True), said)
+        self.assertEqual(self.prove("g A `p`;;", 1, "with", "NOPE"), (2, "holls: no theorem NOPE stands here, or its statement can't be read\n"))
+        self.assertEqual(self.prove("g A `p`;;", 1, "NOPE")[0], 2)
+
+    def test_a_goal_behind_a_refused_step(self):
+        self.assertEqual(self.prove("g A `x = x`;;\ne FOO_TAC;;\nqed;;\n", 3), (0, "e REFL_TAC;;\n"))
 
 
 def proved(asker, known, text, seconds):

@@ -14,7 +14,7 @@ from holls.prover.typed import Term, Type
 _DEEP = 50_000
 _PROPOSITIONAL_SECONDS = 0.5
 _GROUND_SECONDS = 3.0
-_FIRST_ROUNDS, _ROUNDS = 2, 4
+_FIRST_ROUNDS, _ROUNDS = 3, 5
 """So many rounds of instances are made of a whole sequent, at first and later."""
 _MOST_SPLITS = 6
 _INNER_SECONDS = 0.2

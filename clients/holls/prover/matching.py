@@ -32,6 +32,7 @@ class _Ready(NamedTuple):
     clause: Clause
     literals: Tuple[Tuple[bool, Term], ...]
     patterns: Tuple[Tuple[Term, ...], ...]
+    sides: Tuple[Tuple[Term, ...], ...]
     witnesses: Tuple[Tuple[Term, Tuple[Term, ...]], ...]
 
 
@@ -41,6 +42,7 @@ class Matching:
     def __init__(self, builder: Builder, until: float) -> None:
         self.until = until
         self.found: List[Found] = []
+        self._rounds = 0
         self._seen: Set[Tuple[int, Binding]] = set()
         self._known = Congruence()
         self._ready = [_ready(clause) for clause in builder.clauses]
@@ -64,7 +66,7 @@ class Matching:
             if not one.clause.count:
                 continue
             own: Dict[Binding, int] = {}
-            for patterns in one.patterns:
+            for patterns in one.patterns if not self._rounds or not one.sides else one.sides:
                 for binding in self._matches(patterns, (None,) * one.clause.count):
                     if (number, binding) not in self._seen:
                         own[binding] = sum(typed.size(term) for term in binding if term is not None)
@@ -72,6 +74,7 @@ class Matching:
                         break
             new += [(cost, number, binding) for binding, cost in own.items() if cost <= LARGEST]
         new.sort(key=lambda one: one[:2])
+        self._rounds += 1
         made = self._make_witnesses()
         for _, number, binding in new[:MOST_NEW]:
             self._seen.add((number, binding))
@@ -132,7 +135,9 @@ def _ready(clause: Clause) -> _Ready:
     witnesses = {part for _, atom in literals for part in typed.subterms(atom) if part[0] == "a" and _head(part)[0] == "w"}
     whole = [part for part in witnesses if _variables(part) and len(_arguments(part)) == _head(part)[3]]
     made = tuple((part, _patterns(literals, _variables(part))[0]) for part in sorted(whole, key=str))
-    return _Ready(clause, literals, tuple(_patterns(literals, None)), made)
+    patterns = tuple(_patterns(literals, None))
+    sides = typed.binary(literals[0][1]) if len(literals) == 1 else None
+    return _Ready(clause, literals, patterns, tuple(one for one in patterns if sides and one[:1] and one[0] in sides[1:]), made)
 
 
 def _term(atom: Coded, types: Sequence[Type]) -> Term:
