@@ -210,16 +210,17 @@ class Scribe:
         left = formulas[0][1] if len(formulas) == 2 else None
         kept = [typed.mk_not(right)] if state.goal != right else []
         parts = ["MP_TAC " + self.theorem(state, term) for term in kept + ([left] if left is not None else [])]
-        direct = substituting.direct(proof.equations, left, right)
-        found = direct or substituting.plan(proof.equations, left, right)
+        found = substituting.plan(proof.equations, left, right)
+        if found is None:
+            raise Unwritable("equations in no order")
         theorems = []
         for equation, is_turned in found.equations:
             theorem = self.theorem(state, equation)
             theorems.append("(SYM %s)" % theorem if is_turned else theorem)
-        if direct:
-            parts += ["SUBST1_TAC " + theorem for theorem in theorems]
-        else:
+        if found.is_joined:
             parts += ["MP_TAC " + theorem for theorem in reversed(theorems)] + ["DISCH_THEN SUBST1_TAC"] * len(theorems)
+        else:
+            parts += ["SUBST1_TAC " + theorem for theorem in theorems]
         if left is None:
             parts.append("REWRITE_TAC []" if kept else "REFL_TAC")
         elif kept:
