@@ -9,11 +9,14 @@ from holls.prover.typed import Term
 
 
 class Congruence:
-    """The classes of terms under equations. A class has the terms that are in it, and the applications that a term of it is part of."""
+    """The classes of terms under equations. A class has the terms that are in it, the smallest of them, and the applications that a term of it
+    is part of."""
 
     def __init__(self, equations: Sequence[Term] = ()) -> None:
         self._roots: Dict[Term, Term] = {}
         self.members: Dict[Term, List[Term]] = {}
+        self.smallest: Dict[Term, Term] = {}
+        self.sizes: Dict[Term, int] = {}
         self._above: Dict[Term, List[Term]] = {}
         self._signatures: Dict[Tuple[Term, Term], Term] = {}
         for equation in equations:
@@ -43,7 +46,8 @@ class Congruence:
         if found is not None:
             return found
         self._roots[term], self.members[term], self._above[term] = term, [term], []
-        if term[0] == "a" and not typed.has_loose(term):
+        self.smallest[term], self.sizes[term] = term, typed.size(term)
+        if term[0] == "a":
             function, argument = self.add(term[1]), self.add(term[2])
             self._above[function].append(term)
             self._above[argument].append(term)
@@ -66,6 +70,7 @@ class Congruence:
             for term in self.members[one]:
                 self._roots[term] = other
             self.members[other] += self.members.pop(one)
+            self.smallest[other] = min(self.smallest[other], self.smallest.pop(one), key=self.sizes.__getitem__)
             moved = self._above.pop(one)
             self._above[other] += moved
             for term in moved:

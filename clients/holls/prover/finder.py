@@ -78,7 +78,8 @@ class Finder:
             return self._search(items, [], self.until)
         equations = [name for name in nearest if _rewrites(self.scope.theorems[name])]
         nearest = [name for name in nearest if not typed.variables(self.scope.theorems[name])]
-        return (self._quick(trying.closers(defining)) or self._quick(trying.closers(equations))
+        few = [self._search(items, defining, self._part(0.25))] if defining and len(defining) < len(nearest) else [None]
+        return (few[0] or self._quick(trying.closers(defining)) or self._quick(trying.closers(equations))
                 or self._search(items, nearest[:_FEW], self._part(0.5)) or self._search(items, nearest, self.until))
 
     def _part(self, share: float) -> float:

@@ -5,6 +5,7 @@ It finds what follows by a few instances from many equations, where connections 
 
 from __future__ import annotations
 
+import itertools
 import time
 from typing import Dict, Iterator, List, NamedTuple, Optional, Sequence, Set, Tuple
 
@@ -17,6 +18,7 @@ from holls.prover.typed import BOOL, Term, Type
 MOST_NEW = 100
 """So many instances are added in a round, the smallest first."""
 MOST_OF_CLAUSE = 60
+MOST_MATCHES = 1500
 MOST_WITNESSES = 20
 LARGEST = 40
 """An instance in whose terms more names stand isn't taken."""
@@ -66,10 +68,11 @@ class Matching:
             if not one.clause.count:
                 continue
             own: Dict[Binding, int] = {}
-            for patterns in one.patterns if not self._rounds or not one.sides else one.sides:
-                for binding in self._matches(patterns, (None,) * one.clause.count):
+            for patterns in self._patterns(one):
+                matches = self._matches(patterns, (None,) * one.clause.count)
+                for binding in itertools.islice(matches, MOST_MATCHES):
                     if (number, binding) not in self._seen:
-                        own[binding] = sum(typed.size(term) for term in binding if term is not None)
+                        own[binding] = sum(self._known.sizes[term] for term in binding if term is not None)
                     if len(own) > MOST_OF_CLAUSE or time.monotonic() > self.until:
                         break
             new += [(cost, number, binding) for binding, cost in own.items() if cost <= LARGEST]
@@ -80,6 +83,12 @@ class Matching:
             self._seen.add((number, binding))
             self._add(self._ready[number], binding)
         return bool(new) or made
+
+    def _patterns(self, one: _Ready) -> Sequence[Tuple[Term, ...]]:
+        """The patterns of a clause in this round: at first all, later of an equation its sides, and no variable alone that others have."""
+        if not self._rounds:
+            return one.patterns
+        return one.sides or [own for own in one.patterns if not own or own[0][0] != "m" or len(one.patterns) == 1]
 
     def _make_witnesses(self) -> bool:
         """Takes the witnesses of what stands already as terms; whether there are more."""
@@ -116,15 +125,14 @@ class Matching:
                 if self._known.add(known) == root:
                     yield binding
             elif typed.type_of(root) == pattern[2]:
-                smallest = min(self._known.members[root], key=typed.size)
-                yield binding[:pattern[1]] + (smallest,) + binding[pattern[1] + 1:]
+                yield binding[:pattern[1]] + (self._known.smallest[root],) + binding[pattern[1] + 1:]
             return
         if pattern[0] != "a":
             if pattern in self._known.members[root]:
                 yield binding
             return
         for member in list(self._known.members.get(root, ())):
-            if member[0] == "a" and not typed.has_loose(member):
+            if member[0] == "a":
                 for first in self._match(pattern[1], self._known.find(member[1]), binding):
                     yield from self._match(pattern[2], self._known.find(member[2]), first)
 
@@ -199,8 +207,10 @@ def _patterns(literals: Sequence[Tuple[bool, Term]], wanted: Optional[Set[int]])
     every = wanted or (set().union(*(_variables(atom) for _, atom in literals)) if literals else set())
     parts = {part: own for part, own in parts.items() if own <= every}
     alone = sorted((part for part, own in parts.items() if own == every and _head(part)[0] != "m"), key=typed.size)
+    bare = {part[1]: part for _, atom in literals for part in typed.subterms(atom) if part[0] == "m"}
     if alone or not every:
-        return [(part,) for part in alone[:_MOST_PATTERNS]] or [()]
+        any_term = [(bare[number],) for number in every] if len(every) == 1 and wanted is None else []
+        return [(part,) for part in alone[:_MOST_PATTERNS]] + any_term or [()]
     chosen: List[Term] = []
     missing = set(every)
     while missing:
@@ -210,9 +220,8 @@ def _patterns(literals: Sequence[Tuple[bool, Term]], wanted: Optional[Set[int]])
         best = max(fitting, key=lambda part: (len(parts[part] & missing), -typed.size(part)))
         chosen.append(best)
         missing -= parts[best]
-    alone = {part[1]: part for _, atom in literals for part in typed.subterms(atom) if part[0] == "m"}
     first = [part for part in chosen if _head(part)[0] != "m"]
-    found = [tuple(own + [alone[number] for number in sorted(every.difference(*(parts[part] for part in own)))]) for own in (chosen, first)]
+    found = [tuple(own + [bare[number] for number in sorted(every.difference(*(parts[part] for part in own)))]) for own in (chosen, first)]
     return list(dict.fromkeys(found))
 
 

@@ -379,7 +379,9 @@ def _stripped(proof: Proof, premise: Term) -> Optional[Tuple[List[Term], Proof]]
         return None
     if any((True, whole) in one.used for one in _nodes(proof) if one.rule == CLOSE for whole in wholes):
         return None
-    return pieces, _without(proof, frozenset(wholes))
+    rest = _without(proof, frozenset(wholes))
+    gone = {one.term for one in _nodes(proof) if one.rule == DELTA and one.formula[0] and one.formula[1] in wholes}
+    return None if any(one.rule == DELTA and one.term in gone for one in _nodes(rest)) else (pieces, rest)
 
 
 def _pieces(proof: Proof, term: Term, wholes: List[Term]) -> Optional[List[Term]]:
