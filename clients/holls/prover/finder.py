@@ -20,10 +20,10 @@ NEAREST = 10
 _FEW = 5
 _WITHOUT = 0.35
 """The part of the time in which no theorems are taken, where none is named."""
-
-
 _SHORTER_SECONDS = 0.5
 """So long shorter steps are searched than those of a truth table."""
+_TRYING_SECONDS = 1.5
+"""So long, at least, steps that were found are made fewer."""
 
 
 class Unprovable(Exception):
@@ -152,7 +152,8 @@ class Finder:
     def _run(self, step: Step, names: Sequence[str]) -> Optional[List[str]]:
         """Runs steps, and makes them fewer; those that are left are run once more."""
         count, mark = len(self.goals.goals), self.asker.count
-        trial = trying.Trial(self.asker, trying.closers(()) + (trying.closers(names) if names else []), self.until)
+        until = max(self.until, time.monotonic() + _TRYING_SECONDS)
+        trial = trying.Trial(self.asker, trying.closers(()) + (trying.closers(names) if names else []), until)
         done = trial.run(step, count)
         self.asker.back(mark)
         if done is None:
