@@ -13,10 +13,6 @@ from holls.server import Line, Server
 THEORY = "holls_prover"
 """The name of the copy in which steps are tried."""
 
-TURNS = ["--turns", "3000"]
-"""A step that takes more turns isn't tried to its end; one that takes fewer is accepted where more are allowed."""
-
-
 class Silent(Exception):
     """The program has ended, or gave no answer in time; the text says which."""
 
@@ -27,7 +23,7 @@ class Asker:
     def __init__(self, program: Sequence[str], seconds: float) -> None:
         self.seconds = seconds
         self._events: "queue.Queue[object]" = queue.Queue()
-        self._server = Server(list(program) + TURNS, self._events)
+        self._server = Server(list(program), self._events)
         self._theories = 0
         self.count = 0
 

@@ -3,8 +3,9 @@
 from __future__ import annotations
 
 import time
-from typing import Dict, Iterator, List, NamedTuple, Optional, Sequence, Tuple
+from typing import Callable, Dict, Iterator, List, NamedTuple, Optional, Sequence, Tuple
 
+from holls.manual import PRELUDE
 from holls.protocol import Goal, Goals
 from holls.prover import finding, reading, scope, scripts, tables, trying, typed
 from holls.prover.asking import Asker
@@ -47,6 +48,7 @@ class Finder:
         self.quoter = Quoter(standing.signature)
         self.middle = standing.named(scripts.MIDDLE)
         self.refused = 0
+        self.is_growing = False
 
     def find(self, named: Optional[Sequence[str]]) -> Optional[List[str]]:
         """The texts of `e` commands that close the goal; None where none were found in time."""
@@ -56,11 +58,12 @@ class Finder:
         try:
             items = self._items(self.goal)
         except (Unreadable, RecursionError):
-            return self._quick(trying.closers(named or ()))
-        return self._quick(trying.closers(())) or (self._by_named(items, list(named)) if named else self._by_any(items))
+            return self._quick(named or ())
+        self.is_growing = any(trying.grows(item.term) for item in items)
+        return self._quick(()) or (self._by_named(items, list(named)) if named else self._by_any(items))
 
     def _by_named(self, items: List[Item], names: List[str]) -> Optional[List[str]]:
-        return self._quick(trying.closers(names)) or self._search(items, names, self.until)
+        return self._quick(names) or self._search(items, names, self.until)
 
     def _by_any(self, items: List[Item]) -> Optional[List[str]]:
         """Steps of a proof by the goal alone, or by theorems like it."""
@@ -79,7 +82,7 @@ class Finder:
         equations = [name for name in nearest if _rewrites(self.scope.theorems[name])]
         nearest = [name for name in nearest if not typed.variables(self.scope.theorems[name])]
         few = [self._search(items, defining, self._part(0.25))] if defining and len(defining) < len(nearest) else [None]
-        return (few[0] or self._quick(trying.closers(defining)) or self._quick(trying.closers(equations))
+        return (few[0] or self._quick(defining) or self._quick(equations)
                 or self._search(items, nearest[:_FEW], self._part(0.5)) or self._search(items, nearest, self.until))
 
     def _part(self, share: float) -> float:
@@ -97,8 +100,10 @@ class Finder:
         read = [reading.term(text, signature, free, typed.BOOL) for text in goal.assumptions + (goal.conclusion,)]
         return [Item(True, term, False) for term in read[:-1]] + [Item(False, read[-1], True)]
 
-    def _quick(self, closers: Sequence[str]) -> Optional[List[str]]:
-        """A short step that needs no search."""
+    def _quick(self, theorems: Sequence[str]) -> Optional[List[str]]:
+        """A short step that needs no search, by rewriting with theorems that don't go on for ever."""
+        fine = [name for name in theorems if not trying.grows(self.scope.theorems[name])]
+        closers = trying.closers(fine, self.is_growing)
         found = trying.Trial(self.asker, closers, self._part(0.5)).close(len(self.goals.goals))
         return ["e " + found] if found else None
 
@@ -114,11 +119,11 @@ class Finder:
             step = tables.steps(items, atoms, scribe.middle, scribe.assume)
         except Unwritable:
             return None
-        return None if _has(step, scripts.UNWRITTEN) else self._run(scribe.with_middle(step), [])
+        return None if _has(step, scripts.UNWRITTEN) else self._run(scribe.with_middle(step), [], False)
 
     def _search(self, items: List[Item], names: Sequence[str], until: float) -> Optional[List[str]]:
         """Steps of a proof that takes some theorems."""
-        items, first = _prepared(items)
+        items, first = _prepared(items, Scribe(self.quoter, None).assume)
         given = [one for name in names for one in self._given(items, name)]
         every = [Item(True, one.term, False) for one in given] + items
         proof = finding.Search(frozenset(self.scope.signature.constants), until).prove(every)
@@ -149,11 +154,13 @@ class Finder:
             else:
                 yield _Given(statement, "(INST_TYPE [%s] %s)" % (pairs, name) if pairs else name)
 
-    def _run(self, step: Step, names: Sequence[str]) -> Optional[List[str]]:
+    def _run(self, step: Step, names: Sequence[str], is_shortened: bool = True) -> Optional[List[str]]:
         """Runs steps, and makes them fewer; those that are left are run once more."""
         count, mark = len(self.goals.goals), self.asker.count
         until = max(self.until, time.monotonic() + _TRYING_SECONDS)
-        trial = trying.Trial(self.asker, trying.closers(()) + (trying.closers(names) if names else []), until)
+        fine = [name for name in names if not trying.grows(self.scope.theorems[name])]
+        closers = trying.closers((), self.is_growing) + (trying.closers(fine, self.is_growing) if fine else [])
+        trial = trying.Trial(self.asker, closers if is_shortened else [], until)
         done = trial.run(step, count)
         self.asker.back(mark)
         if done is None:
@@ -178,16 +185,26 @@ def _has(step: Step, text: str) -> bool:
     return text in step.text or any(_has(sub, text) for sub in step.subs)
 
 
-def _prepared(items: List[Item]) -> Tuple[List[Item], str]:
-    """A sequent whose goal is reduced and has no `?!`, and the step that makes it so."""
+def _prepared(items: List[Item], assume: Callable[[Term], str]) -> Tuple[List[Item], str]:
+    """A sequent that is reduced and has no `?!`, and the step that makes it so: what is assumed and isn't so goes into the goal first."""
+    moved = [item for item in items[:-1] if _unfolded(item.term) != item.term]
     goal = items[-1].term
-    uniques = {constant for constant in typed.constants(goal) if constant[1] == "?!"}
-    definition = typed.binary(reading.term(scope.manual.PRELUDE["EXISTS_UNIQUE_DEF"], reading.Signature()))[2]
-    for constant in uniques:
-        goal = typed.replaced(goal, constant, typed.inst_type(definition, {"A": constant[2][1][1]}))
-    goal = typed.reduced(goal)
-    text = "PURE_REWRITE_TAC [EXISTS_UNIQUE_DEF] THEN BETA_TAC" if uniques else "BETA_TAC" if goal != items[-1].term else ""
-    return items[:-1] + [Item(False, goal, True)], text
+    for item in moved:
+        goal = typed.mk_imp(item.term, goal)
+    made = _unfolded(goal)
+    parts = ["MP_TAC " + assume(item.term) for item in moved]
+    if made != goal:
+        has_unique = any(constant[1] == "?!" for constant in typed.constants(goal))
+        parts.append("PURE_REWRITE_TAC [EXISTS_UNIQUE_DEF] THEN BETA_TAC" if has_unique else "BETA_TAC")
+    return [item for item in items[:-1] if item not in moved] + [Item(False, made, True)], " THEN ".join(parts)
+
+
+def _unfolded(term: Term) -> Term:
+    """A term reduced, with its definition for `?!`."""
+    definition = typed.binary(reading.term(PRELUDE["EXISTS_UNIQUE_DEF"], reading.Signature()))[2]
+    for constant in [constant for constant in typed.constants(term) if constant[1] == "?!"]:
+        term = typed.replaced(term, constant, typed.inst_type(definition, {"A": constant[2][1][1]}))
+    return typed.reduced(term)
 
 
 def _applied(statement: Term) -> Optional[Term]:

@@ -36,10 +36,11 @@ MIDDLE_STEPS = (
 
 
 class Step(NamedTuple):
-    """A call, or several joined by THEN, and the steps of the goals that it leaves."""
+    """A call, or several joined by THEN, and the steps of the goals that it leaves; with `is_each` the first of these for each of them."""
 
     text: str
     subs: Tuple["Step", ...] = ()
+    is_each: bool = False
 
 
 class Half(NamedTuple):

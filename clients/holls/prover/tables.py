@@ -85,4 +85,4 @@ def steps(items: Sequence[Item], own: Sequence[Term], middle: Callable[[Term], s
         return Step(" THEN ".join(parts + cases + ["ASM_REWRITE_TAC []"]))
     first = cases[:-_AT_ONCE]
     rest = Step(" THEN ".join(cases[-_AT_ONCE:] + ["ASM_REWRITE_TAC []"]))
-    return Step(" THEN ".join(parts + first + ["ASM_REWRITE_TAC []"]), (rest,) * (1 << len(first)))
+    return Step(" THEN ".join(parts + first + ["ASM_REWRITE_TAC []"]), (rest,), True)

@@ -7,8 +7,10 @@ import time
 from typing import List, Optional, Sequence, Tuple
 
 from holls.protocol import Goals
+from holls.prover import typed
 from holls.prover.asking import Asker
 from holls.prover.scripts import Step, commands
+from holls.prover.typed import Term
 
 _INTRODUCTION = re.compile(r"(X_GEN_TAC `[^`]*`|STRIP_TAC|DISCH_TAC|GEN_TAC)\Z")
 _SHORTER = (
@@ -17,14 +19,39 @@ _SHORTER = (
 _STRIPS = "REPEAT STRIP_TAC THEN "
 
 
-def closers(theorems: Sequence[str]) -> List[str]:
-    """Short steps that may close a goal, by rewriting with theorems."""
+def closers(theorems: Sequence[str], is_growing: bool) -> List[str]:
+    """Short steps that may close a goal, by rewriting with theorems; by assumptions only where these don't go on for ever."""
+    if is_growing:
+        return [_STRIPS + "FIRST_ASSUM ACCEPT_TAC"]
     if not theorems:
         return ["ASM_REWRITE_TAC []", _STRIPS + "ASM_REWRITE_TAC []", _STRIPS + "FIRST_ASSUM ACCEPT_TAC"]
     named = "[%s]" % "; ".join(theorems)
     alone = ["MATCH_MP_TAC %s THEN ASM_REWRITE_TAC []" % theorems[0]] if len(theorems) == 1 else []
     reduced = "REWRITE_TAC %s THEN BETA_TAC THEN REWRITE_TAC [ETA_AX]" % named
     return ["REWRITE_TAC " + named, _STRIPS + "ASM_REWRITE_TAC " + named, reduced, _STRIPS + reduced] + alone
+
+
+def grows(term: Term) -> bool:
+    """Whether a part of a formula may be a rule that goes on for ever, and makes larger terms each time: it has its left side's symbol right."""
+    for part in typed.subterms(term):
+        sides = typed.binary(part)
+        if sides and sides[0] in ("=", "<=>") and typed.size(sides[2]) > typed.size(sides[1]):
+            begun = _beginning(sides[1])
+            if any(_beginning(inner) == begun for inner in typed.subterms(sides[2])):
+                return True
+    return False
+
+
+def _beginning(term: Term) -> Tuple[Term, int]:
+    """What a term begins with, and the number of its arguments."""
+    number = 0
+    while term[0] == "a":
+        term, number = term[1], number + 1
+    return term, number
+
+
+MOST_MERGED = 4
+"""So many goals' steps are written once behind a THEN: of more they might take more turns than a command has."""
 
 
 class Trial:
@@ -64,6 +91,8 @@ class Trial:
                 self.asker.back(mark)
         step = self._introduced(step)
         found = self._goals(step.text)
+        if found is not None and step.is_each:
+            step = Step(step.text, step.subs * (len(found.goals) - open_goals + 1))
         if found is None or len(found.goals) != open_goals - 1 + len(step.subs):
             return None
         subs: List[Step] = []
@@ -120,7 +149,7 @@ def _cost(step: Step) -> int:
 
 def merged(step: Step) -> Step:
     """Where all goals that a step leaves have the same steps, these once behind it."""
-    if len(step.subs) > 1 and all(sub == step.subs[0] for sub in step.subs):
+    if 1 < len(step.subs) <= MOST_MERGED and all(sub == step.subs[0] for sub in step.subs):
         text = _line(step.subs[0])
         if text is not None:
             return Step("%s THEN %s" % (step.text, text))
