@@ -158,7 +158,7 @@ def proved(asker, known, text, seconds):
     goals = asker.report(0)
     assert isinstance(goals, Goals), (text, goals)
     begun = time.monotonic()
-    found = Finder(asker, known, goals, begun + seconds).find(None)
+    found = Finder(asker, known, goals, text, begun + seconds).find(None)
     took = time.monotonic() - begun
     asker.forget()
     return found, took
@@ -233,7 +233,7 @@ class Theories(unittest.TestCase):
                     before.add_file(theory(other))
                 before.add_file(file, first)
                 goals = asker.report(asker.count - 1)
-                steps = Finder(asker, before, goals, time.monotonic() + command.SECONDS).find(None)
+                steps = Finder(asker, before, goals, names.quoted(file.commands[first]), time.monotonic() + command.SECONDS).find(None)
                 asker.extend([one.text for one in file.commands[first + 1:last + 1]])
                 own = [one.text for one in file.commands[first:last + 1]] if steps is None else [file.commands[first].text, *steps, "qed"]
                 found += [file.commands[first].name] if steps is not None else []

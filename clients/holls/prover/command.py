@@ -10,6 +10,7 @@ import time
 from typing import List, NamedTuple, Optional, Sequence, Tuple
 
 from holls import check, checking, server
+from holls import names as names_of
 from holls.checking import Unit
 from holls.files import File
 from holls.protocol import Goals, Refusal
@@ -93,7 +94,8 @@ def search(program: Sequence[str], imports: Sequence[File], file: File, number: 
         asker.copy([entry.sent for entry in file.theory.entries[:last + 1]])
         goals, accepted = _open_goals(asker, file, number)
         standing = _scope(asker, imports, file, number)
-        found = Finder(asker, standing, goals, time.monotonic() + seconds).find(names)
+        written = names_of.quoted(file.commands[file.proof_begin(accepted)])
+        found = Finder(asker, standing, goals, written, time.monotonic() + seconds).find(names)
         return Answer(found, accepted)
     finally:
         asker.stop()

@@ -7,7 +7,7 @@ from typing import Callable, Dict, Iterator, List, NamedTuple, Optional, Sequenc
 
 from holls.manual import PRELUDE
 from holls.protocol import Goal, Goals
-from holls.prover import finding, reading, scope, scripts, tables, trying, typed
+from holls.prover import finding, reading, retyping, scope, scripts, tables, trying, typed
 from holls.prover.asking import Asker
 from holls.prover.finding import Item
 from holls.prover.reading import Unreadable
@@ -40,15 +40,20 @@ class _Given(NamedTuple):
 
 
 class Finder:
-    """Finds steps for the first goal of a proof in a server, by what stands there."""
+    """Finds steps for the first goal of a proof in a server, by what stands there. `written` is the text of the statement that is proved."""
 
-    def __init__(self, asker: Asker, standing: Scope, goals: Goals, until: float) -> None:
+    def __init__(self, asker: Asker, standing: Scope, goals: Goals, written: str, until: float) -> None:
         self.asker, self.scope, self.until = asker, standing, until
         self.goals, self.goal = goals, goals.goals[0]
         self.quoter = Quoter(standing.signature)
         self.middle = standing.named(scripts.MIDDLE)
         self.refused = 0
         self.is_growing = False
+        self.statement: Optional[Term] = None
+        try:
+            self.statement = reading.term(written, standing.signature, ty=typed.BOOL)
+        except (Unreadable, RecursionError):
+            pass
 
     def find(self, named: Optional[Sequence[str]]) -> Optional[List[str]]:
         """The texts of `e` commands that close the goal; None where none were found in time."""
@@ -97,7 +102,9 @@ class Finder:
         for text in goal.free:
             name, _, ty = text.partition(":")
             free[name] = reading.type_text(ty, signature)
-        read = [reading.term(text, signature, free, typed.BOOL) for text in goal.assumptions + (goal.conclusion,)]
+        texts = goal.assumptions + (goal.conclusion,)
+        read = [reading.term(text, signature, free, typed.BOOL, retyping.OPEN) for text in texts]
+        read = [term if self.statement is None else retyping.resolved(term, self.statement) for term in read]
         return [Item(True, term, False) for term in read[:-1]] + [Item(False, read[-1], True)]
 
     def _quick(self, theorems: Sequence[str]) -> Optional[List[str]]:

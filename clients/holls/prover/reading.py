@@ -74,12 +74,12 @@ class _Types:
             return (ty[0],) + tuple(self.fresh(part, known) for part in ty[1:])
         return known[ty] if ty in known else known.setdefault(ty, self.new())
 
-    def final(self, ty: Type, names: Dict[int, str]) -> Type:
-        """A type with `?0`, `?1`, .. for what was left open."""
+    def final(self, ty: Type, names: Dict[int, str], begun: str) -> Type:
+        """A type with names for what was left open, which have a beginning of their own."""
         ty = self.find(ty)
         if isinstance(ty, int):
-            return names.setdefault(ty, "?%d" % len(names))
-        return (ty[0],) + tuple(self.final(part, names) for part in ty[1:]) if isinstance(ty, tuple) else ty
+            return names.setdefault(ty, "%s%d" % (begun, len(names)))
+        return (ty[0],) + tuple(self.final(part, names, begun) for part in ty[1:]) if isinstance(ty, tuple) else ty
 
 
 class _Reader:
@@ -249,14 +249,14 @@ class _Reader:
             raise Unreadable("the type `%s` lacks its arguments" % token)
         return [(token,) if number == 0 else token]
 
-    def finished(self, term: Term, names: Dict[int, str]) -> Term:
+    def finished(self, term: Term, names: Dict[int, str], begun: str = "?") -> Term:
         """A term with its types as they were found."""
         kind = term[0]
         if kind == "a":
-            return ("a", self.finished(term[1], names), self.finished(term[2], names))
+            return ("a", self.finished(term[1], names, begun), self.finished(term[2], names, begun))
         if kind == "l":
-            return ("l", term[1], self.types.final(term[2], names), self.finished(term[3], names))
-        return term if kind == "b" else (kind, term[1], self.types.final(term[2], names))
+            return ("l", term[1], self.types.final(term[2], names, begun), self.finished(term[3], names, begun))
+        return term if kind == "b" else (kind, term[1], self.types.final(term[2], names, begun))
 
 
 def _tokens(text: str) -> List[str]:
@@ -275,14 +275,15 @@ def _ended(reader: _Reader) -> None:
         raise Unreadable("`%s` is too much" % reader.peek())
 
 
-def term(text: str, signature: Signature, free: Optional[Dict[str, Type]] = None, ty: Optional[Type] = None) -> Term:
-    """The term of a text, where some free variables have types that are known; of a type, where one is given."""
+def term(text: str, signature: Signature, free: Optional[Dict[str, Type]] = None, ty: Optional[Type] = None, begun: str = "?") -> Term:
+    """The term of a text, where some free variables have types that are known; of a type, where one is given. A type that is left open gets a
+    name that begins as is said."""
     reader = _Reader(text, signature, free or {})
     found, own = reader.term()
     _ended(reader)
     if ty is not None:
         reader.types.unify(own, ty)
-    return reader.finished(found, {})
+    return reader.finished(found, {}, begun)
 
 
 def type_text(text: str, signature: Signature) -> Type:
