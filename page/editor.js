@@ -4,6 +4,7 @@ import { painted } from './paint.js';
 
 const END = '\n\u200b';
 export const SYMBOL_NAMES = {
+  __proto__: null,
   forall: '∀', exists: '∃', unique: '∃!', lambda: 'λ', select: 'ε', and: '∧', or: '∨', not: '¬', implies: '⇒', iff: '⇔', to: '→',
 };
 const PREFIXES = new Set(['forall', 'exists', 'unique', 'lambda', 'select', 'not']);

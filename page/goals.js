@@ -19,7 +19,7 @@ export function element(tag, properties = {}, ...children) {
 
 export class Goals {
   constructor(pane) {
-    Object.assign(this, { pane, hasSymbols: false, key: null });
+    Object.assign(this, { pane, hasSymbols: false, key: null, shownAt: null }); // shownAt: after so many milliseconds the first state was shown
   }
 
   term(text) {
@@ -36,6 +36,7 @@ export class Goals {
     if (key === this.key) return true;
     this.key = key;
     const errors = state.errors.map((text) => element('p', { className: 'refused' }, text));
+    this.shownAt ??= Math.max(1, Math.round(performance.now()));
     this.pane.replaceChildren(...errors, ...this.parts(state, after));
     return true;
   }

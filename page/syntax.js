@@ -3,7 +3,7 @@ import { COMMANDS, FORWARD, IN_TERMS, LIMITS, RULES_ELSEWHERE, TACS, TACTICALS }
 import { nearCommand, token as tokenAt, tokensBefore, withoutQuotations } from './notation.js';
 
 const LINE_WORD = /\n[ \t\r]*([A-Za-z_][A-Za-z0-9_']*)/g;
-const GOES_ON = { r: /^\s*[0-9]/, e: /^\s*[A-Za-z(]/, b: /^\s*$|^\s*\n/ };
+const GOES_ON = { __proto__: null, r: /^\s*[0-9]/, e: /^\s*[A-Za-z(]/, b: /^\s*$|^\s*\n/ };
 
 // The words for refusal 1 at a place.
 export function explain(text, place) {

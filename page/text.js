@@ -74,8 +74,9 @@ function ascii(text, start, symbol) {
 function* parts(text, piece) {
   let at = piece.start;
   for (const [start, end] of [...piece.comments, [piece.end, piece.end]]) {
-    for (const match of text.slice(at, start).matchAll(SYMBOL)) {
-      const place = match.index + (start - text.slice(at, start).length);
+    const from = at;
+    for (const match of text.slice(from, start).matchAll(SYMBOL)) {
+      const place = from + match.index;
       yield [text.slice(at, place), at, place - at];
       yield [ascii(text, place, match[0]), place, match[0].length];
       at = place + match[0].length;
@@ -133,7 +134,8 @@ export function cut(text) {
   const last = found[found.length - 1];
   if (last.number !== undefined && unclosed < 0) {
     const { end } = commands[last.number];
-    blemishes.push({ start: end - 1, end, text: 'the last command lacks its `;;`', isError: false });
+    const character = [...text.slice(Math.max(0, end - 2), end)].pop();
+    blemishes.push({ start: end - character.length, end, text: 'the last command lacks its `;;`', isError: false });
   }
   return { commands, comments: found.flatMap((piece) => piece.comments), pieces: found, blemishes };
 }

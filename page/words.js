@@ -7,7 +7,7 @@ export const NUMBERS = {
   syntax: 1, inAProof: 2, noProof: 3, unknownTheory: 4, unknownTheorem: 5, unknownTac: 6, untypable: 7, notBool: 8, arity: 9, nameTaken: 10,
   badRule: 14, hypotheses: 15, refused: 17, goalsRemain: 19, importClash: 21,
 };
-const KINDS = { thm: 'the theorem', const: 'the constant', type: 'the type' };
+const KINDS = { __proto__: null, thm: 'the theorem', const: 'the constant', type: 'the type' };
 
 // What a refusal of a command says, as [start, end, words]. `opened` tells of the proof that is open, where one is.
 export function explain(text, refusal, opened) {

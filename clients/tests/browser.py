@@ -110,7 +110,7 @@ class Page:
         """What an expression is, which may be a promise."""
         done = self.call("Runtime.evaluate", expression=script, returnByValue=True, awaitPromise=True)
         if "exceptionDetails" in done:
-            raise Failed("%s: %s" % (script, done["exceptionDetails"].get("exception", {}).get("description", done["exceptionDetails"])))
+            raise Failed("%s: %s" % (script[:300], done["exceptionDetails"].get("exception", {}).get("description", done["exceptionDetails"])))
         return done["result"].get("value")
 
     def until(self, script, seconds=SECONDS):
@@ -121,10 +121,10 @@ class Page:
                 found = self.value(script)
             except Failed:
                 found = None
-            if found:
+            if found not in (None, False, 0, ""):
                 return found
             if time.monotonic() > end:
-                raise Failed("it didn't come about: %s; the page: %s; %s" % (script, self.value("document.body.innerText")[-1500:], self.complaints))
+                raise Failed("it didn't come about: %s; the page: %s; %s" % (script[:300], self.value("document.body.innerText")[-1500:], self.complaints))
             time.sleep(0.02)
 
     def type(self, text):
@@ -133,7 +133,7 @@ class Page:
 
     def key(self, key, code=None, modifiers=0, text=None):
         """Presses a key: modifiers are 1 for Alt, 2 for Ctrl, 8 for Shift."""
-        keys = {"key": key, "code": code or key, "modifiers": modifiers, "windowsVirtualKeyCode": KEYS.get(key, ord(key[0].upper()))}
+        keys = {"key": key, "code": code or key, "modifiers": modifiers, "windowsVirtualKeyCode": KEYS.get(key, ord(key.upper()) if key.isalnum() else 0)}
         self.call("Input.dispatchKeyEvent", type="keyDown" if text else "rawKeyDown", **keys, **({"text": text} if text else {}))
         self.call("Input.dispatchKeyEvent", type="keyUp", **keys)
 
@@ -151,7 +151,7 @@ class Page:
         pathlib.Path(file).write_bytes(base64.b64decode(self.call("Page.captureScreenshot", format="png")["data"]))
 
 
-KEYS = {"Enter": 13, "Escape": 27, "Tab": 9, "ArrowUp": 38, "ArrowDown": 40, "ArrowLeft": 37, "ArrowRight": 39, "F8": 119, "Backspace": 8, "Home": 36, "End": 35}
+KEYS = {"Enter": 13, "Escape": 27, "Tab": 9, "ArrowUp": 38, "ArrowDown": 40, "ArrowLeft": 37, "ArrowRight": 39, "F8": 119, " ": 32}
 
 
 def serve(program, *words):
