@@ -133,7 +133,8 @@ class Page:
 
     def key(self, key, code=None, modifiers=0, text=None):
         """Presses a key: modifiers are 1 for Alt, 2 for Ctrl, 8 for Shift."""
-        keys = {"key": key, "code": code or key, "modifiers": modifiers, "windowsVirtualKeyCode": KEYS.get(key, ord(key.upper()) if key.isalnum() else 0)}
+        number = KEYS.get(key, ord(key[0].upper()) if key.isalnum() else 0)
+        keys = {"key": key, "code": code or key, "modifiers": modifiers, "windowsVirtualKeyCode": number}
         self.call("Input.dispatchKeyEvent", type="keyDown" if text else "rawKeyDown", **keys, **({"text": text} if text else {}))
         self.call("Input.dispatchKeyEvent", type="keyUp", **keys)
 

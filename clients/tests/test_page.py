@@ -279,7 +279,7 @@ class Editing(InBrowser):
         self.write("g A `loop = loop`;;\ne HANG_TAC;;\n")
         shown.click("#stop:not([hidden])")
         self.assertEqual(self.errors(), ["Line 2: nothing is known of this command: it was stopped"])
-        self.write("g A `loop = loop`;;\ne HANG_TAC;;\ne REFL_TAC;;\n")
+        self.write("g B `loop = loop`;;\ne HANG_TAC;;\ne REFL_TAC;;\n")
         shown.until("window.page.session.running > 1")
         self.write("g A `loop = loop`;;\ne REFL_TAC;;\nqed;;\n")
         self.assertEqual(self.errors(), [])
