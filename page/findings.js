@@ -50,7 +50,8 @@ class Walk {
     const cause = this.cause(number, refusal);
     if (refusal.number === NUMBERS.inAProof && proof) {
       proof.isSwallowing = true;
-      text = cause === null ? `${text}; until then nothing below is checked` : `from here on nothing is checked: the proof of ${proof.name} isn't mended yet`;
+      text = cause === null ? `${text}; until then nothing below is checked`
+        : `from here on nothing is checked: the proof of ${proof.name} isn't mended yet`;
     } else if (cause !== null) {
       text = `${text} (after the error on line ${theory.line(cause)})`;
     }

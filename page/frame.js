@@ -4,7 +4,8 @@ import { lessonOf } from './hour.js';
 
 const KEYS = ['∀', '∃', 'λ', '∧', '∨', '¬', '⇒', '⇔', '`', ';;\n'];
 const NAMES = {
-  '∀': 'for all', '∃': 'there is', λ: 'lambda', '∧': 'and', '∨': 'or', '¬': 'not', '⇒': 'implies', '⇔': 'if and only if', '`': 'backquote', ';;\n': 'end of the command',
+  '∀': 'for all', '∃': 'there is', λ: 'lambda', '∧': 'and', '∨': 'or', '¬': 'not', '⇒': 'implies', '⇔': 'if and only if',
+  '`': 'backquote', ';;\n': 'end of the command',
 };
 
 export function announce(text) {
@@ -14,7 +15,8 @@ export function announce(text) {
 // The bar of symbols: one stop for Tab, arrows within it.
 export function keys(bar, put) {
   bar.replaceChildren(...KEYS.map((text, at) => element('button', {
-    tabIndex: at ? -1 : 0, 'aria-label': NAMES[text], title: NAMES[text], onpointerdown: (event) => event.preventDefault(), onclick: () => put(text),
+    tabIndex: at ? -1 : 0, 'aria-label': NAMES[text], title: NAMES[text],
+    onpointerdown: (event) => event.preventDefault(), onclick: () => put(text),
   }, text.trim())));
   arrows(bar);
 }

@@ -2,7 +2,9 @@
 
 const SHOWN = 20000; // So many characters of a term are shown. A report has no limit.
 const SYMBOL = /<=>|==>|\\\/|\/\\|->|\?!|[!?\\@~]/g;
-const SYMBOLS = { '<=>': '⇔', '==>': '⇒', '\\/': '∨', '/\\': '∧', '->': '→', '?!': '∃!', '!': '∀', '?': '∃', '\\': 'λ', '@': 'ε', '~': '¬' };
+const SYMBOLS = {
+  '<=>': '⇔', '==>': '⇒', '\\/': '∨', '/\\': '∧', '->': '→', '?!': '∃!', '!': '∀', '?': '∃', '\\': 'λ', '@': 'ε', '~': '¬',
+};
 
 // A term or type with symbols. The `?` of a type variable `?0` stays.
 export const symbolic = (text) => text.replace(SYMBOL, (found, at) => (found === '?' && /[0-9]/.test(text[at + 1] ?? '') ? found : SYMBOLS[found]));

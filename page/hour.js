@@ -4,6 +4,11 @@ import { element } from './goals.js';
 
 const PREFIX = 'Lesson';
 const THEOREM = /^thm (\S+) \|- /;
+const DONE = '✓ Done: the prover has accepted it.';
+const OWN_AXIOM = /^axiom:(?!(ETA_AX|SELECT_AX|INFINITY_AX)$)/;
+
+// Whether items, on which a theorem rests, are known and none of them is an axiom of a theory.
+const isFree = (items) => items !== null && !items.some((item) => OWN_AXIOM.test(item));
 
 export const theoryOf = (number) => `${PREFIX}${number + 1}`;
 
@@ -14,8 +19,9 @@ export function lessonOf(name) {
 }
 
 export class Hour {
-  // `done` are the numbers of the lessons that are done; `start(name, text)` opens a lesson's theory, `put(code)` writes at the cursor,
-  // `basis(theory, name)` answers on what a theorem rests, `passed(number)` is called once when one is done.
+  // `done` are the numbers of the lessons that are done; `start(name, text, place, isAnew)` opens a lesson's theory with the cursor at a
+  // place, `put(code)` writes at the cursor, `basis(theory, name)` answers on what a theorem rests, and `passed(number)` is called when a
+  // lesson is done.
   constructor({ pane, done, start, put, basis, passed }) {
     Object.assign(this, { pane, start, put, basis, passed, done: new Set(done), number: -1, hints: 0, checked: '' });
   }
@@ -38,7 +44,8 @@ export class Hour {
       this.done.has(number) ? element('span', { className: 'done' }, ' ✓ done') : ''));
     return [
       element('h2', {}, 'A first hour'),
-      element('p', {}, 'Ten lessons, from x = x to a definition and an induction. Each has a goal to prove, and is ticked off when the prover has accepted it.'),
+      element('p', {}, 'Ten lessons, from x = x to a definition and an induction. Each has a goal to prove, and is ticked off when the '
+        + 'prover has accepted it.'),
       element('ol', { className: 'lessons' }, ...items),
     ];
   }
@@ -52,8 +59,8 @@ export class Hour {
       element('h2', {}, `${this.number + 1}. ${title}`),
       ...paragraphs,
       element('p', {}, 'Wanted:'),
-      element('ul', { className: 'wanted' }, ...wanted.map((text) => element('li', {}, element('code', {}, text.replace(/^thm (\S+) \|- /, '$1: '))))),
-      element('p', { className: isDone ? 'verdict done' : 'verdict', id: 'verdict' }, isDone ? '✓ Done: the prover has accepted it.' : 'Not proved yet.'),
+      element('ul', { className: 'wanted' }, ...wanted.map((text) => element('li', {}, element('code', {}, text.replace(THEOREM, '$1: '))))),
+      element('p', { className: isDone ? 'verdict done' : 'verdict', id: 'verdict' }, isDone ? DONE : 'Not proved yet.'),
       ...this.hintParts(),
       element('p', { className: 'buttons' },
         element('button', { id: 'next', className: isDone ? 'main' : '', onclick: () => this.next() }, next),
@@ -67,9 +74,10 @@ export class Hour {
     const shown = hints.slice(0, this.hints).map(({ say, code }) => element('li', {},
       element('p', { innerHTML: say }), element('pre', {}, code),
       element('button', { onclick: () => this.put(code) }, 'Put it at the cursor')));
-    const more = this.hints < hints.length
-      ? [element('button', { id: 'hint', onclick: () => this.hint() }, this.hints ? `Next hint (${this.hints + 1} of ${hints.length})` : `Show a hint (1 of ${hints.length})`)] : [];
-    return [element('ol', { className: 'hints', 'aria-label': 'Hints', 'aria-live': 'polite' }, ...shown), ...more];
+    const list = element('ol', { className: 'hints', 'aria-label': 'Hints', 'aria-live': 'polite' }, ...shown);
+    if (this.hints === hints.length) return [list];
+    const words = `${this.hints ? 'Next hint' : 'Show a hint'} (${this.hints + 1} of ${hints.length})`;
+    return [list, element('button', { id: 'hint', onclick: () => this.hint() }, words)];
   }
 
   hint() {
@@ -79,7 +87,7 @@ export class Hour {
   }
 
   begin(number, isAnew = false) {
-    this.start(theoryOf(number), given(LESSONS[number]), isAnew);
+    this.start(theoryOf(number), given(LESSONS[number]), LESSONS[number].given[0].length, isAnew);
   }
 
   next() {
@@ -102,7 +110,7 @@ export class Hour {
     this.checked = theory.text;
     const names = wanted.map((text) => THEOREM.exec(text)[1]);
     const bases = await Promise.all(names.map((name) => this.basis(theory.name, name)));
-    if (this.done.has(number) || bases.some((items) => !items || items.some((item) => /^axiom:(?!ETA_AX$|SELECT_AX$|INFINITY_AX$)/.test(item)))) return;
+    if (this.done.has(number) || !bases.every(isFree)) return;
     this.done.add(number);
     this.passed(number);
     if (number === this.number) this.render();

@@ -8,6 +8,7 @@ import { Hour, lessonOf, theoryOf } from './hour.js';
 import { LESSONS, given } from './lessons.js';
 import { completions, known, made, search } from './names.js';
 import { isName } from './notation.js';
+import { LIMITS } from './tables.js';
 import { Session } from './session.js';
 import { keep, linkOf, linked, nameOfFile, restore, saveFile } from './store.js';
 import { Theory, ordered } from './theory.js';
@@ -44,8 +45,14 @@ class Page {
     panels($('panel-tabs'));
     $('help').replaceChildren(...help());
     const actions = {
-      new: () => this.add(this.freeName('Theory'), ''), open: () => $('files').click(), save: () => saveFile(this.active.name, this.active.text),
-      link: () => this.copyLink(), rename: () => this.rename(), close: () => this.close(this.active), symbols: () => this.toggleSymbols(), stop: () => this.session.stopRunning(),
+      new: () => this.add(this.freeName('Theory'), ''),
+      open: () => $('files').click(),
+      save: () => saveFile(this.active.name, this.active.text),
+      link: () => this.copyLink(),
+      rename: () => this.rename(),
+      close: () => this.close(this.active),
+      symbols: () => this.toggleSymbols(),
+      stop: () => this.session.stopRunning(),
     };
     for (const [id, action] of Object.entries(actions)) $(id).addEventListener('click', action);
     $('files').addEventListener('change', () => this.openFiles($('files').files));
@@ -142,7 +149,7 @@ class Page {
   async openLink() {
     const found = await linked(location.hash);
     if (location.hash) history.replaceState(null, '', location.pathname + location.search);
-    if (found) this.take(found.name, found.text);
+    if (found) this.take(nameOfFile(found.name), found.text);
     return Boolean(found);
   }
 
@@ -157,7 +164,7 @@ class Page {
     }
   }
 
-  startLesson(name, text, isAnew) {
+  startLesson(name, text, place, isAnew) {
     const before = this.theories.find((theory) => theory.name === name);
     if (before && !isAnew) {
       this.activate(before);
@@ -167,7 +174,8 @@ class Page {
     } else {
       this.add(name, text);
     }
-    this.editor.go(this.editor.text.length);
+    if (this.active.text === text) this.editor.go(place);
+    this.editor.area.focus();
   }
 
   keep() {
@@ -179,7 +187,8 @@ class Page {
   // The prover
 
   want() {
-    const order = ordered([...this.opened], this.theories);
+    let order = ordered([...this.opened], this.theories).filter(({ isSent }) => isSent);
+    if (order.length > LIMITS.theories) order = ordered([this.active], this.theories).filter(({ isSent }) => isSent);
     for (const theory of order) this.opened.add(theory);
     this.session.want(order);
     this.settleAt = performance.now() + SETTLED;
@@ -304,7 +313,8 @@ class Page {
     const known = all.filter(({ report }) => report !== null).length;
     const isSlow = session.running > 0.9;
     $('stop').hidden = !isSlow;
-    $('progress').textContent = isSlow ? `running for ${Math.round(session.running)} s` : known < all.length ? `${known} of ${all.length} commands` : '';
+    const far = known < all.length ? `${known} of ${all.length} commands` : '';
+    $('progress').textContent = isSlow ? `running for ${Math.round(session.running)} s` : far;
     clearTimeout(this.statusTimer);
     if (!session.isIdle) this.statusTimer = setTimeout(() => this.showStatus(), 500);
   }
@@ -312,7 +322,8 @@ class Page {
   search() {
     if ($('theorems').hidden) return;
     const found = search($('query').value, known(this.session.theories));
-    $('found').textContent = found.length === 1 ? '1 theorem' : `${found.length} theorems${found.length > FOUND ? `, the first ${FOUND} of them` : ''}`;
+    const more = found.length > FOUND ? `, the first ${FOUND} of them` : '';
+    $('found').textContent = found.length === 1 ? '1 theorem' : `${found.length} theorems${more}`;
     $('list').replaceChildren(...found.slice(0, FOUND).map((one) => this.theorem(one)));
   }
 
@@ -324,9 +335,9 @@ class Page {
       if (theory !== this.active) this.activate(theory);
       this.editor.go(theory.commands[number].start);
     };
-    const more = theory ? [' ', element('button', { className: 'small', onclick: go }, origin), ' ', element('button', { className: 'small', onclick: tell }, 'rests on …'), ' ', rests]
-      : [' ', element('small', {}, origin)];
-    return element('li', {}, put, ...more, element('pre', {}, this.goals.term(shown)));
+    const small = (words, onclick) => element('button', { className: 'small', onclick }, words);
+    const more = theory ? [small(origin, go), ' ', small('rests on …', tell), ' ', rests] : [element('small', {}, origin)];
+    return element('li', {}, put, ' ', ...more, element('pre', {}, this.goals.term(shown)));
   }
 
   complete() {

@@ -44,7 +44,8 @@ function candidates(before, names, theories, free) {
   if (!words.length) return listed(MANUAL.commands);
   if (words[0] === 'import') return theories.map((name) => ({ name, told: 'a theory' }));
   if (words[0] !== 'e' && words[0] !== 'new_basic_type_definition') return [];
-  return [...listed(MANUAL.functions), ...listed(MANUAL.tacticals), ...listed(MANUAL.rules), ...names.filter(({ kind }) => kind === 'theorem').map(told)];
+  const theorems = names.filter(({ kind }) => kind === 'theorem').map(told);
+  return [...listed(MANUAL.functions), ...listed(MANUAL.tacticals), ...listed(MANUAL.rules), ...theorems];
 }
 
 // What completes the word at the end of `before`, a command's text up to the cursor: { word, found }, those that begin so first.

@@ -1,4 +1,6 @@
 // What the browser keeps: the open theories and the lessons that are done; and theories as files and as links.
+import { isName } from './notation.js';
+import { LIMITS } from './tables.js';
 
 const KEY = 'hol-serve';
 const LINK = 'theory';
@@ -33,7 +35,11 @@ export function saveFile(name, text) {
   setTimeout(() => URL.revokeObjectURL(address), 10000);
 }
 
-export const nameOfFile = (file) => file.replace(/\.[^.]*$/, '');
+// The name of a file's theory: the file's without its suffix, with _ for what can't be in a name.
+export function nameOfFile(file) {
+  const name = file.replace(/\.[^.]*$/, '').replace(/[^A-Za-z0-9_']/g, '_').slice(0, LIMITS.name);
+  return isName(name) ? name : `_${name}`.slice(0, LIMITS.name);
+}
 
 const through = async (bytes, stream) => new Uint8Array(await new Response(new Blob([bytes]).stream().pipeThrough(stream)).arrayBuffer());
 

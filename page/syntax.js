@@ -86,7 +86,8 @@ function unexpected(text, place, token, before) {
 function rule(text, place, before) {
   const name = before[before.length - 1];
   const opening = before[before.length - 2];
-  if (before.length < 2 || !['[', '(', ';'].includes(opening) || before.filter((one) => one === '`').length % 2 || !/^[A-Za-z]/.test(name)) return null;
+  const isQuoted = before.filter((one) => one === '`').length % 2 === 1;
+  if (before.length < 2 || !['[', '(', ';'].includes(opening) || isQuoted || !/^[A-Za-z]/.test(name)) return null;
   if (name in FORWARD || name in TACS || TACTICALS.includes(name)) return null;
   const start = text.lastIndexOf(name, place - name.length);
   const instead = RULES_ELSEWHERE[name];

@@ -41,9 +41,9 @@ export class Theory {
     return isName(this.name);
   }
 
-  // Takes a text. What is known above the first change stays. Answers the first command of which nothing is known now.
+  // Takes a text. What is known above the first change stays.
   take(text) {
-    this.text = text;
+    Object.assign(this, { text, starts: null });
     this.cut = cut(text);
     this.blemishes = [...this.cut.blemishes];
     const fitting = this.commands.map((command) => this.fits(command));
@@ -90,7 +90,14 @@ export class Theory {
   }
 
   lineAt(place) {
-    return this.text.slice(0, place).split('\n').length;
+    this.starts ??= [0, ...[...this.text.matchAll(/\n/g)].map(({ index }) => index + 1)];
+    let [first, last] = [0, this.starts.length];
+    while (last - first > 1) {
+      const middle = (first + last) >> 1;
+      if (this.starts[middle] <= place) first = middle;
+      else last = middle;
+    }
+    return last;
   }
 
   fits(command) {

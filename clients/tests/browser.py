@@ -124,7 +124,8 @@ class Page:
             if found not in (None, False, 0, ""):
                 return found
             if time.monotonic() > end:
-                raise Failed("it didn't come about: %s; the page: %s; %s" % (script[:300], self.value("document.body.innerText")[-1500:], self.complaints))
+                seen = self.value("document.body.innerText")[-1500:]
+                raise Failed("it didn't come about: %s; the page: %s; %s" % (script[:300], seen, self.complaints))
             time.sleep(0.02)
 
     def type(self, text):

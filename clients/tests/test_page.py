@@ -3,6 +3,7 @@
 import http.client
 import json
 import pathlib
+import random
 import subprocess
 import sys
 import tempfile
@@ -289,6 +290,28 @@ class Editing(InBrowser):
         self.process.kill()
         shown.until("!document.getElementById('banner').hidden")
 
+    def test_random_edits(self):
+        """What is known after many edits, some made before the last one was answered, is what a fresh page finds."""
+        shown = self.open()
+        chosen = random.Random(7)
+        pieces = ["g A%d `p /\\ q = q`;;\n" % at for at in range(4)] + ["e CONJ_TAC;;\n", "e ALL_TAC;;\n", "e REFL_TAC;;\n", "qed;;\n", "oops;;\n", "foo;;\n",
+                                                                      "new_axiom B `q = q`;;\n", "import Theory9;;\n"]
+        texts = []
+        now = []
+        for _ in range(60):
+            at = chosen.randrange(len(now) + 1)
+            now[at:at + chosen.randrange(4)] = chosen.choices(pieces, k=chosen.randrange(6))
+            texts.append("".join(now))
+        shown.value("""(async () => { for (const [at, text] of %s.entries()) { window.page.editor.area.value = text; window.page.changed();
+            if (at %% 3 === 0) await new Promise((done) => setTimeout(done, at %% 7)); } })()""" % json.dumps(texts))
+        known = "window.page.active.entries.map(({ text, report, isHidden }) => [text, isHidden ? null : report])"
+        self.settled()
+        found = [shown.value(known), self.errors()]
+        shown.click("#new")
+        self.write(texts[-1])
+        self.settled()
+        self.assertEqual([shown.value(known), self.errors()], found)
+
     def test_keyboard_reader_and_phone(self):
         shown = self.open(width=390, height=800)
         self.assertLessEqual(shown.value("document.scrollingElement.scrollWidth"), 390)
@@ -325,7 +348,6 @@ class Words(InBrowser):
 
     def test_commands_are_cut_alike(self):
         shown = self.open()
-        import random
         chosen = random.Random(1)
         texts = [file.read_text(encoding="utf-8") for file in sorted((EXAMPLES / "theories").glob("*.hol"))]
         texts += ["".join(chosen.choices(self.PIECES, k=chosen.randrange(14))) for _ in range(600)]
