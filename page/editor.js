@@ -81,8 +81,10 @@ export class Editor {
     const { start, old, fresh } = middle(this.shown.map(({ text }) => text), texts);
     const shown = texts.map((text, at) => {
       const before = at < start ? this.shown[at] : at >= start + fresh ? this.shown[at - fresh + old] : null;
-      const told = info ? info(at) : before?.told ?? { status: 'pending', findings: [] };
-      return { text, told, html: before && before.told === told ? before.html : this.html(theory, at, text, told) };
+      if (!info && before) return before;
+      const told = info ? info(at) : { status: 'pending', findings: [] };
+      const key = keyOf(told, pieces[at].start);
+      return before?.key === key ? before : { text, key, html: this.html(theory, at, text, told) };
     });
     this.put(shown);
   }
@@ -141,6 +143,11 @@ export class Editor {
     if (top < outer.top + 8) scroller.scrollTop -= outer.top + 40 - top;
     else if (bottom > outer.bottom - 8) scroller.scrollTop += bottom - outer.bottom + 40;
   }
+}
+
+// What is told of a piece, in a text: the same one where the same is shown.
+function keyOf({ status, findings }, start) {
+  return `${status} ${findings.map((one) => `${one.start - start} ${one.end - start} ${one.severity} ${one.text}`).join('\n')}`;
 }
 
 function rangeAt(node, offset) {

@@ -45,6 +45,7 @@ function underlined(start, end, findings) {
 
 function segment(text, start, end, kind, findings) {
   if (start >= end) return '';
+  if (!findings.length) return kind ? `<span class="${kind}">${escaped(text.slice(start, end))}</span>` : escaped(text.slice(start, end));
   const places = new Set([start, end]);
   for (const finding of findings) for (const place of [finding.start, finding.end]) if (place > start && place < end) places.add(place);
   const sorted = [...places].sort((one, other) => one - other);

@@ -14,7 +14,11 @@ export class Command {
   constructor(text, start, end, marks) {
     Object.assign(this, { text, start, end, marks });
     this.word = /^[A-Za-z_][A-Za-z0-9_']*/.exec(text)?.[0] ?? '';
-    this.name = (text.split('`')[0].match(WORDS) ?? [])[1] ?? '';
+  }
+
+  // The command's second word: of `g`, `import` and the `new_` commands, the name that it is about.
+  get name() {
+    return (this.text.split('`')[0].match(WORDS) ?? [])[1] ?? '';
   }
 
   // The place in the file of a place in the text, which may be the text's length.
@@ -111,8 +115,9 @@ function mended(all) {
 function command(text, piece) {
   const plain = text.slice(piece.start, piece.end);
   if (piece.comments.length || !/^[\0-\x7f]*$/.test(plain)) return mended([...parts(text, piece)]);
-  const sent = stripEnd(stripStart(plain));
-  const start = piece.start + plain.length - stripStart(plain).length;
+  const rest = stripStart(plain);
+  const sent = stripEnd(rest);
+  const start = piece.start + plain.length - rest.length;
   return sent ? new Command(sent, start, start + sent.length, [[0, start]]) : null;
 }
 

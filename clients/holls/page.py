@@ -7,14 +7,14 @@ reply line is a message. The socket's end ends the program, and the program's en
 from __future__ import annotations
 
 import argparse
-import subprocess
+import queue
 import sys
 import threading
 import webbrowser
 from http import HTTPStatus
 from http.server import BaseHTTPRequestHandler, ThreadingHTTPServer
 from pathlib import Path
-from typing import List, Optional
+from typing import List, Optional, Union
 
 from holls import server
 from holls.websocket import WebSocket, accept_key
@@ -33,7 +33,7 @@ _KINDS = {
     ".html": "text/html; charset=utf-8", ".css": "text/css; charset=utf-8", ".js": "text/javascript; charset=utf-8",
     ".svg": "image/svg+xml", ".hol": "text/plain; charset=utf-8",
 }
-_POLICY = "default-src 'self'; style-src 'self'; img-src 'self' data:; base-uri 'none'; form-action 'none'; frame-ancestors 'none'"
+_POLICY = "default-src 'self'; connect-src 'self' ws://%s; base-uri 'none'; form-action 'none'; frame-ancestors 'none'"
 
 
 class Pages(ThreadingHTTPServer):
@@ -91,7 +91,7 @@ class _Request(BaseHTTPRequestHandler):
         data = file.read_bytes()
         self.send_response(HTTPStatus.OK)
         for key, value in (("Content-Type", kind), ("Content-Length", str(len(data))), ("Cache-Control", "no-cache"),
-                           ("Content-Security-Policy", _POLICY), ("X-Content-Type-Options", "nosniff")):
+                           ("Content-Security-Policy", _POLICY % self.headers["Host"]), ("X-Content-Type-Options", "nosniff")):
             self.send_header(key, value)
         self.end_headers()
         self.wfile.write(data)
@@ -124,37 +124,35 @@ class _Request(BaseHTTPRequestHandler):
 
 
 def serve(socket: WebSocket, program: List[str]) -> None:
-    """Runs a program for a socket, until one of the two ends."""
+    """Runs a program for a socket, until one of the two ends. What the program isn't ready to read waits, so that an end is seen at once."""
+    events: "queue.Queue[Union[server.Line, server.Ended]]" = queue.Queue()
     try:
-        process = subprocess.Popen(program, stdin=subprocess.PIPE, stdout=subprocess.PIPE, stderr=subprocess.PIPE)
-    except OSError as error:
-        socket.close("the program %s can't be started: %s" % (program[0], error.strerror or error))
+        process = server.Server(program, events)
+    except server.NoServer as error:
+        socket.close(str(error))
         return
-    teller = threading.Thread(target=_tell, args=(process, socket), daemon=True)
+    teller = threading.Thread(target=_tell, args=(events, socket), daemon=True)
     teller.start()
     try:
         for message in socket.messages():
-            process.stdin.write(message if message.endswith(b"\n") else message + b"\n")
-            process.stdin.flush()
-    except OSError:
-        teller.join()  # The program has ended, which the teller tells.
+            for line in (message[:-1] if message.endswith(b"\n") else message).split(b"\n"):
+                process.send(line)
     finally:
-        process.kill()
+        process.stop()
         teller.join()
 
 
-def _tell(process: "subprocess.Popen[bytes]", socket: WebSocket) -> None:
+def _tell(events: "queue.Queue[Union[server.Line, server.Ended]]", socket: WebSocket) -> None:
     """Sends what a program writes, and tells how it ended."""
-    try:
-        for line in iter(lambda: process.stdout.readline(server.REPLY_BYTES), b""):
-            if not line.endswith(b"\n"):
-                break
-            socket.send(line[:-1])
-    except (OSError, ValueError):
-        pass  # The page is gone.
-    process.kill()
-    said = process.stderr.read()[-1000:].decode("utf-8", "replace").strip().splitlines()
-    socket.close("hol_serve ended with status %d%s" % (process.wait(), " (%s)" % said[-1] if said else ""))
+    while True:
+        event = events.get()
+        if isinstance(event, server.Ended):
+            socket.close("hol_serve " + event.reason)
+            return
+        try:
+            socket.send(event.data[:-1])
+        except (OSError, ValueError):
+            return  # The page is gone, and the program ends.
 
 
 def add_words(words: argparse.ArgumentParser) -> None:

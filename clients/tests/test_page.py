@@ -7,6 +7,7 @@ import random
 import subprocess
 import sys
 import tempfile
+import time
 import unittest
 
 from holls import protocol, text, words
@@ -89,6 +90,30 @@ class Server(Served):
         self.assertEqual(json.loads(other.receive())["error"], protocol.UNKNOWN_THEORY)
         socket.send(b'{"op":"insert","theory":"A","at":1,"text":"%s"}' % (b"x" * 70000))
         self.assertEqual(json.loads(socket.receive())["error"], 1)
+
+    def test_end_of_the_page(self):
+        """A program that hangs, and reads no more, ends with its socket."""
+        log = self.room / "log"
+        self.serve(fake(self.room, "--log", log))
+        socket = self.socket()
+        socket.send(b'{"op":"new_theory","name":"A","at":0}\n{"op":"insert","theory":"A","at":0,"text":"g N `loop`"}')
+        socket.send(b'{"op":"insert","theory":"A","at":1,"text":"e HANG_TAC"}')
+        socket.send(b"\n".join([b'{"op":"report","theory":"A","at":0}'] * 20000))
+        for _ in range(2):
+            socket.receive()
+        while "HANG_TAC" not in log.read_text():
+            time.sleep(0.05)
+        self.assertEqual(self.programs(), 1)
+        socket.close()
+        end = time.monotonic() + browser.SECONDS
+        while self.programs() and time.monotonic() < end:
+            time.sleep(0.05)
+        self.assertEqual(self.programs(), 0)
+
+    def programs(self):
+        """How many processes the server has started that still run."""
+        done = subprocess.run(["ps", "-o", "pid=", "--ppid", str(self.process.pid)], stdout=subprocess.PIPE)
+        return len(done.stdout.split())
 
     def test_end_of_the_program(self):
         socket = self.socket()
@@ -285,7 +310,7 @@ class Editing(InBrowser):
         self.write("g A `loop = loop`;;\ne REFL_TAC;;\nqed;;\n")
         self.assertEqual(self.errors(), [])
         self.write("g A `big = big`;;\ne DIE_TAC;;\ne REFL_TAC;;\nqed;;\n")
-        self.assertIn("Line 2: nothing is known of this command: hol_serve ended with status -6", self.errors()[0])
+        self.assertIn("Line 2: nothing is known of this command: hol_serve was ended by signal 6", self.errors()[0])
         self.assertEqual(shown.value("window.page.active.entries[3].report.kind"), "made")
         self.process.kill()
         shown.until("!document.getElementById('banner').hidden")
