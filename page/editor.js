@@ -3,6 +3,7 @@ import { middle } from './theory.js';
 import { painted } from './paint.js';
 
 const END = '\n\u200b';
+const ROOM = /^[ \t]*(\n[ \t]*(\n|$)|$)/; // What stands behind a command with room under it for the words of its error.
 export const SYMBOL_NAMES = {
   __proto__: null,
   forall: '∀', exists: '∃', unique: '∃!', lambda: 'λ', select: 'ε', and: '∧', or: '∨', not: '¬', implies: '⇒', iff: '⇔', to: '→',
@@ -83,19 +84,20 @@ export class Editor {
       const before = at < start ? this.shown[at] : at >= start + fresh ? this.shown[at - fresh + old] : null;
       if (!info && before) return before;
       const told = info ? info(at) : { status: 'pending', findings: [] };
-      const key = keyOf(told, pieces[at].start);
-      return before?.key === key ? before : { text, key, html: this.html(theory, at, text, told) };
+      const hasRoom = ROOM.test(theory.text.slice(ends[at], ends[at] + 200));
+      const key = keyOf(told, pieces[at].start, hasRoom);
+      return before?.key === key ? before : { text, key, html: this.html(theory, at, text, told, hasRoom) };
     });
     this.put(shown);
   }
 
-  html(theory, at, text, { status, findings }) {
+  html(theory, at, text, { status, findings }, hasRoom) {
     const piece = theory.cut.pieces[at];
     const from = (place) => Math.max(0, Math.min(text.length, place - piece.start));
     const command = theory.commands[piece.number];
     const places = command ? { start: from(command.start), end: from(command.end) } : null;
     const own = findings.map((finding) => ({ ...finding, start: from(finding.start), end: Math.max(from(finding.end), from(finding.start) + 1) }));
-    return painted(text, piece.comments.map(([start, end]) => [from(start), from(end)]), places, status, own);
+    return painted(text, piece.comments.map(([start, end]) => [from(start), from(end)]), places, status, own, hasRoom);
   }
 
   // Changes what differs of what is shown.
@@ -146,8 +148,8 @@ export class Editor {
 }
 
 // What is told of a piece, in a text: the same one where the same is shown.
-function keyOf({ status, findings }, start) {
-  return `${status} ${findings.map((one) => `${one.start - start} ${one.end - start} ${one.severity} ${one.text}`).join('\n')}`;
+function keyOf({ status, findings }, start, hasRoom) {
+  return `${status} ${hasRoom} ${findings.map((one) => `${one.start - start} ${one.end - start} ${one.severity} ${one.text}`).join('\n')}`;
 }
 
 function rangeAt(node, offset) {

@@ -57,13 +57,14 @@ function segment(text, start, end, kind, findings) {
   }).join('');
 }
 
-// The HTML of a piece: `places` has the command's start and end in the text, or is null; `findings` are those of the piece; all from its start.
-export function painted(text, comments, places, status, findings) {
+// The HTML of a piece: `places` has the command's start and end in the text, or is null; `findings` are those of the piece; all from its
+// start. The words of an error stand under the command if it has room there, else beside it.
+export function painted(text, comments, places, status, findings, hasRoom) {
   const said = findings.find(({ severity }) => severity === 'error') ?? findings.find(({ severity }) => severity === 'warning');
   const stops = [];
   if (places) {
     stops.push([places.start, `<i class="mark ${status}">${MARKS[status] ?? ''}</i>`]);
-    if (said) stops.push([Math.min(text.length, places.end + 2), `<i class="said ${said.severity}">${escaped(said.text)}</i>`]);
+    if (said) stops.push([Math.min(text.length, places.end + 2), `<i class="said ${said.severity}${hasRoom ? ' under' : ''}">${escaped(said.text)}</i>`]);
   }
   let html = '';
   let at = 0;

@@ -4,6 +4,7 @@ import http.client
 import json
 import pathlib
 import random
+import shutil
 import subprocess
 import sys
 import tempfile
@@ -91,6 +92,7 @@ class Server(Served):
         socket.send(b'{"op":"insert","theory":"A","at":1,"text":"%s"}' % (b"x" * 70000))
         self.assertEqual(json.loads(socket.receive())["error"], 1)
 
+    @unittest.skipUnless(shutil.which("ps"), "ps isn't installed")
     def test_end_of_the_page(self):
         """A program that hangs, and reads no more, ends with its socket."""
         log = self.room / "log"
@@ -389,6 +391,26 @@ class Words(InBrowser):
                 self.assertEqual([one[3] for one in seen[0]], places, content)
             self.assertEqual(seen[1], [[units[one.start], units[one.end], one.text] for one in cut.blemishes], content)
             self.assertEqual(seen[2], [[units[first], units[last]] for first, last in cut.comments], content)
+
+    def test_findings_are_told_alike(self):
+        shown = self.open()
+        chosen = random.Random(3)
+        pieces = ["g A%d `p /\\ q = q`;;" % at for at in range(3)] + ["e CONJ_TAC;;", "e ALL_TAC;;", "e REFL_TAC;;", "qed;;", "oops;;", "foo;;", ";;", "(* x *)",
+                                                                    "new_axiom B `q = q`;;", "g C `x x`;;", "e FOO_TAC;;", "g D `p` (* never"]
+        texts = ["\n".join(chosen.choices(pieces, k=chosen.randrange(1, 14))) for _ in range(24)]
+        for at, content in enumerate(texts):
+            (self.room / ("T%d.hol" % at)).write_text(content)
+        command = [*PYTHON, str(CLIENTS / "bin" / "holls"), "check", "--json", "--server", str(self.room / "server"), str(self.room)]
+        done = subprocess.run(command, stdout=subprocess.PIPE, timeout=browser.SECONDS)
+        said = [json.loads(line) for line in done.stdout.splitlines()]
+        for at, content in enumerate(texts):
+            expected = [[one["line"], one["column"], one["end_line"], one["end_column"], one["text"]] for one in said
+                        if one["file"].endswith("/T%d.hol" % at) and "text" in one]
+            self.write(content)
+            self.settled()
+            found = shown.value("""(() => { const { active, found } = window.page; const at = (place) => { const line = active.lineAt(place);
+                return [line, place - active.starts[line - 1] + 1]; }; return found.map(({ start, end, text }) => [...at(start), ...at(end), text]); })()""")
+            self.assertEqual(sorted(found), sorted(expected), content)
 
     def test_refusals_are_told_alike(self):
         shown = self.open()
