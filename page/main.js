@@ -10,7 +10,7 @@ import { completions, known, made, search } from './names.js';
 import { isName } from './notation.js';
 import { LIMITS } from './tables.js';
 import { Session } from './session.js';
-import { keep, linkOf, linked, nameOfFile, restore, saveFile } from './store.js';
+import { elsewhere, keep, linkOf, linked, nameOfFile, restore, saveFile } from './store.js';
 import { Theory, ordered } from './theory.js';
 import { open } from './transport.js';
 import { announce, keys, panels, tabs } from './frame.js';
@@ -26,7 +26,7 @@ class Page {
     this.theories = kept.tabs.map(({ name, text }) => new Theory(name, text));
     this.active = null;
     this.opened = new Set();
-    Object.assign(this, { found: [], settleAt: 0, timer: null, saidTimer: null, isTold: false, hasNews: false });
+    Object.assign(this, { found: [], settleAt: 0, timer: null, saidTimer: null, isTold: false, isResting: false });
     this.session = new Session({ open, pick: () => this.pick(), told: () => this.told(), seconds: SECONDS });
     this.goals = new Goals($('goals'));
     this.goals.hasSymbols = kept.hasSymbols;
@@ -64,7 +64,17 @@ class Page {
     });
     document.addEventListener('keydown', (event) => this.key(event));
     window.addEventListener('hashchange', () => this.openLink());
+    elsewhere(() => this.rest());
     $('symbols').setAttribute('aria-pressed', String(this.goals.hasSymbols));
+  }
+
+  // Another window goes on: what is written here isn't kept any more.
+  rest() {
+    if (this.isResting) return;
+    this.isResting = true;
+    const again = element('button', { onclick: () => location.reload() }, 'Go on here');
+    $('banner').replaceChildren('The page is open in another window, in which you went on. What is written here is not kept. ', again);
+    $('banner').hidden = false;
   }
 
   async begin(active) {
@@ -179,6 +189,7 @@ class Page {
   }
 
   keep() {
+    if (this.isResting) return;
     const tabs = this.theories.map(({ name, text }) => ({ name, text }));
     const isKept = keep({ tabs, active: this.active.name, done: [...this.hour.done], hasSymbols: this.goals.hasSymbols });
     if (!isKept) this.tell('The browser keeps no more text: save the theory as a file.');
@@ -245,7 +256,6 @@ class Page {
   }
 
   settleSoon() {
-    this.hasNews = true;
     if (this.timer) return;
     this.timer = requestAnimationFrame(() => {
       this.timer = null;
@@ -304,7 +314,7 @@ class Page {
   showStatus() {
     const { session, active } = this;
     const { failure } = session;
-    $('banner').hidden = !failure;
+    $('banner').hidden = !failure && !this.isResting;
     if (failure) {
       const again = element('button', { onclick: () => this.want() }, 'Try again');
       $('banner').replaceChildren(`The prover doesn't answer: ${failure}. `, again);

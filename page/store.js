@@ -26,6 +26,11 @@ export function keep(state) {
   }
 }
 
+// Calls a function when another window keeps something: it would undo what this one keeps, and the other way round.
+export function elsewhere(called) {
+  window.addEventListener('storage', ({ key }) => key === KEY && called());
+}
+
 export function saveFile(name, text) {
   const address = URL.createObjectURL(new Blob([text], { type: 'text/plain;charset=utf-8' }));
   const link = document.createElement('a');

@@ -18,6 +18,7 @@ from tests.helpers import BUILT, CLIENTS, PYTHON, ROOT, fake, proofs
 
 FOLDER = ROOT / "page"
 EXAMPLES = ROOT / "examples"
+THEORIES = EXAMPLES / "theories"
 
 
 class Served(unittest.TestCase):
@@ -77,6 +78,9 @@ class Server(Served):
                 for part in told.split(address)[1:]:
                     self.assertTrue(part.startswith(("www.w3.org/2000/svg", "${location.host}")), (file.name, part[:40]))
         self.assertLess(size, 3_000_000)
+        listed = (FOLDER / "index.html").read_text()
+        for module in FOLDER.glob("*.js"):  # Each is asked for at once, and not when the one that imports it has come.
+            self.assertIn('="%s">' % module.name, listed)
 
     def test_socket(self):
         self.assertEqual(self.socket("http://evil.example"), b"403")
@@ -129,8 +133,10 @@ class Server(Served):
         return socket.receive()
 
     def test_words_that_fail(self):
-        for given, said in ((["--server", "/no/such/program"], b"no program is at"), (["--port", self.host.split(":")[1], "--server", fake(self.room)], b"--port")):
-            done = subprocess.run([*PYTHON, str(CLIENTS / "bin" / "holls"), "page", "--no-browser", *given], capture_output=True, timeout=browser.SECONDS)
+        taken = ["--port", self.host.split(":")[1], "--server", fake(self.room)]
+        for given, said in ((["--server", "/no/such/program"], b"no program is at"), (taken, b"--port")):
+            command = [*PYTHON, str(CLIENTS / "bin" / "holls"), "page", "--no-browser", *given]
+            done = subprocess.run(command, capture_output=True, timeout=browser.SECONDS)
             self.assertEqual((done.returncode, done.stdout), (2, b""))
             self.assertIn(said, done.stderr)
 
@@ -283,6 +289,12 @@ class Editing(InBrowser):
         shown.call("DOM.setFileInputFiles", files=[str(saved), str(other)], nodeId=node)
         shown.until("window.page.active.name === 'Other'")
         self.assertEqual((self.errors(), shown.value("window.page.theories.map(({ name }) => name)")), ([], ["Lesson1", "Kept", "Other"]))
+        other = self.browser.page(self.address)
+        other.until("window.page && window.page.active")
+        self.write(content + "qed;;")
+        other.until("!document.getElementById('banner').hidden && window.page.isResting")
+        other.value("window.page.editor.insert('lost')")
+        self.assertEqual(shown.value("JSON.parse(localStorage.getItem('hol-serve')).tabs.some(({ text }) => text.includes('lost'))"), False)
         fresh = browser.Browser()
         self.addCleanup(fresh.stop)
         self.page = fresh.page(link)
@@ -366,17 +378,19 @@ class Words(InBrowser):
     """What the page says is what the editors say."""
 
     TEXTS = [
-        "", "g", "g A", "g `x`", "g A `x = `;;", "g A `x", "e FOO_TAC", "e REFL_TC", "e DISCH_THEN REWRITE_TAC", "e DISCH_THEN GEN_TAC", "e MESON_TAC", "e SIMP_TAC",
-        "e REWRITE_TAC [GSYM A]", "e REWRITE_TAC [A B]", "e ACCEPT_TAC", "REFL_TAC", "qde", "foo", "q e d", "g A `!(x) y. p`\ne REFL_TAC\nqed", "e (GEN_TAC", "new_type A 77",
-        "new_definition A `c = p /\\ q`", "g A `f !x. p`", "g A `x`;", "e SPEC", "g toString `constructor`", "e toString", "e valueOf THEN constructor", "qed qed", "*) g A `p`",
-        "e FIRST_ASSUM REWRITE_TAC", "new_basic_type_definition A B C D E F", "e REFL_TAC THEN REFL_TAC", "e CHANGED_TAC ALL_TAC", "import A", "b x", "r x",
+        "", "g", "g A", "g `x`", "g A `x = `;;", "g A `x", "e FOO_TAC", "e REFL_TC", "e DISCH_THEN REWRITE_TAC", "e DISCH_THEN GEN_TAC",
+        "e MESON_TAC", "e SIMP_TAC", "e REWRITE_TAC [GSYM A]", "e REWRITE_TAC [A B]", "e ACCEPT_TAC", "REFL_TAC", "qde", "foo", "q e d",
+        "g A `!(x) y. p`\ne REFL_TAC\nqed", "e (GEN_TAC", "new_type A 77", "new_definition A `c = p /\\ q`", "g A `f !x. p`", "g A `x`;",
+        "e SPEC", "g toString `constructor`", "e toString", "e valueOf THEN constructor", "qed qed", "*) g A `p`",
+        "e FIRST_ASSUM REWRITE_TAC", "new_basic_type_definition A B C D E F", "e REFL_TAC THEN REFL_TAC", "e CHANGED_TAC ALL_TAC",
+        "import A", "b x", "r x",
     ]
     PIECES = ["(*", "*)", ";;", "∀", "∃!", "∃", "¬", "→", "`", " ", "\n", "a", "=", "\\", "😀", "\ufeff", "g A `p`", "/", "\\/"]
 
     def test_commands_are_cut_alike(self):
         shown = self.open()
         chosen = random.Random(1)
-        texts = [file.read_text(encoding="utf-8") for file in sorted((EXAMPLES / "theories").glob("*.hol"))]
+        texts = [file.read_text(encoding="utf-8") for file in sorted(THEORIES.glob("*.hol"))]
         texts += ["".join(chosen.choices(self.PIECES, k=chosen.randrange(14))) for _ in range(600)]
         found = shown.value("""import('/text.js').then(({ cut }) => %s.map((text) => { const { commands, blemishes, comments } = cut(text);
             return [commands.map((one) => [one.text, one.start, one.end, [0, 1, 3, one.text.length].map((at) => one.place(at))]),
@@ -408,8 +422,7 @@ class Words(InBrowser):
                         if one["file"].endswith("/T%d.hol" % at) and "text" in one]
             self.write(content)
             self.settled()
-            found = shown.value("""(() => { const { active, found } = window.page; const at = (place) => { const line = active.lineAt(place);
-                return [line, place - active.starts[line - 1] + 1]; }; return found.map(({ start, end, text }) => [...at(start), ...at(end), text]); })()""")
+            found = shown.value(FOUND)
             self.assertEqual(sorted(found), sorted(expected), content)
 
     def test_refusals_are_told_alike(self):
@@ -419,8 +432,8 @@ class Words(InBrowser):
             cases += [(content, protocol.SYNTAX, str(at)) for at in range(len(content) + 1)]
             names = sorted({*content.replace("`", " ").split(), "x", "thm:A", "const:c", "type:t", "0", "4", "99"})
             cases += [(content, number, name) for number in range(2, 22) for name in names]
-        told = shown.value("import('/words.js').then(({ explain }) => %s.map(([text, number, argument]) => explain(text, { number, argument, text: 'said' }, 'that of A')))"
-                           % json.dumps(cases))
+        told = shown.value("""import('/words.js').then(({ explain }) => %s.map(
+            ([text, number, argument]) => explain(text, { number, argument, text: 'said' }, 'that of A')))""" % json.dumps(cases))
         for (content, number, argument), seen in zip(cases, told):
             self.assertEqual(tuple(seen), words.explain(content, protocol.Refusal(number, argument, "said"), "that of A"), (content, number, argument))
 
@@ -435,7 +448,8 @@ class Program(InBrowser):
 
     def test_each_lesson_is_solved(self):
         shown = self.open("?seconds=600")
-        lessons = shown.value("import('/lessons.js').then(({ LESSONS, given, solved }) => LESSONS.map((lesson) => [given(lesson), solved(lesson), lesson.wanted]))")
+        lessons = shown.value("""import('/lessons.js').then(
+            ({ LESSONS, given, solved }) => LESSONS.map((lesson) => [given(lesson), solved(lesson), lesson.wanted]))""")
         self.assertEqual(len(lessons), 10)
         for number, (given, solved, wanted) in enumerate(lessons):
             self.assertEqual(shown.until("window.page.active.name"), "Lesson%d" % (number + 1))
@@ -453,7 +467,7 @@ class Program(InBrowser):
         shown = self.open("?seconds=600")
         for name in ("first", "functions", "tacticals"):
             shown.click("#new")
-            self.write((EXAMPLES / "theories" / (name + ".hol")).read_text(encoding="utf-8"))
+            self.write((THEORIES / (name + ".hol")).read_text(encoding="utf-8"))
             self.assertEqual(self.errors(), [], name)
 
     def test_speed(self):
@@ -469,6 +483,13 @@ class Program(InBrowser):
         self.assertTrue(all(one > 0 for one in took))
 
 
+FOUND = """(() => {
+  const { active, found } = window.page;
+  const at = (place) => [active.lineAt(place), place - active.starts[active.lineAt(place) - 1] + 1];
+  return found.map(({ start, end, text }) => [...at(start), ...at(end), text]);
+})()"""
+"""What is said of the theory: first and last line and column, and the words."""
+
 TYPED = """(async () => {
   const { editor, active } = window.page;
   editor.go(%d);
@@ -483,6 +504,7 @@ TYPED = """(async () => {
   await settled();
   return took;
 })()"""
+"""In how many milliseconds the goals are shown after a letter was typed at a place."""
 
 
 if __name__ == "__main__":
