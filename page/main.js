@@ -6,7 +6,7 @@ import { Goals, element, said } from './goals.js';
 import { help } from './help.js';
 import { Hour, lessonOf, theoryOf } from './hour.js';
 import { LESSONS, given } from './lessons.js';
-import { completions, known, made, search } from './names.js';
+import { completions, known, search } from './names.js';
 import { isName } from './notation.js';
 import { LIMITS } from './tables.js';
 import { Session } from './session.js';

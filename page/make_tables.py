@@ -28,7 +28,7 @@ def plain(value):
 TABLES = {
     "TACS": notation.TACS, "TACTICALS": notation.TACTICALS, "HANDING": notation.HANDING, "FORWARD": notation.FORWARD,
     "ELSEWHERE": notation.ELSEWHERE, "RULES_ELSEWHERE": notation.RULES_ELSEWHERE, "COMMANDS": notation.COMMANDS,
-    "MAKERS": notation.MAKERS, "OUTSIDE": notation.OUTSIDE,
+    "OUTSIDE": notation.OUTSIDE,
     "MANUAL": {kind: entries(getattr(manual, kind.upper())) for kind in ("commands", "functions", "tacticals", "rules")},
     "PRELUDE": manual.PRELUDE, "CONSTANTS": manual.CONSTANTS, "TYPES": manual.TYPES,
     "FIXED": words._FIXED, "OF_TYPE_DEFINITIONS": words._OF_TYPE_DEFINITIONS, "QUOTED": words._QUOTED, "FITS": words._FITS,

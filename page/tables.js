@@ -161,14 +161,6 @@ export const COMMANDS = {
  "new_definition": "new_definition NAME `NAME args = term`",
  "new_basic_type_definition": "new_basic_type_definition TYPE ABS REP NAME NAME THEOREM"
 };
-export const MAKERS = [
- "g",
- "new_axiom",
- "new_definition",
- "new_constant",
- "new_type",
- "new_basic_type_definition"
-];
 export const OUTSIDE = [
  "g",
  "new_axiom",

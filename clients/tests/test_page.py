@@ -457,11 +457,21 @@ class Program(InBrowser):
             self.write("".join("new_axiom %s `%s`;;\n" % tuple(text[4:].split(" |- ")) for text in wanted))
             self.settled()
             self.assertNotIn("✓", shown.value("document.getElementById('verdict').textContent"))
-            self.write(solved)
+            if number:
+                self.write(solved)
+            else:
+                self.follow_hints(given)
             shown.until("document.getElementById('verdict').textContent.startsWith('✓')")
             self.assertEqual(self.errors(), [])
             shown.click("#next")
         self.assertEqual(shown.until("document.querySelectorAll('.lessons .done').length"), 10)
+
+    def follow_hints(self, given):
+        """Solves a lesson by its hints, each put in as it is shown."""
+        self.write(given)
+        for number in range(self.page.value("document.querySelectorAll('.hints li').length"), 2):
+            self.page.click("#hint")
+            self.page.click(".hints li:nth-child(%d) button" % (number + 1))
 
     def test_examples_are_accepted(self):
         shown = self.open("?seconds=600")
