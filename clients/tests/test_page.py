@@ -145,14 +145,15 @@ class Server(Served):
         self.assertEqual((done.returncode, done.stdout), (0, b""))
 
     @unittest.skipUnless(BUILT.is_file(), "hol_serve isn't built")
-    def test_same_replies(self):
+    def test_sessions(self):
+        """The sessions of tests/sessions, by sockets: the replies are those that are wanted of the program."""
         self.serve(BUILT)
-        for file in sorted(EXAMPLES.glob("*.jsonl")):
-            socket = self.socket()
-            lines = file.read_bytes()
-            expected = subprocess.run([str(BUILT)], input=lines, stdout=subprocess.PIPE, check=True).stdout.splitlines()
-            socket.send(lines)
-            self.assertEqual([socket.receive() for _ in expected], expected, file.name)
+        through = self.room / "through"
+        through.write_text(THROUGH % {"python": sys.executable, "clients": CLIENTS, "host": self.host, "built": BUILT})
+        through.chmod(0o755)
+        command = [*PYTHON, str(ROOT / "tests" / "sessions.py"), "--program", str(through), "--seconds", str(browser.SECONDS)]
+        done = subprocess.run(command, stdout=subprocess.PIPE, timeout=browser.SECONDS * 10)
+        self.assertEqual(done.returncode, 0, done.stdout.decode())
 
 
 @unittest.skipUnless(browser.CHROMIUM, "Chromium isn't installed")
@@ -492,6 +493,33 @@ class Program(InBrowser):
         print("goals after a keystroke: %s ms" % ", ".join("%.0f" % one for one in took), file=sys.stderr)
         self.assertTrue(all(one > 0 for one in took))
 
+
+THROUGH = """#!%(python)s
+import os, socket, sys
+sys.path.insert(0, "%(clients)s")
+from holls.websocket import Closed, WebSocket, new_key
+if sys.argv[1:]:
+    os.execv("%(built)s", ["%(built)s"] + sys.argv[1:])
+host, port = "%(host)s".split(":")
+connection = socket.create_connection((host, int(port)))
+reader, writer = connection.makefile("rb"), connection.makefile("wb")
+writer.write(("GET /prover HTTP/1.1\\r\\nHost: %(host)s\\r\\nUpgrade: websocket\\r\\nConnection: Upgrade\\r\\nOrigin: http://%(host)s\\r\\n"
+              "Sec-WebSocket-Version: 13\\r\\nSec-WebSocket-Key: " + new_key() + "\\r\\n\\r\\n").encode())
+writer.flush()
+while reader.readline().strip():
+    pass
+page = WebSocket(reader, writer, True)
+lines = sys.stdin.buffer.read().split(b"\\n")
+lines = lines if lines[-1] else lines[:-1]
+if lines:
+    page.send(b"\\n".join(lines) + b"\\n")
+try:
+    for _ in lines:
+        sys.stdout.buffer.write(page.receive() + b"\\n")
+except Closed:
+    pass
+"""
+"""A program that passes its input on to a page's socket, and writes what comes; one with words runs by itself."""
 
 FOUND = """(() => {
   const { active, found } = window.page;
