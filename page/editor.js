@@ -33,6 +33,7 @@ export class Editor {
     this.area.setSelectionRange(place, place);
     this.place = place;
     this.shown = [];
+    this.current = -1;
     this.under.replaceChildren();
   }
 
@@ -72,6 +73,7 @@ export class Editor {
     }
     this.place = cursor;
     this.changed();
+    if (event.inputType !== 'insertText' || /\n/.test(event.data ?? '')) requestAnimationFrame(() => this.reveal(this.cursor));
   }
 
   // Shows the pieces of a theory. `info(at)` answers { status, findings } of a piece; without it what was known of unchanged pieces stays.
@@ -102,6 +104,7 @@ export class Editor {
 
   // Changes what differs of what is shown.
   put(shown) {
+    this.mark(-1);
     const { start, old, fresh } = middle(this.shown.map(({ html }) => html), shown.map(({ html }) => html));
     const spans = shown.slice(start, start + fresh).map(({ html }) => {
       const span = document.createElement('span');
@@ -113,7 +116,6 @@ export class Editor {
     for (const span of spans) this.under.insertBefore(span, after);
     if (!this.shown.length) this.under.append(END);
     this.shown = shown;
-    this.current = -1;
   }
 
   // Marks the piece in which the cursor's command stands.
