@@ -1,4 +1,4 @@
-"""The command line: `holls check FILE..`, `holls search QUERY..`, `holls prove FILE:LINE` and `holls lsp`."""
+"""The command line: `holls check FILE..`, `holls search QUERY..`, `holls prove FILE:LINE`, `holls page` and `holls lsp`."""
 
 from __future__ import annotations
 
@@ -6,7 +6,7 @@ import argparse
 import os
 import sys
 
-from holls import check, searching
+from holls import check, page, searching
 from holls.prover import command as prove
 
 
@@ -17,6 +17,7 @@ def main() -> int:
     check.add_words(kinds.add_parser("check", help="check files: status 0 where all is proved"))
     searching.add_words(kinds.add_parser("search", help="find theorems by name and by what they state"))
     prove.add_words(kinds.add_parser("prove", help="find a proof of the goal that is open at a line of a file"))
+    page.add_words(kinds.add_parser("page", help="open the page in the browser: an editor, goals and a first hour"))
     bridge = kinds.add_parser("lsp", help="speak the Language Server Protocol on standard input and output")
     bridge.add_argument("--server", metavar="PROGRAM", help="the program hol_serve")
     bridge.add_argument("--seconds", type=int, default=120, help="how long one command may take (120)")
@@ -28,6 +29,8 @@ def main() -> int:
         return searching.main(given)
     if given.kind == "prove":
         return prove.main(given)
+    if given.kind == "page":
+        return page.main(given)
     from holls.lsp import bridge as editor
     return editor.main(given)
 
