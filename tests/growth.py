@@ -196,7 +196,8 @@ def edits_of(program, before, texts):
         puts = [request("new_theory", name=name, at=place), *making([(name, old)])[1:]]
         yield Case(request("drop_theory", name=name), before, without, puts)
     name, old = docs[0]
-    for at, text in enumerate(texts):
+    for number, text in enumerate(texts):
+        at = number % (len(old) + 1)
         after = Standing(program, edited(docs, 0, old[:at] + [text] + old[at:]))
         yield Case(request("insert", theory=name, at=at, text=text), before, after, [request("remove", theory=name, at=at)])
     yield Case(request("new_theory", name="Q", at=1), before, Standing(program, [docs[0], ("Q", []), *docs[1:]]), [request("drop_theory", name="Q")])

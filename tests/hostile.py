@@ -150,20 +150,23 @@ def of_deep(program, case):
 
 
 def depths(program):
-    """The stack that each deep case touches: by its edits, its reports, and where it is dropped; and whether it is served in 1 MB."""
-    print("| what is deep | put | told | dropped | at 1 MB |\n|---|---:|---:|---:|---|")
+    """The stack that each deep case has touched once its texts are read, typed and run, shown, and dropped; and whether it is served in 1 MB."""
+    print("| what is deep | read | typed and run | told | dropped | at 1 MB |\n|---|---:|---:|---:|---:|---|")
     for case in [*deep_cases(), *large_terms.shared(), *large_terms.at_limits()]:
-        session, found = List(case.name, program, ["--turns", str(case.turns)]), []
-        last = len(case.commands) - 1
-        session.puts("A", case.commands, 60)
+        session, found, asked = List(case.name, program, ["--turns", str(case.turns)]), [], range(len(case.commands))
+        # A text that goes on behind its command is read, and then refused.
+        session.puts("A", [text + " )" for text in case.commands], 60)
         found.append(session.server.kilobytes("VmStk"))
-        session.ask([request("report", theory="A", at=at) for at in range(last + 1)], 60)
-        found.append(session.server.kilobytes("VmStk"))
-        session.ask([request("drop_theory", name="A")], 60)
-        found.append(session.server.kilobytes("VmStk"))
+        for lines in (
+            [request("replace", theory="A", at=at, text=text) for at, text in enumerate(case.commands)],
+            [request("report", theory="A", at=at) for at in asked],
+            [request("drop_theory", name="A")],
+        ):
+            session.ask(lines, 60)
+            found.append(session.server.kilobytes("VmStk"))
         session.ends()
-        served = not of_case(program, case._replace(seconds=60), LEAST).faults
-        print(f"| {case.name} | {found[0]} | {found[1]} | {found[2]} | {'served' if served else '**not served**'} |", flush=True)
+        served = of_case(program, case, WHOLE).told == of_case(program, case, LEAST).told
+        print(f"| {case.name} | {' | '.join(map(str, found))} | {'served' if served else 'ended'} |", flush=True)
 
 
 def main():
