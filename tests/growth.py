@@ -171,8 +171,8 @@ def of_case(program, page, case, every):
     most = trial.growths
     trial.carries_out(case, f"{case.line.decode()} with memory", case.reply)
     for number in chosen(most, every):
-        trial.tries(case, number, number, every or number % 5 == 1)
-        trial.tries(case, number, EVERY, every or number % 5 == 2)
+        trial.tries(case, number, number, number % 5 == 1)
+        trial.tries(case, number, EVERY, number % 5 == 2)
     if trial.server.end() != (b"", 0):
         trial.faults.append(f"{case.line.decode()}: the program doesn't end well")
     return trial.faults, trial.tried, most

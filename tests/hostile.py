@@ -33,7 +33,7 @@ class List:
     """A list of lines, sent to a program of its own, and what is wrong with the answers."""
 
     def __init__(self, name, program, words=(), stack=WHOLE):
-        self.name, self.faults, self.passed, self.slowest = name, [], 0, 0.0
+        self.name, self.faults, self.passed, self.slowest, self.is_ended = name, [], 0, 0.0, False
         self.server = watched.Watched(program, words, [(resource.RLIMIT_STACK, stack)])
 
     def expects(self, holds, said):
@@ -44,22 +44,26 @@ class List:
 
     def ask(self, lines, seconds=1.0):
         """The replies to lines, which together take no longer than one may."""
+        if self.is_ended:
+            return []
         before = self.server.seconds()
         replies = self.server.ask(lines)
-        took = self.server.seconds() - before
+        self.is_ended = len(replies) < len(lines)
+        self.expects(not self.is_ended, f"{len(replies)} replies to {[line[:80] for line in lines[:3]]} ..")
+        took = 0 if self.is_ended else self.server.seconds() - before
         self.slowest = max(self.slowest, took)
-        self.expects(len(replies) == len(lines), f"{len(replies)} replies to {[line[:200] for line in lines[:3]]} ..")
-        self.expects(took <= seconds, f"{took:.2f} seconds for {[line[:200] for line in lines[:3]]} ..")
+        self.expects(took <= seconds, f"{took:.2f} seconds for {[line[:80] for line in lines[:3]]} ..")
         return replies
 
     def puts(self, name, commands, seconds=1.0):
         """Puts a theory of these commands."""
         self.ask([request("new_theory", name=name, at=0)])
         for at, text in enumerate(commands):
-            self.expects(self.ask([request("insert", theory=name, at=at, text=text)], seconds) == [OK], f"insert of {text[:200]}")
+            told = self.ask([request("insert", theory=name, at=at, text=text)], seconds)
+            self.expects(told == [OK] or self.is_ended, f"insert of {text[:80]}")
 
     def ends(self):
-        most = self.server.kilobytes("VmHWM")
+        most = 0 if self.is_ended else self.server.kilobytes("VmHWM")
         self.expects(most <= MOST_KB, f"it had {most} KB")
         end = self.server.end()
         self.expects(end == (b"", 0), f"it ended with {end[1]} and wrote {end[0][:200]}")
@@ -132,8 +136,8 @@ def of_case(program, case, stack=WHOLE):
     session.puts("A", case.commands, case.seconds)
     last, asked = len(case.commands) - 1, range(0, len(case.commands), max(1, len(case.commands) // 20))
     session.told = [session.ask([request("report", theory="A", at=at)], case.seconds) for at in sorted({*asked, last})]
-    reply = session.told[-1]
-    session.expects(reply and is_wanted(case.want, reply[0]), f"{case.want} is wanted, and told is {[it[:200] for it in reply]}")
+    for reply in session.told[-1]:
+        session.expects(is_wanted(case.want, reply), f"{case.want} is wanted, and told is {reply[:200]}")
     session.ask([request("replace", theory="A", at=last, text="qed"), request("drop_theory", name="A")])
     return session.ends()
 

@@ -183,18 +183,18 @@ def missing(program):
 
 
 def large():
-    """Lines that take memory: goals of up to 20,000 nodes, and steps on them; and then what stands, and an end of it all."""
+    """Lines that take memory, and hardly any stack: many goals with steps on them; then what stands, and an end of it all."""
     def line(op, **more):
         return json.dumps({"op": op, **more}).encode() + b"\n"
 
     texts = []
-    for number in range(6):
-        parts = " /\\ ".join([f"p{number}"] * 1_980)
+    for number in range(60):
+        parts = " /\\ ".join(f"p{number}_{k}" for k in range(60))
         texts += [f"g N{number} `{parts} ==> q{number}`", "e DISCH_TAC", "oops"]
     lines = [line("new_theory", name="A", at=0)]
     lines += [line("insert", theory="A", at=at, text=text) for at, text in enumerate(texts)]
-    lines += [line("report", theory="A", at=at) for at in range(len(texts))]
-    lines += [line("remove", theory="A", at=0) for _ in texts]
+    lines += [line("report", theory="A", at=at) for at in range(0, len(texts), 7)]
+    lines += [line("remove", theory="A", at=0) for _ in range(40)]
     return [*lines, line("drop_theory", name="A"), *LINES]
 
 
