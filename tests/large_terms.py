@@ -111,7 +111,10 @@ def deep_expressions():
     yield Case("REPLICATE_TAC 9999 in one", ["g N `p:bool`", "e REPLICATE_TAC 9999 (REPLICATE_TAC 3 ALL_TAC)"], "goals", 100_000)
     yield Case("199 times SYM", ["g N `p:bool`", "e MP_TAC " + "(SYM " * 199 + "NOT_DEF" + ")" * 199], "goals")
     yield Case("199 times CONJUNCT1", ["g N `p:bool`", "e MP_TAC " + "(CONJUNCT1 " * 199 + "AND_CLAUSES" + ")" * 199], 14)
-    yield Case("4,000 theorems in a list", ["g N `p:bool`", "e REWRITE_TAC [TRUTH" + "; TRUTH" * 2_040 + "]"], "goals")
+    yield Case("4,094 arguments of a function", ["g N `p:bool`", "e x" + " x" * 4_094], 5)
+    yield Case("195 brackets round an expression", ["g N `p:bool`", "e " + "(" * 195 + "ALL_TAC" + ")" * 195], "goals")
+    yield Case("195 brackets round a theorem, cut short", ["g N `p:bool`", "e MP_TAC " + "(" * 195 + "TRUTH"], 1)
+    yield Case("2,041 theorems in a list", ["g N `p:bool`", "e REWRITE_TAC [TRUTH" + "; TRUTH" * 2_040 + "]"], "goals")
 
 
 def deep_runs():
