@@ -2,8 +2,8 @@
 
 A growth is a call by which the program asks the C library for memory; refusing.c, which is preloaded into it, refuses those that are named here. What
 is wanted comes from docs/PROTOCOL.md: where a growth of a request is refused the reply is the memory line, all reports, theorems and bases are
-those from before, and the same request with memory is answered as by a new session. So for each k the k-th growth of a request is refused alone, and
-then all from the k-th on. By default some k of each request are tried, the first ones, the last ones and some between; with `--all` each k."""
+those from before, and the same request with memory is answered as by a new session. Nor is memory lost: over many refusals of one request the program
+comes to have no more blocks than at first (what it shares may differ from one time to the next). So for each k the k-th growth of a request is refused alone, and then all from the k-th on. By default some k of each request are tried, the first ones, the last ones and some between; with `--all` each k."""
 
 import argparse
 import json
@@ -101,6 +101,9 @@ class Page:
         """Counts growths from here on, and refuses those from the first to the last."""
         struct.pack_into("<4Q", self.page, 0, 0, first, last, 0)
 
+    def blocks(self):
+        return struct.unpack_from("<Q", self.page, 32)[0]
+
     def growths(self):
         return struct.unpack_from("<Q", self.page, 0)[0]
 
@@ -112,15 +115,19 @@ class Trial:
     """A program with documents in it, whose growths are refused."""
 
     def __init__(self, program, page, before):
-        self.page, self.faults, self.tried, self.growths = page, [], 0, 0
+        self.page, self.faults, self.tried, self.growths, self.blocks = page, [], 0, 0, []
         page.refuse(0, 0)
         self.server = watched.Watched(program, environment=page.environment)
         self.server.ask(making(before.docs))
 
+    def rests(self):
+        """Waits until the program waits for a line."""
+        while self.server.process.poll() is None and not self.server.is_waiting():
+            time.sleep(0)
+
     def answered(self, line, first=0, last=0):
         """The reply where these growths are refused, and how many were."""
-        while not self.server.is_waiting():
-            time.sleep(0)
+        self.rests()
         self.page.refuse(first, last)
         replies, refused = self.server.ask([line]), self.page.refused()
         self.growths = self.page.growths()
@@ -128,9 +135,12 @@ class Trial:
         return replies[0] if replies else b"", refused
 
     def expects(self, said, want, found):
-        if want != found and len(self.faults) < 5:
+        if want == found or len(self.faults) == 5:
+            return
+        if isinstance(want, list):
             at = next((i for i, pair in enumerate(zip(want, found)) if pair[0] != pair[1]), min(len(want), len(found)))
-            self.faults.append(f"{said}\n  got  {found[at:at + 1] if isinstance(found, list) else found}\n  want {want[at:at + 1] if isinstance(want, list) else want}")
+            want, found = want[at:at + 1], found[at:at + 1]
+        self.faults.append(f"{said}\n  got  {found}\n  want {want}")
 
     def carries_out(self, case, said, reply):
         """The request was answered by this reply, and had its memory: it has done what it does, and is undone."""
@@ -152,9 +162,17 @@ class Trial:
         if not refused:
             return self.carries_out(case, said, reply)
         self.expects(f"{said}: the reply", MEMORY, reply)
+        self.rests()
+        self.blocks.append(self.page.blocks())
         self.expects(f"{said}: what stands", case.before.replies, self.server.ask(case.before.lines))
         if again:
             self.carries_out(case, f"{said}, and again with memory", self.answered(case.line)[0])
+
+
+    def loses_memory(self):
+        """Whether the program has more blocks after each of the last tries than after any of the first ones."""
+        third = len(self.blocks) // 3
+        return third >= 10 and min(self.blocks[-third:]) > max(self.blocks[:third])
 
 
 def chosen(growths, every):
@@ -173,6 +191,8 @@ def of_case(program, page, case, every):
     for number in chosen(most, every):
         trial.tries(case, number, number, number % 5 == 1)
         trial.tries(case, number, EVERY, number % 5 == 2)
+    if trial.loses_memory():
+        trial.faults.append(f"{case.line.decode()}: it has {trial.blocks[:3]} .. {trial.blocks[-3:]} blocks")
     if trial.server.end() != (b"", 0):
         trial.faults.append(f"{case.line.decode()}: the program doesn't end well")
     return trial.faults, trial.tried, most

@@ -96,6 +96,8 @@ def deep_terms():
     yield Case("a type of 4,400 lists by two uses", [*LIST, "new_constant w `:A->A" + " list" * 2_200 + "`", "g N `w (w (x:A)) = y`"], 13)
     yield Case("a type of 3,000 lists by two uses", [*LIST, "new_constant w `:A->A" + " list" * 1_500 + "`", "g N `w (w (x:A)) = y`"], "goals")
     yield Case("a type of 8,000 lists by one use", [*LIST, "new_constant w `:A->A" + " list" * 4_000 + "`", "new_constant P `:A->bool`", "g N `P (w (x:A)):bool`"], "goals")
+    parameters = joined(" ", (f"x{k}" for k in range(4_080)))
+    yield Case("4,080 parameters, untypable", [f"new_definition D `c {parameters} = c`"], 7)
     yield Case("an untypable term of 3,990 times ~", ["g N `" + "~" * 3_990 + "(x x)`"], 7)
     yield Case("an untypable term at the end of 4,000 arguments", ["g N `f " + joined(" ", ["x"] * 4_000) + " f`"], 7)
 
@@ -122,6 +124,8 @@ def deep_runs():
     last = r"(T /\ T)"
     right = joined(r" /\ ", ["T"] * 1_990)
     yield Case("1,990 conjuncts, split and proved", [f"g N `{right}`", "e REPEAT CONJ_TAC THEN ACCEPT_TAC TRUTH", "qed"], "made")
+    rules = joined(r" /\ ", ["p"] * 1_990)
+    yield Case("1,990 conjuncts, rewritten by", [f"new_axiom AX `{rules}`", "g N `q:bool`", "e REWRITE_TAC [AX]"], "goals")
     yield Case("1,990 conjuncts, rewritten and proved", [f"g N `{right}`", "e REWRITE_TAC []", "qed"], "made")
     implied = joined(" ==> ", ["p"] * 1_300)
     yield Case("1,299 implications, discharged and proved", [f"g N `{implied}`", "e REPEAT DISCH_TAC THEN FIRST_ASSUM ACCEPT_TAC", "qed"], "made")

@@ -1,5 +1,6 @@
 /* Preloaded into the program: counts its growths, which are the calls that ask the C library for memory, and refuses some. The file that REFUSING
-   names is a page that the test has in its memory too: the number of growths so far, the first and the last that are refused, and how many were. */
+   names is a page that the test has in its memory too: the number of growths so far, the first and the last that are refused, how many were, and
+   how many blocks the program has. */
 
 #include <errno.h>
 #include <fcntl.h>
@@ -11,9 +12,10 @@ void *__libc_malloc(size_t size);
 void *__libc_calloc(size_t count, size_t size);
 void *__libc_realloc(void *block, size_t size);
 void *__libc_memalign(size_t alignment, size_t size);
+void __libc_free(void *block);
 
 struct page {
-    volatile unsigned long count, first, last, refused;
+    volatile unsigned long count, first, last, refused, blocks;
 };
 
 static struct page *page;
@@ -37,13 +39,22 @@ static int is_refused(void) {
     return 1;
 }
 
-void *malloc(size_t size) { return is_refused() ? NULL : __libc_malloc(size); }
+static void *counted(void *block) {
+    if (page && block) ++page->blocks;
+    return block;
+}
 
-void *calloc(size_t count, size_t size) { return is_refused() ? NULL : __libc_calloc(count, size); }
+void *malloc(size_t size) { return is_refused() ? NULL : counted(__libc_malloc(size)); }
 
-void *realloc(void *block, size_t size) { return is_refused() ? NULL : __libc_realloc(block, size); }
+void *calloc(size_t count, size_t size) { return is_refused() ? NULL : counted(__libc_calloc(count, size)); }
 
-void *memalign(size_t alignment, size_t size) { return is_refused() ? NULL : __libc_memalign(alignment, size); }
+void *realloc(void *block, size_t size) {
+    if (is_refused()) return NULL;
+    void *found = __libc_realloc(block, size);
+    return block ? found : counted(found);
+}
+
+void *memalign(size_t alignment, size_t size) { return is_refused() ? NULL : counted(__libc_memalign(alignment, size)); }
 
 void *aligned_alloc(size_t alignment, size_t size) { return memalign(alignment, size); }
 
@@ -51,4 +62,9 @@ int posix_memalign(void **block, size_t alignment, size_t size) {
     void *found = memalign(alignment, size);
     if (found) *block = found;
     return found ? 0 : ENOMEM;
+}
+
+void free(void *block) {
+    if (page && block) --page->blocks;
+    __libc_free(block);
 }
