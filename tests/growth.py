@@ -90,7 +90,8 @@ class Page:
     def __init__(self, folder):
         compiler, library, self.file = os.environ.get("CC") or "cc", f"{folder}/refusing.so", f"{folder}/page"
         if not shutil.which(compiler):
-            sys.exit(f"growth: there is no C compiler {compiler}: set CC")
+            print(f"growths refused: 0 passed, 0 failed; skipped, since there is no C compiler {compiler}: set CC")
+            sys.exit(0)
         subprocess.run([compiler, "-O2", "-shared", "-fPIC", "-o", library, HERE / "refusing.c"], check=True)
         pathlib.Path(self.file).write_bytes(bytes(mmap.PAGESIZE))
         self.environment = {**os.environ, "LD_PRELOAD": library, "REFUSING": self.file}
