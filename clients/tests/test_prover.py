@@ -259,7 +259,7 @@ class Theories(unittest.TestCase):
         self.at_least("pairs", 6)
 
     def test_groups(self):
-        self.at_least("groups", 6)
+        self.at_least("groups", 4)
 
 
 if __name__ == "__main__":

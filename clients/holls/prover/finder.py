@@ -21,7 +21,7 @@ NEAREST = 10
 _FEW = 5
 _WITHOUT = 0.35
 """The part of the time in which no theorems are taken, where none is named."""
-_SHORTER_SECONDS = 0.5
+_SHORTER_SECONDS = 0.25
 """So long shorter steps are searched than those of a truth table."""
 _TRYING_SECONDS = 1.5
 """So long, at least, steps that were found are made fewer."""
@@ -126,7 +126,7 @@ class Finder:
             step = tables.steps(items, atoms, scribe.middle, scribe.assume)
         except Unwritable:
             return None
-        return None if _has(step, scripts.UNWRITTEN) else self._run(scribe.with_middle(step), [], False)
+        return None if _has(step, scripts.UNWRITTEN) else self._run_table(scribe.with_middle(step))
 
     def _search(self, items: List[Item], names: Sequence[str], until: float) -> Optional[List[str]]:
         """Steps of a proof that takes some theorems."""
@@ -161,23 +161,28 @@ class Finder:
             else:
                 yield _Given(statement, "(INST_TYPE [%s] %s)" % (pairs, name) if pairs else name)
 
-    def _run(self, step: Step, names: Sequence[str], is_shortened: bool = True) -> Optional[List[str]]:
+    def _run(self, step: Step, names: Sequence[str]) -> Optional[List[str]]:
         """Runs steps, and makes them fewer; those that are left are run once more."""
-        count, mark = len(self.goals.goals), self.asker.count
-        until = max(self.until, time.monotonic() + _TRYING_SECONDS)
         fine = [name for name in names if not trying.grows(self.scope.theorems[name])]
         closers = trying.closers((), self.is_growing) + (trying.closers(fine, self.is_growing) if fine else [])
-        trial = trying.Trial(self.asker, closers if is_shortened else [], until)
-        done = trial.run(step, count)
+        count, mark = len(self.goals.goals), self.asker.count
+        done = trying.Trial(self.asker, closers, max(self.until, time.monotonic() + _TRYING_SECONDS)).run(step, count)
         self.asker.back(mark)
         if done is None:
             self.refused += 1
             return None
         for attempt in self._variants(done):
             texts = scripts.commands(attempt)
-            if trial.check(texts, count):
+            if trying.check(self.asker, texts, count):
                 return texts
         return None
+
+    def _run_table(self, step: Step) -> Optional[List[str]]:
+        """Runs the steps of a truth table as they are, as long as there is time."""
+        mark = self.asker.count
+        done = trying.run_each(self.asker, step, len(self.goals.goals), self.until)
+        self.asker.back(mark)
+        return None if done is None else scripts.commands(done)
 
     def _variants(self, step: Step) -> List[Step]:
         """Steps that do the same, perhaps: the excluded middle isn't shown where nothing is written by it."""

@@ -50,10 +50,6 @@ def _beginning(term: Term) -> Tuple[Term, int]:
     return term, number
 
 
-MOST_MERGED = 4
-"""So many goals' steps are written once behind a THEN: of more they might take more turns than a command has."""
-
-
 class Trial:
     """Tries steps in a server until a time; `own_closers` are short ones that may close a goal."""
 
@@ -67,16 +63,11 @@ class Trial:
         for text in self.closers:
             if time.monotonic() > self.until:
                 break
-            found = self._goals(text)
+            found = goals_after(self.asker, text)
             self.asker.back(mark)
             if found is not None and len(found.goals) == open_goals - 1:
                 return text
         return None
-
-    def _goals(self, text: str) -> Optional[Goals]:
-        """The goals after a step; None where it is refused."""
-        report = self.asker.step("e " + text)
-        return report if isinstance(report, Goals) else None
 
     def run(self, step: Step, open_goals: int) -> Optional[Step]:
         """Runs steps on the first goal. Answers those that were run in the end, or None where one is refused."""
@@ -85,14 +76,12 @@ class Trial:
             for text in self.closers:
                 if len(text) >= _cost(step):
                     continue
-                found = self._goals(text)
+                found = goals_after(self.asker, text)
                 if found is not None and len(found.goals) == open_goals - 1:
                     return Step(text)
                 self.asker.back(mark)
         step = self._introduced(step)
-        found = self._goals(step.text)
-        if found is not None and step.is_each:
-            step = Step(step.text, step.subs * (len(found.goals) - open_goals + 1))
+        found = goals_after(self.asker, step.text)
         if found is None or len(found.goals) != open_goals - 1 + len(step.subs):
             return None
         subs: List[Step] = []
@@ -112,27 +101,50 @@ class Trial:
         if not chain or time.monotonic() > self.until:
             return step
         mark, whole = self.asker.count, " THEN ".join(chain)
-        wanted = self._goals(whole)
+        wanted = goals_after(self.asker, whole)
         self.asker.back(mark)
         for text in sorted(_SHORTER, key=len):
             if wanted is None or len(text) >= len(whole):
                 break
-            found = self._goals(text)
+            found = goals_after(self.asker, text)
             self.asker.back(mark)
             if found is not None and _are_alike(found, wanted):
                 return Step(text, (last,))
         return step
 
-    def check(self, texts: Sequence[str], open_goals: int) -> bool:
-        """Whether commands close the first goal; they are taken back."""
-        mark = self.asker.count
-        found: Optional[Goals] = None
-        for text in texts:
-            found = self._goals(text[len("e "):])
-            if found is None:
-                break
-        self.asker.back(mark)
-        return found is not None and len(found.goals) == open_goals - 1
+
+def goals_after(asker: Asker, text: str) -> Optional[Goals]:
+    """The goals after a step; None where it is refused."""
+    report = asker.step("e " + text)
+    return report if isinstance(report, Goals) else None
+
+
+def check(asker: Asker, texts: Sequence[str], open_goals: int) -> bool:
+    """Whether commands close the first goal; they are taken back."""
+    mark = asker.count
+    found: Optional[Goals] = None
+    for text in texts:
+        found = goals_after(asker, text[len("e "):])
+        if found is None:
+            break
+    asker.back(mark)
+    return found is not None and len(found.goals) == open_goals - 1
+
+
+def run_each(asker: Asker, step: Step, open_goals: int, until: float) -> Optional[Step]:
+    """Runs steps as they are until a time. Answers them as often as there were goals for them; None where one is refused."""
+    found = goals_after(asker, step.text)
+    left = -1 if found is None else len(found.goals) - open_goals + 1
+    own = step.subs * left if step.is_each else step.subs
+    if left != len(own) or time.monotonic() > until:
+        return None
+    subs: List[Step] = []
+    for number, sub in enumerate(own):
+        done = run_each(asker, sub, open_goals + left - 1 - number, until)
+        if done is None:
+            return None
+        subs.append(done)
+    return Step(step.text, tuple(subs))
 
 
 def _are_alike(one: Goals, other: Goals) -> bool:
@@ -149,7 +161,7 @@ def _cost(step: Step) -> int:
 
 def merged(step: Step) -> Step:
     """Where all goals that a step leaves have the same steps, these once behind it."""
-    if 1 < len(step.subs) <= MOST_MERGED and all(sub == step.subs[0] for sub in step.subs):
+    if len(step.subs) > 1 and all(sub == step.subs[0] for sub in step.subs):
         text = _line(step.subs[0])
         if text is not None:
             return Step("%s THEN %s" % (step.text, text))
