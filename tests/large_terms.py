@@ -124,8 +124,9 @@ def deep_runs():
     last = r"(T /\ T)"
     right = joined(r" /\ ", ["T"] * 1_990)
     yield Case("1,990 conjuncts, split and proved", [f"g N `{right}`", "e REPEAT CONJ_TAC THEN ACCEPT_TAC TRUTH", "qed"], "made")
-    rules = joined(r" /\ ", ["p"] * 1_990)
-    yield Case("1,990 conjuncts, rewritten by", [f"new_axiom AX `{rules}`", "g N `q:bool`", "e REWRITE_TAC [AX]"], "goals")
+    rules = joined(r" /\ ", ["c"] * 1_990)
+    given = ["new_constant c `:bool`", f"new_axiom AX `{rules}`", "g N `q:bool`", "e REWRITE_TAC [AX]"]
+    yield Case("1,990 conjuncts, rewritten by", given, "goals")
     yield Case("1,990 conjuncts, rewritten and proved", [f"g N `{right}`", "e REWRITE_TAC []", "qed"], "made")
     implied = joined(" ==> ", ["p"] * 1_300)
     yield Case("1,299 implications, discharged and proved", [f"g N `{implied}`", "e REPEAT DISCH_TAC THEN FIRST_ASSUM ACCEPT_TAC", "qed"], "made")
