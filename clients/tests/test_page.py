@@ -208,7 +208,7 @@ class Editing(InBrowser):
         shown.key("ArrowUp", modifiers=1)
         shown.key("ArrowUp", modifiers=1)
         self.assertEqual(shown.value("[...document.querySelectorAll('#under .current')].map((item) => item.textContent)"),
-                         ["✓g A `p /\\ q = q`;;the proof of A is never ended: add qed;; or oops;;"])
+                         ["g A `p /\\ q = q`;;"])
         self.assertEqual((self.goals(), shown.value("document.getElementById('text').selectionStart")), (["p /\\ q = q"], 0))
         self.write("g A `p`;;\ng B `q = q`;;\ne REFL_TAC;;\nqed;;\nqed;;")
         self.assertEqual(self.errors(), ["Line 2: a proof was open before this: that of A, from line 1; end it by qed;; or give it up by oops;;",
