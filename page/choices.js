@@ -1,5 +1,5 @@
 // The list of names that complete what is typed. Focus stays in the text; the list follows the pattern of a listbox with an active descendant.
-import { element } from './goals.js';
+import { element } from './element.js';
 
 export class Choices {
   // `complete(isAsked)` answers { word, found } at the cursor.

@@ -1,8 +1,9 @@
 // The editor: a textarea, and under it the same text in colour, piece by piece.
 import { middle } from './theory.js';
 import { painted } from './paint.js';
+import { element } from './element.js';
 
-const END = '\n\u200b';
+const END = '\u200b'; // Behind the text, so that its last line is shown where it is empty.
 const ROOM = /^[ \t]*(\n[ \t]*(\n|$)|$)/; // What stands behind a command with room under it for the words of its error.
 export const SYMBOL_NAMES = {
   __proto__: null,
@@ -76,61 +77,48 @@ export class Editor {
     if (event.inputType !== 'insertText' || /\n/.test(event.data ?? '')) requestAnimationFrame(() => this.reveal(this.cursor));
   }
 
-  // Shows the pieces of a theory. `info(at)` answers { status, findings } of a piece; without it what was known of unchanged pieces stays.
+  // Shows the pieces of a theory. `info(at)` answers { status, findings } of a piece; without it what was known of unchanged blocks stays.
   paint(theory, info) {
-    const { pieces } = theory.cut;
-    const ends = pieces.map((piece) => (piece.isEnded ? piece.end + 2 : piece.end));
-    const texts = pieces.map((piece, at) => theory.text.slice(piece.start, ends[at]));
-    const { start, old, fresh } = middle(this.shown.map(({ text }) => text), texts);
-    const shown = texts.map((text, at) => {
+    const blocks = blocksOf(theory);
+    const { start, old, fresh } = middle(this.shown.map(({ text }) => text), blocks.map(({ text }) => text));
+    const shown = blocks.map((block, at) => {
       const before = at < start ? this.shown[at] : at >= start + fresh ? this.shown[at - fresh + old] : null;
-      if (!info && before) return before;
-      const told = info ? info(at) : { status: 'pending', findings: [] };
-      const hasRoom = ROOM.test(theory.text.slice(ends[at], ends[at] + 200));
-      const key = keyOf(told, pieces[at].start, hasRoom);
-      return before?.key === key ? before : { text, key, html: this.html(theory, at, text, told, hasRoom) };
+      if (!info && before) return { ...before, pieces: block.pieces };
+      const told = block.pieces.map(info ?? (() => ({ status: 'pending', findings: [] })));
+      const hasRoom = ROOM.test(theory.text.slice(block.end, block.end + 200));
+      const key = told.map((one) => keyOf(one, block.start, hasRoom)).join(' ');
+      return before?.key === key ? { ...before, pieces: block.pieces } : { ...block, key, html: htmlOf(theory, block, told, hasRoom) };
     });
     this.put(shown);
   }
 
-  html(theory, at, text, { status, findings }, hasRoom) {
-    const piece = theory.cut.pieces[at];
-    const from = (place) => Math.max(0, Math.min(text.length, place - piece.start));
-    const command = theory.commands[piece.number];
-    const places = command ? { start: from(command.start), end: from(command.end) } : null;
-    const own = findings.map((finding) => ({ ...finding, start: from(finding.start), end: Math.max(from(finding.end), from(finding.start) + 1) }));
-    return painted(text, piece.comments.map(([start, end]) => [from(start), from(end)]), places, status, own, hasRoom);
-  }
-
-  // Changes what differs of what is shown.
+  // Changes what differs of what is shown: a block in its place, since a new one has the browser lay out all of them.
   put(shown) {
     this.mark(-1);
     const { start, old, fresh } = middle(this.shown.map(({ html }) => html), shown.map(({ html }) => html));
-    const spans = shown.slice(start, start + fresh).map(({ html }) => {
-      const span = document.createElement('span');
-      span.innerHTML = html;
-      return span;
-    });
-    for (let at = 0; at < old; at += 1) this.under.children[start].remove();
-    const after = this.under.childNodes[start] ?? null;
-    for (const span of spans) this.under.insertBefore(span, after);
-    if (!this.shown.length) this.under.append(END);
+    const { children } = this.under;
+    const both = Math.min(old, fresh);
+    for (let at = start; at < start + both; at += 1) if (this.shown[at].html !== shown[at].html) children[at].innerHTML = shown[at].html;
+    for (let at = both; at < old; at += 1) children[start + both].remove();
+    const after = children[start + both] ?? null;
+    for (const { html } of shown.slice(start + both, start + fresh)) this.under.insertBefore(element('div', { innerHTML: html }), after);
     this.shown = shown;
   }
 
-  // Marks the piece in which the cursor's command stands.
-  mark(at) {
-    if (at === this.current) return;
-    this.under.children[this.current]?.classList.remove('current');
-    this.under.children[at]?.classList.add('current');
-    this.current = at;
+  // Marks the command of a piece as the one at the cursor.
+  mark(piece) {
+    if (piece === this.current) return;
+    this.under.querySelector('.current')?.classList.remove('current');
+    const at = this.shown.findIndex(({ pieces }) => pieces.includes(piece));
+    this.under.children[at]?.querySelector(`[data-piece="${this.shown[at].pieces.indexOf(piece)}"]`)?.classList.add('current');
+    this.current = piece;
   }
 
   // Where a place is on the screen.
   rectangle(place) {
     let left = place;
-    for (const span of this.under.children) {
-      const walker = document.createTreeWalker(span, NodeFilter.SHOW_TEXT, (node) => (
+    for (const block of this.under.children) {
+      const walker = document.createTreeWalker(block, NodeFilter.SHOW_TEXT, (node) => (
         node.parentElement.closest('i') ? NodeFilter.FILTER_REJECT : NodeFilter.FILTER_ACCEPT));
       for (let node = walker.nextNode(); node; node = walker.nextNode()) {
         if (left <= node.length) return rangeAt(node, left).getBoundingClientRect();
@@ -152,6 +140,38 @@ export class Editor {
 // What is told of a piece, in a text: the same one where the same is shown.
 function keyOf({ status, findings }, start, hasRoom) {
   return `${status} ${hasRoom} ${findings.map((one) => `${one.start - start} ${one.end - start} ${one.severity} ${one.text}`).join('\n')}`;
+}
+
+// The text in blocks of whole lines, which the browser lays out one by one: a piece, and those that begin in its last line. A line's end
+// belongs to the line.
+function blocksOf({ text, cut: { pieces } }) {
+  const found = [];
+  pieces.forEach((piece, at) => {
+    const end = piece.isEnded ? piece.end + 2 : piece.end;
+    const rest = /^[ \t]*\n/.exec(text.slice(piece.start, end))?.[0].length ?? -1;
+    const last = found[found.length - 1];
+    if (last) last.end = rest < 0 ? end : piece.start + rest;
+    if (last && rest < 0) last.pieces.push(at);
+    else found.push({ start: piece.start + (last ? rest : 0), end, pieces: [at] });
+  });
+  return found.map((block) => ({ ...block, text: text.slice(block.start, block.end) + (block === found[found.length - 1] ? END : '') }));
+}
+
+function htmlOf(theory, block, told, hasRoom) {
+  const parts = block.pieces.map((at, number) => {
+    const piece = theory.cut.pieces[at];
+    const start = Math.max(block.start, piece.start);
+    const end = at === theory.cut.pieces.length - 1 || !piece.isEnded ? piece.end : piece.end + 2;
+    const from = (place) => Math.max(0, Math.min(end, place) - start);
+    const command = theory.commands[piece.number];
+    const places = command ? { start: from(command.start), end: from(command.end), number } : null;
+    const { status, findings } = told[number];
+    const own = findings.map((finding) => ({ ...finding, start: from(finding.start), end: Math.max(from(finding.end), from(finding.start) + 1) }));
+    const comments = piece.comments.map(([first, last]) => [from(first), from(last)]);
+    return [painted(theory.text.slice(start, end), comments, places, status, own, hasRoom), end];
+  });
+  const last = parts[parts.length - 1][1];
+  return parts.map(([html]) => html).join('') + block.text.slice(last - block.start);
 }
 
 function rangeAt(node, offset) {

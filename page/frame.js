@@ -1,5 +1,5 @@
 // Parts of the page that need no theory: the bar of symbols, the panels, the tabs, and what a screen reader is told.
-import { element } from './goals.js';
+import { element } from './element.js';
 import { lessonOf } from './hour.js';
 
 const KEYS = ['∀', '∃', 'λ', '∧', '∨', '¬', '⇒', '⇔', '`', ';;\n'];

@@ -1,4 +1,5 @@
 // The goals after a command, as they are shown.
+import { element } from './element.js';
 
 const SHOWN = 20000; // So many characters of a term are shown. A report has no limit.
 const SYMBOL = /<=>|==>|\\\/|\/\\|->|\?!|[!?\\@~]/g;
@@ -8,16 +9,6 @@ const SYMBOLS = {
 
 // A term or type with symbols. The `?` of a type variable `?0` stays.
 export const symbolic = (text) => text.replace(SYMBOL, (found, at) => (found === '?' && /[0-9]/.test(text[at + 1] ?? '') ? found : SYMBOLS[found]));
-
-export function element(tag, properties = {}, ...children) {
-  const made = document.createElement(tag);
-  for (const [name, value] of Object.entries(properties)) {
-    if (name in made) made[name] = value;
-    else made.setAttribute(name, value);
-  }
-  made.append(...children);
-  return made;
-}
 
 export class Goals {
   constructor(pane) {

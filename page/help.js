@@ -1,6 +1,6 @@
 // The help panel: commands, functions, keys.
 import { MANUAL } from './tables.js';
-import { element } from './goals.js';
+import { element } from './element.js';
 
 const KEYS = [
   ['Ctrl+Space', 'completes a name'],

@@ -1,6 +1,6 @@
 // The first hour: a lesson's words, its hints step by step, and whether what it wants was made.
 import { LESSONS, given } from './lessons.js';
-import { element } from './goals.js';
+import { element } from './element.js';
 
 const PREFIX = 'Lesson';
 const THEOREM = /^thm (\S+) \|- /;

@@ -1,8 +1,9 @@
 // The page: the open theories, the session with the prover, and what is shown of them.
 import { Choices } from './choices.js';
 import { Editor } from './editor.js';
+import { element } from './element.js';
 import { findings, state } from './findings.js';
-import { Goals, element, said } from './goals.js';
+import { Goals, said } from './goals.js';
 import { help } from './help.js';
 import { Hour, lessonOf, theoryOf } from './hour.js';
 import { LESSONS, given } from './lessons.js';

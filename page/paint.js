@@ -57,14 +57,15 @@ function segment(text, start, end, kind, findings) {
   }).join('');
 }
 
-// The HTML of a piece: `places` has the command's start and end in the text, or is null; `findings` are those of the piece; all from its
-// start. The words of an error stand under the command if it has room there, else beside it.
+// The HTML of a piece: `places` has the command's start and end in the text and its number in the block, or is null; `findings` are those of
+// the piece; all from its start. The words of an error stand under the command if it has room there, else beside it.
 export function painted(text, comments, places, status, findings, hasRoom) {
   const said = findings.find(({ severity }) => severity === 'error') ?? findings.find(({ severity }) => severity === 'warning');
   const stops = [];
   if (places) {
-    stops.push([places.start, `<i class="mark ${status}">${MARKS[status] ?? ''}</i>`]);
-    if (said) stops.push([Math.min(text.length, places.end + 2), `<i class="said ${said.severity}${hasRoom ? ' under' : ''}">${escaped(said.text)}</i>`]);
+    const words = said ? `<i class="said ${said.severity}${hasRoom ? ' under' : ''}">${escaped(said.text)}</i>` : '';
+    stops.push([places.start, `<i class="mark ${status}">${MARKS[status] ?? ''}</i><span data-piece="${places.number}">`]);
+    stops.push([Math.min(text.length, places.end + 2), `</span>${words}`]);
   }
   let html = '';
   let at = 0;

@@ -14,7 +14,7 @@ import time
 from holls.websocket import WebSocket, new_key
 
 CHROMIUM = shutil.which("chromium") or shutil.which("chromium-browser") or shutil.which("google-chrome")
-SECONDS = 120
+SECONDS = 600
 """So long something may take to come about, on a machine that does much else."""
 
 
