@@ -9,7 +9,7 @@ import unittest
 
 from holls import files, names, server
 from holls.protocol import Goals
-from holls.prover import command, finding, ground, reading, scope, scripts, sequents, tables, typed, writing
+from holls.prover import command, finding, ground, reading, retyping, scope, scripts, sequents, substituting, tables, typed, writing
 from holls.prover.asking import Asker
 from holls.prover.finder import Finder
 from tests.helpers import BUILT, CLIENTS, HOLLS, PYTHON, ROOT, SECONDS, fake
@@ -70,6 +70,30 @@ class Terms(unittest.TestCase):
         quoter = writing.Quoter(known.signature)
         self.assertEqual(quoter.quote(known.theorems["SWAP_DEF"]), "`!p:(A,B)prod. swap p = pair (snd p) (fst p)`")
         self.assertEqual(known.signature.constants["ABS_prod"], reading.type_text("(A->B->bool)->(A,B)prod", known.signature))
+
+    def test_types_that_are_not_shown_are_those_of_the_statement(self):
+        signature = reading.Signature()
+        statement = reading.term("!P:A->bool. ~(?x. P x) <=> (!x. ~P x)", signature)
+        shown = reading.term("!P. ~(?x. P x) <=> (!x. ~P x)", signature, begun=retyping.OPEN)
+        self.assertNotEqual(shown, statement)
+        self.assertEqual(retyping.resolved(shown, statement), statement)
+        part = reading.term("?x. Q x", signature, {"Q": typed.fun("??0", typed.BOOL)}, begun=retyping.OPEN)
+        self.assertEqual(retyping.resolved(part, statement), reading.term("?x:A. Q x", signature))
+        other = reading.term("!P. (?x. P x) ==> T", signature, begun=retyping.OPEN)
+        self.assertEqual(retyping.resolved(other, statement), other)
+
+    def test_equations_in_an_order_that_makes_terms_one(self):
+        signature = reading.Signature()
+        equations = [reading.term(text, signature) for text in (
+            "(p:C) = pair (x:A) (y:B)", "(fst:C->A) (pair (x:A) (y:B)) = x", "(snd:C->B) (pair (x:A) (y:B)) = y")]
+        goal = reading.term("(pair:A->B->C) (fst (p:C)) (snd p) = p", signature)
+        found = substituting.plan(equations, None, goal)
+        for equation, is_turned in found.equations:
+            _, old, new = typed.binary(equation)
+            goal = typed.replaced(goal, *((new, old) if is_turned else (old, new)))
+        self.assertEqual(found.is_joined, False)
+        self.assertEqual(typed.binary(goal)[1], typed.binary(goal)[2])
+        self.assertIsNone(substituting.plan(equations[1:], None, reading.term("(p:C) = q", signature)))
 
     def test_a_theorem_at_the_types_of_a_goal(self):
         known = standing(3)

@@ -86,14 +86,6 @@ class Asker:
         reply = self.ask({"op": "theorems", "theory": THEORY})
         return [text.split(" ", 2)[1] for text in reply.texts] if isinstance(reply, protocol.Theorems) else []
 
-    def goals(self) -> Optional[Goals]:
-        """The goals that are open after the last command that was accepted; None where no proof is open."""
-        for at in range(self.count - 1, -1, -1):
-            report = self.report(at)
-            if not isinstance(report, Refusal):
-                return report if isinstance(report, Goals) else None
-        return None
-
     def step(self, text: str, until: Optional[float] = None) -> Union[Goals, Made, Refusal, protocol.Error]:
         """Puts a step behind the last command, and answers its report; one that is refused is taken out again."""
         self._server.send(protocol.line({"op": "insert", "theory": THEORY, "at": self.count, "text": text}))

@@ -11,7 +11,6 @@ from typing import Any, Dict, List, NamedTuple, Optional, Sequence, Tuple
 
 from holls.prover import clauses, typed
 from holls.prover.clauses import APPLY, Clause, Coded, Literal, Symbol
-from holls.prover.sequents import Position
 from holls.prover.typed import Term, Type
 
 Path = Optional[Tuple[Literal, Any]]

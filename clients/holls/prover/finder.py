@@ -56,7 +56,13 @@ class Finder:
             pass
 
     def find(self, named: Optional[Sequence[str]]) -> Optional[List[str]]:
-        """The texts of `e` commands that close the goal; None where none were found in time."""
+        """The texts of `e` commands that close the goal; None where none were found in time, or terms are too deep for that."""
+        try:
+            return self._find(named)
+        except RecursionError:
+            return None
+
+    def _find(self, named: Optional[Sequence[str]]) -> Optional[List[str]]:
         for name in named or ():
             if name not in self.scope.theorems:
                 raise Unprovable("no theorem %s stands here, or its statement can't be read" % name)

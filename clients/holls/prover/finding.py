@@ -8,10 +8,11 @@ from typing import Callable, Dict, FrozenSet, List, NamedTuple, Optional, Sequen
 
 from holls.prover import clauses, connection, equality, ground, matching, sequents, typed
 from holls.prover.ground import Ground, Instances, Proof
-from holls.prover.sequents import ALPHA, BETA, DELTA, Formula, Signed
+from holls.prover.sequents import ALPHA, BETA, DELTA, Formula
 from holls.prover.typed import Term, Type
 
-_DEEP = 50_000
+_DEEP = 8_000
+"""So deep may calls be nested: a thread's stack holds as many."""
 _PROPOSITIONAL_SECONDS = 0.5
 _GROUND_SECONDS = 3.0
 _FIRST_ROUNDS, _ROUNDS = 3, 5
@@ -45,7 +46,10 @@ class Search:
             now = time.monotonic()
             if now > self.until:
                 return None
-            found = attempt(now + share * (self.until - now))
+            try:
+                found = attempt(now + share * (self.until - now))
+            except RecursionError:
+                continue
             if found:
                 return found
         return None
@@ -66,7 +70,7 @@ class Search:
         until = min(self.until, time.monotonic() + seconds)
         try:
             return Ground(instances, kept, self.taken, until).prove(_formulas(items), _names(items))
-        except ground.OutOfTime:
+        except (ground.OutOfTime, RecursionError):
             return None
 
     def _by_matching(self, items: Sequence[Item], until: float, most: int) -> Optional[Proof]:

@@ -11,7 +11,7 @@ from typing import Dict, FrozenSet, List, NamedTuple, Optional, Sequence, Set, T
 
 from holls.prover import congruence, sequents, typed
 from holls.prover.sequents import ALPHA, BETA, DELTA, GAMMA, LITERAL, Formula, Position, Shape, Signed
-from holls.prover.typed import Term, Type
+from holls.prover.typed import Term
 
 CLOSE = "close"
 

@@ -6,11 +6,11 @@ that is assumed, or written by the forward rules. Where a right side is kept bes
 
 from __future__ import annotations
 
-from typing import Callable, Dict, FrozenSet, List, NamedTuple, Optional, Sequence, Tuple
+from typing import Callable, Dict, FrozenSet, List, NamedTuple, Optional, Tuple
 
-from holls.prover import sequents, substituting, typed
+from holls.prover import substituting, typed
 from holls.prover.ground import CLOSE, Proof
-from holls.prover.sequents import ALPHA, BETA, DELTA, GAMMA, Signed
+from holls.prover.sequents import ALPHA, BETA, DELTA, GAMMA
 from holls.prover.typed import FALSITY, TRUTH, Term
 from holls.prover.writing import Quoter, Unwritable
 
@@ -267,16 +267,19 @@ class Scribe:
         return Step("DISCH_TAC", (self.step(sub, self.assuming(state.showing(goal), premise)),))
 
     def either(self, sub: Proof, left: Term, right: Term, state: State) -> Step:
-        """A disjunction: one side is shown, and the other one denied where both are needed."""
+        """A disjunction: one side is shown, and the other one denied where both are needed. Of a negation what it denies is assumed then."""
         if (False, right) not in sub.used or left == right:
             return Step("DISJ1_TAC", (self.step(sub, state.showing(left)),))
         if (False, left) not in sub.used:
             return Step("DISJ2_TAC", (self.step(sub, state.showing(right)),))
 
-        def yes(own: State) -> Step:
-            return Step("DISJ2_TAC", (self.accept(own.showing(right), right),))
+        first, second = ("DISJ2_TAC", "DISJ1_TAC") if typed.negated(left) is not None else ("DISJ1_TAC", "DISJ2_TAC")
+        shown, other = (right, left) if first == "DISJ2_TAC" else (left, right)
 
-        return self.cases(right, state, yes, lambda own: Step("DISJ1_TAC", (self.step(sub, own.showing(left)),)))
+        def yes(own: State) -> Step:
+            return Step(second, (self.accept(own.showing(other), other),))
+
+        return self.cases(other, state, yes, lambda own: Step(first, (self.step(sub, own.showing(shown)),)))
 
     def beta(self, proof: Proof, state: State) -> Step:
         """A rule of cases."""

@@ -4,7 +4,7 @@ from __future__ import annotations
 
 import itertools
 from collections import deque
-from typing import Deque, Iterator, List, NamedTuple, Optional, Sequence, Set, Tuple
+from typing import Deque, Iterator, NamedTuple, Optional, Sequence, Set, Tuple
 
 from holls.prover import typed
 from holls.prover.typed import Term

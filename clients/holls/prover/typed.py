@@ -189,11 +189,6 @@ def replaced(term: Term, old: Term, new: Term) -> Term:
     return term
 
 
-def has_redex(term: Term) -> bool:
-    """Whether a part is an abstraction that is applied."""
-    return any(part[0] == "a" and part[1][0] == "l" for part in subterms(term))
-
-
 MOST_REDUCTIONS = 200
 
 

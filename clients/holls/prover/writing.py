@@ -166,8 +166,3 @@ def _bare(text: str) -> str:
     """A variable alone with its type needs no parentheses."""
     is_variable = text.startswith("(") and text.find(")") == len(text) - 1 and ":" in text and " " not in text.split(":")[0]
     return text[1:-1] if is_variable else text
-
-
-def variable_text(variable: Term) -> Tuple[str, Optional[str]]:
-    """A variable's name and its type's text."""
-    return variable[1], type_text(variable[2])
