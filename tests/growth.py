@@ -1,9 +1,11 @@
 """Refuses the program's growths, one after the other, in each kind of request, and compares what stands afterwards with what stood before.
 
 A growth is a call by which the program asks the C library for memory; refusing.c, which is preloaded into it, refuses those that are named here. What
-is wanted comes from docs/PROTOCOL.md: where a growth of a request is refused the reply is the memory line, all reports, theorems and bases are
-those from before, and the same request with memory is answered as by a new session. Nor is memory lost: over many refusals of one request the program
-comes to have no more blocks with each (how many it has may differ a little, since what is shared does). So for each k the k-th growth of a request is refused alone, and then all from the k-th on. By default some k of each request are tried, the first ones, the last ones and some between; with `--all` each k."""
+is wanted comes from docs/PROTOCOL.md: where a growth of a request is refused the reply is the memory line, all reports, theorems and bases are those
+from before, and the same request with memory is answered as by a new session; but an edit whose outcome alone can't be kept for later is carried out.
+Nor is memory lost: over many refusals of one request the program comes to have no more blocks with each (how many it has may differ a little, since
+what is shared does). So for each k the k-th growth of a request is refused alone, and then all from the k-th on. By default some k of each request
+are tried, the first ones, the last ones and some between; with `--all` each k."""
 
 import argparse
 import itertools
@@ -119,7 +121,7 @@ class Trial:
     def __init__(self, program, page, before):
         self.page, self.faults, self.tried, self.growths, self.blocks = page, [], 0, 0, []
         page.refuse(0, 0)
-        self.server = watched.Watched(program, environment=page.environment)
+        self.server = watched.Watched(program, ["--cache", "1"], environment=page.environment)
         self.server.ask(making(before.docs))
 
     def rests(self):
@@ -161,7 +163,7 @@ class Trial:
         said = f"{case.line.decode()}, growths {first} to {last} refused" if last == EVERY else f"{case.line.decode()}, growth {first} refused"
         self.tried += 1
         reply, refused = self.answered(case.line, first, last)
-        if not refused:
+        if not refused or reply == case.reply == OK:
             return self.carries_out(case, said, reply)
         self.expects(f"{said}: the reply", MEMORY, reply)
         self.rests()
