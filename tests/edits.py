@@ -308,15 +308,16 @@ def random_edit(rng, docs):
 
 
 class Tally:
-    """What was tried: the edits, the runs that they took, how many running all afresh takes, how many were of commands that the edits didn't put; and how often each
-    kind of command was accepted, and an import refused for a clash."""
+    """What was tried: the edits, the runs that they took, how many running all afresh takes, how many were of commands that the edits didn't put, how many were
+    spared that the edits affect; and how often each kind of command was accepted, and an import refused for a clash."""
 
     def __init__(self):
-        self.edits, self.runs, self.afresh, self.behind, self.kinds = 0, 0, 0, 0, collections.Counter()
+        self.edits, self.runs, self.afresh, self.behind, self.spared, self.kinds = 0, 0, 0, 0, 0, collections.Counter()
 
-    def add(self, line, rises, docs, told):
+    def add(self, line, rises, bound, docs, told):
         self.edits += 1
         self.runs += rises
+        self.spared += bound - rises
         self.behind += max(0, rises - ("text" in json.loads(line)))
         for (_, commands), theory in zip(docs, told):
             self.afresh += sum(is_counted(command.text) for command in commands)
@@ -329,7 +330,7 @@ class Tally:
     def lacks(self):
         """What was tried too little to show anything."""
         kinds = {text.split()[0] for text, _, _ in COMMANDS} - {"nonsense"} | {"clash"}
-        return [kind for kind in sorted(kinds) if self.kinds[kind] < 5] + ["runs behind the edits"] * (self.behind * 3 < self.runs)
+        return [kind for kind in sorted(kinds) if self.kinds[kind] < 5] + ["runs behind the edits"] * (self.behind * 3 < self.runs) + ["outcomes that are found"] * (self.spared < 20)
 
 
 def next_edit(rng, docs, count):
@@ -360,7 +361,7 @@ def one_run(program, seed, edits, words, tally):
         bound = affected(before, docs, after, standing) if new is not None else 0
         if not 0 <= rises <= bound:
             sys.exit(f"edits: seed {seed}: {line} ran {rises} commands and affects {bound}\n" + "\n".join(trail))
-        tally.add(line, rises, standing, after)
+        tally.add(line, rises, bound, standing, after)
         docs, before = standing, after
     if server.end() != 0:
         sys.exit("edits: the program's status is not 0")
@@ -373,7 +374,7 @@ def main():
     words.add_argument("--seeds", type=int, nargs="*", default=[1, 2, 3, 4])
     chosen, tally = words.parse_args(), Tally()
     for seed in chosen.seeds:
-        one_run(chosen.program, seed, chosen.edits, ["--cache", str((1, 256)[seed % 2])], tally)
+        one_run(chosen.program, seed, chosen.edits, ["--cache", str((1, 256, 4096)[seed % 3])], tally)
     if tally.runs * 2 > tally.afresh:
         sys.exit(f"edits: {tally.runs} runs where running afresh each time takes {tally.afresh}")
     if tally.edits >= 600 and tally.lacks():

@@ -1,11 +1,12 @@
-"""Runs the built program over input and output that fail, and compares its replies, its line on standard error and its status.
+"""Runs the built program over input and output that fail, and where memory is short, and compares its replies, its line on standard error and its status.
 
 What is wanted comes from docs/PROTOCOL.md: replies to the whole lines that were read, the first byte that isn't taken is the last one tried,
-a reply before the next line is read, and the words of the command line."""
+a reply before the next line is read, and the words of the command line. Where the memory of the process is limited, each reply is the memory line or
+that of a program with memory to which the lines that were refused aren't sent."""
 
 import argparse
+import json
 import os
-import pathlib
 import resource
 import signal
 import socket
@@ -13,7 +14,7 @@ import subprocess
 import sys
 import tempfile
 
-BUILT = pathlib.Path(__file__).resolve().parent.parent / "crates" / "hol_serve" / "out" / "hol_serve"
+import watched
 
 LINES = br"""{"op":"new_theory","name":"A","at":0}
 {"op":"insert","theory":"A","at":0,"text":"g REFL1 `x:A = x`"}
@@ -38,6 +39,8 @@ REPLIES = br"""{"ok":true}
 """.splitlines(keepends=True)
 
 READ, WRITE, BAD = b"hol-serve: read fault\n", b"hol-serve: write fault\n", b"hol-serve: bad words\n"
+NO_MEMORY, MEMORY = b"hol-serve: no memory\n", b'{"error":9,"ok":false,"text":"memory"}\n'
+NOT_JSON, LONG = b'{"error":2,"ok":false,"text":"not JSON"}\n', b'{"error":1,"ok":false,"text":"line too long"}\n'
 
 
 def started(program, reader, words=()):
@@ -102,6 +105,126 @@ def replies_in_turn(program):
     yield "the end of input", (0, b"", b""), ended(process)
 
 
+def one_byte_at_a_time(program):
+    """Each read gives one byte: a pipe of packets."""
+    ours, theirs = os.pipe2(os.O_DIRECT), os.pipe()
+    process = subprocess.Popen([program], stdin=ours[0], stdout=theirs[1], stderr=subprocess.PIPE)
+    os.close(ours[0])
+    os.close(theirs[1])
+    for byte in b"".join(LINES):
+        os.write(ours[1], bytes([byte]))
+    os.close(ours[1])
+    with os.fdopen(theirs[0], "rb") as replies:
+        found = replies.read()
+    yield "a reader that gives one byte at a time", (0, b"".join(REPLIES), b""), (process.wait(), found, process.communicate()[1])
+
+
+def ends_within_a_line(program):
+    """What stands before the end is a line too: where it is cut short it is no JSON."""
+    for number, line in enumerate(LINES):
+        for length in sorted({1, 7, len(line) // 2, len(line) - 2, len(line) - 1} & {*range(1, len(line))}):
+            want = b"".join(REPLIES[:number]) + (REPLIES[number] if length == len(line) - 1 else NOT_JSON)
+            ran = subprocess.run([program], input=b"".join(LINES[:number]) + line[:length], capture_output=True, timeout=60)
+            yield f"an end after {number} lines and {length} bytes", (0, want, b""), (ran.returncode, ran.stdout, ran.stderr)
+    for length, want in ((65_536, NOT_JSON), (65_537, LONG), (200_000, LONG)):
+        ran = subprocess.run([program], input=b"x" * length, capture_output=True, timeout=60)
+        yield f"an end after {length} bytes of a line", (0, want, b""), (ran.returncode, ran.stdout, ran.stderr)
+
+
+def reader_that_goes_away(program, is_ignored):
+    """Reads three replies, and goes: the write fails, whether the signal SIGPIPE was ignored by what started the program or not."""
+    def begin():
+        signal.signal(signal.SIGPIPE, signal.SIG_IGN if is_ignored else signal.SIG_DFL)
+
+    process = subprocess.Popen([program], stdin=subprocess.PIPE, stdout=subprocess.PIPE, stderr=subprocess.PIPE, restore_signals=False, preexec_fn=begin)
+    process.stdin.write(b"".join(LINES[:3]))
+    process.stdin.flush()
+    replies = [process.stdout.readline() for _ in range(3)]
+    process.stdout.close()
+    process.stdin.write(LINES[3])
+    process.stdin.flush()
+    status = process.wait(timeout=60)
+    process.stdin.close()
+    return status, replies, process.stderr.read()
+
+
+def signals(program):
+    for is_ignored in (False, True):
+        yield f"a reader that goes away, SIGPIPE ignored: {is_ignored}", (1, REPLIES[:3], WRITE), reader_that_goes_away(program, is_ignored)
+    process = started(program, subprocess.PIPE)
+    process.stdin.write(b"".join(LINES[:3]))
+    process.stdin.flush()
+    before = b"".join(process.stdout.readline() for _ in range(3))
+    for sent in (signal.SIGSTOP, signal.SIGCONT):
+        process.send_signal(sent)
+    process.stdin.write(b"".join(LINES[3:]))
+    yield "a program that is stopped and goes on", (0, b"".join(REPLIES), b""), ended(process, before)
+
+
+def missing(program):
+    """Input or output that isn't there, or is none; and nobody to tell."""
+    def without(number):
+        return lambda: os.close(number)
+
+    lines, folder = b"".join(LINES), os.open("/", os.O_RDONLY)
+    ran = subprocess.run([program], stdin=folder, capture_output=True, timeout=60)
+    yield "a folder as input", (1, b"", READ), (ran.returncode, ran.stdout, ran.stderr)
+    os.close(folder)
+    ran = subprocess.run([program], capture_output=True, timeout=60, preexec_fn=without(0))
+    yield "no input", (1, b"", READ), (ran.returncode, ran.stdout, ran.stderr)
+    ran = subprocess.run([program], input=lines, stderr=subprocess.PIPE, timeout=60, preexec_fn=without(1))
+    yield "no output", (1, WRITE), (ran.returncode, ran.stderr)
+    with open("/dev/full", "wb") as full:
+        for said, end in (("nobody to tell", without(2)), ("a full device to tell", lambda: os.dup2(full.fileno(), 2))):
+            ran = subprocess.run([program], input=lines, stdout=full, timeout=60, preexec_fn=end)
+            yield said, 1, ran.returncode
+            ran = subprocess.run([program], input=lines, stdout=subprocess.PIPE, timeout=60, preexec_fn=end)
+            yield f"{said}, and nothing to tell", (0, b"".join(REPLIES)), (ran.returncode, ran.stdout)
+
+
+def large():
+    """Lines that take memory, and hardly any stack: many goals with steps on them; then what stands, and an end of it all."""
+    def line(op, **more):
+        return json.dumps({"op": op, **more}).encode() + b"\n"
+
+    texts = []
+    for number in range(60):
+        parts = " /\\ ".join(f"p{number}_{k}" for k in range(60))
+        texts += [f"g N{number} `{parts} ==> q{number}`", "e DISCH_TAC", "oops"]
+    lines = [line("new_theory", name="A", at=0)]
+    lines += [line("insert", theory="A", at=at, text=text) for at, text in enumerate(texts)]
+    lines += [line("report", theory="A", at=at) for at in range(0, len(texts), 7)]
+    lines += [line("remove", theory="A", at=0) for _ in range(40)]
+    return [*lines, line("drop_theory", name="A"), *LINES]
+
+
+def replies_to(program, lines, most=None):
+    limits = [(resource.RLIMIT_AS, most)] if most else []
+    ran = subprocess.run([program], input=b"".join(lines), capture_output=True, timeout=60, preexec_fn=watched.limited(limits))
+    return ran.returncode, ran.stdout.splitlines(keepends=True), ran.stderr
+
+
+def limited_memory(program):
+    """The address space is limited, from less than the program begins with up to what it needs: it doesn't begin, or tells so, or serves."""
+    lines, most, begun, refused = large(), 1 << 20, False, 0
+    while most < 1 << 31:
+        status, replies, told = replies_to(program, lines, most)
+        if not begun and not replies:
+            # What the system's loader can't load has no words of the program's.
+            yield f"{most >> 10} KB: it doesn't begin", True, told == NO_MEMORY and status == 1 or b"hol-serve" not in told and status != 0
+        elif status != 0 or len(replies) != len(lines):
+            yield f"{most >> 10} KB: an end", (0, len(lines), b""), (status, len(replies), told)
+        else:
+            begun, served = True, [pair for pair in zip(lines, replies) if pair[1] != MEMORY]
+            refused += len(served) < len(lines)
+            yield f"{most >> 10} KB: what is served", [reply for _, reply in served], replies_to(program, [line for line, _ in served])[1]
+            if len(served) == len(lines):
+                break
+        most += most // 16 if not begun else 256 << 10
+    yield "limits at which it began", True, begun
+    yield "limits at which memory was refused", True, refused > 3
+
+
 def words(program):
     good = [(), ("--turns", "4"), ("--turns", "100000"), ("--cache=4096", "--turns", "1"), ("--cache", "1")]
     bad = ["--turns 0", "--turns 100001", "--turns x", "--turns", "--turns 1 --turns 1", "--cache 0", "--cache 4097", "--help", "more"]
@@ -118,10 +241,10 @@ def ended_of(program, given):
 
 def main():
     given = argparse.ArgumentParser(description="runs the built program over input and output that fail")
-    given.add_argument("--program", default=str(BUILT))
+    given.add_argument("--program", default=str(watched.BUILT))
     program = given.parse_args().program
     passed = failed = 0
-    for group in (failed_reads, failed_writes, replies_in_turn, words):
+    for group in (failed_reads, failed_writes, replies_in_turn, words, one_byte_at_a_time, ends_within_a_line, signals, missing, limited_memory):
         for name, want, found in group(program):
             passed, failed = passed + (want == found), failed + (want != found)
             if want != found:

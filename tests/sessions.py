@@ -7,7 +7,7 @@ in turn:    '> ' a command, put at the end of a theory; '< ' the report that is 
 each:       ': ' commands that stand before; '> ' a command that is put after these alone, or some with ' ;; ' between them; '< ' the report
             that is wanted on the last command of each such line since the last '< '.
 
-'turns: N' below the first line runs it with '--turns N'. '#' begins a comment. Expected replies come from docs/PROTOCOL.md, RFC 8259
+'turns: N' or 'cache: N' below the first line runs it with '--turns N' or '--cache N'. '#' begins a comment. Expected replies come from docs/PROTOCOL.md, RFC 8259
 and HOL Light."""
 
 import argparse
@@ -131,12 +131,12 @@ def read(file):
 
     for line in file.read_text().splitlines():
         start = re.fullmatch(rf"({'|'.join(FORMS)}): (.+)", line)
-        turns = re.fullmatch(r"turns: (\d+)", line)
+        option = re.fullmatch(r"(turns|cache): (\d+)", line)
         if start:
             end()
             head, words, lines = start, [], []
-        elif turns:
-            words = ["--turns", turns[1]]
+        elif option:
+            words = ["--" + option[1], option[2]]
         elif line and not line.startswith("#"):
             if not head or line[:2] not in ("> ", "< ", ": ") and line != "--":
                 sys.exit(f"{file}: no line of a session: {line}")

@@ -1,4 +1,4 @@
-"""The command line: `holls check FILE..`, `holls search QUERY..` and `holls lsp`."""
+"""The command line: `holls check FILE..`, `holls search QUERY..`, `holls prove FILE:LINE`, `holls page` and `holls lsp`."""
 
 from __future__ import annotations
 
@@ -6,7 +6,8 @@ import argparse
 import os
 import sys
 
-from holls import check, searching
+from holls import check, page, searching
+from holls.prover import command as prove
 
 
 def main() -> int:
@@ -15,6 +16,8 @@ def main() -> int:
     kinds = words.add_subparsers(dest="kind", metavar="COMMAND", required=True)
     check.add_words(kinds.add_parser("check", help="check files: status 0 where all is proved"))
     searching.add_words(kinds.add_parser("search", help="find theorems by name and by what they state"))
+    prove.add_words(kinds.add_parser("prove", help="find a proof of the goal that is open at a line of a file"))
+    page.add_words(kinds.add_parser("page", help="open the page in the browser: an editor, goals and a first hour"))
     bridge = kinds.add_parser("lsp", help="speak the Language Server Protocol on standard input and output")
     bridge.add_argument("--server", metavar="PROGRAM", help="the program hol_serve")
     bridge.add_argument("--seconds", type=int, default=120, help="how long one command may take (120)")
@@ -24,6 +27,10 @@ def main() -> int:
         return check.main(given)
     if given.kind == "search":
         return searching.main(given)
+    if given.kind == "prove":
+        return prove.main(given)
+    if given.kind == "page":
+        return page.main(given)
     from holls.lsp import bridge as editor
     return editor.main(given)
 

@@ -37,13 +37,13 @@ def fixes(finding: Finding, file: File, files: Sequence[File], every: Sequence[F
 def _ends(file: File, number: int) -> Iterator[Fix]:
     """A proof that is never ended, ended behind its last command."""
     last = next(last for first, last in names.blocks(file) if first == number)
-    place = _behind(file, file.commands[last].end)
+    place = behind(file, file.commands[last].end)
     missing = "" if file.lines.text[file.commands[last].end:place].strip() else ";;"
     for word, title in (("qed", "End the proof by qed"), ("oops", "Give the proof up by oops")):
         yield Fix(title, place, place, "%s\n%s;;" % (missing, word))
 
 
-def _behind(file: File, place: int) -> int:
+def behind(file: File, place: int) -> int:
     """The place behind a command's `;;`, if it has one."""
     rest = file.lines.text[place:]
     blank = len(rest) - len(rest.lstrip())

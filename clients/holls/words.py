@@ -32,6 +32,17 @@ _OF_TYPE_DEFINITIONS = {
 }
 
 
+_QUOTED = {
+    protocol.UNTYPABLE: "this term has no typing: somewhere in it two types don't agree, or what is applied is no function",
+    protocol.NOT_BOOL: "this term isn't of type bool: annotate what leaves its type open, as in (P:A->bool) x, or state an "
+                       "equation",
+    protocol.ARITY: "a type in this term has arguments that its constructor doesn't take: bool and ind take none, and a name "
+                    "that is no constructor none (a variable with its type before another one stands in parentheses: "
+                    "!(x:A) y. p)",
+}
+"""The refusals that name a quotation's place."""
+
+
 def explain(text: str, refusal: Refusal, opened: Optional[str] = None) -> Told:
     """What a refusal of a command says. `opened` tells of the proof that is open, where one is."""
     number = refusal.number
@@ -97,15 +108,7 @@ def _first_word(text: str) -> Tuple[int, int]:
 def _quotation(text: str, refusal: Refusal) -> Told:
     """The words for the refusals that name a quotation's place."""
     start, end = notation.quotation(text, _place(text, refusal))
-    words = {
-        protocol.UNTYPABLE: "this term has no typing: somewhere in it two types don't agree, or what is applied is no function",
-        protocol.NOT_BOOL: "this term isn't of type bool: annotate what leaves its type open, as in (P:A->bool) x, or state an "
-                           "equation",
-        protocol.ARITY: "a type in this term has arguments that its constructor doesn't take: bool and ind take none, and a name "
-                        "that is no constructor none (a variable with its type before another one stands in parentheses: "
-                        "!(x:A) y. p)",
-    }[refusal.number]
-    return start, end, words
+    return start, end, _QUOTED[refusal.number]
 
 
 def _unknown_tac(text: str, name: str, start: int) -> str:

@@ -145,6 +145,22 @@ class Bridging(unittest.TestCase):
     def edits(self):
         return [request["op"] for request in self.requests() if request["op"] not in ("report", "basis")]
 
+    def test_a_proof_is_found_once_its_action_is_chosen(self):
+        editor = self.editor()
+        editor.open(self.uri, "g A `x = x`;;\n  e ALL_TAC;;\n\ng B `p`;;\n")
+        editor.goals(self.uri, 3, 0)
+        found = {}
+        for line in (0, 1, 2, 3):
+            span = {side: {"line": line, "character": 3} for side in ("start", "end")}
+            every = editor.ask("textDocument/codeAction", {"textDocument": {"uri": self.uri}, "range": span, "context": {"diagnostics": []}})
+            found[line] = [one for one in every if one["title"] == "Find a proof"]
+        self.assertEqual([len(found[line]) for line in (0, 1, 2, 3)], [1, 1, 0, 1])
+        self.assertNotIn("edit", found[1][0])
+        edit = editor.ask("codeAction/resolve", found[1][0])["edit"]["changes"][self.uri]
+        self.assertEqual([(one["newText"], one["range"]["start"]) for one in edit], [("\n  e REFL_TAC;;", {"line": 1, "character": 13})])
+        self.assertIn("no proof was found", editor.ask("codeAction/resolve", found[3][0])["message"])
+        self.assertEqual(editor.end(), 0)
+
     def test_a_session_from_opening_to_the_end(self):
         editor = self.editor()
         editor.open(self.uri, "g A `p /\\ q`;;\ne CONJ_TAC;;\ne FOO;;\n\ng B `x = x`;;\ne REFL_TAC;;\nqed;;\n")

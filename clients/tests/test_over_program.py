@@ -31,6 +31,23 @@ class OverTheProgram(unittest.TestCase):
         self.assertIn("y : B", hover["contents"]["value"])
         self.assertEqual(editor.end(), 0)
 
+    def test_a_found_proof_is_put_behind_its_command(self):
+        editor = Editor(str(BUILT))
+        self.addCleanup(editor.kill)
+        editor.begin()
+        uri, text = "file:///found.hol", "import nothing;;\ng A `(!x:A. P x ==> Q x) /\\ P a ==> ?x. Q x`;;\n"
+        editor.open(uri, text)
+        editor.goals(uri, 1, 3)
+        span = {side: {"line": 1, "character": 3} for side in ("start", "end")}
+        found = editor.ask("textDocument/codeAction", {"textDocument": {"uri": uri}, "range": span, "context": {"diagnostics": []}})
+        action = next(one for one in found if one["title"] == "Find a proof")
+        edit = editor.ask("codeAction/resolve", action)["edit"]["changes"][uri][0]
+        at = edit["range"]["start"]
+        self.assertEqual((at, edit["range"]["end"]), ({"line": 1, "character": text.split("\n")[1].index(";;") + 2}, at))
+        editor.change(uri, 2, edit["newText"] + "\nqed;;", ((1, at["character"]), (1, at["character"])))
+        editor.until(lambda: editor.versions.get(uri) == 2 and [one[:2] for one in editor.said(uri)] == [(0, 1)])
+        self.assertEqual(editor.end(), 0)
+
 
 if __name__ == "__main__":
     unittest.main()

@@ -105,7 +105,7 @@ async function run() {
   results.symbols = (await providers.symbols.provideDocumentSymbols(file)).map((one) => [one.name, one.kind]);
   results.lenses = (await providers.lenses.provideCodeLenses(file)).length;
   results.completions = (await providers.completions.provideCompletionItems(file, new Position(1, 2))).length > 40;
-  results.actions = (await providers.actions.provideCodeActions(file, new Range(0, 0, 0, 1))).map((one) => [one.title, one.edit.edits[0][2]]);
+  results.actions = (await providers.actions.provideCodeActions(file, new Range(0, 0, 0, 1))).map((one) => [one.title, one.edit ? one.edit.edits[0][2] : 'a search']);
   results.symbolOf = (await providers.allSymbols.provideWorkspaceSymbols('a')).map((one) => one.name);
   results.references = (await providers.references.provideReferences(file, new Position(0, 2))).length;
   results.links = (await providers.links.provideDocumentLinks(file)).length;

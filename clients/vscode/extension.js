@@ -181,12 +181,21 @@ function restart() {
 }
 
 // A request whose failure is no more than a missing answer.
-async function request(method, params) {
+async function request(method, params, refused = () => {}) {
   try {
     return bridge ? await bridge.request(method, params) : null;
   } catch (error) {
+    refused(error);
     return null;
   }
+}
+
+function workspaceEdit(given) {
+  const made = new vscode.WorkspaceEdit();
+  for (const [uri, edits] of Object.entries(given.changes)) {
+    edits.forEach((edit) => made.replace(vscode.Uri.parse(uri), range(edit.range), edit.newText));
+  }
+  return made;
 }
 
 const providers = {
@@ -231,12 +240,13 @@ const providers = {
     const found = await request('textDocument/codeAction', { ...at(document), range: { start: where.start, end: where.end }, context: { diagnostics: [] } }) || [];
     return found.map((one) => {
       const action = new vscode.CodeAction(one.title, vscode.CodeActionKind.QuickFix);
-      action.edit = new vscode.WorkspaceEdit();
-      for (const [uri, edits] of Object.entries(one.edit.changes)) {
-        edits.forEach((edit) => action.edit.replace(vscode.Uri.parse(uri), range(edit.range), edit.newText));
-      }
-      return action;
+      return Object.assign(action, one.edit ? { edit: workspaceEdit(one.edit) } : { found: one });
     });
+  },
+  // An action without an edit is a search, which is made once the action is chosen.
+  async action(action) {
+    const found = await request('codeAction/resolve', action.found, (error) => vscode.window.showInformationMessage(error.message));
+    return Object.assign(action, found ? { edit: workspaceEdit(found.edit) } : {});
   },
   async signature(document, position) {
     const found = await request('textDocument/signatureHelp', at(document, position));
@@ -268,7 +278,7 @@ function register() {
     languages.registerReferenceProvider(LANGUAGE, { provideReferences: providers.references }),
     languages.registerWorkspaceSymbolProvider({ provideWorkspaceSymbols: providers.allSymbols }),
     languages.registerDocumentLinkProvider(LANGUAGE, { provideDocumentLinks: providers.links }),
-    languages.registerCodeActionsProvider(LANGUAGE, { provideCodeActions: providers.actions }),
+    languages.registerCodeActionsProvider(LANGUAGE, { provideCodeActions: providers.actions, resolveCodeAction: providers.action }),
     languages.registerSignatureHelpProvider(LANGUAGE, { provideSignatureHelp: providers.signature }, ' ', '(', '[', '`'),
     languages.registerCodeLensProvider(LANGUAGE, {
       onDidChangeCodeLenses: lensesChanged.event, provideCodeLenses: providers.lenses, resolveCodeLens: providers.lens,

@@ -8,7 +8,7 @@ from typing import TYPE_CHECKING, Any, Callable, Dict, List, Optional
 
 from holls import binders, protocol, words
 from holls.files import File
-from holls.lsp import completion, features, goals, helping, hovering, lookup
+from holls.lsp import completion, features, goals, helping, hovering, lookup, proving
 from holls.lsp.navigation import Navigation
 from holls.lsp.workspace import Document
 from holls.manual import COMMANDS
@@ -18,8 +18,8 @@ from holls.search import BadQuery
 if TYPE_CHECKING:
     from holls.lsp.bridge import Bridge
 
-INTERNAL = -32603
-"""The protocol's number of an error in the server itself."""
+INTERNAL, FAILED = -32603, -32803
+"""The protocol's numbers of an error in the server itself, and of a request that comes to nothing."""
 
 BASIS_SECONDS = 5.0
 """So long a hover waits for what a theorem rests on, or for a type; then it shows the rest."""
@@ -63,6 +63,7 @@ class Answers:
             "workspace/symbol": self._all_symbols,
             "hol/search": self._search,
             "textDocument/codeAction": self._actions,
+            "codeAction/resolve": self._resolve_action,
             "textDocument/signatureHelp": self._signature,
             "textDocument/completion": self._completion,
             "textDocument/codeLens": self._lenses,
@@ -90,6 +91,9 @@ class Answers:
         for waiter in waiting:
             try:
                 done = waiter.attempt()
+            except proving.NotFound as error:
+                self.bridge.error(waiter.number, FAILED, str(error))
+                continue
             except Exception as error:  # noqa: BLE001: one request's error must not touch the others
                 self.bridge.error(waiter.number, INTERNAL, "%s: %s" % (type(error).__name__, error))
                 continue
@@ -245,7 +249,24 @@ class Answers:
         start, end = (document.place(params["range"][side]) for side in ("start", "end"))
         files = self._files(document)
         every = self.bridge.workspace.every_file(document.project, files)
-        return Answered(helping.actions(document.file, document.uri, files, every, start, end))
+        found = helping.actions(document.file, document.uri, files, every, start, end)
+        return Answered(found + proving.offers(document.file, document.uri, start))
+
+    def _resolve_action(self, number: Any, params: Params) -> Optional[Answered]:
+        """What the action 'find a proof' does, once a search in a thread has ended."""
+        data = params["data"]
+        document = self.document({"textDocument": data})
+        try:
+            search = proving.begin(self.bridge, document, self._files(document), int(data["number"]))
+        except proving.NotFound as error:
+            raise BadParams(str(error)) from None
+
+        def attempt() -> Optional[Answered]:
+            if not search.done.is_set():
+                return None
+            return Answered(dict(params, edit=proving.edit(search, self.bridge.workspace.documents.get(search.uri))))
+
+        return self._wait(number, attempt)
 
     def _signature(self, _: Any, params: Params) -> Answered:
         document = self.document(params)

@@ -15,6 +15,7 @@ from holls import server
 from holls.lsp import wire
 from holls.lsp.answers import Answered, Answers, BadParams
 from holls.lsp.project_server import ProjectServer
+from holls.lsp.proving import Search
 from holls.lsp.publisher import Publisher
 from holls.lsp.workspace import Document, Workspace
 from holls.server import Ended, Line, NoServer
@@ -35,7 +36,7 @@ CAPABILITIES = {
     "definitionProvider": True,
     "completionProvider": {"triggerCharacters": ["\\"]},
     "referencesProvider": True,
-    "codeActionProvider": {"codeActionKinds": ["quickfix"]},
+    "codeActionProvider": {"codeActionKinds": ["quickfix"], "resolveProvider": True},
     "signatureHelpProvider": {"triggerCharacters": [" ", "(", "[", "`"]},
     "workspaceSymbolProvider": True,
     "documentLinkProvider": {},
@@ -107,6 +108,8 @@ class Bridge:
             self._guard(lambda: self._begin(event))
         elif isinstance(event, int):
             self.status = event
+        elif isinstance(event, Search):
+            pass  # The request that waits for it is answered after each event.
         else:
             self._guard(lambda: self._message(event))
 

@@ -16,7 +16,7 @@ pub(crate) fn unchanged(alloc: Global, goal: &Goal, turns: u32) -> Result<Ran, A
     ensures { IfOk result (IsKept goal.now turns) }
 {
     let mut goals = Vec::new(alloc);
-    goals.push(goal.copy(alloc)?)?;
+    goals.push(goal.copy()?)?;
     let step = Step {
         goals,
         just: Just::none(alloc),

@@ -142,7 +142,7 @@ fn pop_assum<T: Tacs>(
     let Some((p, older)) = goal.assumptions().split_first() else {
         return Err(refused(alloc, "POP_ASSUM", turns));
     };
-    let popped = Goal::new(copies(alloc, older)?, goal.conclusion().copy()?);
+    let popped = Goal::new(alloc, copies(alloc, older)?, goal.conclusion().copy()?)?;
     hand(alloc, tac, p, &popped, tacs, turns)
 }
 

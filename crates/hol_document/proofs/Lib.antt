@@ -7,6 +7,7 @@ pub mod Alike
 pub mod Apart
 pub mod Agreeing
 pub mod Settled
+pub mod Runs
 pub mod Counting
 pub mod Standing
 pub mod Redone

@@ -6,14 +6,14 @@ use Rattle.std.proofs.Math.ListN.{drop_of_length-le}
 use Rattle.std.proofs.Math.Seq.{drop-cons, take-suc}
 use Rattle.hol_exec.specs.OutcomeValue.{OutcomeValue, after}
 use Rattle.hol_exec.specs.Setup.{SetupValue}
-use Rattle.hol_exec.specs.StateValue.{StateValue, EndedTheory}
+use Rattle.hol_exec.specs.StateValue.{StateValue, EndedTheory, start}
 use Rattle.hol_document.specs.Affected.{counts, affected_rows}
 use Rattle.hol_document.specs.Alike.{DriftValue, AreAlike, EachImportsAlike}
-use Rattle.hol_document.specs.Settled.{AreRedone, HaveAdded, HaveLeft, rows_of, texts_of}
+use Rattle.hol_document.specs.Settled.{AreRedone, HaveAdded, HaveLeft, LeadTo, rows_of, texts_of}
 use Rattle.hol_document.specs.Slots.{SlotValue, IsSlot, AreSlots}
 use Rattle.hol_document.proofs.Alike.{states_one}
 use Rattle.hol_document.proofs.Counting.{rows_append, rows_same}
-use Rattle.hol_document.proofs.Standing.{slots_append, slots_elsewhere}
+use Rattle.hol_document.proofs.Standing.{slots_append, slots_split, slots_elsewhere, kept_here}
 
 pub map_more : {X Y : Type 0} (f : X → Y) (xs ys : List X) → map f (xs ++ ys) ≡ map f xs ++ map f ys
 map_more f [] ys = refl
@@ -115,6 +115,14 @@ module _ {A : Type 0} (f : A → SlotValue) where
   left_next setup before drift next last state state' new xs i x h is leads go (s, slots, alike) =
       let here = slot_here setup before s last xs i x h is slots in
       (after s (f x).row.outcome, here.1, subst (λ t. AreAlike next (after s (f x).row.outcome) t) (sym leads) (go s here.0 alike))
+
+  -- from the place of a slot that keeps its state, the slots stand from that state on
+  pub kept_leads : (xs : List A) (i : ℕ) (x : A) (s : StateValue) → i < length xs → x ≡ get_or xs i x → (f x).kept ≡ Some s → LeadTo (map f xs) (map f (drop i xs)) s
+  kept_leads xs i x s h is e = λ setup before last are.
+      let split = slots_split setup before start last i (map f xs) are in
+      let there : AreSlots setup before split.0 (map f (drop i xs)) last = subst (λ zs. AreSlots setup before split.0 zs last) (sym (drop_map f xs i)) split.2 in
+      let here = slot_here setup before split.0 last xs i x h is there in
+      subst (λ t. AreSlots setup before t (map f (drop i xs)) last) (sym (kept_here setup before split.0 s (f x) e here.0)) there
 
 module _ {A X : Type 0} (f : A → X) where
   -- one more at the end

@@ -1,5 +1,5 @@
 -- Slots of answers, and of rows that stand again.
-use Rattle.std.specs.Prelude.{◌≡◌, ◌≤◌, ◌+◌, ℕ, List, [], ◌∷◌, true, false, cond, Option, Some, None, Result, Ok, Err, IfOk, refl}
+use Rattle.std.specs.Prelude.{◌≡◌, ◌≤◌, ◌+◌, ℕ, List, [], ◌∷◌, true, false, cond, Option, Some, None, Result, Ok, Err, IfOk, IfSome, refl}
 use Rattle.std.specs.Map.{keys_of}
 use Rattle.std.proofs.Common.{ap, sym, ◌∙◌, subst}
 use Rattle.hol_theory.specs.Entry.{Entries}
@@ -32,8 +32,8 @@ answer_at setup earlier s value reads outcome theories is = record { setup = set
 -- the slot of an answer
 pub answer_slot : (setup : SetupValue) (earlier : List EndedTheory) (s next : StateValue) (value : ReadText) (reads : Option ReadsValue) (outcome : OutcomeValue) (slot : SlotValue)
     → IsAnswer setup earlier s value reads outcome → IsRead slot.text value → slot.row.value ≡ value → slot.row.reads ≡ reads → slot.row.outcome ≡ outcome
-    → next ≡ after s outcome → slot.opened ≡ newest_of next.proof → IsTheory next.entries → IsSlot setup earlier s slot
-answer_slot setup earlier s next value reads outcome slot is parsed v r o e opened stands =
+    → next ≡ after s outcome → slot.opened ≡ newest_of next.proof → IsTheory next.entries → IfSome slot.kept (λ kept. kept ≡ s) → IsSlot setup earlier s slot
+answer_slot setup earlier s next value reads outcome slot is parsed v r o e opened stands kept =
     let leads : next ≡ after s slot.row.outcome = e ∙ ap (after s) (sym o) in record {
       row = record {
         parsed = subst (λ w. IsRead slot.text w) (sym v) parsed;
@@ -43,6 +43,7 @@ answer_slot setup earlier s next value reads outcome slot is parsed v r o e open
       };
       opened = opened ∙ ap (λ (t : StateValue). newest_of t.proof) leads;
       stands = subst (λ (t : StateValue). IsTheory t.entries) leads stands;
+      kept = kept;
     }
 
 -- ---- rows that stand again
@@ -76,11 +77,13 @@ passed_over drift row command reads is read keyed held apart =
 
 -- the slot of a row that stands at the state
 pub row_slot : (setup : SetupValue) (earlier : List EndedTheory) (s next : StateValue) (slot : SlotValue)
-    → IsRow setup earlier s slot.text slot.row → next ≡ after s slot.row.outcome → slot.opened ≡ newest_of next.proof → IsTheory next.entries → IsSlot setup earlier s slot
-row_slot setup earlier s next slot is e opened stands = record {
+    → IsRow setup earlier s slot.text slot.row → next ≡ after s slot.row.outcome → slot.opened ≡ newest_of next.proof → IsTheory next.entries → IfSome slot.kept (λ kept. kept ≡ s)
+    → IsSlot setup earlier s slot
+row_slot setup earlier s next slot is e opened stands kept = record {
   row = is;
   opened = opened ∙ ap (λ (t : StateValue). newest_of t.proof) e;
   stands = subst (λ (t : StateValue). IsTheory t.entries) e stands;
+  kept = kept;
 }
 
 -- a command whose reads differ is counted
@@ -97,10 +100,10 @@ opened_again drift s state slot opened alike e = opened ∙ ap newest_of ((next_
 -- the slot of a row that stands at the state
 pub kept_slot : (setup : SetupValue) (earlier : List EndedTheory) (s next : StateValue) (old new : SlotValue)
     → IsRow setup earlier s old.text old.row → new.text ≡ old.text → new.row ≡ old.row → next ≡ after s old.row.outcome → new.opened ≡ newest_of next.proof → IsTheory next.entries
-    → IsSlot setup earlier s new
-kept_slot setup earlier s next old new is text row e opened stands =
+    → IfSome new.kept (λ kept. kept ≡ s) → IsSlot setup earlier s new
+kept_slot setup earlier s next old new is text row e opened stands kept =
     row_slot setup earlier s next new (subst (λ t. IsRow setup earlier s t new.row) (sym text) (subst (λ r. IsRow setup earlier s old.text r) (sym row) is))
-    (e ∙ ap (λ (r : Row). after s r.outcome) (sym row)) opened stands
+    (e ∙ ap (λ (r : Row). after s r.outcome) (sym row)) opened stands kept
 
 -- what is run again is counted
 pub run_counts : (setup : SetupValue) (earlier : List EndedTheory) (s : StateValue) (old new : SlotValue) (n m : ℕ)
@@ -118,11 +121,11 @@ pub none_opened : (s : StateValue) (slot : SlotValue) → slot.opened ≡ newest
 none_opened s slot is none = sym is ∙ none
 
 -- the slots of an answer that is carried out
-pub run_slots : {R E : Type 0} (f : R → SlotValue) (r : Result R E) (setup : SetupValue) (earlier : List EndedTheory) (s next : StateValue) (text : List ℕ) (value : ReadText) (reads : Option ReadsValue) (outcome : OutcomeValue)
-    → IsRead text value → IsAnswer setup earlier s value reads outcome
+pub run_slots : {R E : Type 0} (f : R → SlotValue) (r : Result R E) (setup : SetupValue) (earlier : List EndedTheory) (s next : StateValue) (text : List ℕ) (value : ReadText) (reads : Option ReadsValue) (outcome : OutcomeValue) (kept : Option StateValue)
+    → IfSome kept (λ k. k ≡ s) → IsRead text value → IsAnswer setup earlier s value reads outcome
     → IfOk r (λ new. (f new).text ≡ text) → IfOk r (λ new. (f new).row.value ≡ value) → IfOk r (λ new. (f new).row.reads ≡ reads) → IfOk r (λ new. (f new).row.outcome ≡ outcome)
-    → IfOk r (λ new. (f new).opened ≡ newest_of next.proof) → IfOk r (λ new. next ≡ after s outcome) → IfOk r (λ new. IsTheory next.entries)
+    → IfOk r (λ new. (f new).opened ≡ newest_of next.proof) → IfOk r (λ new. (f new).kept ≡ kept) → IfOk r (λ new. next ≡ after s outcome) → IfOk r (λ new. IsTheory next.entries)
     → IfOk r (λ new. IsSlot setup earlier s (f new))
-run_slots f (Ok new) setup earlier s next text value reads outcome parsed is t v d o p e stands =
-    answer_slot setup earlier s next value reads outcome (f new) is (subst (λ (bytes : List ℕ). IsRead bytes value) (sym t) parsed) v d o e p stands
-run_slots f (Err e) setup earlier s next text value reads outcome parsed is t v d o p n stands = tt
+run_slots f (Ok new) setup earlier s next text value reads outcome kept at parsed is t v d o p k e stands =
+    answer_slot setup earlier s next value reads outcome (f new) is (subst (λ (bytes : List ℕ). IsRead bytes value) (sym t) parsed) v d o e p stands (subst (λ found. IfSome found (λ k. k ≡ s)) (sym k) at)
+run_slots f (Err e) setup earlier s next text value reads outcome kept at parsed is t v d o p k n stands = tt

@@ -1,5 +1,5 @@
 -- Slots and theories that stand: put one after the other, split, and taken as they are.
-use Rattle.std.specs.Prelude.{◌≡◌, ◌≤◌, ◌+◌, ◌||◌, ℕ, zero, suc, List, [], ◌∷◌, ◌++◌, Bool, true, false, cond, bytes_eq, map, take, drop, Option, Some, None, refl}
+use Rattle.std.specs.Prelude.{◌≡◌, ◌≤◌, ◌+◌, ◌||◌, ℕ, zero, suc, List, [], ◌∷◌, ◌++◌, Bool, true, false, cond, bytes_eq, map, take, drop, Option, Some, None, IfSome, refl}
 use Rattle.std.specs.List.{list_any}
 use Rattle.std.proofs.Common.{ap, sym, ◌∙◌, subst, append_assoc, arith}
 use Rattle.hol_exec.specs.At.{IsOutcomeAt, entries_named}
@@ -40,6 +40,10 @@ slots_split setup earlier s last (suc i) (slot ∷ slots) h =
     let rest = slots_split setup earlier (after s slot.row.outcome) last i slots h.1 in
     (rest.0, (h.0, rest.1), rest.2)
 
+-- a state that a slot keeps is the one there
+pub kept_here : (setup : SetupValue) (earlier : List EndedTheory) (s t : StateValue) (slot : SlotValue) → slot.kept ≡ Some t → IsSlot setup earlier s slot → t ≡ s
+kept_here setup earlier s t slot e is = subst (λ kept. IfSome kept (λ u. u ≡ s)) e is.kept
+
 -- slots lead to one state
 pub slots_end : (setup setup' : SetupValue) (earlier earlier' : List EndedTheory) (s p q : StateValue) (slots : List SlotValue)
     → AreSlots setup earlier s slots p → AreSlots setup' earlier' s slots q → p ≡ q
@@ -51,7 +55,7 @@ pub slots_elsewhere : (setup : SetupValue) (before earlier : List EndedTheory) (
     → EachImportsAlike before earlier slots → AreSlots setup before s slots last → AreSlots setup earlier s slots last
 slots_elsewhere setup before earlier s [] last same h = h
 slots_elsewhere setup before earlier s (slot ∷ slots) last same h = (
-  record { row = row_elsewhere setup before earlier s slot.text slot.row same.0 h.0.row; opened = h.0.opened; stands = h.0.stands },
+  record { row = row_elsewhere setup before earlier s slot.text slot.row same.0 h.0.row; opened = h.0.opened; stands = h.0.stands; kept = h.0.kept },
   slots_elsewhere setup before earlier (after s slot.row.outcome) slots last same.1 h.1,
 )
 

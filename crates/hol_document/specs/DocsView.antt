@@ -1,6 +1,6 @@
 -- The documents that the program's value stands for, and how many commands were run. Clauses say what documents are by these words alone.
 use Rattle.std.specs.Prelude.{ℕ}
-use Rattle.hol_exec.specs.MeterView as meter
+use Rattle.hol_document.specs.RunnerView as runner
 use Rattle.hol_document.specs.declared.docs.Docs.{Docs}
 use Rattle.hol_document.specs.Documents.{Documents}
 
@@ -9,4 +9,4 @@ documents d = d.theories
 
 -- the number of commands that were run
 abbrev pub ran_of : {X W g : _} → Docs X W g → ℕ
-ran_of d = meter.ran_of d.meter
+ran_of d = runner.ran_of d.runner

@@ -8,3 +8,5 @@ pub mod Shown
 pub mod Slots
 pub mod Alike
 pub mod Settled
+pub mod Runs
+pub mod RunnerView

@@ -33,6 +33,10 @@ StoodAlike setup drift slot state = (before : List EndedTheory) × (s : StateVal
 abbrev pub HaveStood : SetupValue → DriftValue → List SlotValue → StateValue → Type 0
 HaveStood setup drift slots state = (before : List EndedTheory) × (s last : StateValue) × AreSlots setup before s slots last × AreAlike drift s state
 
+-- where the slots stand from the first state on, the later ones of them do so from this one on
+abbrev pub LeadTo : List SlotValue → List SlotValue → StateValue → Type 0
+LeadTo slots later s = (setup : SetupValue) (before : List EndedTheory) (last : StateValue) → AreSlots setup before start slots last → AreSlots setup before s later last
+
 abbrev pub rows_of : List SlotValue → List Row
 rows_of slots = map (λ (slot : SlotValue). slot.row) slots
 

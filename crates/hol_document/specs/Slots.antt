@@ -1,6 +1,6 @@
 -- What stands of documents: of each theory its slots, each with a text, what running that came to, and the proof's newest element after it. What private functions promise of
 -- these.
-use Rattle.std.specs.Prelude.{◌≡◌, ℕ, List, [], ◌∷◌, ◌++◌, map, take, slice_index_or, Option}
+use Rattle.std.specs.Prelude.{◌≡◌, ℕ, List, [], ◌∷◌, ◌++◌, map, take, slice_index_or, Option, IfSome}
 use Rattle.hol_exec.specs.OutcomeValue.{after}
 use Rattle.hol_exec.specs.Reading.{ReadText}
 use Rattle.hol_exec.specs.Setup.{SetupValue}
@@ -19,12 +19,14 @@ pub record SlotValue : Type 0 where
   pub text : List ℕ
   pub row : Row
   pub opened : Option StepValue
+  pub kept : Option StateValue
 
--- The text has the row at the state; the element is the newest one after it; and what stands after it is a theory.
+-- The text has the row at the state, which is what is kept, if anything is; the element is the newest one after it; and what stands after it is a theory.
 pub record IsSlot (setup : SetupValue) (earlier : List EndedTheory) (s : StateValue) (slot : SlotValue) : Type 0 where
   pub row : IsRow setup earlier s slot.text slot.row
   pub opened : slot.opened ≡ newest_of (after s slot.row.outcome).proof
   pub stands : IsTheory (after s slot.row.outcome).entries
+  pub kept : IfSome slot.kept (λ kept. kept ≡ s)
 
 -- The slots stand one after the other from the first state, and lead to the last.
 abbrev pub AreSlots : SetupValue → List EndedTheory → StateValue → List SlotValue → StateValue → Type 0

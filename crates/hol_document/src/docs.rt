@@ -1,13 +1,14 @@
 //! The documents.
 ghost use Rattle.std.specs.Prelude.{◌≡◌};
 ghost use Rattle.std.specs.Coded.{Coded-set};
-ghost use Rattle.hol_exec.specs.MeterView.{setup_of};
+ghost use Rattle.hol_document.specs.RunnerView.{setup_of};
 ghost use Rattle.hol_exec.specs.SetupCode.{coded_setup};
 
 use crate::asked;
 use crate::error::{DocsError, Refusal};
 use crate::line::Line;
 use crate::redo::Edit;
+use crate::runner::Runner;
 use crate::theories::Theories;
 use hol_exec::{Meter, Report, Setup};
 use hol_notation_tokens::is_identifier;
@@ -29,9 +30,9 @@ const NAME_LIMIT: usize = 64;
 #[derive(Drop)]
 pub struct Docs {
     alloc: Global,
-    meter: Meter,
+    runner: Runner,
     theories: Theories,
-    ghost same: { theories.setup ≡ setup_of meter } by { Coded-set coded_setup theories.setup (setup_of meter) },
+    ghost same: { theories.setup ≡ setup_of runner } by { Coded-set coded_setup theories.setup (setup_of runner) },
 }
 
 impl Docs {
@@ -55,9 +56,10 @@ impl Docs {
     {
         let meter = Meter::new(setup);
         let table = Rc::new(alloc, meter.table(alloc)?)?;
+        let runner = Runner::new(alloc, meter, table.clone()?, cache)?;
         Ok(Docs {
             alloc,
-            meter,
+            runner,
             theories: Theories::new(alloc, table, cache),
         })
     }
@@ -66,7 +68,7 @@ impl Docs {
     pub fn ran(&self) -> u64
         ensures { result ≡ ran_of self.now }
     {
-        self.meter.ran()
+        self.runner.ran()
     }
 
     /// Makes a theory without commands at a place of the list of theories. What reads something else than before is run.
@@ -85,7 +87,7 @@ impl Docs {
         self.check_theory(name, at)?;
         let theories = self
             .theories
-            .with_theory(self.alloc, &mut self.meter, name, at)?;
+            .with_theory(self.alloc, &mut self.runner, name, at)?;
         self.theories = theories;
         Ok(())
     }
@@ -106,7 +108,7 @@ impl Docs {
         let i = self.place_of(name)?;
         let theories = self
             .theories
-            .without_theory(self.alloc, &mut self.meter, i)?;
+            .without_theory(self.alloc, &mut self.runner, i)?;
         self.theories = theories;
         Ok(())
     }
@@ -129,7 +131,7 @@ impl Docs {
         let edit = Edit::Insert(line);
         let theories = self
             .theories
-            .with_edit(self.alloc, &mut self.meter, i, at, &edit)?;
+            .with_edit(self.alloc, &mut self.runner, i, at, &edit)?;
         self.theories = theories;
         Ok(())
     }
@@ -152,7 +154,7 @@ impl Docs {
         let edit = Edit::Replace(line);
         let theories = self
             .theories
-            .with_edit(self.alloc, &mut self.meter, i, at, &edit)?;
+            .with_edit(self.alloc, &mut self.runner, i, at, &edit)?;
         self.theories = theories;
         Ok(())
     }
@@ -173,7 +175,7 @@ impl Docs {
         let i = self.place_of_command(theory, at)?;
         let left = self
             .theories
-            .with_edit(self.alloc, &mut self.meter, i, at, &Edit::Remove)?;
+            .with_edit(self.alloc, &mut self.runner, i, at, &Edit::Remove)?;
         self.theories = left;
         Ok(())
     }

@@ -1,26 +1,32 @@
 //! A theory under way.
-ghost use Rattle.std.specs.Prelude.{◌≡◌, ◌≤◌, ◌<◌, ◌+◌, ◌++◌, true, [], List, IfOk, OnOk, map, take, drop, length};
-ghost use Rattle.hol_exec.specs.MeterView.{setup_of, ran_of};
+ghost use Rattle.std.specs.Prelude.{◌≡◌, ◌≤◌, ◌<◌, ◌+◌, ◌++◌, true, [], List, IfOk, IfSome, OnOk, map, take, drop, length};
+ghost use Rattle.hol_document.specs.RunnerView.{setup_of, ran_of};
 ghost use Rattle.hol_exec.specs.Setup.{SetupValue};
 ghost use Rattle.hol_exec.specs.StateValue.{StateValue, EndedTheory, AreTheories, start};
 ghost use Rattle.hol_document.specs.Alike.{AreAlike, EachImportsAlike, no_drift};
-ghost use Rattle.hol_document.specs.Settled.{HaveStood, HaveAdded, HaveLeft};
+ghost use Rattle.hol_document.specs.Settled.{HaveStood, HaveAdded, HaveLeft, LeadTo};
 ghost use Rattle.hol_document.specs.Slots.{AreSlots, ended_of};
 
 use crate::drift::Drift;
+use crate::runner::Runner;
 use crate::settle::settle;
 use crate::slot::Slot;
 use crate::theory::Theory;
-use hol_exec::{Meter, State, promise_each, resume};
+use hol_exec::{State, promise_each, resume};
 use std::alloc::{AllocError, Global};
 use std::rc::Rc;
 
-/// A theory under way: its slots so far, the state after them, and what is known of how that differs from the state before the edit.
+// So many slots in a row keep no state, at the most, where an edit passes over them.
+const SPACING: usize = 32;
+
+/// A theory under way: its slots so far, the state after them, and what is known of how that differs from the state before the edit; and how many slots were passed over since
+/// the last one that keeps its state.
 #[derive(Drop)]
 pub(crate) struct Growing {
     pub(crate) slots: Vec<Rc<Slot>>,
     pub(crate) state: State,
     pub(crate) drift: Drift,
+    since: usize,
 }
 
 /// A theory that was redone.
@@ -41,7 +47,18 @@ pub(crate) fn begun(alloc: Global) -> Growing
         slots: Vec::new(alloc),
         state: State::new(alloc),
         drift: Drift::none(alloc),
+        since: 0,
     }
+}
+
+/// The state, for the next slot to keep, where many slots were passed over since the last one that keeps its own.
+pub(crate) fn to_keep(alloc: Global, growing: &Growing) -> Result<Option<State>, AllocError>
+    ensures { IfOk result (λ kept. IfSome kept (λ s. s ≡ growing.now.state)) }
+{
+    if growing.since < SPACING {
+        return Ok(None);
+    }
+    Ok(Some(growing.state.checkpoint(alloc)?))
 }
 
 /// The first slots of a theory, as they stand.
@@ -61,7 +78,7 @@ pub(crate) fn front(
     resumed(alloc, earlier, &theory.slots()[..at])
 }
 
-// The slots that a theory begins with, as they stand.
+// The slots that a theory begins with, as they stand: the state is run through from the last one that is kept.
 fn resumed(alloc: Global, earlier: &[Theory], slots: &[Rc<Slot>]) -> Result<Growing, AllocError>
     requires { (setup : SetupValue) × (last : StateValue) × AreSlots setup (map ended_of earlier.now) start (map (λ x. x.value) slots.now) last }
     ensures slots { IfOk result (λ growing. map (λ x. x.value) growing.slots.items ≡ map (λ x. x.value) slots.now) }
@@ -69,35 +86,70 @@ fn resumed(alloc: Global, earlier: &[Theory], slots: &[Rc<Slot>]) -> Result<Grow
     ensures drift { IfOk result (λ growing. growing.drift ≡ no_drift) }
 {
     promise_each(earlier);
-    let mut growing = begun(alloc);
-    for slot in slots {
+    let (from, mut growing) = kept_front(alloc, slots)?;
+    growing.since = slots.len() - from;
+    let mut i = from;
+    while i < slots.len() {
+        let slot = &slots[i];
         resume(alloc, &mut growing.state, slot.outcome(), slot.opened())?;
         growing.slots.push(slot.clone()?)?;
+        i += 1;
     }
     Ok(growing)
+}
+
+// The place of the last slot whose state is kept, the slots before it, and that state; no slots, where none is kept.
+fn kept_front(alloc: Global, slots: &[Rc<Slot>]) -> Result<(usize, Growing), AllocError>
+    ensures within { IfOk result (λ found. found.0 ≤ length slots.now) }
+    ensures slots { IfOk result (λ found. map (λ x. x.value) found.1.slots.items ≡ map (λ x. x.value) (take found.0 slots.now)) }
+    ensures state { IfOk result (λ found. LeadTo (map (λ x. x.value) slots.now) (map (λ x. x.value) (drop found.0 slots.now)) found.1.state) }
+    ensures drift { IfOk result (λ found. found.1.drift ≡ no_drift) }
+{
+    let mut growing = begun(alloc);
+    let Some((at, state)) = last_kept(slots) else {
+        return Ok((0, growing));
+    };
+    growing.state = state.checkpoint(alloc)?;
+    add_each(&mut growing.slots, &slots[..at])?;
+    Ok((at, growing))
+}
+
+// The place of the last slot whose state is kept, and that state.
+fn last_kept(slots: &[Rc<Slot>]) -> Option<(usize, &State)>
+    ensures within { IfSome result (λ kept. kept.0 < length slots.now) }
+    ensures state { IfSome result (λ kept. LeadTo (map (λ x. x.value) slots.now) (map (λ x. x.value) (drop kept.0 slots.now)) kept.1.now) }
+{
+    let mut at = slots.len();
+    while at > 0 {
+        at -= 1;
+        if let Some(state) = slots[at].kept() {
+            return Some((at, state));
+        }
+    }
+    None
 }
 
 // Settles the slots, in order, up to the first place from `until` on where the states are one; gives that place, or the end.
 fn settle_each(
     alloc: Global,
-    meter: &mut Meter,
+    runner: &mut Runner,
     earlier: &[Theory],
     slots: &[Rc<Slot>],
     until: usize,
     growing: &mut Growing,
 ) -> Result<usize, AllocError>
     requires theories { AreTheories (map ended_of earlier.now) }
-    requires stood { HaveStood (setup_of meter.old) growing.old.drift (map (λ x. x.value) slots.now) growing.old.state }
+    requires stood { HaveStood (setup_of runner.old) growing.old.drift (map (λ x. x.value) slots.now) growing.old.state }
     ensures within { IfOk result (λ at. at ≤ length slots.now) }
-    ensures done { IfOk result (λ at. HaveAdded (setup_of meter.old) (map ended_of earlier.now) growing.old.state (map (λ x. x.value) (take at slots.now)) (ran_of meter.old) (ran_of meter.new)
+    ensures done { IfOk result (λ at. HaveAdded (setup_of runner.old) (map ended_of earlier.now) growing.old.state (map (λ x. x.value) (take at slots.now)) (ran_of runner.old) (ran_of runner.new)
         (map (λ x. x.value) growing.old.slots.items) (map (λ x. x.value) growing.new.slots.items) growing.new.state) }
-    ensures left { IfOk result (λ at. (before : List EndedTheory) (s last : StateValue) → AreSlots (setup_of meter.old) before s (map (λ x. x.value) slots.now) last → AreAlike growing.old.drift s growing.old.state
-        → HaveLeft (setup_of meter.old) before growing.new.drift (map (λ x. x.value) (drop at slots.now)) last growing.new.state) }
+    ensures left { IfOk result (λ at. (before : List EndedTheory) (s last : StateValue) → AreSlots (setup_of runner.old) before s (map (λ x. x.value) slots.now) last → AreAlike growing.old.drift s growing.old.state
+        → HaveLeft (setup_of runner.old) before growing.new.drift (map (λ x. x.value) (drop at slots.now)) last growing.new.state) }
     ensures entries { IfOk result (λ at. at < length slots.now → growing.new.drift.entries ≡ true) }
     ensures proof { IfOk result (λ at. at < length slots.now → growing.new.drift.proof ≡ true) }
     ensures past { IfOk result (λ at. at < length slots.now → until ≤ at) }
-    ensures setup { setup_of meter.new ≡ setup_of meter.old }
-    ensures rises { ran_of meter.old ≤ ran_of meter.new }
+    ensures setup { setup_of runner.new ≡ setup_of runner.old }
+    ensures rises { ran_of runner.old ≤ ran_of runner.new }
 {
     for (at, slot) in slots.iter().enumerate() {
         if at >= until && growing.drift.is_none() {
@@ -105,7 +157,7 @@ fn settle_each(
         }
         let new = settle(
             alloc,
-            meter,
+            runner,
             earlier,
             slot,
             &mut growing.state,
@@ -120,7 +172,7 @@ fn settle_each(
 /// after that is taken as it stands.
 pub(crate) fn redo(
     alloc: Global,
-    meter: &mut Meter,
+    runner: &mut Runner,
     earlier: &[Theory],
     theory: &Theory,
     from: usize,
@@ -128,19 +180,19 @@ pub(crate) fn redo(
     growing: Growing,
 ) -> Result<Redone, AllocError>
     requires from { from ≤ length theory.now.slots }
-    requires stood { (before : List EndedTheory) × (s : StateValue) × AreSlots (setup_of meter.old) before s (drop from theory.now.slots) theory.now.last × AreAlike growing.drift s growing.state
+    requires stood { (before : List EndedTheory) × (s : StateValue) × AreSlots (setup_of runner.old) before s (drop from theory.now.slots) theory.now.last × AreAlike growing.drift s growing.state
         × EachImportsAlike before (map ended_of earlier.now) (drop until (drop from theory.now.slots)) }
     ensures name { IfOk result (λ r. r.theory.name ≡ theory.now.name) }
-    ensures slots { IfOk result (λ r. HaveAdded (setup_of meter.old) (map ended_of earlier.now) growing.state (drop from theory.now.slots) (ran_of meter.old) (ran_of meter.new)
+    ensures slots { IfOk result (λ r. HaveAdded (setup_of runner.old) (map ended_of earlier.now) growing.state (drop from theory.now.slots) (ran_of runner.old) (ran_of runner.new)
         (map (λ x. x.value) growing.slots.items) r.theory.slots r.theory.last) }
     ensures same { IfOk result (λ r. r.is_same ≡ true → r.theory.last.entries ≡ theory.now.last.entries) }
-    ensures setup { setup_of meter.new ≡ setup_of meter.old }
-    ensures rises { ran_of meter.old ≤ ran_of meter.new }
+    ensures setup { setup_of runner.new ≡ setup_of runner.old }
+    ensures rises { ran_of runner.old ≤ ran_of runner.new }
 {
     promise_each(earlier);
     let mut growing = growing;
     let slots = &theory.slots()[from..];
-    let at = settle_each(alloc, meter, earlier, slots, until, &mut growing)?;
+    let at = settle_each(alloc, runner, earlier, slots, until, &mut growing)?;
     let is_same = growing.drift.has_same_entries();
     let name = theory.shared_name().clone()?;
     if at < slots.len() {

@@ -4,6 +4,7 @@
 #![tactic(auto)]
 
 mod asked;
+mod cache;
 mod docs;
 mod drift;
 mod editable;
@@ -13,6 +14,7 @@ mod items;
 mod laws;
 mod line;
 mod redo;
+mod runner;
 mod settle;
 mod slot;
 mod theories;

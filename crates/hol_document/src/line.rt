@@ -1,16 +1,17 @@
 //! A command's text.
-ghost use Rattle.std.specs.Prelude.{◌≡◌, IfOk};
+ghost use Rattle.std.specs.Prelude.{◌≡◌, IfOk, string_bytes};
 ghost use Rattle.hol_exec.specs.Reading.{IsRead};
 ghost use Rattle.hol_exec.specs.ParsedView.{parsed_value};
 
 use hol_exec::{Parsed, parse};
 use std::alloc::{AllocError, Global};
 use std::marker::Model;
+use std::rc::Rc;
 
 /// A command's text, with what it reads as.
 #[derive(Drop)]
 pub(crate) struct Line {
-    text: String,
+    text: Rc<String>,
     parsed: Parsed,
 }
 
@@ -26,9 +27,9 @@ impl Model for Line {
 
     ghost coded = { Prim.hlevel (codes, coded_command) };
 
-    ghost view = { λ l. record { text = string_bytes l.text; value = parsed_value l.parsed } };
+    ghost view = { λ l. record { text = string_bytes l.text.value; value = parsed_value l.parsed } };
 
-    ghost invariant = { λ l. IsRead (string_bytes l.text) (parsed_value l.parsed) };
+    ghost invariant = { λ l. IsRead (string_bytes l.text.value) (parsed_value l.parsed) };
 }
 
 impl Line {
@@ -37,8 +38,15 @@ impl Line {
         ensures { IfOk result (λ line. line.text ≡ text.now) }
     {
         let parsed = parse(alloc, text)?;
-        let text = String::from_str(alloc, text)?;
+        let text = Rc::new(alloc, String::from_str(alloc, text)?)?;
         Ok(Line { text, parsed })
+    }
+
+    /// The text.
+    pub(crate) fn text(&self) -> &Rc<String>
+        ensures { string_bytes result.now.value ≡ self.now.text }
+    {
+        &self.text
     }
 
     /// What the text reads as.

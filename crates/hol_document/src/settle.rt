@@ -1,10 +1,10 @@
 //! What a text comes to at a state: its slot from before, where that stands there as well, or one that is made by running the text.
-ghost use Rattle.std.specs.Prelude.{◌≡◌, ◌≤◌, ◌+◌, List, true, false, IfOk, Some, None, map};
+ghost use Rattle.std.specs.Prelude.{◌≡◌, ◌≤◌, ◌+◌, List, true, false, IfOk, IfSome, Some, None, map};
 ghost use Rattle.std.specs.Option.{option_map};
 ghost use Rattle.hol_exec.specs.At.{IsOutcomeAt};
 ghost use Rattle.hol_exec.specs.CommandView.{local_text, direct_text};
 ghost use Rattle.hol_exec.specs.CommandText.{Local, Direct};
-ghost use Rattle.hol_exec.specs.MeterView.{setup_of, ran_of};
+ghost use Rattle.hol_document.specs.RunnerView.{setup_of, ran_of};
 ghost use Rattle.hol_exec.specs.OutcomeValue.{after};
 ghost use Rattle.hol_exec.specs.Reading as read;
 ghost use Rattle.hol_exec.specs.Reading.{IsRead};
@@ -20,11 +20,12 @@ ghost use Rattle.hol_document.specs.Slots.{IsSlot, ended_of};
 
 use crate::drift::Drift;
 use crate::line::Line;
-use crate::slot::Slot;
+use crate::runner::Runner;
+use crate::slot::{Slot, keeping, kept_again};
 use crate::theory::Theory;
 use hol_exec::{
-    Command, CommandKeys, CommandNode, DirectCommand, LocalCommand, Meter, Outcome, Parsed, Reads,
-    State, apply, direct, resume, run_local, unread,
+    Command, CommandKeys, CommandNode, DirectCommand, LocalCommand, Outcome, Parsed, Reads, State,
+    apply, direct, resume, unread,
 };
 use std::alloc::{AllocError, Global};
 use std::rc::Rc;
@@ -33,69 +34,80 @@ use std::rc::Rc;
 #[derive(Drop)]
 struct Answer {
     reads: Option<Rc<Reads>>,
-    outcome: Outcome,
+    outcome: Rc<Outcome>,
 }
 
 // What the text reads of the state, and its outcome there.
 fn answered(
     alloc: Global,
-    meter: &mut Meter,
+    runner: &mut Runner,
     earlier: &[Theory],
     line: &Line,
     state: &State,
 ) -> Result<Answer, AllocError>
     ensures read { IsRead line.now.text line.now.value }
-    ensures is { IfOk result (λ a. IsAnswer (setup_of meter.old) (map ended_of earlier.now) state.now line.now.value (option_map (λ r. r.value) a.reads) a.outcome) }
-    ensures setup { setup_of meter.new ≡ setup_of meter.old }
-    ensures rises { ran_of meter.old ≤ ran_of meter.new }
-    ensures few { IfOk result (λ a. ran_of meter.new ≤ ran_of meter.old + counts_beside None (option_map (λ r. r.value) a.reads)) }
+    ensures is { IfOk result (λ a. IsAnswer (setup_of runner.old) (map ended_of earlier.now) state.now line.now.value (option_map (λ r. r.value) a.reads) a.outcome.value) }
+    ensures setup { setup_of runner.new ≡ setup_of runner.old }
+    ensures rises { ran_of runner.old ≤ ran_of runner.new }
+    ensures few { IfOk result (λ a. ran_of runner.new ≤ ran_of runner.old + counts_beside None (option_map (λ r. r.value) a.reads)) }
 {
     match line.parsed() {
-        Parsed::Read(command) => answer_of_command(alloc, meter, earlier, command, state),
-        Parsed::Unread(place) => Ok(Answer {
-            reads: None,
-            outcome: unread(alloc, *place)?,
-        }),
+        Parsed::Read(command) => answer_of_command(alloc, runner, earlier, line, command, state),
+        Parsed::Unread(place) => unread_answer(alloc, unread(alloc, *place)?),
     }
+}
+
+// What is told from the state alone.
+fn unread_answer(alloc: Global, outcome: Outcome) -> Result<Answer, AllocError>
+    ensures reads { IfOk result (λ a. a.reads ≡ None) }
+    ensures outcome { IfOk result (λ a. a.outcome.value ≡ outcome) }
+{
+    let outcome = Rc::new(alloc, outcome)?;
+    Ok(Answer {
+        reads: None,
+        outcome,
+    })
 }
 
 fn answer_of_command(
     alloc: Global,
-    meter: &mut Meter,
+    runner: &mut Runner,
     earlier: &[Theory],
+    line: &Line,
     command: &Command,
     state: &State,
 ) -> Result<Answer, AllocError>
-    ensures is { IfOk result (λ a. IsAnswer (setup_of meter.old) (map ended_of earlier.now) state.now (read.Reads command.now) (option_map (λ r. r.value) a.reads) a.outcome) }
-    ensures setup { setup_of meter.new ≡ setup_of meter.old }
-    ensures rises { ran_of meter.old ≤ ran_of meter.new }
-    ensures few { IfOk result (λ a. ran_of meter.new ≤ ran_of meter.old + counts_beside None (option_map (λ r. r.value) a.reads)) }
+    requires { line.now.value ≡ read.Reads command.now }
+    ensures is { IfOk result (λ a. IsAnswer (setup_of runner.old) (map ended_of earlier.now) state.now (read.Reads command.now) (option_map (λ r. r.value) a.reads) a.outcome.value) }
+    ensures setup { setup_of runner.new ≡ setup_of runner.old }
+    ensures rises { ran_of runner.old ≤ ran_of runner.new }
+    ensures few { IfOk result (λ a. ran_of runner.new ≤ ran_of runner.old + counts_beside None (option_map (λ r. r.value) a.reads)) }
 {
     match command.node() {
-        CommandNode::Local(command) => answer_of_local(alloc, meter, command, state),
-        CommandNode::Direct(command) => Ok(Answer {
-            reads: None,
-            outcome: direct(alloc, command, state, earlier)?,
-        }),
+        CommandNode::Local(command) => answer_of_local(alloc, runner, line, command, state),
+        CommandNode::Direct(command) => {
+            unread_answer(alloc, direct(alloc, command, state, earlier)?)
+        }
     }
 }
 
-// The command is run: it counts one.
+// The command is run, unless what it comes to is known: it counts one at the most.
 fn answer_of_local(
     alloc: Global,
-    meter: &mut Meter,
+    runner: &mut Runner,
+    line: &Line,
     command: &LocalCommand,
     state: &State,
 ) -> Result<Answer, AllocError>
-    ensures is { IfOk result (λ a. (earlier : List EndedTheory) → IsAnswer (setup_of meter.old) earlier state.now (read.Reads (Local (local_text command.now))) (option_map (λ r. r.value) a.reads) a.outcome) }
-    ensures setup { setup_of meter.new ≡ setup_of meter.old }
-    ensures rises { ran_of meter.old ≤ ran_of meter.new }
-    ensures few { IfOk result (λ a. ran_of meter.new ≤ ran_of meter.old + counts_beside None (option_map (λ r. r.value) a.reads)) }
+    requires { line.now.value ≡ read.Reads (Local (local_text command.now)) }
+    ensures is { IfOk result (λ a. (earlier : List EndedTheory) → IsAnswer (setup_of runner.old) earlier state.now (read.Reads (Local (local_text command.now))) (option_map (λ r. r.value) a.reads) a.outcome.value) }
+    ensures setup { setup_of runner.new ≡ setup_of runner.old }
+    ensures rises { ran_of runner.old ≤ ran_of runner.new }
+    ensures few { IfOk result (λ a. ran_of runner.new ≤ ran_of runner.old + counts_beside None (option_map (λ r. r.value) a.reads)) }
 {
     let keys = CommandKeys::of(alloc, command)?;
-    let reads = Reads::of(alloc, command, &keys, state)?;
-    let outcome = run_local(alloc, meter, command, &reads)?;
-    let reads = Rc::new(alloc, reads)?;
+    let reads = Rc::new(alloc, Reads::of(alloc, command, &keys, state)?)?;
+    let outcome = runner.outcome(alloc, line, command, &reads)?;
     Ok(Answer {
         reads: Some(reads),
         outcome,
@@ -108,6 +120,7 @@ fn carried_out(
     line: &Rc<Line>,
     reads: Option<Rc<Reads>>,
     outcome: Rc<Outcome>,
+    kept: Option<State>,
     state: &mut State,
 ) -> Result<Rc<Slot>, AllocError>
     requires { IsOutcomeAt state.old outcome.value }
@@ -116,6 +129,7 @@ fn carried_out(
     ensures reads { IfOk result (λ slot. slot.value.row.reads ≡ option_map (λ r. r.value) reads) }
     ensures outcome { IfOk result (λ slot. slot.value.row.outcome ≡ outcome.value) }
     ensures opened { IfOk result (λ slot. slot.value.opened ≡ newest_of state.new.proof) }
+    ensures kept { IfOk result (λ slot. slot.value.kept ≡ kept) }
     ensures state { IfOk result (λ slot. state.new ≡ after state.old outcome.value) }
     ensures stands { IfOk result (λ slot. IsTheory state.new.entries) }
 {
@@ -123,29 +137,30 @@ fn carried_out(
     state.promise();
     let opened = state.newest()?;
     let line = line.clone()?;
-    Ok(Rc::new(alloc, Slot::new(line, reads, outcome, opened))?)
+    Ok(Rc::new(alloc, Slot::new(line, reads, outcome, opened, kept))?)
 }
 
-/// The slot of a text that is run at the state, which goes on with it.
+/// The slot of a text that is run at the state, which goes on with it; what is kept, if anything is, is that state.
 pub(crate) fn run(
     alloc: Global,
-    meter: &mut Meter,
+    runner: &mut Runner,
     earlier: &[Theory],
     line: &Rc<Line>,
+    kept: Option<State>,
     state: &mut State,
 ) -> Result<Rc<Slot>, AllocError>
-    requires { AreTheories (map ended_of earlier.now) }
-    ensures slot { IfOk result (λ new. IsSlot (setup_of meter.old) (map ended_of earlier.now) state.old new.value) }
+    requires theories { AreTheories (map ended_of earlier.now) }
+    requires kept { IfSome kept (λ s. s ≡ state.old) }
+    ensures slot { IfOk result (λ new. IsSlot (setup_of runner.old) (map ended_of earlier.now) state.old new.value) }
     ensures text { IfOk result (λ new. new.value.text ≡ line.now.value.text) }
     ensures value { IfOk result (λ new. new.value.row.value ≡ line.now.value.value) }
     ensures state { IfOk result (λ new. state.new ≡ after state.old new.value.row.outcome) }
-    ensures setup { setup_of meter.new ≡ setup_of meter.old }
-    ensures rises { ran_of meter.old ≤ ran_of meter.new }
-    ensures few { IfOk result (λ new. ran_of meter.new ≤ ran_of meter.old + counts None new.value.row) }
+    ensures setup { setup_of runner.new ≡ setup_of runner.old }
+    ensures rises { ran_of runner.old ≤ ran_of runner.new }
+    ensures few { IfOk result (λ new. ran_of runner.new ≤ ran_of runner.old + counts None new.value.row) }
 {
-    let Answer { reads, outcome } = answered(alloc, meter, earlier, line, state)?;
-    let outcome = Rc::new(alloc, outcome)?;
-    carried_out(alloc, line, reads, outcome, state)
+    let Answer { reads, outcome } = answered(alloc, runner, earlier, line, state)?;
+    carried_out(alloc, line, reads, outcome, kept, state)
 }
 
 // Whether the row of the slot stands at the state as well: nothing that it reads was changed, or it is found to read the same.
@@ -196,6 +211,7 @@ fn keeps_direct(command: &DirectCommand, drift: &Drift) -> bool
 fn keep(
     alloc: Global,
     slot: &Rc<Slot>,
+    kept: Option<State>,
     state: &mut State,
     drift: &Drift,
 ) -> Result<Rc<Slot>, AllocError>
@@ -204,20 +220,21 @@ fn keep(
     ensures text { IfOk result (λ new. new.value.text ≡ slot.now.value.text) }
     ensures row { IfOk result (λ new. new.value.row ≡ slot.now.value.row) }
     ensures opened { IfOk result (λ new. new.value.opened ≡ newest_of state.new.proof) }
+    ensures kept { IfOk result (λ new. new.value.kept ≡ kept) }
     ensures state { IfOk result (λ new. state.new ≡ after state.old slot.now.value.row.outcome) }
     ensures stands { IfOk result (λ slot. IsTheory state.new.entries) }
 {
     if drift.has_same_proof() {
         resume(alloc, state, slot.outcome(), slot.opened())?;
         state.promise();
-        return slot.clone();
+        return keeping(alloc, slot, kept);
     }
     let reads = match slot.reads() {
         Some(reads) => Some(reads.clone()?),
         None => None,
     };
     let outcome = slot.outcome().clone()?;
-    carried_out(alloc, slot.line(), reads, outcome, state)
+    carried_out(alloc, slot.line(), reads, outcome, kept, state)
 }
 
 /// Whether a proof is open after either.
@@ -232,6 +249,7 @@ pub(crate) fn is_open_after(old: &Slot, new: &Slot) -> bool
 fn go_on(
     alloc: Global,
     slot: &Rc<Slot>,
+    kept: Option<State>,
     state: &mut State,
     drift: &mut Drift,
 ) -> Result<Rc<Slot>, AllocError>
@@ -240,12 +258,13 @@ fn go_on(
     ensures text { IfOk result (λ new. new.value.text ≡ slot.now.value.text) }
     ensures row { IfOk result (λ new. new.value.row ≡ slot.now.value.row) }
     ensures opened { IfOk result (λ new. new.value.opened ≡ newest_of state.new.proof) }
+    ensures kept { IfOk result (λ new. new.value.kept ≡ kept) }
     ensures state { IfOk result (λ new. state.new ≡ after state.old slot.now.value.row.outcome) }
     ensures stands { IfOk result (λ new. IsTheory state.new.entries) }
     ensures alike { IfOk result (λ new. (s : StateValue) → slot.now.value.opened ≡ newest_of (after s slot.now.value.row.outcome).proof → AreAlike drift.old s state.old
         → AreAlike drift.new (after s slot.now.value.row.outcome) (after state.old slot.now.value.row.outcome)) }
 {
-    let new = keep(alloc, slot, state, drift)?;
+    let new = keep(alloc, slot, kept, state, drift)?;
     drift.go_on(is_open_after(slot, &new));
     Ok(new)
 }
@@ -253,50 +272,55 @@ fn go_on(
 // The slot of the text, run again.
 fn run_again(
     alloc: Global,
-    meter: &mut Meter,
+    runner: &mut Runner,
     earlier: &[Theory],
     slot: &Slot,
+    kept: Option<State>,
     state: &mut State,
     drift: &mut Drift,
 ) -> Result<Rc<Slot>, AllocError>
-    requires { AreTheories (map ended_of earlier.now) }
-    ensures slot { IfOk result (λ new. IsSlot (setup_of meter.old) (map ended_of earlier.now) state.old new.value) }
+    requires theories { AreTheories (map ended_of earlier.now) }
+    requires kept { IfSome kept (λ s. s ≡ state.old) }
+    requires stood { (before : List EndedTheory) × (s : StateValue) × IsSlot (setup_of runner.old) before s slot.now }
+    ensures slot { IfOk result (λ new. IsSlot (setup_of runner.old) (map ended_of earlier.now) state.old new.value) }
     ensures text { IfOk result (λ new. new.value.text ≡ slot.now.text) }
     ensures value { IfOk result (λ new. new.value.row.value ≡ slot.now.row.value) }
     ensures state { IfOk result (λ new. state.new ≡ after state.old new.value.row.outcome) }
     ensures alike { IfOk result (λ new. (s : StateValue) → slot.now.opened ≡ newest_of (after s slot.now.row.outcome).proof → AreAlike drift.old s state.old
         → AreAlike drift.new (after s slot.now.row.outcome) (after state.old new.value.row.outcome)) }
-    ensures setup { setup_of meter.new ≡ setup_of meter.old }
-    ensures rises { ran_of meter.old ≤ ran_of meter.new }
-    ensures few { IfOk result (λ new. ran_of meter.new ≤ ran_of meter.old + counts None new.value.row) }
+    ensures setup { setup_of runner.new ≡ setup_of runner.old }
+    ensures rises { ran_of runner.old ≤ ran_of runner.new }
+    ensures few { IfOk result (λ new. ran_of runner.new ≤ ran_of runner.old + counts None new.value.row) }
 {
-    let new = run(alloc, meter, earlier, slot.line(), state)?;
+    let new = run(alloc, runner, earlier, slot.line(), kept, state)?;
     drift.follow(slot.outcome(), new.outcome(), is_open_after(slot, &new))?;
+    runner.leave(slot);
     Ok(new)
 }
 
 /// The slot at the state, which goes on with it: the same where its row stands there as well, else its text is run.
 pub(crate) fn settle(
     alloc: Global,
-    meter: &mut Meter,
+    runner: &mut Runner,
     earlier: &[Theory],
     slot: &Rc<Slot>,
     state: &mut State,
     drift: &mut Drift,
 ) -> Result<Rc<Slot>, AllocError>
     requires theories { AreTheories (map ended_of earlier.now) }
-    requires stood { StoodAlike (setup_of meter.old) drift.old slot.now.value state.old }
-    ensures slot { IfOk result (λ new. IsSlot (setup_of meter.old) (map ended_of earlier.now) state.old new.value) }
+    requires stood { StoodAlike (setup_of runner.old) drift.old slot.now.value state.old }
+    ensures slot { IfOk result (λ new. IsSlot (setup_of runner.old) (map ended_of earlier.now) state.old new.value) }
     ensures text { IfOk result (λ new. new.value.text ≡ slot.now.value.text) }
     ensures state { IfOk result (λ new. state.new ≡ after state.old new.value.row.outcome) }
-    ensures alike { IfOk result (λ new. (before : List EndedTheory) (s : StateValue) → IsSlot (setup_of meter.old) before s slot.now.value → AreAlike drift.old s state.old
+    ensures alike { IfOk result (λ new. (before : List EndedTheory) (s : StateValue) → IsSlot (setup_of runner.old) before s slot.now.value → AreAlike drift.old s state.old
         → AreAlike drift.new (after s slot.now.value.row.outcome) (after state.old new.value.row.outcome)) }
-    ensures setup { setup_of meter.new ≡ setup_of meter.old }
-    ensures rises { ran_of meter.old ≤ ran_of meter.new }
-    ensures few { IfOk result (λ new. ran_of meter.new ≤ ran_of meter.old + counts (Some slot.now.value.row) new.value.row) }
+    ensures setup { setup_of runner.new ≡ setup_of runner.old }
+    ensures rises { ran_of runner.old ≤ ran_of runner.new }
+    ensures few { IfOk result (λ new. ran_of runner.new ≤ ran_of runner.old + counts (Some slot.now.value.row) new.value.row) }
 {
+    let kept = kept_again(alloc, slot, state)?;
     if keeps(slot, state, drift) {
-        return go_on(alloc, slot, state, drift);
+        return go_on(alloc, slot, kept, state, drift);
     }
-    run_again(alloc, meter, earlier, slot, state, drift)
+    run_again(alloc, runner, earlier, slot, kept, state, drift)
 }

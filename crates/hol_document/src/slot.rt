@@ -1,19 +1,22 @@
 //! Slots.
-ghost use Rattle.std.specs.Prelude.{◌≡◌};
+ghost use Rattle.std.specs.Prelude.{◌≡◌, IfOk, IfSome};
 ghost use Rattle.std.specs.Option.{option_map};
 
 use crate::line::Line;
-use hol_exec::{Element, Outcome, Reads};
+use hol_exec::{Element, Outcome, Reads, State};
+use std::alloc::{AllocError, Global};
 use std::marker::Model;
 use std::rc::Rc;
 
-/// A command that stands: its text, what it read of the state, what it came to, and the newest element of the open proof's history after it.
+/// A command that stands: its text, what it read of the state, what it came to, and the newest element of the open proof's history after it; and the state before it, where
+/// that is kept, so that an edit behind it may begin there.
 #[derive(Drop)]
 pub(crate) struct Slot {
     line: Rc<Line>,
     reads: Option<Rc<Reads>>,
     outcome: Rc<Outcome>,
     opened: Option<Element>,
+    kept: Option<State>,
 }
 
 impl Model for Slot {
@@ -21,14 +24,14 @@ impl Model for Slot {
     ghost use Rattle.std.specs.Coded.{codes};
     ghost use Rattle.hol_exec.specs.CommandCode.{coded_command};
     ghost use Rattle.hol_stack.specs.Codes.{step_code};
-    ghost use Rattle.hol_exec.specs.Codes.{coded_reads, coded_outcome};
+    ghost use Rattle.hol_exec.specs.Codes.{coded_reads, coded_outcome, coded_state};
     ghost use Rattle.hol_document.specs.Slots.{SlotValue};
 
     ghost Value = { SlotValue };
 
-    ghost coded = { Prim.hlevel (codes, coded_command, coded_reads, coded_outcome, step_code) };
+    ghost coded = { Prim.hlevel (codes, coded_command, coded_reads, coded_outcome, step_code, coded_state) };
 
-    ghost view = { λ s. record { text = s.line.value.text; row = record { value = s.line.value.value; reads = option_map (λ r. r.value) s.reads; outcome = s.outcome.value }; opened = s.opened } };
+    ghost view = { λ s. record { text = s.line.value.text; row = record { value = s.line.value.value; reads = option_map (λ r. r.value) s.reads; outcome = s.outcome.value }; opened = s.opened; kept = s.kept } };
 }
 
 impl Slot {
@@ -38,15 +41,33 @@ impl Slot {
         reads: Option<Rc<Reads>>,
         outcome: Rc<Outcome>,
         opened: Option<Element>,
+        kept: Option<State>,
     ) -> Slot
-        ensures { result ≡ record { text = line.value.text; row = record { value = line.value.value; reads = option_map (λ r. r.value) reads; outcome = outcome.value }; opened = opened } }
+        ensures { result ≡ record { text = line.value.text; row = record { value = line.value.value; reads = option_map (λ r. r.value) reads; outcome = outcome.value }; opened = opened; kept = kept } }
     {
         Slot {
             line,
             reads,
             outcome,
             opened,
+            kept,
         }
+    }
+
+    /// The same, which keeps this state.
+    fn keeping(&self, kept: Option<State>) -> Result<Slot, AllocError>
+        ensures { IfOk result (λ new. new ≡ record { text = self.now.text; row = self.now.row; opened = self.now.opened; kept = kept }) }
+    {
+        let reads = match &self.reads {
+            Some(reads) => Some(reads.clone()?),
+            None => None,
+        };
+        let opened = match &self.opened {
+            Some(opened) => Some(opened.copy()?),
+            None => None,
+        };
+        let line = self.line.clone()?;
+        Ok(Slot::new(line, reads, self.outcome.clone()?, opened, kept))
     }
 
     /// Its text.
@@ -77,4 +98,42 @@ impl Slot {
     {
         &self.opened
     }
+
+    /// The state before it, where that is kept.
+    pub(crate) fn kept(&self) -> &Option<State>
+        ensures { result.now ≡ self.now.kept }
+    {
+        &self.kept
+    }
+}
+
+/// The slot, which keeps this state.
+pub(crate) fn keeping(
+    alloc: Global,
+    slot: &Rc<Slot>,
+    kept: Option<State>,
+) -> Result<Rc<Slot>, AllocError>
+    ensures text { IfOk result (λ new. new.value.text ≡ slot.now.value.text) }
+    ensures row { IfOk result (λ new. new.value.row ≡ slot.now.value.row) }
+    ensures opened { IfOk result (λ new. new.value.opened ≡ slot.now.value.opened) }
+    ensures kept { IfOk result (λ new. new.value.kept ≡ kept) }
+{
+    if kept.is_none() && slot.kept().is_none() {
+        return slot.clone();
+    }
+    Ok(Rc::new(alloc, slot.keeping(kept)?)?)
+}
+
+/// The state, to be kept again where the slot kept the one that was there.
+pub(crate) fn kept_again(
+    alloc: Global,
+    slot: &Slot,
+    state: &State,
+) -> Result<Option<State>, AllocError>
+    ensures { IfOk result (λ kept. IfSome kept (λ s. s ≡ state.now)) }
+{
+    if slot.kept().is_none() {
+        return Ok(None);
+    }
+    Ok(Some(state.checkpoint(alloc)?))
 }

@@ -1,15 +1,16 @@
 //! The theories that stand.
 ghost use Rattle.std.specs.Prelude.{◌≡◌, ◌≤◌, ◌<◌, [], IfOk, map, length, slice_index_or, slice_set, position, bytes_eq};
 ghost use Rattle.std.specs.List.{insert, remove};
-ghost use Rattle.hol_exec.specs.MeterView.{setup_of, ran_of};
+ghost use Rattle.hol_document.specs.RunnerView.{setup_of, ran_of};
 ghost use Rattle.hol_document.specs.Affected.{RunsAffected, AddsTheory, DropsTheory};
 ghost use Rattle.hol_document.specs.Documents.{Documents, find_theory, no_theory};
 ghost use Rattle.hol_document.specs.Settled.{FitsAt, edited_text, edit_place};
 ghost use Rattle.hol_document.specs.Slots.{IsStandingAt};
 
 use crate::redo::{Edit, add_unless, edited, follow};
+use crate::runner::Runner;
 use crate::theory::Theory;
-use hol_exec::{EarlierTheory, Meter, SetupTable, State};
+use hol_exec::{EarlierTheory, SetupTable, State};
 use std::alloc::{AllocError, Global};
 use std::marker::Model;
 use std::rc::Rc;
@@ -80,18 +81,18 @@ impl Theories {
     pub(crate) fn with_theory(
         &self,
         alloc: Global,
-        meter: &mut Meter,
+        runner: &mut Runner,
         name: &str,
         at: usize,
     ) -> Result<Theories, AllocError>
-        requires setup { self.now.setup ≡ setup_of meter.old }
+        requires setup { self.now.setup ≡ setup_of runner.old }
         requires at { at ≤ length self.now.theories }
         ensures theories { IfOk result (λ t. t.theories ≡ insert self.now.theories at (record { name = name.now; commands = [] })) }
         ensures same { IfOk result (λ t. t.setup ≡ self.now.setup) }
         ensures cache { IfOk result (λ t. t.cache ≡ self.now.cache) }
-        ensures affected { IfOk result (λ t. RunsAffected self.now t (AddsTheory at) (ran_of meter.old) (ran_of meter.new)) }
-        ensures setup { setup_of meter.new ≡ setup_of meter.old }
-        ensures rises { ran_of meter.old ≤ ran_of meter.new }
+        ensures affected { IfOk result (λ t. RunsAffected self.now t (AddsTheory at) (ran_of runner.old) (ran_of runner.new)) }
+        ensures setup { setup_of runner.new ≡ setup_of runner.old }
+        ensures rises { ran_of runner.old ≤ ran_of runner.new }
     {
         let mut done = copies(alloc, &self.standing[..at])?;
         let name = Rc::new(alloc, String::from_str(alloc, name)?)?;
@@ -100,7 +101,7 @@ impl Theories {
         done.push(theory)?;
         let mut names = Vec::new(alloc);
         names.push(name)?;
-        follow(alloc, meter, &self.standing[at..], names, &mut done)?;
+        follow(alloc, runner, &self.standing[at..], names, &mut done)?;
         Ok(Theories {
             setup: self.setup.clone()?,
             cache: self.cache,
@@ -112,22 +113,24 @@ impl Theories {
     pub(crate) fn without_theory(
         &self,
         alloc: Global,
-        meter: &mut Meter,
+        runner: &mut Runner,
         i: usize,
     ) -> Result<Theories, AllocError>
-        requires setup { self.now.setup ≡ setup_of meter.old }
+        requires setup { self.now.setup ≡ setup_of runner.old }
         requires within { i < length self.now.theories }
         ensures theories { IfOk result (λ t. t.theories ≡ remove self.now.theories i) }
         ensures same { IfOk result (λ t. t.setup ≡ self.now.setup) }
         ensures cache { IfOk result (λ t. t.cache ≡ self.now.cache) }
-        ensures affected { IfOk result (λ t. RunsAffected self.now t (DropsTheory i) (ran_of meter.old) (ran_of meter.new)) }
-        ensures setup { setup_of meter.new ≡ setup_of meter.old }
-        ensures rises { ran_of meter.old ≤ ran_of meter.new }
+        ensures affected { IfOk result (λ t. RunsAffected self.now t (DropsTheory i) (ran_of runner.old) (ran_of runner.new)) }
+        ensures setup { setup_of runner.new ≡ setup_of runner.old }
+        ensures rises { ran_of runner.old ≤ ran_of runner.new }
     {
         let mut done = copies(alloc, &self.standing[..i])?;
+        let theory = &self.standing[i];
         let mut names = Vec::new(alloc);
-        names.push(self.standing[i].shared_name().clone()?)?;
-        follow(alloc, meter, &self.standing[i + 1..], names, &mut done)?;
+        names.push(theory.shared_name().clone()?)?;
+        follow(alloc, runner, &self.standing[i + 1..], names, &mut done)?;
+        runner.leave_each(theory.slots());
         Ok(Theories {
             setup: self.setup.clone()?,
             cache: self.cache,
@@ -139,28 +142,28 @@ impl Theories {
     pub(crate) fn with_edit(
         &self,
         alloc: Global,
-        meter: &mut Meter,
+        runner: &mut Runner,
         i: usize,
         at: usize,
         edit: &Edit,
     ) -> Result<Theories, AllocError>
-        requires setup { self.now.setup ≡ setup_of meter.old }
+        requires setup { self.now.setup ≡ setup_of runner.old }
         requires within { i < length self.now.theories }
         requires fits { FitsAt edit.now at (length (slice_index_or self.now.theories i no_theory).commands) }
         ensures theories { IfOk result (λ t. t.theories ≡ slice_set self.now.theories i (edited_text edit.now at (slice_index_or self.now.theories i no_theory))) }
         ensures same { IfOk result (λ t. t.setup ≡ self.now.setup) }
         ensures cache { IfOk result (λ t. t.cache ≡ self.now.cache) }
-        ensures affected { IfOk result (λ t. RunsAffected self.now t (edit_place edit.now at i) (ran_of meter.old) (ran_of meter.new)) }
-        ensures setup { setup_of meter.new ≡ setup_of meter.old }
-        ensures rises { ran_of meter.old ≤ ran_of meter.new }
+        ensures affected { IfOk result (λ t. RunsAffected self.now t (edit_place edit.now at i) (ran_of runner.old) (ran_of runner.new)) }
+        ensures setup { setup_of runner.new ≡ setup_of runner.old }
+        ensures rises { ran_of runner.old ≤ ran_of runner.new }
     {
         let mut done = copies(alloc, &self.standing[..i])?;
         let theory = &self.standing[i];
-        let new = edited(alloc, meter, &done, theory, edit, at)?;
+        let new = edited(alloc, runner, &done, theory, edit, at)?;
         let mut names = Vec::new(alloc);
         add_unless(&mut names, new.is_same, theory)?;
         done.push(new.theory)?;
-        follow(alloc, meter, &self.standing[i + 1..], names, &mut done)?;
+        follow(alloc, runner, &self.standing[i + 1..], names, &mut done)?;
         Ok(Theories {
             setup: self.setup.clone()?,
             cache: self.cache,

@@ -6,7 +6,7 @@ ghost use Rattle.hol_theory.specs.Entry.{entry_at};
 ghost use Rattle.hol_theory.specs.Key.{key_eq};
 ghost use Rattle.hol_exec.specs.Standing.{first_taken, first_unknown};
 ghost use Rattle.hol_notation_commands.specs.CommandView.{local_text};
-ghost use Rattle.hol_exec.specs.SameReads.{same_reads};
+ghost use Rattle.hol_exec.specs.SameReads.{same_reads, size_read};
 ghost use Rattle.hol_exec.specs.Valid.{AreOfTheory};
 ghost use Rattle.hol_exec.specs.ChangedKeys.{AreApart};
 ghost use Rattle.hol_exec.specs.Keys.{cited_keys, made_keys, command_keys};
@@ -80,19 +80,18 @@ impl Eq for Reads {
     ghost laws = { same_reads_laws };
 }
 
-// Reads of the same command mostly differ in the values of their keys, or not at all: the hash is of what costs nothing.
+// Reads of the same text mostly differ in their goals, or in the values of their keys: the hash is of what costs nothing to ask, and tells goals of different sizes apart.
 impl Hash for Reads {
-    ghost use Rattle.std.specs.Prelude.{◌++◌, length};
-    ghost use Rattle.std.specs.Hash as fed;
-    ghost use Rattle.hol_exec.specs.SameReads.{reads_fed};
+    ghost use Rattle.hol_exec.specs.SameReads.{hashed, reads_fed};
 
-    ghost hash_input = { λ r. fed.bool r.in_proof ++ fed.usize (length r.cited) };
+    ghost hash_input = { hashed };
 
     ghost respects_eq = { reads_fed };
 
     fn hash<H: Hasher>(&self, state: &mut H) {
         self.in_proof.hash(state);
         self.cited.len().hash(state);
+        self.size_read().hash(state);
     }
 }
 
@@ -113,7 +112,7 @@ impl Reads {
         let cited = values_of(alloc, keys.cited(), state)?;
         let made = values_of(alloc, keys.made(), state)?;
         let in_proof = state.proof().is_some();
-        let goal = goal_for(alloc, command, state)?;
+        let goal = goal_for(command, state)?;
         let closing = closing_for(alloc, command, state)?;
         Ok(Reads {
             cited,
@@ -173,6 +172,16 @@ impl Reads {
             return true;
         }
         are_apart(&self.cited, changes) && are_apart(&self.made, changes)
+    }
+
+    // The size of the goal, or 20,001 for more; 0 where none is read.
+    fn size_read(&self) -> u32
+        ensures { result ≡ size_read self.now.goal }
+    {
+        match &self.goal {
+            Some(goal) => goal.size(),
+            None => 0,
+        }
     }
 
     /// With what it cites and makes, it is of some theory.
@@ -256,7 +265,7 @@ impl Reads {
         ensures { IfOk result (λ r. r ≡ self.now) }
     {
         let goal = match &self.goal {
-            Some(goal) => Some(goal.copy(alloc)?),
+            Some(goal) => Some(goal.copy()?),
             None => None,
         };
         let closing = match &self.closing {
@@ -382,16 +391,12 @@ fn value_copies(
     Ok(copied)
 }
 
-fn goal_for(
-    alloc: Global,
-    command: &LocalCommand,
-    state: &State,
-) -> Result<Option<Goal>, AllocError>
+fn goal_for(command: &LocalCommand, state: &State) -> Result<Option<Goal>, AllocError>
     ensures { IfOk result (λ goal. goal ≡ goal_for (local_text command.now) state.now.proof) }
 {
     match command {
         LocalCommand::Apply(_) => match state.goals() {
-            [first, ..] => Ok(Some(first.copy(alloc)?)),
+            [first, ..] => Ok(Some(first.copy()?)),
             [] => Ok(None),
         },
         LocalCommand::Goal {

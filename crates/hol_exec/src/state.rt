@@ -55,6 +55,20 @@ impl State {
         }
     }
 
+    /// The same state, to go on from apart from this one. It shares all but the newest entries, and the elements of the open proof's history.
+    pub fn checkpoint(&self, alloc: Global) -> Result<State, AllocError>
+        ensures { IfOk result (λ s. s ≡ self.now) }
+    {
+        let env = self.env.checkpoint()?;
+        match &self.proof {
+            Some(proof) => Ok(State {
+                env,
+                proof: Some(proof.copy(alloc)?),
+            }),
+            None => Ok(State { env, proof: None }),
+        }
+    }
+
     /// Its entries.
     pub fn env(&self) -> &Env
         ensures { result.now ≡ self.now.entries }

@@ -10,10 +10,17 @@ ghost use Rattle.hol_goal.specs.Formulas.{AreFormulas};
 use hol_terms::{Term, copies};
 use std::alloc::{AllocError, Global};
 use std::marker::Model;
+use std::rc::Rc;
 
-/// A goal: its assumptions, the newest first, and its conclusion, all of type `bool`. It keeps its size.
+/// A goal: its assumptions, the newest first, and its conclusion, all of type `bool`. It keeps its size. Its copies share all of it.
 #[derive(Drop)]
 pub struct Goal {
+    shared: Rc<GoalShared>,
+}
+
+// What the copies of a goal share.
+#[derive(Drop)]
+struct GoalShared {
     assumptions: Vec<Term>,
     conclusion: Term,
     size: u32,
@@ -30,24 +37,27 @@ impl Model for Goal {
 
     ghost coded = { goal_code };
 
-    ghost view = { λ g. goal_of g.assumptions.items g.conclusion };
+    ghost view = { λ g. goal_of g.shared.value.assumptions.items g.shared.value.conclusion };
 
-    ghost invariant = { λ g. (AreFormulas g.assumptions.items) × (named_type g.conclusion ≡ Some bool_type) × (g.size ≡ min (goal_size (goal_of g.assumptions.items g.conclusion)) 20001) };
+    ghost invariant = { λ g. (AreFormulas g.shared.value.assumptions.items) × (named_type g.shared.value.conclusion ≡ Some bool_type) × (g.shared.value.size ≡ min (goal_size (goal_of g.shared.value.assumptions.items g.shared.value.conclusion)) 20001) };
 }
 
 impl Goal {
     /// The goal of these assumptions, the newest first, and this conclusion.
-    pub fn new(assumptions: Vec<Term>, conclusion: Term) -> Goal
+    pub fn new(alloc: Global, assumptions: Vec<Term>, conclusion: Term) -> Result<Goal, AllocError>
         requires assumptions { AreFormulas assumptions.items }
         requires conclusion { named_type conclusion ≡ Some bool_type }
-        ensures { result ≡ goal_of assumptions.items conclusion }
+        ensures { IfOk result (λ g. g ≡ goal_of assumptions.items conclusion) }
     {
         let size = total_size(&assumptions, &conclusion);
-        Goal {
+        let shared = GoalShared {
             assumptions,
             conclusion,
             size,
-        }
+        };
+        Ok(Goal {
+            shared: Rc::new(alloc, shared)?,
+        })
     }
 
     /// The assumptions, the newest first.
@@ -55,7 +65,7 @@ impl Goal {
         ensures terms { map (nameless []) result.now ≡ self.now.assumptions }
         ensures typed { AreFormulas result.now }
     {
-        self.assumptions.as_slice()
+        self.shared.assumptions.as_slice()
     }
 
     /// The conclusion.
@@ -63,26 +73,23 @@ impl Goal {
         ensures term { nameless [] result.now ≡ self.now.conclusion }
         ensures typed { named_type result.now ≡ Some bool_type }
     {
-        &self.conclusion
+        &self.shared.conclusion
     }
 
     /// The size of all its terms, or 20,001 for more. Takes no memory: each goal keeps it.
     pub fn size(&self) -> u32
         ensures { result ≡ min (goal_size self.now) 20001 }
     {
-        self.size
+        self.shared.size
     }
 
-    /// An equal goal.
-    pub fn copy(&self, alloc: Global) -> Result<Goal, AllocError>
+    /// The same goal.
+    /// An error says that no count is left for one more copy.
+    pub fn copy(&self) -> Result<Goal, AllocError>
         ensures { IfOk result (λ g. g ≡ self.now) }
     {
-        let assumptions = copies(alloc, self.assumptions.as_slice())?;
-        let conclusion = self.conclusion.copy()?;
         Ok(Goal {
-            assumptions,
-            conclusion,
-            size: self.size,
+            shared: self.shared.clone()?,
         })
     }
 
@@ -93,7 +100,7 @@ impl Goal {
     {
         let assumptions = copies(alloc, self.assumptions())?;
         let conclusion = conclusion.copy()?;
-        Ok(Goal::new(assumptions, conclusion))
+        Goal::new(alloc, assumptions, conclusion)
     }
 }
 

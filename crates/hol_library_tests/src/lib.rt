@@ -5,6 +5,8 @@
 #[cfg(test)]
 mod copies_tests;
 #[cfg(test)]
+mod layers_tests;
+#[cfg(test)]
 mod registries_tests;
 #[cfg(test)]
 mod rewriting_tests;

@@ -20,3 +20,4 @@ pub mod PassedOver
 pub mod Held
 pub mod Standing
 pub mod Formulas
+pub mod Buckets

@@ -21,6 +21,8 @@ pub mod Listed
 pub mod RuleSets
 pub mod Outlines
 pub mod SetView
+pub mod Heads
+pub mod HeadView
 pub mod Contracta
 pub mod Apart
 pub mod Binding

@@ -5,6 +5,7 @@
 
 mod binder;
 mod fixed;
+mod heads;
 mod instance;
 pub mod laws;
 mod matching;

@@ -1,5 +1,5 @@
 //! Sets of rules, and the first one that fits a term.
-ghost use Rattle.std.specs.Prelude.{◌≡◌, ◌<◌, ◌++◌, [], map, length, IfOk, IfSome, OnOk, MatchOption, is_none, slice_get, Some, None};
+ghost use Rattle.std.specs.Prelude.{◌≡◌, ◌<◌, ◌++◌, [], map, length, not, ◌||◌, IfOk, IfSome, OnOk, MatchOption, is_none, slice_get, Some, None};
 ghost use Rattle.std.specs.List.{AllByRecursion};
 ghost use Rattle.std.specs.List.Sorted.{IsStrictlySortedBy};
 ghost use Rattle.std.specs.Coded.{Coded-set, coded_list};
@@ -18,9 +18,12 @@ ghost use Rattle.hol_match.specs.Ways.{rule_ways};
 ghost use Rattle.hol_match.specs.Sources.{IsFrom};
 ghost use Rattle.hol_match.specs.Fixed.{stays};
 ghost use Rattle.hol_match.specs.Matches.{IsMatch};
-ghost use Rattle.hol_match.specs.Outlines.{rules_depth, has_large_side, rules_pass_over};
+ghost use Rattle.hol_match.specs.Outlines.{is_variable, may_match, rules_depth, has_large_side, rules_pass_over};
+ghost use Rattle.hol_match.specs.Heads.{first_in, bucket_passes_over, earlier};
+ghost use Rattle.hol_match.specs.HeadView.{AreFirst, AreNext};
 
 use crate::binder::{Binder, binder_apart, rule_variables};
+use crate::heads::Heads;
 use crate::instance::Instance;
 use crate::matching::match_with;
 use crate::outline::{depth, is_variable, may_match};
@@ -33,7 +36,7 @@ use std::alloc::{AllocError, Global};
 use std::rc::Rc;
 use std::slice;
 
-/// The rules of a list of theorems and assumed terms, in order.
+/// The rules of a list of theorems and assumed terms, in order. They are found by the constants at the heads of their left sides.
 ///
 /// That `l = r` follows from a rule's theorem is shown by those who use it: from the theorem, generalized over the free variables that its
 /// hypotheses don't have, SPEC at the variables of the rule and CONJUNCT1, CONJUNCT2 on the way to its place, and then EQT_INTRO or EQF_INTRO
@@ -42,7 +45,12 @@ use std::slice;
 pub struct RuleSet {
     rules: Vec<SetRule>,
     variables: Vec<Variable>,
+    heads: Heads,
     ghost own: { variables.items ≡ rule_variables [] (set_rules rules.items) } by { Coded-set (coded_list coded_variable) variables.items (rule_variables [] (set_rules rules.items)) },
+    ghost some: { 0 < length heads.first.items },
+    ghost long: { length heads.next.items ≡ length rules.items },
+    ghost first: { AreFirst rules.items heads.first.items },
+    ghost next: { AreNext (length heads.first.items) rules.items heads.next.items },
 }
 
 impl RuleSet {
@@ -53,16 +61,51 @@ impl RuleSet {
     {
         let rules = all_rules(alloc, thms)?;
         let variables = rule_variables(alloc, &rules)?;
-        Ok(RuleSet { rules, variables })
+        let heads = Heads::of(alloc, &rules)?;
+        Ok(RuleSet {
+            rules,
+            variables,
+            heads,
+        })
     }
 
     /// The number of the first rule that matches the term, and the match: the instance of its left side that is the term up to bound
     /// names, and leaves the variables and type variables of the theorem's hypotheses as they are.
+    ///
+    /// Those tried are the rules in the bucket of the term's head constant, and those that have none at their heads.
+    #[tactic(auto, using(crate::proofs::Buckets::one_bucket))]
     pub fn find(&self, alloc: Global, t: &Term) -> Result<Option<(usize, Instance)>, AllocError>
         ensures first { IfOk result (λ found. MatchOption found (first_fit 0 (set_rules self.now.rules.items) (nameless [] t.now) ≡ None) (λ f. first_fit 0 (set_rules self.now.rules.items) (nameless [] t.now) ≡ Some (f.0, f.1))) }
         ensures fits { IfOk result (λ found. IfSome found (λ f. IsFit (set_rules self.now.rules.items) (nameless [] t.now) (f.0, f.1))) }
     {
-        first_of(alloc, &self.rules, t)
+        let beside = self.first_in(alloc, 0, t)?;
+        let bucket = self.heads.bucket_of(t);
+        if bucket == 0 {
+            return Ok(beside);
+        }
+        let own = self.first_in(alloc, bucket, t)?;
+        Ok(earlier(beside, own))
+    }
+
+    // The number of the first rule in the bucket that matches the term, and the match.
+    fn first_in(
+        &self,
+        alloc: Global,
+        bucket: usize,
+        t: &Term,
+    ) -> Result<Option<(usize, Instance)>, AllocError>
+        requires { bucket < length self.now.heads.first.items }
+        ensures first { IfOk result (λ found. MatchOption found (first_in (length self.now.heads.first.items) bucket 0 (set_rules self.now.rules.items) (nameless [] t.now) ≡ None) (λ f. first_in (length self.now.heads.first.items) bucket 0 (set_rules self.now.rules.items) (nameless [] t.now) ≡ Some (f.0, f.1))) }
+        ensures fits { IfOk result (λ found. IfSome found (λ f. IsFit (set_rules self.now.rules.items) (nameless [] t.now) (f.0, f.1))) }
+    {
+        let mut i = self.heads.first[bucket];
+        'rules: while i < self.rules.len() {
+            if let Some(found) = match_of(alloc, &self.rules[i], t)? {
+                return Ok(Some((i, found)));
+            }
+            i = self.heads.next[i];
+        }
+        Ok(None)
     }
 
     /// The first rule that matches the term, and what it makes of it: the match of its right side.
@@ -110,7 +153,23 @@ impl RuleSet {
     pub fn passes_over(&self, t: &Term) -> bool
         ensures { result ≡ rules_pass_over (set_rules self.now.rules.items) (nameless [] t.now) }
     {
-        rules_pass_over(&self.rules, t)
+        let bucket = self.heads.bucket_of(t);
+        self.bucket_passes_over(0, t) && self.bucket_passes_over(bucket, t)
+    }
+
+    // Whether each left side in the bucket is a variable or of another outline than the term.
+    fn bucket_passes_over(&self, bucket: usize, t: &Term) -> bool
+        requires { bucket < length self.now.heads.first.items }
+        ensures { result ≡ bucket_passes_over (length self.now.heads.first.items) bucket (set_rules self.now.rules.items) (nameless [] t.now) }
+    {
+        let mut i = self.heads.first[bucket];
+        'rules: while i < self.rules.len() {
+            if !is_passed_over(&self.rules[i], t) {
+                return false;
+            }
+            i = self.heads.next[i];
+        }
+        true
     }
 
     /// The number of rules.
@@ -129,22 +188,15 @@ impl RuleSet {
     }
 }
 
-// The number of the first rule that matches the term, and the match.
-#[tactic(auto, using(crate::proofs::RuleSets::is_fit))]
-fn first_of(
-    alloc: Global,
-    rules: &[SetRule],
-    t: &Term,
-) -> Result<Option<(usize, Instance)>, AllocError>
-    ensures first { IfOk result (λ found. MatchOption found (first_fit 0 (set_rules rules.now) (nameless [] t.now) ≡ None) (λ f. first_fit 0 (set_rules rules.now) (nameless [] t.now) ≡ Some (f.0, f.1))) }
-    ensures fits { IfOk result (λ found. IfSome found (λ f. IsFit (set_rules rules.now) (nameless [] t.now) (f.0, f.1))) }
+// Of two rules that match, the one with the lower number.
+fn earlier(a: Option<(usize, Instance)>, b: Option<(usize, Instance)>) -> Option<(usize, Instance)>
+    ensures { result ≡ earlier a b }
 {
-    for (i, rule) in rules.iter().enumerate() {
-        if let Some(found) = match_of(alloc, rule, t)? {
-            return Ok(Some((i, found)));
-        }
+    match (a, b) {
+        (Some(a), Some(b)) => { if b.0 < a.0 { Some(b) } else { Some(a) } }
+        (Some(a), None) => Some(a),
+        (None, b) => b,
     }
-    Ok(None)
 }
 
 // The match of the rule's left side with the term.
@@ -161,6 +213,14 @@ fn match_of(alloc: Global, rule: &SetRule, t: &Term) -> Result<Option<Instance>,
     match_with(alloc, rule.fixed(), left, t)
 }
 
+// Whether the rule's left side is a variable or of another outline than the term.
+fn is_passed_over(rule: &SetRule, t: &Term) -> bool
+    ensures { result ≡ (is_variable (set_rule rule.now).rule.left || not (may_match (set_rule rule.now).rule.left (nameless [] t.now))) }
+{
+    let left = rule.left();
+    is_variable(left) || !may_match(left, t)
+}
+
 // How many levels of a term are looked at for the rules' left sides.
 #[tactic(auto, using(crate::proofs::Outlines::looked_at))]
 fn rules_depth(rules: &[SetRule]) -> Option<usize>
@@ -172,19 +232,6 @@ fn rules_depth(rules: &[SetRule]) -> Option<usize>
         most = depth(rule.left())?.max(most);
     }
     Some(most)
-}
-
-// Whether each rule's left side is a variable or of another outline than the term.
-fn rules_pass_over(rules: &[SetRule], t: &Term) -> bool
-    ensures { result ≡ rules_pass_over (set_rules rules.now) (nameless [] t.now) }
-{
-    for rule in rules {
-        let left = rule.left();
-        if !is_variable(left) && may_match(left, t) {
-            return false;
-        }
-    }
-    true
 }
 
 // The rules of the theorems.

@@ -98,7 +98,7 @@ impl Element {
     {
         let mut goals = copies(alloc, left)?;
         if let [_, rest @ ..] = self.goals() {
-            add_copies(alloc, &mut goals, rest)?;
+            add_copies(&mut goals, rest)?;
         }
         let basis = joined(alloc, self.basis(), basis)?;
         Element::made(alloc, goals, basis)
@@ -110,8 +110,8 @@ impl Element {
         ensures { IfOk result (λ element. element ≡ record self.now { goals = drop by self.now.goals ++ take by self.now.goals }) }
     {
         let mut goals = Vec::new(alloc);
-        add_copies(alloc, &mut goals, &self.goals()[by..])?;
-        add_copies(alloc, &mut goals, &self.goals()[..by])?;
+        add_copies(&mut goals, &self.goals()[by..])?;
+        add_copies(&mut goals, &self.goals()[..by])?;
         Element::made(alloc, goals, self.basis().copy()?)
     }
 

@@ -48,7 +48,7 @@ impl Stack {
         requires plain { goal.assumptions ≡ [] }
         ensures { IfOk result (λ stack. stack ≡ begun goal basis) }
     {
-        let first = goal.copy(alloc)?;
+        let first = goal.copy()?;
         let newest = Element::first(alloc, first, basis)?;
         Ok(Stack {
             goal,
@@ -181,7 +181,7 @@ impl Stack {
     pub fn copy(&self, alloc: Global) -> Result<Stack, AllocError>
         ensures { IfOk result (λ stack. stack ≡ self.now) }
     {
-        let goal = self.goal.copy(alloc)?;
+        let goal = self.goal.copy()?;
         let newest = self.newest.copy()?;
         let earlier = copies(alloc, self.earlier.as_slice())?;
         Ok(Stack {

@@ -28,7 +28,7 @@ pub fn undisch_step(
     ensures just { IfOk result (λ step. TakesOut step.just) }
 {
     let conclusion = mk_imp(alloc, p, goal.conclusion())?;
-    let left = Goal::new(rest, conclusion);
+    let left = Goal::new(alloc, rest, conclusion)?;
     let just = Just::undisch_tac(alloc)?;
     leaving_one(alloc, left, just)
 }

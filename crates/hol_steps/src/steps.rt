@@ -68,5 +68,5 @@ pub(crate) fn assume(alloc: Global, goal: &Goal, p: &Term, q: &Term) -> Result<G
     let mut assumptions = Vec::new(alloc);
     assumptions.push(p.copy()?)?;
     add_copies(&mut assumptions, goal.assumptions())?;
-    Ok(Goal::new(assumptions, q.copy()?))
+    Goal::new(alloc, assumptions, q.copy()?)
 }

@@ -97,7 +97,7 @@ impl Waiting {
         add_copies(&mut pieces, &self.pieces)?;
         Ok(Waiting {
             pieces,
-            goal: self.goal.copy(alloc)?,
+            goal: self.goal.copy()?,
         })
     }
 

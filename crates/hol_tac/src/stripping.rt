@@ -47,7 +47,7 @@ fn strip_theorem(alloc: Global, th: &Given, goal: &Goal, turns: u32) -> Result<T
 {
     let before = Just::assume_tac(alloc, th)?;
     let others = theorem_terms(alloc, th)?;
-    let first = Waiting::one(alloc, th.concl(), goal.copy(alloc)?)?;
+    let first = Waiting::one(alloc, th.concl(), goal.copy()?)?;
     strip(alloc, &others, before, first, turns)
 }
 

@@ -17,7 +17,7 @@ pub fn all_tac(alloc: Global, args: &TacArgs, goal: &Goal, turns: u32) -> Result
     let TacArgs::Nothing = args else {
         return Err(TacFault::Refused(turns));
     };
-    let same = goal.copy(alloc)?;
+    let same = goal.copy()?;
     let step = leaving_one(alloc, same, Just::none(alloc))?;
     Ok(Tried { step, left: turns })
 }

@@ -1,11 +1,12 @@
 -- What an import brings is new and can follow.
-use Rattle.std.specs.Prelude.{◌≡◌, ◌⊎◌, Bool, true, false, not, cond, List, [], ◌∷◌, ◌++◌, Option, Some, None, is_none, refl}
-use Rattle.std.proofs.Common.{ap, sym, ◌∙◌, subst, inl, inr}
+use Rattle.std.specs.Prelude.{◌≡◌, ◌⊎◌, ◌+◌, ℕ, Bool, true, false, not, cond, List, [], ◌∷◌, ◌++◌, drop, length, slice_get, Option, Some, None, is_some, is_none, refl}
+use Rattle.std.proofs.Common.{ap, sym, ◌∙◌, subst, inl, inr, arith}
+use Rattle.std.proofs.lemmas.List.{append_assoc, at_drop_more}
+use Rattle.std.proofs.lemmas.Option.{slice_get_within, get_or_from_slice_get}
 use Rattle.std.proofs.lemmas.Map.Made.{IsDistinct-keys_filter}
 use Rattle.std.proofs.lemmas.Map.Entries.{lookup-filter-keys}
 use Rattle.std.specs.List.{IsDistinct}
 use Rattle.std.specs.Map.{keys_of}
-use Rattle.indexmap.specs.IndexMap.{insert_all}
 use mathlib.Core.Bool.{true≢false}
 use Rattle.hol_kernel.specs.Item.{Item}
 use Rattle.hol_kernel.specs.Items.{Holds, item_set}
@@ -18,7 +19,7 @@ use Rattle.hol_theory.specs.Theory.{with_item, items_of, items_in, RestsOn, entr
 use Rattle.hol_theory.specs.Adding.{AreNew, CanFollow, stands_otherwise, first_clash, missing}
 use Rattle.hol_theory.specs.SameValue.{same_value, same_values_are}
 use Rattle.hol_theory.proofs.Keys.{key_is}
-use Rattle.hol_theory.proofs.Entries.{found, new_of, all_inserted_new}
+use Rattle.hol_theory.proofs.Entries.{found, new_of}
 use Rattle.hol_theory.proofs.Theories.{theory_followed}
 use Rattle.hol_theory.proofs.Items.{with_old, with_own, with_cases, after_own, after_cases}
 
@@ -163,16 +164,55 @@ missing_follows es theory t none =
 pub theory_imported : (es theory : Entries) → IsTheory es → IsTheory theory → IsDistinct key_eq (keys_of theory) → first_clash es theory ≡ None → IsTheory (es ++ missing es theory)
 theory_imported es theory t u d none = theory_followed es (missing es theory) t (missing_new es theory d) (missing_follows es theory u none)
 
--- what the map has after these are inserted; `self` is what it had
-pub entries_with_import : (es self theory new copied : Entries) → es ≡ self → copied ≡ missing self theory → new ≡ insert_all key_eq es copied → IsDistinct key_eq (keys_of theory) →
-    new ≡ self ++ missing self theory
-entries_with_import es self theory new copied is same n d =
-    n
-    ∙ ap (λ (t : Entries). insert_all key_eq t copied) is
-    ∙ ap (λ (t : Entries). insert_all key_eq self t) same
-    ∙ all_inserted_new self (missing self theory) (missing_new self theory d)
+-- ---- a theory without entries
 
-pub theory_with_import : (es self theory new copied : Entries) → es ≡ self → copied ≡ missing self theory → new ≡ insert_all key_eq es copied → IsTheory es → IsTheory theory →
-    IsDistinct key_eq (keys_of theory) → first_clash self theory ≡ None → IsTheory new
-theory_with_import es self theory new copied is same n t u d none =
-    subst IsTheory (sym (entries_with_import es self theory new copied is same n d)) (theory_imported self theory (subst IsTheory is t) u d none)
+nothing_clashes : (theory : Entries) → first_clash [] theory ≡ None
+nothing_clashes [] = refl
+nothing_clashes (e ∷ theory) = nothing_clashes theory
+
+all_missing : (theory : Entries) → missing [] theory ≡ theory
+all_missing [] = refl
+all_missing (e ∷ theory) = ap (λ (t : Entries). e ∷ t) (all_missing theory)
+
+-- gets all of the other
+pub whole_imported : (es theory new : Entries) → 0 ≡ length es → new ≡ theory → (first_clash es theory ≡ None) × (new ≡ es ++ missing es theory)
+whole_imported [] theory new none is = (nothing_clashes theory, is ∙ sym (all_missing theory))
+whole_imported (e ∷ es) theory new none is = absurd (omega (arith, none))
+
+-- ---- entry by entry
+
+next_entry : (theory : Entries) (i : ℕ) (e : KeyValue × EntryValue) → slice_get theory i ≡ Some e → drop i theory ≡ e ∷ drop (i + 1) theory
+next_entry theory i e at =
+    at_drop_more (λ (t : Entries). t) theory i e (slice_get_within theory i e at)
+    ∙ ap (λ (f : KeyValue × EntryValue). f ∷ drop (i + 1) theory) (get_or_from_slice_get theory i e e at)
+
+module _ (es theory : Entries) (i : ℕ) (key : KeyValue) (value : EntryValue) (at : slice_get theory i ≡ Some (key, value)) where
+  module _ (r : Bool) (e : r ≡ stands_otherwise (entry_at key es) value) (clash : first_clash es theory ≡ first_clash es (drop i theory)) where
+    clash_from : first_clash es theory ≡ cond r (Some key) (first_clash es (drop (i + 1) theory))
+    clash_from =
+        clash ∙ ap (first_clash es) (next_entry theory i (key, value) at) ∙ ap (λ b. cond b (Some key) (first_clash es (drop (i + 1) theory))) (sym e)
+
+    pub clash_here : r ≡ true → Some key ≡ first_clash es theory
+    clash_here is = sym (clash_from ∙ ap (λ b. cond b (Some key) (first_clash es (drop (i + 1) theory))) is)
+
+    pub clash_later : r ≡ false → first_clash es theory ≡ first_clash es (drop (i + 1) theory)
+    clash_later is = clash_from ∙ ap (λ b. cond b (Some key) (first_clash es (drop (i + 1) theory))) is
+
+  module _ (r : Bool) (e : r ≡ is_some (entry_at key es)) (done : Entries) (brought : done ++ missing es (drop i theory) ≡ missing es theory) where
+    missing_from : done ++ cond (is_none (entry_at key es)) ((key, value) ∷ missing es (drop (i + 1) theory)) (missing es (drop (i + 1) theory)) ≡ missing es theory
+    missing_from = ap (λ (t : Entries). done ++ missing es t) (sym (next_entry theory i (key, value) at)) ∙ brought
+
+    by_case : (o : Option EntryValue) (more : Entries) → r ≡ is_some o → done ++ cond (is_none o) ((key, value) ∷ more) more ≡ missing es theory → cond r (done ++ more) ((done ++ (key, value) ∷ []) ++ more) ≡ missing es theory
+    by_case None more p all = ap (λ b. cond b (done ++ more) ((done ++ (key, value) ∷ []) ++ more)) p ∙ append_assoc done ((key, value) ∷ []) more ∙ all
+    by_case (Some v) more p all = ap (λ b. cond b (done ++ more) ((done ++ (key, value) ∷ []) ++ more)) p ∙ all
+
+    pub missing_here : (new : Entries) (entry : KeyValue × EntryValue) → r ≡ false → new ≡ done ++ entry ∷ [] → entry ≡ (key, value) → new ++ missing es (drop (i + 1) theory) ≡ missing es theory
+    missing_here new entry is n copied =
+        ap (λ (t : Entries). t ++ missing es (drop (i + 1) theory)) (n ∙ ap (λ (f : KeyValue × EntryValue). done ++ f ∷ []) copied)
+        ∙ ap (λ b. cond b (done ++ missing es (drop (i + 1) theory)) ((done ++ (key, value) ∷ []) ++ missing es (drop (i + 1) theory))) (sym is)
+        ∙ by_case (entry_at key es) (missing es (drop (i + 1) theory)) e missing_from
+
+    pub missing_later : r ≡ true → done ++ missing es (drop (i + 1) theory) ≡ missing es theory
+    missing_later is =
+        ap (λ b. cond b (done ++ missing es (drop (i + 1) theory)) ((done ++ (key, value) ∷ []) ++ missing es (drop (i + 1) theory))) (sym is)
+        ∙ by_case (entry_at key es) (missing es (drop (i + 1) theory)) e missing_from

@@ -1,5 +1,6 @@
 pub mod Keys
 pub mod Entries
+pub mod Layers
 pub mod Items
 pub mod Theories
 pub mod Imports

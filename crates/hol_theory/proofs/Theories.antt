@@ -1,9 +1,10 @@
 -- Theories, and what may come after them.
-use Rattle.std.specs.Prelude.{◌≡◌, Bool, true, false, cond, List, [], ◌∷◌, ◌++◌, Option, Some, None, is_some, Result, Ok, Err, OnOk, OnErr, refl}
+use Rattle.std.specs.Prelude.{◌≡◌, ◌+◌, ℕ, Bool, true, false, cond, List, [], ◌∷◌, ◌++◌, length, Option, Some, None, is_some, Result, Ok, Err, OnOk, refl}
 use Rattle.std.proofs.Common.{ap, sym, ◌∙◌, subst, inl, inr}
 use Rattle.std.specs.FinSet as set
 use Rattle.std.proofs.lemmas.Bool.{false_from_ne_true}
-use Rattle.indexmap.specs.IndexMap.{insert_entry, insert_all}
+use Rattle.std.proofs.lemmas.List.{append_assoc, length-append}
+use Rattle.indexmap.specs.IndexMap.{insert_all}
 use Rattle.hol_kernel.specs.Item.{Item}
 use Rattle.hol_kernel.specs.Items.{Items, Holds, IsSubset, item_set}
 use Rattle.hol_kernel.specs.Signature.{ItemKey, has_key, prelude_has}
@@ -17,7 +18,8 @@ use Rattle.hol_theory.specs.Entry.{EntryValue, Entries, IsEntry, EachIsEntry, en
 use Rattle.hol_theory.specs.Theory.{with_item, items_of, items_in, RestsOn, entry_key, IsNamedIn, IsTheory}
 use Rattle.hol_theory.specs.Adding.{AreNew, CanFollow}
 use Rattle.hol_theory.proofs.Keys.{key_itself}
-use Rattle.hol_theory.proofs.Entries.{at_left, at_right, stands_once, each_joined, inserted_new, all_inserted_new}
+use Rattle.hol_theory.proofs.Entries.{at_left, at_right, stands_once, each_joined, all_inserted_new}
+use Rattle.hol_theory.proofs.Layers.{new_joined}
 use Rattle.hol_theory.proofs.Items.{with_old, with_cases, after_cases, after_own, items_joined, rests_joined, items_legal, same_by_name}
 
 theory_of : (es : Entries) → EachIsEntry es → RestsOn [] es → ((x : Item) → Holds (items_in es) x → IsNamedIn es x) → IsTheory es
@@ -47,43 +49,36 @@ theory_followed es more t new c =
       ]
     ])
 
--- ---- what the map has after entries are inserted; `self` is what it had
+-- ---- older entries and newest ones, which are `self`
 
 stands_not : (r : Bool) (o : Option EntryValue) → r ≡ is_some o → r ≡ false → o ≡ None
 stands_not r None e f = refl
 stands_not r (Some v) e f = let g : true ≡ false = sym e ∙ f in absurd (cc)
 
-pub free_key : (r : Bool) (es self : Entries) (key : KeyValue) → r ≡ is_some (entry_at key es) → r ≡ false → es ≡ self → entry_at key self ≡ None
-free_key r es self key e f is = stands_not r (entry_at key self) (e ∙ ap (λ (t : Entries). is_some (entry_at key t)) is) f
+pub free_key : (r : Bool) (self : Entries) (key : KeyValue) → r ≡ is_some (entry_at key self) → r ≡ false → entry_at key self ≡ None
+free_key r self key e f = stands_not r (entry_at key self) e f
 
-pub entries_with_one : (es self new : Entries) (key : KeyValue) (value : EntryValue) (entry : KeyValue × EntryValue) → es ≡ self → entry ≡ (key, value) → new ≡ insert_entry key_eq es entry.0 entry.1 →
-    entry_at key self ≡ None → new ≡ self ++ (key, value) ∷ []
-entries_with_one es self new key value entry is copied n none =
-    n
-    ∙ ap (λ (e : KeyValue × EntryValue). insert_entry key_eq es e.0 e.1) copied
-    ∙ ap (λ (t : Entries). insert_entry key_eq t key value) is
-    ∙ inserted_new self key value none
+module _ (older newest self more new : Entries) (is : older ++ newest ≡ self) (n : new ≡ newest ++ more) where
+  -- with more of the newest
+  pub entries_grown : older ++ new ≡ self ++ more
+  entries_grown = ap (λ (t : Entries). older ++ t) n ∙ sym (append_assoc older newest more) ∙ ap (λ (t : Entries). t ++ more) is
 
-pub theory_with_one : (es self new : Entries) (key : KeyValue) (value : EntryValue) (entry : KeyValue × EntryValue) → es ≡ self → entry ≡ (key, value) → new ≡ insert_entry key_eq es entry.0 entry.1 →
-    IsTheory es → entry_at key self ≡ None → (entry_at key self ≡ None → CanFollow self ((key, value) ∷ [])) → IsTheory new
-theory_with_one es self new key value entry is copied n t none follow =
-    subst IsTheory (sym (entries_with_one es self new key value entry is copied n none))
-    (theory_followed self ((key, value) ∷ []) (subst IsTheory is t) (none, tt) (follow none))
+  pub theory_grown : (count some : ℕ) → AreNew [] (older ++ newest) → IsTheory (older ++ newest) → AreNew self more → CanFollow self more → some ≡ length more → count ≡ length self + some →
+      AreNew [] (older ++ new) × IsTheory (older ++ new) × (count ≡ length (older ++ new))
+  theory_grown count some old t fresh follow few all = (
+    subst (AreNew []) (sym entries_grown) (new_joined [] self more (subst (AreNew []) is old) fresh),
+    subst IsTheory (sym entries_grown) (theory_followed self more (subst IsTheory is t) fresh follow),
+    all ∙ ap (λ k. length self + k) few ∙ sym (length-append self more) ∙ ap length (sym entries_grown),
+  )
 
-all_inserted : (es self copied more : Entries) → es ≡ self → copied ≡ more → AreNew self more → insert_all key_eq es copied ≡ self ++ more
-all_inserted es self copied more is same new =
-    ap (λ (t : Entries). insert_all key_eq t copied) is ∙ ap (λ (t : Entries). insert_all key_eq self t) same ∙ all_inserted_new self more new
+-- ---- what a map has after new entries are inserted; `self` is what it had
 
-module _ {A B : Type 0} where
-  pub entries_with_all : (r : Result A B) (es self new copied more : Entries) → OnOk r (new ≡ insert_all key_eq es copied) → es ≡ self → copied ≡ more → AreNew self more → OnOk r (new ≡ self ++ more)
-  entries_with_all (Ok done) es self new copied more n is same fresh = n ∙ all_inserted es self copied more is same fresh
-  entries_with_all (Err e) es self new copied more n is same fresh = tt
+all_inserted : (es self more : Entries) → es ≡ self → AreNew self more → insert_all key_eq es more ≡ self ++ more
+all_inserted es self more is new = ap (λ (t : Entries). insert_all key_eq t more) is ∙ all_inserted_new self more new
 
-  pub theory_with_all : (r : Result A B) (es self new copied more : Entries) → OnOk r (new ≡ insert_all key_eq es copied) → OnErr r (new ≡ es) → es ≡ self → copied ≡ more →
-      IsTheory es → AreNew self more → CanFollow self more → IsTheory new
-  theory_with_all (Ok done) es self new copied more n old is same t fresh follow =
-      subst IsTheory (sym (n ∙ all_inserted es self copied more is same fresh)) (theory_followed self more (subst IsTheory is t) fresh follow)
-  theory_with_all (Err e) es self new copied more n old is same t fresh follow = subst IsTheory (sym old) t
+pub entries_with_all : {A B : Type 0} (r : Result A B) (es self new more : Entries) → OnOk r (new ≡ insert_all key_eq es more) → es ≡ self → AreNew self more → OnOk r (new ≡ self ++ more)
+entries_with_all (Ok done) es self new more n is fresh = n ∙ all_inserted es self more is fresh
+entries_with_all (Err e) es self new more n is fresh = tt
 
 -- ---- names
 

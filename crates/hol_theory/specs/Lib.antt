@@ -5,4 +5,5 @@ pub mod Codes
 pub mod Theory
 pub mod SameValue
 pub mod Adding
+pub mod Layers
 pub mod Making

@@ -1,8 +1,7 @@
 //! The entries of a theory.
-ghost use Rattle.std.specs.Prelude.{◌≡◌, ◌<◌, ◌≤◌, ◌+◌, ◌++◌, [], ◌∷◌, length, slice_get, IfOk, OnOk, OnErr, Some, None, option_copied};
+ghost use Rattle.std.specs.Prelude.{◌≡◌, ◌<◌, ◌+◌, ◌++◌, [], ◌∷◌, length, slice_get, IfOk, OnOk, OnErr, Some, None, is_some, option_copied};
 ghost use Rattle.std.specs.List.{IsDistinct};
 ghost use Rattle.std.specs.Map.{keys_of};
-ghost use Rattle.indexmap.specs.IndexMap.{insert_entry, insert_all, spare, IsUnique};
 ghost use Rattle.hol_theory.specs.Key.{key_eq};
 ghost use Rattle.hol_theory.specs.Entry.{entry_at};
 ghost use Rattle.hol_theory.specs.Theory.{IsTheory};
@@ -10,32 +9,39 @@ ghost use Rattle.hol_theory.specs.Adding.{AreNew, CanFollow, Adds, Imports, stan
 
 use crate::error::EnvError;
 use crate::key::Key;
+use crate::layer::Layer;
+use crate::older::Older;
 use crate::value::Value;
-use indexmap::IndexMap;
-use std::alloc::{AllocError, Global};
+use std::alloc::{AllocError, AllocFailed, Global};
 use std::marker::Model;
+use std::mem;
 
-/// The entries of a theory in standing order, each under its key. The prelude is not among them.
+// The number of newest entries at which they become a layer of the older ones.
+const LAYER_LEN: usize = 32;
+
+/// The entries of a theory in standing order, each under its key. The prelude is not among them. Checkpoints share all but the newest ones.
 #[derive(Drop)]
 pub struct Env {
     alloc: Global,
-    entries: IndexMap<Key, Value>,
+    count: usize,
+    older: Older,
+    newest: Layer,
 }
 
 impl Model for Env {
-    ghost use Rattle.indexmap.specs.IndexMap.{IsUnique};
-    ghost use Rattle.hol_theory.specs.Key.{key_eq};
+    ghost use Rattle.std.specs.Prelude.{◌≡◌, ◌++◌, [], length};
     ghost use Rattle.hol_theory.specs.Entry.{Entries};
     ghost use Rattle.hol_theory.specs.Theory.{IsTheory};
+    ghost use Rattle.hol_theory.specs.Adding.{AreNew};
     ghost use Rattle.hol_theory.specs.Codes.{coded_entries};
 
     ghost Value = { Entries };
 
     ghost coded = { coded_entries };
 
-    ghost view = { λ env. env.entries.entries };
+    ghost view = { λ env. env.older ++ env.newest };
 
-    ghost invariant = { λ env. IsUnique key_eq env.entries × IsTheory env.entries.entries };
+    ghost invariant = { λ env. AreNew [] (env.older ++ env.newest) × IsTheory (env.older ++ env.newest) × (env.count ≡ length (env.older ++ env.newest)) };
 }
 
 impl Env {
@@ -45,7 +51,9 @@ impl Env {
     {
         Env {
             alloc,
-            entries: IndexMap::new(alloc),
+            count: 0,
+            older: Older::new(alloc),
+            newest: Layer::new(alloc),
         }
     }
 
@@ -53,14 +61,17 @@ impl Env {
     pub fn get(&self, key: &Key) -> Option<&Value>
         ensures { option_copied result ≡ entry_at key.now self.now }
     {
-        self.entries.get(key)
+        match self.older.get(key) {
+            Some(value) => Some(value),
+            None => self.newest.get(key),
+        }
     }
 
     /// The number of entries.
     pub fn len(&self) -> usize
         ensures { result ≡ length self.now }
     {
-        self.entries.len()
+        self.count
     }
 
     /// An entry by its place in standing order, from 0.
@@ -68,9 +79,11 @@ impl Env {
         requires { index < length self.now }
         ensures { slice_get self.now index ≡ Some (result.0.now, result.1.now) }
     {
-        match self.entries.get_index(index) {
-            Some(entry) => entry,
-            None => unreachable!(),
+        let older = self.count - self.newest.len();
+        if index < older {
+            self.older.entry(index)
+        } else {
+            self.newest.entry(index - older)
         }
     }
 
@@ -80,7 +93,19 @@ impl Env {
         ensures theory { IsTheory self.now }
         ensures keys { IsDistinct key_eq (keys_of self.now) }
     {
-        let _entries = &self.entries;
+        let _newest = &self.newest;
+    }
+
+    /// The same theory, to go on from apart from this one. It shares all but the newest entries.
+    pub fn checkpoint(&self) -> Result<Env, AllocError>
+        ensures { IfOk result (λ env. env ≡ self.now) }
+    {
+        Ok(Env {
+            alloc: self.alloc,
+            count: self.count,
+            older: self.older.copy(self.alloc)?,
+            newest: self.newest.copy(self.alloc)?,
+        })
     }
 
     /// Adds an entry, which comes last.
@@ -90,11 +115,14 @@ impl Env {
         requires { entry_at key.now self.old ≡ None → CanFollow self.old ((key.now, value.now) ∷ []) }
         ensures { Adds key.now value.now self.old self.new result }
     {
-        if self.entries.contains_key(key) {
+        if self.contains_key(key) {
             return Err(EnvError::Taken(key.copy()?));
         }
+        let count = self.count_with(1)?;
         let (key, value) = entry_copy(key, value)?;
-        self.entries.insert(key, value)?;
+        self.newest.add(key, value)?;
+        self.count = count;
+        self.settle();
         Ok(())
     }
 
@@ -106,21 +134,24 @@ impl Env {
         ensures err { OnErr result (self.new ≡ self.old) }
     {
         let copied = copies(self.alloc, more)?;
-        insert_each(&mut self.entries, copied)
+        self.take_all(copied)
     }
 
-    /// Adds the other theory's entries under whose keys nothing stands, in their order: all of them, or none.
+    /// Adds the other theory's entries under whose keys nothing stands, in their order: all of them, or none. A theory without entries shares those of the other.
     ///
     /// Refused by [`EnvError::ImportClash`] with the other theory's first key under which another value stands.
     pub fn import(&mut self, other: &Env) -> Result<(), EnvError>
         ensures { Imports other.now self.old self.new result }
     {
+        if self.count == 0 {
+            return Ok(self.become_checkpoint(other)?);
+        }
         other.promise();
         if let Some(key) = self.first_clash(other) {
             return Err(EnvError::ImportClash(key.copy()?));
         }
         let more = self.missing(other)?;
-        insert_each(&mut self.entries, more)?;
+        self.take_all(more)?;
         Ok(())
     }
 
@@ -128,7 +159,8 @@ impl Env {
     pub fn first_clash<'a>(&self, other: &'a Env) -> Option<&'a Key>
         ensures { option_copied result ≡ first_clash self.now other.now }
     {
-        for (key, value) in other.entries.iter() {
+        for i in 0..other.count {
+            let (key, value) = other.entry(i);
             if self.stands_otherwise(key, value) {
                 return Some(key);
             }
@@ -151,12 +183,66 @@ impl Env {
         ensures { IfOk result (λ more. more.items ≡ missing self.now other.now) }
     {
         let mut more = Vec::new(self.alloc);
-        for (key, value) in other.entries.iter() {
-            if self.get(key).is_none() {
+        for i in 0..other.count {
+            let (key, value) = other.entry(i);
+            if !self.contains_key(key) {
                 more.push(entry_copy(key, value)?)?;
             }
         }
         Ok(more)
+    }
+
+    // Whether something stands under the key.
+    fn contains_key(&self, key: &Key) -> bool
+        ensures { result ≡ is_some (entry_at key.now self.now) }
+    {
+        self.get(key).is_some()
+    }
+
+    // This becomes the other theory.
+    fn become_checkpoint(&mut self, other: &Env) -> Result<(), AllocError>
+        ensures ok { OnOk result (self.new ≡ other.now) }
+        ensures err { OnErr result (self.new ≡ self.old) }
+    {
+        *self = other.checkpoint()?;
+        Ok(())
+    }
+
+    // The number of entries with so many more.
+    fn count_with(&self, more: usize) -> Result<usize, AllocError>
+        ensures { IfOk result (λ count. count ≡ length self.now + more) }
+    {
+        match self.count.checked_add(more) {
+            Some(count) => Ok(count),
+            None => Err(AllocError),
+        }
+    }
+
+    // Adds entries, which come last in their order: all of them, or none.
+    fn take_all(&mut self, more: Vec<(Key, Value)>) -> Result<(), AllocError>
+        requires new { AreNew self.old more.items }
+        requires follow { CanFollow self.old more.items }
+        ensures ok { OnOk result (self.new ≡ self.old ++ more.items) }
+        ensures err { OnErr result (self.new ≡ self.old) }
+    {
+        let count = self.count_with(more.len())?;
+        self.newest.add_all(more)?;
+        self.count = count;
+        self.settle();
+        Ok(())
+    }
+
+    // Where the newest entries are many, they become a layer of the older ones. They stay where there is no memory for it.
+    fn settle(&mut self)
+        ensures { self.new ≡ self.old }
+    {
+        if self.newest.len() < LAYER_LEN {
+            return;
+        }
+        let newest = mem::replace(&mut self.newest, Layer::new(self.alloc));
+        if let Err(AllocFailed { value }) = self.older.push(self.alloc, newest) {
+            self.newest = value;
+        }
     }
 }
 
@@ -176,33 +262,4 @@ fn copies(alloc: Global, entries: &[(Key, Value)]) -> Result<Vec<(Key, Value)>, 
         copied.push(entry_copy(&entry.0, &entry.1)?)?;
     }
     Ok(copied)
-}
-
-// Inserts the entries in their order: all of them, or none.
-fn insert_each(
-    entries: &mut IndexMap<Key, Value>,
-    more: Vec<(Key, Value)>,
-) -> Result<(), AllocError>
-    ensures ok { OnOk result (entries.new.entries ≡ insert_all key_eq entries.old.entries more.items) }
-    ensures err { OnErr result (entries.new.entries ≡ entries.old.entries) }
-    ensures unique { IsUnique key_eq entries.old → IsUnique key_eq entries.new }
-{
-    entries.reserve(more.len())?;
-    for (key, value) in more {
-        insert_one(entries, key, value);
-    }
-    Ok(())
-}
-
-// Inserts an entry where there is room for one.
-fn insert_one(entries: &mut IndexMap<Key, Value>, key: Key, value: Value)
-    requires { 0 < spare entries.old }
-    ensures entries { entries.new.entries ≡ insert_entry key_eq entries.old.entries key value }
-    ensures room { spare entries.old ≤ spare entries.new + 1 }
-    ensures unique { IsUnique key_eq entries.new }
-{
-    match entries.insert(key, value) {
-        Ok(_) => {}
-        Err(_) => unreachable!(),
-    }
 }

@@ -7,7 +7,9 @@ mod env;
 mod error;
 mod key;
 mod laws;
+mod layer;
 mod making;
+mod older;
 mod same;
 mod value;
 

@@ -197,7 +197,7 @@ impl Outcome {
             Change::Opens(name, statement, basis) => {
                 opening_copy(alloc, name.as_str(), statement, basis)
             }
-            Change::Leaves(goal, step, basis) => leaving_copy(alloc, goal, step, basis),
+            Change::Leaves(goal, step, basis) => leaving_copy(goal, step, basis),
             Change::Undoes => Ok(Outcome::undoes()),
             Change::Rotates(times) => Ok(Outcome::rotates(*times)),
             Change::Makes(entries) => Ok(Outcome::makes(copies(alloc, entries)?)),
@@ -230,16 +230,11 @@ fn opening_copy(
 }
 
 #[tactic(auto, using(crate::proofs::Steps::left_same))]
-fn leaving_copy(
-    alloc: Global,
-    goal: &Goal,
-    step: &SharedStep,
-    basis: &Basis,
-) -> Result<Outcome, AllocError>
+fn leaving_copy(goal: &Goal, step: &SharedStep, basis: &Basis) -> Result<Outcome, AllocError>
     requires { IsLeft basis.now step.now.moves goal.now step.now.goals }
     ensures { IfOk result (λ o. o ≡ Leaves goal.now step.now.goals basis.now) }
 {
-    let goal = goal.copy(alloc)?;
+    let goal = goal.copy()?;
     let step = step.copy()?;
     Ok(Outcome::leaves(goal, step, basis.copy()?))
 }

@@ -184,7 +184,7 @@ fn left(alloc: Global, goal: &Goal, step: Step, basis: Basis) -> Result<Outcome,
     requires { IsLeft basis step.just goal.now step.goals.items }
     ensures { IfOk result (λ outcome. outcome ≡ Leaves goal.now step.goals.items basis) }
 {
-    let goal = goal.copy(alloc)?;
+    let goal = goal.copy()?;
     let step = SharedStep::new(alloc, step)?;
     Ok(Outcome::leaves(goal, step, basis))
 }

@@ -50,6 +50,15 @@ impl Proof {
         Ok(Proof { name, stack })
     }
 
+    /// An equal proof, which shares the elements of the history.
+    pub(crate) fn copy(&self, alloc: Global) -> Result<Proof, AllocError>
+        ensures { IfOk result (λ p. p ≡ self.now) }
+    {
+        let name = String::from_str(alloc, self.name.as_str())?;
+        let stack = self.stack.copy(alloc)?;
+        Ok(Proof { name, stack })
+    }
+
     /// The theorem's name.
     pub(crate) fn name(&self) -> &str
         ensures { result.now ≡ self.now.name }
@@ -154,5 +163,5 @@ fn stated(alloc: Global, statement: &Term) -> Result<Goal, AllocError>
     requires { named_type statement.now ≡ Some bool_type }
     ensures { IfOk result (λ g. g ≡ record { assumptions = []; conclusion = nameless [] statement.now }) }
 {
-    Ok(Goal::new(Vec::new(alloc), statement.copy()?))
+    Goal::new(alloc, Vec::new(alloc), statement.copy()?)
 }

@@ -15,8 +15,8 @@ hand-requires-clause-formula g c = All-head (λ q. named_type q ≡ Some bool_ty
 
 pub returns-clause-valid : goal.returns-clause-valid
 returns-clause-valid g c =
-    pop_valid (theorem_tac_value c.args.tac.now) c.args.goal.now c.assumptions.result.now c.in-Some.older.now c.in-Some.p.now c.new-popped.result c.hand.result c.in-Some.ensures.cases.0 c.assumptions.ensures.terms
-    (c.new-popped.ensures
+    pop_valid (theorem_tac_value c.args.tac.now) c.args.goal.now c.assumptions.result.now c.in-Some.older.now c.in-Some.p.now c.in_ok-popped.popped c.hand.result c.in-Some.ensures.cases.0 c.assumptions.ensures.terms
+    (c.in_ok-popped.ensures
     ∙ (λ i. goal_of (c.in_ok-copies.ensures i) (c.in_ok-copy.ensures i))
     ∙ (λ i. goal_at (map (nameless []) c.in-Some.older.now) (c.conclusion.ensures.term i)))
     c.hand.ensures.valid

@@ -1,14 +1,15 @@
-use Rattle.std.proofs.Common.{◌≡◌, List, map, take, drop}
-use Rattle.hol_exec.specs.Setup.{SetupValue}
-use Rattle.hol_exec.specs.StateValue.{StateValue, EndedTheory, start}
+use Rattle.std.proofs.Common.{◌≡◌, ◌≤◌, ◌-◌, length, map, take, drop}
 use Rattle.hol_document.specs.Alike.{no_drift}
-use Rattle.hol_document.specs.Slots.{AreSlots}
+use Rattle.hol_document.specs.Settled.{LeadTo}
 use Rattle.hol_document.proofs.growing.resumed.Given as goal
 
-abbrev pub invariant-loop-slot : goal.invariant-loop-slot
-invariant-loop-slot l = record {
-  slots : map (λ x. x.value) l.growing.slots.items ≡ map (λ x. x.value) (take l.slot-index l.slots);
-  left : (setup : SetupValue) (before : List EndedTheory) (last : StateValue) → AreSlots setup before start (map (λ x. x.value) l.slots) last
-      → AreSlots setup before l.growing.state (map (λ x. x.value) (drop l.slot-index l.slots)) last;
+abbrev pub invariant-loop-i : goal.invariant-loop-i
+invariant-loop-i l = record {
+  within : l.i ≤ length l.slots;
+  slots : map (λ x. x.value) l.growing.slots.items ≡ map (λ x. x.value) (take l.i l.slots);
+  left : LeadTo (map (λ x. x.value) l.slots) (map (λ x. x.value) (drop l.i l.slots)) l.growing.state;
   drift : l.growing.drift ≡ no_drift;
 }
+
+abbrev pub decreases-loop-i : goal.decreases-loop-i
+decreases-loop-i l = length l.slots - l.i

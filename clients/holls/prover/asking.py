@@ -1,0 +1,105 @@
+"""A server of its own for the search, asked one question after the other."""
+
+from __future__ import annotations
+
+import queue
+import time
+from typing import Any, Dict, List, Optional, Sequence, Union
+
+from holls import protocol
+from holls.protocol import Goals, Made, Refusal
+from holls.server import Line, Server
+
+THEORY = "holls_prover"
+"""The name of the copy in which steps are tried."""
+
+class Silent(Exception):
+    """The program has ended, or gave no answer in time; the text says which."""
+
+
+class Asker:
+    """A server in which theories stand, and a copy of a proof behind them, whose next steps are tried."""
+
+    def __init__(self, program: Sequence[str], seconds: float) -> None:
+        self.seconds = seconds
+        self._events: "queue.Queue[object]" = queue.Queue()
+        self._server = Server(list(program), self._events)
+        self._theories = 0
+        self.count = 0
+
+    def stop(self) -> None:
+        """Ends the server."""
+        self._server.stop()
+
+    def ask(self, request: Dict[str, Any], until: Optional[float] = None) -> protocol.Reply:
+        """The reply to a request."""
+        self._server.send(protocol.line(request))
+        return self._answer(until)
+
+    def _answer(self, until: Optional[float]) -> protocol.Reply:
+        seconds = self.seconds if until is None else max(0.01, until - time.monotonic())
+        try:
+            event = self._events.get(timeout=seconds)
+        except queue.Empty:
+            raise Silent("hol_serve gave no answer in time") from None
+        if not isinstance(event, Line):
+            raise Silent("hol_serve " + event.reason)
+        reply = protocol.reply(event.data)
+        if isinstance(reply, protocol.Unreadable):
+            raise Silent("hol_serve wrote a line that is no reply")
+        return reply
+
+    def add(self, theory: str, texts: Sequence[str]) -> None:
+        """Puts a theory behind those that stand."""
+        requests = [{"op": "new_theory", "name": theory, "at": self._theories}]
+        requests += [{"op": "insert", "theory": theory, "at": at, "text": text} for at, text in enumerate(texts)]
+        self._theories += 1
+        self._ask_all(requests)
+
+    def _ask_all(self, requests: Sequence[Dict[str, Any]]) -> None:
+        for request in requests:
+            self._server.send(protocol.line(request))
+        for _ in requests:
+            self._answer(None)
+
+    def copy(self, texts: Sequence[str]) -> None:
+        """Puts the commands of a proof up to where it is."""
+        self.add(THEORY, texts)
+        self.count = len(texts)
+
+    def extend(self, texts: Sequence[str]) -> None:
+        """Puts more commands behind those of the copy."""
+        self._ask_all([{"op": "insert", "theory": THEORY, "at": self.count + at, "text": text} for at, text in enumerate(texts)])
+        self.count += len(texts)
+
+    def forget(self) -> None:
+        """Takes the copy out."""
+        self.ask({"op": "drop_theory", "name": THEORY})
+        self._theories -= 1
+
+    def report(self, at: int) -> Union[Goals, Made, Refusal, protocol.Error]:
+        """The report on a command of the copy."""
+        return self.ask({"op": "report", "theory": THEORY, "at": at})
+
+    def theorems(self) -> List[str]:
+        """The names of the theorems that stand in the copy."""
+        reply = self.ask({"op": "theorems", "theory": THEORY})
+        return [text.split(" ", 2)[1] for text in reply.texts] if isinstance(reply, protocol.Theorems) else []
+
+    def step(self, text: str, until: Optional[float] = None) -> Union[Goals, Made, Refusal, protocol.Error]:
+        """Puts a step behind the last command, and answers its report; one that is refused is taken out again."""
+        self._server.send(protocol.line({"op": "insert", "theory": THEORY, "at": self.count, "text": text}))
+        self._server.send(protocol.line({"op": "report", "theory": THEORY, "at": self.count}))
+        done, report = self._answer(until), self._answer(until)
+        if not isinstance(done, protocol.Done):
+            return done
+        self.count += 1
+        if not isinstance(report, (Goals, Made)):
+            self.back(self.count - 1)
+        return report
+
+    def back(self, count: int) -> None:
+        """Takes steps out until so many commands stand."""
+        while self.count > count:
+            self.count -= 1
+            self.ask({"op": "remove", "theory": THEORY, "at": self.count})

@@ -1,0 +1,176 @@
+"""What stands at a command, with types: constants, type constructors and theorems, by the texts that make them.
+
+A statement is read from the text of its `g` or `new_` command and not from what the program shows, which has no types. What can't be read, or
+was refused, is left out.
+"""
+
+from __future__ import annotations
+
+from typing import Dict, FrozenSet, Iterator, List, Optional, Sequence, Set, Tuple
+
+from holls import manual, names
+from holls.files import File
+from holls.prover import reading, typed
+from holls.prover.reading import Signature, Unreadable
+from holls.prover.typed import BOOL, Term, Type, fun
+
+MOST_INSTANCES = 4
+"""So many instances of a theorem's types are taken at most."""
+
+_LOGICAL = frozenset(name for name in reading.PRELUDE if name not in ("ONE_ONE", "ONTO"))
+
+
+class Scope:
+    """The constants and the theorems that stand, the nearest last."""
+
+    def __init__(self) -> None:
+        self.signature = Signature()
+        self.theorems: Dict[str, Term] = {}
+        self.definitions: Dict[str, str] = {"ONE_ONE": "ONE_ONE", "ONTO": "ONTO"}
+        for name, text in manual.PRELUDE.items():
+            self.theorems[name] = reading.term(text, self.signature)
+
+    def add_file(self, file: File, before: Optional[int] = None) -> None:
+        """Takes what a file makes, or what stands before one of its commands."""
+        for first, last in names.blocks(file):
+            if before is not None and last >= before:
+                break
+            command = file.commands[first]
+            if command.word == "g" and file.commands[last].text != "qed":
+                continue
+            try:
+                self._add(command.word, command.text)
+            except (Unreadable, RecursionError, ValueError, KeyError, IndexError):
+                continue
+
+    def _add(self, word: str, text: str) -> None:
+        """Takes what a command makes."""
+        given = text.split("`")[0].split()[1:]
+        quoted = text.split("`")[1] if "`" in text else ""
+        if word in ("g", "new_axiom"):
+            self.theorems[given[0]] = reading.term(quoted, self.signature, ty=BOOL)
+        elif word == "new_definition":
+            statement = reading.definition(quoted, self.signature)
+            constant = _defined(statement)
+            self.signature.constants[constant[1]] = constant[2]
+            self.theorems[given[0]] = statement
+            self.definitions[given[0]] = constant[1]
+        elif word == "new_constant":
+            self.signature.constants[given[0]] = reading.type_text(quoted.strip().lstrip(":"), self.signature)
+        elif word == "new_type":
+            self.signature.constructors[given[0]] = int(given[1])
+        elif word == "new_basic_type_definition":
+            self._add_type(*given)
+
+    def _add_type(self, constructor: str, abstraction: str, representation: str, first: str, second: str, theorem: str) -> None:
+        """Takes a defined type, its two constants and their theorems."""
+        predicate = self.theorems[theorem][1]
+        wide = typed.type_of(predicate)[1]
+        arguments = sorted(typed.term_types(predicate))
+        narrow: Type = (constructor,) + tuple(arguments)
+        self.signature.constructors[constructor] = len(arguments)
+        self.signature.constants[abstraction] = fun(wide, narrow)
+        self.signature.constants[representation] = fun(narrow, wide)
+        abs_term, rep_term = ("c", abstraction, fun(wide, narrow)), ("c", representation, fun(narrow, wide))
+        a, r = ("v", "a", narrow), ("v", "r", wide)
+        self.theorems[first] = typed.mk_eq(typed.apply(abs_term, typed.apply(rep_term, a)), a)
+        meets = typed.apply(predicate, r)
+        self.theorems[second] = typed.mk_eq(meets, typed.mk_eq(typed.apply(rep_term, typed.apply(abs_term, r)), r))
+
+    def keep(self, standing: FrozenSet[str]) -> None:
+        """Forgets the theorems that don't stand."""
+        self.theorems = {name: term for name, term in self.theorems.items() if name in standing or name in manual.PRELUDE}
+
+    def named(self, statement: Term) -> Optional[str]:
+        """A theorem that says something."""
+        return next((name for name, term in self.theorems.items() if term == statement), None)
+
+    def nearest(self, terms: Sequence[Term], most: int) -> List[str]:
+        """The theorems that are most like some terms: those that define their constants, those that share constants with them and have few
+        others, and then those that share constants with the definitions."""
+        wanted = frozenset().union(*map(_own_constants, terms)) if terms else frozenset()
+        further = frozenset().union(*(_own_constants(self.theorems[name]) for name in self.defining(terms)))
+        ranked: List[Tuple[Tuple[bool, bool, int, int, int], str]] = []
+        for number, (name, term) in enumerate(self.theorems.items()):
+            own = _own_constants(term)
+            if own & (wanted | further) and name != "INFINITY_AX":
+                is_defining = self.definitions.get(name) in wanted
+                shared = own & wanted or own & further
+                rank = not is_defining, not own & wanted, len(own - wanted - further), -len(shared), typed.size(term) - number
+                ranked.append((rank, name))
+        return [name for _, name in sorted(ranked)[:most]]
+
+    def defining(self, terms: Sequence[Term]) -> List[str]:
+        """The theorems that define constants of some terms."""
+        wanted = frozenset().union(*map(_own_constants, terms)) if terms else frozenset()
+        return [name for name, constant in self.definitions.items() if constant in wanted and name in self.theorems]
+
+
+def _defined(statement: Term) -> Term:
+    """The constant that a definition's theorem defines."""
+    while True:
+        bound = typed.quantified(statement)
+        if not bound:
+            break
+        statement = bound[3]
+    left = typed.binary(statement)[1]
+    while left[0] == "a":
+        left = left[1]
+    return left
+
+
+def _own_constants(term: Term) -> FrozenSet[str]:
+    """The names of a term's constants that are no connectives."""
+    return frozenset(constant[1] for constant in typed.constants(term) if constant[1] not in _LOGICAL)
+
+
+def instances(statement: Term, terms: Sequence[Term]) -> Iterator[Tuple[Dict[str, Type], Term]]:
+    """A theorem at the types at which its constants stand in some terms: the types that are put in, and the statement."""
+    variables = typed.term_types(statement)
+    if not variables:
+        yield {}, statement
+        return
+    present = sorted({constant for term in terms for constant in typed.constants(term)}, key=str)
+    own = sorted({constant for constant in typed.constants(statement) if typed.type_variables(constant[2])}, key=_generality)
+    found: Dict[str, Dict[str, Type]] = {}
+    starts = [number for number, constant in enumerate(own) if constant[1] not in _LOGICAL] or [0]
+    for first in starts if own else []:
+        for types in _instances(own[first:] + own[:first], present):
+            found.setdefault(str(sorted(types.items())), types)
+    names = set(present)
+    for key in [key for key, types in found.items() if not _is_there(own, types, names)]:
+        if any(_is_there(own, types, names) for types in found.values()):
+            del found[key]
+    for types in list(found.values())[:MOST_INSTANCES] or [{}]:
+        kept = {name: ty for name, ty in types.items() if ty != name}
+        yield kept, typed.inst_type(statement, kept)
+
+
+def _is_there(own: Sequence[Term], types: Dict[str, Type], present: Set[Term]) -> bool:
+    """Whether a theorem's constants, but for the connectives, are all there at some types."""
+    return all(typed.inst_type(constant, types) in present for constant in own if constant[1] not in _LOGICAL)
+
+
+def _instances(own: Sequence[Term], present: Sequence[Term]) -> List[Dict[str, Type]]:
+    """The types at which a theorem's constants are those that are there, the first ones first."""
+    found: List[Dict[str, Type]] = [{}]
+    for constant in own:
+        if constant[1] in _LOGICAL and all(typed.type_variables(constant[2]) <= set(types) for types in found):
+            continue
+        found = [types for known in found for types in list(_matching(constant, present, known)) or [known]][:2 * MOST_INSTANCES]
+    return [types for types in found if types]
+
+
+def _generality(constant: Term) -> Tuple[bool, int]:
+    return constant[1] in _LOGICAL, -len(typed.type_variables(constant[2]))
+
+
+def _matching(constant: Term, present: Sequence[Term], known: Dict[str, Type]) -> Iterator[Dict[str, Type]]:
+    """The types by which a constant is one that is there."""
+    for other in present:
+        if other[1] == constant[1]:
+            types = dict(known)
+            if typed.match_type(constant[2], other[2], types):
+                yield types
+
+

@@ -1,0 +1,183 @@
+"""Running steps that were found, and making them fewer: whatever a short step closes needs no long one."""
+
+from __future__ import annotations
+
+import re
+import time
+from typing import List, Optional, Sequence, Tuple
+
+from holls.protocol import Goals
+from holls.prover import typed
+from holls.prover.asking import Asker
+from holls.prover.scripts import Step, commands
+from holls.prover.typed import Term
+
+_INTRODUCTION = re.compile(r"(X_GEN_TAC `[^`]*`|STRIP_TAC|DISCH_TAC|GEN_TAC)\Z")
+_SHORTER = (
+    "GEN_TAC", "STRIP_TAC", "REPEAT GEN_TAC", "REPEAT STRIP_TAC", "REPEAT DISCH_TAC", "REPEAT GEN_TAC THEN DISCH_TAC",
+    "REPEAT GEN_TAC THEN STRIP_TAC", "REPEAT GEN_TAC THEN REPEAT DISCH_TAC")
+_STRIPS = "REPEAT STRIP_TAC THEN "
+
+
+def closers(theorems: Sequence[str], is_growing: bool) -> List[str]:
+    """Short steps that may close a goal, by rewriting with theorems; by assumptions only where these don't go on for ever."""
+    if is_growing:
+        return [_STRIPS + "FIRST_ASSUM ACCEPT_TAC"]
+    if not theorems:
+        return ["ASM_REWRITE_TAC []", _STRIPS + "ASM_REWRITE_TAC []", _STRIPS + "FIRST_ASSUM ACCEPT_TAC"]
+    named = "[%s]" % "; ".join(theorems)
+    alone = ["MATCH_MP_TAC %s THEN ASM_REWRITE_TAC []" % theorems[0]] if len(theorems) == 1 else []
+    reduced = "REWRITE_TAC %s THEN BETA_TAC THEN REWRITE_TAC [ETA_AX]" % named
+    return ["REWRITE_TAC " + named, _STRIPS + "ASM_REWRITE_TAC " + named, reduced, _STRIPS + reduced] + alone
+
+
+def grows(term: Term) -> bool:
+    """Whether a part of a formula may be a rule that goes on for ever, and makes larger terms each time: it has its left side's symbol right."""
+    for part in typed.subterms(term):
+        sides = typed.binary(part)
+        if sides and sides[0] in ("=", "<=>") and typed.size(sides[2]) > typed.size(sides[1]):
+            begun = _beginning(sides[1])
+            if any(_beginning(inner) == begun for inner in typed.subterms(sides[2])):
+                return True
+    return False
+
+
+def _beginning(term: Term) -> Tuple[Term, int]:
+    """What a term begins with, and the number of its arguments."""
+    number = 0
+    while term[0] == "a":
+        term, number = term[1], number + 1
+    return term, number
+
+
+class Trial:
+    """Tries steps in a server until a time; `own_closers` are short ones that may close a goal."""
+
+    def __init__(self, asker: Asker, own_closers: Sequence[str], until: float) -> None:
+        self.asker, self.until = asker, until
+        self.closers = sorted(own_closers, key=len)
+
+    def close(self, open_goals: int) -> Optional[str]:
+        """A short step that closes the first goal, if there is one; it is taken back."""
+        mark = self.asker.count
+        for text in self.closers:
+            if time.monotonic() > self.until:
+                break
+            found = goals_after(self.asker, text)
+            self.asker.back(mark)
+            if found is not None and len(found.goals) == open_goals - 1:
+                return text
+        return None
+
+    def run(self, step: Step, open_goals: int) -> Optional[Step]:
+        """Runs steps on the first goal. Answers those that were run in the end, or None where one is refused."""
+        mark = self.asker.count
+        if _cost(step) > len("ASM_REWRITE_TAC []") and time.monotonic() < self.until:
+            for text in self.closers:
+                if len(text) >= _cost(step):
+                    continue
+                found = goals_after(self.asker, text)
+                if found is not None and len(found.goals) == open_goals - 1:
+                    return Step(text)
+                self.asker.back(mark)
+        step = self._introduced(step)
+        found = goals_after(self.asker, step.text)
+        if found is None or len(found.goals) != open_goals - 1 + len(step.subs):
+            return None
+        subs: List[Step] = []
+        for number, sub in enumerate(step.subs):
+            done = self.run(sub, open_goals + len(step.subs) - 1 - number)
+            if done is None:
+                return None
+            subs.append(done)
+        return merged(Step(step.text, tuple(subs)))
+
+    def _introduced(self, step: Step) -> Step:
+        """Steps that begin with introductions, with these as a shorter step that leaves the same goal."""
+        chain, last = [], step
+        while _INTRODUCTION.match(last.text) and len(last.subs) == 1:
+            chain.append(last.text)
+            last = last.subs[0]
+        if not chain or time.monotonic() > self.until:
+            return step
+        mark, whole = self.asker.count, " THEN ".join(chain)
+        wanted = goals_after(self.asker, whole)
+        self.asker.back(mark)
+        for text in sorted(_SHORTER, key=len):
+            if wanted is None or len(text) >= len(whole):
+                break
+            found = goals_after(self.asker, text)
+            self.asker.back(mark)
+            if found is not None and _are_alike(found, wanted):
+                return Step(text, (last,))
+        return step
+
+
+def goals_after(asker: Asker, text: str) -> Optional[Goals]:
+    """The goals after a step; None where it is refused."""
+    report = asker.step("e " + text)
+    return report if isinstance(report, Goals) else None
+
+
+def check(asker: Asker, texts: Sequence[str], open_goals: int) -> bool:
+    """Whether commands close the first goal; they are taken back."""
+    mark = asker.count
+    found: Optional[Goals] = None
+    for text in texts:
+        found = goals_after(asker, text[len("e "):])
+        if found is None:
+            break
+    asker.back(mark)
+    return found is not None and len(found.goals) == open_goals - 1
+
+
+def run_each(asker: Asker, step: Step, open_goals: int, until: float) -> Optional[Step]:
+    """Runs steps as they are until a time. Answers them as often as there were goals for them; None where one is refused."""
+    found = goals_after(asker, step.text)
+    left = -1 if found is None else len(found.goals) - open_goals + 1
+    own = step.subs * left if step.is_each else step.subs
+    if left != len(own) or time.monotonic() > until:
+        return None
+    subs: List[Step] = []
+    for number, sub in enumerate(own):
+        done = run_each(asker, sub, open_goals + left - 1 - number, until)
+        if done is None:
+            return None
+        subs.append(done)
+    return Step(step.text, tuple(subs))
+
+
+def _are_alike(one: Goals, other: Goals) -> bool:
+    """Whether goals are the same, the order of assumptions apart."""
+    if len(one.goals) != len(other.goals):
+        return False
+    first, second = one.goals[0], other.goals[0]
+    return (first.conclusion, set(first.assumptions), set(first.free)) == (second.conclusion, set(second.assumptions), set(second.free))
+
+
+def _cost(step: Step) -> int:
+    return sum(len(text) for text in commands(step))
+
+
+def merged(step: Step) -> Step:
+    """Where all goals that a step leaves have the same steps, these once behind it."""
+    if len(step.subs) > 1 and all(sub == step.subs[0] for sub in step.subs):
+        text = _line(step.subs[0])
+        if text is not None:
+            return Step("%s THEN %s" % (step.text, text))
+    return step
+
+
+def _line(step: Step) -> Optional[str]:
+    """Steps as one expression, where each but the last leaves one goal."""
+    if len(step.subs) > 1:
+        return None
+    if not step.subs:
+        return step.text
+    rest = _line(step.subs[0])
+    return None if rest is None else "%s THEN %s" % (step.text, rest)
+
+
+def length(texts: Sequence[str]) -> Tuple[int, int]:
+    """How long commands are: in characters, and how many."""
+    return sum(len(text) for text in texts), len(texts)

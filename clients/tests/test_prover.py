@@ -1,0 +1,290 @@
+"""Finding proofs: terms with types, propositional search against truth tables, and over hol_serve proofs of stored goals, which it accepts."""
+
+import pathlib
+import random
+import subprocess
+import tempfile
+import time
+import unittest
+
+from holls import files, names, server
+from holls.protocol import Goals
+from holls.prover import command, finding, ground, reading, retyping, scope, scripts, sequents, substituting, tables, typed, writing
+from holls.prover.asking import Asker
+from holls.prover.finder import Finder
+from tests.helpers import BUILT, CLIENTS, HOLLS, PYTHON, ROOT, SECONDS, fake
+
+GOALS = CLIENTS / "tests" / "goals"
+THEORIES = ("connectives", "maps", "pairs", "groups")
+SEARCH_SECONDS = 10.0
+
+
+def stored(name):
+    """The goals of a file: their names and texts."""
+    lines = (GOALS / (name + ".txt")).read_text(encoding="utf-8").splitlines()
+    return [tuple(line.split(" ", 1)) for line in lines if not line.startswith("#")]
+
+
+def theory(name):
+    """A file of examples/theories."""
+    path = ROOT / "examples" / "theories" / (name + ".hol")
+    return files.read(str(path), path.read_bytes())
+
+
+def standing(number=len(THEORIES)):
+    """What stands at the end of the first theories."""
+    found = scope.Scope()
+    for name in THEORIES[:number]:
+        found.add_file(theory(name))
+    return found
+
+
+class Terms(unittest.TestCase):
+    def test_each_statement_is_written_as_what_reads_as_it(self):
+        known = standing()
+        quoter = writing.Quoter(known.signature)
+        self.assertGreater(len(known.theorems), 80)
+        for name, term in known.theorems.items():
+            self.assertEqual(reading.term(quoter.quote(term)[1:-1], known.signature), term, name)
+        for name, text in stored("pelletier") + stored("equations"):
+            term = reading.term(text, known.signature, ty=typed.BOOL)
+            self.assertEqual(reading.term(quoter.quote(term)[1:-1], known.signature), term, name)
+
+    def test_types_are_written_where_they_are_needed(self):
+        quoter = writing.Quoter(reading.Signature())
+        for text in ("x:A", "(f:A->B) x", "?x:A. T", "!x:A. (P:A->bool) x", "p /\\ q ==> q", "(x:A) = y"):
+            term = reading.term(text, reading.Signature())
+            self.assertEqual(reading.term(quoter.quote(term)[1:-1], reading.Signature()), term)
+        self.assertEqual(quoter.quote(reading.term("p /\\ ~(q <=> p)", reading.Signature())), "`p /\\ ~(q <=> p)`")
+        self.assertEqual(quoter.quote(reading.term("!(P:A->bool) x. P x", reading.Signature())), "`!(P:A->bool) x. P x`")
+        with self.assertRaises(writing.Unwritable):
+            quoter.quote(reading.term("x = (y:A) /\\ (!z. z = u)", reading.Signature()))
+
+    def test_what_is_no_term_is_refused(self):
+        for text in ("x x", "!x:A y. p", "p /\\", "(p", "f !x. p", "1"):
+            with self.assertRaises(reading.Unreadable, msg=text):
+                reading.term(text, reading.Signature())
+
+    def test_definitions_and_defined_types(self):
+        known = standing(3)
+        quoter = writing.Quoter(known.signature)
+        self.assertEqual(quoter.quote(known.theorems["SWAP_DEF"]), "`!p:(A,B)prod. swap p = pair (snd p) (fst p)`")
+        self.assertEqual(known.signature.constants["ABS_prod"], reading.type_text("(A->B->bool)->(A,B)prod", known.signature))
+
+    def test_types_that_are_not_shown_are_those_of_the_statement(self):
+        signature = reading.Signature()
+        statement = reading.term("!P:A->bool. ~(?x. P x) <=> (!x. ~P x)", signature)
+        shown = reading.term("!P. ~(?x. P x) <=> (!x. ~P x)", signature, begun=retyping.OPEN)
+        self.assertNotEqual(shown, statement)
+        self.assertEqual(retyping.resolved(shown, statement), statement)
+        part = reading.term("?x. Q x", signature, {"Q": typed.fun("??0", typed.BOOL)}, begun=retyping.OPEN)
+        self.assertEqual(retyping.resolved(part, statement), reading.term("?x:A. Q x", signature))
+        other = reading.term("!P. (?x. P x) ==> T", signature, begun=retyping.OPEN)
+        self.assertEqual(retyping.resolved(other, statement), other)
+
+    def test_equations_in_an_order_that_makes_terms_one(self):
+        signature = reading.Signature()
+        equations = [reading.term(text, signature) for text in (
+            "(p:C) = pair (x:A) (y:B)", "(fst:C->A) (pair (x:A) (y:B)) = x", "(snd:C->B) (pair (x:A) (y:B)) = y")]
+        goal = reading.term("(pair:A->B->C) (fst (p:C)) (snd p) = p", signature)
+        found = substituting.plan(equations, None, goal)
+        for equation, is_turned in found.equations:
+            _, old, new = typed.binary(equation)
+            goal = typed.replaced(goal, *((new, old) if is_turned else (old, new)))
+        self.assertEqual(found.is_joined, False)
+        self.assertEqual(typed.binary(goal)[1], typed.binary(goal)[2])
+        self.assertIsNone(substituting.plan(equations[1:], None, reading.term("(p:C) = q", signature)))
+
+    def test_a_theorem_at_the_types_of_a_goal(self):
+        known = standing(3)
+        goal = known.theorems["SWAP_BIJECTIVE"]
+        found = [types for types, _ in scope.instances(known.theorems["INVERSE_ONTO"], [goal])]
+        self.assertEqual(found, [{"A": ("prod", "A", "B"), "B": ("prod", "B", "A")}])
+
+
+def formula(random_numbers, depth):
+    """A random formula of five atoms."""
+    if depth == 0 or random_numbers.random() < 0.1:
+        return ("v", random_numbers.choice("pqrst"), typed.BOOL)
+    kind = random_numbers.choice(("~", "/\\", "\\/", "==>", "="))
+    if kind == "~":
+        return typed.mk_not(formula(random_numbers, depth - 1))
+    connective = ("c", kind, typed.fun(typed.BOOL, typed.fun(typed.BOOL, typed.BOOL)))
+    return typed.apply(connective, formula(random_numbers, depth - 1), formula(random_numbers, depth - 1))
+
+
+class Propositional(unittest.TestCase):
+    def test_what_is_valid_has_a_proof_and_nothing_else(self):
+        random_numbers, valid = random.Random(62), 0
+        for _ in range(600):
+            left = tuple(formula(random_numbers, 2) for _ in range(random_numbers.randrange(4)))
+            items = [finding.Item(True, term, False) for term in left] + [finding.Item(False, formula(random_numbers, 3), True)]
+            proof = finding.Search(frozenset(), time.monotonic() + SECONDS).prove(items)
+            holds = tables.is_valid(items, tables.atoms(items))
+            self.assertEqual(proof is not None, holds)
+            valid += holds
+            if proof:
+                self.assertTrue(proof.used <= {(item.is_left, item.term) for item in items})
+                scripts.Scribe(writing.Quoter(reading.Signature()), None).steps(proof, items[-1].term, {term: "(T)" for term in left})
+        self.assertGreater(valid, 100)
+
+    def test_what_a_proof_does_not_need_is_left_out(self):
+        signature = reading.Signature()
+        items = [finding.Item(True, reading.term(text, signature, ty=typed.BOOL), False) for text in ("a \\/ b", "p", "c <=> d", "p ==> q")]
+        items.append(finding.Item(False, reading.term("r \\/ q", signature), True))
+        proof = finding.Search(frozenset(), time.monotonic() + SECONDS).prove(items)
+        self.assertEqual(proof.used, {items[1][:2], items[3][:2], items[4][:2]})
+
+    def test_equations_close_a_sequent(self):
+        signature = reading.Signature()
+        left = [reading.term(text, signature) for text in ("(f:A->A) (f (f a)) = a", "(f:A->A) (f (f (f (f a)))) = a", "(b:A) = c")]
+        right = reading.term("(f:A->A) a = a", signature)
+        formulas = [sequents.Formula(True, term, (at,)) for at, term in enumerate(left)] + [sequents.Formula(False, right, (3,))]
+        proof = ground.Ground({}, {}, frozenset(), time.monotonic() + SECONDS).prove(formulas, frozenset("abcf"))
+        self.assertEqual(set(proof.equations), set(left[:2]))
+
+
+class CommandLine(unittest.TestCase):
+    """`holls prove` over a small server made for tests."""
+
+    def prove(self, text, place, *words):
+        with tempfile.TemporaryDirectory() as folder:
+            path = pathlib.Path(folder) / "A.hol"
+            path.write_text(text)
+            given = [*PYTHON, str(HOLLS), "prove", "%s:%s" % (path, place), *words, "--server", fake(folder)]
+            done = subprocess.run(given, capture_output=True, timeout=SECONDS, text=True)
+        return done.returncode, done.stdout + done.stderr
+
+    def test_steps_are_written(self):
+        text = "g A `x = x /\\ y = y`;;\n  e CONJ_TAC;;\n\n\ng B `p`;;\n"
+        self.assertEqual(self.prove(text, 3), (0, "e REFL_TAC;;\n"))
+        self.assertEqual(self.prove(text, 2, "--json"), (0, '{"steps": ["e REFL_TAC"]}\n'))
+        self.assertEqual(self.prove(text, 5, "--seconds", "1"), (1, "none found within 1 seconds\n"))
+        self.assertEqual(self.prove(text, 5, "--seconds", "1", "--json"), (1, '{"steps": null}\n'))
+        self.assertEqual(self.prove(text, 2, "with", "TRUTH"), (0, "e REFL_TAC;;\n"))
+
+    def test_why_nothing_is_searched(self):
+        for text, place, words in (
+                ("g A `x = x`;; oops;;", 1, "no goal is open there"), ("\n\ng A `p`;;", 2, "no command stands there"),
+                ("g A `x = x`;;", "x", "write FILE:LINE"), ("new_constant c `:A`;;", 1, "no goal is open there")):
+            status, said = self.prove(text, place)
+            self.assertEqual((status, words in said), (2, True), said)
+        self.assertEqual(self.prove("g A `p`;;", 1, "with", "NOPE"), (2, "holls: no theorem NOPE stands here, or its statement can't be read\n"))
+        self.assertEqual(self.prove("g A `p`;;", 1, "NOPE")[0], 2)
+
+    def test_a_goal_behind_a_refused_step(self):
+        self.assertEqual(self.prove("g A `x = x`;;\ne FOO_TAC;;\nqed;;\n", 3), (0, "e REFL_TAC;;\n"))
+
+
+def proved(asker, known, text, seconds):
+    """The steps that are found for a goal that nothing is assumed in, and how long the search took."""
+    asker.copy(["g GOAL `%s`" % text])
+    goals = asker.report(0)
+    assert isinstance(goals, Goals), (text, goals)
+    begun = time.monotonic()
+    found = Finder(asker, known, goals, text, begun + seconds).find(None)
+    took = time.monotonic() - begun
+    asker.forget()
+    return found, took
+
+
+@unittest.skipUnless(BUILT.is_file(), "hol_serve isn't built")
+class OverTheProgram(unittest.TestCase):
+    def setUp(self):
+        self.asker = Asker(server.find(str(BUILT)), SECONDS)
+        self.addCleanup(self.asker.stop)
+
+    def accepted(self, text, *imports):
+        """The program accepts a file."""
+        with tempfile.TemporaryDirectory() as folder:
+            for name in imports:
+                (pathlib.Path(folder) / (name + ".hol")).write_text(theory(name).lines.text)
+            path = pathlib.Path(folder) / "FOUND.hol"
+            path.write_text(text)
+            words = [*PYTHON, str(HOLLS), "check", "--server", str(BUILT), str(path)]
+            done = subprocess.run(words, capture_output=True, timeout=SECONDS)
+        self.assertEqual(done.returncode, 0, done.stdout.decode() + done.stderr.decode())
+
+    def find_all(self, name, least):
+        """Proofs of so many goals of a file, at least, which the program accepts."""
+        known, text, missing = scope.Scope(), "", []
+        for number, goal in stored(name):
+            steps, took = proved(self.asker, known, goal, SEARCH_SECONDS)
+            self.assertLess(took, SEARCH_SECONDS + 5, number)
+            if steps is None:
+                missing.append(number)
+                continue
+            text += "g P_%s `%s`;;\n%s\nqed;;\n" % (number, goal, "\n".join(step + ";;" for step in steps))
+        self.accepted(text)
+        self.assertGreaterEqual(len(stored(name)) - len(missing), least, missing)
+
+    def test_pelletiers_problems(self):
+        self.find_all("pelletier", 40)
+
+    def test_tautologies(self):
+        self.find_all("tautologies", 10)
+
+    def test_equations(self):
+        self.find_all("equations", 10)
+
+    def test_what_has_no_proof_gets_none_in_time(self):
+        for name, goal in stored("unprovable"):
+            steps, took = proved(self.asker, scope.Scope(), goal, 2.0)
+            self.assertIsNone(steps, name)
+            self.assertLess(took, 10, name)
+
+
+@unittest.skipUnless(BUILT.is_file(), "hol_serve isn't built")
+class Theories(unittest.TestCase):
+    """The theorems of examples/theories, their proofs taken out: of each file at least a part is found again, and accepted."""
+
+    def found(self, name):
+        """How many theorems there are, and the names of those that are found."""
+        asker = Asker(server.find(str(BUILT)), SECONDS)
+        self.addCleanup(asker.stop)
+        known, place = scope.Scope(), THEORIES.index(name)
+        for other in THEORIES[:place]:
+            asker.add(other, [one.text for one in theory(other).commands])
+            known.add_file(theory(other))
+        file = theory(name)
+        asker.copy([])
+        found, text, at = [], "", 0
+        for first, last in names.blocks(file):
+            if file.commands[first].word == "g":
+                asker.extend([one.text for one in file.commands[at:first + 1]])
+                before = scope.Scope()
+                for other in THEORIES[:place]:
+                    before.add_file(theory(other))
+                before.add_file(file, first)
+                goals = asker.report(asker.count - 1)
+                steps = Finder(asker, before, goals, names.quoted(file.commands[first]), time.monotonic() + command.SECONDS).find(None)
+                asker.extend([one.text for one in file.commands[first + 1:last + 1]])
+                own = [one.text for one in file.commands[first:last + 1]] if steps is None else [file.commands[first].text, *steps, "qed"]
+                found += [file.commands[first].name] if steps is not None else []
+            else:
+                own = [one.text for one in file.commands[first:last + 1]]
+                asker.extend([one.text for one in file.commands[at:last + 1]])
+            text += "".join(one.text + ";;\n" for one in file.commands[at:first]) + "".join(one + ";;\n" for one in own)
+            at = last + 1
+        OverTheProgram.accepted(self, text, *THEORIES[:place])
+        return sum(one.word == "g" for one in file.commands), found
+
+    def at_least(self, name, least):
+        number, found = self.found(name)
+        self.assertGreaterEqual(len(found), least, "%d of %d: %s" % (len(found), number, found))
+
+    def test_connectives(self):
+        self.at_least("connectives", 6)
+
+    def test_maps(self):
+        self.at_least("maps", 5)
+
+    def test_pairs(self):
+        self.at_least("pairs", 6)
+
+    def test_groups(self):
+        self.at_least("groups", 4)
+
+
+if __name__ == "__main__":
+    unittest.main()

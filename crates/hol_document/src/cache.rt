@@ -1,0 +1,163 @@
+//! Outcomes that have left their slots.
+ghost use Rattle.std.specs.Prelude.{◌≡◌, ◌≤◌, List, true, IfOk, IfSome};
+ghost use Rattle.hol_exec.specs.CommandText.{Local};
+ghost use Rattle.hol_exec.specs.CommandView.{local_text};
+ghost use Rattle.hol_exec.specs.Local.{IsLocalOutcome};
+ghost use Rattle.hol_exec.specs.Reading as read;
+ghost use Rattle.hol_exec.specs.StateValue.{StateValue, EndedTheory};
+ghost use Rattle.hol_document.specs.Runs.{IsRun};
+ghost use Rattle.hol_document.specs.Slots.{IsSlot};
+
+use crate::line::Line;
+use crate::slot::Slot;
+use hol_exec::{LocalCommand, Outcome, Reads, SetupTable};
+use lru::LruCache;
+use std::alloc::{AllocError, Global};
+use std::marker::Model;
+use std::num::NonZeroUsize;
+use std::rc::Rc;
+
+// What an outcome is found by: the text of its command, and what that read.
+#[derive(PartialEq, Eq, Hash, Drop)]
+struct RunKey {
+    text: Rc<String>,
+    reads: Rc<Reads>,
+}
+
+// A command that was run: its text, what it read, and what it came to.
+#[derive(Drop)]
+struct Run {
+    line: Rc<Line>,
+    reads: Rc<Reads>,
+    outcome: Rc<Outcome>,
+}
+
+impl Model for Run {
+    ghost use Rattle.std.specs.Coded.{codes};
+    ghost use Rattle.hol_exec.specs.CommandCode.{coded_command};
+    ghost use Rattle.hol_exec.specs.Codes.{coded_reads, coded_outcome};
+    ghost use Rattle.hol_document.specs.Runs.{RunValue};
+
+    ghost Value = { RunValue };
+
+    ghost coded = { Prim.hlevel (codes, coded_command, coded_reads, coded_outcome) };
+
+    ghost view = { λ r. record { text = r.line.value.text; value = r.line.value.value; reads = r.reads.value; outcome = r.outcome.value } };
+}
+
+impl Run {
+    fn line(&self) -> &Rc<Line>
+        ensures text { result.now.value.text ≡ self.now.text }
+        ensures value { result.now.value.value ≡ self.now.value }
+    {
+        &self.line
+    }
+
+    fn reads(&self) -> &Rc<Reads>
+        ensures { result.now.value ≡ self.now.reads }
+    {
+        &self.reads
+    }
+
+    fn outcome(&self) -> &Rc<Outcome>
+        ensures { result.now.value ≡ self.now.outcome }
+    {
+        &self.outcome
+    }
+}
+
+/// Outcomes that have left their slots, under the texts of their commands and what these read; all of one set-up. The one that was used least lately gives way where a new one
+/// finds no room.
+#[derive(Drop)]
+pub(crate) struct Cache {
+    setup: Rc<SetupTable>,
+    runs: LruCache<RunKey, Run>,
+}
+
+impl Model for Cache {
+    ghost use Rattle.std.specs.Prelude.{Contains};
+    ghost use Rattle.hol_exec.specs.Setup.{SetupValue};
+    ghost use Rattle.hol_document.specs.Runs.{IsRun};
+
+    ghost Value = { SetupValue };
+
+    ghost view = { λ c. c.setup.value };
+
+    ghost invariant = { λ c. (entry : _) → Contains c.runs.entries entry → IsRun c.setup.value entry.1 };
+}
+
+impl Cache {
+    /// No outcomes, with room for so many of this set-up.
+    pub(crate) fn new(alloc: Global, setup: Rc<SetupTable>, room: u32) -> Result<Cache, AllocError>
+        requires { 1 ≤ room }
+        ensures { IfOk result (λ cache. cache ≡ setup.value) }
+    {
+        let Some(room) = NonZeroUsize::new(room as usize) else {
+            unreachable!()
+        };
+        let runs = LruCache::new(alloc, room)?;
+        Ok(Cache { setup, runs })
+    }
+
+    /// Takes out what the command came to where it read this, if that is there.
+    pub(crate) fn take(
+        &mut self,
+        line: &Line,
+        command: &LocalCommand,
+        reads: &Rc<Reads>,
+    ) -> Result<Option<Rc<Outcome>>, AllocError>
+        requires { line.now.value ≡ read.Reads (Local (local_text command.now)) }
+        ensures setup { self.new ≡ self.old }
+        ensures outcome { IfOk result (λ found. IfSome found (λ outcome. IsLocalOutcome self.old (local_text command.now) reads.now.value outcome.value)) }
+    {
+        let key = RunKey {
+            text: line.text().clone()?,
+            reads: reads.clone()?,
+        };
+        let Some((_, run)) = self.runs.pop_entry(&key) else {
+            return Ok(None);
+        };
+        let _ = line.parsed();
+        if is_of(&run, line, reads) {
+            return Ok(Some(run.outcome().clone()?));
+        }
+        Ok(None)
+    }
+
+    /// Puts in the slot's outcome, if its command was run. Where there is no memory for it, it is lost.
+    pub(crate) fn put(&mut self, slot: &Slot)
+        requires { (before : List EndedTheory) × (s : StateValue) × IsSlot self.old before s slot.now }
+        ensures { self.new ≡ self.old }
+    {
+        if let Some(reads) = slot.reads() {
+            if let Ok((key, run)) = run_of(slot, reads) {
+                let _ = self.runs.put(key, run);
+            }
+        }
+    }
+}
+
+// Whether the run is of this text, and of these reads.
+fn is_of(run: &Run, line: &Line, reads: &Reads) -> bool
+    ensures text { result ≡ true → run.now.text ≡ line.now.text }
+    ensures reads { result ≡ true → run.now.reads ≡ reads.now }
+{
+    run.line().text().as_str() == line.text().as_str() && run.reads().same(reads)
+}
+
+// The slot's run, which read this, and what it is found by.
+fn run_of(slot: &Slot, reads: &Rc<Reads>) -> Result<(RunKey, Run), AllocError>
+    ensures { IfOk result (λ found. found.1 ≡ record { text = slot.now.text; value = slot.now.row.value; reads = reads.now.value; outcome = slot.now.row.outcome }) }
+{
+    let line = slot.line().clone()?;
+    let key = RunKey {
+        text: line.text().clone()?,
+        reads: reads.clone()?,
+    };
+    let run = Run {
+        line,
+        reads: reads.clone()?,
+        outcome: slot.outcome().clone()?,
+    };
+    Ok((key, run))
+}

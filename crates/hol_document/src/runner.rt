@@ -1,0 +1,98 @@
+//! What runs commands.
+ghost use Rattle.std.specs.Prelude.{◌≡◌};
+ghost use Rattle.std.specs.Coded.{Coded-set};
+ghost use Rattle.hol_exec.specs.MeterView as metered;
+ghost use Rattle.hol_exec.specs.SetupCode.{coded_setup};
+
+use crate::cache::Cache;
+use crate::line::Line;
+use crate::slot::Slot;
+use hol_exec::{LocalCommand, Meter, Outcome, Reads, SetupTable, run_local};
+use std::alloc::{AllocError, Global};
+use std::rc::Rc;
+
+/// What commands are run by, with how many were, and the outcomes that have left their slots.
+#[derive(Drop)]
+pub(crate) struct Runner {
+    meter: Meter,
+    cache: Cache,
+    ghost same: { cache ≡ metered.setup_of meter } by { Coded-set coded_setup cache (metered.setup_of meter) },
+}
+
+impl Runner {
+    ghost use Rattle.std.specs.Prelude.{◌≡◌, ◌≤◌, ◌+◌, List, IfOk, map};
+    ghost use Rattle.hol_exec.specs.CommandText.{Local};
+    ghost use Rattle.hol_exec.specs.CommandView.{local_text};
+    ghost use Rattle.hol_exec.specs.Local.{IsLocalOutcome};
+    ghost use Rattle.hol_exec.specs.MeterView as metered;
+    ghost use Rattle.hol_exec.specs.Reading as read;
+    ghost use Rattle.hol_exec.specs.ReadsValue.{AreKeyed};
+    ghost use Rattle.hol_exec.specs.StateValue.{StateValue, EndedTheory};
+    ghost use Rattle.hol_document.specs.RunnerView.{setup_of, ran_of};
+    ghost use Rattle.hol_document.specs.Slots.{IsSlot, AreSlots};
+
+    /// By this meter, with room for so many outcomes.
+    pub(crate) fn new(
+        alloc: Global,
+        meter: Meter,
+        setup: Rc<SetupTable>,
+        room: u32,
+    ) -> Result<Runner, AllocError>
+        requires room { 1 ≤ room }
+        requires setup { setup.value ≡ metered.setup_of meter }
+        ensures setup { IfOk result (λ runner. setup_of runner ≡ metered.setup_of meter) }
+        ensures ran { IfOk result (λ runner. ran_of runner ≡ metered.ran_of meter) }
+    {
+        let cache = Cache::new(alloc, setup, room)?;
+        Ok(Runner { meter, cache })
+    }
+
+    /// How many commands were run, or 2^64 - 1 for more.
+    pub(crate) fn ran(&self) -> u64
+        ensures { result ≡ ran_of self.now }
+    {
+        self.meter.ran()
+    }
+
+    /// What the command comes to where it reads this: an outcome that has left its slot, else it is run.
+    pub(crate) fn outcome(
+        &mut self,
+        alloc: Global,
+        line: &Line,
+        command: &LocalCommand,
+        reads: &Rc<Reads>,
+    ) -> Result<Rc<Outcome>, AllocError>
+        requires command { line.now.value ≡ read.Reads (Local (local_text command.now)) }
+        requires keyed { AreKeyed (local_text command.now) reads.now.value }
+        ensures outcome { IfOk result (λ outcome. IsLocalOutcome (setup_of self.old) (local_text command.now) reads.now.value outcome.value) }
+        ensures setup { setup_of self.new ≡ setup_of self.old }
+        ensures few { ran_of self.new ≤ ran_of self.old + 1 }
+        ensures rises { ran_of self.old ≤ ran_of self.new }
+    {
+        if let Some(outcome) = self.cache.take(line, command, reads)? {
+            return Ok(outcome);
+        }
+        let outcome = run_local(alloc, &mut self.meter, command, reads)?;
+        Ok(Rc::new(alloc, outcome)?)
+    }
+
+    /// The slot's outcome has left it.
+    pub(crate) fn leave(&mut self, slot: &Slot)
+        requires { (before : List EndedTheory) × (s : StateValue) × IsSlot (setup_of self.old) before s slot.now }
+        ensures setup { setup_of self.new ≡ setup_of self.old }
+        ensures ran { ran_of self.new ≡ ran_of self.old }
+    {
+        self.cache.put(slot);
+    }
+
+    /// The outcomes of all these slots have left them.
+    pub(crate) fn leave_each(&mut self, slots: &[Rc<Slot>])
+        requires { (before : List EndedTheory) × (s last : StateValue) × AreSlots (setup_of self.old) before s (map (λ x. x.value) slots.now) last }
+        ensures setup { setup_of self.new ≡ setup_of self.old }
+        ensures ran { ran_of self.new ≡ ran_of self.old }
+    {
+        for slot in slots {
+            self.leave(slot);
+        }
+    }
+}

@@ -1,0 +1,97 @@
+// Words for a text that is no command: where it fails, and what was probably meant. Each answers [start, end, words].
+import { COMMANDS, FORWARD, IN_TERMS, LIMITS, RULES_ELSEWHERE, TACS, TACTICALS } from './tables.js';
+import { nearCommand, token as tokenAt, tokensBefore, withoutQuotations } from './notation.js';
+
+const LINE_WORD = /\n[ \t\r]*([A-Za-z_][A-Za-z0-9_']*)/g;
+const GOES_ON = { __proto__: null, r: /^\s*[0-9]/, e: /^\s*[A-Za-z(]/, b: /^\s*$|^\s*\n/ };
+
+// The words for refusal 1 at a place.
+export function explain(text, place) {
+  const token = tokenAt(text, place);
+  const before = tokensBefore(text, place);
+  const told = unclosed(text) ?? missingEnd(text) ?? withoutName(text, before);
+  if (told) return told;
+  if (place >= text.length) return [Math.max(0, place - 1), place, 'the command ends too soon: something has to follow here'];
+  if (!before.length && token in COMMANDS) return [place, place + token.length, `the program reads \`${token}\` and doesn't run it in this form`];
+  if (!before.length && token && /^[A-Za-z_]/.test(token) && token[0] !== '_') return [place, place + token.length, noCommand(token)];
+  if (before.length >= LIMITS.tokens) return [place, place + 1, `a command has at most ${LIMITS.tokens} tokens: split the statement`];
+  const count = (brackets) => before.filter((one) => brackets.includes(one)).length;
+  if (count('([') - count(')]') >= LIMITS.brackets) return [place, place + 1, `more than ${LIMITS.brackets} brackets are open at once here`];
+  return unexpected(text, place, token, before);
+}
+
+// A backquote that is missing: quotations have two each.
+function unclosed(text) {
+  const places = [...text.matchAll(/`/g)].map((found) => found.index);
+  if (places.length % 2 === 0) return null;
+  const start = unpaired(text, places);
+  return [start, start + 1, 'this quotation is never closed: a backquote is missing'];
+}
+
+function unpaired(text, places) {
+  for (let at = 0; at + 1 < places.length; at += 2) {
+    const words = [...text.slice(places[at], places[at + 1]).matchAll(LINE_WORD)];
+    if (words.some((found) => found[1] in COMMANDS)) return places[at];
+  }
+  return places[places.length - 1];
+}
+
+// A `;;` that is missing before a line that begins with a command's word, or before `qed`; nothing in quotations counts.
+export function missingEnd(text) {
+  const blank = withoutQuotations(text);
+  for (const found of blank.matchAll(LINE_WORD)) {
+    const end = found.index + found[0].length;
+    const start = end - found[1].length;
+    const goesOn = GOES_ON[found[1]];
+    if (goesOn && !goesOn.test(blank.slice(end))) continue;
+    if (found[1] in COMMANDS && blank.slice(0, found.index).trim()) return [start, end, `a \`;;\` is missing before \`${found[1]}\``];
+  }
+  const last = /\S\s+(qed|oops)\s*$/.exec(blank);
+  if (!last || /\b(g|import|new_\w+)\s+(qed|oops)\s*$/.test(blank)) return null;
+  const start = last.index + last[0].indexOf(last[1], 1);
+  return [start, start + last[1].length, `a \`;;\` is missing before \`${last[1]}\``];
+}
+
+function withoutName(text, before) {
+  const found = /^(g|new_axiom|new_definition|new_constant)\s*`/.exec(text);
+  if (!found || before.length > 1) return null;
+  return [found[0].length - 1, found[0].length, `a name is missing before the quotation: ${COMMANDS[found[1]]}`];
+}
+
+function noCommand(token) {
+  if (token in TACS || TACTICALS.includes(token)) return `\`${token}\` begins no command: a step begins with e, as in e ${token};;`;
+  const found = nearCommand(token);
+  if (found) return `\`${token}\` begins no command; did you mean ${found}?`;
+  return `\`${token}\` begins no command; commands begin with ${Object.keys(COMMANDS).join(', ')}`;
+}
+
+// The words for a token with which no command goes on, or for a character that begins none.
+function unexpected(text, place, token, before) {
+  if (token === null) {
+    const hint = text.startsWith('*)', place) ? '; `*)` closes no comment here' : '';
+    return [place, place + 1, `\`${String.fromCodePoint(text.codePointAt(place))}\` begins no symbol of the notation${hint}`];
+  }
+  const told = rule(text, place, before);
+  if (told) return told;
+  const isQuoted = before.filter((one) => one === '`').length % 2 === 1;
+  let hint = isQuoted ? IN_TERMS[token] ?? '' : token === ';' ? '; a command ends with `;;`' : '';
+  if (text.startsWith('new_type') && /^[0-9]+$/.test(token)) hint = '; a type constructor takes 0 to 16 arguments';
+  if (text.startsWith('new_definition') && ['/\\', '\\/', '==>', '<=>'].includes(token)) {
+    hint = "; the right side of a definition's = stands in parentheses, or has <=> before it";
+  }
+  return [place, place + token.length, `no command goes on with \`${token}\` here${hint}`];
+}
+
+// A name that is used as a forward rule, and is none: as GSYM in [GSYM th].
+function rule(text, place, before) {
+  const name = before[before.length - 1];
+  const opening = before[before.length - 2];
+  const isQuoted = before.filter((one) => one === '`').length % 2 === 1;
+  if (before.length < 2 || !['[', '(', ';'].includes(opening) || isQuoted || !/^[A-Za-z]/.test(name)) return null;
+  if (name in FORWARD || name in TACS || TACTICALS.includes(name)) return null;
+  const start = text.lastIndexOf(name, place - name.length);
+  const instead = RULES_ELSEWHERE[name];
+  let hint = instead ? `; in its place: ${instead}` : '';
+  if (!instead && !(name in RULES_ELSEWHERE) && opening !== '(') hint = '; theorems in a list stand apart by `;`';
+  return [start, start + name.length, `\`${name}\` is none of the forward rules, which are ${Object.keys(FORWARD).join(', ')}${hint}`];
+}

@@ -1,0 +1,89 @@
+// Refusals of commands in words: where the error stands in the command's text, and what to do about it.
+import { ELSEWHERE, FITS, FIXED, FORWARD, HANDING, OF_TACTICALS, OF_TYPE_DEFINITIONS, QUOTED, TACS } from './tables.js';
+import { hasTactical, near, quotation, token, tokensBefore, wordRanges } from './notation.js';
+import { explain as explainSyntax, missingEnd } from './syntax.js';
+
+export const NUMBERS = {
+  syntax: 1, inAProof: 2, noProof: 3, unknownTheory: 4, unknownTheorem: 5, unknownTac: 6, untypable: 7, notBool: 8, arity: 9, nameTaken: 10,
+  badRule: 14, hypotheses: 15, refused: 17, goalsRemain: 19, importClash: 21,
+};
+const KINDS = { __proto__: null, thm: 'the theorem', const: 'the constant', type: 'the type' };
+
+// What a refusal of a command says, as [start, end, words]. `opened` tells of the proof that is open, where one is.
+export function explain(text, refusal, opened) {
+  const { number, argument } = refusal;
+  if (number === NUMBERS.syntax) return explainSyntax(text, placeOf(text, argument));
+  if (number in QUOTED) return [...quotation(text, placeOf(text, argument)), QUOTED[number]];
+  const missing = number === NUMBERS.unknownTac || number === NUMBERS.unknownTheorem ? missingEnd(text) : null;
+  if (missing) return missing;
+  const [start, end] = marked(text, number, argument);
+  return [start, end, wordsOf(text, refusal, start, opened)];
+}
+
+function wordsOf(text, { number, argument, text: said }, start, opened) {
+  if (number === NUMBERS.inAProof) return `a proof is open: ${opened ?? 'end it first'}; end it by qed;; or give it up by oops;;`;
+  if (number === NUMBERS.unknownTac) return unknownTac(text, argument, start);
+  if (number === NUMBERS.refused) return refused(text, argument);
+  if (number === NUMBERS.nameTaken) {
+    const name = argument.split(':').pop();
+    const isTwice = text.split(/\s+/).filter((word) => word === name).length > 1;
+    return `${keyOf(argument)} stands already${isTwice ? ' or is made twice here' : ''}: choose another name`;
+  }
+  if (number === NUMBERS.importClash) return FIXED[number].replace('%s', () => keyOf(argument));
+  if (text.startsWith('new_basic_type_definition') && number in OF_TYPE_DEFINITIONS) return OF_TYPE_DEFINITIONS[number].replace('%s', () => argument);
+  return (FIXED[number] ?? `${said} %s`).replace('%s', () => argument).trim();
+}
+
+function keyOf(argument) {
+  const [kind, ...name] = argument.split(':');
+  return `${KINDS[kind] ?? kind} ${name.join(':')}`;
+}
+
+// The place that a refusal names, in no more than the text has.
+const placeOf = (text, argument) => (/^[0-9]{1,8}$/.test(argument) ? Math.min(Number(argument), text.length) : 0);
+
+// The range of the name that a refusal is about. Where it is a function's that is called more than once, all its calls are in it.
+function marked(text, number, argument) {
+  const places = wordRanges(text, argument.split(':').pop());
+  if (!places.length) {
+    const word = token(text, 0);
+    return [0, word ? word.length : Math.min(1, text.length)];
+  }
+  const isAny = [NUMBERS.refused, NUMBERS.hypotheses, NUMBERS.badRule].includes(number) || (number === NUMBERS.unknownTac && argument in TACS);
+  return [places[0][0], places[isAny ? places.length - 1 : 0][1]];
+}
+
+// The words for refusal 6.
+function unknownTac(text, name, start) {
+  if (name in TACS) return wrongArguments(text, name, start);
+  if (name in FORWARD) return `${name} makes a theorem and is no function on goals: write ACCEPT_TAC (${name} ..), MP_TAC (${name} ..) or the like`;
+  if (name in ELSEWHERE) {
+    const instead = ELSEWHERE[name];
+    return `HOL Light's ${name} isn't here${instead ? `: ${instead}` : '; docs/TACTICS.md lists the functions on goals that are'}`;
+  }
+  const found = near(name, Object.keys(TACS));
+  return `there is no function on goals ${name}${found ? `; did you mean ${found}?` : ''}`;
+}
+
+function wrongArguments(text, name, start) {
+  const takes = TACS[name] || 'no arguments';
+  const before = tokensBefore(text, start).filter((one) => one !== '(').pop();
+  const handing = HANDING.includes(before) ? before : null;
+  if (handing && TACS[name].endsWith('a theorem')) {
+    return `${handing} hands its theorem to ${name}, whose last argument is left out: write ${handing} ${name}`;
+  }
+  if (!handing) return `${name} takes ${takes}`;
+  const assumptions = name.includes('REWRITE') ? '; rewriting by the assumptions is ASM_REWRITE_TAC []' : '';
+  return `${handing} hands a theorem to the function behind it, and ${name} takes ${takes}; write ${handing} MP_TAC or the like, a function `
+    + `whose last argument is a theorem${assumptions}`;
+}
+
+// The words for refusal 17. Only a function that is called alone is called on the first goal.
+function refused(text, name) {
+  if (name in OF_TACTICALS) return OF_TACTICALS[name];
+  const isAlone = tokensBefore(text, text.length)[1] === name && !hasTactical(text);
+  return `${name} doesn't fit ${isAlone ? 'the first goal' : 'the goal that it is run on'}${name in FITS ? `: it wants ${FITS[name]}` : ''}`;
+}
+
+// On what a theorem rests.
+export const rests = (items) => `rests on ${items.join(', ') || 'no axioms or definitions of its own'}`;

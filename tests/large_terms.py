@@ -1,0 +1,163 @@
+"""Documents of the deepest and the largest things that the limits allow, and of what would be exponentially larger if it were written out.
+
+A case is its name, its commands, and what the report on the last one has to be: the number of a refusal, `goals` or `made`. The sizes follow from
+docs/PROTOCOL.md: 20,000 nodes, 4,096 tokens, 200 brackets that are open, 1,000 commands, so many turns."""
+
+import collections
+
+Case = collections.namedtuple("Case", "name commands want turns seconds", defaults=(10_000, 1.0))
+
+LIST = ["new_type list 1"]
+PAIR = "new_constant pair `:A->(A->A->B)->B`"
+
+
+def joined(between, parts):
+    return between.join(parts)
+
+
+def doubling(count, first="x"):
+    """Each equation has the variable of the one before twice, so that types double."""
+    return joined(r" /\ ", (rf"{first}{k} = (\g. g {first}{k - 1} {first}{k - 1})" for k in range(1, count + 1)))
+
+
+def shared():
+    """Trees that are exponentially larger than what is kept of them: terms, types, goals and the turns that they would take."""
+    yield Case("types that double 310 times", ["g N `" + doubling(310) + "`"], 13)
+    yield Case("types that double 150 times, twice, made equal", ["g N `" + doubling(150) + r" /\ " + doubling(150, "y") + r" /\ x150 = y150`"], 13)
+    yield Case("a cycle in types that double", ["g N `" + doubling(300) + r" /\ x0 = x300`"], 7)
+    yield Case("a constant's type that doubles at each use", [PAIR, "g N `x = " + "pair (" * 199 + "y" + ")" * 199 + "`"], 13)
+    yield Case("the same in a definition", [PAIR, "new_definition D `d (y:A) = " + "pair (" * 190 + "y" + ")" * 190 + "`"], 13)
+    yield Case("an instance of an instance", ["g N `p:bool`", "e MP_TAC " + "(INST_TYPE [`:A->A`,`:A`] " * 190 + "REFL_CLAUSE" + ")" * 190], 13)
+    chain = ["new_definition D0 `d0 = (T /\\ F)`"] + [f"new_definition D{k} `d{k} = (d{k - 1} /\\ d{k - 1})`" for k in range(1, 60)]
+    rules = "; ".join(f"D{k}" for k in range(60))
+    yield Case("definitions that double, rewritten by", [*chain, "g N `d59:bool`", f"e PURE_REWRITE_TAC [{rules}]"], 13)
+    yield Case("the same, the basic rewrites too", [*chain, "g N `d59:bool`", f"e REWRITE_TAC [{rules}]"], "goals")
+    once = [f"e PURE_REWRITE_TAC [D{k}]" for k in range(59, 48, -1)]
+    yield Case("the same, one after the other", [*chain, "g N `d59:bool`", *once], 13)
+    power = r"(\f:A->A. \x. f (f x))"
+    higher = r"(\f:(A->A)->A->A. \x. f (f x))"
+    highest = r"(\f:((A->A)->A->A)->(A->A)->A->A. \x. f (f x))"
+    yield Case("a tower of powers, reduced", [rf"g N `P ({highest} {higher} {power} (s:A->A) z):bool`", "e BETA_TAC"], "goals")
+    top = r"(\f:(((A->A)->A->A)->(A->A)->A->A)->((A->A)->A->A)->(A->A)->A->A. \x. f (f x))"
+    yield Case("a higher one", [rf"g N `P ({top} {highest} {higher} {power} (s:A->A) z):bool`", "e BETA_TAC"], 18, 10_000, 10)
+    yield Case("nested captures", ["g N `" + r"(\x. " * 190 + "(P x y : bool)" + ") y" * 190 + "`", "e BETA_TAC"], "goals")
+    yield Case("a rule that copies", ["g N `(!x. P x <=> P x /\\ P x) ==> P (z:A)`", "e DISCH_TAC", "e ASM_REWRITE_TAC []"], 18)
+    yield Case("a rule that doubles its argument", [r"g N `(!x:A. f x:A = f (h x x)) ==> f z = z`", "e DISCH_TAC", "e ASM_REWRITE_TAC []"], 13)
+    yield Case("a rule that goes on", ["g N `p /\\ q`", "e PURE_REWRITE_TAC [CONJ_SYM]"], 5)
+    yield Case("a rule that exchanges for ever", ["new_axiom S `!p q. p /\\ q <=> q /\\ p`", "g N `p /\\ q`", "e PURE_REWRITE_TAC [S]"], 18, 100_000, 10)
+    yield Case("goals that double", [r"g N `" + joined(r" /\ ", ["(p \\/ q)"] * 200) + " ==> r`", "e REPEAT STRIP_TAC"], 18)
+
+
+def at_limits():
+    """Just at a limit and beyond it, where tests/sessions.py has none."""
+    every = "EVERY [" + joined("; ", ["ALL_TAC"] * 9) + "]"
+    for more, want in ((9, "goals"), (10, "goals"), (11, 18)):
+        turns = f"e REPLICATE_TAC 9999 ({every})" + " THEN ALL_TAC" * more
+        yield Case(f"{99_990 + more} turns of 100,000", ["g N `p:bool`", turns], want, 100_000)
+    yield Case("100,000 rounds", ["g N `p:bool`", "e REPEAT ALL_TAC"], 18, 100_000)
+    yield Case("100,000 rounds in others", ["g N `p:bool`", "e REPEAT (REPEAT (TRY (REPEAT ALL_TAC)))"], 18, 100_000)
+    yield Case("rounds without an end over many goals", ["g N `T" + r" /\ T" * 999 + "`", "e REPEAT (TRY CONJ_TAC)"], 18, 100_000)
+    yield Case("4,000 rewrites", ["g N `(p <=> ~p) ==> p`", "e DISCH_TAC THEN ASM_REWRITE_TAC []"], 13, 10_000, 4)
+    yield Case("1,000 rewrites, and no turn left", ["g N `(p <=> ~p) ==> p`", "e DISCH_TAC THEN ASM_REWRITE_TAC []"], 18, 1_000)
+    many = "g N `" + joined(r" /\ ", (f"p{k}" for k in range(1_000))) + "`"
+    for name, tac in (("FIRST", "FIRST [NO_TAC; CONJ_TAC; DISCH_TAC; ALL_TAC]"), ("STRIP_TAC", "TRY STRIP_TAC"), ("REFL_TAC", "TRY REFL_TAC")):
+        yield Case(f"{name} over 1,000 goals", [many, f"e REPEAT CONJ_TAC THEN {tac}"], "goals")
+    disjuncts = joined(r" \/ ", (f"p{k}" for k in range(700)))
+    yield Case("700 disjuncts stripped", [f"g N `{disjuncts} ==> q`", "e STRIP_TAC"], "goals")
+    yield Case("700 disjuncts proved", [f"g N `{disjuncts} ==> {disjuncts}`", "e STRIP_TAC THEN REPEAT (FIRST [FIRST_ASSUM ACCEPT_TAC; DISJ1_TAC THEN FIRST_ASSUM ACCEPT_TAC; DISJ2_TAC])"], 18)
+    yield Case("a definition of 800 parameters", ["new_definition D `d " + joined(" ", (f"(x{k}:bool)" for k in range(800))) + " = T`"], "made")
+    yield Case("a definition of 150 parameters of open types", ["new_definition D `d " + joined(" ", (f"x{k}" for k in range(150))) + " = T`"], "made")
+    variables = joined(" ", (f"x{k}" for k in range(1_000)))
+    rule = f"new_axiom R `!{variables}. (f x0 : bool) <=> T`"
+    yield Case("a rule of 1,000 variables, with its qed", [rule, "g N `f (y:A):bool`", "e PURE_REWRITE_TAC [R]", "qed"], "made", 10_000, 4)
+    yield Case("999 steps", ["g N `p:bool`", *["e ALL_TAC"] * 999], "goals")
+    yield Case("996 rotations, and no end", ["g N `T /\\ T`", "e CONJ_TAC", *["r 9999"] * 996, "qed"], 19)
+    yield Case("998 steps, and an end", ["g N `T`", *["e ALL_TAC"] * 997, "e ACCEPT_TAC TRUTH", "qed"], "made")
+
+
+def deep_terms():
+    """The deepest terms and types that a text can have: each goal is shown, and each is a goal's part when it is dropped."""
+    yield Case("3,990 times ~", ["g N `" + "~" * 3_990 + "p`"], "goals")
+    yield Case("4,091 times ~: too large", ["g N `" + "~" * 4_091 + "p`"], 13)
+    yield Case("1,363 binders", ["g N `" + "!x. " * 1_363 + "x`"], "goals")
+    yield Case("1,800 variables of one binder", ["g N `!" + joined(" ", (f"x{k}" for k in range(1_800))) + ". T`"], "goals")
+    yield Case("1,990 implications", ["g N `" + joined(" ==> ", ["p"] * 1_990) + "`"], "goals")
+    yield Case("3,990 binders of \\", ["g N `P (\\" + "x " * 3_990 + ". (y:bool)) : bool`"], "goals")
+    yield Case("2,400 binders of \\", ["g N `P (\\" + joined(" ", (f"x{k}" for k in range(2_400))) + ". (y:bool)) : bool`"], "goals")
+    yield Case("1,600 arguments", ["g N `(f " + joined(" ", ["x"] * 1_600) + "):bool`"], "goals")
+    yield Case("3,300 arguments", ["g N `(f " + joined(" ", ["x"] * 3_300) + "):bool`"], "goals")
+    yield Case("4,080 arguments: too large", ["g N `(f " + joined(" ", ["x"] * 4_080) + "):bool`"], 13)
+    yield Case("200 brackets, each with a binder", ["g N `" + "(~ !x. p = " * 200 + "x" + ")" * 200 + "`"], "goals")
+    yield Case("201 brackets", ["g N `" + "(" * 201], 1)
+    yield Case("a type of 2,045 arrows", ["new_constant c `:A" + "->A" * 2_045 + "`"], "made")
+    yield Case("a type of 4,085 lists", [*LIST, "new_constant c `:A" + " list" * 4_085 + "`"], "made")
+    yield Case("199 brackets in a type", ["new_constant c `:" + "(A->" * 199 + "A" + ")->A" * 199 + "`"], "made")
+    yield Case("a type of 6,000 lists by two uses", [*LIST, "new_constant w `:A->A" + " list" * 3_000 + "`", "g N `P (w (w (x:A))):bool`"], "goals")
+    yield Case("a type of 4,400 lists by two uses", [*LIST, "new_constant w `:A->A" + " list" * 2_200 + "`", "g N `w (w (x:A)) = y`"], 13)
+    yield Case("a type of 3,000 lists by two uses", [*LIST, "new_constant w `:A->A" + " list" * 1_500 + "`", "g N `w (w (x:A)) = y`"], "goals")
+    yield Case("a type of 8,000 lists by one use", [*LIST, "new_constant w `:A->A" + " list" * 4_000 + "`", "new_constant P `:A->bool`", "g N `P (w (x:A)):bool`"], "goals")
+    parameters = joined(" ", (f"x{k}" for k in range(4_080)))
+    yield Case("4,080 parameters, untypable", [f"new_definition D `c {parameters} = c`"], 7)
+    yield Case("an untypable term of 3,990 times ~", ["g N `" + "~" * 3_990 + "(x x)`"], 7)
+    yield Case("an untypable term at the end of 4,000 arguments", ["g N `f " + joined(" ", ["x"] * 4_000) + " f`"], 7)
+
+
+def deep_expressions():
+    """The deepest expressions and written theorems."""
+    yield Case("2,047 times THEN", ["g N `p:bool`", "e ALL_TAC" + " THEN ALL_TAC" * 2_047], "goals")
+    yield Case("2,047 times ORELSE", ["g N `p:bool`", "e NO_TAC" + " ORELSE NO_TAC" * 2_046 + " ORELSE ALL_TAC"], "goals")
+    yield Case("200 times TRY", ["g N `p:bool`", "e " + "(TRY " * 200 + "NO_TAC" + ")" * 200], "goals")
+    yield Case("200 times REPEAT", ["g N `p:bool`", "e " + "(REPEAT " * 200 + "NO_TAC" + ")" * 200], 18)
+    yield Case("200 times EVERY", ["g N `p:bool`", "e " + "EVERY [" * 200 + "ALL_TAC" + "]" * 200], "goals")
+    yield Case("200 times THENL", ["g N `p:bool`", "e " + "ALL_TAC THENL [" * 200 + "ALL_TAC" + "]" * 200], "goals")
+    yield Case("REPLICATE_TAC 9999 in one", ["g N `p:bool`", "e REPLICATE_TAC 9999 (REPLICATE_TAC 3 ALL_TAC)"], "goals", 100_000)
+    yield Case("199 times SYM", ["g N `p:bool`", "e MP_TAC " + "(SYM " * 199 + "NOT_DEF" + ")" * 199], "goals")
+    yield Case("199 times CONJUNCT1", ["g N `p:bool`", "e MP_TAC " + "(CONJUNCT1 " * 199 + "AND_CLAUSES" + ")" * 199], 14)
+    yield Case("4,094 arguments of a function", ["g N `p:bool`", "e x" + " x" * 4_094], 5)
+    yield Case("195 brackets round an expression", ["g N `p:bool`", "e " + "(" * 195 + "ALL_TAC" + ")" * 195], "goals")
+    yield Case("195 brackets round a theorem, cut short", ["g N `p:bool`", "e MP_TAC " + "(" * 195 + "TRUTH"], 1)
+    yield Case("2,041 theorems in a list", ["g N `p:bool`", "e REWRITE_TAC [TRUTH" + "; TRUTH" * 2_040 + "]"], "goals")
+
+
+def deep_runs():
+    """Functions on goals, and what justifies them, on deep terms: taken apart, rewritten, reduced, instantiated, compared."""
+    last = r"(T /\ T)"
+    right = joined(r" /\ ", ["T"] * 1_990)
+    yield Case("1,990 conjuncts, split and proved", [f"g N `{right}`", "e REPEAT CONJ_TAC THEN ACCEPT_TAC TRUTH", "qed"], "made")
+    rules = joined(r" /\ ", ["c"] * 1_990)
+    given = ["new_constant c `:bool`", f"new_axiom AX `{rules}`", "g N `q:bool`", "e REWRITE_TAC [AX]"]
+    yield Case("1,990 conjuncts, rewritten by", given, "goals")
+    many = "new_axiom AX `" + joined(r" /\ ", ["c"] * 200) + "`"
+    cited = "e PURE_REWRITE_TAC [" + joined("; ", ["AX"] * 200) + "]"
+    yield Case("a theorem of 200 conjuncts cited 200 times", ["new_constant c `:bool`", many, "g N `q:bool`", cited], "goals")
+    yield Case("1,990 conjuncts, rewritten and proved", [f"g N `{right}`", "e REWRITE_TAC []", "qed"], "made")
+    implied = joined(" ==> ", ["p"] * 1_300)
+    yield Case("1,299 implications, discharged and proved", [f"g N `{implied}`", "e REPEAT DISCH_TAC THEN FIRST_ASSUM ACCEPT_TAC", "qed"], "made")
+    binders = "!" + joined(" ", (f"x{k}" for k in range(1_300))) + ". x0 = x0"
+    yield Case("1,300 binders, taken off and proved", [f"g N `{binders}`", "e REPEAT GEN_TAC THEN REFL_TAC", "qed"], "made")
+    yield Case("1,300 binders, rewritten and proved", [f"g N `{binders}`", "e REWRITE_TAC []", "qed"], 19)
+    nots = "~" * 3_900
+    yield Case("3,900 times ~, rewritten at the end", [f"g N `{nots}{last}`", "e ONCE_REWRITE_TAC []"], "goals")
+    yield Case("1,980 times ~ on both sides, compared", [f"g N `{'~' * 1_980}p <=> {'~' * 1_980}p`", "e REFL_TAC", "qed"], "made")
+    yield Case("1,900 times ~, generalized and instantiated", [f"g N `{'~' * 1_900}p \\/ T`", "e SPEC_TAC (`p:bool`, `p:bool`)", "e GEN_TAC", "e REWRITE_TAC []", "qed"], "made")
+    redexes = r"(\x. x) (" * 199 + "p" + ")" * 199
+    yield Case("199 redexes in one another", [f"g N `{redexes} ==> p`", "e BETA_TAC", "e DISCH_TAC THEN FIRST_ASSUM ACCEPT_TAC", "qed"], "made")
+    below = "(\\p:bool. " + "~" * 3_900 + "p) T"
+    yield Case("a redex over 3,900 times ~", [f"g N `{below}`", "e BETA_TAC"], "goals")
+    xs, ys = (joined(" ", (f"({name}{k}:A)" for k in range(400))) for name in "xy")
+    yield Case("400 binders compared up to names", [rf"g N `(!{xs}. x0 = x399) <=> (!{ys}. y0 = y399)`", "e REFL_TAC", "qed"], "made")
+    captured = joined(" ", (f"x{k}" for k in range(900)))
+    yield Case("900 binders that capture", [rf"g N `!x0:bool. P ((\y {captured}. y) x0):bool`", "e BETA_TAC"], "goals")
+    at_a = "new_axiom AX `!" + joined(" ", (f"(x{k}:A)" for k in range(600))) + ". x0 = x0`"
+    yield Case("600 binders at another type", [at_a, "g N `T`", "e MP_TAC (INST_TYPE [`:B->B`,`:A`] AX)"], "goals")
+    types = [*LIST, "new_axiom AX `!x:A. x = x`", "g N `T`", "e MP_TAC (INST_TYPE [`:A" + " list" * 2_400 + "`,`:A`] AX)"]
+    yield Case("an instance at a type of 2,400 lists", types, "goals")
+    deeper = [*LIST, "new_axiom AX `!x:A. P x ==> T`", "g N `T`", "e MP_TAC (INST_TYPE [`:A" + " list" * 3_900 + "`,`:A`] AX)"]
+    yield Case("an instance at a type of 3,900 lists", deeper, "goals")
+    matched = [f"new_axiom AX `{'~' * 1_900}p ==> q`", "g N `q:bool`", "e MATCH_MP_TAC AX"]
+    yield Case("1,900 times ~ in a premise that matches", matched, "goals")
+    rule = [f"new_axiom AX `!p. {'~' * 1_900}p <=> p`", f"g N `{'~' * 3_800}p`", "e REWRITE_TAC [AX]"]
+    yield Case("a rule of 1,900 times ~", rule, "goals")
+    step = "new_definition D `twice p = ~ ~ p`"
+    nested = ["g N `" + "twice (" * 199 + "p" + ")" * 199 + "`", *["e ONCE_REWRITE_TAC [D]"] * 199]
+    yield Case("199 definitions unfolded from outside", [step, *nested], "goals")

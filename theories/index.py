@@ -1,0 +1,118 @@
+#!/usr/bin/env python3
+"""The index of theorems in theories/README.md: by file, and in each by the comments that stand above its parts.
+
+    python3 theories/index.py            says whether the index is what the files make it; status 1 where it isn't
+    python3 theories/index.py --write    writes it
+
+A part begins with a comment that has a line of its own before and behind it; its first sentence is the part's title. What a file gives and needs is
+the comment at its head."""
+
+import argparse
+import pathlib
+import re
+import sys
+import textwrap
+
+HERE = pathlib.Path(__file__).resolve().parent
+sys.path.insert(0, str(HERE.parent / "clients"))
+from holls.text import cut  # noqa: E402 (clients/holls)
+
+PAGE = HERE / "README.md"
+BEGIN, END = "<!-- Made by theories/index.py --write, from here -->", "<!-- to here. -->"
+WIDTH = 160
+DEFINING = {"new_definition": 1, "new_basic_type_definition": 2}
+"""Commands beside g that make theorems, and how many."""
+
+
+class Theory:
+    """A file: what its head says, the theories it imports, its parts as (title, names of theorems), and how many commands and definitions it has."""
+
+    def __init__(self, path):
+        self.name = path.stem
+        text = path.read_text(encoding="utf-8")
+        found = cut(text)
+        self.commands = len(found.commands)
+        self.definitions = sum(DEFINING.get(command.word, 0) for command in found.commands)
+        self.imports = [command.name for command in found.commands if command.word == "import"]
+        self.proofs = [command for command in found.commands if command.word == "g"]
+        comments = [(start, words(text[start:end])) for start, end in found.comments]
+        self.head = comments[0][1] if comments and comments[0][0] == 0 else ""
+        titles = [(start, sentence(said)) for (start, end), (_, said) in zip(found.comments, comments) if is_title(text, start, end)]
+        self.parts = [(title, [p.name for p in self.proofs if start <= p.start < end]) for start, end, title in spans(titles, len(text))]
+
+    def lines(self):
+        """Its part of the index."""
+        gives = sentence(re.sub(r" Needs .*", "", self.head))
+        needs = f" Imports {', '.join(f'[{name}]({name}.hol)' for name in self.imports)}." if self.imports else ""
+        counts = f"{len(self.proofs)} theorems, {self.definitions} more by definitions, {self.commands} commands."
+        yield f"### {self.name}"
+        yield ""
+        yield from textwrap.wrap(f"{gives}. {counts}{needs}", WIDTH, break_long_words=False, break_on_hyphens=False)
+        yield ""
+        for title, names in self.parts:
+            if names:
+                said = f"- *{title}:* " if title else "- "
+                yield from textwrap.wrap(said + ", ".join(names), WIDTH, subsequent_indent="  ", break_long_words=False, break_on_hyphens=False)
+        yield ""
+
+
+def words(comment):
+    """A comment's text in one line."""
+    return " ".join(comment[2:-2].split())
+
+
+def sentence(said):
+    """The first sentence, without its point."""
+    return re.split(r"[.:;] (?=[A-Z`])|\.$", said, maxsplit=1)[0].replace("*", r"\*")
+
+
+def is_title(text, start, end):
+    """Whether a line without anything stands before the comment and behind it."""
+    return text[:start].endswith("\n\n") and text[end:].startswith("\n\n")
+
+
+def spans(titles, length):
+    """The parts from each title to the next, after what stands before the first one."""
+    starts = [(0, "")] + titles
+    return [(start, end, title) for (start, title), end in zip(starts, [at for at, _ in titles] + [length])]
+
+
+def in_order(theories):
+    """Each after those that it imports."""
+    left, done = sorted(theories, key=lambda theory: theory.name), []
+    while left:
+        named = {theory.name for theory in left}
+        first = next((theory for theory in left if not named & set(theory.imports)), left[0])
+        left.remove(first)
+        done.append(first)
+    return done
+
+
+def index():
+    theories = in_order([Theory(path) for path in HERE.glob("*.hol")])
+    count = sum(len(theory.proofs) for theory in theories)
+    commands = sum(theory.commands for theory in theories)
+    lines = [f"{count} theorems are proved in {len(theories)} files of {commands:,} commands.", ""]
+    for theory in theories:
+        lines += theory.lines()
+    return "\n".join(lines)
+
+
+def main():
+    parser = argparse.ArgumentParser(description=__doc__.split("\n")[0])
+    parser.add_argument("--write", action="store_true", help="write the index")
+    page = PAGE.read_text(encoding="utf-8")
+    before, rest = page.split(BEGIN, 1)
+    behind = rest.split(END, 1)[1]
+    made = f"{before}{BEGIN}\n\n{index()}{END}{behind}"
+    if parser.parse_args().write:
+        PAGE.write_text(made, encoding="utf-8")
+    elif made != page:
+        print("theories/README.md: the index isn't what the files make it: python3 theories/index.py --write")
+        return 1
+    print("theories/README.md: the index is what the files make it")
+    return 0
+
+
+if __name__ == "__main__":
+    sys.exit(main())
