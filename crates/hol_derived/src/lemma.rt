@@ -55,6 +55,21 @@ pub(crate) enum Lemma {
     Gen,
 }
 
+/// The general theorems, those that are used most first.
+pub(crate) const LEMMAS: [Lemma; 11] = [
+    Lemma::Mp,
+    Lemma::Conj,
+    Lemma::Conjunct1,
+    Lemma::Conjunct2,
+    Lemma::Disch,
+    Lemma::EqtIntro,
+    Lemma::Gen,
+    Lemma::Disj1,
+    Lemma::Disj2,
+    Lemma::Contr,
+    Lemma::NotIntro,
+];
+
 /// Derives a general theorem over the basis.
 pub(crate) fn derived(alloc: Global, basis: &Basis, which: Lemma) -> Result<Thm, AllocError>
     ensures { IfOk result (λ th. th ≡ theorem_on basis.now (general which)) }

@@ -6,13 +6,14 @@ ghost use Rattle.hol_terms.specs.Nameless.{nameless};
 ghost use Rattle.hol_formulas.specs.Equation.{bool_type};
 ghost use Rattle.hol_formulas.specs.Prelude.{boolean};
 ghost use Rattle.hol_subst.specs.Substitution.{term_subst};
+ghost use Rattle.hol_kernel.specs.Items.{IsSubset, no_items};
 ghost use Rattle.hol_kernel.specs.Rules.{sequent_image};
 ghost use Rattle.hol_kernel.specs.Sequent.{only_hyp, sequent_of};
 ghost use Rattle.hol_kernel.specs.Theorem.{theorem_on};
 ghost use Rattle.hol_kernel.specs.Typing.{HasType, is_type};
 ghost use Rattle.hol_derived.specs.Lemmas.{hypothesis, conclusion, lemma_at, general, put, put_predicate};
 
-use crate::lemma::{Lemma, derived};
+use crate::lemma::{LEMMAS, Lemma, derived};
 use crate::letters::letter;
 use hol_equal::applied::{inst_type, prove_hyp, unrefused};
 use hol_formulas::{bool_type, occurrence, variable};
@@ -23,7 +24,7 @@ use std::alloc::{AllocError, Global};
 use std::marker::Model;
 
 /// The general theorems of the rules over one basis. Each is derived when a rule first needs it, and then kept, so that who uses many rules pays for their
-/// derivations once.
+/// derivations once; who works over many bases has them all made over no items, and brings them to each.
 #[derive(Drop)]
 pub struct Lemmas {
     basis: Basis,
@@ -49,6 +50,33 @@ impl Lemmas {
         ensures { IfOk result (λ lemmas. lemmas ≡ basis.now) }
     {
         let made = Vec::new(alloc);
+        Ok(Lemmas {
+            basis: basis.copy()?,
+            made,
+        })
+    }
+
+    /// Those of no items, all of them made.
+    pub fn all(alloc: Global) -> Result<Lemmas, AllocError>
+        ensures { IfOk result (λ lemmas. lemmas ≡ no_items) }
+    {
+        let none = Basis::empty(alloc)?;
+        let mut lemmas = Lemmas::new(alloc, &none)?;
+        for which in &LEMMAS {
+            let _made = lemmas.get(alloc, *which)?;
+        }
+        Ok(lemmas)
+    }
+
+    /// Those of a basis that contains theirs: what was made is made.
+    pub fn widen(&self, alloc: Global, basis: &Basis) -> Result<Lemmas, AllocError>
+        requires within { IsSubset self.now basis.now }
+        ensures { IfOk result (λ lemmas. lemmas ≡ basis.now) }
+    {
+        let mut made = Vec::with_capacity(alloc, self.made.len())?;
+        for entry in &self.made {
+            made.push((entry.0, entry.1.widen(basis)?))?;
+        }
         Ok(Lemmas {
             basis: basis.copy()?,
             made,
