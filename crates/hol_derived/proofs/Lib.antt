@@ -9,3 +9,4 @@ pub mod RuleAnswers
 pub mod Instances
 pub mod LemmaHypotheses
 pub mod GeneralTheorems
+pub mod Applying
