@@ -1,29 +1,22 @@
-//! Unit tests of hol_mark, hol_types, hol_terms, hol_subst, hol_formulas, the kernel, the derived rules and the prelude, as tables whose rows are written in the
-//! notation. They stand in a crate of their own, since a crate with tests is proved twice.
+//! Unit tests of hol_mark, hol_types, hol_terms, hol_subst, hol_formulas, the kernel, the derived rules and the prelude: rows in the notation, a case a line. They stand in a crate
+//! of their own, since a crate with tests is proved twice.
 #![tactic(auto)]
 
 #[cfg(test)]
 mod bases;
 #[cfg(test)]
-mod bases_tests;
-pub mod chains;
+mod cases;
 #[cfg(test)]
-mod formulas_tests;
+mod formulas;
 #[cfg(test)]
-mod marks_tests;
+mod prelude;
 #[cfg(test)]
-mod prelude_tests;
+mod rows;
 #[cfg(test)]
 mod rules;
 #[cfg(test)]
-mod rules_tests;
+mod shared;
 #[cfg(test)]
-mod sequents;
-#[cfg(test)]
-mod substitution_tests;
-#[cfg(test)]
-mod terms_tests;
-#[cfg(test)]
-mod types_tests;
+mod terms;
 #[cfg(test)]
 mod written;
