@@ -1,8 +1,7 @@
 //! Texts at the limits on tokens and brackets: each is read, copied, compared, hashed and dropped, in the call stack of a program's main thread.
-use crate::commands_tests::are_alike;
+use crate::commands_tests::{are_alike, unmet};
 use hol_notation::{SyntaxError, lex};
 use std::alloc::{AllocError, Global};
-use std::test::Fail;
 
 // How often two parts of a text stand; and what stands before, the first part, what stands between, the second part, and what stands behind.
 type Row = (usize, [&'static str; 5]);
@@ -25,24 +24,36 @@ static MANY: [Row; 14] = [
     (200, ["e ", "(REPEAT ", "A", ")", ""]),
 ];
 
-fn text_of(alloc: Global, row: &Row) -> Result<String, AllocError> {
-    let (count, [before, first, between, second, behind]) = *row;
-    let firsts = first.repeat(alloc, count)?;
-    let seconds = second.repeat(alloc, count)?;
-    format!(in alloc; "{before}{firsts}{between}{seconds}{behind}")
-}
-
-fn is_read(alloc: Global, row: &Row) -> Result<bool, SyntaxError> {
-    let text = text_of(alloc, row)?;
-    are_alike(alloc, text.as_str(), text.as_str())
-}
-
-#[test]
-fn reads_texts_of_many_tokens(rt: HostRuntime) -> Result<(), Fail> {
-    for row in &MANY {
-        assert!(rt; is_read(rt.alloc(), row)?, "{}", row.1[1]);
+fn add(text: &mut String, part: &str, times: usize) -> Result<(), AllocError> {
+    for _ in 0..times {
+        text.push_str(part)?;
     }
     Ok(())
+}
+
+fn text_of(alloc: Global, row: &Row) -> Result<String, AllocError> {
+    let mut text = String::new(alloc);
+    for (place, part) in row.1.iter().enumerate() {
+        add(&mut text, *part, if place % 2 == 1 { row.0 } else { 1 })?;
+    }
+    Ok(text)
+}
+
+fn is_read(alloc: Global, row: &Row) -> bool {
+    match text_of(alloc, row) {
+        Ok(text) => are_alike(alloc, text.as_str(), text.as_str()) == Some(true),
+        Err(_) => false,
+    }
+}
+
+// The repeated part of the first text that isn't read, or nothing.
+fn unread(alloc: Global) -> &'static str {
+    for row in &MANY {
+        if !is_read(alloc, row) {
+            return row.1[1];
+        }
+    }
+    ""
 }
 
 // The number of the text's tokens, or 10,000 and the place where it is refused.
@@ -54,9 +65,11 @@ fn lexed(alloc: Global, text: &str) -> Option<usize> {
     }
 }
 
-fn is_lexed(alloc: Global, row: &(Row, usize)) -> Result<bool, AllocError> {
-    let text = text_of(alloc, &row.0)?;
-    Ok(lexed(alloc, text.as_str()) == Some(row.1))
+fn is_lexed(alloc: Global, row: &(Row, usize)) -> bool {
+    match text_of(alloc, &row.0) {
+        Ok(text) => lexed(alloc, text.as_str()) == Some(row.1),
+        Err(_) => false,
+    }
 }
 
 // Brackets are not counted.
@@ -68,10 +81,19 @@ static LEXED: [(Row, usize); 5] = [
     ((4097, ["", "x ", "", "", ""]), 18_192),
 ];
 
-#[test]
-fn lexes(rt: HostRuntime) -> Result<(), Fail> {
+// Whether the texts have so many tokens.
+fn are_lexed(alloc: Global) -> bool {
     for row in &LEXED {
-        assert!(rt; is_lexed(rt.alloc(), row)?, "{}", row.1);
+        if !is_lexed(alloc, row) {
+            return false;
+        }
     }
-    Ok(())
+    true
+}
+
+#[test]
+fn texts_are_read(rt: HostRuntime) {
+    assert_eq!(rt; unmet(rt.alloc()), "");
+    assert_eq!(rt; unread(rt.alloc()), "");
+    assert!(rt; are_lexed(rt.alloc()));
 }
