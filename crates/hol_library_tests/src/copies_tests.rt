@@ -6,11 +6,10 @@ ghost use Rattle.hol_match.specs.Patterns.{is_apart};
 use hol_combine::{Expr, ExprNode, TacCall};
 use hol_formulas::{occurrence, variable};
 use hol_goal::TacArgs;
-use hol_match::term_match;
+use hol_match::{Instance, term_match};
 use hol_terms::Term;
 use hol_types::{Name, Ty};
 use std::alloc::{AllocError, Global};
-use std::test::Fail;
 
 // A type variable.
 fn open_type(alloc: Global) -> Result<Ty, AllocError> {
@@ -26,17 +25,21 @@ fn letter(alloc: Global, ty: &Ty) -> Result<Term, AllocError>
     occurrence(alloc, &v)
 }
 
-// Whether a copy of the match of the variable with itself gives it for itself, and one type.
-fn is_match_copied(alloc: Global, x: &Term) -> Result<bool, AllocError>
+// Whether the match gives the variable for itself, and one type.
+fn is_of_itself(x: &Term, found: &Instance) -> bool {
+    match found.terms() {
+        [(t, v)] => t.same(x) && v.same(x) && found.types().len() == 1,
+        _ => false,
+    }
+}
+
+// Whether a copy of the match of the variable with itself is such a one.
+fn is_match_copied(alloc: Global, x: &Term) -> bool
     requires { IsTrue (is_apart [] (nameless [] x.now)) }
 {
-    let Some(found) = term_match(alloc, &[], x, x)? else {
-        return Ok(false);
-    };
-    let copy = found.copy(alloc)?;
-    match copy.terms() {
-        [(t, v)] => Ok(t.same(x) && v.same(x) && copy.types().len() == 1),
-        _ => Ok(false),
+    match term_match(alloc, &[], x, x) {
+        Ok(Some(found)) => matches!(found.copy(alloc), Ok(copy) if is_of_itself(x, &copy)),
+        _ => false,
     }
 }
 
@@ -55,37 +58,35 @@ fn takes_a_term(expr: &Expr) -> bool {
     matches!(expr.node(), ExprNode::Call(call) if matches!(call.args, TacArgs::Term(_)))
 }
 
-// The call with a copy of the arguments of the one that the expression is.
-fn called_again(alloc: Global, expr: &Expr) -> Result<Option<Expr>, AllocError> {
+// Whether the call with a copy of the arguments of the one that the expression is takes a term.
+fn is_called_again(alloc: Global, expr: &Expr) -> bool {
     let ExprNode::Call(again) = expr.node() else {
-        return Ok(None);
+        return false;
     };
-    Ok(Some(call(alloc, again.args.copy(alloc)?)?))
-}
-
-// Whether a copy of the expression is a call with a term, and so is the call with a copy of it.
-fn is_call_copied(alloc: Global, expr: &Expr) -> Result<bool, AllocError> {
-    let copy = expr.copy()?;
-    let again = called_again(alloc, &copy)?;
-    Ok(takes_a_term(&copy) && matches!(again, Some(again) if takes_a_term(&again)))
-}
-
-fn is_call_with_copied(alloc: Global, t: Term) -> Result<bool, AllocError> {
-    let expr = call(alloc, TacArgs::Term(t))?;
-    is_call_copied(alloc, &expr)
-}
-
-fn are_copied(alloc: Global, ty: &Ty) -> Result<bool, AllocError> {
-    let x = letter(alloc, ty)?;
-    if !is_match_copied(alloc, &x)? {
-        return Ok(false);
+    match again.args.copy(alloc) {
+        Ok(args) => matches!(call(alloc, args), Ok(again) if takes_a_term(&again)),
+        Err(_) => false,
     }
-    is_call_with_copied(alloc, x)
 }
 
-#[test]
-fn values_are_copied(rt: HostRuntime) -> Result<(), Fail> {
-    let ty = open_type(rt.alloc())?;
-    assert!(rt; are_copied(rt.alloc(), &ty)?);
-    Ok(())
+// Whether a copy of the call with the term is one, and so is the call with a copy of it.
+fn is_call_copied(alloc: Global, t: Term) -> bool {
+    match call(alloc, TacArgs::Term(t)) {
+        Ok(expr) => {
+            matches!(expr.copy(), Ok(copy) if takes_a_term(&copy) && is_called_again(alloc, &copy))
+        }
+        Err(_) => false,
+    }
+}
+
+fn are_copied(alloc: Global, ty: &Ty) -> bool {
+    match letter(alloc, ty) {
+        Ok(x) => is_match_copied(alloc, &x) && is_call_copied(alloc, x),
+        Err(_) => false,
+    }
+}
+
+/// Whether a match, an expression and arguments are as their copies.
+pub(crate) fn values_are_copied(alloc: Global) -> bool {
+    matches!(open_type(alloc), Ok(ty) if are_copied(alloc, &ty))
 }

@@ -11,4 +11,6 @@ mod rewriting_tests;
 #[cfg(test)]
 mod steps;
 #[cfg(test)]
+mod tests;
+#[cfg(test)]
 mod theories_tests;

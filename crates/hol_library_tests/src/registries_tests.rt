@@ -10,7 +10,6 @@ use hol_goal::{Goal, TacArgs, TacCode};
 use hol_just::{TacFault, Tried};
 use hol_registry::{Entry, Registry, RegistryError};
 use std::alloc::{AllocError, Global};
-use std::test::Fail;
 
 // NO_TAC.
 fn never(args: &TacArgs, goal: &Goal, turns: u32) -> Result<Tried, TacFault>
@@ -20,6 +19,12 @@ fn never(args: &TacArgs, goal: &Goal, turns: u32) -> Result<Tried, TacFault>
     Err(TacFault::Refused(turns))
 }
 
+// NO_TAC under this name.
+fn entry(alloc: Global, name: &str) -> Result<Entry, AllocError> {
+    let name = String::from_str(alloc, name)?;
+    Ok(Entry::new(name, TacCode::NoTac, Box::new(alloc, never)?))
+}
+
 // A registry of NO_TAC under these names, or the name that stands twice.
 fn registered(
     alloc: Global,
@@ -27,8 +32,7 @@ fn registered(
 ) -> Result<Result<Registry, RegistryError>, AllocError> {
     let mut entries = Vec::new(alloc);
     for name in names {
-        let name = String::from_str(alloc, name)?;
-        entries.push(Entry::new(name, TacCode::NoTac, Box::new(alloc, never)?))?;
+        entries.push(entry(alloc, name)?)?;
     }
     Ok(Registry::new(entries))
 }
@@ -41,61 +45,37 @@ fn finds(registry: &Registry) -> bool {
         && registry.find("stops").is_none()
 }
 
-// Whether the registry of these can be made, and finds them so.
-fn are_found(alloc: Global) -> Result<bool, AllocError> {
+/// Whether the registry of these can be made, and finds them so.
+pub(crate) fn are_found(alloc: Global) -> Result<bool, AllocError> {
     match registered(alloc, &["STOPS", "", "stop", "STOP"])? {
         Ok(registry) => Ok(finds(&registry)),
         Err(RegistryError::Twice(_)) => Ok(false),
     }
 }
 
-#[test]
-fn names_are_found_as_a_whole(rt: HostRuntime) -> Result<(), Fail> {
-    assert!(rt; are_found(rt.alloc())?);
-    Ok(())
-}
-
-// The name that stands twice among these, or nothing.
-fn twice(alloc: Global, names: &[&str]) -> Result<Option<String>, AllocError> {
+/// Whether this is the name that stands twice among these.
+pub(crate) fn is_twice(alloc: Global, names: &[&str], name: &str) -> Result<bool, AllocError> {
     match registered(alloc, names)? {
-        Ok(_) => Ok(None),
-        Err(RegistryError::Twice(name)) => Ok(Some(name)),
+        Ok(_) => Ok(false),
+        Err(RegistryError::Twice(found)) => Ok(found.as_str() == name),
     }
 }
 
-fn is_name(found: &Option<String>, name: &str) -> bool {
-    match found {
-        Some(found) => found.as_str() == name,
-        None => false,
-    }
+// The command of the first step that isn't met over the registry, or nothing; each of the twelve steps is counted.
+fn unmet_over(alloc: Global, registry: Registry) -> Result<&'static str, AllocError> {
+    let mut meter = Meter::new(Setup::new(alloc, registry, 10)?);
+    let unmet = first_unmet(alloc, &mut meter)?;
+    Ok(if meter.ran() == 12 {
+        unmet
+    } else {
+        "steps that aren't counted"
+    })
 }
 
-#[test]
-fn no_name_stands_twice(rt: HostRuntime) -> Result<(), Fail> {
-    let stop = twice(rt.alloc(), &["STOPS", "STOP", "STOP"])?;
-    assert!(rt; is_name(&stop, "STOP"));
-    let empty = twice(rt.alloc(), &["", "STOP", ""])?;
-    assert!(rt; is_name(&empty, ""));
-    Ok(())
-}
-
-// The command of the first step that isn't met where NO_TAC is registered as STOP, or nothing; each of the twelve steps is counted.
-fn amiss(alloc: Global) -> Result<&'static str, Fail> {
+/// The same where NO_TAC is registered as STOP.
+pub(crate) fn step_amiss(alloc: Global) -> Result<&'static str, AllocError> {
     match registered(alloc, &["STOP"])? {
-        Ok(registry) => {
-            let mut meter = Meter::new(Setup::new(alloc, registry, 10)?);
-            let unmet = first_unmet(alloc, &mut meter)?;
-            if meter.ran() != 12 {
-                return Ok("steps that aren't counted");
-            }
-            Ok(unmet)
-        }
-        Err(RegistryError::Twice(_)) => Err("a name stands twice".into()),
+        Ok(registry) => unmet_over(alloc, registry),
+        Err(RegistryError::Twice(_)) => Ok("a name stands twice"),
     }
-}
-
-#[test]
-fn a_function_is_refused_by_its_name(rt: HostRuntime) -> Result<(), Fail> {
-    assert_eq!(rt; amiss(rt.alloc())?, "");
-    Ok(())
 }

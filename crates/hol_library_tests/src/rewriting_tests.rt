@@ -10,7 +10,6 @@ use hol_match::RuleSet;
 use hol_replay::beta_conversion;
 use hol_terms::{Term, TermError, Variable};
 use std::alloc::{AllocError, Global};
-use std::fmt::Write;
 use std::test::Fail;
 
 // The variable `p`.
@@ -28,33 +27,40 @@ fn formula(alloc: Global) -> Result<Term, AllocError>
     occurrence(alloc, &v)
 }
 
-// The depth of the set's outlines, then of each rule the number of its theorem and its place there.
-fn told(alloc: Global, set: &RuleSet) -> Result<String, Fail> {
-    let mut text = String::new(alloc);
-    match set.depth() {
-        Some(depth) => write!(text, "{depth}:")?,
-        None => text.push_str("not counted:")?,
-    }
+// Whether the set's outlines are so deep, and of each rule these are the number of its theorem and its place there.
+fn has_places(set: &RuleSet, depth: usize, places: &[(usize, usize)]) -> bool {
     for i in 0..set.len() {
         let rule = set.rule(i);
-        write!(text, " {} {}", rule.theorem(), rule.place())?;
+        let is_there = match places.get(i) {
+            Some(place) => place.0 == rule.theorem() && place.1 == rule.place(),
+            None => false,
+        };
+        if !is_there {
+            return false;
+        }
     }
-    Ok(text)
+    set.depth() == Some(depth) && set.len() == places.len()
 }
 
 // The rules of two assumed formulas.
 fn assumed(alloc: Global, first: &Term, second: &Term) -> Result<RuleSet, KernelError> {
     let mut thms = Vec::new(alloc);
-    thms.push(Given::assumed(first)?)?;
-    thms.push(Given::assumed(second)?)?;
+    for p in [first, second] {
+        thms.push(Given::assumed(p)?)?;
+    }
     Ok(RuleSet::new(alloc, &thms)?)
 }
 
-// Whether this is told of the rules of two assumed formulas.
-fn is_told(alloc: Global, first: &Term, second: &Term, wanted: &str) -> Result<bool, Fail> {
+// Whether this is so of the rules of two assumed formulas.
+fn are_places(
+    alloc: Global,
+    first: &Term,
+    second: &Term,
+    depth: usize,
+    places: &[(usize, usize)],
+) -> Result<bool, KernelError> {
     let set = assumed(alloc, first, second)?;
-    let found = told(alloc, &set)?;
-    Ok(found.as_str() == wanted)
+    Ok(has_places(&set, depth, places))
 }
 
 // `p /\ ~p`.
@@ -67,38 +73,41 @@ fn contradiction(alloc: Global, p: &Term) -> Result<Term, AllocError>
 }
 
 // `p /\ ~p` is two rules with a variable to the left.
-fn are_parts_told(alloc: Global, p: &Term) -> Result<bool, Fail>
+fn are_parts_told(alloc: Global, p: &Term) -> Result<bool, KernelError>
     requires { named_type p.now ≡ Some bool_type }
 {
     let both = contradiction(alloc, p)?;
-    is_told(alloc, &both, p, "1: 0 0 0 1 1 0")
+    are_places(alloc, &both, p, 1, &[(0, 0), (0, 1), (1, 0)])
 }
 
 // `~p <=> p` is one with a negation there.
-fn is_negation_told(alloc: Global, p: &Term) -> Result<bool, Fail>
+fn is_negation_told(alloc: Global, p: &Term) -> Result<bool, KernelError>
     requires { named_type p.now ≡ Some bool_type }
 {
     let not_p = mk_neg(alloc, p)?;
     let rule = mk_iff(alloc, &not_p, p)?;
-    is_told(alloc, &rule, p, "2: 0 0 1 0")
+    are_places(alloc, &rule, p, 2, &[(0, 0), (1, 0)])
 }
 
 // `p /\ ~p <=> p` is one with a conjunction there.
-fn is_conjunction_told(alloc: Global, p: &Term) -> Result<bool, Fail>
+fn is_conjunction_told(alloc: Global, p: &Term) -> Result<bool, KernelError>
     requires { named_type p.now ≡ Some bool_type }
 {
     let both = contradiction(alloc, p)?;
     let rule = mk_iff(alloc, &both, p)?;
-    is_told(alloc, p, &rule, "3: 0 0 1 0")
+    are_places(alloc, p, &rule, 3, &[(0, 0), (1, 0)])
 }
 
-#[test]
-fn rules_tell_where_they_stand(rt: HostRuntime) -> Result<(), Fail> {
-    let p = formula(rt.alloc())?;
-    assert!(rt; are_parts_told(rt.alloc(), &p)?);
-    assert!(rt; is_negation_told(rt.alloc(), &p)?);
-    assert!(rt; is_conjunction_told(rt.alloc(), &p)?);
-    Ok(())
+fn are_told_of(alloc: Global, p: &Term) -> Result<bool, KernelError>
+    requires { named_type p.now ≡ Some bool_type }
+{
+    Ok(are_parts_told(alloc, p)? && is_negation_told(alloc, p)? && is_conjunction_told(alloc, p)?)
+}
+
+/// Whether rules tell where they stand.
+pub(crate) fn rules_are_told(alloc: Global) -> Result<bool, KernelError> {
+    let p = formula(alloc)?;
+    are_told_of(alloc, &p)
 }
 
 // `(\v. t) t`.
@@ -139,10 +148,9 @@ fn is_redex_reduced(alloc: Global, v: &Variable, t: &Term) -> Result<bool, Fail>
     Ok(is_reduced(alloc, &basis, &redex, t, 1)?)
 }
 
-#[test]
-fn a_redex_has_its_theorem(rt: HostRuntime) -> Result<(), Fail> {
-    let v = letter(rt.alloc())?;
-    let t = occurrence(rt.alloc(), &v)?;
-    assert!(rt; is_redex_reduced(rt.alloc(), &v, &t)?);
-    Ok(())
+/// Whether a redex has its theorem.
+pub(crate) fn redex_is_reduced(alloc: Global) -> Result<bool, Fail> {
+    let v = letter(alloc)?;
+    let t = occurrence(alloc, &v)?;
+    is_redex_reduced(alloc, &v, &t)
 }

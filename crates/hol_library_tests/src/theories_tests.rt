@@ -3,7 +3,6 @@ use hol_kernel::{Basis, KernelError};
 use hol_theory::{Env, EnvError, Key, new_type};
 use hol_types::Name;
 use std::alloc::Global;
-use std::test::Fail;
 
 // A name, an arity, and what adding or importing a type constructor of these comes to.
 type Row = (&'static str, u32, &'static str);
@@ -48,8 +47,8 @@ fn imported(alloc: Global, env: &mut Env, row: &Row) -> Result<&'static str, Ker
     Ok(told(env.import(&other), row.0))
 }
 
-// Whether the rows are met one after the other, and leave two entries.
-fn are_added(alloc: Global) -> Result<bool, KernelError> {
+/// Whether the rows are met one after the other, and leave two entries.
+pub(crate) fn are_added(alloc: Global) -> Result<bool, KernelError> {
     let mut env = Env::new(alloc);
     for row in &ADDED {
         if added(alloc, &mut env, row)? != row.2 {
@@ -59,13 +58,8 @@ fn are_added(alloc: Global) -> Result<bool, KernelError> {
     Ok(env.len() == 2)
 }
 
-#[test]
-fn an_entry_is_added_once(rt: HostRuntime) -> Result<(), Fail> {
-    assert!(rt; are_added(rt.alloc())?);
-    Ok(())
-}
-
-fn are_imported(alloc: Global) -> Result<bool, KernelError> {
+/// The same of theories that are imported.
+pub(crate) fn are_imported(alloc: Global) -> Result<bool, KernelError> {
     let mut env = Env::new(alloc);
     for row in &IMPORTED {
         if imported(alloc, &mut env, row)? != row.2 {
@@ -73,10 +67,4 @@ fn are_imported(alloc: Global) -> Result<bool, KernelError> {
         }
     }
     Ok(env.len() == 2)
-}
-
-#[test]
-fn theories_are_imported(rt: HostRuntime) -> Result<(), Fail> {
-    assert!(rt; are_imported(rt.alloc())?);
-    Ok(())
 }
