@@ -4,7 +4,7 @@
     python3 bench/library.py [--last FILE] [--all]
     python3 bench/library.py --program PATH [--rounds N]
 
-The first needs HOL Light (Debian: apt-get install hol-light), which is loaded up to FILE, from minutes to half an hour; each statement that it has under one of
+The first needs HOL Light (Debian: apt-get install hol-light libnum-ocaml-dev), which is loaded up to FILE in some minutes; each statement that it has under one of
 our names is taken from its kernel's term. Both are compared as trees without types and without the names of bound and free variables, after the names of
 theories/README.md. It prints how many of our names are theorems there, how many of these are equal, how many are so but for their outer quantifiers, and the others
 with both statements (with --all those that differ by outer quantifiers too). The status is 1 where fewer than 200 are equal.
@@ -77,6 +77,29 @@ class Theories:
             self.constants |= set(names[1:3])
         elif word == "new_constant":
             self.constants.add(names[0])
+
+
+def untyped(statement):
+    """A statement without its types."""
+    kept, at = "", 0
+    for found in re.finditer(":", statement):
+        if found.start() >= at:
+            kept += statement[at:found.start()]
+            at = behind_type(statement, found.end())
+    return kept + statement[at:]
+
+
+def behind_type(text, at):
+    """Where the type ends that begins at a place."""
+    if text[at] == "(":
+        depth = 1
+        while depth:
+            at += 1
+            depth += (text[at] == "(") - (text[at] == ")")
+        at += 1
+    at = re.compile(r"[A-Za-z0-9_']*").match(text, at).end()
+    arrow = re.compile(r"\s*->\s*").match(text, at)
+    return behind_type(text, arrow.end()) if arrow else at
 
 
 def their_tree(tokens):
@@ -171,7 +194,7 @@ def compared(theories, found):
     for name, statement in theories.statements.items():
         if name in found:
             try:
-                ours = our_tree(read(statement), theories.constants)
+                ours = our_tree(read(untyped(statement)), theories.constants)
             except Unreadable as error:
                 sys.exit(f"library: {name}: {error}")
             kinds[kind(ours, found[name][0])].append(name)
@@ -181,7 +204,7 @@ def compared(theories, found):
 def compare(theories, last, all_of_them):
     """Prints the comparison, and says whether enough are equal."""
     if not os.path.exists(f"{HOL_LIGHT}/hol.ml"):
-        sys.exit("library: HOL Light is not installed (Debian: apt-get install hol-light)")
+        sys.exit("library: HOL Light is not installed (Debian: apt-get install hol-light libnum-ocaml-dev)")
     found = hol_light(theories.statements, last)
     kinds = compared(theories, found)
     equal, quantifiers, other = (len(kinds[key]) for key in ("equal", "quantifiers", "other"))
@@ -194,9 +217,9 @@ def compare(theories, last, all_of_them):
 
 
 def middle(texts):
-    """The place of a step in the middle of a file, and the same step with ALL_TAC in front: another text, by which the theorem stays."""
+    """The place of a step in the middle of a file, and another text of it, which proves T on the way: its theorem stays."""
     place = next(place for place in range(len(texts) // 2, len(texts)) if texts[place].startswith("e "))
-    return place, "e ALL_TAC THEN (" + texts[place][2:].strip() + ")"
+    return place, f"e SUBGOAL_THEN `T` ASSUME_TAC THENL [REWRITE_TAC []; {texts[place][2:].strip()}]"
 
 
 def costs(theories, program, rounds):
@@ -209,7 +232,6 @@ def costs(theories, program, rounds):
     place, text = middle(texts)
     theorem = max(at for at in range(place) if texts[at].startswith("g "))
     end = next(at for at in range(place, len(texts)) if texts[at] == "qed")
-    edit = [replace(place, text, name)]
     made = texts[theorem].split()[1].encode()
 
     def stands(reply):
@@ -219,8 +241,8 @@ def costs(theories, program, rounds):
     print("%-50s %11s %11s %14s %12s" % ("job", "time", "lines/s", "processor", "peak memory"))
     taken = [measure(program, [], whole, is_done, "the library", runs) for _ in range(rounds)]
     print(row("the library from nothing", len(whole), taken), flush=True)
-    taken = [measure(program, whole, edit, is_done, f"the step {place} of {name}", end - place + 1, shown) for _ in range(rounds)]
-    print(row(f"step {place} of {name}", 1, taken), flush=True)
+    taken = [measure(program, whole, [replace(place, text, name)], is_done, "the step", 1, shown) for _ in range(rounds)]
+    print(row(f"step {place} of {name}: it alone is run", 1, taken), flush=True)
 
 
 def main():
