@@ -18,6 +18,7 @@ import argparse
 import os
 import pathlib
 import re
+import statistics
 import subprocess
 import sys
 import tempfile
@@ -97,7 +98,7 @@ def behind_type(text, at):
             at += 1
             depth += (text[at] == "(") - (text[at] == ")")
         at += 1
-    at = re.compile(r"[A-Za-z0-9_']*").match(text, at).end()
+    at = re.compile(r"[A-Za-z0-9_']*(\s+(list|option)\b)*").match(text, at).end()
     arrow = re.compile(r"\s*->\s*").match(text, at)
     return behind_type(text, arrow.end()) if arrow else at
 
@@ -209,7 +210,7 @@ def compare(theories, last, all_of_them):
     kinds = compared(theories, found)
     equal, quantifiers, other = (len(kinds[key]) for key in ("equal", "quantifiers", "other"))
     print(f"{len(theories.statements)} statements, {len(found)} with a name of HOL Light's up to {last}")
-    print(f"{equal} equal, {quantifiers} but for outer quantifiers, {other} otherwise")
+    print(f"{equal} equal, {quantifiers} equal but for outer quantifiers, {other} otherwise")
     for key in ("quantifiers", "other") if all_of_them else ("other",):
         for name in kinds[key]:
             print(f"\n{name}\n  here       {theories.statements[name]}\n  HOL Light  {found[name][1]}")
@@ -242,7 +243,7 @@ def costs(theories, program, rounds):
     taken = [measure(program, [], whole, is_done, "the library", runs) for _ in range(rounds)]
     print(row("the library from nothing", len(whole), taken), flush=True)
     taken = [measure(program, whole, [replace(place, text, name)], is_done, "the step", 1, shown) for _ in range(rounds)]
-    print(row(f"step {place} of {name}: it alone is run", 1, taken), flush=True)
+    print(f"step {place} of {name}, which alone is run: {1000 * statistics.median(each[2] for each in taken):.2f} ms of processor time", flush=True)
 
 
 def main():
