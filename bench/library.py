@@ -4,12 +4,13 @@
     python3 bench/library.py [--last FILE] [--all]
     python3 bench/library.py --program PATH [--rounds N]
 
-The first needs HOL Light (Debian: apt-get install hol-light libnum-ocaml-dev), which is loaded up to FILE in some minutes; each statement that it has under one of
-our names is taken from its kernel's term. Both are compared as trees without types and without the names of bound and free variables, after the names of
-theories/README.md. It prints how many of our names are theorems there, how many of these are equal, how many are so but for their outer quantifiers, and the others
-with both statements (with --all those that differ by outer quantifiers too). The status is 1 where fewer than 200 are equal.
+The first needs HOL Light (Debian: apt-get install hol-light libnum-ocaml-dev), which is loaded up to FILE in some minutes; each statement that it has under
+one of our names is taken from its kernel's term. Both are compared as trees without types and without the names of bound and free variables, after the names
+of theories/README.md. It prints how many of our names are theorems there, how many of these are equal, how many are so but for their outer quantifiers, and
+the others with both statements (with --all those that differ by outer quantifiers too). The status is 1 where fewer than 200 are equal.
 
-The second measures the program PATH, crates/hol_serve/out/hol_serve: the library from nothing, and a change of a step in the middle of logic.hol whose theorem stays.
+The second measures the program PATH, crates/hol_serve/out/hol_serve: the library from nothing, and a change of a step in the middle of logic.hol whose
+theorem stays.
 
 Needs Python 3.8 and Linux, and nothing else.
 """
@@ -156,7 +157,7 @@ def script(names, last):
     """The lines that load HOL Light up to a file, and those that ask for the names behind each stage: what goes before the first, and the rest."""
     asked = SCRIPT + "".join(f'show "{name}" {name};;\n' for name in names)
     first, rest = [], []
-    for line in open(f"{HOL_LIGHT}/hol.ml", encoding="utf-8"):
+    for line in pathlib.Path(HOL_LIGHT, "hol.ml").read_text(encoding="utf-8").splitlines(keepends=True):
         (rest if rest else first).append(line)
         loaded = re.match(r'loads "(.*)";;', line)
         if loaded and loaded.group(1) in STAGES:
