@@ -9,25 +9,21 @@ use Rattle.hol_kernel.proofs.RuleLaws.{both_more}
 use mathlib.Core.Bool.{true≢false}
 use Rattle.hol_types.specs.Tree.{TypeTree}
 use Rattle.hol_types.specs.Equal.{type_eq}
-use Rattle.hol_types.specs.Fun.{fun_type}
 use Rattle.hol_terms.specs.Named.{var}
-use Rattle.hol_terms.specs.Nameless.{Nameless, fixed, lam, free_occurrences}
+use Rattle.hol_terms.specs.Nameless.{Nameless, free_occurrences}
 use Rattle.hol_terms.specs.Alpha.{alpha_eq}
 use Rattle.hol_terms.specs.Scoped.{binds}
 use Rattle.hol_subst.specs.Closing.{open_with}
 use Rattle.hol_subst.specs.Variant.{is_free_in}
 use Rattle.hol_formulas.specs.Equation.{bool_type}
-use Rattle.hol_formulas.specs.Formula.{Abstraction, connective_type, negation_type, quantifier_type, falsity, disjunction, implication, negation, equivalence, existential, is_falsity, is_disj, is_neg, dest_disj, dest_imp, dest_neg, dest_exists}
+use Rattle.hol_formulas.specs.Formula.{Abstraction, connective_type, negation_type, falsity, disjunction, implication, negation, equivalence, existential, is_falsity, is_disj, is_neg, dest_disj, dest_imp, dest_neg, dest_exists}
 use Rattle.hol_formulas.proofs.FormulaLaws.{dest_unary_is, dest_binary_is, dest_quantifier_is}
 use Rattle.hol_kernel.specs.Items.{Items}
 use Rattle.hol_kernel.specs.Sequent.{Sequent, sequent_of}
 use Rattle.hol_kernel.specs.Typing.{HasType, type_over, is_typed, has_type}
 use Rattle.hol_kernel.specs.Widening.{IsMonotone}
-use Rattle.hol_kernel.proofs.Stands.{some_is}
 use Rattle.hol_kernel.proofs.Subsets.{within_of_subset}
-use Rattle.hol_kernel.proofs.Variables.{known_typed}
 use Rattle.hol_kernel.proofs.Weaken.{typed_wider, has_type_more}
-use Rattle.hol_equal.proofs.Typings.{parts_typed}
 use Rattle.hol_equal.specs.Applied.{lhs, rhs, rand}
 use Rattle.hol_derived.specs.Applied.{with_right, with_left, by_cases, false_of, chosen, abstraction_in}
 use Rattle.hol_derived.proofs.RuleAnswers.{disj1_none, disj2_none, contr_other, contr_none, not_intro_none, not_intro_other, denies, and_none}
@@ -133,19 +129,6 @@ module _ (basis : Items) (e t : Nameless) (a : Sequent) where
 
     pub exists_gives : is_typed basis e ≡ true → has_type basis t x.domain ≡ true → alpha_eq (open_with t 0 x.body) a.concl ≡ true → exists_of basis e t a ≡ Some (sequent_of a.hyps e)
     exists_gives f p q = exists_test true true p q ∙ ap (λ k. cond k (Some (sequent_of a.hyps e)) None) f
-
--- a well typed existential quantification is a formula
-pub existential_typed : (basis : Items) (x : Abstraction) → is_typed basis (existential x) ≡ true → HasType basis (existential x) bool_type
-existential_typed basis x e = by (type_over basis (existential x)) refl e
-  where
-    by : (o : Option TypeTree) → type_over basis (existential x) ≡ o → is_some o ≡ true → type_over basis (existential x) ≡ Some bool_type
-    by None f h = absurd (true≢false (sym h))
-    by (Some s) f h =
-        let p = parts_typed basis (fixed (codes "?") (quantifier_type x.domain)) (lam x.base x.domain x.body) s f in
-        let q = known_typed basis (fixed (codes "?") (quantifier_type x.domain)) (fun_type p.domain s) p.function in
-        let is : quantifier_type x.domain ≡ fun_type p.domain s = some_is (quantifier_type x.domain) (fun_type p.domain s) q.1 in
-        let same : s ≡ bool_type = cc in
-        f ∙ ap Some same
 
 module _ (v : List ℕ × TypeTree) (a b : Sequent) where
   pub choose_none : dest_exists a.concl ≡ None → choose_of (var v) a b ≡ None

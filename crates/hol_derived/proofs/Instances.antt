@@ -9,11 +9,11 @@ use Rattle.hol_terms.specs.Named.{Named, var}
 use Rattle.hol_terms.specs.Nameless.{Nameless, free, fixed, app, nameless}
 use Rattle.hol_terms.specs.Alpha.{strip}
 use Rattle.hol_subst.specs.Shift.{shift}
-use Rattle.hol_subst.specs.Substitution.{term_subst, types_inst}
+use Rattle.hol_subst.specs.Substitution.{term_lookup, term_subst, types_inst}
 use Rattle.hol_subst.proofs.Closing.{IsClosed, shift_whole, eq_same}
 use Rattle.hol_subst.proofs.SortedSets.{map_of_set}
 use Rattle.hol_formulas.specs.Equation.{bool_type, equation}
-use Rattle.hol_formulas.specs.Formula.{quantifier_type, truth, falsity, negation, conjunction, disjunction, implication, equivalence}
+use Rattle.hol_formulas.specs.Formula.{quantifier_type, truth, falsity, negation, conjunction, disjunction, implication, equivalence, universal}
 use Rattle.hol_formulas.specs.Constants.{var_a}
 use Rattle.hol_formulas.specs.Prelude.{boolean}
 use Rattle.hol_formulas.proofs.EquationTypes.{type_eq_itself}
@@ -25,10 +25,10 @@ use Rattle.hol_kernel.specs.Rules.{sequent_image, inst_of}
 use Rattle.hol_kernel.proofs.HypothesisLists.{hyps_total, hyps_same}
 use Rattle.hol_equal.proofs.HypSets.{none_right}
 use Rattle.hol_derived.specs.Applied.{constantly_true}
-use Rattle.hol_derived.specs.Unfolded.{letter, predicate}
-use Rattle.hol_derived.specs.Lemmas.{hypothesis, conclusion, lemma_at, general, put, put_predicate}
+use Rattle.hol_derived.specs.Unfolded.{letter, predicate, of_witness, exists_in, implied_by_all, either_for_all}
+use Rattle.hol_derived.specs.Lemmas.{hypothesis, conclusion, lemma_at, general, put, put_predicate, put_at}
 use Rattle.hol_derived.specs.declared.lemma.Lemma.{Lemma}
-use Rattle.hol_derived.specs.declared.lemma.Lemma.TheVariants.{EqtIntro, Conj, Conjunct1, Conjunct2, Mp, Disch, Disj1, Disj2, Contr, NotIntro, Gen}
+use Rattle.hol_derived.specs.declared.lemma.Lemma.TheVariants.{EqtIntro, Conj, Conjunct1, Conjunct2, Mp, Disch, Disj1, Disj2, Contr, NotIntro, Gen, DisjCases, Spec, Exists, Choose}
 use Rattle.hol_derived.proofs.Disjunctions.{one_removed}
 
 -- what a map makes of one hypothesis
@@ -60,6 +60,10 @@ module _ (p q : Nameless) (c : IsClosed 0 p) (d : IsClosed 0 q) where
   assumed_is Contr = refl
   assumed_is NotIntro = λ i. strip (implication (first i) falsity)
   assumed_is Gen = refl
+  assumed_is DisjCases = λ i. strip (disjunction (first i) (second i))
+  assumed_is Spec = refl
+  assumed_is Exists = refl
+  assumed_is Choose = refl
 
   concluded_is : (which : Lemma) → given (conclusion which (letter (codes "p")) (letter (codes "q"))) ≡ conclusion which p q
   unfolding given
@@ -74,6 +78,10 @@ module _ (p q : Nameless) (c : IsClosed 0 p) (d : IsClosed 0 q) where
   concluded_is Contr = first
   concluded_is NotIntro = λ i. negation (first i)
   concluded_is Gen = refl
+  concluded_is DisjCases = λ i. universal (either_for_all (shift_whole 1 0 p c i) (shift_whole 1 0 q d i))
+  concluded_is Spec = refl
+  concluded_is Exists = refl
+  concluded_is Choose = refl
 
   pub instance_is : (which : Lemma) → put p q (general which) ≡ lemma_at which p q
   unfolding given
@@ -108,6 +116,18 @@ module _ (a : TypeTree) (f : Nameless) (c : IsClosed 0 f) where
   unfolding at at_type
   found = ap (λ k. shift 0 0 (unwrap_or (cond k (Some f) None) (free (codes "P", fun_type a bool_type)))) (eq_same (codes "P", fun_type a bool_type)) ∙ shift_whole 0 0 f c
 
+  -- the same under two binders
+  found_inside : term_subst ((f, (codes "P", fun_type a bool_type)) ∷ []) 2 at_type ≡ f
+  unfolding at_type
+  found_inside = ap (λ k. shift 2 0 (unwrap_or (cond k (Some f) None) (free (codes "P", fun_type a bool_type)))) (eq_same (codes "P", fun_type a bool_type)) ∙ shift_whole 2 0 f c
+
+  pub choice_is : put_predicate a f (general Choose) ≡ sequent_of (only_hyp (exists_in a f)) (universal (implied_by_all a f))
+  unfolding at at_type
+  choice_is =
+      (λ i. sequent_of (hyps_image at (image_one (types_inst ((a, codes "A") ∷ [])) (exists_in var_a predicate) i)) (universal (implied_by_all a (found_inside i))))
+      ∙ (λ i. sequent_of ((image_one at (exists_in a at_type)) i) (universal (implied_by_all a f)))
+      ∙ (λ i. sequent_of (only_hyp (exists_in a (found i))) (universal (implied_by_all a f)))
+
   pub generalization_is :
       put_predicate a f (general Gen) ≡ sequent_of (only_hyp (equation (fun_type a bool_type) f (constantly_true a))) (app (fixed (codes "!") (quantifier_type a)) f)
   unfolding at at_type
@@ -115,6 +135,52 @@ module _ (a : TypeTree) (f : Nameless) (c : IsClosed 0 f) where
       (λ i. sequent_of (hyps_image at (image_one (types_inst ((a, codes "A") ∷ [])) (equation (fun_type var_a bool_type) predicate (constantly_true var_a)) i)) (app (fixed (codes "!") (quantifier_type a)) (found i)))
       ∙ (λ i. sequent_of ((image_one at (equation (fun_type a bool_type) at_type (constantly_true a))) i) (app (fixed (codes "!") (quantifier_type a)) f))
       ∙ (λ i. sequent_of (only_hyp (equation (fun_type a bool_type) (found i) (constantly_true a))) (app (fixed (codes "!") (quantifier_type a)) f))
+
+-- ---- a predicate for P, and a term for x
+
+-- f for P, of properties of what has the type a, and t for x
+abbrev pub with_member : TypeTree → Nameless → Nameless → Sequent → Sequent
+with_member a f t s = sequent_image (term_subst ((f, (codes "P", fun_type a bool_type)) ∷ (t, (codes "x", a)) ∷ []) 0) s
+
+pub member_fits : (basis : Items) (a : TypeTree) (f t : Named) (s : Sequent) → HasType basis (nameless [] f) (fun_type a bool_type) → HasType basis (nameless [] t) a → inst_of basis ((f, var (codes "P", fun_type a bool_type)) ∷ (t, var (codes "x", a)) ∷ []) s ≡ Some (with_member a (nameless [] f) (nameless [] t) s)
+member_fits basis a f t s typed also =
+    (λ i. cond (is_type_at (typed i) (fun_type a bool_type) && (is_type_at (also i) a && true)) (Some (with_member a (nameless [] f) (nameless [] t) s)) None)
+    ∙ (λ i. cond (type_eq_itself (fun_type a bool_type) i && (type_eq_itself a i && true)) (Some (with_member a (nameless [] f) (nameless [] t) s)) None)
+
+module _ (a : TypeTree) (f t : Nameless) (c : IsClosed 0 f) (d : IsClosed 0 t) where
+  both : Nameless → Nameless
+  both u = term_subst ((f, (codes "P", fun_type a bool_type)) ∷ (t, (codes "x", a)) ∷ []) 0 u
+
+  -- P and x at the type
+  property_there : Nameless
+  property_there = free (codes "P", fun_type a bool_type)
+
+  member_there : Nameless
+  member_there = free (codes "x", a)
+
+  property_found : both property_there ≡ f
+  unfolding both property_there
+  property_found =
+      ap (λ k. shift 0 0 (unwrap_or (cond k (Some f) (term_lookup ((t, (codes "x", a)) ∷ []) (codes "P", fun_type a bool_type))) (free (codes "P", fun_type a bool_type)))) (eq_same (codes "P", fun_type a bool_type))
+      ∙ shift_whole 0 0 f c
+
+  member_found : both member_there ≡ t
+  unfolding both member_there
+  member_found = ap (λ k. shift 0 0 (unwrap_or (cond k (Some t) None) (free (codes "x", a)))) (eq_same (codes "x", a)) ∙ shift_whole 0 0 t d
+
+  pub specialization_is : put_at a f t (general Spec) ≡ sequent_of (only_hyp (app (fixed (codes "!") (quantifier_type a)) f)) (app f t)
+  unfolding both property_there member_there
+  specialization_is =
+      (λ i. sequent_of (hyps_image both (image_one (types_inst ((a, codes "A") ∷ [])) (app (fixed (codes "!") (quantifier_type var_a)) predicate) i)) (app (property_found i) (member_found i)))
+      ∙ (λ i. sequent_of ((image_one both (app (fixed (codes "!") (quantifier_type a)) property_there)) i) (app f t))
+      ∙ (λ i. sequent_of (only_hyp (app (fixed (codes "!") (quantifier_type a)) (property_found i))) (app f t))
+
+  pub existence_is : put_at a f t (general Exists) ≡ sequent_of (only_hyp (app f t)) (exists_in a f)
+  unfolding both property_there member_there
+  existence_is =
+      (λ i. sequent_of (hyps_image both (image_one (types_inst ((a, codes "A") ∷ [])) of_witness i)) (exists_in a (property_found i)))
+      ∙ (λ i. sequent_of ((image_one both (app property_there member_there)) i) (exists_in a f))
+      ∙ (λ i. sequent_of (only_hyp (app (property_found i) (member_found i))) (exists_in a f))
 
 -- ---- what is left of hypotheses
 
@@ -140,6 +206,20 @@ refuted o some is = true≢false (sym some ∙ ap is_some is)
 pub gives_by : {E : Type 0} (r : Result Theorem E) (t : Theorem) (basis : Items) (o : Option Sequent) (s : Sequent) → IfOk r (λ th. th ≡ t) → t ≡ theorem_on basis s → o ≡ Some s → IfOk r (λ th. over basis o ≡ Some th)
 gives_by (Ok th) t basis o s given is gives = ap (over basis) gives ∙ ap Some (sym (given ∙ is))
 gives_by (Err e) t basis o s given is gives = given
+
+-- what a rule gives, it gives where it applies
+pub applies_by : (basis : Items) (o : Option Sequent) (s : Sequent) → o ≡ Some s → IsSome (over basis o)
+applies_by basis o s gives = ap (λ (x : Option Sequent). is_some (over basis x)) gives
+
+pub gave_by : (basis : Items) (o : Option Sequent) (s : Sequent) (th : Theorem) → o ≡ Some s → over basis o ≡ Some th → th ≡ theorem_on basis s
+gave_by basis o s th gives given =
+    let same : Some (theorem_on basis s) ≡ Some th = sym (ap (over basis) gives) ∙ given in
+    let is : theorem_on basis s ≡ th = cc in
+    sym is
+
+pub given_by : {E : Type 0} (r : Result Theorem E) (basis : Items) (o : Option Sequent) (s : Sequent) → o ≡ Some s → IfOk r (λ th. over basis o ≡ Some th) → IfOk r (λ th. th ≡ theorem_on basis s)
+given_by (Ok th) basis o s gives given = gave_by basis o s th gives given
+given_by (Err e) basis o s gives given = given
 
 -- over the same items, what is the same term has its type
 pub typed_at : (own basis : Items) (u t : Nameless) → own ≡ basis → u ≡ t → HasType basis t bool_type → HasType own u bool_type

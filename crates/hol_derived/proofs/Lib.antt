@@ -8,3 +8,5 @@ pub mod Chains
 pub mod RuleAnswers
 pub mod Instances
 pub mod LemmaHypotheses
+pub mod GeneralTheorems
+pub mod Applying

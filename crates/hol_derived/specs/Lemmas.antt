@@ -5,7 +5,7 @@ use Rattle.hol_types.specs.Tree.{TypeTree}
 use Rattle.hol_types.specs.Fun.{fun_type}
 use Rattle.hol_terms.specs.Nameless.{Nameless, fixed, app}
 use Rattle.hol_formulas.specs.Equation.{bool_type, equation}
-use Rattle.hol_formulas.specs.Formula.{quantifier_type, truth, falsity, negation, conjunction, disjunction, implication, equivalence}
+use Rattle.hol_formulas.specs.Formula.{quantifier_type, truth, falsity, negation, conjunction, disjunction, implication, equivalence, universal}
 use Rattle.hol_formulas.specs.Constants.{var_a}
 use Rattle.hol_formulas.specs.Prelude.{boolean}
 use Rattle.hol_subst.specs.Substitution.{term_subst, types_inst}
@@ -14,9 +14,9 @@ use Rattle.hol_kernel.specs.Rules.{sequent_image}
 use Rattle.hol_kernel.specs.Theorem.{Theorem, theorem_on}
 use Rattle.hol_kernel.specs.Sequent.{only_hyp, Sequent, sequent_of}
 use Rattle.hol_derived.specs.Applied.{constantly_true}
-use Rattle.hol_derived.specs.Unfolded.{letter, predicate}
+use Rattle.hol_derived.specs.Unfolded.{letter, predicate, of_witness, exists_in, implied_by_all, either_for_all}
 use Rattle.hol_derived.specs.declared.lemma.Lemma.{Lemma}
-use Rattle.hol_derived.specs.declared.lemma.Lemma.TheVariants.{EqtIntro, Conj, Conjunct1, Conjunct2, Mp, Disch, Disj1, Disj2, Contr, NotIntro, Gen}
+use Rattle.hol_derived.specs.declared.lemma.Lemma.TheVariants.{EqtIntro, Conj, Conjunct1, Conjunct2, Mp, Disch, Disj1, Disj2, Contr, NotIntro, Gen, DisjCases, Spec, Exists, Choose}
 
 abbrev pub hypothesis : Lemma → Nameless → Nameless → Nameless
 hypothesis EqtIntro p q = p
@@ -30,6 +30,10 @@ hypothesis Disj2 p q = q
 hypothesis Contr p q = falsity
 hypothesis NotIntro p q = implication p falsity
 hypothesis Gen p q = equation (fun_type var_a bool_type) predicate (constantly_true var_a)
+hypothesis DisjCases p q = disjunction p q
+hypothesis Spec p q = app (fixed (codes "!") (quantifier_type var_a)) predicate
+hypothesis Exists p q = of_witness
+hypothesis Choose p q = exists_in var_a predicate
 
 abbrev pub conclusion : Lemma → Nameless → Nameless → Nameless
 conclusion EqtIntro p q = equivalence p truth
@@ -43,6 +47,10 @@ conclusion Disj2 p q = disjunction p q
 conclusion Contr p q = p
 conclusion NotIntro p q = negation p
 conclusion Gen p q = app (fixed (codes "!") (quantifier_type var_a)) predicate
+conclusion DisjCases p q = universal (either_for_all p q)
+conclusion Spec p q = of_witness
+conclusion Exists p q = exists_in var_a predicate
+conclusion Choose p q = universal (implied_by_all var_a predicate)
 
 abbrev pub lemma_at : Lemma → Nameless → Nameless → Sequent
 lemma_at which p q = sequent_of (only_hyp (hypothesis which p q)) (conclusion which p q)
@@ -62,3 +70,7 @@ put p q a = sequent_image (term_subst ((p, boolean (codes "p")) ∷ (q, boolean 
 -- a predicate f on the type a for P:A->bool, in a sequent
 abbrev pub put_predicate : TypeTree → Nameless → Sequent → Sequent
 put_predicate a f s = sequent_image (term_subst ((f, (codes "P", fun_type a bool_type)) ∷ []) 0) (sequent_image (types_inst ((a, codes "A") ∷ [])) s)
+
+-- and a term t of the type for x:A
+abbrev pub put_at : TypeTree → Nameless → Nameless → Sequent → Sequent
+put_at a f t s = sequent_image (term_subst ((f, (codes "P", fun_type a bool_type)) ∷ (t, (codes "x", a)) ∷ []) 0) (sequent_image (types_inst ((a, codes "A") ∷ [])) s)

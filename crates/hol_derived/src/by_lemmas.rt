@@ -208,8 +208,13 @@ impl Lemmas {
         prove_hyp(alloc, constant, &own)
     }
 
-    // GEN: from `p`, `!v. p`, for a variable of a type over the basis that is free in no hypothesis.
-    fn for_each(&mut self, alloc: Global, v: &Variable, a: &Thm) -> Result<Thm, AllocError>
+    /// GEN: from `p`, `!v. p`, for a variable of a type over the basis that is free in no hypothesis.
+    pub(crate) fn for_each(
+        &mut self,
+        alloc: Global,
+        v: &Variable,
+        a: &Thm,
+    ) -> Result<Thm, AllocError>
         requires one_basis { self.old ≡ a.now.basis }
         requires stands { is_type a.now.basis v.now.1 ≡ true }
         requires absent { is_free_in (set.items a.now.sequent.hyps) v.now ≡ false }

@@ -153,8 +153,8 @@ fn both_ways(alloc: Global, basis: &Basis, side: Side) -> Result<Thm, AllocError
     from_rule(alloc, "p", &inner)
 }
 
-// What the definition of `\/` says of the variables `p` and `q`.
-fn or_at_letters(alloc: Global, basis: &Basis) -> Result<Thm, AllocError>
+/// What the definition of `\/` says of the variables `p` and `q`.
+pub(crate) fn or_at_letters(alloc: Global, basis: &Basis) -> Result<Thm, AllocError>
     ensures { IfOk result (λ th. th ≡ theorem_on basis.now (or_unfolded (letter (codes "p")) (letter (codes "q")))) }
 {
     let p = letter(alloc, "p")?;

@@ -38,8 +38,8 @@ pub(crate) fn exists_at(alloc: Global, basis: &Basis, ty: &Ty, f: &Term) -> Resu
     unfold_quantifier(alloc, &general, ty, f)
 }
 
-// From `s` with `t` for `x`, `(\x. s) t`, where `f` is the abstraction.
-fn expanded(alloc: Global, a: &Thm, f: &Term, t: &Term) -> Result<Thm, AllocError>
+/// From `s` with `t` for `x`, `(\x. s) t`, where `f` is the abstraction.
+pub(crate) fn expanded(alloc: Global, a: &Thm, f: &Term, t: &Term) -> Result<Thm, AllocError>
     requires function { nameless [] f.now ≡ abstraction_term (abstraction_in (nameless [] f.now)) }
     requires typed { HasType a.now.basis (app (nameless [] f.now) (nameless [] t.now)) bool_type }
     requires fits { strip (open_with (nameless [] t.now) 0 (abstraction_in (nameless [] f.now)).body) ≡ strip a.now.sequent.concl }
@@ -90,8 +90,13 @@ fn antecedents(alloc: Global, equal: &Thm, t: &Term) -> Result<Thm, AllocError>
     ap_thm(alloc, &applied, &truth, t)
 }
 
-// From `l = r` and `r ==> t`, `l ==> t`.
-fn with_antecedent(alloc: Global, equal: &Thm, a: &Thm, t: &Term) -> Result<Thm, AllocError>
+/// From `l = r` and `r ==> t`, `l ==> t`.
+pub(crate) fn with_antecedent(
+    alloc: Global,
+    equal: &Thm,
+    a: &Thm,
+    t: &Term,
+) -> Result<Thm, AllocError>
     requires one_basis { equal.now.basis ≡ a.now.basis }
     requires is { equal.now.sequent.concl ≡ equation bool_type (lhs equal.now.sequent.concl) (rhs equal.now.sequent.concl) }
     requires typed { HasType equal.now.basis (nameless [] t.now) bool_type }

@@ -2,28 +2,31 @@
 ghost use Rattle.std.specs.Prelude.{◌≡◌, IfOk, codes, Some};
 ghost use Rattle.std.specs.FinSet as set;
 ghost use Rattle.hol_terms.specs.Named.{var, named_type};
-ghost use Rattle.hol_formulas.specs.Equation.{bool_type};
-ghost use Rattle.hol_formulas.specs.Formula.{conjunction, implication, equivalence};
+ghost use Rattle.hol_terms.specs.Nameless.{app, fixed};
+ghost use Rattle.hol_types.specs.Fun.{fun_type};
+ghost use Rattle.hol_formulas.specs.Constants.{var_a};
+ghost use Rattle.hol_formulas.specs.Equation.{bool_type, equation};
+ghost use Rattle.hol_formulas.specs.Formula.{conjunction, implication, equivalence, quantifier_type};
 ghost use Rattle.hol_formulas.specs.Making.{mk_conj, mk_imp};
 ghost use Rattle.hol_formulas.specs.Prelude.{boolean};
 ghost use Rattle.hol_kernel.specs.Sequent.{no_hyps, only_hyp, sequent_of};
 ghost use Rattle.hol_kernel.specs.Theorem.{theorem_on};
 ghost use Rattle.hol_equal.specs.Applied.{lhs, rhs};
-ghost use Rattle.hol_derived.specs.Applied.{imp_unfolded, discharged};
+ghost use Rattle.hol_derived.specs.Applied.{imp_unfolded, discharged, constantly_true};
 ghost use Rattle.hol_derived.specs.Lemmas.{general};
-ghost use Rattle.hol_derived.specs.Unfolded.{letter};
+ghost use Rattle.hol_derived.specs.Unfolded.{letter, predicate};
 
 use crate::conjunction;
-use crate::definitions::forall_at;
-use crate::disjunction::{Side, assumed_letter, from_side};
+use crate::definitions::{forall_at, unfold};
+use crate::disjunction::{Side, assumed_letter, from_side, or_at_letters};
 use crate::equations::eq_mp_sym;
 use crate::falsity::{from_falsity, not_at};
 use crate::implication::{self, first_of, imp_at, with_first};
 use crate::letters::letter;
-use crate::truth::true_if_assumed;
-use crate::witness::{element_type, property_term};
-use hol_equal::applied::{assume, sides_of, sym};
-use hol_formulas::{mk_conj, mk_imp};
+use crate::truth::{eqt_elim, true_if_assumed};
+use crate::witness::{element_term, element_type, exists_at_property, from_witness, property_term};
+use hol_equal::applied::{assume, eq_mp, sides_of, sym};
+use hol_formulas::{bool_type, mk_conj, mk_imp};
 use hol_kernel::{Basis, Thm};
 use hol_terms::Term;
 use std::alloc::{AllocError, Global};
@@ -53,7 +56,34 @@ pub(crate) enum Lemma {
     NotIntro,
     /// `{P = (\x:A. T)} |- (!) P`.
     Gen,
+    /// `{p \/ q} |- !r. (p ==> r) ==> (q ==> r) ==> r`.
+    DisjCases,
+    /// `{(!) P} |- P (x:A)`.
+    Spec,
+    /// `{P (x:A)} |- (?) P`.
+    Exists,
+    /// `{(?) P} |- !q. (!x:A. P x ==> q) ==> q`.
+    Choose,
 }
+
+/// The general theorems, those that are used most first.
+pub(crate) const LEMMAS: [Lemma; 15] = [
+    Lemma::Mp,
+    Lemma::Conj,
+    Lemma::Conjunct1,
+    Lemma::Conjunct2,
+    Lemma::Disch,
+    Lemma::Spec,
+    Lemma::EqtIntro,
+    Lemma::Gen,
+    Lemma::Exists,
+    Lemma::Choose,
+    Lemma::DisjCases,
+    Lemma::Disj1,
+    Lemma::Disj2,
+    Lemma::Contr,
+    Lemma::NotIntro,
+];
 
 /// Derives a general theorem over the basis.
 pub(crate) fn derived(alloc: Global, basis: &Basis, which: Lemma) -> Result<Thm, AllocError>
@@ -71,6 +101,10 @@ pub(crate) fn derived(alloc: Global, basis: &Basis, which: Lemma) -> Result<Thm,
         Lemma::Contr => contr(alloc, basis),
         Lemma::NotIntro => not_intro(alloc, basis),
         Lemma::Gen => generalization(alloc, basis),
+        Lemma::DisjCases => disj_cases(alloc, basis),
+        Lemma::Spec => specialization(alloc, basis),
+        Lemma::Exists => from_witness(alloc, basis),
+        Lemma::Choose => choice(alloc, basis),
     }
 }
 
@@ -225,4 +259,55 @@ fn generalization(alloc: Global, basis: &Basis) -> Result<Thm, AllocError>
     let p = property_term(alloc)?;
     let equal = forall_at(alloc, basis, &ty, &p)?;
     assumed_right(alloc, &equal)
+}
+
+// From `l <=> r`, `r` under the hypothesis `l`.
+fn assumed_left(alloc: Global, equal: &Thm) -> Result<Thm, AllocError>
+    requires is { equal.now.sequent ≡ sequent_of no_hyps (equivalence (lhs equal.now.sequent.concl) (rhs equal.now.sequent.concl)) }
+    ensures { IfOk result (λ th. th ≡ theorem_on equal.now.basis (sequent_of (only_hyp (lhs equal.now.sequent.concl)) (rhs equal.now.sequent.concl))) }
+{
+    equal.well_typed();
+    let Some(sides) = sides_of(equal) else {
+        unreachable!()
+    };
+    let assumed = assume(alloc, equal.basis(), sides.left)?;
+    eq_mp(alloc, equal, &assumed)
+}
+
+// `{p \/ q} |- !r. (p ==> r) ==> (q ==> r) ==> r`.
+fn disj_cases(alloc: Global, basis: &Basis) -> Result<Thm, AllocError>
+    ensures { IfOk result (λ th. th ≡ theorem_on basis.now (general Lemma.DisjCases)) }
+{
+    let equal = or_at_letters(alloc, basis)?;
+    assumed_left(alloc, &equal)
+}
+
+// `{(?) P} |- !q. (!x:A. P x ==> q) ==> q`.
+fn choice(alloc: Global, basis: &Basis) -> Result<Thm, AllocError>
+    ensures { IfOk result (λ th. th ≡ theorem_on basis.now (general Lemma.Choose)) }
+{
+    let equal = exists_at_property(alloc, basis)?;
+    assumed_left(alloc, &equal)
+}
+
+// `{(!) P} |- P = (\x:A. T)`.
+fn constant_property(alloc: Global, basis: &Basis) -> Result<Thm, AllocError>
+    ensures { IfOk result (λ th. th ≡ theorem_on basis.now (sequent_of (only_hyp (app (fixed (codes "!") (quantifier_type var_a)) predicate)) (equation (fun_type var_a bool_type) predicate (constantly_true var_a)))) }
+{
+    let ty = element_type(alloc)?;
+    let p = property_term(alloc)?;
+    let equal = forall_at(alloc, basis, &ty, &p)?;
+    assumed_left(alloc, &equal)
+}
+
+// `{(!) P} |- P (x:A)`.
+fn specialization(alloc: Global, basis: &Basis) -> Result<Thm, AllocError>
+    ensures { IfOk result (λ th. th ≡ theorem_on basis.now (general Lemma.Spec)) }
+{
+    let constant = constant_property(alloc, basis)?;
+    let ty = element_type(alloc)?;
+    let truth = bool_type(alloc)?;
+    let x = element_term(alloc)?;
+    let holds = unfold(alloc, &constant, &ty, &truth, &x)?;
+    eqt_elim(alloc, &holds)
 }

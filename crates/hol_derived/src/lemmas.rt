@@ -6,13 +6,14 @@ ghost use Rattle.hol_terms.specs.Nameless.{nameless};
 ghost use Rattle.hol_formulas.specs.Equation.{bool_type};
 ghost use Rattle.hol_formulas.specs.Prelude.{boolean};
 ghost use Rattle.hol_subst.specs.Substitution.{term_subst};
+ghost use Rattle.hol_kernel.specs.Items.{IsSubset, no_items};
 ghost use Rattle.hol_kernel.specs.Rules.{sequent_image};
 ghost use Rattle.hol_kernel.specs.Sequent.{only_hyp, sequent_of};
 ghost use Rattle.hol_kernel.specs.Theorem.{theorem_on};
 ghost use Rattle.hol_kernel.specs.Typing.{HasType, is_type};
-ghost use Rattle.hol_derived.specs.Lemmas.{hypothesis, conclusion, lemma_at, general, put, put_predicate};
+ghost use Rattle.hol_derived.specs.Lemmas.{hypothesis, conclusion, lemma_at, general, put, put_predicate, put_at};
 
-use crate::lemma::{Lemma, derived};
+use crate::lemma::{LEMMAS, Lemma, derived};
 use crate::letters::letter;
 use hol_equal::applied::{inst_type, prove_hyp, unrefused};
 use hol_formulas::{bool_type, occurrence, variable};
@@ -23,7 +24,7 @@ use std::alloc::{AllocError, Global};
 use std::marker::Model;
 
 /// The general theorems of the rules over one basis. Each is derived when a rule first needs it, and then kept, so that who uses many rules pays for their
-/// derivations once.
+/// derivations once; who works over many bases has them all made over no items, and brings them to each.
 #[derive(Drop)]
 pub struct Lemmas {
     basis: Basis,
@@ -49,6 +50,33 @@ impl Lemmas {
         ensures { IfOk result (λ lemmas. lemmas ≡ basis.now) }
     {
         let made = Vec::new(alloc);
+        Ok(Lemmas {
+            basis: basis.copy()?,
+            made,
+        })
+    }
+
+    /// Those of no items, all of them made.
+    pub fn all(alloc: Global) -> Result<Lemmas, AllocError>
+        ensures { IfOk result (λ lemmas. lemmas ≡ no_items) }
+    {
+        let none = Basis::empty(alloc)?;
+        let mut lemmas = Lemmas::new(alloc, &none)?;
+        for which in &LEMMAS {
+            let _made = lemmas.get(alloc, *which)?;
+        }
+        Ok(lemmas)
+    }
+
+    /// Those of a basis that contains theirs: what was made is made.
+    pub fn widen(&self, alloc: Global, basis: &Basis) -> Result<Lemmas, AllocError>
+        requires within { IsSubset self.now basis.now }
+        ensures { IfOk result (λ lemmas. lemmas ≡ basis.now) }
+    {
+        let mut made = Vec::with_capacity(alloc, self.made.len())?;
+        for entry in &self.made {
+            made.push((entry.0, entry.1.widen(basis)?))?;
+        }
         Ok(Lemmas {
             basis: basis.copy()?,
             made,
@@ -174,4 +202,54 @@ pub(crate) fn with_predicate(alloc: Global, a: &Thm, ty: &Ty, f: &Term) -> Resul
 {
     let own = inst_type(alloc, ty, "A", a)?;
     with_property(alloc, &own, ty, f)
+}
+
+// `x`, of the type.
+fn member_at(alloc: Global, ty: &Ty) -> Result<Term, AllocError>
+    ensures { IfOk result (λ t. t ≡ var (codes "x", ty.now)) }
+{
+    let v = variable(alloc, "x", ty)?;
+    occurrence(alloc, &v)
+}
+
+// The predicate beside `P`, and the term beside `x`.
+fn beside_member(
+    alloc: Global,
+    ty: &Ty,
+    f: &Term,
+    t: &Term,
+) -> Result<Vec<(Term, Term)>, AllocError>
+    ensures { IfOk result (λ pairs. pairs.items ≡ (f.now, var (codes "P", fun_type ty.now bool_type)) ∷ (t.now, var (codes "x", ty.now)) ∷ []) }
+{
+    let mut pairs = Vec::with_capacity(alloc, 2)?;
+    pairs.push((f.copy()?, property_at(alloc, ty)?))?;
+    pairs.push((t.copy()?, member_at(alloc, ty)?))?;
+    Ok(pairs)
+}
+
+// INST: the theorem with the predicate for `P`, of properties of what has the type, and the term for `x`.
+fn with_member(alloc: Global, a: &Thm, ty: &Ty, f: &Term, t: &Term) -> Result<Thm, AllocError>
+    requires function { HasType a.now.basis (nameless [] f.now) (fun_type ty.now bool_type) }
+    requires argument { HasType a.now.basis (nameless [] t.now) ty.now }
+    ensures { IfOk result (λ th. th ≡ theorem_on a.now.basis (sequent_image (term_subst ((nameless [] f.now, (codes "P", fun_type ty.now bool_type)) ∷ (nameless [] t.now, (codes "x", ty.now)) ∷ []) 0) a.now.sequent)) }
+{
+    let pairs = beside_member(alloc, ty, f, t)?;
+    unrefused(Thm::inst(alloc, &pairs, a))
+}
+
+/// INST_TYPE and INST: the theorem with the type for `A`, the predicate on it for `P`, and the term for `x`.
+pub(crate) fn with_witness(
+    alloc: Global,
+    a: &Thm,
+    ty: &Ty,
+    f: &Term,
+    t: &Term,
+) -> Result<Thm, AllocError>
+    requires stands { is_type a.now.basis ty.now ≡ true }
+    requires function { HasType a.now.basis (nameless [] f.now) (fun_type ty.now bool_type) }
+    requires argument { HasType a.now.basis (nameless [] t.now) ty.now }
+    ensures { IfOk result (λ th. th ≡ theorem_on a.now.basis (put_at ty.now (nameless [] f.now) (nameless [] t.now) a.now.sequent)) }
+{
+    let own = inst_type(alloc, ty, "A", a)?;
+    with_member(alloc, &own, ty, f, t)
 }

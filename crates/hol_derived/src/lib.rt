@@ -8,8 +8,10 @@ mod by_lemmas;
 mod conjunction;
 mod definitions;
 mod disjunction;
+mod disjunction_by_lemmas;
 mod equations;
 mod existential;
+mod existential_by_lemmas;
 mod falsity;
 mod implication;
 mod lemma;
@@ -17,6 +19,7 @@ mod lemmas;
 mod letters;
 mod truth;
 mod universal;
+mod universal_by_lemmas;
 mod witness;
 
 pub use definitions::unfold;

@@ -60,8 +60,8 @@ fn property(alloc: Global) -> Result<Variable, AllocError>
     variable(alloc, "P", &ty)
 }
 
-// `x:A`, as a term.
-fn element_term(alloc: Global) -> Result<Term, AllocError>
+/// `x:A`, as a term.
+pub(crate) fn element_term(alloc: Global) -> Result<Term, AllocError>
     ensures is { IfOk result (λ t. t ≡ var (element (codes "x"))) }
     ensures typed { IfOk result (λ t. named_type t ≡ Some var_a) }
 {
@@ -158,8 +158,8 @@ fn implied(alloc: Global, basis: &Basis) -> Result<Thm, AllocError>
     for_every(alloc, "q", &implies)
 }
 
-// What the definition of `?` says of `P`.
-fn exists_at_property(alloc: Global, basis: &Basis) -> Result<Thm, AllocError>
+/// What the definition of `?` says of `P`.
+pub(crate) fn exists_at_property(alloc: Global, basis: &Basis) -> Result<Thm, AllocError>
     ensures { IfOk result (λ th. th ≡ theorem_on basis.now (exists_unfolded var_a predicate)) }
 {
     let ty = element_type(alloc)?;
@@ -176,8 +176,8 @@ fn folded(alloc: Global, a: &Thm) -> Result<Thm, AllocError>
     eq_mp_sym(alloc, &own, a)
 }
 
-// `(?) P` under the hypothesis `P x`.
-fn from_witness(alloc: Global, basis: &Basis) -> Result<Thm, AllocError>
+/// `(?) P` under the hypothesis `P x`.
+pub(crate) fn from_witness(alloc: Global, basis: &Basis) -> Result<Thm, AllocError>
     ensures { IfOk result (λ th. th ≡ theorem_on basis.now (sequent_of (only_hyp of_witness) (exists_in var_a predicate))) }
 {
     let every = implied(alloc, basis)?;

@@ -13,7 +13,7 @@ use Rattle.hol_kernel.specs.Items.{Items}
 use Rattle.hol_kernel.specs.Sequent.{Hyps, only_hyp, Sequent, sequent_of}
 use Rattle.hol_kernel.specs.Typing.{HasType}
 use Rattle.hol_kernel.proofs.Declared.{has_type_is, has_type_of}
-use Rattle.hol_bool.specs.Rules.{conj_of, disch_of, undisch_of, not_intro_of, mp_of, disj1_of, disj2_of, contr_of}
+use Rattle.hol_derived.specs.Rules.{conj_of, disch_of, undisch_of, not_intro_of, mp_of, disj1_of, disj2_of, contr_of}
 use Rattle.hol_goal.specs.Achieves.{assumed, Achieves}
 use Rattle.hol_just.specs.Reasons.{conjoined, left_disjunct}
 use Rattle.hol_just.specs.Justifies.{goal_at, always, holds_formula, SplitsConjunction, LeavesLeft, LeavesRight, LeavesConsequent, UnfoldsNegation, TakesOut, SplitsByImplication, LeavesFalsity}

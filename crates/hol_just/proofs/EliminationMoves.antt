@@ -15,7 +15,7 @@ use Rattle.hol_kernel.proofs.Declared.{has_type_is}
 use Rattle.hol_kernel.proofs.Variables.{known_typed, variable_typed}
 use Rattle.hol_kernel.proofs.WellTyped.{own_type_stands, sides_typed, equation_of}
 use Rattle.hol_equal.specs.Rules.{sym_of, m_with}
-use Rattle.hol_bool.specs.Rules.{conjunct1_of, conjunct2_of, disj_cases_of, spec_of, choose_of, over_variable}
+use Rattle.hol_derived.specs.Rules.{conjunct1_of, conjunct2_of, disj_cases_of, spec_of, choose_of, over_variable}
 use Rattle.hol_just.specs.Reasons.{cut, replaced}
 use Rattle.hol_just.specs.Replacing.{replace_each}
 use Rattle.hol_just.specs.Justifies.{goal_at, always, holds_formula, holds_term, CutsBy, SplitsByCases, LeavesConjunctionRight, LeavesConjunctionLeft, LeavesGeneralized, SplitsByExistence, TurnsEquation, SplitsByEquation}

@@ -25,7 +25,7 @@ use Rattle.hol_kernel.proofs.Declared.{has_type_of}
 use Rattle.hol_kernel.proofs.Sound.{sides_is}
 use Rattle.hol_equal.specs.Rules.{reversed, sym_of, m_with}
 use Rattle.hol_equal.proofs.Replaced.{subst_gives}
-use Rattle.hol_bool.specs.Rules.{conjunct1_of, conjunct2_of, disj_cases_of, disj_cases_at, spec_of, choose_of, choose_at, choose_left}
+use Rattle.hol_derived.specs.Rules.{conjunct1_of, conjunct2_of, disj_cases_of, disj_cases_at, spec_of, choose_of, choose_at, choose_left}
 use Rattle.hol_goal.specs.Achieves.{Achieves}
 use Rattle.hol_just.specs.Reasons.{cut, replaced}
 use Rattle.hol_just.specs.Justifies.{goal_at, IsNew}

@@ -20,7 +20,7 @@ use Rattle.hol_kernel.specs.Theorem.{Theorem, theorem_on, over}
 use Rattle.hol_kernel.specs.Typing.{has_type}
 use Rattle.hol_kernel.proofs.Declared.{has_type_is}
 use Rattle.hol_kernel.proofs.Variables.{known_typed}
-use Rattle.hol_bool.specs.Rules.{spec_of}
+use Rattle.hol_derived.specs.Rules.{spec_of}
 use Rattle.hol_match.specs.Instance.{InstanceValue, both, instantiated}
 use Rattle.hol_match.specs.Fixed.{stays_of}
 use Rattle.hol_match.specs.Matches.{Says, IsMostGeneral}

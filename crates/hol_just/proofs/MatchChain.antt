@@ -20,7 +20,7 @@ use Rattle.hol_kernel.specs.Sequent.{Hyps}
 use Rattle.hol_kernel.specs.Given.{Given, assumed, given_sequent}
 use Rattle.hol_kernel.proofs.Declared.{has_type_of}
 use Rattle.hol_kernel.proofs.Members.{in_insert_here, in_insert_old}
-use Rattle.hol_bool.specs.Rules.{over_variable}
+use Rattle.hol_derived.specs.Rules.{over_variable}
 use Rattle.hol_goal.specs.Goal.{GoalValue}
 use Rattle.hol_goal.specs.Achieves as achieves
 use Rattle.hol_just.specs.MatchMp.{existentials}

@@ -23,7 +23,7 @@ use Rattle.hol_kernel.specs.Typing.{is_type, HasType}
 use Rattle.hol_kernel.proofs.Declared.{has_type_of}
 use Rattle.hol_kernel.proofs.HypothesisLists.{hyps_total, hyps_same}
 use Rattle.hol_kernel.proofs.Members.{Among, in_union_cases, among_from_list, from_list_among, from_list_items}
-use Rattle.hol_bool.specs.Rules.{gen_of, over_variable, exists_of, exists_at}
+use Rattle.hol_derived.specs.Rules.{gen_of, over_variable, exists_of, exists_at}
 use Rattle.hol_goal.specs.Achieves.{assumed, Achieves, AreAllowed}
 use Rattle.hol_kernel.proofs.Variables.{variable_typed}
 use Rattle.hol_just.specs.declared.reason.Reason.TheVariants.{Generalization, Existence}

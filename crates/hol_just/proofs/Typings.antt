@@ -20,7 +20,7 @@ use Rattle.hol_types.specs.Tree.{TyVar}
 use Rattle.hol_formulas.proofs.Instance.{instance_of_subst}
 use Rattle.hol_kernel.specs.Items.{in_order}
 use Rattle.hol_kernel.specs.Signature.{has_constant, makes_constant}
-use Rattle.hol_bool.specs.Rules.{over_variable}
+use Rattle.hol_derived.specs.Rules.{over_variable}
 use Rattle.hol_equal.proofs.Abstractions.{bound_typed}
 use Rattle.hol_equal.proofs.Typings.{applied_typed}
 

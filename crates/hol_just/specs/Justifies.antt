@@ -18,7 +18,7 @@ use Rattle.hol_kernel.specs.Typing.{is_typed, has_type, HasType}
 use Rattle.hol_kernel.specs.Given.{Given, proved, assumed, given_sequent}
 use Rattle.hol_goal.specs.Goal.{GoalValue}
 use Rattle.hol_goal.specs.Achieves.{AreAllowed}
-use Rattle.hol_bool.specs.Rules.{over_variable}
+use Rattle.hol_derived.specs.Rules.{over_variable}
 pub use Rattle.hol_match.specs.Givens.{holds_given}
 use Rattle.hol_match.specs.Givens.{all_hold, all_hyps}
 use Rattle.hol_match.specs.Instance.{InstanceValue}

@@ -15,7 +15,7 @@ use Rattle.hol_subst.specs.Substitution.{variable_inst}
 use Rattle.hol_subst.specs.Variant.{is_free_in}
 use Rattle.hol_formulas.specs.Formula.{Abstraction, universal, existential, dest_forall, dest_imp}
 use Rattle.hol_kernel.specs.Given.{Given, given_sequent}
-use Rattle.hol_bool.specs.Rules.{over_variable}
+use Rattle.hol_derived.specs.Rules.{over_variable}
 use Rattle.hol_match.specs.Instance.{InstanceValue, instance_of, instantiated}
 use Rattle.hol_match.specs.Fixed.{fixed_variables, stays_of}
 use Rattle.hol_match.specs.FreeNames.{free_name}

@@ -10,7 +10,7 @@ use Rattle.hol_formulas.specs.Formula.{quantifier_type, is_constant}
 use Rattle.hol_kernel.specs.Items.{Items}
 use Rattle.hol_kernel.specs.Sequent.{Sequent, sequent_of}
 use Rattle.hol_kernel.specs.Typing.{has_type}
-use Rattle.hol_bool.specs.Rules.{spec_of}
+use Rattle.hol_derived.specs.Rules.{spec_of}
 use Rattle.hol_match.specs.Instance.{instantiated}
 use Rattle.hol_match.specs.Fixed.{stays_of}
 use Rattle.hol_match.specs.Matching.{matched}

@@ -11,7 +11,7 @@ use Rattle.hol_subst.specs.Variant.{is_free_in}
 use Rattle.hol_formulas.specs.Formula.{Abstraction, universal, dest_forall, dest_exists}
 use Rattle.hol_kernel.specs.Typing.{is_type_at}
 use Rattle.hol_kernel.specs.Given.{Given, given_sequent}
-use Rattle.hol_bool.specs.Rules.{over_variable}
+use Rattle.hol_derived.specs.Rules.{over_variable}
 use Rattle.hol_goal.specs.Goal.{GoalValue}
 use Rattle.hol_just.specs.FreeNames.{free_name}
 use Rattle.hol_just.specs.Leaving.{concluding, assuming, goal_terms, theorem_terms}

@@ -10,7 +10,7 @@ use Rattle.hol_kernel.specs.Rules.{refl_of, mk_comb_of, eq_mp_of, deduct_antisym
 use Rattle.hol_formulas.specs.Formula.{truth}
 use Rattle.hol_terms.specs.Named.{Named}
 use Rattle.hol_equal.specs.Rules.{sym_of, subst_of, prove_hyp_of}
-use Rattle.hol_bool.specs.Rules.{conj_of, conjunct1_of, conjunct2_of, disj1_of, disj2_of, disj_cases_of, disch_of, undisch_of, not_intro_of, mp_of, contr_of, gen_of, spec_of, exists_of, choose_of}
+use Rattle.hol_derived.specs.Rules.{conj_of, conjunct1_of, conjunct2_of, disj1_of, disj2_of, disj_cases_of, disch_of, undisch_of, not_intro_of, mp_of, contr_of, gen_of, spec_of, exists_of, choose_of}
 use Rattle.hol_conv.specs.Traces.{TraceValue}
 use Rattle.hol_replay.specs.Replays.{trace_equation}
 use Rattle.hol_just.specs.Matching.{bound_variables, matching}

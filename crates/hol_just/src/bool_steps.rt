@@ -1,14 +1,12 @@
 //! Reasons by the rules of connectives and quantifiers, applied to theorems.
 ghost use Rattle.std.specs.Prelude.{◌≡◌, IsSome, [], OnOk};
 ghost use Rattle.hol_terms.specs.Nameless.{nameless};
-ghost use Rattle.hol_bool.specs.Rules.{disj2_of, disch_of, undisch_of, not_intro_of, mp_of, contr_of, gen_of, exists_of};
+ghost use Rattle.hol_derived.specs.Rules.{disj2_of, disch_of, undisch_of, not_intro_of, mp_of, contr_of, gen_of, exists_of};
 ghost use Rattle.hol_just.specs.Inference.{from_one, from_two, inferred};
 ghost use Rattle.hol_just.specs.Reasons.{conjoined, left_disjunct};
 ghost use Rattle.hol_just.specs.Over.{Infers};
 
 use crate::cursor::Cursor;
-use crate::refusals::made_in_bool;
-use hol_bool::exists;
 use hol_derived::Lemmas;
 use hol_kernel::Thm;
 use hol_terms::Term;
@@ -224,14 +222,17 @@ pub(crate) fn existence(
     alloc: Global,
     e: &Term,
     t: &Term,
+    lemmas: &mut Lemmas,
     thms: &mut Cursor,
 ) -> Result<(), AllocError>
-    requires { IsSome (inferred (from_one (exists_of thms.old.basis (nameless [] e.now) (nameless [] t.now))) thms.old.after) }
-    ensures { OnOk result (Infers (from_one (exists_of thms.old.basis (nameless [] e.now) (nameless [] t.now))) thms.old thms.new) }
+    requires lemmas { lemmas.old ≡ thms.old.basis }
+    requires gives { IsSome (inferred (from_one (exists_of thms.old.basis (nameless [] e.now) (nameless [] t.now))) thms.old.after) }
+    ensures infers { OnOk result (Infers (from_one (exists_of thms.old.basis (nameless [] e.now) (nameless [] t.now))) thms.old thms.new) }
+    ensures kept { lemmas.new ≡ lemmas.old }
 {
     let Some(property) = thms.take() else {
         unreachable!()
     };
-    let thm = made_in_bool(exists(alloc, e, t, &property))?;
+    let thm = lemmas.exists(alloc, e, t, &property)?;
     thms.put(thm)
 }

@@ -1,13 +1,11 @@
 //! Reasons by the rules that take connectives and quantifiers off, applied to theorems.
 ghost use Rattle.std.specs.Prelude.{◌≡◌, IsSome, [], OnOk};
 ghost use Rattle.hol_terms.specs.Nameless.{nameless};
-ghost use Rattle.hol_bool.specs.Rules.{conjunct1_of, conjunct2_of, disj_cases_of, spec_of, choose_of};
+ghost use Rattle.hol_derived.specs.Rules.{conjunct1_of, conjunct2_of, disj_cases_of, spec_of, choose_of};
 ghost use Rattle.hol_just.specs.Inference.{from_one, from_two, from_three, inferred};
 ghost use Rattle.hol_just.specs.Over.{Infers};
 
 use crate::cursor::Cursor;
-use crate::refusals::made_in_bool;
-use hol_bool::{choose, disj_cases, spec};
 use hol_derived::Lemmas;
 use hol_kernel::Thm;
 use hol_terms::Term;
@@ -50,74 +48,113 @@ pub(crate) fn right_conjunct(
 }
 
 /// SPEC of the theorem after the place.
-pub(crate) fn specialization(alloc: Global, t: &Term, thms: &mut Cursor) -> Result<(), AllocError>
-    requires { IsSome (inferred (from_one (spec_of thms.old.basis (nameless [] t.now))) thms.old.after) }
-    ensures { OnOk result (Infers (from_one (spec_of thms.old.basis (nameless [] t.now))) thms.old thms.new) }
+pub(crate) fn specialization(
+    alloc: Global,
+    t: &Term,
+    lemmas: &mut Lemmas,
+    thms: &mut Cursor,
+) -> Result<(), AllocError>
+    requires lemmas { lemmas.old ≡ thms.old.basis }
+    requires gives { IsSome (inferred (from_one (spec_of thms.old.basis (nameless [] t.now))) thms.old.after) }
+    ensures infers { OnOk result (Infers (from_one (spec_of thms.old.basis (nameless [] t.now))) thms.old thms.new) }
+    ensures kept { lemmas.new ≡ lemmas.old }
 {
     let Some(each) = thms.take() else {
         unreachable!()
     };
-    let thm = made_in_bool(spec(alloc, t, &each))?;
+    let thm = lemmas.spec(alloc, t, &each)?;
     thms.put(thm)
 }
 
 /// CHOOSE of the two theorems after the place.
-pub(crate) fn choice(alloc: Global, v: &Term, thms: &mut Cursor) -> Result<(), AllocError>
-    requires { IsSome (inferred (from_two (choose_of v.now)) thms.old.after) }
-    ensures { OnOk result (Infers (from_two (choose_of v.now)) thms.old thms.new) }
+pub(crate) fn choice(
+    alloc: Global,
+    v: &Term,
+    lemmas: &mut Lemmas,
+    thms: &mut Cursor,
+) -> Result<(), AllocError>
+    requires lemmas { lemmas.old ≡ thms.old.basis }
+    requires gives { IsSome (inferred (from_two (choose_of v.now)) thms.old.after) }
+    ensures infers { OnOk result (Infers (from_two (choose_of v.now)) thms.old thms.new) }
+    ensures kept { lemmas.new ≡ lemmas.old }
 {
     let Some(existence) = thms.take() else {
         unreachable!()
     };
-    choice_with(alloc, v, existence, thms)
+    choice_with(alloc, v, existence, lemmas, thms)
 }
 
 // CHOOSE of the theorem and the one after the place.
-fn choice_with(alloc: Global, v: &Term, existence: Thm, thms: &mut Cursor) -> Result<(), AllocError>
+fn choice_with(
+    alloc: Global,
+    v: &Term,
+    existence: Thm,
+    lemmas: &mut Lemmas,
+    thms: &mut Cursor,
+) -> Result<(), AllocError>
+    requires lemmas { lemmas.old ≡ thms.old.basis }
     requires over { existence.basis ≡ thms.old.basis }
     requires gives { IsSome (inferred (from_one (choose_of v.now existence.sequent)) thms.old.after) }
-    ensures { OnOk result (Infers (from_one (choose_of v.now existence.sequent)) thms.old thms.new) }
+    ensures infers { OnOk result (Infers (from_one (choose_of v.now existence.sequent)) thms.old thms.new) }
+    ensures kept { lemmas.new ≡ lemmas.old }
 {
     let Some(chosen) = thms.take() else {
         unreachable!()
     };
-    let thm = made_in_bool(choose(alloc, v, &existence, &chosen))?;
+    let thm = lemmas.choose(alloc, v, &existence, &chosen)?;
     thms.put(thm)
 }
 
 /// DISJ_CASES of the three theorems after the place.
-pub(crate) fn cases(alloc: Global, thms: &mut Cursor) -> Result<(), AllocError>
-    requires { IsSome (inferred (from_three disj_cases_of) thms.old.after) }
-    ensures { OnOk result (Infers (from_three disj_cases_of) thms.old thms.new) }
+pub(crate) fn cases(alloc: Global, lemmas: &mut Lemmas, thms: &mut Cursor) -> Result<(), AllocError>
+    requires lemmas { lemmas.old ≡ thms.old.basis }
+    requires gives { IsSome (inferred (from_three disj_cases_of) thms.old.after) }
+    ensures infers { OnOk result (Infers (from_three disj_cases_of) thms.old thms.new) }
+    ensures kept { lemmas.new ≡ lemmas.old }
 {
     let Some(either) = thms.take() else {
         unreachable!()
     };
-    cases_with(alloc, either, thms)
+    cases_with(alloc, either, lemmas, thms)
 }
 
 // DISJ_CASES of the theorem and the two after the place.
-fn cases_with(alloc: Global, either: Thm, thms: &mut Cursor) -> Result<(), AllocError>
+fn cases_with(
+    alloc: Global,
+    either: Thm,
+    lemmas: &mut Lemmas,
+    thms: &mut Cursor,
+) -> Result<(), AllocError>
+    requires lemmas { lemmas.old ≡ thms.old.basis }
     requires over { either.basis ≡ thms.old.basis }
     requires gives { IsSome (inferred (from_two (disj_cases_of either.sequent)) thms.old.after) }
-    ensures { OnOk result (Infers (from_two (disj_cases_of either.sequent)) thms.old thms.new) }
+    ensures infers { OnOk result (Infers (from_two (disj_cases_of either.sequent)) thms.old thms.new) }
+    ensures kept { lemmas.new ≡ lemmas.old }
 {
     let Some(left) = thms.take() else {
         unreachable!()
     };
-    cases_of(alloc, either, left, thms)
+    cases_of(alloc, either, left, lemmas, thms)
 }
 
 // DISJ_CASES of the two theorems and the one after the place.
-fn cases_of(alloc: Global, either: Thm, left: Thm, thms: &mut Cursor) -> Result<(), AllocError>
+fn cases_of(
+    alloc: Global,
+    either: Thm,
+    left: Thm,
+    lemmas: &mut Lemmas,
+    thms: &mut Cursor,
+) -> Result<(), AllocError>
+    requires lemmas { lemmas.old ≡ thms.old.basis }
     requires over { either.basis ≡ thms.old.basis }
     requires also { left.basis ≡ thms.old.basis }
     requires gives { IsSome (inferred (from_one (disj_cases_of either.sequent left.sequent)) thms.old.after) }
-    ensures { OnOk result (Infers (from_one (disj_cases_of either.sequent left.sequent)) thms.old thms.new) }
+    ensures infers { OnOk result (Infers (from_one (disj_cases_of either.sequent left.sequent)) thms.old thms.new) }
+    ensures kept { lemmas.new ≡ lemmas.old }
 {
     let Some(right) = thms.take() else {
         unreachable!()
     };
-    let thm = made_in_bool(disj_cases(alloc, &either, &left, &right))?;
+    let thm = lemmas.disj_cases(alloc, &either, &left, &right)?;
     thms.put(thm)
 }

@@ -14,7 +14,7 @@ use hol_derived::Lemmas;
 use hol_kernel::{Basis, Thm};
 use std::alloc::{AllocError, Global};
 
-/// The theorems of the goals that there were, from those of the goals that are left: what the justification gives, over the basis.
+/// The theorems of the goals that there were, from those of the goals that are left: what the justification gives, over the basis, by its general theorems.
 ///
 /// It has to give something, the bases of the theorems that it holds have to lie in the basis, and the theorems have to be over it. So it fails for
 /// want of memory alone.
@@ -24,20 +24,22 @@ pub fn justify(
     just: &Just,
     thms: Vec<Thm>,
     basis: &Basis,
+    lemmas: &mut Lemmas,
 ) -> Result<Vec<Thm>, AllocError>
+    requires lemmas { lemmas.old ≡ basis.now }
     requires gives { IsSome (gives basis.now just.now (sequents thms.items)) }
     requires fits { AllByRecursion (FitsAt basis.now) just.now }
     requires over { AreOver basis.now thms.items }
     ensures gives { IfOk result (λ out. gives basis.now just.now (sequents thms.items) ≡ Some (sequents out.items)) }
     ensures over { IfOk result (λ out. AreOver basis.now out.items) }
+    ensures kept { lemmas.new ≡ lemmas.old }
 {
     let mut cursor = Cursor::new(alloc, thms, basis)?;
-    let mut lemmas = Lemmas::new(alloc, basis)?;
     let moves = just.moves();
     let mut left = moves.len();
     'moves: while left > 0 {
         left -= 1;
-        apply(alloc, &moves[left], &mut lemmas, &mut cursor)?;
+        apply(alloc, &moves[left], lemmas, &mut cursor)?;
     }
     cursor.finish()
 }

@@ -10,8 +10,8 @@ ghost use Rattle.hol_just.specs.Matching.{bound_variables, specialized, instance
 ghost use Rattle.hol_just.specs.Over.{Infers};
 
 use crate::cursor::Cursor;
-use crate::refusals::{made_in_bool, made_in_kernel};
-use hol_bool::spec;
+use crate::refusals::made_in_kernel;
+use hol_derived::Lemmas;
 use hol_formulas::{is_forall, occurrence};
 use hol_kernel::{Given, Thm};
 use hol_match::term_match;
@@ -24,29 +24,39 @@ pub(crate) fn matching(
     given: &Given,
     formula: &Term,
     t: &Term,
+    lemmas: &mut Lemmas,
     thms: &mut Cursor,
 ) -> Result<(), AllocError>
+    requires lemmas { lemmas.old ≡ thms.old.basis }
     requires gives { IsSome (inferred (from_none (option_and_then (matching thms.old.basis (bound_variables formula.now) (nameless [] t.now)) (premise_of thms.old.basis given.now))) thms.old.after) }
     requires within { premise.IsOver given.now thms.old.basis }
-    ensures { OnOk result (Infers (from_none (option_and_then (matching thms.old.basis (bound_variables formula.now) (nameless [] t.now)) (premise_of thms.old.basis given.now))) thms.old thms.new) }
+    ensures infers { OnOk result (Infers (from_none (option_and_then (matching thms.old.basis (bound_variables formula.now) (nameless [] t.now)) (premise_of thms.old.basis given.now))) thms.old thms.new) }
+    ensures kept { lemmas.new ≡ lemmas.old }
 {
     let whole = made_in_kernel(given.over(alloc, thms.basis()))?;
-    let body = specialized(alloc, formula, whole)?;
+    let body = specialized(alloc, formula, whole, lemmas)?;
     let thm = instance_like(alloc, t, &body)?;
     thms.put(thm)
 }
 
 // SPEC at the variables that the formula's outer quantifiers bind, one after the other.
-fn specialized(alloc: Global, formula: &Term, th: Thm) -> Result<Thm, AllocError>
-    requires { IsSome (over th.basis (specialized th.basis (bound_variables formula.now) th.sequent)) }
-    ensures { IfOk result (λ r. over th.basis (specialized th.basis (bound_variables formula.now) th.sequent) ≡ Some r) }
+fn specialized(
+    alloc: Global,
+    formula: &Term,
+    th: Thm,
+    lemmas: &mut Lemmas,
+) -> Result<Thm, AllocError>
+    requires lemmas { lemmas.old ≡ th.basis }
+    requires applies { IsSome (over th.basis (specialized th.basis (bound_variables formula.now) th.sequent)) }
+    ensures gives { IfOk result (λ r. over th.basis (specialized th.basis (bound_variables formula.now) th.sequent) ≡ Some r) }
+    ensures kept { lemmas.new ≡ lemmas.old }
 {
     let Some((v, body)) = outer_variable(formula) else {
         return Ok(th);
     };
     let variable = occurrence(alloc, v)?;
-    let instance = made_in_bool(spec(alloc, &variable, &th))?;
-    specialized(alloc, body, instance)
+    let instance = lemmas.spec(alloc, &variable, &th)?;
+    specialized(alloc, body, instance, lemmas)
 }
 
 // The variable that the formula's outer quantifier binds, by its name there, and what stands under it.

@@ -2,10 +2,8 @@
 ghost use Rattle.std.specs.Prelude.{◌≡◌, Ok, IfOk};
 ghost use Rattle.hol_kernel.specs.Gives.{in_kernel};
 ghost use Rattle.hol_equal.specs.Refusals.{in_equal};
-ghost use Rattle.hol_bool.specs.Refusals.{in_bool};
 ghost use Rattle.hol_just.specs.Made.{IsMade};
 
-use hol_bool::BoolError;
 use hol_equal::EqualError;
 use hol_kernel::{KernelError, Thm};
 use std::alloc::AllocError;
@@ -32,17 +30,5 @@ pub(crate) fn made_in_equal(answer: Result<Thm, EqualError>) -> Result<Thm, Allo
         Ok(thm) => Ok(thm),
         Err(EqualError::Memory) => Err(AllocError),
         Err(EqualError::Refused(_)) => unreachable!(),
-    }
-}
-
-/// The theorem that a rule of the connectives and quantifiers made, where it was not refused.
-pub(crate) fn made_in_bool(answer: Result<Thm, BoolError>) -> Result<Thm, AllocError>
-    requires { IsMade in_bool answer }
-    ensures { IfOk result (λ thm. answer ≡ Ok thm) }
-{
-    match answer {
-        Ok(thm) => Ok(thm),
-        Err(BoolError::Memory) => Err(AllocError),
-        Err(BoolError::Refused(_)) => unreachable!(),
     }
 }

@@ -50,18 +50,18 @@ pub(crate) fn infer(
         Reason::ModusPonens => modus_ponens(alloc, lemmas, thms),
         Reason::Contradiction(p) => contradiction(alloc, p, lemmas, thms),
         Reason::Generalization(v) => generalization(alloc, v, lemmas, thms),
-        Reason::Existence(e, t) => existence(alloc, e, t, thms),
+        Reason::Existence(e, t) => existence(alloc, e, t, lemmas, thms),
         Reason::LeftConjunct => left_conjunct(alloc, lemmas, thms),
         Reason::RightConjunct => right_conjunct(alloc, lemmas, thms),
-        Reason::Cases => cases(alloc, thms),
+        Reason::Cases => cases(alloc, lemmas, thms),
         Reason::Cut => cut(alloc, thms),
         Reason::Symmetry => symmetry(alloc, thms),
         Reason::Replacement(v, m) => replacement(alloc, v, m, thms),
-        Reason::Specialization(t) => specialization(alloc, t, thms),
-        Reason::Choice(v) => choice(alloc, v, thms),
+        Reason::Specialization(t) => specialization(alloc, t, lemmas, thms),
+        Reason::Choice(v) => choice(alloc, v, lemmas, thms),
         Reason::Truth => true_formula(alloc, thms),
         Reason::Conversion(trace) => conversion(alloc, trace, thms),
-        Reason::Matching(given, formula, t) => matching(alloc, given, formula, t, thms),
+        Reason::Matching(given, formula, t) => matching(alloc, given, formula, t, lemmas, thms),
     }
 }
 

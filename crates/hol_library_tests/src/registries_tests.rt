@@ -8,8 +8,10 @@ use crate::steps::first_unmet;
 use hol_exec::{Meter, Setup};
 use hol_goal::{Goal, TacArgs, TacCode};
 use hol_just::{TacFault, Tried};
+use hol_prelude::Prelude;
 use hol_registry::{Entry, Registry, RegistryError};
 use std::alloc::{AllocError, Global};
+use std::rc::Rc;
 use std::test::Fail;
 
 // NO_TAC.
@@ -83,7 +85,8 @@ fn no_name_stands_twice(rt: HostRuntime) -> Result<(), Fail> {
 fn amiss(alloc: Global) -> Result<&'static str, Fail> {
     match registered(alloc, &["STOP"])? {
         Ok(registry) => {
-            let mut meter = Meter::new(Setup::new(alloc, registry, 10)?);
+            let prelude = Rc::new(alloc, Prelude::new(alloc)?)?;
+            let mut meter = Meter::new(Setup::new(alloc, registry, prelude, 10)?);
             let unmet = first_unmet(alloc, &mut meter)?;
             if meter.ran() != 12 {
                 return Ok("steps that aren't counted");

@@ -10,20 +10,23 @@ use hol_clauses::{
     and_clauses, eq_clauses, imp_clauses, not_clauses_weak, one_one, onto, or_clauses, refl_clause,
     truth,
 };
+use hol_derived::Lemmas;
 use hol_formulas::Postulate;
 use hol_kernel::Thm;
 use hol_types::Name;
 use std::alloc::{AllocError, Global};
 use std::marker::Model;
 
-/// The theorems of the prelude over no items, each with its name, the basic rewrites last.
+/// The theorems of the prelude over no items, each with its name, the basic rewrites last; and the general theorems of the rules over no items, all made.
 #[derive(Drop)]
 pub struct Prelude {
     theorems: Vec<(Name, Thm)>,
+    lemmas: Lemmas,
 }
 
 impl Model for Prelude {
     ghost use Rattle.std.specs.Prelude.{◌≡◌, ℕ, List};
+    ghost use Rattle.hol_kernel.specs.Items.{no_items};
     ghost use Rattle.hol_kernel.specs.Theorem.{Theorem};
     ghost use Rattle.hol_prelude.specs.Prelude.{prelude_theorems, theorems_code};
 
@@ -33,7 +36,7 @@ impl Model for Prelude {
 
     ghost view = { λ p. p.theorems.items };
 
-    ghost invariant = { λ p. p.theorems.items ≡ prelude_theorems };
+    ghost invariant = { λ p. (p.theorems.items ≡ prelude_theorems) × (p.lemmas ≡ no_items) };
 }
 
 impl Prelude {
@@ -44,7 +47,10 @@ impl Prelude {
         let mut theorems = Vec::new(alloc);
         add_given(alloc, &mut theorems)?;
         add_rewrites(alloc, &mut theorems)?;
-        Ok(Prelude { theorems })
+        Ok(Prelude {
+            theorems,
+            lemmas: Lemmas::all(alloc)?,
+        })
     }
 
     /// The theorem of the name, and `None` of another name.
@@ -60,6 +66,13 @@ impl Prelude {
         ensures rewrites { map (λ e. e.1) result.now ≡ basic_rewrites }
     {
         &self.theorems[15..]
+    }
+
+    /// The general theorems of the rules, over no items.
+    pub fn lemmas(&self) -> &Lemmas
+        ensures { result.now ≡ no_items }
+    {
+        &self.lemmas
     }
 }
 

@@ -127,14 +127,19 @@ fn serve_with<R: Source, W: Sink>(
         let name = String::from_str(alloc, code.name())?;
         entries.push(Entry::new(name, *code, tac))?;
     }
-    let setup = setup_of(alloc, entries, turns)?;
+    let setup = setup_of(alloc, entries, prelude, turns)?;
     let mut docs = Docs::new(alloc, setup, cache)?;
     run(alloc, reader, writer, &mut docs)
 }
 
-// The set-up of these functions, whose names differ, and of this number of turns.
+// The set-up of these functions, whose names differ, of the prelude, and of this number of turns.
 #[tactic(auto, using(crate::proofs::Registering::twice_not))]
-fn setup_of(alloc: Global, entries: Vec<Entry>, turns: u32) -> Result<Setup, AllocError>
+fn setup_of(
+    alloc: Global,
+    entries: Vec<Entry>,
+    prelude: Rc<Prelude>,
+    turns: u32,
+) -> Result<Setup, AllocError>
     requires some { 1 ≤ turns }
     requires fits { turns ≤ 100000 }
     requires differ { names_differ (map name entries.items) ≡ true }
@@ -144,5 +149,5 @@ fn setup_of(alloc: Global, entries: Vec<Entry>, turns: u32) -> Result<Setup, All
         Ok(registry) => registry,
         Err(RegistryError::Twice(_)) => unreachable!(),
     };
-    Setup::new(alloc, registry, turns)
+    Setup::new(alloc, registry, prelude, turns)
 }

@@ -2,7 +2,7 @@
 ghost use Rattle.std.specs.Prelude.{◌≡◌, ◌≢◌, ◌++◌, [], IfOk, OnOk, OnErr, drop, length};
 ghost use Rattle.std.specs.FinSet as set;
 ghost use Rattle.hol_kernel.specs.Extends.{Agree};
-ghost use Rattle.hol_kernel.specs.Items.{IsSubset};
+ghost use Rattle.hol_kernel.specs.Items.{IsSubset, no_items};
 ghost use Rattle.hol_goal.specs.Achieves.{IsTyped};
 ghost use Rattle.hol_stack.specs.StackValue.{begun, followed, stepped, rotated, turned};
 ghost use Rattle.hol_stack.specs.Calls.{IsStep, Undoes, Rotates, Finishes};
@@ -12,6 +12,7 @@ use crate::element::{Change, Earlier, Element};
 use crate::error::StackError;
 use crate::finishing::theorem;
 use crate::shared_step::SharedStep;
+use hol_derived::Lemmas;
 use hol_goal::Goal;
 use hol_kernel::{Basis, Thm};
 use std::alloc::{AllocError, Global};
@@ -165,16 +166,23 @@ impl Stack {
         self.follow(Change::Turned(by), element)
     }
 
-    /// The theorem of the goal that it was set to, on the newest element's basis (tactics.ml, top_thm).
+    /// The theorem of the goal that it was set to, on the newest element's basis (tactics.ml, top_thm), by the general theorems over no items.
     ///
     /// Refused by [`StackError::GoalsRemain`] where a goal is open.
-    pub fn finish(&self, alloc: Global) -> Result<Thm, StackError>
+    pub fn finish(&self, alloc: Global, general: &Lemmas) -> Result<Thm, StackError>
+        requires { general.now ≡ no_items }
         ensures { Finishes self.now result }
     {
         if !self.goals().is_empty() {
             return Err(StackError::GoalsRemain);
         }
-        Ok(theorem(alloc, &self.goal, self.earlier.as_slice(), &self.newest)?)
+        Ok(theorem(
+            alloc,
+            general,
+            &self.goal,
+            self.earlier.as_slice(),
+            &self.newest,
+        )?)
     }
 
     /// An equal stack.

@@ -69,7 +69,7 @@ fn outcome_from(
             open_goal(alloc, setup, name.as_str(), quotation, reads)
         }
         LocalCommand::Apply(tactic) => apply_tactic(alloc, setup, tactic, reads),
-        LocalCommand::Qed => finish(alloc, reads),
+        LocalCommand::Qed => finish(alloc, setup, reads),
         LocalCommand::Make(command) => making(alloc, setup, command, reads),
     }
 }
@@ -190,7 +190,7 @@ fn left(alloc: Global, goal: &Goal, step: Step, basis: Basis) -> Result<Outcome,
 }
 
 // `qed`: no proof open; goals remain.
-fn finish(alloc: Global, reads: &Reads) -> Result<Outcome, AllocError>
+fn finish(alloc: Global, setup: &Setup, reads: &Reads) -> Result<Outcome, AllocError>
     ensures { IfOk result (λ outcome. outcome ≡ finishes reads.now.closing) }
 {
     let Some(closing) = reads.closing() else {
@@ -199,14 +199,14 @@ fn finish(alloc: Global, reads: &Reads) -> Result<Outcome, AllocError>
     if closing.open_goals() > 0 {
         return Ok(refused(alloc, RefusalKind::GoalsRemain));
     }
-    finished(alloc, closing)
+    finished(alloc, setup, closing)
 }
 
-fn finished(alloc: Global, closing: &Closing) -> Result<Outcome, AllocError>
+fn finished(alloc: Global, setup: &Setup, closing: &Closing) -> Result<Outcome, AllocError>
     requires { closing.now.open_goals ≡ 0 }
     ensures { IfOk result (λ outcome. outcome ≡ finished closing.now) }
 {
-    let theorem = closing.theorem(alloc)?;
+    let theorem = closing.theorem(alloc, setup.lemmas())?;
     theorem.promise();
     let key = Key::new(alloc, Kind::Theorem, closing.name())?;
     let mut entries = Vec::new(alloc);

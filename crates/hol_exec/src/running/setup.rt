@@ -6,17 +6,19 @@ ghost use Rattle.hol_formulas.specs.Constants.{prelude_types, prelude_constants}
 
 use crate::running::registered::RegisteredTac;
 use crate::running::setup_table::SetupTable;
+use hol_derived::Lemmas;
 use hol_kernel::{Thm, prelude_constants, prelude_types};
 use hol_prelude::Prelude;
 use hol_registry::Registry;
 use hol_resolve::Signature;
 use std::alloc::{AllocError, Global};
+use std::rc::Rc;
 
 /// What is fixed for a run: the registered functions on goals, what the prelude has, and the number of turns that a command has.
 #[derive(Drop)]
 pub struct Setup {
     registry: Registry,
-    prelude: Prelude,
+    prelude: Rc<Prelude>,
     signature: Signature,
     turns: u32,
     ghost turns_fit: { turns ≤ 100000 },
@@ -27,6 +29,7 @@ pub struct Setup {
 impl Setup {
     ghost use Rattle.std.specs.Prelude.{◌≡◌, IfOk, MatchOption, Some, None};
     ghost use Rattle.std.specs.Option.{option_map};
+    ghost use Rattle.hol_kernel.specs.Items.{no_items};
     ghost use Rattle.hol_prelude.specs.Statements.{prelude_theorem};
     ghost use Rattle.hol_registry.specs.RegistryView.{table};
     ghost use Rattle.hol_resolve.specs.SignatureView.{signature_value};
@@ -35,15 +38,20 @@ impl Setup {
     ghost use Rattle.hol_exec.specs.CalleeView.{callee_option};
     ghost use Rattle.hol_exec.specs.declared.resolving.callee.Callee.TheVariants as Callee;
 
-    /// The set-up of these functions and of this number of turns, from 1 to 100,000.
-    pub fn new(alloc: Global, registry: Registry, turns: u32) -> Result<Setup, AllocError>
+    /// The set-up of these functions, of the prelude, and of this number of turns, from 1 to 100,000.
+    pub fn new(
+        alloc: Global,
+        registry: Registry,
+        prelude: Rc<Prelude>,
+        turns: u32,
+    ) -> Result<Setup, AllocError>
         requires some { 1 ≤ turns }
         requires fits { turns ≤ 100000 }
         ensures { IfOk result (λ setup. setup_value setup ≡ record { table = table registry; turns = turns }) }
     {
         Ok(Setup {
             registry,
-            prelude: Prelude::new(alloc)?,
+            prelude,
             signature: Signature {
                 constants: prelude_constants(alloc)?,
                 types: prelude_types(alloc)?,
@@ -65,6 +73,13 @@ impl Setup {
         ensures { MatchOption result (prelude_theorem name.now ≡ None) (λ th. prelude_theorem name.now ≡ Some th.now) }
     {
         self.prelude.get(name)
+    }
+
+    /// The general theorems of the rules, over no items.
+    pub(crate) fn lemmas(&self) -> &Lemmas
+        ensures { result.now ≡ no_items }
+    {
+        self.prelude.lemmas()
     }
 
     /// What the prelude has for readings.

@@ -1,4 +1,5 @@
-use Rattle.hol_bool.proofs.DisjunctionRules.{existential_is, existential_shape, existential_typed, exists_gives, inner_is}
+use Rattle.hol_bool.proofs.DisjunctionRules.{existential_is, existential_shape, exists_gives, inner_is}
+use Rattle.hol_derived.proofs.Applying.{existential_typed}
 use Rattle.hol_derived.proofs.Typed.{predicate_typed}
 use Rattle.hol_derived.specs.Applied.{abstraction_in}
 use Rattle.hol_bool.specs.Rules.{exists_of}

@@ -1,6 +1,6 @@
 use Rattle.std.proofs.Common.{[], sym, ◌∙◌}
 use Rattle.hol_terms.specs.Nameless.{nameless}
-use Rattle.hol_bool.specs.Rules.{contr_of}
+use Rattle.hol_derived.specs.Rules.{contr_of}
 use Rattle.hol_just.proofs.Applied.{from_one_taken, is_first, where_ok, one_applies}
 use Rattle.hol_just.proofs.bool_steps.contradiction.Goals as goal
 

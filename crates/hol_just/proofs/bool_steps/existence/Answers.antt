@@ -1,21 +1,20 @@
-use Rattle.std.proofs.Common.{[]}
+use Rattle.std.proofs.Common.{[], sym, ◌∙◌}
 use Rattle.hol_terms.specs.Nameless.{nameless}
-use Rattle.hol_bool.specs.Rules.{exists_of}
-use Rattle.hol_bool.specs.Refusals.{in_bool}
-use Rattle.hol_bool.specs.declared.error.Rule.TheVariants as rule
-use Rattle.hol_just.proofs.Applied.{from_one_taken, is_first, gave, where_ok, made_or_short, one_applies}
+use Rattle.hol_derived.specs.Rules.{exists_of}
+use Rattle.hol_just.proofs.Applied.{from_one_taken, is_first, where_ok, one_applies}
 use Rattle.hol_just.proofs.bool_steps.existence.Goals as goal
 
-pub made_in_bool-requires : goal.made_in_bool-requires
-made_in_bool-requires c =
-    made_or_short in_bool rule.Exists _ c.exists.result
-    (one_applies (λ basis. exists_of basis (nameless [] c.args.e.now) (nameless [] c.args.t.now)) c.args.thms.now c.take.new.self c.in-Some.property (is_first c.args.thms.now c.take.new.self c.take.result c.in-Some.property c.take.ensures c.in-Some.is) c.requires)
-    c.exists.ensures.sequent
+pub exists-requires : goal.exists-requires
+exists-requires c =
+    record {
+      one_basis = c.requires.lemmas ∙ sym ((is_first c.args.thms.now c.take.new.self c.take.result c.in-Some.property c.take.ensures c.in-Some.is).over);
+      applies = one_applies (λ basis. exists_of basis (nameless [] c.args.e.now) (nameless [] c.args.t.now)) c.args.thms.now c.take.new.self c.in-Some.property (is_first c.args.thms.now c.take.new.self c.take.result c.in-Some.property c.take.ensures c.in-Some.is) c.requires.gives;
+    }
 
-pub returns : goal.returns
-returns c =
+pub returns-clause-infers : goal.returns-clause-infers
+returns-clause-infers c =
     where_ok c.put.result
     (from_one_taken (λ basis. exists_of basis (nameless [] c.args.e.now) (nameless [] c.args.t.now)) c.args.thms.now c.take.new.self c.put.new.self c.in-Some.property c.in_ok-thm.thm
     (is_first c.args.thms.now c.take.new.self c.take.result c.in-Some.property c.take.ensures c.in-Some.is)
-    (gave in_bool rule.Exists _ c.exists.result c.in_ok-thm.thm c.exists.ensures.sequent c.in_ok-thm.ensures))
+    c.in_ok-thm.ensures.gives)
     c.put.ensures

@@ -1,5 +1,5 @@
 use Rattle.std.proofs.Common.{sym, ◌∙◌}
-use Rattle.hol_bool.specs.Rules.{mp_of}
+use Rattle.hol_derived.specs.Rules.{mp_of}
 use Rattle.hol_just.proofs.Applied.{is_first, where_ok, first_over, first_applies, first_infers}
 use Rattle.hol_just.proofs.bool_steps.modus_ponens.Goals as goal
 

@@ -1,5 +1,5 @@
 use Rattle.std.proofs.Common.{sym, ◌∙◌}
-use Rattle.hol_bool.specs.Rules.{mp_of}
+use Rattle.hol_derived.specs.Rules.{mp_of}
 use Rattle.hol_just.proofs.Applied.{second_taken, second_applies, is_first, where_ok}
 use Rattle.hol_just.proofs.bool_steps.modus_ponens_with.Goals as goal
 

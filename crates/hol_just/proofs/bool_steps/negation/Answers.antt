@@ -1,5 +1,5 @@
 use Rattle.std.proofs.Common.{sym, ◌∙◌}
-use Rattle.hol_bool.specs.Rules.{not_intro_of}
+use Rattle.hol_derived.specs.Rules.{not_intro_of}
 use Rattle.hol_just.proofs.Applied.{from_one_taken, is_first, where_ok, one_applies}
 use Rattle.hol_just.proofs.bool_steps.negation.Goals as goal
 

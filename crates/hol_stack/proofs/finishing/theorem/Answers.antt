@@ -8,16 +8,21 @@ use Rattle.hol_kernel.specs.Items.{Items}
 use Rattle.hol_kernel.specs.Sequent.{no_hyps}
 use Rattle.hol_kernel.specs.Theorem.{theorem_over}
 use Rattle.hol_kernel.specs.Typing.{HasType}
+use Rattle.hol_kernel.proofs.Subsets.{none_within}
 use Rattle.hol_just.specs.Over.{AreOver, sequents}
 use Rattle.hol_stack.specs.Sound.{AchievesNext}
 use Rattle.hol_stack.proofs.Histories.{none_over, back_begins, back_to, next_achieved, before_achieved}
 use Rattle.hol_stack.proofs.Exact.{last_left, last_typed}
 use Rattle.hol_stack.proofs.finishing.theorem.Goals as goal
 
+pub widen-requires : goal.widen-requires
+widen-requires c = record { within = none_within c.args.general.now c.basis-basis.result.now c.requires.general }
+
 pub back-init : goal.back-init
 back-init c = record {
   back = back_begins c.args.goal.now c.args.newest.now c.args.earlier.now c.new-thms.result.items c.requires.closed c.new-thms.ensures.items c.requires.sound;
   over = none_over c.args.newest.now.basis c.new-thms.result.items c.new-thms.ensures.items;
+  lemmas = c.in_ok-lemmas.ensures ∙ c.basis-basis.ensures;
   within = omega arith;
 }
 
@@ -28,7 +33,7 @@ before-requires-clause-next c =
     let ss = sequents c.back.thms.items in
     let back =
     back_to c.args.goal.now c.args.newest.now.basis c.args.earlier.now i c.back.left one ss (omega arith) (omega arith) c.index-earlier-left.is c.back.invariant.back in
-    subst (λ (b : Items). AchievesNext b one ss) (sym c.basis.ensures)
+    subst (λ (b : Items). AchievesNext b one ss) (sym c.basis-basis.ensures)
     (next_achieved c.args.goal.now c.args.newest.now.basis one (reverse (take i c.args.earlier.now)) ss back)
 
 pub back-preserved : goal.back-preserved
@@ -42,7 +47,8 @@ back-preserved c =
       back =
           before_achieved c.args.goal.now c.args.newest.now.basis one (reverse (take i c.args.earlier.now)) ss (sequents c.in_ok-thms.thms.items) back
           c.in_ok-thms.ensures.achieved;
-      over = subst (λ (b : Items). AreOver b c.in_ok-thms.thms.items) c.basis.ensures c.in_ok-thms.ensures.over;
+      over = subst (λ (b : Items). AreOver b c.in_ok-thms.thms.items) c.basis-basis.ensures c.in_ok-thms.ensures.over;
+      lemmas = c.in_ok-thms.ensures.kept ∙ c.back.invariant.lemmas;
       within = omega arith;
     }
 

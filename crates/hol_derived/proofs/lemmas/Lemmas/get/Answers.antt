@@ -1,15 +1,11 @@
 use Rattle.std.specs.Prelude.{◌≡◌, Bool, true, false, cond, List, [], ◌∷◌, ◌++◌}
 use Rattle.std.proofs.Common.{sym, subst, rules, is_ok}
-use Rattle.std.specs.List.{AllByRecursion}
 use Rattle.hol_kernel.specs.Items.{Items}
 use Rattle.hol_kernel.specs.Theorem.{Theorem, theorem_on}
 use Rattle.hol_derived.specs.Lemmas.{AreGeneral, general}
 use Rattle.hol_derived.specs.declared.lemma.Lemma.{Lemma}
+use Rattle.hol_derived.proofs.GeneralTheorems.{pushed}
 use Rattle.hol_derived.proofs.lemmas.Lemmas.get.Goals as goal
-
-pushed : {X : Type 0} (P : X → Type 0) (xs : List X) (x : X) → AllByRecursion P xs → P x → AllByRecursion P (xs ++ (x ∷ []))
-pushed P [] x h p = (p, tt)
-pushed P (y ∷ ys) x h p = (h.0, pushed P ys x h.1 p)
 
 -- one more that was made, or none where there was no memory for it
 one_more : (basis : Items) (made more : List (Lemma × Theorem)) (which : Lemma) (th : Theorem) (ok : Bool) → more ≡ cond ok (made ++ ((which, th) ∷ [])) made → th ≡ theorem_on basis (general which) → AreGeneral basis made → AreGeneral basis more
