@@ -1,22 +1,23 @@
 -- What replacing each topmost redex comes to, by what it comes to in the parts.
 use Rattle.std.proofs.Common.{◌≡◌, ℕ, ◌+◌, List, [], ◌∷◌, min, refl, ap, sym, ◌∙◌, subst, Some, None}
 use Rattle.std.specs.Prelude.{Result, Err}
-use Rattle.std.specs.Option.{option_map}
+use Rattle.std.specs.Option.{option_map, option_or}
 use Rattle.hol_types.specs.Tree.{TypeTree, type_size}
 use Rattle.hol_types.specs.Fun.{fun_type}
 use Rattle.hol_terms.specs.Named.{Named, var, constant, comb, abs, named_type}
-use Rattle.hol_terms.specs.Nameless.{Nameless, lam, app, nameless, base_of}
+use Rattle.hol_terms.specs.Nameless.{Nameless, free, bound, fixed, app, lam, nameless, base_of}
 use Rattle.hol_terms.specs.Size.{term_size}
 use Rattle.hol_subst.specs.Closing.{close}
+use Rattle.hol_match.proofs.PassedOver.{map_none, or_none}
 use Rattle.hol_conv.specs.declared.redexes.Redexes.{Redexes}
 use Rattle.hol_conv.specs.declared.ended.Ended.{Ended}
 use Rattle.hol_conv.specs.declared.error.ConvError.{ConvError}
 use Rattle.hol_conv.specs.declared.error.ConvError.TheVariants.{Limit, TooLarge, Memory}
 use Rattle.hol_conv.specs.Ends.{TellsEnd}
 use Rattle.hol_conv.specs.Redexes.{contraction, IsOutside}
-use Rattle.hol_conv.specs.Turns.{Outcome, finished}
+use Rattle.hol_conv.specs.Turns.{Outcome, finished, turn}
 use Rattle.hol_conv.specs.Once.{and_then, once}
-use Rattle.hol_conv.specs.Beside.{beside, paid_beside, once_beside, inner_once}
+use Rattle.hol_conv.specs.Beside.{beside, paid_beside, paid_beside_or, once_beside, inner_once}
 use Rattle.hol_conv.proofs.Outside.{Contract, commutes}
 use Rattle.hol_conv.proofs.OnceClosed.{once_counts, once_close, closed_outcome}
 use Rattle.hol_conv.proofs.Parts.{body_same, domain_same, rebuilt}
@@ -43,8 +44,43 @@ both_fit f x g y h p q n = h (sym (both_kept f x g y (comb g y) refl p q) ∙ n)
 pub body_kept : (v w : List ℕ × TypeTree) (b c d u : Named) → u ≡ abs w d → w.1 ≡ v.1 → named_type c ≡ named_type b → named_type d ≡ named_type c → named_type u ≡ named_type (abs v b)
 body_kept v w b c d u e f g h = ap named_type e ∙ (λ i. option_map (λ t. fun_type (f i) t) ((h ∙ g) i))
 
+-- ---- a term in which a turn finds nothing
+module _ (contract : Contract) where
+  none_in_application : (env : List TypeTree) (f x : Nameless) → turn contract env (app f x) ≡ None → (contract env (app f x) ≡ None) × (turn contract env f ≡ None) × (turn contract env x ≡ None)
+  none_in_application env f x h =
+      let own = or_none (contract env (app f x)) (option_or (option_map (λ g. app g x) (turn contract env f)) (option_map (λ y. app f y) (turn contract env x))) h in
+      let parts = or_none (option_map (λ g. app g x) (turn contract env f)) (option_map (λ y. app f y) (turn contract env x)) own.1 in
+      (own.0, map_none (λ g. app g x) (turn contract env f) parts.0, map_none (λ y. app f y) (turn contract env x) parts.1)
+
+  none_in_abstraction : (env : List TypeTree) (a : List ℕ) (s : TypeTree) (b : Nameless) → turn contract env (lam a s b) ≡ None → (contract env (lam a s b) ≡ None) × (turn contract (s ∷ env) b ≡ None)
+  none_in_abstraction env a s b h =
+      let own = or_none (contract env (lam a s b)) (option_map (λ d. lam a s d) (turn contract (s ∷ env) b)) h in
+      (own.0, map_none (λ d. lam a s d) (turn contract (s ∷ env) b) own.1)
+
+  stays_whole : (env : List TypeTree) (o left : ℕ) (n : Nameless) → turn contract env n ≡ None → once_beside contract env o left n ≡ finished n left
+  stays_whole env o left (free v) h = ap (paid_beside_or env o left (finished (free v) left)) h
+  stays_whole env o left (bound i) h = ap (paid_beside_or env o left (finished (bound i) left)) h
+  stays_whole env o left (fixed c s) h = ap (paid_beside_or env o left (finished (fixed c s) left)) h
+  stays_whole env o left (app f x) h =
+      let none = none_in_application env f x h in
+      let argument = λ (g : Nameless) (more : ℕ). and_then (λ y rest. finished (app g y) rest) (once_beside contract env (beside o (term_size env g)) more x) in
+      ap (paid_beside_or env o left (and_then argument (once_beside contract env (beside o (term_size env x)) left f))) none.0
+      ∙ ap (and_then argument) (stays_whole env (beside o (term_size env x)) left f none.1)
+      ∙ ap (and_then (λ y rest. finished (app f y) rest)) (stays_whole env (beside o (term_size env f)) left x none.2)
+  stays_whole env o left (lam a s b) h =
+      let none = none_in_abstraction env a s b h in
+      ap (paid_beside_or env o left (and_then (λ d rest. finished (lam a s d) rest) (once_beside contract (s ∷ env) (beside o (type_size s)) left b))) none.0
+      ∙ ap (and_then (λ d rest. finished (lam a s d) rest)) (stays_whole (s ∷ env) (beside o (type_size s)) left b none.1)
+
+-- it is kept as u, and so many turns are left
+kept_as : (n : Nameless) (left m : ℕ) (t u : Named) → nameless [] t ≡ n → u ≡ t → m ≡ left → finished n left ≡ finished (nameless [] u) m
+kept_as n left m t u e k l = λ i. finished ((sym e ∙ ap (nameless []) (sym k)) i) (sym l i)
+
 module _ (r : Redexes) where
   -- ---- the term itself
+  pub nothing_kept : (o left m : ℕ) (t u : Named) → u ≡ t → m ≡ left → turn (contraction r) [] (nameless [] t) ≡ None → once_beside (contraction r) [] o left (nameless [] t) ≡ finished (nameless [] u) m
+  nothing_kept o left m t u k l h = stays_whole (contraction r) [] o left (nameless [] t) h ∙ kept_as (nameless [] t) left m t u refl k l
+
   redex_is : (o left : ℕ) (t : Named) (u : Nameless) → contraction r [] (nameless [] t) ≡ Some u → once_beside (contraction r) [] o left (nameless [] t) ≡ paid_beside [] o left u
   redex_is o left (var v) u h = rw h refl
   redex_is o left (constant c s) u h = rw h refl
@@ -69,11 +105,11 @@ module _ (r : Redexes) where
   pub inside_abs : (R : Result Ended ConvError) (o left : ℕ) (v : List ℕ × TypeTree) (b t : Named) → t ≡ abs v b → contraction r [] (nameless [] t) ≡ None → TellsEnd R (inner_once (contraction r) [] o left (nameless [] (abs v b))) → TellsEnd R (once_beside (contraction r) [] o left (nameless [] t))
   inside_abs R o left v b t e h k = inside_told R o left t h (subst (λ z. TellsEnd R (inner_once (contraction r) [] o left (nameless [] z))) (sym e) k)
 
-  pub variable_kept : (o left : ℕ) (v : List ℕ × TypeTree) (t u : Named) → t ≡ var v → u ≡ t → contraction r [] (nameless [] t) ≡ None → once_beside (contraction r) [] o left (nameless [] t) ≡ finished (nameless [] u) left
-  variable_kept o left v t u e k h = inside_is o left t h ∙ ap (λ z. inner_once (contraction r) [] o left (nameless [] z)) e ∙ ap (λ z. finished (nameless [] z) left) (sym (k ∙ e))
+  pub variable_kept : (o left m : ℕ) (v : List ℕ × TypeTree) (t u : Named) → t ≡ var v → u ≡ t → m ≡ left → contraction r [] (nameless [] t) ≡ None → once_beside (contraction r) [] o left (nameless [] t) ≡ finished (nameless [] u) m
+  variable_kept o left m v t u e k l h = inside_is o left t h ∙ ap (λ z. inner_once (contraction r) [] o left (nameless [] z)) e ∙ kept_as (nameless [] (var v)) left m t u (ap (nameless []) e) k l
 
-  pub constant_kept : (o left : ℕ) (c : List ℕ) (s : TypeTree) (t u : Named) → t ≡ constant c s → u ≡ t → contraction r [] (nameless [] t) ≡ None → once_beside (contraction r) [] o left (nameless [] t) ≡ finished (nameless [] u) left
-  constant_kept o left c s t u e k h = inside_is o left t h ∙ ap (λ z. inner_once (contraction r) [] o left (nameless [] z)) e ∙ ap (λ z. finished (nameless [] z) left) (sym (k ∙ e))
+  pub constant_kept : (o left m : ℕ) (c : List ℕ) (s : TypeTree) (t u : Named) → t ≡ constant c s → u ≡ t → m ≡ left → contraction r [] (nameless [] t) ≡ None → once_beside (contraction r) [] o left (nameless [] t) ≡ finished (nameless [] u) m
+  constant_kept o left m c s t u e k l h = inside_is o left t h ∙ ap (λ z. inner_once (contraction r) [] o left (nameless [] z)) e ∙ kept_as (nameless [] (constant c s)) left m t u (ap (nameless []) e) k l
 
   -- ---- the nodes beside a part
   counted : (o p k n : ℕ) → k ≡ min n 20001 → p ≡ min (o + (1 + k)) 20001 → p ≡ beside o n
@@ -125,7 +161,7 @@ module _ (r : Redexes) where
 pub told_whole : (contract : Contract) (R : Result Ended ConvError) (turns : ℕ) (t : Nameless) → TellsEnd R (once_beside contract [] 0 turns t) → TellsEnd R (once contract [] (λ u. u) turns t)
 told_whole contract R turns t = told R (once contract [] (λ u. u) turns t) (once_beside contract [] 0 turns t) (once_counts contract turns t)
 
-pub ruleset parts = (redex_paid, inside_comb, inside_abs, variable_kept, constant_kept)
+pub ruleset parts = (nothing_kept, redex_paid, inside_comb, inside_abs, variable_kept, constant_kept)
 
 pub ruleset application_parts = (function_stops, argument_stops, parts_end, both_kept, both_fit)
 

@@ -1,12 +1,12 @@
--- Beta redexes as redexes of a turn.
+-- Beta redexes as redexes of a turn, and terms that have no redex.
 use Rattle.std.proofs.Common.{◌≡◌, ℕ, List, [], ◌∷◌, refl, ap, ◌∙◌, false, Option, None}
 use Rattle.std.specs.Option.{option_map, option_or}
 use Rattle.hol_types.specs.Tree.{TypeTree}
 use Rattle.hol_terms.specs.Named.{Named, comb}
 use Rattle.hol_terms.specs.Nameless.{Nameless, free, bound, fixed, app, lam, nameless}
 use Rattle.hol_conv.specs.Beta.{reduct, beta_turn}
-use Rattle.hol_match.specs.Contracta.{contractum}
-use Rattle.hol_match.specs.RuleSets.{first_fit}
+use Rattle.hol_match.specs.Contracta.{contractum, HasNoRedex}
+use Rattle.hol_match.specs.RuleSets.{RuleEntry, first_fit}
 use Rattle.hol_match.specs.SetView.{set_rules}
 use Rattle.hol_match.specs.declared.set_rule.SetRule.{SetRule}
 use Rattle.hol_match.proofs.Contracta.{first_none}
@@ -46,3 +46,16 @@ pub no_rule_redex : (rules : List SetRule) (n : Nameless) → first_fit 0 (set_r
 no_rule_redex rules n h = first_none 0 (set_rules rules) n h
 
 pub ruleset no_redexes = (no_beta_redex, no_rule_redex)
+
+-- a turn by rules finds nothing where no rule matches any part
+no_turn_under : (rules : List RuleEntry) (env : List TypeTree) (n : Nameless) → HasNoRedex rules n → turn (λ env m. contractum env rules m) env n ≡ None
+no_turn_under rules env (free v) h = h env
+no_turn_under rules env (bound i) h = h env
+no_turn_under rules env (fixed c s) h = h env
+no_turn_under rules env (app f x) h = λ i. option_or (h.0 env i) (option_or (option_map (λ g. app g x) (no_turn_under rules env f h.1 i)) (option_map (λ y. app f y) (no_turn_under rules env x h.2 i)))
+no_turn_under rules env (lam a s b) h = λ i. option_or (h.0 env i) (option_map (λ d. lam a s d) (no_turn_under rules (s ∷ env) b h.1 i))
+
+pub no_turn : (rules : List SetRule) (n : Nameless) → HasNoRedex (set_rules rules) n → turn (λ env m. contractum env (set_rules rules) m) [] n ≡ None
+no_turn rules n h = no_turn_under (set_rules rules) [] n h
+
+pub ruleset no_turns = (no_turn)

@@ -6,17 +6,20 @@ ghost use Rattle.hol_conv.specs.Redexes.{contraction};
 ghost use Rattle.hol_conv.specs.Beside.{paid_beside, once_beside, inner_once};
 ghost use Rattle.hol_conv.specs.Ends.{TellsEnd};
 ghost use Rattle.hol_conv.specs.Tracing.{Traces, redex_givens};
+ghost use Rattle.hol_conv.specs.declared.trace_node.TraceNode.TheVariants.{Same};
 
 use crate::ended::Ended;
 use crate::error::ConvError;
 use crate::redexes::{Contracted, Redexes};
 use crate::trace_node::TraceNode;
 use hol_terms::{Term, TermNode, Variable};
-use std::alloc::Global;
+use std::alloc::{AllocError, Global};
 
 /// Replaces each topmost redex of a part of a term, beside which the term has so many nodes, or 20,001 for more. Each costs a turn.
 ///
 /// Answers `Limit` where a redex is next and no turn is left, and `TooLarge` where the whole term has over 20,000 nodes after a turn.
+///
+/// A part that can have no redex stays as it is.
 #[cycle(once_beside)]
 #[tactic(auto, using(crate::proofs::OnceParts::parts, crate::proofs::Tracing::part_traces))]
 pub(crate) fn once_beside(
@@ -31,6 +34,9 @@ pub(crate) fn once_beside(
     ensures typed { IfOk result (λ r. named_type r.term ≡ named_type t.now) }
     ensures traces { IfOk result (λ r. Traces (redex_givens redexes.now) r.node.value (nameless [] t.now) (nameless [] r.term)) }
 {
+    if !redexes.may_have_redex(t) {
+        return Ok(kept(alloc, t, left)?);
+    }
     if let Some(redex) = redexes.contract(alloc, t)? {
         return paid_beside(redex, outside, left);
     }
@@ -38,12 +44,21 @@ pub(crate) fn once_beside(
     match t.node() {
         TermNode::Comb(f, x) => once_in_parts(alloc, redexes, f, x, outside, left),
         TermNode::Abs(v, b) => once_in_body(alloc, redexes, v, b, outside, left),
-        TermNode::Var(_) | TermNode::Const(_, _) => Ok(Ended {
-            term: t.copy()?,
-            left,
-            node: TraceNode::boxed(alloc, TraceNode::Same)?,
-        }),
+        TermNode::Var(_) | TermNode::Const(_, _) => Ok(kept(alloc, t, left)?),
     }
+}
+
+// The end of a part that has no redex.
+fn kept(alloc: Global, t: &Term, left: u32) -> Result<Ended, AllocError>
+    ensures term { IfOk result (λ r. r.term ≡ t.now) }
+    ensures left { IfOk result (λ r. r.left ≡ left) }
+    ensures node { IfOk result (λ r. r.node.value ≡ Same) }
+{
+    Ok(Ended {
+        term: t.copy()?,
+        left,
+        node: TraceNode::boxed(alloc, TraceNode::Same)?,
+    })
 }
 
 // The turn in which the part becomes this term.

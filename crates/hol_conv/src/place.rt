@@ -65,7 +65,7 @@ impl Place {
         }
     }
 
-    // Steps into the function or the body, and answers whether there is one. The part is no redex.
+    // Steps into the function or the body, if there is one and the part may have a redex; answers whether it did. The part is no redex.
     #[tactic(auto, using(crate::proofs::Places::entering))]
     fn enter(&mut self, alloc: Global, redexes: &Redexes) -> Result<bool, AllocError>
         requires stands { Stands redexes.now (reverse self.old.frames.items) (nameless [] self.old.part) }
@@ -75,6 +75,9 @@ impl Place {
         ensures leaf { IfOk result (λ b. IsFalse b → turn (contraction redexes.now) [] (nameless [] self.old.part) ≡ None) }
         ensures same { IfOk result (λ b. IsFalse b → self.new ≡ self.old) }
     {
+        if !redexes.may_have_redex(&self.part) {
+            return Ok(false);
+        }
         let _ty = self.part.type_of();
         match self.part.node() {
             TermNode::Comb(f, x) => {

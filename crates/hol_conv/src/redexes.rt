@@ -5,6 +5,7 @@ ghost use Rattle.hol_terms.specs.Nameless.{nameless};
 ghost use Rattle.hol_match.specs.Contracta.{contractum};
 ghost use Rattle.hol_match.specs.SetView.{set_rules, set_givens};
 ghost use Rattle.hol_conv.specs.Redexes.{beta_contractum, contraction, IsOutside, is_applied_abstraction, passes_over, depth};
+ghost use Rattle.hol_conv.specs.Turns.{turn};
 ghost use Rattle.hol_conv.specs.Tracing.{Traces, redex_givens};
 
 use crate::reduct::reduct;
@@ -51,6 +52,20 @@ impl<'a> Redexes<'a> {
         match self {
             Redexes::Beta => Ok(is_applied_abstraction(t)),
             Redexes::Rules(rules) => Ok(rules.find(alloc, t)?.is_some()),
+        }
+    }
+
+    /// Whether the term or a part of it may be a redex; where the answer is `false`, none is.
+    ///
+    /// Takes no memory and no more time for a larger term. Of rules it is told by the constants at the heads of their left sides. A term
+    /// doesn't keep whether abstractions stand in it, so of beta redexes the answer is always `true`.
+    #[tactic(auto, using(crate::proofs::RedexLaws::no_turns))]
+    pub(crate) fn may_have_redex(&self, t: &Term) -> bool
+        ensures { IsFalse result → turn (contraction self.now) [] (nameless [] t.now) ≡ None }
+    {
+        match self {
+            Redexes::Beta => true,
+            Redexes::Rules(rules) => rules.may_have_redex(t),
         }
     }
 

@@ -22,7 +22,7 @@ use std::alloc::Global;
 /// Answers `Limit` where a rule matches and no turn is left, and `TooLarge` where a turn makes a term of over 20,000 nodes.
 ///
 /// What is to the left of a replaced part is not searched again. The first search goes through the term at each place where its nodes
-/// stand, up to the first part that a rule matches.
+/// stand, up to the first part that a rule matches. Parts that can have no redex, by their constants, are passed over.
 #[tactic(auto, using(crate::proofs::Tracing::ends))]
 pub fn rewrite(
     alloc: Global,
@@ -44,7 +44,7 @@ pub fn rewrite(
 /// Answers `Limit` where a rule matches a further part and no turn is left, and `TooLarge` where the whole term has over 20,000 nodes
 /// after a turn.
 ///
-/// The term is gone through at each place where its nodes stand, and built again.
+/// The term is gone through at each place where its nodes stand, and built again, but for parts that can have no redex, by their constants.
 #[tactic(auto, using(crate::proofs::OnceParts::whole, crate::proofs::Tracing::ends))]
 pub fn once(alloc: Global, rules: &RuleSet, term: &Term, turns: u32) -> Result<Rewritten, ConvError>
     ensures tells { Tells result (rewritten_once (set_rules rules.now.rules.items) turns (nameless [] term.now)) }

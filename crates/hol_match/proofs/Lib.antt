@@ -21,3 +21,4 @@ pub mod Held
 pub mod Standing
 pub mod Formulas
 pub mod Buckets
+pub mod HeadNames

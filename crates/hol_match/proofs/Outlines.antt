@@ -11,7 +11,7 @@ use Rattle.hol_terms.specs.Size.{term_size, named_size}
 use Rattle.hol_terms.proofs.Size.{size_is}
 use Rattle.hol_match.specs.Instance.{InstanceValue}
 use Rattle.hol_match.specs.Outlines.{is_named, is_abstraction, may_match, depth, rules_depth, has_large_side}
-use Rattle.hol_match.specs.Matching.{matched, with_type, constant_meets}
+use Rattle.hol_match.specs.Matching.{matched, matched_under, with_type, constant_meets}
 use Rattle.hol_match.specs.RuleSets.{RuleEntry, beside, fit}
 use Rattle.hol_match.specs.SetView.{set_rule, set_rules}
 use Rattle.hol_match.specs.declared.set_rule.SetRule.{SetRule}
@@ -27,30 +27,35 @@ none_after : (F : InstanceValue → Option InstanceValue) → ((m : InstanceValu
 none_after F h None = refl
 none_after F h (Some m) = h m
 
-app_apart : (k : ℕ) (p q f x : Nameless) (found : InstanceValue) → (may_match p f && may_match q x) ≡ false → (may_match p f ≡ false → matched k p found f ≡ None) → ((more : InstanceValue) → may_match q x ≡ false → matched k q more x ≡ None) → option_and_then (λ more. matched k q more x) (matched k p found f) ≡ None
-app_apart k p q f x found h first second = by (may_match p f) refl
-  where
-    by : (b : Bool) → may_match p f ≡ b → option_and_then (λ more. matched k q more x) (matched k p found f) ≡ None
-    by false e = ap (option_and_then (λ more. matched k q more x)) (first e)
-    by true e = none_after (λ more. matched k q more x) (λ more. second more (sym (ap (λ b. b && may_match q x) e) ∙ h)) (matched k p found f)
+-- of terms under binders of the types env
+module _ (env : List TypeTree) where
+  app_apart : (k : ℕ) (p q f x : Nameless) (found : InstanceValue) → (may_match p f && may_match q x) ≡ false → (may_match p f ≡ false → matched_under env k p found f ≡ None) → ((more : InstanceValue) → may_match q x ≡ false → matched_under env k q more x ≡ None) → option_and_then (λ more. matched_under env k q more x) (matched_under env k p found f) ≡ None
+  app_apart k p q f x found h first second = by (may_match p f) refl
+    where
+      by : (b : Bool) → may_match p f ≡ b → option_and_then (λ more. matched_under env k q more x) (matched_under env k p found f) ≡ None
+      by false e = ap (option_and_then (λ more. matched_under env k q more x)) (first e)
+      by true e = none_after (λ more. matched_under env k q more x) (λ more. second more (sym (ap (λ b. b && may_match q x) e) ∙ h)) (matched_under env k p found f)
 
-lam_apart : (k : ℕ) (a : List ℕ) (s : TypeTree) (b : Nameless) (found : InstanceValue) (t : Nameless) → is_abstraction t ≡ false → matched k (lam a s b) found t ≡ None
-lam_apart k a s b found (free v) h = refl
-lam_apart k a s b found (bound i) h = refl
-lam_apart k a s b found (fixed c u) h = refl
-lam_apart k a s b found (app f x) h = refl
-lam_apart k a s b found (lam c u d) h = absurd (cc)
+  lam_apart : (k : ℕ) (a : List ℕ) (s : TypeTree) (b : Nameless) (found : InstanceValue) (t : Nameless) → is_abstraction t ≡ false → matched_under env k (lam a s b) found t ≡ None
+  lam_apart k a s b found (free v) h = refl
+  lam_apart k a s b found (bound i) h = refl
+  lam_apart k a s b found (fixed c u) h = refl
+  lam_apart k a s b found (app f x) h = refl
+  lam_apart k a s b found (lam c u d) h = absurd (cc)
+
+  pub apart_under : (k : ℕ) (p : Nameless) (found : InstanceValue) (t : Nameless) → may_match p t ≡ false → matched_under env k p found t ≡ None
+  apart_under k (free v) found t h = absurd (cc)
+  apart_under k (bound i) found t h = absurd (cc)
+  apart_under k (lam a s b) found t h = lam_apart k a s b found t h
+  apart_under k (fixed c s) found t h = constant_apart c s found t h
+  apart_under k (app p q) found (free v) h = refl
+  apart_under k (app p q) found (bound i) h = refl
+  apart_under k (app p q) found (fixed c s) h = refl
+  apart_under k (app p q) found (lam a s b) h = refl
+  apart_under k (app p q) found (app f x) h = app_apart k p q f x found h (λ e. apart_under k p found f e) (λ more e. apart_under k q more x e)
 
 pub apart : (k : ℕ) (p : Nameless) (found : InstanceValue) (t : Nameless) → may_match p t ≡ false → matched k p found t ≡ None
-apart k (free v) found t h = absurd (cc)
-apart k (bound i) found t h = absurd (cc)
-apart k (lam a s b) found t h = lam_apart k a s b found t h
-apart k (fixed c s) found t h = constant_apart c s found t h
-apart k (app p q) found (free v) h = refl
-apart k (app p q) found (bound i) h = refl
-apart k (app p q) found (fixed c s) h = refl
-apart k (app p q) found (lam a s b) h = refl
-apart k (app p q) found (app f x) h = app_apart k p q f x found h (λ e. apart k p found f e) (λ more e. apart k q more x e)
+apart k p found t h = apart_under [] k p found t h
 
 pub fit_apart : (e : RuleEntry) (p t : Nameless) → p ≡ e.rule.left → may_match p t ≡ false → fit e t ≡ None
 fit_apart e p t g h = ap (option_map (beside e.stays)) (apart 0 e.rule.left e.stays t (sym (ap (λ q. may_match q t) g) ∙ h))

@@ -161,7 +161,7 @@ matches_none names vs (lam d s b) k t u l a c same o h =
     let p : Nameless = lam d s b in
     apart 0 p (staying names vs) u (sym (may_alike p k t u l a) ∙ not-true (may_match p t) o)
 
-map_none : {A B : Type 0} (f : A → B) (o : Option A) → option_map f o ≡ None → o ≡ None
+pub map_none : {A B : Type 0} (f : A → B) (o : Option A) → option_map f o ≡ None → o ≡ None
 map_none f None h = refl
 map_none f (Some x) h = absurd (cc)
 
@@ -173,7 +173,7 @@ rule_stays r k t u l a c same o h =
     ap (λ m. option_map (λ a. instantiated a 0 e.rule.right) (option_map (beside e.stays) m)) (matches_none r.source.value.fixed.names.items r.source.value.fixed.variables.items e.rule.left k t u l a c same o matches)
 
 -- ---- all rules
-or_none : (o p : Option Nameless) → option_or o p ≡ None → (o ≡ None) × (p ≡ None)
+pub or_none : (o p : Option Nameless) → option_or o p ≡ None → (o ≡ None) × (p ≡ None)
 or_none None p h = (refl, h)
 or_none (Some u) p h = absurd (cc)
 

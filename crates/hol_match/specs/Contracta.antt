@@ -9,10 +9,10 @@
 -- - A pattern `\x. t x` matches an abstraction whose body is an application to the bound variable, which isn't in the function. Nothing is
 --   matched after eta or beta: `t x`, t a pattern variable, matches applications alone.
 -- - Where several rules match, the first one counts, though a later one fits more closely.
-use Rattle.std.specs.Prelude.{List, [], ◌∷◌, Option, None}
+use Rattle.std.specs.Prelude.{◌≡◌, List, [], ◌∷◌, Option, None}
 use Rattle.std.specs.Option.{option_map, option_or}
 use Rattle.hol_types.specs.Tree.{TypeTree}
-use Rattle.hol_terms.specs.Nameless.{Nameless}
+use Rattle.hol_terms.specs.Nameless.{Nameless, free, bound, fixed, app, lam}
 use Rattle.hol_match.specs.Instance.{instantiated}
 use Rattle.hol_match.specs.RuleSets.{RuleEntry, fit_under}
 
@@ -24,3 +24,17 @@ contracted env e t = option_map (λ a. instantiated a 0 e.rule.right) (fit_under
 abbrev pub contractum : List TypeTree → List RuleEntry → Nameless → Option Nameless
 contractum env [] t = None
 contractum env (e ∷ es) t = option_or (contracted env e t) (contractum env es t)
+
+-- ---- terms that no rule matches anywhere
+
+-- no rule matches the term, whatever binders it stands under
+abbrev pub MakeNothing : List RuleEntry → Nameless → Type 0
+MakeNothing rules t = (env : List TypeTree) → contractum env rules t ≡ None
+
+-- nor any part of it
+abbrev pub HasNoRedex : List RuleEntry → Nameless → Type 0
+HasNoRedex rules (free v) = MakeNothing rules (free v)
+HasNoRedex rules (bound i) = MakeNothing rules (bound i)
+HasNoRedex rules (fixed c s) = MakeNothing rules (fixed c s)
+HasNoRedex rules (app f x) = MakeNothing rules (app f x) × HasNoRedex rules f × HasNoRedex rules x
+HasNoRedex rules (lam a s b) = MakeNothing rules (lam a s b) × HasNoRedex rules b

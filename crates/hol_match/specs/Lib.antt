@@ -23,6 +23,7 @@ pub mod Outlines
 pub mod SetView
 pub mod Heads
 pub mod HeadView
+pub mod HeadNames
 pub mod Contracta
 pub mod Apart
 pub mod Binding

@@ -5,6 +5,7 @@
 
 mod binder;
 mod fixed;
+mod head_names;
 mod heads;
 mod instance;
 pub mod laws;

@@ -1,8 +1,9 @@
 //! Sets of rules, and the first one that fits a term.
-ghost use Rattle.std.specs.Prelude.{◌≡◌, ◌<◌, ◌++◌, [], map, length, not, ◌||◌, IfOk, IfSome, OnOk, MatchOption, is_none, slice_get, Some, None};
+ghost use Rattle.std.specs.Prelude.{◌≡◌, ◌<◌, ◌++◌, [], map, length, not, ◌||◌, IfOk, IfSome, IsFalse, OnOk, MatchOption, is_none, slice_get, Some, None};
 ghost use Rattle.std.specs.List.{AllByRecursion};
 ghost use Rattle.std.specs.List.Sorted.{IsStrictlySortedBy};
-ghost use Rattle.std.specs.Coded.{Coded-set, coded_list};
+ghost use Rattle.std.specs.Option.{option_map};
+ghost use Rattle.std.specs.Coded.{Coded-set, coded_ℕ, coded_list, coded_option};
 ghost use Rattle.hol_terms.specs.Code.{coded_variable};
 ghost use Rattle.hol_terms.specs.Named.{abs, named_type};
 ghost use Rattle.hol_terms.specs.Nameless.{nameless};
@@ -10,7 +11,7 @@ ghost use Rattle.hol_subst.specs.AlphaOrder.{nameless_cmp};
 ghost use Rattle.hol_subst.specs.Hypotheses.{hyp_of, hyps_of};
 ghost use Rattle.hol_kernel.specs.Given.{given_sequent};
 ghost use Rattle.hol_match.specs.RuleSets.{rule_entries, IsTypedRule, IsFit, entries, fit, first_fit};
-ghost use Rattle.hol_match.specs.Contracta.{contracted, contractum};
+ghost use Rattle.hol_match.specs.Contracta.{contracted, contractum, HasNoRedex};
 ghost use Rattle.hol_match.specs.Apart.{IsApart, rule_variables};
 ghost use Rattle.hol_match.specs.SetView.{set_rule, set_rules, set_given, set_givens, IsGivenIn, AreOf, Adds, AddsFrom};
 ghost use Rattle.hol_match.specs.RuleView.{rule_values};
@@ -21,8 +22,10 @@ ghost use Rattle.hol_match.specs.Matches.{IsMatch};
 ghost use Rattle.hol_match.specs.Outlines.{is_variable, may_match, rules_depth, has_large_side, rules_pass_over};
 ghost use Rattle.hol_match.specs.Heads.{first_in, bucket_passes_over, earlier};
 ghost use Rattle.hol_match.specs.HeadView.{AreFirst, AreNext};
+ghost use Rattle.hol_match.specs.HeadNames.{head_bits};
 
 use crate::binder::{Binder, binder_apart, rule_variables};
+use crate::head_names::head_names;
 use crate::heads::Heads;
 use crate::instance::Instance;
 use crate::matching::match_with;
@@ -32,6 +35,7 @@ use crate::set_rule::SetRule;
 use crate::source::Source;
 use hol_kernel::{Given, GivenNode};
 use hol_terms::{Term, Variable};
+use hol_types::NameFilter;
 use std::alloc::{AllocError, Global};
 use std::rc::Rc;
 use std::slice;
@@ -46,7 +50,9 @@ pub struct RuleSet {
     rules: Vec<SetRule>,
     variables: Vec<Variable>,
     heads: Heads,
+    names: Option<NameFilter>,
     ghost own: { variables.items ≡ rule_variables [] (set_rules rules.items) } by { Coded-set (coded_list coded_variable) variables.items (rule_variables [] (set_rules rules.items)) },
+    ghost named: { option_map (λ n. n.bits) names ≡ head_bits (set_rules rules.items) } by { Coded-set (coded_option coded_ℕ) (option_map (λ n. n.bits) names) (head_bits (set_rules rules.items)) },
     ghost some: { 0 < length heads.first.items },
     ghost long: { length heads.next.items ≡ length rules.items },
     ghost first: { AreFirst rules.items heads.first.items },
@@ -62,10 +68,12 @@ impl RuleSet {
         let rules = all_rules(alloc, thms)?;
         let variables = rule_variables(alloc, &rules)?;
         let heads = Heads::of(alloc, &rules)?;
+        let names = head_names(&rules);
         Ok(RuleSet {
             rules,
             variables,
             heads,
+            names,
         })
     }
 
@@ -123,6 +131,22 @@ impl RuleSet {
                 Ok(Some((rule, term)))
             }
             None => Ok(None),
+        }
+    }
+
+    /// Whether a rule may match the term or a part of it, under whatever binders: where one does, the answer is `true`. So `false` says
+    /// that none does, and spares a walk.
+    ///
+    /// Takes no memory and no more time for a larger term. Each term keeps the names of its constants, as 64 bits of which each name has
+    /// one, and so does the set those of the constants at the heads of its rules' left sides. Where one of these has none there, the answer
+    /// is `true`.
+    #[tactic(auto, using(crate::proofs::HeadNames::no_redex))]
+    pub fn may_have_redex(&self, t: &Term) -> bool
+        ensures { IsFalse result → HasNoRedex (set_rules self.now.rules.items) (nameless [] t.now) }
+    {
+        match self.names {
+            Some(names) => t.constants().meets(names),
+            None => true,
         }
     }
 

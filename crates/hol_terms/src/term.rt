@@ -7,7 +7,7 @@ ghost use Rattle.hol_terms.specs.Scoped.{binds, AgreeBut, same_named, add_all, o
 ghost use Rattle.hol_terms.specs.Scope.{binders};
 ghost use Rattle.hol_terms.specs.Alpha.{strip, alpha_eq};
 ghost use Rattle.hol_terms.specs.Size.{named_size, term_size};
-ghost use Rattle.hol_terms.specs.Filter.{filter_of, type_filter_of};
+ghost use Rattle.hol_terms.specs.Filter.{filter_of, type_filter_of, constant_filter_of};
 ghost use Rattle.hol_terms.specs.Basic.{is_basic_term};
 ghost use Rattle.hol_terms.specs.View.{named_of};
 ghost use Rattle.hol_terms.specs.declared.term.TermError.TheVariants.{Memory};
@@ -54,7 +54,7 @@ pub struct Term {
 }
 
 // What the copies of a term share: its top node, the mark by which two copies are known to be of one term, its type, its size,
-// filters of its free variables and of its type variables, and whether all its types and constants are the prelude's.
+// filters of its free variables, of its type variables and of its constants, and whether all its types and constants are the prelude's.
 #[cycle(term)]
 #[derive(Drop)]
 struct TermShared {
@@ -65,6 +65,7 @@ struct TermShared {
     filter: NameFilter,
     type_filter: NameFilter,
     basic: bool,
+    constants: NameFilter,
 }
 
 /// The top node of a term.
@@ -85,7 +86,7 @@ impl Model for Term {
     ghost use Rattle.std.specs.Prelude.{◌≡◌, Some, min};
     ghost use Rattle.hol_terms.specs.Named.{Named, named_type, term_nodes};
     ghost use Rattle.hol_terms.specs.Size.{named_size};
-    ghost use Rattle.hol_terms.specs.Filter.{filter_of, type_filter_of};
+    ghost use Rattle.hol_terms.specs.Filter.{filter_of, type_filter_of, constant_filter_of};
     ghost use Rattle.hol_terms.specs.Basic.{is_basic_term};
     ghost use Rattle.hol_terms.specs.Code.{coded_named, named_code};
 
@@ -97,7 +98,7 @@ impl Model for Term {
 
     ghost view = { λ a. named_of a.shared.value.node };
 
-    ghost invariant = { λ a. (a.shared.value.mark ≡ named_code (named_of a.shared.value.node)) × (named_type (named_of a.shared.value.node) ≡ Some a.shared.value.ty) × (a.shared.value.size ≡ min (named_size (named_of a.shared.value.node)) 20001) × (a.shared.value.filter.bits ≡ filter_of (named_of a.shared.value.node)) × (a.shared.value.type_filter.bits ≡ type_filter_of (named_of a.shared.value.node)) × (a.shared.value.basic ≡ is_basic_term (named_of a.shared.value.node)) };
+    ghost invariant = { λ a. (a.shared.value.mark ≡ named_code (named_of a.shared.value.node)) × (named_type (named_of a.shared.value.node) ≡ Some a.shared.value.ty) × (a.shared.value.size ≡ min (named_size (named_of a.shared.value.node)) 20001) × (a.shared.value.filter.bits ≡ filter_of (named_of a.shared.value.node)) × (a.shared.value.type_filter.bits ≡ type_filter_of (named_of a.shared.value.node)) × (a.shared.value.basic ≡ is_basic_term (named_of a.shared.value.node)) × (a.shared.value.constants.bits ≡ constant_filter_of (named_of a.shared.value.node)) };
 
     ghost size = { term_nodes };
 
@@ -194,6 +195,7 @@ impl Term {
         let filter = node.filter();
         let type_filter = node.type_filter();
         let basic = node.is_basic();
+        let constants = node.constants();
         let shared = TermShared {
             node,
             mark,
@@ -202,6 +204,7 @@ impl Term {
             filter,
             type_filter,
             basic,
+            constants,
         };
         Ok(Term {
             shared: Rc::new(alloc, shared)?,
@@ -368,6 +371,13 @@ impl Term {
         self.shared.type_filter
     }
 
+    /// A set that has the names of the constants in the term, and may have others. Each term keeps it, so this is at once.
+    pub fn constants(&self) -> NameFilter
+        ensures { result.bits ≡ constant_filter_of self.now }
+    {
+        self.shared.constants
+    }
+
     /// Whether all types and constants of the term are the prelude's, each constant at an instance of its generic type: so the term is
     /// well typed over every basis. Each term keeps it, so this is at once.
     pub fn is_basic(&self) -> bool
@@ -445,6 +455,18 @@ impl TermNode {
             TermNode::Const(_, ty) => ty.filter(),
             TermNode::Comb(f, x) => f.type_filter().union(x.type_filter()),
             TermNode::Abs(v, b) => v.ty().filter().union(b.type_filter()),
+        }
+    }
+
+    // The filter of the constants of the term with this top node.
+    fn constants(&self) -> NameFilter
+        ensures { result.bits ≡ constant_filter_of (named_of self.now) }
+    {
+        match self {
+            TermNode::Var(_) => NameFilter::empty(),
+            TermNode::Const(name, _) => NameFilter::of_name(name),
+            TermNode::Comb(f, x) => f.constants().union(x.constants()),
+            TermNode::Abs(_, b) => b.constants(),
         }
     }
 
