@@ -66,8 +66,8 @@ impl Run {
     }
 }
 
-/// Outcomes that have left their slots, under the texts of their commands and what these read; all of one set-up. The one that was used least lately gives way where a new one
-/// finds no room.
+/// Outcomes that have left their slots, under the texts of their commands and what these read; all of one set-up. The one that has not left a slot for longest gives way where a
+/// new one finds no room.
 #[derive(Drop)]
 pub(crate) struct Cache {
     setup: Rc<SetupTable>,
@@ -99,26 +99,25 @@ impl Cache {
         Ok(Cache { setup, runs })
     }
 
-    /// Takes out what the command came to where it read this, if that is there.
-    pub(crate) fn take(
-        &mut self,
+    /// What the command came to where it read this, if that is there. It stays, since other slots may ask for it too.
+    pub(crate) fn find(
+        &self,
         line: &Line,
         command: &LocalCommand,
         reads: &Rc<Reads>,
     ) -> Result<Option<Rc<Outcome>>, AllocError>
         requires { line.now.value ≡ read.Reads (Local (local_text command.now)) }
-        ensures setup { self.new ≡ self.old }
-        ensures outcome { IfOk result (λ found. IfSome found (λ outcome. IsLocalOutcome self.old (local_text command.now) reads.now.value outcome.value)) }
+        ensures { IfOk result (λ found. IfSome found (λ outcome. IsLocalOutcome self.now (local_text command.now) reads.now.value outcome.value)) }
     {
         let key = RunKey {
             text: line.text().clone()?,
             reads: reads.clone()?,
         };
-        let Some((_, run)) = self.runs.pop_entry(&key) else {
+        let Some(run) = self.runs.peek(&key) else {
             return Ok(None);
         };
         let _ = line.parsed();
-        if is_of(&run, line, reads) {
+        if is_of(run, line, reads) {
             return Ok(Some(run.outcome().clone()?));
         }
         Ok(None)

@@ -69,7 +69,7 @@ impl Runner {
         ensures few { ran_of self.new ≤ ran_of self.old + 1 }
         ensures rises { ran_of self.old ≤ ran_of self.new }
     {
-        if let Some(outcome) = self.cache.take(line, command, reads)? {
+        if let Some(outcome) = self.cache.find(line, command, reads)? {
             return Ok(outcome);
         }
         let outcome = run_local(alloc, &mut self.meter, command, reads)?;
