@@ -34,10 +34,7 @@ specialized-requires t c =
     let own : over th.basis (spec_of th.basis (nameless [] (var v)) th.sequent) ≡ Some r = subst (λ (x : Named). over th.basis (spec_of th.basis (nameless [] x) th.sequent) ≡ Some r) c.in_ok-variable.ensures.is c.in_ok-instance.ensures.gives in
     let counted : length (bound_variables formula) ≡ length (v ∷ bound_variables body) = ap length are in (
       omega (arith, counted, c.decreases),
-      record {
-        lemmas = c.in_ok-instance.ensures.kept ∙ c.requires.lemmas ∙ sym (over_basis th.basis (spec_of th.basis (nameless [] (var v)) th.sequent) r own);
-        applies = rest_applies th formula v body are c.requires.applies r own;
-      },
+      (c.in_ok-instance.ensures.kept ∙ c.requires.lemmas ∙ sym (over_basis th.basis (spec_of th.basis (nameless [] (var v)) th.sequent) r own), rest_applies th formula v body are c.requires.applies r own),
     )
 
 pub returns-clause-gives : goal.returns-clause-gives
