@@ -1,4 +1,5 @@
 pub mod Entries
+pub mod NewEntries
 pub mod NameFilters
 pub mod CitedBases
 pub mod Agreeing

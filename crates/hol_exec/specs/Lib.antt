@@ -22,6 +22,7 @@ pub mod ExprView
 pub mod ContextView
 pub mod Refusal
 pub mod OutcomeValue
+pub mod NewEntriesView
 pub mod OutcomeView
 pub mod ChangedKeys
 pub mod Filters

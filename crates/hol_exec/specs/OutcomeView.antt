@@ -10,5 +10,5 @@ outcome_of (change.Opens name statement basis) = Opens (string_bytes name) (name
 outcome_of (change.Leaves goal step basis) = Leaves goal step.goals basis
 outcome_of change.Undoes = Undoes
 outcome_of (change.Rotates times) = Rotates times
-outcome_of (change.Makes entries) = Makes entries.items
+outcome_of (change.Makes entries) = Makes entries
 outcome_of (change.Refuses kind arg) = Refuses kind (string_bytes arg)

@@ -86,7 +86,7 @@ IsValidChange (Opens name statement basis) = IsStatement basis (nameless [] stat
 IsValidChange (Leaves goal step basis) = IsLeft basis step.moves goal step.goals
 IsValidChange Undoes = Unit {0}
 IsValidChange (Rotates times) = Unit {0}
-IsValidChange (Makes entries) = EachIsEntry entries.items × IsDistinct key_eq (keys_of entries.items)
+IsValidChange (Makes entries) = EachIsEntry entries × IsDistinct key_eq (keys_of entries)
 IsValidChange (Refuses kind arg) = Unit {0}
 
 -- The proof can take the step: its basis agrees with what was resolved, and the moves are valid from its first goal.

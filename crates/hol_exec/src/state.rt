@@ -12,13 +12,14 @@ ghost use Rattle.hol_exec.specs.OutcomeValue.{stepped, stepped_in, undone_in, ro
 ghost use Rattle.hol_exec.specs.Valid.{CanStep, IsFreeFor, IsProofWithin};
 
 mod entry;
+mod new_entries;
 mod proof;
 
-pub(crate) use entry::copies;
 use hol_goal::Goal;
 use hol_kernel::Basis;
 use hol_stack::{Element, SharedStep};
 use hol_theory::{Env, Key, Value};
+pub(crate) use new_entries::NewEntries;
 pub(crate) use proof::Proof;
 use std::alloc::{AllocError, Global};
 use std::marker::Model;
@@ -206,13 +207,13 @@ impl State {
     }
 
     /// Makes the entries and drops the proof.
-    pub(crate) fn make(&mut self, entries: &[(Key, Value)]) -> Result<(), AllocError>
+    pub(crate) fn make(&mut self, entries: &NewEntries) -> Result<(), AllocError>
         requires new { AreNew self.old.entries entries.now }
         requires follow { CanFollow self.old.entries entries.now }
         ensures ok { OnOk result (self.new ≡ record { entries = self.old.entries ++ entries.now; proof = None }) }
         ensures err { OnErr result (self.new ≡ self.old) }
     {
-        self.env.add_all(entries)?;
+        entries.add_to(&mut self.env)?;
         self.proof = None;
         Ok(())
     }

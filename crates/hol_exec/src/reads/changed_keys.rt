@@ -6,7 +6,8 @@ ghost use Rattle.hol_exec.specs.ChangedKeys.{is_one_of, keys_made};
 ghost use Rattle.hol_exec.specs.Filters.{HasNames};
 
 use crate::running::{Change, Outcome};
-use hol_theory::{Key, Value};
+use crate::state::NewEntries;
+use hol_theory::Key;
 use hol_types::NameFilter;
 use indexmap::IndexSet;
 use std::alloc::{AllocError, Global};
@@ -88,12 +89,13 @@ impl ChangedKeys {
     }
 
     // Adds the keys of entries.
-    #[tactic(auto, using(crate::proofs::Changing::none_more, crate::proofs::Changing::entry_added))]
-    fn add_keys_of(&mut self, entries: &[(Key, Value)]) -> Result<(), AllocError>
+    #[tactic(auto, using(crate::proofs::Changing::none_more))]
+    fn add_keys_of(&mut self, entries: &NewEntries) -> Result<(), AllocError>
         ensures { OnOk result ((k : KeyValue) → is_one_of self.new k ≡ (is_one_of self.old k || is_one_of (map (λ entry. entry.0) entries.now) k)) }
     {
-        for entry in entries {
-            self.add(&entry.0)?;
+        for i in 0..entries.len() {
+            let (key, _) = entries.entry(i);
+            self.add(key)?;
         }
         Ok(())
     }

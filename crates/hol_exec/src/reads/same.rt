@@ -56,12 +56,6 @@ impl Same for Value {
     }
 }
 
-impl Same for (Key, Value) {
-    fn same_as(&self, other: &(Key, Value)) -> bool {
-        self.0 == other.0 && self.1.same_as(&other.1)
-    }
-}
-
 impl Same for (Key, Option<Value>) {
     fn same_as(&self, other: &(Key, Option<Value>)) -> bool {
         self.0 == other.0 && same_options(&self.1, &other.1)

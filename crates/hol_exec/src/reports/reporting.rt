@@ -7,7 +7,7 @@ ghost use Rattle.hol_print.specs.ShowGoal.{goal_text};
 
 use crate::reports::report::Report;
 use crate::running::{Change, Outcome};
-use crate::state::State;
+use crate::state::{NewEntries, State};
 use hol_goal::Goal;
 use hol_print::{ShownGoal, show_goal, show_term, show_type};
 use hol_stack::Element;
@@ -95,12 +95,13 @@ fn shown_entry(
     Ok(text)
 }
 
-fn entry_texts(alloc: Global, entries: &[(Key, Value)]) -> Result<Vec<String>, AllocError>
+fn entry_texts(alloc: Global, entries: &NewEntries) -> Result<Vec<String>, AllocError>
     ensures { IfOk result (λ texts. map string_bytes texts.items ≡ map entry_text entries.now) }
 {
     let mut texts = Vec::with_capacity(alloc, entries.len())?;
-    for entry in entries {
-        texts.push(entry_text(alloc, &entry.0, &entry.1)?)?;
+    for i in 0..entries.len() {
+        let (key, value) = entries.entry(i);
+        texts.push(entry_text(alloc, key, value)?)?;
     }
     Ok(texts)
 }

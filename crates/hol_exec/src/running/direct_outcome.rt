@@ -124,10 +124,13 @@ fn theory_named<'a, T: EarlierTheory>(earlier: &'a [T], name: &str) -> Option<&'
 }
 
 // An import of the entries of a theory's last state.
-#[tactic(auto, using(crate::proofs::Entries::missing_made, crate::proofs::Free::missing_distinct))]
+#[tactic(auto, using(crate::proofs::Entries::missing_made, crate::proofs::Free::missing_distinct, crate::proofs::NewEntries::imported_whole))]
 fn imports_from(alloc: Global, state: &State, theory: &State) -> Result<Outcome, AllocError>
     ensures { IfOk result (λ outcome. outcome ≡ imports_from state.now.entries theory.now.entries (first_clash state.now.entries theory.now.entries)) }
 {
+    if state.env().len() == 0 {
+        return Ok(Outcome::makes_shared(theory.env().checkpoint()?));
+    }
     theory.promise();
     if let Some(key) = state.env().first_clash(theory.env()) {
         return Ok(Outcome::refuses(RefusalKind::ImportClash, key.text(alloc)?));

@@ -13,12 +13,12 @@ ghost use Rattle.hol_exec.specs.Valid.{IsStatement, IsLeft, IsValidChange};
 
 use crate::reads::{Same, same_each};
 use crate::reports::RefusalKind;
-use crate::state::copies;
+use crate::state::NewEntries;
 use hol_goal::Goal;
 use hol_kernel::Basis;
 use hol_stack::SharedStep;
 use hol_terms::Term;
-use hol_theory::{Entries, Key, Value, same_basis};
+use hol_theory::{Entries, Env, same_basis};
 use std::alloc::{AllocError, Global};
 use std::marker::Model;
 
@@ -40,7 +40,7 @@ pub(crate) enum Change {
     /// Puts the first goal last, so many times.
     Rotates(usize),
     /// Makes these entries, if any, after which no proof is open.
-    Makes(Entries),
+    Makes(NewEntries),
     /// The command is refused; the text is what the refusal speaks of, or empty.
     Refuses(RefusalKind, String),
 }
@@ -86,6 +86,24 @@ impl Outcome {
         requires entries { EachIsEntry entries.items }
         requires keys { IsDistinct key_eq (keys_of entries.items) }
         ensures { result ≡ Makes entries.items }
+    {
+        Outcome::makes_new(NewEntries::listed(entries))
+    }
+
+    /// The making of all entries of the theory, if any.
+    #[tactic(auto, using(crate::proofs::NewEntries::theory_entries))]
+    pub(crate) fn makes_shared(env: Env) -> Outcome
+        ensures { result ≡ Makes env }
+    {
+        env.promise();
+        Outcome::makes_new(NewEntries::shared(env))
+    }
+
+    // The making of these entries, if any.
+    fn makes_new(entries: NewEntries) -> Outcome
+        requires entries { EachIsEntry entries }
+        requires keys { IsDistinct key_eq (keys_of entries) }
+        ensures { result ≡ Makes entries }
     {
         Outcome {
             change: Change::Makes(entries),
@@ -178,7 +196,7 @@ impl Outcome {
                 let Change::Makes(entries2) = other.change() else {
                     return false;
                 };
-                same_each(entries, entries2)
+                entries.same(entries2)
             }
             Change::Refuses(kind, arg) => {
                 let Change::Refuses(kind2, arg2) = other.change() else {
@@ -200,7 +218,7 @@ impl Outcome {
             Change::Leaves(goal, step, basis) => leaving_copy(goal, step, basis),
             Change::Undoes => Ok(Outcome::undoes()),
             Change::Rotates(times) => Ok(Outcome::rotates(*times)),
-            Change::Makes(entries) => Ok(Outcome::makes(copies(alloc, entries)?)),
+            Change::Makes(entries) => Ok(Outcome::makes_new(entries.copy(alloc)?)),
             Change::Refuses(kind, arg) => Ok(Outcome::refuses(
                 *kind,
                 String::from_str(alloc, arg.as_str())?,
@@ -210,10 +228,11 @@ impl Outcome {
 }
 
 // Whether these are no entries.
-fn are_none(entries: &[(Key, Value)]) -> bool
+#[tactic(auto, using(crate::proofs::NewEntries::none_made, crate::proofs::NewEntries::none_there))]
+fn are_none(entries: &NewEntries) -> bool
     ensures { IsTrue result ↔ (keys_of entries.now ≡ []) }
 {
-    matches!(entries, [])
+    entries.len() == 0
 }
 
 fn opening_copy(

@@ -1,4 +1,4 @@
-use Rattle.std.proofs.Common.{◌≡◌, ℕ, List, sym, ◌∙◌, ap, subst, rules}
+use Rattle.std.proofs.Common.{ℕ, List, sym, ◌∙◌, ap, subst}
 use Rattle.hol_theory.specs.Entry.{entry_at}
 use Rattle.hol_theory.specs.Key.{theorem_key}
 use Rattle.hol_theory.specs.Theory.{items_in}
@@ -34,10 +34,8 @@ step-requires-clause-within c =
 
 pub make-requires-clause-new : goal.make-requires-clause-new
 make-requires-clause-new c =
-    let same : c.deref.result.now ≡ c.in-Makes.entries.items = search rules in
-    rw same (makes_new _ _ (c.promise.ensures.theory, c.promise.ensures.free, c.promise.ensures.within) c.requires _ (sym c.change.ensures.change ∙ ap outcome_of c.in-Makes.is) (rw c.in-Makes.is at c.change.ensures.valid).1)
+    makes_new _ _ (c.promise.ensures.theory, c.promise.ensures.free, c.promise.ensures.within) c.requires _ (sym c.change.ensures.change ∙ ap outcome_of c.in-Makes.is) (rw c.in-Makes.is at c.change.ensures.valid).1
 
 pub make-requires-clause-follow : goal.make-requires-clause-follow
 make-requires-clause-follow c =
-    let same : c.deref.result.now ≡ c.in-Makes.entries.items = search rules in
-    rw same (makes_following _ _ (c.promise.ensures.theory, c.promise.ensures.free, c.promise.ensures.within) c.requires _ (sym c.change.ensures.change ∙ ap outcome_of c.in-Makes.is) (rw c.in-Makes.is at c.change.ensures.valid).0)
+    makes_following _ _ (c.promise.ensures.theory, c.promise.ensures.free, c.promise.ensures.within) c.requires _ (sym c.change.ensures.change ∙ ap outcome_of c.in-Makes.is) (rw c.in-Makes.is at c.change.ensures.valid).0
