@@ -15,8 +15,11 @@ PATH is the built program, crates/hol_bench/out/hol_bench. Its jobs:
             a type for a type variable that does not occur in so many applications: these keep their nodes
   size      the sizes of 60 types, whose trees have 2, 4, .. 2 to the 60 leaves over 60 shared nodes
   order     the orders of these types against a type variable
+  missing   what stands under a name, in a theory with so many entries that has none of it
+  checkpoint
+            a theory to go on from, which shares the older part of one with so many entries
 
-Each line has the size that the job is given, its answer (the nodes of the result or the conclusion, 20,001 for more; of the last two the sum of the sizes, and how many come after the variable), and how many
+Each line has the size that the job is given, its answer (the nodes of the result or the conclusion, 20,001 for more; of `size` the sum of the sizes, of `order` how many come after the variable, of `missing` 0, of `checkpoint` the entries), and how many
 times it is done in a second of processor time. The times are medians of the rounds, less those of a run that prepares the same and does nothing. A round
 does the job so often that it takes at least a third of a second, so that starting the program doesn't show.
 
@@ -45,6 +48,10 @@ JOBS = tuple((rule, height, times) for rule in RULES for height, times in HEIGHT
     ("types_beside", 3990, 200000),
     ("size", 60, 1000000),
     ("order", 60, 1000000),
+    ("missing", 100, 1000000),
+    ("missing", 10000, 1000000),
+    ("checkpoint", 100, 100000),
+    ("checkpoint", 10000, 100000),
 )
 
 

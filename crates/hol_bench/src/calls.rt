@@ -5,6 +5,7 @@ use crate::rules::Rule;
 use hol_notation_commands::read_command;
 use hol_subst::{inst, vsubst};
 use hol_terms::Term;
+use hol_theory::{Env, Key};
 use hol_types::{Name, Ty};
 use std::alloc::Global;
 use std::cmp::Ordering;
@@ -24,6 +25,10 @@ pub(crate) enum Call<'a> {
     Orders(&'a [Ty], &'a Ty),
     /// The reader of commands.
     Read(&'a str),
+    /// What stands under the key.
+    LookUp(&'a Env, &'a Key),
+    /// The theory, to go on from.
+    Checkpoint(&'a Env),
 }
 
 impl Call<'_> {
@@ -36,7 +41,8 @@ impl Call<'_> {
         Ok(last)
     }
 
-    // Makes the call, and answers the size of the term, the sum of the sizes, how many types come after the other, or 1 for a command.
+    // Makes the call, and answers the size of the term, the sum of the sizes, how many types come after the other, 1 for a command, whether the key is found, or the
+    // entries of a theory.
     fn made(&self, alloc: Global) -> Result<u32, Failure> {
         match self {
             Call::Rule(rule) => concluded(alloc, rule),
@@ -45,11 +51,13 @@ impl Call<'_> {
             Call::Sizes(types) => Ok(sizes(types)),
             Call::Orders(types, other) => Ok(after(types, other)),
             Call::Read(text) => read(alloc, text),
+            Call::LookUp(theory, key) => Ok(found(theory, key)),
+            Call::Checkpoint(theory) => checkpoint(theory),
         }
     }
 }
 
-// The four that follow say nothing of what the calls promise, so that the loop is cheap to prove.
+// The six that follow say nothing of what the calls promise, so that the loop is cheap to prove.
 fn concluded(alloc: Global, rule: &Rule<'_>) -> Result<u32, Failure> {
     Ok(rule.theorem(alloc)?.concl().size())
 }
@@ -65,6 +73,14 @@ fn instantiated(alloc: Global, pairs: &[(Ty, Name)], t: &Term) -> Result<u32, Fa
 fn read(alloc: Global, text: &str) -> Result<u32, Failure> {
     let _command = read_command(alloc, text)?;
     Ok(1)
+}
+
+fn found(theory: &Env, key: &Key) -> u32 {
+    u32::from(theory.get(key).is_some())
+}
+
+fn checkpoint(theory: &Env) -> Result<u32, Failure> {
+    Ok(theory.checkpoint()?.len() as u32)
 }
 
 fn sizes(types: &[Ty]) -> u32 {

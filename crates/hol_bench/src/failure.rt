@@ -5,6 +5,7 @@ use hol_kernel::KernelError;
 use hol_notation_tokens::SyntaxError;
 use hol_subst::SubstError;
 use hol_terms::TermError;
+use hol_theory::EnvError;
 use std::alloc::{AllocError, AllocFailed};
 use std::io;
 use thiserror::Error;
@@ -49,6 +50,12 @@ impl From<KernelError> for Failure {
 
 impl From<SubstError> for Failure {
     fn from(_e: SubstError) -> Failure {
+        Failure::Refused
+    }
+}
+
+impl From<EnvError> for Failure {
+    fn from(_e: EnvError) -> Failure {
         Failure::Refused
     }
 }

@@ -1,4 +1,4 @@
-//! Does one call of the crates below so many times, so that a clock outside can time it. Its words: `JOB SIZE TIMES`, for terms of a size;
+//! Does one call of the crates below so many times, so that a clock outside can time it. Its words: `JOB SIZE TIMES`, for terms or a theory of a size;
 //! `read COMMAND TIMES`, for a command that is written; or `infer TYPE TERM`, to find the types of a term once. It answers a number.
 #![tactic(auto)]
 
@@ -9,6 +9,7 @@ mod rules;
 mod sharing;
 mod substitution;
 mod terms;
+mod theories;
 
 use crate::calls::Call;
 use crate::failure::Failure;
@@ -16,17 +17,19 @@ use crate::inference::inference;
 use crate::rules::rules;
 use crate::sharing::sharing;
 use crate::substitution::substitution;
+use crate::theories::theories;
 use std::alloc::Global;
 use std::env;
 use std::process::ExitCode;
 
-// Does the job on terms of the size, and answers its last result.
+// Does the job on terms, or a theory, of the size, and answers its last result.
 fn done(alloc: Global, job: &str, size: u32, times: u32) -> Result<u32, Failure> {
     match job {
         "size" | "order" => sharing(alloc, job, size, times),
         "tower" | "beside" | "captures" | "types" | "types_beside" => {
             substitution(alloc, job, size, times)
         }
+        "missing" | "checkpoint" => theories(alloc, job, size, times),
         _ => rules(alloc, job, size, times),
     }
 }
