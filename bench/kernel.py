@@ -19,7 +19,7 @@ PATH is the built program, crates/hol_bench/out/hol_bench. Its jobs:
   checkpoint
             a theory to go on from, which shares the older part of one with so many entries
 
-Each line has the size that the job is given, its answer (the nodes of the result or the conclusion, 20,001 for more; of `size` the sum of the sizes, of `order` how many come after the variable, of `missing` 0, of `checkpoint` the entries), and how many
+Each line has the size that the job is given, its answer (the nodes of the result or the conclusion, 20,001 for more; of `size` the sum of the sizes, of `order` how many come after the variable, of `missing` 0, of `checkpoint` 1), and how many
 times it is done in a second of processor time. The times are medians of the rounds, less those of a run that prepares the same and does nothing. A round
 does the job so often that it takes at least a third of a second, so that starting the program doesn't show.
 

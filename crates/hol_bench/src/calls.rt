@@ -41,8 +41,8 @@ impl Call<'_> {
         Ok(last)
     }
 
-    // Makes the call, and answers the size of the term, the sum of the sizes, how many types come after the other, 1 for a command, whether the key is found, or the
-    // entries of a theory.
+    // Makes the call, and answers the size of the term, the sum of the sizes, how many types come after the other, 1 for a command, or whether the key is found or
+    // the theory has entries.
     fn made(&self, alloc: Global) -> Result<u32, Failure> {
         match self {
             Call::Rule(rule) => concluded(alloc, rule),
@@ -80,7 +80,7 @@ fn found(theory: &Env, key: &Key) -> u32 {
 }
 
 fn checkpoint(theory: &Env) -> Result<u32, Failure> {
-    Ok(theory.checkpoint()?.len() as u32)
+    Ok(u32::from(theory.checkpoint()?.len() > 0))
 }
 
 fn sizes(types: &[Ty]) -> u32 {
