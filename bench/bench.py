@@ -6,7 +6,7 @@
 PATH is the built program, crates/hol_serve/out/hol_serve. Six jobs are measured, each in a process of its own:
 
   inserts   1,000 inserts at the end of one theory, each of which runs its command
-  replaces  1,000 commands of a theory of 200, each place five times, are replaced by their own text: each runs its command, and none of those behind it
+  replaces  1,000 commands of a theory of 200, each place five times, are replaced by their own text, with a blank more behind it each time: each runs its command, and none of those behind it
   heads     100 times the head of a theory, a constant, is declared with another type, which runs the 200 commands behind it
   reports   1,000 reports on the commands of a theory of 200, each place five times: these run nothing
   steps     a proof of 998 steps, half of which take a quotation, is put into a theory, with its `qed`: 1,000 commands, the most that one may have
@@ -36,6 +36,8 @@ import time
 INSERTS = 1000
 REQUESTS = 1000
 HEADS = 100
+# The program's words by which it keeps one outcome that has left its slot.
+ONE_KEPT = ("--cache", "1")
 COMMANDS = 200
 STEPS = 998
 
@@ -58,6 +60,11 @@ def replace(at, text, theory="A"):
     return request(op="replace", theory=theory, at=at, text=text)
 
 
+def anew(at, text, theory="A"):
+    """What takes its own place each time, with one to three blanks behind it: a program by ONE_KEPT has to run it."""
+    return lambda time: [replace(at, text + " " * (time % 3 + 1), theory)]
+
+
 def report(at, theory="A"):
     return request(op="report", theory=theory, at=at)
 
@@ -73,13 +80,13 @@ def commands(count, statement="x:A = x"):
 
 
 def replaces(count):
-    """Commands of a theory in turn, each of which takes its own place."""
-    return [replace(number % COMMANDS, command(number % COMMANDS)) for number in range(count)]
+    """Commands of a theory in turn, each of which takes its own place, with one blank more behind it each time: else its outcome would be found."""
+    return [replace(number % COMMANDS, command(number % COMMANDS) + " " * (number // COMMANDS + 1)) for number in range(count)]
 
 
 def head(number):
     """A constant on which commands behind it rest, of another type each other time."""
-    return "new_constant c `:%s`" % ("bool", "bool->bool")[number % 2]
+    return "new_constant c `:A%d`" % number
 
 
 def proof(steps):
@@ -192,11 +199,13 @@ def measure(program, setup, lines, is_right, what, runs, shown=None, options=())
 
 
 def repeated(session, lines, runs, what, seconds, is_right=is_done):
-    """The processor time of these requests together, over as many times as fit into so many seconds, where each time runs so many commands."""
+    """The processor time of these requests together, over as many times as fit into so many seconds, where each time runs so many commands. They may go by the number of the
+    time."""
+    lines_at = lines if callable(lines) else lambda time: lines
     count, done, used, ran = 1, 0, 0.0, session.ran()
     while used < seconds:
         before = session.processor()
-        replies, _ = session.send(lines * count)
+        replies, _ = session.send([line for time in range(done, done + count) for line in lines_at(time)])
         used, done, count = used + session.processor() - before, done + count, count * 2
         expect(replies, is_right, what)
     expect_ran(session, ran, runs * done, what)

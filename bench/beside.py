@@ -28,7 +28,7 @@ import subprocess
 import sys
 import tempfile
 
-from bench import Session, expect, is_done, is_run, measure, new_theory, put, repeated, replace, report, request
+from bench import ONE_KEPT, Session, anew, expect, is_done, is_run, measure, new_theory, put, repeated, replace, report, request
 from kernel import HEIGHTS, RULES, rate
 from library import Theories
 from theories import EXAMPLES, commands, documents
@@ -210,10 +210,10 @@ def is_made(reply):
 def qed_seconds(program, before, goal, steps):
     """The processor time of the `qed` behind these steps."""
     texts = [*before, f"g N `{goal}`", *("e " + step for step in steps), "qed"]
-    last, session = len(texts) - 1, Session(program)
+    last, session = len(texts) - 1, Session(program, *ONE_KEPT)
     expect(session.send([new_theory(), *put(texts)])[0], is_done, "a proof")
     expect(session.send([report(last)])[0], is_made, f"the proof of {goal[:40]}")
-    seconds = repeated(session, [replace(last, "qed")], 1, "a qed", SECONDS)
+    seconds = repeated(session, anew(last, "qed"), 1, "a qed", SECONDS)
     session.close()
     return seconds
 

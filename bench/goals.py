@@ -29,7 +29,7 @@ Needs Python 3.8 and Linux, and nothing else.
 import argparse
 import os
 
-from bench import Session, expect, is_done, put, repeated, replace, report, request
+from bench import ONE_KEPT, Session, anew, expect, is_done, put, repeated, report, request
 
 
 def doubling(count):
@@ -78,12 +78,12 @@ JOBS = [
 def measure(program, label, quotation, expected, seconds):
     """The seconds that reading, typing and showing take."""
     text = "g N `%s`" % quotation
-    session = Session(program)
+    session = Session(program, *ONE_KEPT)
     theories = [request(op="new_theory", name=name, at=0) for name in "AZ"]
     replies, _ = session.send([*theories, *put([text]), *put(["g Z `T`", text], "Z")])
     expect(replies, is_done, "what sets up " + label)
-    reading = repeated(session, [replace(1, text, "Z")], 1, label, seconds)
-    running = repeated(session, [replace(0, text)], 1, label, seconds)
+    reading = repeated(session, anew(1, text, "Z"), 1, label, seconds)
+    running = repeated(session, anew(0, text), 1, label, seconds)
     showing = repeated(session, [report(0)], 0, label, seconds, lambda reply: expected in reply)
     session.close()
     return reading, running - reading, showing

@@ -20,7 +20,7 @@ Needs Python 3.8 and Linux, and nothing else.
 
 import statistics
 
-from bench import Session, arguments, expect, is_done, is_run, new_theory, put, repeated, replace, report
+from bench import ONE_KEPT, Session, anew, arguments, expect, is_done, is_run, new_theory, put, repeated, replace, report
 
 PAIRS = 400
 STEPS = 200
@@ -118,7 +118,7 @@ class Measure:
 
     def theory(self, name, texts, is_right, at):
         """A session over these commands, where this is what stands at a place."""
-        session = Session(self.program)
+        session = Session(self.program, *ONE_KEPT)
         replies, _ = session.send([new_theory(), *put(texts)])
         expect(replies, is_done, "what sets up " + name)
         replies, _ = session.send([report(at)])
@@ -128,8 +128,8 @@ class Measure:
     def rerun(self, session, name, before, texts):
         """The processor time of running the commands again that follow so many ones and the goal."""
         at, runs = len(before) + 1, sum(is_run(text) for text in texts)
-        edits = [replace(at, text) for text in reversed(ASSUMED)]
-        return repeated(session, edits, 2 * (1 + runs), name, SECONDS) / 2
+        edits = [anew(at, text) for text in reversed(ASSUMED)]
+        return repeated(session, lambda time: [line for each in edits for line in each(time)], 2 * (1 + runs), name, SECONDS) / 2
 
     def seconds(self, name, goal, before, texts):
         """The processor time of running these commands again that come behind the goal, and the next one."""
@@ -153,7 +153,7 @@ class Measure:
         whole = [*before, "g N `%s`" % goal, ASSUMED[0], *steps, "qed"]
         last = len(whole) - 1
         session = self.theory(name, whole, is_made, last)
-        qed = repeated(session, [replace(last, "qed")], 1, name, SECONDS)
+        qed = repeated(session, anew(last, "qed"), 1, name, SECONDS)
         expect(session.send([replace(last, "oops")])[0], is_done, name)
         oops = repeated(session, [replace(last, "oops")], 0, name, SECONDS / 10)
         session.close()
