@@ -6,7 +6,8 @@
 PATH is the built program, crates/hol_serve/out/hol_serve. Six jobs are measured, each in a process of its own:
 
   inserts   1,000 inserts at the end of one theory, each of which runs its command
-  replaces  1,000 commands of a theory of 200, each place five times, are replaced by their own text, with a blank more behind it each time: each runs its command, and none of those behind it
+  replaces  1,000 commands of a theory of 200, each place five times, are replaced by their own text, with a blank more behind it each time: each runs its
+            command, and none of those behind it
   heads     100 times the head of a theory, a constant, is declared with another type, which runs the 200 commands behind it
   reports   1,000 reports on the commands of a theory of 200, each place five times: these run nothing
   steps     a proof of 998 steps, half of which take a quotation, is put into a theory, with its `qed`: 1,000 commands, the most that one may have

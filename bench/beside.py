@@ -28,7 +28,7 @@ import subprocess
 import sys
 import tempfile
 
-from bench import ONE_KEPT, Session, anew, expect, is_done, is_run, measure, new_theory, put, repeated, replace, report, request
+from bench import ONE_KEPT, Session, anew, expect, is_done, is_run, measure, new_theory, put, repeated, report, request
 from kernel import HEIGHTS, RULES, rate
 from library import Theories
 from theories import EXAMPLES, commands, documents
