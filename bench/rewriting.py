@@ -11,8 +11,9 @@ That each replace runs one command is asked for by `stats`. A program that ends 
 one; the run goes on, and ends with status 1.
 
   negation    `p <=> ~p` as a rule: 4,000 turns make a goal of over 20,000 nodes
-  1,000 rules by 1,000 axioms a goal of 10,000 nodes is rewritten of which no part matches, and one of which 667 parts do, each by a rule of its own; goals of 7,800 and 6,500
-              nodes, where all rules have one constant at their heads, and differ ten nodes below it; and the `qed` of the second
+  1,000 rules by 1,000 axioms a goal of 10,000 nodes is rewritten of which no part matches, also by 10 of them, and both a goal of 2 nodes; and one of which 667 parts
+              match, each by a rule of its own; goals of 7,800 and 6,500 nodes, where all rules have one constant at their heads, and differ ten nodes below it; and the
+              `qed` of the one of which parts match
   truths      a conjunction of 1,000 `T`s, whose ends are at the right, and one of 32 times 32 in brackets, by the basic rewrites
   redexes     100 identity functions applied one to the other's value; a context of 15,000 nodes around 90 of them; functions that double their argument, ten (10,232 nodes at the end) and
               sixteen (too large); a function that takes its argument 90 times; and the `qed` of two
@@ -150,6 +151,9 @@ def jobs(slow):
     before = ["new_axiom FALSE `F`", "new_constant g `:bool->bool`", *before]
     none, each = grouped(["g p"] * PARTS), grouped("f%d p" % k for k in range(PARTS))
     yield Job("1,000 rules, 10,000 nodes, none matches", 0.5, goals, none, "e " + by_rules(names), theories=theories, before=before)
+    yield Job("10 rules, 10,000 nodes, none matches", 0.5, goals, none, "e " + by_rules(names[:10]), theories=theories, before=before)
+    yield Job("1,000 rules, 2 nodes", 0.5, goals, "g p", "e " + by_rules(names), theories=theories, before=before)
+    yield Job("10 rules, 2 nodes", 0.5, goals, "g p", "e " + by_rules(names[:10]), theories=theories, before=before)
     yield Job("1,000 rules, 10,000 nodes, 667 match", 0.5, goals, each, "e " + by_rules(names), theories=theories, before=before)
     yield Job("1,000 rules, 10,000 nodes, 667 match: with its qed", None, made, each, "e " + by_rules(names), last, "qed", theories=theories, before=before)
     theories, before = one_head()
