@@ -146,7 +146,7 @@ TACTICS = 'loads "tactics.ml";;'
 TIMING = """
 let proved = ref [];;
 let prove(t,tac) = let before = Sys.time() in let th = prove(t,tac) in proved := (th,Sys.time() -. before)::!proved; th;;
-let tell name th = try Printf.printf "proved %s %f\\n%!" name (assq th !proved) with Failure _ -> ();;
+let tell name th = try Printf.printf "proved %s %f\\n%!" name (snd (List.find (fun (own,_) -> own == th) !proved)) with Not_found -> ();;
 """
 LAST_OF_LIBRARY = 'loads "sets.ml";;'
 RENAMED = {"COND": "CONDITION"}
