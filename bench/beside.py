@@ -8,8 +8,8 @@
   kernel    by hol_bench: how many of each rule of the kernel are done in a second. The work is the same in both: towers `f (f .. x)` of so many applications of 5 nodes each, and
             the theorem `t = t` of them
   rules     the same of each rule of bool.ml, and how many rules of the kernel each takes in HOL Light, whose kernel is counted while it loads a second time. The
-            premises there are theorems `t = t` of such towers, under hypotheses of that kind where a rule takes one off. Ours is what one more use of the rule takes
-            in the `qed` of a proof (by 50 and by 150 of them, of formulas like `T` and `x = x`), with what the `qed` does around it, less the other rules of a round
+            premises there are theorems `t = t` of such towers, under hypotheses of that kind where a rule takes one off. Ours is what one round more of a proof takes in
+            its `qed` (by 50 and by 150 rounds, of formulas like `T` and `x = x`), with what the `qed` does around the rules; beside it, what HOL Light's rules take
   theories  how long the theories of examples/theories take from nothing. HOL Light runs the same steps by its own functions of the same names; what is timed there
             are the calls alone, with the reading of their quotations, and beside it all that its toplevel takes with reading OCaml. Ours is all from the first request
 
@@ -120,21 +120,20 @@ DERIVED_HEIGHTS = tuple((height, times) for height, times in HEIGHTS if height i
 FEW, MANY = 50, 150
 SECONDS = 0.2  # of qeds in a round, at least
 QED_JOBS = {
-    "disch": ((), lambda n: ([], "p ==> " * n + "p", ["DISCH_TAC"] * n + ["FIRST_ASSUM ACCEPT_TAC"])),
-    "undisch": (("disch",), lambda n: ([], "p ==> p", ["DISCH_TAC", "UNDISCH_TAC `p:bool`"] * n + ["DISCH_TAC", "FIRST_ASSUM ACCEPT_TAC"])),
-    "mp": (("disch",), lambda n: ([], "T", ["MP_TAC TRUTH", "DISCH_TAC"] * n + ["ACCEPT_TAC TRUTH"])),
-    "conj": ((), lambda n: ([], " /\\ ".join(["T"] * (n + 1)), ["CONJ_TAC", "ACCEPT_TAC TRUTH"] * n + ["ACCEPT_TAC TRUTH"])),
-    "generalize": ((), lambda n: ([], "!%s. a:A = a" % " ".join(f"x{k}" for k in range(n)), ["GEN_TAC"] * n + ["REFL_TAC"])),
-    "spec": (("generalize",), lambda n: ([], "x:A = x", ["SPEC_TAC (`x:A`, `x:A`)", "GEN_TAC"] * n + ["REFL_TAC"])),
-    "exists": ((), lambda n: ([], "?%s. a:A = a" % " ".join(f"(x{k}:A)" for k in range(n)), ["EXISTS_TAC `a:A`"] * n + ["REFL_TAC"])),
-    "choose": ((), lambda n: (["new_axiom A `?x:A. T`"], "T", ["CHOOSE_TAC A"] * n + ["ACCEPT_TAC TRUTH"])),
-    "disj1": ((), lambda n: ([], "(" * n + "T" + " \\/ F)" * n, ["DISJ1_TAC"] * n + ["ACCEPT_TAC TRUTH"])),
-    "disj2": ((), lambda n: ([], "F \\/ " * n + "T", ["DISJ2_TAC"] * n + ["ACCEPT_TAC TRUTH"])),
-    "disj_cases": ((), lambda n: (["new_axiom A `T \\/ F`"], "T", ["DISJ_CASES_TAC A", "ACCEPT_TAC TRUTH"] * n + ["ACCEPT_TAC TRUTH"])),
-    "contr": (("conj",), lambda n: (["new_axiom A `F`"], " /\\ ".join(["p"] * (n + 1)), ["CONJ_TAC", "CONTR_TAC A"] * n + ["CONTR_TAC A"])),
-    "ap_term": ((), lambda n: ([], "%s p = %s p" % ("~" * n, "~" * n), ["AP_TERM_TAC"] * n + ["REFL_TAC"])),
+    ("conj",): lambda n: ([], " /\\ ".join(["T"] * (n + 1)), ["CONJ_TAC", "ACCEPT_TAC TRUTH"] * n + ["ACCEPT_TAC TRUTH"]),
+    ("mp", "disch"): lambda n: ([], "T", ["MP_TAC TRUTH", "DISCH_TAC"] * n + ["ACCEPT_TAC TRUTH"]),
+    ("undisch", "disch"): lambda n: ([], "p ==> p", ["DISCH_TAC", "UNDISCH_TAC `p:bool`"] * n + ["DISCH_TAC", "FIRST_ASSUM ACCEPT_TAC"]),
+    ("generalize",): lambda n: ([], "!%s. a:A = a" % " ".join(f"x{k}" for k in range(n)), ["GEN_TAC"] * n + ["REFL_TAC"]),
+    ("spec", "generalize"): lambda n: ([], "x:A = x", ["SPEC_TAC (`x:A`, `x:A`)", "GEN_TAC"] * n + ["REFL_TAC"]),
+    ("exists",): lambda n: ([], "?%s. a:A = a" % " ".join(f"(x{k}:A)" for k in range(n)), ["EXISTS_TAC `a:A`"] * n + ["REFL_TAC"]),
+    ("choose",): lambda n: (["new_axiom A `?x:A. T`"], "T", ["CHOOSE_TAC A"] * n + ["ACCEPT_TAC TRUTH"]),
+    ("disj1",): lambda n: ([], "(" * n + "T" + " \\/ F)" * n, ["DISJ1_TAC"] * n + ["ACCEPT_TAC TRUTH"]),
+    ("disj2",): lambda n: ([], "F \\/ " * n + "T", ["DISJ2_TAC"] * n + ["ACCEPT_TAC TRUTH"]),
+    ("disj_cases",): lambda n: (["new_axiom A `T \\/ F`"], "T", ["DISJ_CASES_TAC A", "ACCEPT_TAC TRUTH"] * n + ["ACCEPT_TAC TRUTH"]),
+    ("contr", "conj"): lambda n: (["new_axiom A `F`"], " /\\ ".join(["p"] * (n + 1)), ["CONJ_TAC", "CONTR_TAC A"] * n + ["CONTR_TAC A"]),
+    ("ap_term",): lambda n: ([], "%s p = %s p" % ("~" * n, "~" * n), ["AP_TERM_TAC"] * n + ["REFL_TAC"]),
 }
-"""Of each rule the others that a round of its proof uses, and the commands before a proof by so many rounds, its goal and its steps."""
+"""The rules that a round of a proof uses, and the commands before a proof by so many rounds, its goal and its steps."""
 THEORIES = """
 let spent = ref 0.0;;
 let timed g = let before = Sys.time() in let r = g () in spent := !spent +. (Sys.time() -. before); r;;
@@ -147,7 +146,7 @@ TACTICS = 'loads "tactics.ml";;'
 TIMING = """
 let proved = ref [];;
 let prove(t,tac) = let before = Sys.time() in let th = prove(t,tac) in proved := (th,Sys.time() -. before)::!proved; th;;
-let tell name th = try Printf.printf "proved %s %f\\n%!" name (assq th !proved) with Failure _ -> ();;
+let tell name th = try Printf.printf "proved %s %f\\n%!" name (snd (List.find (fun (own,_) -> own == th) !proved)) with Not_found -> ();;
 """
 LAST_OF_LIBRARY = 'loads "sets.ml";;'
 RENAMED = {"COND": "CONDITION"}
@@ -219,29 +218,32 @@ def qed_seconds(program, before, goal, steps):
 
 
 def our_rules(program, rounds):
-    """What one more use of each rule takes in a `qed`, in seconds."""
+    """What one round more of each proof takes in its `qed`, in seconds."""
     found = {}
-    for rule, (others, job) in QED_JOBS.items():
+    for rules, job in QED_JOBS.items():
         taken = []
         for _ in range(rounds):
             few, many = (qed_seconds(program, *job(count)) for count in (FEW, MANY))
             taken.append((many - few) / (MANY - FEW))
-        found[rule] = statistics.median(taken) - sum(found[other] for other in others)
+        found[rules] = statistics.median(taken)
     return found
 
 
 def rules_part(program, rounds):
-    theirs, steps, ours = {}, {}, our_rules(program, rounds) if program else {}
+    theirs, steps = {}, {}
     if installed():
         theirs = rates(run_hol_light(SCRIPT + DERIVED + TIMED + calls("derived", DERIVED_HEIGHTS, rounds)))
         steps = rates(run_hol_light(SCRIPT + DERIVED + COUNTED, {KERNEL: COUNTING}))
-    print(f"{'rule':12}{'ours a second':>14}" + "".join(f"{f'HOL Light, {5 * height + 2}':>18}" for height, _ in DERIVED_HEIGHTS) + f"{'ratio':>8}{'its steps':>12}")
-    for rule in DERIVED_RULES:
-        line = f"{rule:12}" + (f"{1 / ours[rule]:14,.0f}" if rule in ours else " " * 14)
-        line += "".join(f"{theirs[rule, height]:18,.0f}" if (rule, height) in theirs else " " * 18 for height, _ in DERIVED_HEIGHTS)
-        small = theirs.get((rule, DERIVED_HEIGHTS[0][0]))
-        line += f"{1 / ours[rule] / small:8.2f}" if rule in ours and small else " " * 8
-        print(line + (f"{steps[rule, 0]:12.0f}" if (rule, 0) in steps else ""), flush=True)
+    print(f"{'HOL Light':12}{'its steps':>12}" + "".join(f"{f'a second, {5 * height + 2}':>18}" for height, _ in DERIVED_HEIGHTS))
+    for rule in DERIVED_RULES if theirs else ():
+        print(f"{rule:12}{steps[rule, 0]:12.0f}" + "".join(f"{theirs[rule, height]:18,.0f}" for height, _ in DERIVED_HEIGHTS), flush=True)
+    print(f"\n{'rules':24}{'ours in a qed':>16}{'HOL Light':>12}{'ratio':>8}")
+    for rules, seconds in (our_rules(program, rounds) if program else {}).items():
+        line = f"{' and '.join(rules):24}{1e6 * seconds:13.2f} us"
+        if theirs:
+            own = sum(1 / theirs[rule, DERIVED_HEIGHTS[0][0]] for rule in rules)
+            line += f"{1e6 * own:9.2f} us{own / seconds:8.2f}"
+        print(line, flush=True)
 
 
 def quoted(text):
