@@ -31,9 +31,13 @@ def entered(server, number, entries):
         replies = server.ask(requests[begun:begun + 100])
         if any(it != {"ok": True} for it in replies):
             raise SystemExit(f"imports: {name}: {next(it for it in replies if it != {'ok': True})}")
-    asked = {"op": "report", "theory": name, "at": 0}
-    if number and len(server.ask([asked])[0].get("made", ())) != number * entries:
-        raise SystemExit(f"imports: {name} doesn't import all before it")
+
+
+def check(server, number, entries):
+    """Looks at what the last theory imports."""
+    (shown,) = server.ask([{"op": "report", "theory": f"T{number}", "at": 0}])
+    if len(shown.get("made", ())) != number * entries:
+        raise SystemExit(f"imports: T{number} doesn't import all before it")
 
 
 def main():
@@ -45,9 +49,9 @@ def main():
         server = Server([chosen.program])
         for number in range(theories):
             entered(server, number, chosen.entries)
-        new = theories * chosen.entries
-        print(f"{theories} theories of {chosen.entries} entries: {server.seconds():.2f} s, {1e6 * server.seconds() / new:.0f} us and "
-              f"{1024 * memory(server) / new:.2f} KB an entry, {memory(server):.0f} MB")
+        new, seconds, held = theories * chosen.entries, server.seconds(), memory(server)
+        print(f"{theories} theories of {chosen.entries} entries: {seconds:.2f} s, {1e6 * seconds / new:.0f} us and {1024 * held / new:.2f} KB an entry")
+        check(server, theories - 1, chosen.entries)
         server.process.stdin.close()
         server.process.wait()
 
