@@ -68,7 +68,7 @@ def at_limits():
     yield Case("700 disjuncts stripped", [f"g N `{disjuncts} ==> q`", "e STRIP_TAC"], "goals")
     yield Case("700 disjuncts proved", [f"g N `{disjuncts} ==> {disjuncts}`", "e STRIP_TAC THEN REPEAT (FIRST [FIRST_ASSUM ACCEPT_TAC; DISJ1_TAC THEN FIRST_ASSUM ACCEPT_TAC; DISJ2_TAC])"], 18)
     yield Case("a definition of 800 parameters", ["new_definition D `d " + joined(" ", (f"(x{k}:bool)" for k in range(800))) + " = T`"], "made")
-    yield Case("a definition of 150 parameters of open types", ["new_definition D `d " + joined(" ", (f"x{k}" for k in range(150))) + " = T`"], "made")
+    yield Case("a definition of 800 parameters of open types", ["new_definition D `d " + joined(" ", (f"x{k}" for k in range(800))) + " = T`"], "made")
     variables = joined(" ", (f"x{k}" for k in range(1_000)))
     rule = f"new_axiom R `!{variables}. (f x0 : bool) <=> T`"
     yield Case("a rule of 1,000 variables, with its qed", [rule, "g N `f (y:A):bool`", "e PURE_REWRITE_TAC [R]", "qed"], "made", 10_000, 4)
