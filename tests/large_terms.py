@@ -129,9 +129,8 @@ def deep_runs():
     rules = joined(r" /\ ", ["c"] * 1_990)
     given = ["new_constant c `:bool`", f"new_axiom AX `{rules}`", "g N `q:bool`", "e REWRITE_TAC [AX]"]
     yield Case("1,990 conjuncts, rewritten by", given, "goals")
-    many = "new_axiom AX `" + joined(r" /\ ", ["c"] * 200) + "`"
     cited = "e PURE_REWRITE_TAC [" + joined("; ", ["AX"] * 200) + "]"
-    yield Case("a theorem of 200 conjuncts cited 200 times", ["new_constant c `:bool`", many, "g N `q:bool`", cited], "goals")
+    yield Case("a theorem of 1,990 conjuncts cited 200 times", [*given[:3], cited], "goals")
     yield Case("1,990 conjuncts, rewritten and proved", [f"g N `{right}`", "e REWRITE_TAC []", "qed"], "made")
     implied = joined(" ==> ", ["p"] * 1_300)
     yield Case("1,299 implications, discharged and proved", [f"g N `{implied}`", "e REPEAT DISCH_TAC THEN FIRST_ASSUM ACCEPT_TAC", "qed"], "made")
