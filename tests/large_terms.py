@@ -157,6 +157,9 @@ def deep_runs():
     yield Case("an instance at a type of 3,900 lists", deeper, "goals")
     matched = [f"new_axiom AX `{'~' * 1_900}p ==> q`", "g N `q:bool`", "e MATCH_MP_TAC AX"]
     yield Case("1,900 times ~ in a premise that matches", matched, "goals")
+    xs, ys = (joined(" ", (f"{name}{k}" for k in range(1_300))) for name in "xy")
+    opened = [f"new_axiom AX `(Q {xs}) ==> (P {xs})`", f"g N `(P {ys}):bool`", "e MATCH_MP_TAC AX"]
+    yield Case("a theorem of 1,300 open types that matches", opened, "goals")
     rule = [f"new_axiom AX `!p. {'~' * 1_900}p <=> p`", f"g N `{'~' * 3_800}p`", "e REWRITE_TAC [AX]"]
     yield Case("a rule of 1,900 times ~", rule, "goals")
     step = "new_definition D `twice p = ~ ~ p`"
