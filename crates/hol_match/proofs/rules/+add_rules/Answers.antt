@@ -1,4 +1,4 @@
-use Rattle.std.proofs.Common.{arith, ◌∙◌, ap, sym, [], ◌∷◌, ◌++◌, map, append_assoc}
+use Rattle.std.proofs.Common.{arith, ◌∙◌, ap, [], ◌∷◌, ◌++◌, map, append_assoc}
 use Rattle.std.proofs.lemmas.Result.{IfOk-weaker}
 use Rattle.hol_terms.specs.Nameless.{nameless, base_of}
 use Rattle.hol_formulas.specs.Formula.{Abstraction}
