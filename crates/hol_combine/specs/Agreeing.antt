@@ -1,7 +1,6 @@
--- Names of constants that agree on the names that a run tested.
+-- What a run knows, by its parts, and what it tested.
 -- Source: this project.
-use Rattle.std.specs.Prelude.{◌≡◌, ℕ, List, [], ◌∷◌}
-use Rattle.hol_goal.specs.Names.{stands}
+use Rattle.std.specs.Prelude.{ℕ, List}
 use Rattle.hol_goal.specs.declared.tac_code.TacCode.{TacCode}
 use Rattle.hol_combine.specs.Runs.{KnownValue, RunValue, Leaves, Refuses, Stops}
 
@@ -13,8 +12,3 @@ abbrev pub tested_of : RunValue → List (List ℕ)
 tested_of (Leaves goals used) = used.tested
 tested_of (Refuses why used) = used.tested
 tested_of (Stops why tested) = tested
-
--- of each of these, both have it or neither
-abbrev pub AgreeOn : List (List ℕ) → List (List ℕ) → List (List ℕ) → Type 0
-AgreeOn a b [] = Unit {0}
-AgreeOn a b (name ∷ tested) = (stands b name ≡ stands a name) × AgreeOn a b tested

@@ -3,8 +3,9 @@
 ghost use Rattle.std.specs.Prelude.{◌≡◌, ℕ, List};
 ghost use Rattle.hol_goal.specs.Answer.{UsedValue, starting};
 ghost use Rattle.hol_goal.specs.Goal.{GoalValue};
+ghost use Rattle.hol_goal.specs.Names.{AgreeOn};
 ghost use Rattle.hol_goal.specs.declared.tac_code.TacCode.{TacCode};
-ghost use Rattle.hol_combine.specs.Agreeing.{known, tested_of, AgreeOn};
+ghost use Rattle.hol_combine.specs.Agreeing.{known, tested_of};
 ghost use Rattle.hol_combine.specs.ExprValue.{ExprValue, Then, Repeat};
 ghost use Rattle.hol_combine.specs.Runs.{KnownValue, otherwise, unchanged, paying, run};
 

@@ -299,7 +299,8 @@ fn run_list<T: Tacs>(alloc: Global, parts: &[Expr], ran: Ran, tacs: &T) -> Resul
     ensures left { LeavesAtMost ran.left result }
 {
     if parts.len() != ran.step.goals.len() {
-        return Err(refused(alloc, "THENL", ran.left));
+        let Ran { left, tested, .. } = ran;
+        return Err(refused(alloc, "THENL", Used { left, tested }));
     }
     let mut work = Work::new(alloc, ran);
     for part in parts {

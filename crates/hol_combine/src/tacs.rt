@@ -33,6 +33,7 @@ pub(crate) trait Tacs {
 }
 
 /// The registry, and the names of constants.
+#[derive(Clone, Copy)]
 pub(crate) struct Calls<'a> {
     pub(crate) registry: &'a Registry,
     pub(crate) names: &'a Names,

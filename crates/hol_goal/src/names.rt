@@ -75,10 +75,8 @@ impl Names {
     pub fn add(&mut self, alloc: Global, name: &Name) -> Result<(), AllocError>
         ensures { OnOk result (self.new ≡ self.old ++ name.now ∷ []) }
     {
-        let part = match self.take_short() {
-            Some(last) => with_name(alloc, last.as_slice(), name)?,
-            None => with_name(alloc, &[], name)?,
-        };
+        let short = self.take_short();
+        let part = with_name(alloc, names_in(&short), name)?;
         self.parts.push(Rc::new(alloc, part)?)?;
         Ok(())
     }
@@ -107,16 +105,21 @@ impl Names {
     }
 }
 
+// The names in a part, if there is one.
+fn names_in(part: &Option<Rc<Vec<Name>>>) -> &[Name]
+    ensures { result.now ≡ unwrap_or (option_map (λ part. part.value.items) part.now) [] }
+{
+    match part {
+        Some(part) => part.as_slice(),
+        None => &[],
+    }
+}
+
 // Whether the name is one of the list.
 fn is_one_of(name: &str, list: &[Name]) -> bool
     ensures { result ≡ list_any (bytes_eq name.now) list.now }
 {
-    for listed in list {
-        if listed.as_str() == name {
-            return true;
-        }
-    }
-    false
+    list.iter().any(|listed| name == listed.as_str())
 }
 
 // Whether a constant of the prelude has the name.
