@@ -1,4 +1,5 @@
 pub mod After
+pub mod Paying
 pub mod Falling
 pub mod Turns
 pub mod Counted
