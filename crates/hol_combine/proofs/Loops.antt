@@ -181,7 +181,7 @@ module _ (known : KnownValue) where
       Progress (run_each known ts) more ran (run_each known (exprs parts) ran.step.goals.items (used_by ran)) w0 → IsError (run known t goal n) e → IsError (run_list known (exprs parts) ran.step.goals.items (used_by ran)) e
   list_fails_at more ran parts ts us t w0 w1 goal used n e same first was same_used p h =
       subst (λ (v : RunValue). IsError v e) (sym (list_as_many known parts ran.step.goals.items (used_by ran) same))
-      (list_fails more ran (run_each known (exprs parts) ran.step.goals.items (used_by ran)) known ts us t w0 w1 goal e first was (subst (λ (l : UsedValue). IsError (run known t goal l) e) used h) p)
+      (list_fails more ran (run_each known (exprs parts) ran.step.goals.items (used_by ran)) known ts us t w0 w1 goal used e first was (subst (λ (l : UsedValue). IsError (run known t goal l) e) same_used h) p)
 
   pub more_fails_at : (xs : List ExprValue) (ts us : ExprValues) (t : ExprValue) (goals : List GoalValue) (left : UsedValue) (whole : RunValue) (e : RunError) → xs ≡ t ∷ [] → ts ≡ more_exprs t us → run_more known ts goals left ≡ whole → IsError (each (run_every known (exprs xs)) goals left) e → IsError whole e
   more_fails_at xs ts us t goals left whole e one first all h =
