@@ -8,7 +8,7 @@ use Rattle.hol_goal.specs.Goal.{GoalValue}
 use Rattle.hol_goal.specs.Answer.{UsedValue}
 use Rattle.hol_just.specs.declared.reason.Move.{Move}
 use Rattle.hol_combine.specs.ExprValue.{ExprValue, ExprValues, more_exprs, exprs}
-use Rattle.hol_combine.specs.Runs.{KnownValue, RunValue, Leaves, Refuses, Stops, StopValue, RefusalValue, DoesNotFit, before_goals, then_on, each, repeated, replicate, count, as_many, run, run_every, run_each}
+use Rattle.hol_combine.specs.Runs.{KnownValue, RunValue, Leaves, Refuses, Stops, StopValue, TurnLimit, RefusalValue, DoesNotFit, before_goals, then_on, each, repeated, replicate, count, as_many, run, run_every, run_each}
 use Rattle.hol_combine.specs.More.{run_list, run_more}
 use Rattle.hol_combine.specs.RunView.{used_by, IsError, IsValidRun}
 use Rattle.hol_combine.specs.Going.{GoesOn, GoesOnFrom, HasAtMost, IsRefusal, copies}
@@ -17,8 +17,8 @@ use Rattle.hol_combine.specs.declared.ran.Ran.{Ran}
 use Rattle.hol_combine.specs.declared.ran.RunError.{RunError}
 use Rattle.hol_combine.specs.declared.ran.RunError.TheVariants as error
 use Rattle.hol_combine.proofs.After.{each_first, error_then}
-use Rattle.hol_combine.proofs.Falling.{Falls, round_left, round_kept, round_stops}
-use Rattle.hol_combine.proofs.Counted.{counted, counted_all, count_again, count_last}
+use Rattle.hol_combine.proofs.Falling.{Falls, round_left, round_kept, round_stops, round_out}
+use Rattle.hol_combine.proofs.Counted.{counted, counted_all, count_again, count_last, count_out}
 use Rattle.hol_combine.proofs.Lists.{each_every_one}
 use Rattle.hol_combine.proofs.Paying.{IsPaid}
 use Rattle.hol_combine.proofs.Progress.{Progress, starts, finishes, goes_again, keeps, fails, ends}
@@ -65,6 +65,11 @@ module _ (more : Items → Bool) (ran : Ran) (whole : RunValue) where
         let q : Progress (each (repeated f)) more ran whole (with_next goal used w1) = subst (Progress (each (repeated f)) more ran whole) was p in
         sym q.answer ∙ ap (before_goals w1.done) (round_stops f falls goal w1.waiting used paid why tested pay is)
 
+    pub repeat_out : (w0 w1 : WorkValue) (goal : GoalValue) (used : UsedValue) → w0 ≡ with_next goal used w1 → used.turns_left ≡ 0 → Progress (each (repeated f)) more ran whole w0 → whole ≡ Stops TurnLimit used.tested
+    repeat_out w0 w1 goal used was none p =
+        let q : Progress (each (repeated f)) more ran whole (with_next goal used w1) = subst (Progress (each (repeated f)) more ran whole) was p in
+        sym q.answer ∙ ap (before_goals w1.done) (round_out f falls goal w1.waiting used none)
+
   -- REPLICATE_TAC
   pub count_starts : (f : GoalValue → UsedValue → RunValue) (times n : ℕ) (ns : List ℕ) (w : WorkValue) → times ≡ suc n → ns ≡ copies (length ran.step.goals.items) n ++ [] → w ≡ started ran → each (replicate f times) ran.step.goals.items (used_by ran) ≡ whole → Progress (counted f ns) more ran whole w
   count_starts f times n ns w is numbers at all =
@@ -82,6 +87,11 @@ module _ (more : Items → Bool) (ran : Ran) (whole : RunValue) where
   count_goes_again f ms ns ks n w0 w1 w2 goal used one paid first next was pay is v le now p =
       goes_again more ran whole (counted f ms) (counted f ks) w0 w1 w2 goal used one.step.goals.items one.step.just (used_by one) was now (paid_fewer w0 w1 goal used paid was pay le)
       (ap (λ js. counted f js (goal ∷ w1.waiting) used) first ∙ count_again f n goal ns w1.waiting used paid (used_by one) one.step.goals.items pay is ∙ ap (λ js. counted f js (one.step.goals.items ++ w1.waiting) (used_by one)) (sym next)) v p
+
+  pub count_out_at : (f : GoalValue → UsedValue → RunValue) (ms ns : List ℕ) (n : ℕ) (w0 w1 : WorkValue) (goal : GoalValue) (used : UsedValue) → ms ≡ n ∷ ns → w0 ≡ with_next goal used w1 → used.turns_left ≡ 0 → Progress (counted f ms) more ran whole w0 → whole ≡ Stops TurnLimit used.tested
+  count_out_at f ms ns n w0 w1 goal used first was none p =
+      let q : Progress (counted f ms) more ran whole (with_next goal used w1) = subst (Progress (counted f ms) more ran whole) was p in
+      sym q.answer ∙ ap (before_goals w1.done) (ap (λ ks. counted f ks (goal ∷ w1.waiting) used) first ∙ count_out f n goal ns w1.waiting used none)
 
   -- THENL
   module _ (known : KnownValue) where

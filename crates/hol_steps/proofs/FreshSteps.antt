@@ -26,5 +26,5 @@ module _ (names : List (List ℕ)) (avoid : List Nameless) (x v : List ℕ × Ty
   fresh_absent = of_fresh_is (λ u. is_free_in avoid u ≡ false) f.absent
 
   -- the goals that are left at it
-  pub fresh_goals : (at : List ℕ × TypeTree → GoalValue) (goals : List GoalValue) → goals ≡ at v ∷ [] → (goals, tested) ≡ (at ((fresh names avoid (base_of x.0)).name, x.1) ∷ [], (fresh names avoid (base_of x.0)).tested)
+  pub fresh_goals : (at : List ℕ × TypeTree → GoalValue) (goals : List GoalValue) → goals ≡ at v ∷ [] → ◌≡◌ {A = List GoalValue × List (List ℕ)} (goals, tested) (at ((fresh names avoid (base_of x.0)).name, x.1) ∷ [], (fresh names avoid (base_of x.0)).tested)
   fresh_goals at goals is = λ i. ((is ∙ ap (λ (u : List ℕ × TypeTree). at u ∷ []) fresh_is) i, fresh_tested i)
