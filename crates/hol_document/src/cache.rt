@@ -75,8 +75,8 @@ impl Run {
     }
 }
 
-/// Outcomes that have left their slots, under the texts of their commands and what these read; all of one set-up. The one that was used least lately gives way where a new one
-/// finds no room.
+/// Outcomes that have left their slots, under the texts of their commands and what these read; all of one set-up. The one that was used least lately gives way where a
+/// new one finds no room.
 #[derive(Drop)]
 pub(crate) struct Cache {
     setup: Rc<SetupTable>,
@@ -109,7 +109,8 @@ impl Cache {
         Ok(Cache { setup, runs })
     }
 
-    /// Takes out what the command came to where it read this, if that is there and was run where the names that were tested are those of constants, or not, as they are here.
+    /// Takes out what the command came to where it read this, if that is there and was run where the names that were tested are those of constants, or not, as they are
+    /// here.
     pub(crate) fn take(
         &mut self,
         line: &Line,

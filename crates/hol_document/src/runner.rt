@@ -56,7 +56,8 @@ impl Runner {
         self.meter.ran()
     }
 
-    /// What the command comes to where it reads this and these are the entries, with the names of constants that were tested: an outcome that has left its slot, else it is run.
+    /// What the command comes to where it reads this and these are the entries, with the names of constants that were tested: an outcome that has left its slot, else it
+    /// is run.
     pub(crate) fn outcome(
         &mut self,
         alloc: Global,

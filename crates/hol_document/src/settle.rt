@@ -3,7 +3,8 @@ ghost use Rattle.std.specs.Prelude.{◌≡◌, ◌≤◌, ◌+◌, List, [], tru
 ghost use Rattle.std.specs.Option.{option_map};
 ghost use Rattle.hol_exec.specs.At.{IsOutcomeAt};
 ghost use Rattle.hol_exec.specs.CommandView.{local_text, direct_text};
-ghost use Rattle.hol_exec.specs.CommandText.{Local, Direct};
+ghost use Rattle.hol_exec.specs.CommandText.{LocalText, Local, Direct};
+ghost use Rattle.hol_exec.specs.Tested.{agrees};
 ghost use Rattle.hol_document.specs.RunnerView.{setup_of, ran_of};
 ghost use Rattle.hol_exec.specs.OutcomeValue.{after};
 ghost use Rattle.hol_exec.specs.Reading as read;
@@ -190,23 +191,41 @@ fn keeps(slot: &Slot, state: &State, drift: &Drift) -> bool
     }
 }
 
-// The same for a command: no key that it cites or makes is changed, and the open proof is the same, or it reads the same; and the names that were tested are those of constants, or
-// not, as they were.
+// The same for a command: it reads the same, and of the names that were tested the same are constants.
 fn keeps_local(slot: &Slot, command: &LocalCommand, state: &State, drift: &Drift) -> bool
+    requires parsed { IsRead slot.now.text slot.now.row.value }
     requires value { slot.now.row.value ≡ read.Reads (Local (local_text command.now)) }
     requires keyed { IsKeyed slot.now.row }
     ensures yes { result ≡ true → (setup : SetupValue) (before earlier : List EndedTheory) (s : StateValue) → AreAlike drift.now s state.now
         → IsRow setup before s slot.now.text slot.now.row → IsRow setup earlier state.now slot.now.text slot.now.row }
     ensures no { result ≡ false → (setup : SetupValue) (earlier : List EndedTheory) (row : Row) → IsRow setup earlier state.now slot.now.text row → counts (Some slot.now.row) row ≡ counts None row }
 {
+    reads_again(slot, command, state, drift) && tests_again(slot, state, drift)
+}
+
+// Whether a command reads the same of the state: no key that it cites or makes is changed, and the open proof is the same, or it is found to.
+fn reads_again(slot: &Slot, command: &LocalCommand, state: &State, drift: &Drift) -> bool
+    requires value { slot.now.row.value ≡ read.Reads (Local (local_text command.now)) }
+    requires keyed { IsKeyed slot.now.row }
+    ensures yes { result ≡ true → (setup : SetupValue) (before earlier : List EndedTheory) (s : StateValue) → AreAlike drift.now s state.now → agrees slot.now.row.tested state.now.entries ≡ true
+        → IsRow setup before s slot.now.text slot.now.row → IsRow setup earlier state.now slot.now.text slot.now.row }
+    ensures no { result ≡ false → counts_beside slot.now.row.reads (reads_at slot.now.row.value state.now) ≡ counts_beside None (reads_at slot.now.row.value state.now) }
+{
     match slot.reads() {
         Some(reads) => {
-            (drift.has_same_proof() && reads.is_apart(drift.changes())
-                || reads.agree(command, state))
-                && (drift.has_same_entries() || agrees(slot.tested(), state.env()))
+            drift.has_same_proof() && reads.is_apart(drift.changes()) || reads.agree(command, state)
         }
         None => unreachable!(),
     }
+}
+
+// Whether the names that were tested for a command are those of constants at the state, or not, as they were: the entries are the same, or they are found to.
+fn tests_again(slot: &Slot, state: &State, drift: &Drift) -> bool
+    ensures yes { result ≡ true → (setup : SetupValue) (before : List EndedTheory) (s : StateValue) (command : LocalText) → slot.now.row.value ≡ read.Reads (Local command) → AreAlike drift.now s state.now
+        → IsRow setup before s slot.now.text slot.now.row → agrees slot.now.row.tested state.now.entries ≡ true }
+    ensures no { result ≡ false → agrees slot.now.row.tested state.now.entries ≡ false }
+{
+    drift.has_same_entries() || agrees(slot.tested(), state.env())
 }
 
 // The same for what is answered from the state: the open proof is the same. An import is made again.

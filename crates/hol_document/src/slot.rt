@@ -8,8 +8,8 @@ use std::alloc::{AllocError, Global};
 use std::marker::Model;
 use std::rc::Rc;
 
-/// A command that stands: its text, what it read of the state, which names of constants were tested, what it came to, and the newest element of the open proof's history after it; and the state before it, where
-/// that is kept, so that an edit behind it may begin there.
+/// A command that stands: its text, what it read of the state, which names of constants were tested, what it came to, and the newest element of the open proof's history
+/// after it; and the state before it, where that is kept, so that an edit behind it may begin there.
 #[derive(Drop)]
 pub(crate) struct Slot {
     line: Rc<Line>,

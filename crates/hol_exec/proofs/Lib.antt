@@ -25,5 +25,6 @@ pub mod Runs
 pub mod Readings
 pub mod UniqueMade
 pub mod Unique
+pub mod Needing
 pub mod Runnable
 pub mod Parts

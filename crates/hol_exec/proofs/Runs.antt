@@ -9,16 +9,16 @@ use Rattle.hol_resolve.specs.Reading.{ReadingValue, IsTermReadAs}
 use Rattle.hol_exec.specs.ReadsValue.{ReadsValue}
 use Rattle.hol_exec.specs.Expr.{ResolutionValue, IsResolution}
 use Rattle.hol_exec.specs.OutcomeValue.{OutcomeValue}
-use Rattle.hol_exec.specs.Local.{opens_read, IsOpening, resolved_outcome, IsApplying}
+use Rattle.hol_exec.specs.Local.{LocalValue, opens_read, IsOpening, resolved_outcome, IsApplying}
 
 pub opens_by : (in_proof : Bool) (name : List ℕ) (q : QuotationText) (reads : ReadsValue) (reading : ReadingValue Nameless) (outcome : OutcomeValue) →
     in_proof ≡ false → IsTermReadAs (signature_of reads.cited) q.term reading → outcome ≡ opens_read name q.place reads reading → IsOpening in_proof name q reads outcome
 opens_by in_proof name q reads reading outcome e h f =
     rw e (reading, h, f)
 
-pub applies_by : (in_proof : Bool) (setup : SetupValue) (tactic : TacText) (reads : ReadsValue) (resolution : ResolutionValue) (outcome : OutcomeValue) →
-    in_proof ≡ true → IsResolution setup tactic reads.cited resolution → outcome ≡ resolved_outcome setup reads.goal resolution → IsApplying in_proof setup tactic reads outcome
-applies_by in_proof setup tactic reads resolution outcome e h f = rw e (resolution, h, f)
+pub applies_by : (in_proof : Bool) (setup : SetupValue) (names : List (List ℕ)) (tactic : TacText) (reads : ReadsValue) (resolution : ResolutionValue) (given : LocalValue) →
+    in_proof ≡ true → IsResolution setup tactic reads.cited resolution → given ≡ resolved_outcome setup names reads.goal resolution → IsApplying in_proof setup names tactic reads given
+applies_by in_proof setup names tactic reads resolution given e h f = rw e (resolution, h, f)
 
 -- the same where what is read is of a case
 pub opens_at : (in_proof : Bool) (name : List ℕ) (q : QuotationText) (reads : ReadsValue) (read reading : ReadingValue Nameless) (outcome : OutcomeValue) →

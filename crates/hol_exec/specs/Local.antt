@@ -40,6 +40,10 @@ pub record LocalValue : Type 0 where
 abbrev pub untested : OutcomeValue → LocalValue
 untested outcome = record { outcome = outcome; tested = [] }
 
+-- with the names that were tested, where constants have these
+abbrev pub given_by : List (List ℕ) → OutcomeValue → List (List ℕ) → LocalValue
+given_by names outcome tested = record { outcome = outcome; tested = marked names tested }
+
 -- ---- `g`: in a proof; arity; untypable; too large; not bool; name taken
 
 abbrev pub opens : List ℕ → Nameless → Items → Option KeyValue → OutcomeValue
@@ -74,9 +78,9 @@ stopped_outcome TurnLimit = Refuses refusal.TurnLimit []
 stopped_outcome LargeGoal = Refuses refusal.TooLarge []
 
 abbrev pub run_outcome : List (List ℕ) → GoalValue → Items → RunValue → LocalValue
-run_outcome names goal basis (runs.Leaves goals used) = record { outcome = Leaves goal goals basis; tested = marked names used.tested }
-run_outcome names goal basis (runs.Refuses why used) = record { outcome = refused_outcome why; tested = marked names used.tested }
-run_outcome names goal basis (runs.Stops why tested) = record { outcome = stopped_outcome why; tested = marked names tested }
+run_outcome names goal basis (runs.Leaves goals used) = given_by names (Leaves goal goals basis) used.tested
+run_outcome names goal basis (runs.Refuses why used) = given_by names (refused_outcome why) used.tested
+run_outcome names goal basis (runs.Stops why tested) = given_by names (stopped_outcome why) tested
 
 -- a command's run starts with all of its turns
 abbrev pub applied : SetupValue → List (List ℕ) → Option GoalValue → ExprValue → Items → LocalValue

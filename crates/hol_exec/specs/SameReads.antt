@@ -29,6 +29,12 @@ same_reads_partial_laws = partial_equiv_from_equiv same_reads_laws
 abbrev pub same_tested : TestedValue → TestedValue → Bool
 same_tested = eq_by_cmp (coded_cmp coded_tested)
 
+pub same_tested_are : (a b : TestedValue) → IsTrue (same_tested a b) ↔ (a ≡ b)
+same_tested_are a b = (
+  (λ e. coded_same coded_tested a b ((Equal-is (coded_cmp coded_tested a b)).0 e)),
+  (λ e. ap (same_tested a) (sym e) ∙ ap is_eq (tied_itself (coded_total coded_tested) a)),
+)
+
 -- the size of the goal, up to 20,001; 0 where none is read
 abbrev pub size_read : Option GoalValue → ℕ
 size_read None = 0

@@ -48,11 +48,12 @@ module _ (names : List (List ℕ)) (avoid : List Nameless) (base : List ℕ) whe
       let new = (new_names avoid names base).stands_not in
       let clash : true ≡ false = sym is ∙ ap (λ (f : FreshValue). stands names f.name) (sym goes) ∙ new in
       absurd (cc)
-  goes_in before (suc n) from goes is =
-      (n,
-      goes
-      ∙ ap (λ b. after_all before (cond b (after_testing (free_name avoid from) (fresh_in n names avoid (free_name avoid from ++ codes "'"))) (record { name = free_name avoid from; tested = free_name avoid from ∷ [] }))) is
-      ∙ (λ i. record { name = (fresh_in n names avoid (free_name avoid from ++ codes "'")).name; tested = sym (append_assoc before (free_name avoid from ∷ []) (fresh_in n names avoid (free_name avoid from ++ codes "'")).tested) i }))
+  goes_in before (suc n) from goes is = (
+    n,
+    goes
+        ∙ ap (λ b. after_all before (cond b (after_testing (free_name avoid from) (fresh_in n names avoid (free_name avoid from ++ codes "'"))) (record { name = free_name avoid from; tested = free_name avoid from ∷ [] }))) is
+        ∙ (λ i. record { name = (fresh_in n names avoid (free_name avoid from ++ codes "'")).name; tested = sym (append_assoc before (free_name avoid from ∷ []) (fresh_in n names avoid (free_name avoid from ++ codes "'")).tested) i }),
+  )
 
   pub goes_on_at : (name primed next : List ℕ) (tested more : List (List ℕ)) → IsAt names avoid base name tested → stands names name ≡ true → primed ≡ name ++ codes "'" → next ≡ free_name avoid primed → more ≡ tested ++ next ∷ [] →
       IsAt names avoid base next more

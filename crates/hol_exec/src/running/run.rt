@@ -12,8 +12,7 @@ ghost use Rattle.hol_kernel.specs.Items.{Items};
 ghost use Rattle.hol_goal.specs.Goal.{GoalValue};
 ghost use Rattle.hol_combine.specs.Runs.{RunValue};
 ghost use Rattle.hol_combine.specs.RunView.{IsError};
-ghost use Rattle.hol_exec.specs.Tested.{marked};
-ghost use Rattle.hol_exec.specs.Local.{IsLocalOutcome, IsOpening, IsApplying, run_outcome, opens, opens_term, applied, finishes, finished};
+ghost use Rattle.hol_exec.specs.Local.{IsLocalOutcome, IsOpening, IsApplying, given_by, run_outcome, opens, opens_term, applied, finishes, finished};
 ghost use Rattle.hol_exec.specs.Signature.{signature_of};
 ghost use Rattle.hol_exec.specs.Resolved.{resolved_basis};
 ghost use Rattle.hol_exec.specs.Standing.{first_taken};
@@ -44,8 +43,8 @@ use hol_theory::{Key, Kind, Value};
 use hol_types::Name;
 use std::alloc::{AllocError, Global};
 
-/// The outcome of a command, from what it reads of a state where constants have these names, and which of these were tested for it: it is determined by the set-up, the command,
-/// what it reads and these. It counts one.
+/// The outcome of a command, from what it reads of a state where constants have these names, and which of these were tested for it: it is determined by the set-up, the
+/// command, what it reads and these. It counts one.
 pub fn run_local(
     alloc: Global,
     meter: &mut Meter,
@@ -186,16 +185,33 @@ fn applied(
     let Some(goal) = reads.goal() else {
         return Ok((refused(alloc, RefusalKind::NoGoalOpen), Tested::none(alloc)));
     };
-    let (outcome, tested) = match run(alloc, expr, goal, setup.registry(), names, setup.turns()) {
-        Ok(ran) => (left(alloc, goal, ran.step, basis)?, ran.tested),
-        Err(error) => not_left(alloc, error)?,
-    };
+    match run(alloc, expr, goal, setup.registry(), names, setup.turns()) {
+        Ok(ran) => {
+            let outcome = left(alloc, goal, ran.step, basis)?;
+            with_tested(alloc, outcome, ran.tested, names)
+        }
+        Err(error) => {
+            let (outcome, tested) = not_left(alloc, error)?;
+            with_tested(alloc, outcome, tested, names)
+        }
+    }
+}
+
+// The outcome with the names that were tested, where constants have those.
+fn with_tested(
+    alloc: Global,
+    outcome: Outcome,
+    tested: Vec<Name>,
+    names: &Names,
+) -> Result<(Outcome, Tested), AllocError>
+    ensures { IfOk result (λ r. record { outcome = r.0; tested = r.1 } ≡ given_by names.now outcome tested.items) }
+{
     Ok((outcome, Tested::of(alloc, tested, names)?))
 }
 
 // The outcome of a run that left no goals, and the names that were tested.
 fn not_left(alloc: Global, error: RunError) -> Result<(Outcome, Vec<Name>), AllocError>
-    ensures { (run : RunValue) (names : List (List ℕ)) (goal : GoalValue) (basis : Items) → IsError run error → IfOk result (λ r. record { outcome = r.0; tested = marked names r.1.items } ≡ run_outcome names goal basis run) }
+    ensures { (run : RunValue) (names : List (List ℕ)) (goal : GoalValue) (basis : Items) → IsError run error → IfOk result (λ r. given_by names r.0 r.1.items ≡ run_outcome names goal basis run) }
 {
     match error {
         RunError::Refused(Refusal::DoesNotFit(name), _, tested) => {

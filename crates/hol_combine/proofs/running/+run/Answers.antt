@@ -339,5 +339,5 @@ replicate-returns-in_err-paid-clause-answer g t c =
     let p = err_from_is_err_and c.from_residual-in_err-paid.result c.from_residual-in_err-paid.ensures.1 in
     rw (p.1, p.2) (subst (λ (v : RunValue). IsError v _)
     (sym (count_out_at (suits_expr c.args.part.now) c.args.ran _ (run (g.T.Tacs.known_of c.args.tacs.now) c.args.part.now) (reverse c.rounds.rounds.items) (reverse c.pop.new.self.items) c.in-Some-pop.more (work_value c.rounds.work) (work_value c.next.new.self) c.in-Some.goal (used_value c.in-Some.used)
-        (popped c.rounds.rounds.items c.pop.new.self.items c.in-Some-pop.more was) c.in-Some.ensures c.in_err-paid.ensures.none.0 c.rounds.invariant.progress))
+    (popped c.rounds.rounds.items c.pop.new.self.items c.in-Some-pop.more was) c.in-Some.ensures c.in_err-paid.ensures.none.0 c.rounds.invariant.progress))
     c.in_err-paid.ensures.none.1)
