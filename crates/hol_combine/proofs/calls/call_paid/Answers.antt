@@ -29,3 +29,40 @@ returns-in-Ok-clause-left g c =
     at_most_more c.in-Ok.tried.left c.args.used.left c.small.result
     (left_falls (meaning_at known.names known.table index) args c.args.goal.now c.args.used.left c.in-Ok.tried (at_falls known.names known.table index) (by_meaning known index args c.args.goal.now c.args.used.left _ c.requires.index c.in-Ok.ensures.answer))
     c.small.ensures.left
+
+pub returns-in_ok-tested-in-Err-Refused-clause-answer : goal.returns-in_ok-tested-in-Err-Refused-clause-answer
+returns-in_ok-tested-in-Err-Refused-clause-answer g c =
+    let known = g.T.Tacs.known_of c.args.tacs.now in
+    let index = c.args.call.now.index in
+    let args = args_value c.args.call.now.args in
+    let left = c.in-Err-Refused.left in
+    let same : string_bytes c.in_ok-name-in-Err-Refused.name ≡ string_bytes c.args.call.now.name = search rules in
+    answered_unfit (meaning_at known.names known.table index) (string_bytes c.args.call.now.name) args c.args.goal.now (used_value c.args.used) left c.in-Err-Refused.more
+    (subst (λ e. IsAnsweredBy (meaning_at known.names known.table index) args c.args.goal.now c.args.used.left (Err e)) c.in-Err-Refused.field-0-is (by_meaning known index args c.args.goal.now c.args.used.left _ c.requires.index c.in-Err-Refused.ensures.answer))
+    ∙ (λ i. Refuses (DoesNotFit (sym same i)) (using left (sym c.in_ok-tested-in-Err-Refused.ensures i)))
+
+pub returns-in_ok-tested-in-Err-Refused-clause-left : goal.returns-in_ok-tested-in-Err-Refused-clause-left
+returns-in_ok-tested-in-Err-Refused-clause-left g c =
+    let known = g.T.Tacs.known_of c.args.tacs.now in
+    let index = c.args.call.now.index in
+    let args = args_value c.args.call.now.args in
+    refused_falls (meaning_at known.names known.table index) args c.args.goal.now c.args.used.left c.in-Err-Refused.left c.in-Err-Refused.more (at_falls known.names known.table index)
+    (subst (λ e. IsAnsweredBy (meaning_at known.names known.table index) args c.args.goal.now c.args.used.left (Err e)) c.in-Err-Refused.field-0-is (by_meaning known index args c.args.goal.now c.args.used.left _ c.requires.index c.in-Err-Refused.ensures.answer))
+
+pub returns-in_ok-joined-in-Err-TurnLimit-clause-answer : goal.returns-in_ok-joined-in-Err-TurnLimit-clause-answer
+returns-in_ok-joined-in-Err-TurnLimit-clause-answer g c =
+    let known = g.T.Tacs.known_of c.args.tacs.now in
+    let index = c.args.call.now.index in
+    let args = args_value c.args.call.now.args in
+    answered_stops (meaning_at known.names known.table index) (string_bytes c.args.call.now.name) args c.args.goal.now (used_value c.args.used) c.in-Err-TurnLimit.more
+    (subst (λ e. IsAnsweredBy (meaning_at known.names known.table index) args c.args.goal.now c.args.used.left (Err e)) c.in-Err-TurnLimit.field-0-is (by_meaning known index args c.args.goal.now c.args.used.left _ c.requires.index c.in-Err-TurnLimit.ensures.answer))
+    ∙ (λ i. Stops TurnLimit (sym c.in_ok-joined-in-Err-TurnLimit.ensures i))
+
+pub returns-in_ok-joined-in-Err-TooLarge-clause-answer : goal.returns-in_ok-joined-in-Err-TooLarge-clause-answer
+returns-in_ok-joined-in-Err-TooLarge-clause-answer g c =
+    let known = g.T.Tacs.known_of c.args.tacs.now in
+    let index = c.args.call.now.index in
+    let args = args_value c.args.call.now.args in
+    answered_large (meaning_at known.names known.table index) (string_bytes c.args.call.now.name) args c.args.goal.now (used_value c.args.used) c.in-Err-TooLarge.more
+    (subst (λ e. IsAnsweredBy (meaning_at known.names known.table index) args c.args.goal.now c.args.used.left (Err e)) c.in-Err-TooLarge.field-0-is (by_meaning known index args c.args.goal.now c.args.used.left _ c.requires.index c.in-Err-TooLarge.ensures.answer))
+    ∙ (λ i. Stops LargeGoal (sym c.in_ok-joined-in-Err-TooLarge.ensures i))
