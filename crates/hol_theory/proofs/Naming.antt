@@ -29,7 +29,7 @@ pub names_step : (more : Entries) (i : ℕ) (e : KeyValue × EntryValue) (names 
 names_step more i e names new all h at is before =
     ap (λ (ns : List (List ℕ)). ns ++ constant_names (drop (i + 1) more)) is
     ∙ append_assoc names (constant_name e.0.kind e.0.name) (constant_names (drop (i + 1) more))
-    ∙ ap (λ (es : Entries). names ++ constant_names es) (sym (drop_more more i e h at))
+    ∙ ap (λ (es : Entries). names ++ constant_names es) (sym (drop_more more i e h ∙ ap (λ (f : KeyValue × EntryValue). f ∷ drop (i + 1) more) (sym at)))
     ∙ before
 
 pub names_end : (more : Entries) (i : ℕ) (names all : List (List ℕ)) → length more ≤ i → names ++ constant_names (drop i more) ≡ all → names ≡ all

@@ -206,7 +206,7 @@ fn with_tested(
 ) -> Result<(Outcome, Tested), AllocError>
     ensures { IfOk result (λ r. record { outcome = r.0; tested = r.1 } ≡ given_by names.now outcome tested.items) }
 {
-    Ok((outcome, Tested::of(alloc, tested, names)?))
+    Ok((outcome, Tested::of(alloc, &tested, names)?))
 }
 
 // The outcome of a run that left no goals, and the names that were tested.

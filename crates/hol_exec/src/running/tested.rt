@@ -1,5 +1,5 @@
 //! The names that the run of a command tested.
-ghost use Rattle.std.specs.Prelude.{◌≡◌, ◌↔◌, IsTrue, IfOk, [], map};
+ghost use Rattle.std.specs.Prelude.{◌≡◌, IfOk, [], map};
 ghost use Rattle.std.specs.List.{list_all};
 ghost use Rattle.hol_goal.specs.Names.{stands};
 ghost use Rattle.hol_exec.specs.Tested.{is_marked, marked, agrees};
@@ -38,31 +38,14 @@ impl Tested {
     }
 
     /// These names, where constants have those.
-    pub(crate) fn of(alloc: Global, tested: Vec<Name>, names: &Names) -> Result<Tested, AllocError>
-        ensures { IfOk result (λ t. t ≡ marked names.now tested.items) }
+    pub(crate) fn of(alloc: Global, tested: &[Name], names: &Names) -> Result<Tested, AllocError>
+        ensures { IfOk result (λ t. t ≡ marked names.now tested.now) }
     {
         let mut marked = Vec::with_capacity(alloc, tested.len())?;
         for name in tested {
-            let stands = names.has(name.as_str());
-            marked.push((name, stands))?;
+            marked.push((name.copy()?, names.has(name.as_str())))?;
         }
         Ok(Tested { names: marked })
-    }
-
-    /// Whether both are the same.
-    pub fn same(&self, other: &Tested) -> bool
-        ensures { IsTrue result ↔ (self.now ≡ other.now) }
-    {
-        if self.names.len() != other.names.len() {
-            return false;
-        }
-        for (i, (name, stands)) in self.names.iter().enumerate() {
-            let (name2, stands2) = &other.names[i];
-            if !name.same(name2) || *stands != *stands2 {
-                return false;
-            }
-        }
-        true
     }
 }
 
@@ -77,8 +60,8 @@ pub fn agrees(tested: &Tested, env: &Env) -> bool
 fn agree(tested: &[(Name, bool)], names: &Names) -> bool
     ensures { result ≡ list_all (is_marked names.now) tested.now }
 {
-    for (name, stands) in tested {
-        if names.has(name.as_str()) != *stands {
+    for entry in tested {
+        if names.has(entry.0.as_str()) != entry.1 {
             return false;
         }
     }
