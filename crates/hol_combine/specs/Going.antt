@@ -36,10 +36,10 @@ abbrev pub GoesOnFrom : (Items → Bool) → Ran → Ran → Type 0
 GoesOnFrom more old new = GoesOn more old.step.just old.step.goals.items new.step.just new.step.goals.items
 
 -- a goal that was left as it is
-pub record IsKept (goal : GoalValue) (used : UsedValue) (ran : Ran) : Type 0 where
+pub record IsKept (goal : GoalValue) (left : UsedValue) (ran : Ran) : Type 0 where
   pub goals : ran.step.goals.items ≡ goal ∷ []
   pub just : ran.step.just ≡ []
-  pub used : used_by ran ≡ used
+  pub used : used_by ran ≡ left
 
 -- the refusal of a tactical
 abbrev pub IsRefusal : List ℕ → UsedValue → RunError → Type 0

@@ -27,7 +27,7 @@ started ran = record { done = []; waiting = ran.step.goals.items; moves = ran.st
 abbrev pub with_next : GoalValue → UsedValue → WorkValue → WorkValue
 with_next goal used w = record { done = w.done; waiting = goal ∷ w.waiting; moves = w.moves; used = used }
 
-abbrev pub IsNext : WorkValue → WorkValue → Option (Goal × Used) → Type 0
+abbrev pub IsNext : WorkValue → WorkValue → Option (GoalValue × Used) → Type 0
 IsNext old new None = (old.waiting ≡ []) × (new ≡ old)
 IsNext old new (Some taken) = old ≡ with_next taken.0 (used_value taken.1) new
 

@@ -18,7 +18,7 @@ module _ (names : List (List ℕ)) where
       ∙ so
 
   pub marks_end : (xs : List (List ℕ)) (i : ℕ) (before all : TestedValue) → length xs ≤ i → before ++ marked names (drop i xs) ≡ all → before ≡ all
-  marks_end xs i before all h so = sym (append-nil before) ∙ ap (λ (ys : List (List ℕ)). before ++ marked names ys) (sym (drop_all xs i h)) ∙ so
+  marks_end xs i before all h so = sym (append-nil before) ∙ ap (λ (ys : List (List ℕ)). before ++ marked names ys) (sym (drop_all i xs h)) ∙ so
 
 -- ---- whether all are marked rightly, from the place on
 
@@ -33,4 +33,4 @@ module _ (f : List ℕ × Bool → Bool) (xs : TestedValue) (i : ℕ) where
   all_on x h at so yes = so ∙ all_at x h at ∙ ap (λ b. b && list_all f (drop (i + 1) xs)) yes
 
   pub all_end : length xs ≤ i → list_all f xs ≡ list_all f (drop i xs) → true ≡ list_all f xs
-  all_end h so = sym (so ∙ ap (list_all f) (drop_all xs i h))
+  all_end h so = sym (so ∙ ap (list_all f) (drop_all i xs h))

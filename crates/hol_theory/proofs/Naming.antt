@@ -33,4 +33,4 @@ names_step more i e names new all h at is before =
     ∙ before
 
 pub names_end : (more : Entries) (i : ℕ) (names all : List (List ℕ)) → length more ≤ i → names ++ constant_names (drop i more) ≡ all → names ≡ all
-names_end more i names all h before = sym (append-nil names) ∙ ap (λ (es : Entries). names ++ constant_names es) (sym (drop_all more i h)) ∙ before
+names_end more i names all h before = sym (append-nil names) ∙ ap (λ (es : Entries). names ++ constant_names es) (sym (drop_all i more h)) ∙ before
