@@ -94,13 +94,13 @@ pub one_constant_fewer : (names : List (List ℕ)) (a : List ℕ) (n : ℕ) → 
 one_constant_fewer names a n h is =
     elim (or_cases (list_any (bytes_eq a) names) (list_any (λ (p : List ℕ × TypeTree). bytes_eq a p.0) prelude_constants) is) [
       | inl e ↦ (
-        let own = one_fewer (λ b. b) a n names h e in
-        let others = longer_fewer (λ (p : List ℕ × TypeTree). p.0) n (suc (length a)) prelude_constants (omega (arith, h)) in
-        omega (arith, own, others))
+          let own = one_fewer (λ b. b) a n names h e in
+          let others = longer_fewer (λ (p : List ℕ × TypeTree). p.0) n (suc (length a)) prelude_constants (omega (arith, h)) in
+          omega (arith, own, others))
       | inr e ↦ (
-        let own = longer_fewer (λ b. b) n (suc (length a)) names (omega (arith, h)) in
-        let others = one_fewer (λ (p : List ℕ × TypeTree). p.0) a n prelude_constants h e in
-        omega (arith, own, others))
+          let own = longer_fewer (λ b. b) n (suc (length a)) names (omega (arith, h)) in
+          let others = one_fewer (λ (p : List ℕ × TypeTree). p.0) a n prelude_constants h e in
+          omega (arith, own, others))
     ]
 
 -- ---- the search
