@@ -114,6 +114,12 @@ pub run_counts : (setup : SetupValue) (earlier : List EndedTheory) (s : StateVal
     → m ≤ n + counts None new.row → m ≤ n + counts (Some old.row) new.row
 run_counts setup earlier s old new n m is text counted few = subst (λ c. m ≤ n + c) (sym (counted new.row (subst (λ t. IsRow setup earlier s t new.row) text is.row))) few
 
+pub few_again : {R E : Type 0} (f : R → SlotValue) (r : Result R E) (setup : SetupValue) (earlier : List EndedTheory) (s : StateValue) (old : SlotValue) (n m : ℕ)
+    → IfOk r (λ new. IsSlot setup earlier s (f new)) → IfOk r (λ new. (f new).text ≡ old.text) → ((row : Row) → IsRow setup earlier s old.text row → counts (Some old.row) row ≡ counts None row)
+    → IfOk r (λ new. m ≤ n + counts None (f new).row) → IfOk r (λ new. m ≤ n + counts (Some old.row) (f new).row)
+few_again f (Ok new) setup earlier s old n m is text counted few = run_counts setup earlier s old (f new) n m is text counted few
+few_again f (Err e) setup earlier s old n m is text counted few = tt
+
 -- where other names were tested, or these stand otherwise, it is counted
 pub counts_tested : (old new : Row) → same_tested old.tested new.tested ≡ false → counts (Some old) new ≡ counts None new
 counts_tested old new e = ap (λ b. counts_where b old.reads new.reads) e
