@@ -15,5 +15,5 @@ returns-clause-valid c =
     let th = c.in-Theorem.th in
     let v : List ℕ × TypeTree = ((fresh c.args.names.now (terms_by th c.args.goal.now) (base_of x.0)).name, x.1) in
     let property : Abstraction = record { base = base_of x.0; domain = x.1; body = nameless (x ∷ []) c.in-Some.p.now } in
-    by_theorem_among c.args.goal.now c.in_ok-choose_step.field-0.step c.in_ok-choose_step.field-0.step.just (assuming_of c.args.goal.now (free v) property ∷ []) refl (ap (λ r. r.0) c.in_ok-choose_step.ensures.goals) c.args.args.now th c.in-Theorem.is
-    (chosen_valid th c.args.goal.now (nameless [] c.concl.result.now) property v c.in_ok-choose_step.field-0.step.just c.concl.ensures.concl c.in-Some.ensures.parts refl c.in_ok-choose_step.ensures.absent c.in_ok-choose_step.ensures.just)
+    by_theorem_among c.args.goal.now c.in_ok-step.step c.in_ok-step.step.just (assuming_of c.args.goal.now (free v) property ∷ []) refl (ap (λ r. r.0) c.in_ok-step.ensures.goals) c.args.args.now th c.in-Theorem.is
+    (chosen_valid th c.args.goal.now (nameless [] c.concl.result.now) property v c.in_ok-step.step.just c.concl.ensures.concl c.in-Some.ensures.parts refl c.in_ok-step.ensures.absent c.in_ok-step.ensures.just)

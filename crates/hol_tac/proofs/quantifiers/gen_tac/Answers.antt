@@ -12,6 +12,6 @@ returns-clause-valid c =
     let x = c.in-Some.x.now in
     let name = (fresh c.args.names.now (goal_terms c.args.goal.now) (base_of x.0)).name in
     let body = nameless (x ∷ []) c.in-Some.p.now in
-    by_nothing c.args.goal.now c.in_ok-gen_step.field-0.step c.in_ok-gen_step.field-0.step.just (concluding c.args.goal.now (open_with (free (name, x.1)) 0 body) ∷ []) refl (ap (λ r. r.0) c.in_ok-gen_step.ensures.goals) c.args.args.now c.in-Nothing.is
-    (gen_valid c.args.goal.now (nameless [] c.conclusion.result.now) c.conclusion.ensures.term c.in_ok-gen_step.field-0.step.just (record { base = base_of x.0; domain = x.1; body = body }) (name, x.1) c.in-Some.ensures.parts refl
-    c.in_ok-gen_step.ensures.absent c.in_ok-gen_step.ensures.just)
+    by_nothing c.args.goal.now c.in_ok-step.step c.in_ok-step.step.just (concluding c.args.goal.now (open_with (free (name, x.1)) 0 body) ∷ []) refl (ap (λ r. r.0) c.in_ok-step.ensures.goals) c.args.args.now c.in-Nothing.is
+    (gen_valid c.args.goal.now (nameless [] c.conclusion.result.now) c.conclusion.ensures.term c.in_ok-step.step.just (record { base = base_of x.0; domain = x.1; body = body }) (name, x.1) c.in-Some.ensures.parts refl
+    c.in_ok-step.ensures.absent c.in_ok-step.ensures.just)
