@@ -73,10 +73,10 @@ impl Lemmas {
         ensures kept { self.new ≡ self.old }
     {
         a.well_typed();
-        let Some((p, q)) = dest_conj(a.concl()) else {
+        let Some((left, right)) = dest_conj(a.concl()) else {
             unreachable!()
         };
-        self.follow(alloc, Lemma::Conjunct1, p, q, a)
+        self.follow(alloc, Lemma::Conjunct1, left, right, a)
     }
 
     /// CONJUNCT2, for a theorem that is known to be a conjunction.
@@ -87,10 +87,10 @@ impl Lemmas {
         ensures kept { self.new ≡ self.old }
     {
         a.well_typed();
-        let Some((p, q)) = dest_conj(a.concl()) else {
+        let Some((left, right)) = dest_conj(a.concl()) else {
             unreachable!()
         };
-        self.follow(alloc, Lemma::Conjunct2, p, q, a)
+        self.follow(alloc, Lemma::Conjunct2, left, right, a)
     }
 
     /// MP: from `p ==> q` and `p'` that is `p` up to bound names, `q`.

@@ -23,8 +23,8 @@ pub follow-requires : goal.follow-requires
 follow-requires c =
     let A = c.args.a.now.basis in
     let a = c.args.a.now.sequent in
-    let p = nameless [] c.in-Some.p.now in
-    let q = nameless [] c.in-Some.q.now in
+    let p = nameless [] c.in-Some.left.now in
+    let q = nameless [] c.in-Some.right.now in
     let is : a.concl ≡ conjunction p q = dest_binary_is (codes "/\\") connective_type a.concl (p, q) (ap dest_conj (sym c.concl.ensures.concl) ∙ c.in-Some.ensures.parts) in
     let typed : HasType A p bool_type × HasType A q bool_type = operands_typed A (codes "/\\") p q bool_type (subst (λ (u : Nameless). HasType A u bool_type) is c.well_typed.ensures.conclusion) in
     record {
@@ -38,8 +38,8 @@ pub returns-clause-gives : goal.returns-clause-gives
 returns-clause-gives c =
     let A = c.args.a.now.basis in
     let a = c.args.a.now.sequent in
-    let p = nameless [] c.in-Some.p.now in
-    let q = nameless [] c.in-Some.q.now in
+    let p = nameless [] c.in-Some.left.now in
+    let q = nameless [] c.in-Some.right.now in
     let is : a.concl ≡ conjunction p q = dest_binary_is (codes "/\\") connective_type a.concl (p, q) (ap dest_conj (sym c.concl.ensures.concl) ∙ c.in-Some.ensures.parts) in
     let own : p ≡ lhs a.concl = ap lhs (sym is) in
     became c.follow.result (theorem_on c.args.self.now (sequent_of a.hyps p)) (theorem_on A (first_conjunct a)) c.follow.ensures.is (λ i. theorem_on (c.requires.one_basis i) (sequent_of a.hyps (own i)))
