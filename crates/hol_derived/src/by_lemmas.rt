@@ -178,6 +178,12 @@ impl Lemmas {
         self.follow(alloc, Lemma::Contr, p, p, a)
     }
 
+    /// EQT_INTRO.
+    pub fn eqt_intro(&mut self, alloc: Global, a: &Thm) -> Result<Thm, AllocError>
+    {
+        self.follow(alloc, Lemma::EqtIntro, a.concl(), a.concl(), a)
+    }
+
     // From `p`, `(\v. p) = (\v. T)`.
     fn under_truth(&mut self, alloc: Global, v: &Variable, a: &Thm) -> Result<Thm, AllocError>
         requires one_basis { self.old ≡ a.now.basis }

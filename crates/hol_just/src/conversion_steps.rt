@@ -9,6 +9,7 @@ use crate::cursor::Cursor;
 use crate::refusals::{made_in_equal, made_in_kernel};
 use hol_conv::Trace;
 use hol_derived::applied::truth;
+use hol_derived::Lemmas;
 use hol_equal::sym;
 use hol_kernel::Thm;
 use hol_replay::replay;
@@ -23,23 +24,23 @@ pub(crate) fn true_formula(alloc: Global, thms: &mut Cursor) -> Result<(), Alloc
 }
 
 /// EQ_MP of the theorem after the place, by SYM of the equation of the trace.
-pub(crate) fn conversion(alloc: Global, trace: &Trace, thms: &mut Cursor) -> Result<(), AllocError>
+pub(crate) fn conversion(alloc: Global, lemmas: &mut Lemmas, trace: &Trace, thms: &mut Cursor) -> Result<(), AllocError>
     requires { IsSome (inferred (from_one (converted_back thms.old.basis trace.now)) thms.old.after) }
     ensures { OnOk result (Infers (from_one (converted_back thms.old.basis trace.now)) thms.old thms.new) }
 {
     let Some(converted) = thms.take() else {
         unreachable!()
     };
-    let thm = converted_back(alloc, trace, &converted)?;
+    let thm = converted_back(alloc, lemmas, trace, &converted)?;
     thms.put(thm)
 }
 
 // The term that was rewritten, from what it became.
-fn converted_back(alloc: Global, trace: &Trace, converted: &Thm) -> Result<Thm, AllocError>
+fn converted_back(alloc: Global, lemmas: &mut Lemmas, trace: &Trace, converted: &Thm) -> Result<Thm, AllocError>
     requires { IsSome (over converted.now.basis (converted_back converted.now.basis trace.now converted.now.sequent)) }
     ensures { IfOk result (λ th. over converted.now.basis (converted_back converted.now.basis trace.now converted.now.sequent) ≡ Some th) }
 {
-    let equation = replay(alloc, converted.basis(), trace)?;
+    let equation = replay(alloc, lemmas, converted.basis(), trace)?;
     let back = made_in_equal(sym(alloc, &equation))?;
     made_in_kernel(Thm::eq_mp(alloc, &back, converted))
 }

@@ -24,7 +24,7 @@ pub fn beta_conversion(
     ensures { IfOk result (λ th. beta_conversion basis.now turns (nameless [] term.now) ≡ Some th) }
 {
     match beta_all(alloc, term, turns) {
-        Ok(reduced) => replay(alloc, basis, &reduced.trace),
+        Ok(reduced) => replay(alloc, &mut hol_derived::Lemmas::new(alloc, basis)?, basis, &reduced.trace),
         Err(ConvError::Memory) => Err(AllocError),
         Err(ConvError::Limit) | Err(ConvError::TooLarge) => unreachable!(),
     }

@@ -15,6 +15,7 @@ ghost use Rattle.hol_match.specs.Standing.{TermsStand};
 
 use crate::rule_theorems::rule_theorem;
 use hol_equal::applied::{refl, trans, unrefused};
+use hol_derived::Lemmas;
 use hol_kernel::{Basis, Thm};
 use hol_match::{Instance, SetRule};
 use hol_terms::Term;
@@ -27,6 +28,7 @@ use std::alloc::{AllocError, Global};
 #[tactic(auto, using(crate::proofs::Instances::redexes))]
 pub(crate) fn redex_theorem(
     alloc: Global,
+    lemmas: &mut Lemmas,
     basis: &Basis,
     rule: &SetRule,
     ty: &Ty,
@@ -39,7 +41,7 @@ pub(crate) fn redex_theorem(
     ensures { IfOk result (λ th. redex_equation basis.now ty.now rule.now (nameless [] t.now) ≡ Some th) }
 {
     rule.sound();
-    let general = rule_theorem(alloc, basis, rule)?;
+    let general = rule_theorem(alloc, lemmas, basis, rule)?;
     let Some(found) = rule.fit(alloc, t)? else {
         unreachable!()
     };

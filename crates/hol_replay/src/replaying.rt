@@ -14,6 +14,7 @@ use crate::redex_theorem::redex_theorem;
 use hol_conv::{Trace, TraceNode, body_at};
 use hol_equal::applied::{abs, beta_conv, mk_comb, refl, sides_of, trans};
 use hol_formulas::occurrence;
+use hol_derived::Lemmas;
 use hol_kernel::{Basis, Thm};
 use hol_terms::{Term, Variable};
 use hol_types::Ty;
@@ -25,12 +26,12 @@ use std::alloc::{AllocError, Global};
 /// The basis has to contain the bases of the theorems that were given; `t` and the terms that were assumed have to be well typed over it.
 /// So it fails for want of memory alone. One rule of equations for each node of the trace's tree.
 #[tactic(auto, using(crate::proofs::Nodes::whole))]
-pub fn replay(alloc: Global, basis: &Basis, trace: &Trace) -> Result<Thm, AllocError>
+pub fn replay(alloc: Global, lemmas: &mut Lemmas, basis: &Basis, trace: &Trace) -> Result<Thm, AllocError>
     requires { IsSome (trace_equation basis.now trace.now) }
     ensures { IfOk result (λ th. trace_equation basis.now trace.now ≡ Some th) }
 {
     let t = trace.old();
-    node_theorem(alloc, basis, trace.node(), t.type_of(), t)
+    node_theorem(alloc, lemmas, basis, trace.node(), t.type_of(), t)
 }
 
 // The same of a node, for a term of the type.
@@ -38,6 +39,7 @@ pub fn replay(alloc: Global, basis: &Basis, trace: &Trace) -> Result<Thm, AllocE
 #[tactic(auto, using(crate::proofs::Nodes::nodes))]
 fn node_theorem(
     alloc: Global,
+    lemmas: &mut Lemmas,
     basis: &Basis,
     node: &TraceNode,
     ty: &Ty,
@@ -51,11 +53,11 @@ fn node_theorem(
 {
     match node {
         TraceNode::Same => refl(alloc, basis, ty, t),
-        TraceNode::Parts(f, x) => parts_theorem(alloc, basis, f, x, ty, t),
-        TraceNode::Body(v, b) => body_theorem(alloc, basis, v, b, ty, t),
-        TraceNode::Rule(rule) => redex_theorem(alloc, basis, rule, ty, t),
+        TraceNode::Parts(f, x) => parts_theorem(alloc, lemmas, basis, f, x, ty, t),
+        TraceNode::Body(v, b) => body_theorem(alloc, lemmas, basis, v, b, ty, t),
+        TraceNode::Rule(rule) => redex_theorem(alloc, lemmas, basis, rule, ty, t),
         TraceNode::Beta => beta_conv(alloc, basis, ty, t),
-        TraceNode::Both(_, a, b) => both_theorem(alloc, basis, a, b, ty, t),
+        TraceNode::Both(_, a, b) => both_theorem(alloc, lemmas, basis, a, b, ty, t),
     }
 }
 
@@ -65,6 +67,7 @@ fn node_theorem(
 #[tactic(auto, using(crate::proofs::Nodes::application_nodes))]
 fn parts_theorem(
     alloc: Global,
+    lemmas: &mut Lemmas,
     basis: &Basis,
     function: &TraceNode,
     argument: &TraceNode,
@@ -78,8 +81,8 @@ fn parts_theorem(
     ensures { IfOk result (λ th. IsNode basis.now (all_hyps (used function.now ++ used argument.now)) ty.now (nameless [] t.now) (in_parts (traced function.now) (traced argument.now) (nameless [] t.now)) th) }
 {
     let (f, x) = application(t);
-    let left = node_theorem(alloc, basis, function, f.type_of(), f)?;
-    let right = node_theorem(alloc, basis, argument, x.type_of(), x)?;
+    let left = node_theorem(alloc, lemmas, basis, function, f.type_of(), f)?;
+    let right = node_theorem(alloc, lemmas, basis, argument, x.type_of(), x)?;
     mk_comb(alloc, &left, &right)
 }
 
@@ -89,6 +92,7 @@ fn parts_theorem(
 #[tactic(auto, using(crate::proofs::Nodes::abstraction_nodes))]
 fn body_theorem(
     alloc: Global,
+    lemmas: &mut Lemmas,
     basis: &Basis,
     v: &Variable,
     body: &TraceNode,
@@ -104,7 +108,7 @@ fn body_theorem(
     let (w, b) = abstraction(t);
     let own = occurrence(alloc, v)?;
     let inside = body_at(alloc, w, b, &own)?;
-    let th = node_theorem(alloc, basis, body, inside.type_of(), &inside)?;
+    let th = node_theorem(alloc, lemmas, basis, body, inside.type_of(), &inside)?;
     abs(alloc, v, &th)
 }
 
@@ -114,6 +118,7 @@ fn body_theorem(
 #[tactic(auto, using(crate::proofs::Nodes::following_nodes))]
 fn both_theorem(
     alloc: Global,
+    lemmas: &mut Lemmas,
     basis: &Basis,
     first: &TraceNode,
     second: &TraceNode,
@@ -126,11 +131,11 @@ fn both_theorem(
     requires traced { IsSome (option_and_then (traced second.now) (traced first.now (nameless [] t.now))) }
     ensures { IfOk result (λ th. IsNode basis.now (all_hyps (used first.now ++ used second.now)) ty.now (nameless [] t.now) (option_and_then (traced second.now) (traced first.now (nameless [] t.now))) th) }
 {
-    let left = node_theorem(alloc, basis, first, ty, t)?;
+    let left = node_theorem(alloc, lemmas, basis, first, ty, t)?;
     left.well_typed();
     let Some(sides) = sides_of(&left) else {
         unreachable!()
     };
-    let right = node_theorem(alloc, basis, second, ty, sides.right)?;
+    let right = node_theorem(alloc, lemmas, basis, second, ty, sides.right)?;
     trans(alloc, &left, &right)
 }
