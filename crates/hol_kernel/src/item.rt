@@ -178,11 +178,21 @@ impl Item {
     ) -> Result<bool, AllocError>
         ensures { IfOk result (λ makes. makes ≡ makes_constant constant.now ty.now self.now) }
     {
-        if !self.has_name(ItemKind::Constant, constant) {
-            return Ok(false);
+        match self.node() {
+            ItemNode::DeclaredConstant(name, generic) => {
+                is_constant_at(alloc, constant, ty, name, generic)
+            }
+            ItemNode::DefinedConstant(name, term) => {
+                is_constant_at(alloc, constant, ty, name, term.type_of())
+            }
+            _ => {
+                if !self.has_name(ItemKind::Constant, constant) {
+                    return Ok(false);
+                }
+                let constants = self.constants(alloc)?;
+                is_among(alloc, &constants, constant, ty)
+            }
         }
-        let constants = self.constants(alloc)?;
-        is_among(alloc, &constants, constant, ty)
     }
 }
 

@@ -355,6 +355,15 @@ impl Ty {
         Ok(Some(pairs))
     }
 
+    pub fn matches(&self, alloc: Global, target: &Ty) -> Result<bool, AllocError>
+    {
+        if self.shared.filter.is_empty() {
+            return Ok(self.same(target));
+        }
+        let mut found = Vec::new(alloc);
+        self.match_into(target, &mut found)
+    }
+
     // Whether the pattern matches the target beside the pairs found so far. Those that it needs more are put at their end.
     #[tactic(auto, using(crate::proofs::Steps::match_ends, crate::proofs::Filters::closed_match))]
     fn match_into(&self, target: &Ty, found: &mut Vec<(Ty, Name)>) -> Result<bool, AllocError>
