@@ -136,9 +136,13 @@ fn under_equality(alloc: Global, ty: &Ty, a: &Thm) -> Result<Thm, AllocError>
     ensures { IfOk result (λ th. th ≡ theorem_on a.now.basis (under (equality_type ty.now) (fixed (codes "=") (equality_type ty.now)) a.now.sequent)) }
 {
     a.well_typed();
-    let own = equality_type(alloc, ty)?;
-    let sign = equality(alloc, &own)?;
-    ap_term(alloc, &own, &sign, a)
+    let TermNode::Comb(half, _) = a.concl().node() else {
+        unreachable!()
+    };
+    let TermNode::Comb(sign, _) = half.node() else {
+        unreachable!()
+    };
+    ap_term(alloc, sign.type_of(), sign, a)
 }
 
 // From `(=) l = (=) r`, `r = l`; the type is that of `l`.

@@ -43,6 +43,14 @@ pub fn mk_eq_like(
     }
 }
 
+pub fn like(alloc: Global, like: &Term, ty: &Ty, left: &Term, right: &Term) -> Result<Option<Term>, AllocError>
+{
+    match shared_half(like, ty, left) {
+        Some(applied) => Ok(Some(Term::application(alloc, applied, right)?)),
+        None => Ok(None),
+    }
+}
+
 // The operator with the left side, of an equation of terms of the type whose left side has the node of `left`.
 fn shared_half<'a>(like: &'a Term, ty: &Ty, left: &Term) -> Option<&'a Term>
     ensures { IfSome result (λ half. half.now ≡ comb (constant (codes "=") (equality_type ty.now)) left.now) }
