@@ -27,6 +27,7 @@ use std::marker::Model;
 /// derivations once; who works over many bases has them all made over no items, and brings them to each.
 #[derive(Drop)]
 pub struct Lemmas {
+    letters: [Term; 2],
     basis: Basis,
     made: Vec<(Lemma, Thm)>,
 }
@@ -51,6 +52,7 @@ impl Lemmas {
     {
         let made = Vec::new(alloc);
         Ok(Lemmas {
+            letters: [letter(alloc, "p")?, letter(alloc, "q")?],
             basis: basis.copy()?,
             made,
         })
@@ -78,6 +80,7 @@ impl Lemmas {
             made.push((entry.0, entry.1.widen(basis)?))?;
         }
         Ok(Lemmas {
+            letters: [self.letters[0].copy()?, self.letters[1].copy()?],
             basis: basis.copy()?,
             made,
         })
@@ -122,7 +125,7 @@ impl Lemmas {
         ensures kept { self.new ≡ self.old }
     {
         let own = self.get(alloc, which)?;
-        with_formulas(alloc, &own, p, q)
+        with_formulas(alloc, &self.letters, &own, p, q)
     }
 
     /// What an instance of the general theorem concludes from the premise, which is what it assumes.
@@ -165,12 +168,12 @@ fn beside_letters(alloc: Global, p: &Term, q: &Term) -> Result<Vec<(Term, Term)>
 }
 
 // INST: the theorem with the formulas for the variables `p` and `q`.
-fn with_formulas(alloc: Global, a: &Thm, p: &Term, q: &Term) -> Result<Thm, AllocError>
+fn with_formulas(alloc: Global, letters: &[Term; 2], a: &Thm, p: &Term, q: &Term) -> Result<Thm, AllocError>
     requires first { HasType a.now.basis (nameless [] p.now) bool_type }
     requires second { HasType a.now.basis (nameless [] q.now) bool_type }
     ensures { IfOk result (λ th. th ≡ theorem_on a.now.basis (put (nameless [] p.now) (nameless [] q.now) a.now.sequent)) }
 {
-    let pairs = beside_letters(alloc, p, q)?;
+    let pairs = [(p.copy()?, letters[0].copy()?), (q.copy()?, letters[1].copy()?)];
     unrefused(Thm::inst(alloc, &pairs, a))
 }
 
