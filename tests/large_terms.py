@@ -62,11 +62,13 @@ def at_limits():
     many = "g N `" + joined(r" /\ ", (f"p{k}" for k in range(1_000))) + "`"
     for name, tac in (("FIRST", "FIRST [NO_TAC; CONJ_TAC; DISCH_TAC; ALL_TAC]"), ("STRIP_TAC", "TRY STRIP_TAC"), ("REFL_TAC", "TRY REFL_TAC")):
         yield Case(f"{name} over 1,000 goals", [many, f"e REPEAT CONJ_TAC THEN {tac}"], "goals")
+    assumed = "g N `" + joined(r" /\ ", (f"p{k}" for k in range(1_000))) + " ==> " + joined(r" /\ ", ["q"] * 980) + "`"
+    yield Case("980 goals of 1,000 free variables, told", [assumed, "e STRIP_TAC", "e REPEAT CONJ_TAC"], "goals")
     disjuncts = joined(r" \/ ", (f"p{k}" for k in range(700)))
     yield Case("700 disjuncts stripped", [f"g N `{disjuncts} ==> q`", "e STRIP_TAC"], "goals")
     yield Case("700 disjuncts proved", [f"g N `{disjuncts} ==> {disjuncts}`", "e STRIP_TAC THEN REPEAT (FIRST [FIRST_ASSUM ACCEPT_TAC; DISJ1_TAC THEN FIRST_ASSUM ACCEPT_TAC; DISJ2_TAC])"], 18)
     yield Case("a definition of 800 parameters", ["new_definition D `d " + joined(" ", (f"(x{k}:bool)" for k in range(800))) + " = T`"], "made")
-    yield Case("a definition of 150 parameters of open types", ["new_definition D `d " + joined(" ", (f"x{k}" for k in range(150))) + " = T`"], "made")
+    yield Case("a definition of 800 parameters of open types", ["new_definition D `d " + joined(" ", (f"x{k}" for k in range(800))) + " = T`"], "made")
     variables = joined(" ", (f"x{k}" for k in range(1_000)))
     rule = f"new_axiom R `!{variables}. (f x0 : bool) <=> T`"
     yield Case("a rule of 1,000 variables, with its qed", [rule, "g N `f (y:A):bool`", "e PURE_REWRITE_TAC [R]", "qed"], "made", 10_000, 4)
@@ -127,9 +129,8 @@ def deep_runs():
     rules = joined(r" /\ ", ["c"] * 1_990)
     given = ["new_constant c `:bool`", f"new_axiom AX `{rules}`", "g N `q:bool`", "e REWRITE_TAC [AX]"]
     yield Case("1,990 conjuncts, rewritten by", given, "goals")
-    many = "new_axiom AX `" + joined(r" /\ ", ["c"] * 200) + "`"
     cited = "e PURE_REWRITE_TAC [" + joined("; ", ["AX"] * 200) + "]"
-    yield Case("a theorem of 200 conjuncts cited 200 times", ["new_constant c `:bool`", many, "g N `q:bool`", cited], "goals")
+    yield Case("a theorem of 1,990 conjuncts cited 200 times", [*given[:3], cited], "goals")
     yield Case("1,990 conjuncts, rewritten and proved", [f"g N `{right}`", "e REWRITE_TAC []", "qed"], "made")
     implied = joined(" ==> ", ["p"] * 1_300)
     yield Case("1,299 implications, discharged and proved", [f"g N `{implied}`", "e REPEAT DISCH_TAC THEN FIRST_ASSUM ACCEPT_TAC", "qed"], "made")
@@ -156,6 +157,9 @@ def deep_runs():
     yield Case("an instance at a type of 3,900 lists", deeper, "goals")
     matched = [f"new_axiom AX `{'~' * 1_900}p ==> q`", "g N `q:bool`", "e MATCH_MP_TAC AX"]
     yield Case("1,900 times ~ in a premise that matches", matched, "goals")
+    xs, ys = (joined(" ", (f"{name}{k}" for k in range(1_300))) for name in "xy")
+    opened = [f"new_axiom AX `(Q {xs}) ==> (P {xs})`", f"g N `(P {ys}):bool`", "e MATCH_MP_TAC AX"]
+    yield Case("a theorem of 1,300 open types that matches", opened, "goals")
     rule = [f"new_axiom AX `!p. {'~' * 1_900}p <=> p`", f"g N `{'~' * 3_800}p`", "e REWRITE_TAC [AX]"]
     yield Case("a rule of 1,900 times ~", rule, "goals")
     step = "new_definition D `twice p = ~ ~ p`"

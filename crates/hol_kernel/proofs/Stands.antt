@@ -83,6 +83,10 @@ instance_inst pairs generic a e =
 pub instance_itself : (a : TypeTree) → is_instance a a ≡ true
 instance_itself a = instance_of_subst a a [] (subst_none a)
 
+-- a constant stands at its generic type
+pub constant_itself : (c name : List ℕ) (a generic : TypeTree) → bytes_eq c name ≡ true → generic ≡ a → is_constant_at c a (name, generic) ≡ true
+constant_itself c name a generic e g = rw (e, g) (instance_itself a)
+
 any_mono : {X : Type 0} (p q : X → Bool) → ((x : X) → p x ≡ true → q x ≡ true) → (xs : List X) → list_any p xs ≡ true → list_any q xs ≡ true
 any_mono p q f [] e = absurd (true≢false (sym e))
 any_mono p q f (x ∷ xs) e = either (p x) (list_any p xs) (q x) (list_any q xs) (f x) (any_mono p q f xs) e

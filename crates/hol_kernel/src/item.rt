@@ -250,7 +250,9 @@ fn bijections(
     Ok(constants)
 }
 
-// Whether the constant has this name, and the type is an instance of this generic type.
+// Whether the constant has this name, and the type is an instance of this generic type. Where the type is the generic type itself, as in a
+// definition, no variables are matched.
+#[tactic(auto, using(crate::proofs::Stands::constant_itself))]
 fn is_constant_at(
     alloc: Global,
     constant: &Name,
@@ -262,6 +264,9 @@ fn is_constant_at(
 {
     if !constant.same(name) {
         return Ok(false);
+    }
+    if generic.same_node(ty) {
+        return Ok(true);
     }
     is_instance(alloc, generic, ty)
 }

@@ -17,9 +17,9 @@ pub record IsOpenedAt (hyps : List Nameless) (p : Nameless) (x : Abstraction) (v
   pub named : IsFreeName (p ∷ hyps) x.base v.0
   pub is : n ≡ open_with (free v) 0 x.body
 
--- where the first steps lead to p, all these rules are on their ways
-abbrev pub AreOnWay : List (List ℕ) → List (List ℕ × TypeTree) → List RuleStep → Nameless → List RuleWay → Type 0
-AreOnWay names variables steps p ways = (whole : Nameless) → way steps whole ≡ Some p → AllByRecursion (IsOnWay names variables whole) ways
+-- where the first steps lead to p, the new rules are on their ways, if the old ones are
+abbrev pub AreAddedOnWay : List (List ℕ) → List (List ℕ × TypeTree) → List RuleStep → Nameless → List RuleWay → List RuleWay → Type 0
+AreAddedOnWay names variables steps p old new = (whole : Nameless) → way steps whole ≡ Some p → AllByRecursion (IsOnWay names variables whole) old → AllByRecursion (IsOnWay names variables whole) new
 
 -- the type variable stands in the term, or in one of the terms
 abbrev pub has_type_var : List ℕ → Nameless → Bool

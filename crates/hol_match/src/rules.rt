@@ -12,7 +12,7 @@ ghost use Rattle.hol_formulas.specs.Formula.{Abstraction};
 ghost use Rattle.hol_match.specs.Rules.{is_given, is_determined, single_rule, rules_under, rules_of, generalized, pattern_variables};
 ghost use Rattle.hol_match.specs.RuleView.{rule_value, rule_values};
 ghost use Rattle.hol_match.specs.Ways.{rule_way, rule_ways, IsOnWay};
-ghost use Rattle.hol_match.specs.Opening.{IsOpenedAt, AreOnWay};
+ghost use Rattle.hol_match.specs.Opening.{IsOpenedAt, AreAddedOnWay};
 ghost use Rattle.hol_match.specs.Fixed.{AreFixed};
 
 use crate::binder::Binder;
@@ -46,7 +46,9 @@ pub(crate) fn rules_of(
 {
     let whole = generalized(alloc, variables, p)?;
     let way = Way::start(alloc)?;
-    rules_in(alloc, hyps, fixed, &whole, &way)
+    let mut rules = Vec::new(alloc);
+    add_rules(alloc, hyps, fixed, &whole, &way, &mut rules)?;
+    Ok(rules)
 }
 
 /// The free variables of the conclusion that are not fixed.
@@ -89,71 +91,42 @@ fn generalized(alloc: Global, variables: &[Variable], p: &Term) -> Result<Term, 
     Ok(whole)
 }
 
-// The rules of a formula whose outer quantifiers bind its pattern variables. The way led to it.
+// Puts the rules of a formula whose outer quantifiers bind its pattern variables at the end. The way led to it.
 #[tactic(auto, using(crate::proofs::Opened::smaller))]
-fn rules_in(
+fn add_rules(
     alloc: Global,
     hyps: &[Term],
     fixed: &Fixed,
     p: &Term,
     way: &Way,
-) -> Result<Vec<Rule>, AllocError>
+    rules: &mut Vec<Rule>,
+) -> Result<(), AllocError>
     requires typed { named_type p.now ≡ Some bool_type }
     requires fixed { AreFixed (map (λ t. nameless [] t) hyps.now) fixed.now }
-    ensures are { IfOk result (λ rules. rule_values rules.items ≡ rules_under (map (λ t. nameless [] t) hyps.now) (nameless [] p.now)) }
-    ensures ways { IfOk result (λ rules. AreOnWay fixed.now.names.items fixed.now.variables.items way.now (nameless [] p.now) (rule_ways rules.items)) }
+    ensures are { OnOk result (rule_values rules.new.items ≡ rule_values rules.old.items ++ rules_under (map (λ t. nameless [] t) hyps.now) (nameless [] p.now)) }
+    ensures ways { OnOk result (AreAddedOnWay fixed.now.names.items fixed.now.variables.items way.now (nameless [] p.now) (rule_ways rules.old.items) (rule_ways rules.new.items)) }
 {
     if let Some((v, body)) = dest_forall(p) {
         let inside = opened(alloc, hyps, p, v, body)?;
         let further = way.then(alloc, RuleStep::At(inside.variable))?;
-        return rules_in(alloc, hyps, fixed, &inside.body, &further);
+        return add_rules(alloc, hyps, fixed, &inside.body, &further, rules);
     }
     if let Some((q, r)) = dest_conj(p) {
         let left = way.then(alloc, RuleStep::First)?;
-        let first = rules_in(alloc, hyps, fixed, q, &left)?;
+        add_rules(alloc, hyps, fixed, q, &left, rules)?;
         let right = way.then(alloc, RuleStep::Second)?;
-        let second = rules_in(alloc, hyps, fixed, r, &right)?;
-        return joined(first, &second);
+        return add_rules(alloc, hyps, fixed, r, &right, rules);
     }
     let rule = single_rule(alloc, fixed, p, way)?;
-    alone(alloc, rule)
+    add_rule(rules, rule)
 }
 
-// The rules of both.
-fn joined(first: Vec<Rule>, second: &[Rule]) -> Result<Vec<Rule>, AllocError>
-    ensures { IfOk result (λ rules. rule_ways rules.items ≡ rule_ways first.items ++ rule_ways second.now) }
+// Puts the rule at the end.
+fn add_rule(rules: &mut Vec<Rule>, rule: Rule) -> Result<(), AllocError>
+    ensures { OnOk result (rule_ways rules.new.items ≡ rule_ways rules.old.items ++ rule_way rule ∷ []) }
 {
-    let mut rules = first;
-    add_rules(&mut rules, second)?;
-    Ok(rules)
-}
-
-// Puts copies of the rules at the end.
-fn add_rules(rules: &mut Vec<Rule>, more: &[Rule]) -> Result<(), AllocError>
-    ensures { OnOk result (rule_ways rules.new.items ≡ rule_ways rules.old.items ++ rule_ways more.now) }
-{
-    for rule in more {
-        add_rule(rules, rule)?;
-    }
-    Ok(())
-}
-
-// Puts a copy of the rule at the end.
-fn add_rule(rules: &mut Vec<Rule>, rule: &Rule) -> Result<(), AllocError>
-    ensures { OnOk result (rule_ways rules.new.items ≡ rule_ways rules.old.items ++ rule_way rule.now ∷ []) }
-{
-    let more = rule.copy()?;
-    rules.push(more)?;
-    Ok(())
-}
-
-// One rule.
-fn alone(alloc: Global, rule: Rule) -> Result<Vec<Rule>, AllocError>
-    ensures { IfOk result (λ rules. rule_ways rules.items ≡ rule_way rule ∷ []) }
-{
-    let mut rules = Vec::with_capacity(alloc, 1)?;
     rules.push(rule)?;
-    Ok(rules)
+    Ok(())
 }
 
 // The body of `!v. p`, where `v` is called by its base name, with the fewest primes that make it a name that none of the terms has.

@@ -3,3 +3,4 @@ pub mod Shapes
 pub mod Fewest
 pub mod Primes
 pub mod Places
+pub mod InOrder

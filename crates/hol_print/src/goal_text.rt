@@ -1,17 +1,16 @@
 //! The texts of a goal.
-ghost use Rattle.std.specs.Prelude.{◌≡◌, ◌++◌, [], OnOk, IfOk, map, string_bytes, length, ◌≤◌};
-ghost use Rattle.std.specs.List.{insert};
+ghost use Rattle.std.specs.Prelude.{◌≡◌, [], OnOk, IfOk, map, string_bytes};
 ghost use Rattle.hol_terms.specs.Nameless.{nameless};
-ghost use Rattle.hol_terms.specs.Scoped.{binds};
 ghost use Rattle.hol_print.specs.ShowTerm.{show};
-ghost use Rattle.hol_print.specs.ShowGoal.{variable_order, put_in_order, put_new, put_all, free_variables, goal_variables, variable_text, show_goal, goal_text};
+ghost use Rattle.hol_print.specs.ShowGoal.{put_all, free_variables, goal_variables, variable_text, show_goal, goal_text};
+ghost use Rattle.hol_print.specs.InOrder.{IsInOrder};
 
+use crate::free_variables::put_free;
 use crate::shown_goal::ShownGoal;
 use crate::term_text::show_term;
-use crate::type_text::{show_type, write_type};
-use hol_terms::{Term, Variable};
+use crate::type_text::write_type;
+use hol_terms::{Scope, Term, Variable};
 use std::alloc::{AllocError, Global};
-use std::cmp::Ordering;
 
 /// The goal as it is shown, of the assumptions and the conclusion: a function of their nameless terms.
 pub fn show_goal(alloc: Global, asl: &[Term], concl: &Term) -> Result<ShownGoal, AllocError>
@@ -69,60 +68,11 @@ fn goal_variables(alloc: Global, asl: &[Term], concl: &Term) -> Result<Vec<Varia
 }
 
 // Puts each free variable of the term in its place, unless it is there.
+#[tactic(auto, using(crate::proofs::InOrder::put_once))]
 fn put_free_variables(alloc: Global, among: &mut Vec<Variable>, t: &Term) -> Result<(), AllocError>
-    ensures { OnOk result (among.new.items ≡ put_all among.old.items (free_variables (nameless [] t.now))) }
+    requires { IsInOrder among.old.items }
+    ensures put { OnOk result (among.new.items ≡ put_all among.old.items (free_variables (nameless [] t.now))) }
+    ensures ordered { OnOk result (IsInOrder among.new.items) }
 {
-    let found = t.frees(alloc)?;
-    for v in &found {
-        put_new(alloc, v, among)?;
-    }
-    Ok(())
-}
-
-fn put_new(alloc: Global, v: &Variable, among: &mut Vec<Variable>) -> Result<(), AllocError>
-    ensures { OnOk result (among.new.items ≡ put_new v.now among.old.items) }
-{
-    if contains(among, v) {
-        return Ok(());
-    }
-    let at = place_of(alloc, v, among)?;
-    among.insert(at, v.copy()?)?;
-    Ok(())
-}
-
-fn contains(variables: &[Variable], v: &Variable) -> bool
-    ensures { result ≡ binds variables.now v.now }
-{
-    for u in variables {
-        if u.same(v) {
-            return true;
-        }
-    }
-    false
-}
-
-// The place of v among variables in order: before the first that comes after it.
-fn place_of(alloc: Global, v: &Variable, among: &[Variable]) -> Result<usize, AllocError>
-    ensures { IfOk result (λ at. (at ≤ length among.now) × (insert among.now at v.now ≡ put_in_order v.now among.now)) }
-{
-    for (at, other) in among.iter().enumerate() {
-        if variable_order(alloc, v, other)? == Ordering::Less {
-            return Ok(at);
-        }
-    }
-    Ok(among.len())
-}
-
-// The order of variables: by the bytes of the names, then of the types' texts.
-fn variable_order(alloc: Global, v: &Variable, w: &Variable) -> Result<Ordering, AllocError>
-    ensures { IfOk result (λ order. order ≡ variable_order v.now w.now) }
-{
-    match v.name().order(w.name()) {
-        Ordering::Equal => {
-            let left = show_type(alloc, v.ty())?;
-            let right = show_type(alloc, w.ty())?;
-            Ok(left.as_str().cmp(right.as_str()))
-        }
-        unequal => Ok(unequal),
-    }
+    put_free(alloc, t, &Scope::Outside, among)
 }

@@ -4,6 +4,7 @@
 #![tactic(auto)]
 
 mod bare;
+mod free_variables;
 mod goal_text;
 mod laws;
 mod names;

@@ -13,6 +13,7 @@ pub mod UnderWay
 pub mod GivenAmong
 pub mod ConvertedGoals
 pub mod Stages
+pub mod Together
 pub mod Undetermined
 pub mod OwnVariables
 pub mod KeptVariables

@@ -1,5 +1,5 @@
 -- A formula's outer quantifiers taken off one after the other.
-use Rattle.std.specs.Prelude.{◌≡◌, ℕ, zero, suc, ◌+◌, ◌-◌, ◌<◌, ◌≤◌, ◌==◌, nat_lt, bytes_eq, cond, Bool, true, false, ◌||◌, List, [], ◌∷◌, ◌++◌, map, codes, Some, None, Result, Ok, Err, IfOk, refl}
+use Rattle.std.specs.Prelude.{◌≡◌, ℕ, zero, suc, ◌+◌, ◌-◌, ◌≤◌, ◌==◌, nat_lt, bytes_eq, cond, Bool, true, false, ◌||◌, List, [], ◌∷◌, ◌++◌, map, codes, Some, None, Result, Ok, Err, IfOk, refl}
 use Rattle.std.proofs.Common.{ap, sym, ◌∙◌, subst, arith}
 use Rattle.std.proofs.lemmas.Bool.{or_left, or_right, or_parts}
 use Rattle.std.proofs.lemmas.Slice.Eq.{bytes_eq-Decides}
@@ -263,7 +263,3 @@ longer_pushed first avoid more vs longer v variable are push one is =
     push ∙ ap (λ (ts : List Named). ts ++ variable ∷ []) are ∙ append_assoc first (map var vs) (variable ∷ [])
     ∙ ap (λ (ts : List Named). first ++ ts) (ap (λ (t : Named). map var vs ++ t ∷ []) is ∙ sym (map-append var vs (v ∷ [])))
     ∙ ap (λ (us : List (List ℕ × TypeTree)). first ++ map var us) (sym one)
-
-pub inner_fewer : (body inner : Nameless) (x : Abstraction) (v : List ℕ × TypeTree) (variable : Named) → variable ≡ var v → inner ≡ open_with (nameless [] variable) 0 x.body → dest_forall body ≡ Some x → nodes inner < nodes body
-inner_fewer body inner x v variable is opens taken =
-    subst (λ (n : Nameless). nodes n < nodes body) (sym (opens ∙ ap (λ (t : Named). open_with (nameless [] t) 0 x.body) is)) (fewer body x v taken)

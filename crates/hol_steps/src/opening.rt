@@ -1,25 +1,25 @@
 //! A theorem's outer quantifiers taken off.
-ghost use Rattle.std.specs.Prelude.{◌≡◌, ◌||◌, ℕ, true, false, List, [], map, IfOk, Some, None};
+ghost use Rattle.std.specs.Prelude.{◌≡◌, ◌||◌, ℕ, true, false, List, [], ◌∷◌, map, IfOk, OnOk, Some, None};
 ghost use Rattle.hol_types.specs.Tree.{TypeTree};
 ghost use Rattle.hol_terms.specs.Named.{named_type};
 ghost use Rattle.hol_terms.specs.Nameless.{Nameless, nameless, base_of, free_occurrences};
 ghost use Rattle.hol_terms.specs.Scoped.{binds};
 ghost use Rattle.hol_subst.specs.FreeName.{is_taken};
+ghost use Rattle.hol_subst.specs.Pairs.{nameless_pairs, HasBadPair};
 ghost use Rattle.hol_formulas.specs.Equation.{bool_type};
 ghost use Rattle.hol_formulas.specs.Formula.{dest_forall};
 ghost use Rattle.hol_just.specs.FreeNames.{free_name};
 ghost use Rattle.hol_just.specs.MatchMp.{opened};
 ghost use Rattle.hol_steps.specs.Fresh.{AreAlike, DifferInNames};
 
-use crate::quantifiers::at;
 use hol_formulas::{dest_forall, occurrence};
-use hol_subst::free_name;
+use hol_subst::{free_name, vsubst_good};
 use hol_terms::{Term, Variable, base_name};
 use hol_types::Name;
 use std::alloc::{AllocError, Global};
 
 /// What stands under the outer quantifiers of a formula, and the variables that they bind, the outermost first. Each is called by a name
-/// that no other one has, and none of the terms that were to be avoided.
+/// that no other one has, and none of the terms that were to be avoided. All are put into the body in one substitution.
 #[derive(Drop)]
 pub(crate) struct Opened {
     pub(crate) variables: Vec<Variable>,
@@ -39,17 +39,35 @@ impl Opened {
     {
         let mut avoid = avoid;
         let mut variables = Vec::new(alloc);
-        let mut body = p.copy()?;
-        'binders: while let Some((x, q)) = dest_forall(&body) {
+        let mut pairs = Vec::new(alloc);
+        let mut rest = p;
+        'binders: while let Some((x, q)) = dest_forall(rest) {
             let v = apart(alloc, &avoid, x)?;
             let variable = occurrence(alloc, &v)?;
-            let inner = at(alloc, x, q, &variable)?;
+            put_pair(alloc, &mut pairs, &variable, x)?;
             avoid.push(variable)?;
             variables.push(v)?;
-            body = inner;
+            rest = q;
         }
+        let body = vsubst_good(alloc, &pairs, rest)?;
         Ok(Opened { variables, body })
     }
+}
+
+// Puts the pair of the term and the variable before the others.
+fn put_pair(
+    alloc: Global,
+    pairs: &mut Vec<(Term, Term)>,
+    t: &Term,
+    x: &Variable,
+) -> Result<(), AllocError>
+    requires { named_type t.now ≡ Some x.now.1 }
+    ensures put { OnOk result (nameless_pairs pairs.new.items ≡ (nameless [] t.now, x.now) ∷ nameless_pairs pairs.old.items) }
+    ensures good { OnOk result ((HasBadPair pairs.old.items → ⊥) → HasBadPair pairs.new.items → ⊥) }
+{
+    let own = occurrence(alloc, x)?;
+    pairs.insert(0, (t.copy()?, own))?;
+    Ok(())
 }
 
 // The variable, whose name is its base with the fewest primes that make it no name of the terms.
