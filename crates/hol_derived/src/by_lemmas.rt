@@ -12,8 +12,8 @@ ghost use Rattle.hol_kernel.specs.Sequent.{only_hyp, sequent_of};
 ghost use Rattle.hol_kernel.specs.Theorem.{theorem_on, over};
 ghost use Rattle.hol_kernel.specs.Typing.{HasType, is_type};
 ghost use Rattle.hol_equal.specs.Applied.{lhs, rhs};
-ghost use Rattle.hol_derived.specs.Applied.{generalized};
-ghost use Rattle.hol_derived.specs.Rules.{conj_of, conjunct1_of, conjunct2_of, mp_of, disch_of, undisch_of, not_intro_of, disj1_of, disj2_of, contr_of, gen_of};
+ghost use Rattle.hol_derived.specs.Applied.{generalized, first_conjunct, second_conjunct};
+ghost use Rattle.hol_derived.specs.Rules.{conj_of, conjunct1_of, conjunct2_of, mp_of, disch_of, undisch_of, not_intro_of, disj1_of, disj2_of, contr_of, gen_of, eqt_intro_of};
 
 use crate::lemma::Lemma;
 use crate::lemmas::{Lemmas, with_predicate};
@@ -63,6 +63,34 @@ impl Lemmas {
             unreachable!()
         };
         self.follow(alloc, Lemma::Conjunct2, p, q, a)
+    }
+
+    /// CONJUNCT1, for a theorem that is known to be a conjunction.
+    pub fn left_conjunct(&mut self, alloc: Global, a: &Thm) -> Result<Thm, AllocError>
+        requires one_basis { self.old ≡ a.now.basis }
+        requires is { a.now.sequent.concl ≡ conjunction (lhs a.now.sequent.concl) (rhs a.now.sequent.concl) }
+        ensures gives { IfOk result (λ th. th ≡ theorem_on a.now.basis (first_conjunct a.now.sequent)) }
+        ensures kept { self.new ≡ self.old }
+    {
+        a.well_typed();
+        let Some((left, right)) = dest_conj(a.concl()) else {
+            unreachable!()
+        };
+        self.follow(alloc, Lemma::Conjunct1, left, right, a)
+    }
+
+    /// CONJUNCT2, for a theorem that is known to be a conjunction.
+    pub fn right_conjunct(&mut self, alloc: Global, a: &Thm) -> Result<Thm, AllocError>
+        requires one_basis { self.old ≡ a.now.basis }
+        requires is { a.now.sequent.concl ≡ conjunction (lhs a.now.sequent.concl) (rhs a.now.sequent.concl) }
+        ensures gives { IfOk result (λ th. th ≡ theorem_on a.now.basis (second_conjunct a.now.sequent)) }
+        ensures kept { self.new ≡ self.old }
+    {
+        a.well_typed();
+        let Some((left, right)) = dest_conj(a.concl()) else {
+            unreachable!()
+        };
+        self.follow(alloc, Lemma::Conjunct2, left, right, a)
     }
 
     /// MP: from `p ==> q` and `p'` that is `p` up to bound names, `q`.
@@ -178,6 +206,16 @@ impl Lemmas {
         self.follow(alloc, Lemma::Contr, p, p, a)
     }
 
+    /// EQT_INTRO: from `p`, `p <=> T`.
+    pub fn eqt_intro(&mut self, alloc: Global, a: &Thm) -> Result<Thm, AllocError>
+        requires one_basis { self.old ≡ a.now.basis }
+        ensures gives { IfOk result (λ th. th ≡ theorem_on a.now.basis (eqt_intro_of a.now.sequent)) }
+        ensures kept { self.new ≡ self.old }
+    {
+        a.well_typed();
+        self.follow(alloc, Lemma::EqtIntro, a.concl(), a.concl(), a)
+    }
+
     // From `p`, `(\v. p) = (\v. T)`.
     fn under_truth(&mut self, alloc: Global, v: &Variable, a: &Thm) -> Result<Thm, AllocError>
         requires one_basis { self.old ≡ a.now.basis }
@@ -186,8 +224,7 @@ impl Lemmas {
         ensures gives { IfOk result (λ th. th ≡ theorem_on a.now.basis (sequent_of a.now.sequent.hyps (equation (fun_type v.now.1 bool_type) (bind v.now a.now.sequent.concl) (bind v.now truth)))) }
         ensures kept { self.new ≡ self.old }
     {
-        a.well_typed();
-        let holds = self.follow(alloc, Lemma::EqtIntro, a.concl(), a.concl(), a)?;
+        let holds = self.eqt_intro(alloc, a)?;
         abs(alloc, v, &holds)
     }
 
@@ -209,12 +246,7 @@ impl Lemmas {
     }
 
     /// GEN: from `p`, `!v. p`, for a variable of a type over the basis that is free in no hypothesis.
-    pub(crate) fn for_each(
-        &mut self,
-        alloc: Global,
-        v: &Variable,
-        a: &Thm,
-    ) -> Result<Thm, AllocError>
+    pub fn for_each(&mut self, alloc: Global, v: &Variable, a: &Thm) -> Result<Thm, AllocError>
         requires one_basis { self.old ≡ a.now.basis }
         requires stands { is_type a.now.basis v.now.1 ≡ true }
         requires absent { is_free_in (set.items a.now.sequent.hyps) v.now ≡ false }

@@ -57,7 +57,7 @@ impl Lemmas {
     }
 
     /// SPEC: from `!x. p`, `p` with `t` for `x`, for a term of the type of `x`.
-    pub(crate) fn specialize(&mut self, alloc: Global, t: &Term, a: &Thm) -> Result<Thm, AllocError>
+    pub fn specialize(&mut self, alloc: Global, t: &Term, a: &Thm) -> Result<Thm, AllocError>
         requires one_basis { self.old ≡ a.now.basis }
         requires is { a.now.sequent.concl ≡ universal (abstraction_in (rand a.now.sequent.concl)) }
         requires typed { HasType a.now.basis (nameless [] t.now) (bound_type (rand a.now.sequent.concl)) }

@@ -60,7 +60,7 @@ pub(crate) fn infer(
         Reason::Specialization(t) => specialization(alloc, t, lemmas, thms),
         Reason::Choice(v) => choice(alloc, v, lemmas, thms),
         Reason::Truth => true_formula(alloc, thms),
-        Reason::Conversion(trace) => conversion(alloc, trace, thms),
+        Reason::Conversion(trace) => conversion(alloc, trace, lemmas, thms),
         Reason::Matching(given, formula, t) => matching(alloc, given, formula, t, lemmas, thms),
     }
 }

@@ -109,7 +109,10 @@ stands_next vs i v th whole a h l e = ap (λ b. is_type b v.1) h.basis ∙ (gene
 pub absent_next : (vs : List (List ℕ × TypeTree)) (i : ℕ) (v : List ℕ × TypeTree) (th whole : Theorem) → AreGeneral th.basis th.sequent.hyps vs → IsGoing vs (drop i vs) th whole → i < length vs → v ≡ get_or vs i v → is_free_in (set.items whole.sequent.hyps) v ≡ false
 absent_next vs i v th whole a h l e = ap (λ (hs : Hyps). is_free_in (set.items hs) v) h.hyps ∙ (general_at th.basis th.sequent.hyps vs i v a l e).1
 
-pub ruleset generalizing = (going_first, going_on, going_last, stands_next, absent_next)
+pub over_next : (vs : List (List ℕ × TypeTree)) (i : ℕ) (th whole : Theorem) (b : Items) → b ≡ th.basis → IsGoing vs (drop i vs) th whole → b ≡ whole.basis
+over_next vs i th whole b e h = e ∙ sym h.basis
+
+pub ruleset generalizing = (going_first, going_on, going_last, stands_next, absent_next, over_next)
 
 -- ---- steps
 some_first : (go : Nameless → Option Nameless) (o : Option Nameless) → IsSome (option_and_then go o) → IsSome o
@@ -134,7 +137,10 @@ module _ (steps before : List RuleStep) (s : RuleStep) (th : Theorem) (e : steps
     concl = ap (λ l. way l th.sequent.concl) e ∙ ap (option_and_then (stepped s)) f.concl ∙ is.concl;
   }
 
-pub ruleset following = (no_step, before_some, last_some, last_gives)
+pub over_part : (steps : List RuleStep) (th part : Theorem) (a b : Items) → b ≡ a → a ≡ th.basis → IsFollowed steps th part → b ≡ part.basis
+over_part steps th part a b k e f = k ∙ e ∙ sym f.basis
+
+pub ruleset following = (no_step, before_some, last_some, last_gives, over_part)
 
 -- ---- one step
 pub record AtApplies (basis : Items) (v : List ℕ × TypeTree) (p : Nameless) : Type 0 where
