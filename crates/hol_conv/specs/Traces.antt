@@ -1,5 +1,6 @@
 -- Traces: how a term was rewritten, as a tree that follows the term.
--- Source: HOL Light's conversions (equal.ml), of which each node of a trace is one: ALL_CONV, COMB2_CONV, ABS_CONV, REWR_CONV, BETA_CONV, THENC.
+-- Source: HOL Light's conversions (equal.ml; REWR_CONV of simp.ml), of which each node of a trace is one: ALL_CONV, COMB2_CONV, ABS_CONV, REWR_CONV,
+-- BETA_CONV, THENC.
 use Rattle.std.specs.Prelude.{ℕ, List, [], ◌∷◌, ◌++◌, Bool, cond, not, ◌&&◌, bytes_eq, Option, Some, None, IsTrue, refl}
 use Rattle.std.specs.List.{list_all}
 use Rattle.std.specs.Option.{option_map, option_and_then}

@@ -1,4 +1,5 @@
--- The general theorems of the rules, of formulas p and q (bool.ml keeps each beside its rule, as pth): what each assumes, and what it concludes.
+-- The general theorems of the rules, of formulas p and q, or of P:A->bool and x:A (bool.ml keeps each beside its rule, as pth): what each
+-- assumes, and what it concludes. Private clauses alone speak of them.
 use Rattle.std.specs.Prelude.{◌≡◌, List, [], ◌∷◌, codes}
 use Rattle.std.specs.List.{AllByRecursion}
 use Rattle.hol_types.specs.Tree.{TypeTree}

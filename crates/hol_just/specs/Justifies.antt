@@ -98,7 +98,7 @@ SplitsIntoImplications moves =
     (extra : Hyps) (assumptions : List Nameless) (p q : Nameless) →
     IsValid always extra moves (goal_at assumptions (equation bool_type p q) ∷ []) (goal_at assumptions (implication p q) ∷ goal_at assumptions (implication q p) ∷ [])
 
--- SUBST1_TAC leaves the conclusion with t for each s, by a theorem `s = t`; m has a variable for each s that is not free in the conclusion.
+-- SUBST1_TAC leaves the conclusion with t for each s, by a theorem `s = t`; m has v in the place of each s, and v isn't free in the conclusion.
 abbrev pub LeavesReplaced : List ℕ × TypeTree → Nameless → Given → List Move → Type 0
 LeavesReplaced v m th moves =
     (extra : Hyps) (assumptions : List Nameless) (e : Sides) (p : Nameless) → dest_eq (given_sequent th).concl ≡ Some e → v.1 ≡ e.sides_type → m ≡ replace_each e.left (free v) p →
@@ -182,7 +182,7 @@ LeavesCases th moves =
     (extra : Hyps) (assumptions : List Nameless) (p q r : Nameless) → (given_sequent th).concl ≡ disjunction p q → AreAllowed extra assumptions (given_sequent th).hyps →
     IsValid (holds_given th) extra moves (goal_at assumptions r ∷ []) (goal_at (p ∷ assumptions) r ∷ goal_at (q ∷ assumptions) r ∷ [])
 
--- p, and q, from `p /\ q`, for a formula q, and p
+-- CONJUNCT1 leaves `p /\ q` of p, for a formula q, and CONJUNCT2 leaves it of q, for a formula p
 abbrev pub LeavesConjunctionRight : List Move → Type 0
 LeavesConjunctionRight moves =
     (extra : Hyps) (assumptions : List Nameless) (p q : Nameless) → IsValid (holds_formula q) extra moves (goal_at assumptions p ∷ []) (goal_at assumptions (conjunction p q) ∷ [])
@@ -208,11 +208,11 @@ LeavesConjuncts th moves =
     (extra : Hyps) (assumptions : List Nameless) (p q r : Nameless) → (given_sequent th).concl ≡ conjunction p q → AreAllowed extra assumptions (given_sequent th).hyps →
     IsValid (holds_given th) extra moves (goal_at assumptions r ∷ []) (goal_at (q ∷ p ∷ assumptions) r ∷ [])
 
--- p from F
+-- CONTR leaves F of p
 abbrev pub LeavesFalsity : Nameless → List Move → Type 0
 LeavesFalsity p moves = (extra : Hyps) (assumptions : List Nameless) → IsValid always extra moves (goal_at assumptions p ∷ []) (goal_at assumptions falsity ∷ [])
 
--- T
+-- TRUTH closes T
 abbrev pub ClosesTruth : List Move → Type 0
 ClosesTruth moves = (extra : Hyps) (assumptions : List Nameless) → IsValid always extra moves (goal_at assumptions truth ∷ []) []
 

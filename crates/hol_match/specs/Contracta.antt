@@ -1,5 +1,5 @@
 -- What rules make of a term: an instance of the right side of the first rule whose left side matches it.
--- Source: term rewriting, as HOL Light's equal.ml and simp.ml have it (REWR_CONV); that the first rule counts is this project's.
+-- Source: term rewriting, as HOL Light's REWR_CONV has it (simp.ml); that the first rule counts is this project's.
 --
 -- What follows from the definitions, in the cases that are easily taken for another:
 -- - A variable that stays (it is free in a hypothesis) is met by itself alone. Where a binder above the term has its name and type, the

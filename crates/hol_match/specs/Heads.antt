@@ -1,5 +1,5 @@
--- Rules in buckets by the constants at the heads of their left sides, so that a term is tried with those of its own head, and with those that
--- have none. Only private clauses speak of these.
+-- Rules in buckets by the constants at the heads of their left sides, so that a term is tried with those of its head's bucket, and with those
+-- of bucket 0, where all without a head are. Only private clauses speak of these.
 -- Source: this project.
 use Rattle.std.specs.Prelude.{ℕ, zero, suc, ◌+◌, ◌*◌, ◌%◌, List, [], ◌∷◌, Bool, true, cond, not, ◌&&◌, ◌||◌, nat_eq, nat_lt, Option, Some, None}
 use Rattle.hol_terms.specs.Nameless.{Nameless, free, bound, fixed, app, lam}

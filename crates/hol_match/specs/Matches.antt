@@ -1,4 +1,5 @@
 -- What a match of a pattern with a term is: an instance of the pattern that is the term up to bound names, and leaves what is fixed.
+-- Source: term_match of HOL Light's drule.ml; most general matches as in term rewriting (F. Baader, T. Nipkow, Term Rewriting and All That).
 use Rattle.std.specs.Prelude.{◌≡◌, ℕ, List, [], ◌∷◌, Some, None}
 use Rattle.hol_types.specs.Tree.{TypeTree}
 use Rattle.hol_types.specs.Subst.{type_for}

@@ -1,4 +1,5 @@
 -- What of a term is seen without its variables and types: where applications, abstractions and constants of which names stand.
+-- Source: this project; HOL Light's nets.ml sorts rules by outlines too.
 use Rattle.std.specs.Prelude.{◌≡◌, ℕ, zero, suc, max, List, [], ◌∷◌, Bool, true, false, ◌&&◌, ◌||◌, not, bytes_eq, nat_lt}
 use Rattle.std.specs.List.{list_any}
 use Rattle.hol_terms.specs.Nameless.{Nameless, free, bound, fixed, app, lam}

@@ -1,4 +1,5 @@
 -- The theorem of a rule: its equation, from what was given.
+-- Source: this project; HOL Light's REWR_CONV makes the same equation (simp.ml).
 use Rattle.std.specs.Prelude.{◌≡◌, [], Option}
 use Rattle.std.specs.Option.{option_map}
 use Rattle.hol_types.specs.Tree.{TypeTree}

@@ -1,4 +1,5 @@
 -- What the calls on a stack ask and answer. A call that fails leaves the stack as it was.
+-- Source: HOL Light's tactics.ml (set_goal, e, b, r).
 use Rattle.std.specs.Prelude.{◌≡◌, ◌≢◌, ℕ, List, [], ◌∷◌, Some, None, Result, Ok, Err}
 use Rattle.std.specs.FinSet as set
 use Rattle.hol_kernel.specs.Items.{Items}

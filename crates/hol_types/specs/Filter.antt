@@ -1,5 +1,5 @@
--- What each type keeps to tell at once that a variable does not occur in it: 64 bits, of which each name has one, that of its place. Of the
--- public clauses only that of `Ty::filter` names this, for the terms that keep such filters too.
+-- What each type keeps to tell at once that a variable does not occur in it: 64 bits, of which each name has one, that of its place. Public
+-- clauses name it for the filters that types and terms keep: `Ty::filter`, `NameFilter`, and those of hol_terms.
 use Rattle.std.specs.Prelude.{ℕ, ◌+◌, ◌*◌, ◌^◌, ◌%◌, List, [], ◌∷◌}
 use Rattle.std.specs.Int.RustNames.{bit_or}
 use Rattle.hol_types.specs.Tree.{TypeTree, TypeList, TyVar, TyApp, no_types, more_types}
