@@ -184,6 +184,10 @@ pub agree_sets : (a b : Items) (xs ys : List Item) → item_set xs ≡ a → ite
 agree_sets a b xs ys p q agree x y k i j =
     agree x y k (among_from_list total only xs x (subst (λ (s : Items). Holds s x) (sym p) i)) (among_from_list total only ys y (subst (λ (s : Items). Holds s y) (sym q) j))
 
+pub lists_agree : (a b : Items) (xs ys : List Item) → item_set xs ≡ a → item_set ys ≡ b → Agree a b → AgreeIn xs ys
+lists_agree a b xs ys p q agree x y k i j =
+    agree x y k (subst (λ (s : Items). Holds s x) p (from_list_among total only xs x i)) (subst (λ (s : Items). Holds s y) q (from_list_among total only ys y j))
+
 pub clash_sets : (a b : Items) (xs ys : List Item) (n : List ℕ) → item_set xs ≡ a → item_set ys ≡ b → ClashesIn xs ys n → (k : ItemKey) × (key_name k ≡ n) × ClashesAt a b k
 clash_sets a b xs ys n p q r = (
   r.key,

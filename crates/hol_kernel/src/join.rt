@@ -4,6 +4,7 @@ ghost use Rattle.std.specs.Set.{sorted_merge};
 ghost use Rattle.std.specs.FinSet as set;
 ghost use Rattle.hol_kernel.specs.Items.{IsSubset};
 ghost use Rattle.hol_kernel.specs.Legal.{HasNewKeys, IsSound};
+ghost use Rattle.hol_kernel.specs.Extends.{Agree};
 ghost use Rattle.hol_kernel.specs.Gives.{Joins};
 ghost use Rattle.hol_kernel.specs.Clashing.{name_order, clash_of, clash_with, clash_between};
 
@@ -24,12 +25,19 @@ impl Basis {
         ensures first { IfOk result (λ u. IsSubset a.now u) }
         ensures second { IfOk result (λ u. IsSubset b.now u) }
     {
-        let (first, second) = (a.items(), b.items());
-        if let Some(name) = clash_between(first, second) {
+        if let Some(name) = clash_between(a.items(), b.items()) {
             return Err(KernelError::Clash(name.copy()?));
         }
-        let all = merged(alloc, first, second)?;
-        Ok(Basis::made(alloc, all)?)
+        Ok(Basis::union(alloc, a, b)?)
+    }
+
+    /// The basis of the items of both, which agree: as [`Basis::join`], which looks for a clash first.
+    pub fn union(alloc: Global, a: &Basis, b: &Basis) -> Result<Basis, AllocError>
+        requires { Agree a.now b.now }
+        ensures { IfOk result (λ u. u ≡ set.union a.now b.now) }
+    {
+        let all = merged(alloc, a.items(), b.items())?;
+        Basis::made(alloc, all)
     }
 
     /// The basis with one item more.

@@ -1,14 +1,10 @@
 -- Elements made of the one before them.
-use Rattle.std.specs.Prelude.{◌≡◌, ℕ, zero, suc, ◌+◌, ◌%◌, ◌<◌, ◌≤◌, List, [], ◌∷◌, ◌++◌, length, drop, take, Result, Err, refl}
+use Rattle.std.specs.Prelude.{◌≡◌, ℕ, zero, suc, ◌+◌, ◌%◌, ◌<◌, ◌≤◌, List, [], ◌∷◌, ◌++◌, length, drop, take, refl}
 use Rattle.std.specs.FinSet as set
 use Rattle.std.proofs.Common.{ap, sym, ◌∙◌, subst, arith}
 use Rattle.std.proofs.Math.Nat.{mod-lt}
 use Rattle.hol_kernel.specs.Items.{Items, IsSubset}
 use Rattle.hol_kernel.specs.Sequent.{no_hyps}
-use Rattle.hol_kernel.specs.Extends.{Agree}
-use Rattle.hol_kernel.specs.Gives.{Joins}
-use Rattle.hol_kernel.specs.declared.error.KernelError.{KernelError}
-use Rattle.hol_kernel.specs.declared.error.KernelError.TheVariants.{Clash}
 use Rattle.hol_kernel.proofs.Subsets.{subset_left, within_itself}
 use Rattle.hol_goal.specs.Goal.{GoalValue}
 use Rattle.hol_just.specs.Gives.{moved}
@@ -20,12 +16,6 @@ use Rattle.hol_stack.specs.Calls.{IsStep}
 use Rattle.hol_stack.specs.Sound.{Follows}
 use Rattle.hol_stack.specs.declared.element.Change.TheVariants.{Left, Turned}
 use Rattle.hol_stack.proofs.Turns.{turned_by}
-
-pub no_clash : (a b : Items) (n : List ℕ) (answer : Result Items KernelError) → Agree a b → answer ≡ Err (Clash n) → Joins a b answer → ⊥
-no_clash a b n answer agree is joins =
-    let clash = subst (Joins a b) is joins in
-    let at = clash.2 in
-    at.differ (agree at.first at.second clash.0 at.in_first at.in_second at.name_of_first at.name_of_second)
 
 -- ---- by a step
 

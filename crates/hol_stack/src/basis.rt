@@ -6,10 +6,10 @@ ghost use Rattle.hol_kernel.specs.Extends.{Agree};
 ghost use Rattle.hol_kernel.specs.Items.{IsSubset};
 ghost use Rattle.hol_kernel.specs.Signature.{item_keys};
 
-use hol_kernel::{Basis, Item, KernelError};
+use hol_kernel::{Basis, Item};
 use std::alloc::{AllocError, Global};
 
-/// The basis of the items of both, which agree: as `Basis::join`, but without a clash, and by one walk over both where one has all items of the other.
+/// The basis of the items of both, which agree: where one has all items of the other, it is that one.
 pub fn joined(alloc: Global, left: &Basis, right: &Basis) -> Result<Basis, AllocError>
     requires { Agree left.now right.now }
     ensures { IfOk result (λ basis. basis ≡ set.union left.now right.now) }
@@ -20,16 +20,11 @@ pub fn joined(alloc: Global, left: &Basis, right: &Basis) -> Result<Basis, Alloc
     if is_within(left, right) {
         return right.copy();
     }
-    match Basis::join(alloc, left, right) {
-        Ok(basis) => Ok(basis),
-        Err(KernelError::Memory) => Err(AllocError),
-        Err(KernelError::Refused(_)) => unreachable!(),
-        Err(KernelError::Clash(_)) => unreachable!(),
-    }
+    Basis::union(alloc, left, right)
 }
 
 // Whether the second basis has all items of the first, with which it agrees: one walk over both, which are in one order, by names. Most bases that a command
-// joins lie within one another, and a join compares each item with each.
+// joins lie within one another.
 fn is_within(part: &Basis, whole: &Basis) -> bool
     requires { Agree whole.now part.now }
     ensures { result ≡ true → IsSubset part.now whole.now }

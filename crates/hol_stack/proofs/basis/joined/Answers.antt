@@ -1,7 +1,6 @@
-use Rattle.std.proofs.Common.{◌∙◌, ap, sym, Err}
+use Rattle.std.proofs.Common.{◌∙◌, sym}
 use Rattle.std.specs.Prelude.{refl}
 use Rattle.std.proofs.lemmas.Result.{IfOk-weaker}
-use Rattle.hol_stack.proofs.Elements.{no_clash}
 use Rattle.hol_stack.proofs.Within.{turned, union_within, within_union}
 use Rattle.hol_stack.proofs.basis.joined.Goals as goal
 
@@ -15,7 +14,3 @@ is_within-requires-2 c = turned c.args.left.now c.args.right.now c.requires
 pub returns-then-is_within-2 : goal.returns-then-is_within-2
 returns-then-is_within-2 c =
     IfOk-weaker c.copy-then-is_within-2.result _ _ (λ basis e. e ∙ sym (within_union c.args.left.now c.args.right.now (c.if-is_within-2.ensures refl))) c.copy-then-is_within-2.ensures
-
-pub unreachable-requires-in-Err-Clash : goal.unreachable-requires-in-Err-Clash
-unreachable-requires-in-Err-Clash c =
-    no_clash c.args.left.now c.args.right.now c.in-Err-Clash.field-0-0 c.join.result c.requires (c.in-Err-Clash.is ∙ ap Err c.in-Err-Clash.field-0-is) c.join.ensures.joins
