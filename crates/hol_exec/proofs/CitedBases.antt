@@ -1,14 +1,20 @@
 -- What a command reads stands in a theory: its bases lie in the items of that, and so does their union, which is legal.
-use Rattle.std.specs.Prelude.{◌≡◌, ◌<◌, ◌+◌, ℕ, zero, suc, Bool, true, false, cond, List, [], ◌∷◌, length, drop, get_or, Option, Some, None, IfSome, refl}
+use Rattle.std.specs.Prelude.{◌≡◌, ◌<◌, ◌≤◌, ◌+◌, ◌/◌, ℕ, Bool, true, false, cond, List, [], ◌∷◌, ◌++◌, length, get_or, Option, Some, None, refl}
 use Rattle.std.specs.Map.{keys_of}
 use Rattle.std.specs.FinSet as set
-use Rattle.std.proofs.Common.{ap, sym, ◌∙◌, subst, arith}
-use Rattle.std.proofs.lemmas.List.{drop_more}
+use Rattle.std.proofs.Common.{ap, sym, ◌∙◌, subst, inl, inr, arith}
+use Rattle.hol_types.specs.Tree.{TypeTree}
+use Rattle.hol_kernel.specs.Item.{Item}
+use Rattle.hol_kernel.specs.Theorem.{Theorem}
 use Rattle.hol_kernel.specs.Items.{Items, no_items, IsSubset}
 use Rattle.hol_kernel.specs.Extends.{Agree}
 use Rattle.hol_kernel.specs.Legal.{IsLegalSet}
+use Rattle.hol_kernel.proofs.SortedSets.{union_none_right}
+use Rattle.hol_kernel.proofs.Members.{same_members, in_union_left, in_union_right, in_union_cases}
+use Rattle.hol_kernel.proofs.ItemOrder.{total, only}
 use Rattle.hol_kernel.proofs.Subsets.{none_within, union_subset}
 use Rattle.hol_kernel.proofs.Unions.{union_legal}
+use Rattle.hol_stack.proofs.Within.{within_union}
 use Rattle.hol_resolve.specs.Readings.{ReadingsValue}
 use Rattle.hol_theory.specs.Key.{KeyValue}
 use Rattle.hol_theory.specs.Entry.{EntryValue, AType, AConstant, ATheorem, Entries, IsEntry, entry_at, entry_basis}
@@ -103,53 +109,120 @@ module _ (es : Entries) (t : IsTheory es) (readings : ReadingsValue) where
   pub resolved_fine : (cited : Values) → StandIn es cited → Fine (resolved_basis cited readings)
   resolved_fine cited h = values_fine cited no_items h none_fine
 
--- what agrees with the basis of what stands under a key, if anything does, agrees with that of what stands there
-pub agrees_at : (basis own : Items) (o : Option EntryValue) (v : EntryValue) → IfSome o (λ w. Agree basis (entry_basis w)) → o ≡ Some v → entry_basis v ≡ own → Agree basis own
-agrees_at basis own o v h is same = subst (Agree basis) same (subst (λ (x : Option EntryValue). IfSome x (λ w. Agree basis (entry_basis w))) is h)
+-- ---- by halves
 
--- ---- one value after the other
+grouped : (a b c : Items) → set.union (set.union a b) c ≡ set.union a (set.union b c)
+grouped a b c =
+    same_members total only _ _
+    (λ q h. elim (in_union_cases total only (set.union a b) c q h) [
+      | inl i ↦ elim (in_union_cases total only a b q i) [
+        | inl j ↦ in_union_left total only a (set.union b c) q j
+        | inr j ↦ in_union_right total only a (set.union b c) q (in_union_left total only b c q j)
+      ]
+      | inr i ↦ in_union_right total only a (set.union b c) q (in_union_right total only b c q i)
+    ])
+    (λ q h. elim (in_union_cases total only a (set.union b c) q h) [
+      | inl i ↦ in_union_left total only (set.union a b) c q (in_union_left total only a b q i)
+      | inr i ↦ elim (in_union_cases total only b c q i) [
+        | inl j ↦ in_union_left total only (set.union a b) c q (in_union_right total only a b q j)
+        | inr j ↦ in_union_right total only (set.union a b) c q j
+      ]
+    ])
 
-value_at : (es : Entries) (cited : Values) (i : ℕ) (x : KeyValue × Option EntryValue) → StandIn es cited → i < length cited → x ≡ get_or cited i x → x.1 ≡ entry_at x.0 es
-value_at es [] i x h lt is = absurd (omega (arith, lt))
-value_at es ((key, value) ∷ more) zero x h lt is = subst (λ (y : KeyValue × Option EntryValue). y.1 ≡ entry_at y.0 es) (sym is) h.0
-value_at es ((key, value) ∷ more) (suc i) x h lt is = value_at es more i x h.1 (omega (arith, lt)) is
+none_more : (a : Items) → a ≡ set.union a no_items
+none_more a = sym (union_none_right total only a)
 
--- what is joined of the values that are left, one step on
-pub next_rest : (cited : Values) (readings : ReadingsValue) (items more whole : Items) (i : ℕ) (x : KeyValue × Option EntryValue)
-    → i < length cited → x ≡ get_or cited i x → with_values readings items (drop i cited) ≡ whole → more ≡ with_value readings items x.0 x.1 → with_values readings more (drop (i + 1) cited) ≡ whole
-next_rest cited readings items more whole i x lt is h e =
-    ap (λ (b : Items). with_values readings b (drop (i + 1) cited)) (e ∙ ap (λ (y : KeyValue × Option EntryValue). with_value readings items y.0 y.1) is)
-    ∙ sym (ap (with_values readings items) (drop_more cited i x lt)) ∙ h
+pub none_joined : (a : Items) → set.union no_items a ≡ a
+none_joined a = within_union no_items a (none_within no_items a refl)
 
--- what lies within the items of each theory where what is cited stands
-abbrev pub LiesWithin : Values → Items → Type 0
-LiesWithin cited items = (es : Entries) → IsTheory es → StandIn es cited → IsSubset items (items_in es)
+module _ (readings : ReadingsValue) where
+  value_joined : (items : Items) (key : KeyValue) (o : Option EntryValue) → with_value readings items key o ≡ set.union items (with_value readings no_items key o)
+  value_joined items key None = none_more items
+  value_joined items key (Some (AType arity item basis)) = ap (set.union items) (sym (none_joined basis))
+  value_joined items key (Some (AConstant ty item basis)) = by (occurs_in key.name readings)
+    where
+      by : (b : Bool) → cond b (set.union items basis) items ≡ set.union items (cond b (set.union no_items basis) no_items)
+      by true = ap (set.union items) (sym (none_joined basis))
+      by false = none_more items
+  value_joined items key (Some (ATheorem th)) = ap (set.union items) (sym (none_joined th.basis))
 
-pub none_lies : (cited : Values) (items : Items) → items ≡ no_items → LiesWithin cited items
-none_lies cited items e es t h = none_within items (items_in es) e
+  values_joined : (items : Items) (values : Values) → with_values readings items values ≡ set.union items (with_values readings no_items values)
+  values_joined items [] = none_more items
+  values_joined items ((key, value) ∷ more) =
+      let here = with_value readings no_items key value in
+      values_joined (with_value readings items key value) more
+      ∙ ap (λ (s : Items). set.union s (with_values readings no_items more)) (value_joined items key value)
+      ∙ grouped items here (with_values readings no_items more)
+      ∙ ap (set.union items) (sym (values_joined here more))
 
-pub next_lies : (cited : Values) (readings : ReadingsValue) (items more : Items) (i : ℕ) (x : KeyValue × Option EntryValue)
-    → i < length cited → x ≡ get_or cited i x → LiesWithin cited items → more ≡ with_value readings items x.0 x.1 → LiesWithin cited more
-next_lies cited readings items more i x lt is lies e es t h = subst (λ (s : Items). IsSubset s (items_in es)) (sym e) (by x.1 (value_at es cited i x h lt is))
-  where
-    grown : (basis : Items) → IsSubset basis (items_in es) → IsSubset (set.union items basis) (items_in es)
-    grown basis k = union_subset items basis (items_in es) (lies es t h) k
+  one_after_the_other : (items : Items) (front back : Values) → with_values readings items (front ++ back) ≡ with_values readings (with_values readings items front) back
+  one_after_the_other items [] back = refl
+  one_after_the_other items ((key, value) ∷ more) back = one_after_the_other (with_value readings items key value) more back
 
-    by : (o : Option EntryValue) → o ≡ entry_at x.0 es → IsSubset (with_value readings items x.0 o) (items_in es)
-    by None f = lies es t h
-    by (Some (AType arity item basis)) f = grown basis (entry_within es x.0 (AType arity item basis) t (sym f))
-    by (Some (AConstant ty item basis)) f = chosen (occurs_in x.0.name readings)
-      where
-        chosen : (b : Bool) → IsSubset (cond b (set.union items basis) items) (items_in es)
-        chosen true = grown basis (entry_within es x.0 (AConstant ty item basis) t (sym f))
-        chosen false = lies es t h
-    by (Some (ATheorem th)) f = grown th.basis (entry_within es x.0 (ATheorem th) t (sym f))
+  -- what is resolved of two lists, one after the other, is the union
+  pub halves_joined : (cited front back : Values) → cited ≡ front ++ back → resolved_basis cited readings ≡ set.union (resolved_basis front readings) (resolved_basis back readings)
+  halves_joined cited front back e =
+      ap (with_values readings no_items) e ∙ one_after_the_other no_items front back ∙ values_joined (with_values readings no_items front) back
 
--- what lies so agrees with the basis of what stands under a key that is cited
-pub value_agrees : (cited made : Values) (items : Items) (i : ℕ) (x : KeyValue × Option EntryValue) → AreOfTheory cited made
-    → i < length cited → x ≡ get_or cited i x → LiesWithin cited items → IfSome x.1 (λ v. Agree items (entry_basis v))
-value_agrees cited made items i x h lt is lies = by x.1 (value_at h.entries cited i x h.cited_stand lt is)
-  where
-    by : (o : Option EntryValue) → o ≡ entry_at x.0 h.entries → IfSome o (λ v. Agree items (entry_basis v))
-    by None f = tt
-    by (Some v) f = items_agree h.entries items (entry_basis v) h.theory (lies h.entries h.theory h.cited_stand) (entry_within h.entries x.0 v h.theory (sym f))
+  pub of_one : (cited : Values) (x : KeyValue × Option EntryValue) → 1 ≤ length cited → length cited < 2 → x ≡ get_or cited 0 x → resolved_basis cited readings ≡ with_value readings no_items x.0 x.1
+  of_one [] x low high is = absurd (omega (arith, low))
+  of_one (y ∷ []) x low high is = ap (λ (z : KeyValue × Option EntryValue). with_value readings no_items z.0 z.1) (sym is)
+  of_one (y ∷ z ∷ more) x low high is = absurd (omega (arith, high))
+
+  pub of_none : (cited : Values) → cited ≡ [] → resolved_basis cited readings ≡ no_items
+  of_none cited e = ap (with_values readings no_items) e
+
+  -- one value alone: its basis, if it is resolved
+  pub adds_type : (key : KeyValue) (o : Option EntryValue) (v : EntryValue) (arity : ℕ) (item : Item) (own basis : Items)
+      → o ≡ Some v → v ≡ AType arity item own → basis ≡ own → basis ≡ with_value readings no_items key o
+  adds_type key o v arity item own basis there is e = e ∙ sym (none_joined own) ∙ sym (ap (with_value readings no_items key) (there ∙ ap Some is))
+
+  pub adds_constant : (key : KeyValue) (o : Option EntryValue) (v : EntryValue) (ty : TypeTree) (item : Item) (own basis : Items)
+      → o ≡ Some v → v ≡ AConstant ty item own → occurs_in key.name readings ≡ true → basis ≡ own → basis ≡ with_value readings no_items key o
+  adds_constant key o v ty item own basis there is occurs e =
+      e ∙ sym (none_joined own) ∙ sym (ap (λ b. cond b (set.union no_items own) no_items) occurs) ∙ sym (ap (with_value readings no_items key) (there ∙ ap Some is))
+
+  pub adds_theorem : (key : KeyValue) (o : Option EntryValue) (v : EntryValue) (th : Theorem) (own basis : Items)
+      → o ≡ Some v → v ≡ ATheorem th → own ≡ th.basis → basis ≡ own → basis ≡ with_value readings no_items key o
+  adds_theorem key o v th own basis there is same e =
+      e ∙ same ∙ sym (none_joined th.basis) ∙ sym (ap (with_value readings no_items key) (there ∙ ap Some is))
+
+front_stands : (es : Entries) (front back : Values) → StandIn es (front ++ back) → StandIn es front
+front_stands es [] back h = tt
+front_stands es ((key, value) ∷ more) back h = (h.0, front_stands es more back h.1)
+
+back_stands : (es : Entries) (front back : Values) → StandIn es (front ++ back) → StandIn es back
+back_stands es [] back h = h
+back_stands es ((key, value) ∷ more) back h = back_stands es more back h.1
+
+-- what is cited first, and what is cited after it, stands in the theory where all does
+pub front_of_theory : (cited made front back : Values) → cited ≡ front ++ back → AreOfTheory cited made → AreOfTheory front made
+front_of_theory cited made front back e h = record {
+  entries = h.entries;
+  theory = h.theory;
+  cited_stand = front_stands h.entries front back (subst (StandIn h.entries) e h.cited_stand);
+  made_stand = h.made_stand;
+}
+
+pub back_of_theory : (cited made front back : Values) → cited ≡ front ++ back → AreOfTheory cited made → AreOfTheory back made
+back_of_theory cited made front back e h = record {
+  entries = h.entries;
+  theory = h.theory;
+  cited_stand = back_stands h.entries front back (subst (StandIn h.entries) e h.cited_stand);
+  made_stand = h.made_stand;
+}
+
+pub half_smaller : (n m : ℕ) → 2 ≤ n → m ≡ n / 2 → m < n
+half_smaller n m two e = omega (arith, two, e)
+
+pub rest_smaller : (n m : ℕ) → 2 ≤ n → m + n / 2 ≡ n → m < n
+rest_smaller n m two e = omega (arith, two, e)
+
+-- bases of what is cited in one theory agree
+pub halves_agree : (cited made front back : Values) (readings : ReadingsValue) → cited ≡ front ++ back → AreOfTheory cited made → Agree (resolved_basis front readings) (resolved_basis back readings)
+halves_agree cited made front back readings e h =
+    let es = h.entries in
+    let stand = subst (StandIn es) e h.cited_stand in
+    items_agree es (resolved_basis front readings) (resolved_basis back readings) h.theory
+    (resolved_fine es h.theory readings front (front_stands es front back stand)).0
+    (resolved_fine es h.theory readings back (back_stands es front back stand)).0

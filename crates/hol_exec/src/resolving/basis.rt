@@ -1,8 +1,7 @@
 //! The basis of what a command resolves.
-ghost use Rattle.std.specs.Prelude.{◌≡◌, IfOk, IfSome};
-ghost use Rattle.hol_kernel.specs.Extends.{Agree};
+ghost use Rattle.std.specs.Prelude.{◌≡◌, IfOk};
+ghost use Rattle.hol_kernel.specs.Items.{no_items};
 ghost use Rattle.hol_resolve.specs.ReadingView.{list_value};
-ghost use Rattle.hol_theory.specs.Entry.{entry_basis};
 ghost use Rattle.hol_exec.specs.ReadsValue.{Values};
 ghost use Rattle.hol_exec.specs.Resolved.{with_value, resolved_basis};
 ghost use Rattle.hol_exec.specs.Valid.{AreOfTheory};
@@ -26,8 +25,8 @@ pub(crate) fn resolved_basis(
     basis_of(alloc, reads.cited(), readings)
 }
 
-// The same of what is cited in some theory.
-#[tactic(auto, using(crate::proofs::CitedBases::none_lies, crate::proofs::CitedBases::next_lies))]
+// The same of what is cited in some theory. Bases are joined by halves: an item is gone by as often as their number can be halved.
+#[tactic(auto, using(crate::proofs::CitedBases::of_none))]
 fn basis_of(
     alloc: Global,
     cited: &[(Key, Option<Value>)],
@@ -36,34 +35,37 @@ fn basis_of(
     requires { (made : Values) × AreOfTheory cited.now made }
     ensures { IfOk result (λ basis. basis ≡ resolved_basis cited.now (list_value readings.now)) }
 {
-    let mut basis = Basis::empty(alloc)?;
-    for value in cited {
-        basis = with_value(alloc, readings, basis, value)?;
+    match cited {
+        [] => Basis::empty(alloc),
+        [value] => basis_at(alloc, value, readings),
+        _ => {
+            let (front, back) = cited.split_at(cited.len() / 2);
+            let first = basis_of(alloc, front, readings)?;
+            let second = basis_of(alloc, back, readings)?;
+            joined(alloc, &first, &second)
+        }
     }
-    Ok(basis)
 }
 
-// The basis with that of what stands under a key that is cited, if it is resolved.
-fn with_value(
+// The basis of what stands under a key that is cited, if it is resolved.
+fn basis_at(
     alloc: Global,
-    readings: &[(usize, Quoted)],
-    basis: Basis,
     value: &(Key, Option<Value>),
+    readings: &[(usize, Quoted)],
 ) -> Result<Basis, AllocError>
-    requires { IfSome value.now.1 (λ v. Agree basis (entry_basis v)) }
-    ensures { IfOk result (λ more. more ≡ with_value (list_value readings.now) basis value.now.0 value.now.1) }
+    ensures { IfOk result (λ basis. basis ≡ with_value (list_value readings.now) no_items value.now.0 value.now.1) }
 {
     let Some(entry) = &value.1 else {
-        return Ok(basis);
+        return Basis::empty(alloc);
     };
     match entry.node() {
-        ValueNode::Type { basis: own, .. } => joined(alloc, &basis, own),
-        ValueNode::Constant { basis: own, .. } => {
+        ValueNode::Type { basis, .. } => basis.copy(),
+        ValueNode::Constant { basis, .. } => {
             if !occurs_in(value.0.name(), readings) {
-                return Ok(basis);
+                return Basis::empty(alloc);
             }
-            joined(alloc, &basis, own)
+            basis.copy()
         }
-        ValueNode::Theorem(theorem) => joined(alloc, &basis, theorem.basis()),
+        ValueNode::Theorem(theorem) => theorem.basis().copy(),
     }
 }
