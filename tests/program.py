@@ -183,7 +183,7 @@ def missing(program):
 
 
 def large():
-    """Lines that take memory, and hardly any stack: many goals with steps on them; then what stands, and an end of it all."""
+    """Lines that take memory, and then stack: many goals with steps on them, and deep terms; then what stands, and an end of it all."""
     def line(op, **more):
         return json.dumps({"op": op, **more}).encode() + b"\n"
 
@@ -191,6 +191,7 @@ def large():
     for number in range(60):
         parts = " /\\ ".join(f"p{number}_{k}" for k in range(60))
         texts += [f"g N{number} `{parts} ==> q{number}`", "e DISCH_TAC", "oops"]
+    texts += ["g D `" + " /\\ ".join(["p"] * 1_990) + "`", "oops", "g E `" + "~" * 3_990 + "p`", "oops"]
     lines = [line("new_theory", name="A", at=0)]
     lines += [line("insert", theory="A", at=at, text=text) for at, text in enumerate(texts)]
     lines += [line("report", theory="A", at=at) for at in range(0, len(texts), 7)]

@@ -210,6 +210,7 @@ pub(crate) fn resolve_annotation(
 }
 
 // What an identifier means.
+#[inline(never)]
 fn identifier(
     alloc: Global,
     constants: &[(Name, Scheme)],
@@ -274,6 +275,7 @@ fn equivalence(alloc: Global) -> Result<RawTerm, ResolveError>
 }
 
 /// What an operator means.
+#[inline(never)]
 pub(crate) fn operator(
     alloc: Global,
     constants: &[(Name, Scheme)],
@@ -298,6 +300,7 @@ pub(crate) fn operator(
 }
 
 /// The application of the first to the second.
+#[inline(never)]
 pub(crate) fn applied(
     alloc: Global,
     function: RawTerm,
@@ -323,6 +326,7 @@ pub(crate) fn over(
 }
 
 // The abstraction over the variable that is written.
+#[inline(never)]
 fn abstracted(
     alloc: Global,
     arities: &[(Name, usize)],
@@ -337,6 +341,7 @@ fn abstracted(
 }
 
 // The term with the type that is written.
+#[inline(never)]
 fn typed(
     alloc: Global,
     arities: &[(Name, usize)],

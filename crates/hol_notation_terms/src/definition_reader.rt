@@ -48,6 +48,7 @@ pub fn read_definition_quotation<'a, 't>(
 }
 
 // The parameters before and one more.
+#[inline(never)]
 fn with_parameter(
     alloc: Global,
     before: Vec<PreVariable>,
@@ -98,6 +99,7 @@ fn read_parameters<'a, 't>(
 }
 
 // The next word, where it is an identifier that is neither the constant's name nor an earlier parameter's.
+#[inline(never)]
 fn expect_parameter<'a, 't>(
     constant: &str,
     before: &[PreVariable],
@@ -132,6 +134,7 @@ fn is_parameter(parameters: &[PreVariable], name: &str) -> bool
 }
 
 // The type that is written for a right side, if one is, and the right side.
+#[inline(never)]
 fn read_right_side<'a, 't>(
     alloc: Global,
     words: &'a [Word<'t>],

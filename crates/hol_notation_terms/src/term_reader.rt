@@ -52,6 +52,7 @@ fn operator_of(kind: Kind) -> Operator
     }
 }
 
+#[inline(never)]
 fn constant(alloc: Global, kind: Kind) -> Result<PreTerm, AllocError>
     ensures { IfOk result (λ t. t ≡ Constant (operator_of kind)) }
 {
@@ -59,6 +60,7 @@ fn constant(alloc: Global, kind: Kind) -> Result<PreTerm, AllocError>
 }
 
 // A name.
+#[inline(never)]
 fn named(alloc: Global, text: &str) -> Result<PreTerm, AllocError>
     ensures { IfOk result (λ t. t ≡ Named text.now) }
 {
@@ -67,6 +69,7 @@ fn named(alloc: Global, text: &str) -> Result<PreTerm, AllocError>
 }
 
 // The negation of a term.
+#[inline(never)]
 fn negated(alloc: Global, operand: PreTerm) -> Result<PreTerm, AllocError>
     ensures { IfOk result (λ t. t ≡ Applied (Constant Not) operand) }
 {
@@ -75,6 +78,7 @@ fn negated(alloc: Global, operand: PreTerm) -> Result<PreTerm, AllocError>
 }
 
 // An infix between two terms.
+#[inline(never)]
 fn infixed(alloc: Global, kind: Kind, left: PreTerm, right: PreTerm) -> Result<PreTerm, AllocError>
     ensures { IfOk result (λ t. t ≡ infix_value kind left right) }
 {
@@ -83,6 +87,7 @@ fn infixed(alloc: Global, kind: Kind, left: PreTerm, right: PreTerm) -> Result<P
 }
 
 // A variable bound by a binder.
+#[inline(never)]
 fn bind(
     alloc: Global,
     binder: Kind,
@@ -102,6 +107,7 @@ fn bind(
 }
 
 // A variable of this name and type, bound by a binder.
+#[inline(never)]
 fn bind_named(
     alloc: Global,
     binder: Kind,
@@ -202,6 +208,7 @@ fn read_typed<'a, 't>(
 }
 
 // A term with the type that is written after it, if one is.
+#[inline(never)]
 fn read_annotation<'a, 't>(
     alloc: Global,
     term: PreTerm,
@@ -353,6 +360,7 @@ fn read_bound<'a, 't>(
 }
 
 // A variable in parentheses, with its type.
+#[inline(never)]
 fn read_variable<'a, 't>(
     alloc: Global,
     words: &'a [Word<'t>],
@@ -370,6 +378,7 @@ fn read_variable<'a, 't>(
 }
 
 /// The type of a variable in parentheses, and the parenthesis that closes it.
+#[inline(never)]
 pub(crate) fn read_ascription<'a, 't>(
     alloc: Global,
     words: &'a [Word<'t>],

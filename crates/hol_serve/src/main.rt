@@ -31,10 +31,25 @@ fn texts(alloc: Global, words: &Result<Vec<String>, Words>) -> Result<Vec<&str>,
     }
 }
 
+// The stack that is touched before anything is read, in bytes: more than the deepest input takes.
+const STACK: usize = 4 << 20;
+
+// Touches the stack, and is true. What was touched stays the program's, so where memory is too short for it the program ends here, and never
+// with documents. The place isn't known beforehand, so that no compiler leaves the bytes out.
+#[inline(never)]
+fn has_stack(place: usize) -> bool {
+    let mut bytes = [0u8; STACK];
+    bytes[place % STACK] = 1;
+    bytes[place / 2 % STACK] < 2
+}
+
 fn main(rt: HostRuntime) -> ExitCode {
     let alloc = rt.alloc();
     let words = program_words(&rt);
     let texts = texts(alloc, &words);
+    if !has_stack(texts.as_ref().map_or(0, Vec::len)) {
+        return ExitCode::from(1);
+    }
     let status = program(
         alloc,
         texts.as_ref().map(Vec::as_slice).map_err(|words| *words),
