@@ -13,7 +13,7 @@ use Rattle.hol_replay.proofs.RuleTheorems.{general, way_found, single_found, rul
 use Rattle.hol_replay.proofs.rule_theorems.rule_theorem.Goals as goal
 
 pub given_theorem-requires : goal.given_theorem-requires
-given_theorem-requires c = subst (λ g. holds_given g c.args.basis.now ≡ true) (sym c.given.ensures) c.requires.applies.applies
+given_theorem-requires c = subst (λ g. holds_given g c.args.basis.now ≡ true) (sym c.given.ensures) c.requires.applies
 
 pub generalized-requires-clause-applies : goal.generalized-requires-clause-applies
 generalized-requires-clause-applies c =
