@@ -18,8 +18,8 @@ reply, and so does `processor`, the program's processor time; what sets the job 
 line. How many commands the requests run is asked for by `stats`, before and after the job. The times shown are medians of the rounds; the memory is the greatest of
 them: the peak resident set of the whole process. A reply that isn't of the expected kind, or another number of commands run, ends the run with status 1.
 
-What goals cost, also those whose types share their nodes, is measured by goals.py, beside this. The tests of hol_logic_tests named
-`.._shared_..` have types and terms that no text within the limits makes: over trees of 2^60 leaves and 60 or 120 nodes, sizes, types, what
+What goals cost, also those whose types share their nodes, is measured by goals.py, beside this. The test of hol_logic_tests named
+`nothing_shared_is_walked` has types and terms that no text within the limits makes: over trees of 2^60 leaves and 60 or 120 nodes, sizes, types, what
 isn't free, comparisons that differ early and comparisons over shared parts are answered at once (a call that walked the tree would not end).
 
 Needs Python 3.8 and Linux, and nothing else.

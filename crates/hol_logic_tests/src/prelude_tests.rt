@@ -1,14 +1,44 @@
-//! The prelude's theorems, each beside its statement in the notation, as a command is read: names of bound variables and types count.
-use crate::written::{goal, is_identical};
+//! The prelude's theorems, each beside its statement in the notation: names of bound variables and types count.
+use crate::written::Written;
 use hol_kernel::Thm;
 use hol_prelude::Prelude;
-use hol_terms::Term;
-use hol_types::Name;
-use std::alloc::Global;
+use hol_terms::{Term, TermNode};
 use std::test::Fail;
 
-fn prelude(alloc: Global) -> Result<Prelude, Fail> {
-    Ok(Prelude::new(alloc)?)
+// The prelude of the page on the notation.
+const STATEMENTS: &str = r"T_DEF is T = ((\p:bool. p) = (\p. p))
+AND_DEF is (/\) = (\p q. (\f:bool->bool->bool. f p q) = (\f. f T T))
+IMP_DEF is (==>) = (\p q. p /\ q <=> p)
+FORALL_DEF is (!) = (\P:A->bool. P = (\x. T))
+EXISTS_DEF is (?) = (\P:A->bool. !q. (!x. P x ==> q) ==> q)
+OR_DEF is (\/) = (\p q. !r. (p ==> r) ==> (q ==> r) ==> r)
+F_DEF is F = (!p. p)
+NOT_DEF is (~) = (\p. p ==> F)
+EXISTS_UNIQUE_DEF is (?!) = (\P:A->bool. (?) P /\ (!x y. P x /\ P y ==> x = y))
+ETA_AX is !t:A->B. (\x. t x) = t
+SELECT_AX is !(P:A->bool) x. P x ==> P ((@) P)
+ONE_ONE is !f:A->B. ONE_ONE f <=> (!x1 x2. f x1 = f x2 ==> x1 = x2)
+ONTO is !f:A->B. ONTO f <=> (!y. ?x. y = f x)
+INFINITY_AX is ?f:ind->ind. ONE_ONE f /\ ~ONTO f
+TRUTH is T
+REFL_CLAUSE is !x:A. x = x <=> T
+EQ_CLAUSES is !t. ((T <=> t) <=> t) /\ ((t <=> T) <=> t) /\ ((F <=> t) <=> ~t) /\ ((t <=> F) <=> ~t)
+NOT_CLAUSES_WEAK is (~T <=> F) /\ (~F <=> T)
+AND_CLAUSES is !t. (T /\ t <=> t) /\ (t /\ T <=> t) /\ (F /\ t <=> F) /\ (t /\ F <=> F) /\ (t /\ t <=> t)
+OR_CLAUSES is !t. (T \/ t <=> T) /\ (t \/ T <=> T) /\ (F \/ t <=> t) /\ (t \/ F <=> t) /\ (t \/ t <=> t)
+IMP_CLAUSES is !t. (T ==> t <=> t) /\ (t ==> T <=> T) /\ (F ==> t <=> T) /\ (t ==> t <=> T) /\ (t ==> F <=> ~t)";
+
+// Whether the two are one term, with one name for each bound variable.
+fn is_identical(s: &Term, t: &Term) -> bool {
+    match s.node() {
+        TermNode::Var(_) | TermNode::Const(..) => s.same(t),
+        TermNode::Comb(f, x) => {
+            matches!(t.node(), TermNode::Comb(g, y) if is_identical(f, g) && is_identical(x, y))
+        }
+        TermNode::Abs(v, b) => {
+            matches!(t.node(), TermNode::Abs(w, d) if v.same(w) && is_identical(b, d))
+        }
+    }
 }
 
 // Whether it is the theorem of the statement alone, over no items.
@@ -16,74 +46,32 @@ fn says(th: &Thm, statement: &Term) -> bool {
     th.hyps().is_empty() && th.basis().items().is_empty() && is_identical(th.concl(), statement)
 }
 
-// Whether the theorem of the name that the command has is what the command states.
-fn is_stated(alloc: Global, prelude: &Prelude, command: &str) -> Result<bool, Fail> {
-    let (name, statement) = goal(alloc, command)?;
-    Ok(
-        prelude
-            .get(name.as_str())
-            .is_some_and(|th| says(th, &statement)),
-    )
+fn is_stated(written: &Written, prelude: &Prelude, row: &str) -> Result<bool, Fail> {
+    let (name, statement) = row.split_once(" is ").unwrap_or((row, ""));
+    match prelude.get(name) {
+        Some(th) => Ok(says(th, &written.term(statement)?)),
+        None => Ok(false),
+    }
 }
 
-// The prelude of the page on the notation.
-static STATEMENTS: [&str; 21] = [
-    "g T_DEF `T = ((\\p:bool. p) = (\\p. p))`",
-    "g AND_DEF `(/\\) = (\\p q. (\\f:bool->bool->bool. f p q) = (\\f. f T T))`",
-    "g IMP_DEF `(==>) = (\\p q. p /\\ q <=> p)`",
-    "g FORALL_DEF `(!) = (\\P:A->bool. P = (\\x. T))`",
-    "g EXISTS_DEF `(?) = (\\P:A->bool. !q. (!x. P x ==> q) ==> q)`",
-    "g OR_DEF `(\\/) = (\\p q. !r. (p ==> r) ==> (q ==> r) ==> r)`",
-    "g F_DEF `F = (!p. p)`",
-    "g NOT_DEF `(~) = (\\p. p ==> F)`",
-    "g EXISTS_UNIQUE_DEF `(?!) = (\\P:A->bool. (?) P /\\ (!x y. P x /\\ P y ==> x = y))`",
-    "g ETA_AX `!t:A->B. (\\x. t x) = t`",
-    "g SELECT_AX `!(P:A->bool) x. P x ==> P ((@) P)`",
-    "g ONE_ONE `!f:A->B. ONE_ONE f <=> (!x1 x2. f x1 = f x2 ==> x1 = x2)`",
-    "g ONTO `!f:A->B. ONTO f <=> (!y. ?x. y = f x)`",
-    "g INFINITY_AX `?f:ind->ind. ONE_ONE f /\\ ~ONTO f`",
-    "g TRUTH `T`",
-    "g REFL_CLAUSE `!x:A. x = x <=> T`",
-    "g EQ_CLAUSES `!t. ((T <=> t) <=> t) /\\ ((t <=> T) <=> t) /\\ ((F <=> t) <=> ~t) /\\ ((t <=> F) <=> ~t)`",
-    "g NOT_CLAUSES_WEAK `(~T <=> F) /\\ (~F <=> T)`",
-    "g AND_CLAUSES `!t. (T /\\ t <=> t) /\\ (t /\\ T <=> t) /\\ (F /\\ t <=> F) /\\ (t /\\ F <=> F) /\\ (t /\\ t <=> t)`",
-    "g OR_CLAUSES `!t. (T \\/ t <=> T) /\\ (t \\/ T <=> T) /\\ (F \\/ t <=> t) /\\ (t \\/ F <=> t) /\\ (t \\/ t <=> t)`",
-    "g IMP_CLAUSES `!t. (T ==> t <=> t) /\\ (t ==> T <=> T) /\\ (F ==> t <=> T) /\\ (t ==> t <=> T) /\\ (t ==> F <=> ~t)`",
-];
+// The first row that the prelude doesn't have, or nothing.
+fn unstated(written: &Written, prelude: &Prelude) -> Result<&'static str, Fail> {
+    for row in STATEMENTS.lines() {
+        if !is_stated(written, prelude, row)? {
+            return Ok(row);
+        }
+    }
+    Ok("")
+}
+
+fn first_unstated(written: &Written) -> Result<&'static str, Fail> {
+    let prelude = Prelude::new(written.alloc)?;
+    unstated(written, &prelude)
+}
 
 #[test]
-fn theorems_are_stated(rt: HostRuntime) -> Result<(), Fail> {
-    let prelude = prelude(rt.alloc())?;
-    for command in &STATEMENTS {
-        assert!(rt; is_stated(rt.alloc(), &prelude, command)?, "{command}");
-    }
-    assert!(rt; prelude.get("T").is_none());
-    Ok(())
-}
-
-// Whether the entry is the theorem of the name.
-fn is_named(prelude: &Prelude, entry: &(Name, Thm), name: &str) -> bool {
-    entry.0.as_str() == name
-        && prelude
-            .get(name)
-            .is_some_and(|th| says(&entry.1, th.concl()))
-}
-
-static REWRITES: [&str; 6] = [
-    "REFL_CLAUSE",
-    "EQ_CLAUSES",
-    "NOT_CLAUSES_WEAK",
-    "AND_CLAUSES",
-    "OR_CLAUSES",
-    "IMP_CLAUSES",
-];
-
-#[test]
-fn basic_rewrites_come_in_order(rt: HostRuntime) -> Result<(), Fail> {
-    let prelude = prelude(rt.alloc())?;
-    assert_eq!(rt; prelude.basic().len(), REWRITES.len());
-    for (entry, name) in prelude.basic().iter().zip(REWRITES.iter()) {
-        assert!(rt; is_named(&prelude, entry, name), "{name}");
-    }
+fn theorems_of_the_prelude_are_stated(rt: HostRuntime) -> Result<(), Fail> {
+    let written = Written::new(rt.alloc())?;
+    assert_eq!(rt; first_unstated(&written)?, "");
     Ok(())
 }
