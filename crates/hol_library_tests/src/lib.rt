@@ -1,16 +1,14 @@
-//! Unit tests of what the program doesn't show: copies of values, registries under other names, and calls that no command makes. They stand in a crate of their own, since a
-//! crate with tests is proved twice.
+//! Unit tests of what the program doesn't show: which texts are one command, and calls of the crates above the prelude that it doesn't make, most of them copies of values. They
+//! stand in a crate of their own, since a crate with tests is proved twice.
 #![tactic(auto)]
 
 #[cfg(test)]
+mod commands_tests;
+#[cfg(test)]
 mod copies_tests;
 #[cfg(test)]
-mod layers_tests;
+mod limits_tests;
 #[cfg(test)]
-mod registries_tests;
+mod reductions_tests;
 #[cfg(test)]
-mod rewriting_tests;
-#[cfg(test)]
-mod steps;
-#[cfg(test)]
-mod theories_tests;
+mod steps_tests;

@@ -1,6 +1,6 @@
-//! Texts at the limits on tokens and brackets: each is read, copied, compared, hashed and dropped, in the call stack of a program's main thread.
+//! Texts at the limits on tokens and brackets: each is read, compared, hashed and dropped, in the call stack of a program's main thread.
 use crate::commands_tests::are_alike;
-use hol_notation::{SyntaxError, lex};
+use hol_notation_tokens::SyntaxError;
 use std::alloc::{AllocError, Global};
 use std::test::Fail;
 
@@ -41,37 +41,6 @@ fn is_read(alloc: Global, row: &Row) -> Result<bool, SyntaxError> {
 fn reads_texts_of_many_tokens(rt: HostRuntime) -> Result<(), Fail> {
     for row in &MANY {
         assert!(rt; is_read(rt.alloc(), row)?, "{}", row.1[1]);
-    }
-    Ok(())
-}
-
-// The number of the text's tokens, or 10,000 and the place where it is refused.
-fn lexed(alloc: Global, text: &str) -> Option<usize> {
-    match lex(alloc, text) {
-        Ok(tokens) => Some(tokens.len()),
-        Err(SyntaxError::Syntax(place)) => Some(10_000 + place),
-        Err(SyntaxError::Memory) => None,
-    }
-}
-
-fn is_lexed(alloc: Global, row: &(Row, usize)) -> Result<bool, AllocError> {
-    let text = text_of(alloc, &row.0)?;
-    Ok(lexed(alloc, text.as_str()) == Some(row.1))
-}
-
-// Brackets are not counted.
-static LEXED: [(Row, usize); 5] = [
-    ((0, [" g N `x /\\ y'`;", "", "", "", ""]), 8),
-    ((0, ["x # y", "", "", "", ""]), 10_002),
-    ((300, ["", "(", "", "", ""]), 300),
-    ((4096, ["", "x ", "", "", ""]), 4096),
-    ((4097, ["", "x ", "", "", ""]), 18_192),
-];
-
-#[test]
-fn lexes(rt: HostRuntime) -> Result<(), Fail> {
-    for row in &LEXED {
-        assert!(rt; is_lexed(rt.alloc(), row)?, "{}", row.1);
     }
     Ok(())
 }

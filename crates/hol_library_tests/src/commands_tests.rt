@@ -1,9 +1,7 @@
-//! Which texts are one command, and copies of calls and pairs.
-use hol_notation::{
-    Command, CommandNode, DirectCommand, LocalCommand, SyntaxError, TacArgNode, TacCall,
-    TacExprNode, ThmExprNode, TypePair, read_command,
-};
-use std::alloc::{AllocError, Global};
+//! Which texts are one command.
+use hol_notation_commands::{Command, CommandNode, DirectCommand, LocalCommand, read_command};
+use hol_notation_tokens::SyntaxError;
+use std::alloc::Global;
 use std::hash::{DefaultHasher, Hash, Hasher};
 use std::test::Fail;
 
@@ -170,47 +168,16 @@ fn are_same(command: &Command, other: &Command) -> bool {
     }
 }
 
-// The call that the command is, if it is one.
-fn call_of(command: &Command) -> Option<&TacCall> {
-    let CommandNode::Local(LocalCommand::Apply(tactic)) = command.node() else {
-        return None;
-    };
-    let TacExprNode::Call(call) = tactic.node() else {
-        return None;
-    };
-    Some(call)
+// Whether the text is the command.
+fn is_read_as(alloc: Global, command: &Command, text: &str) -> Result<bool, SyntaxError> {
+    let other = read_command(alloc, text)?;
+    Ok(are_same(command, &other))
 }
 
-// The first pair of the call's first argument, if it has one.
-fn pair_of(call: &TacCall) -> Option<&TypePair> {
-    let TacArgNode::Theorem(theorem) = call.arguments.first()?.node() else {
-        return None;
-    };
-    let ThmExprNode::InstType(pairs, _) = theorem.node() else {
-        return None;
-    };
-    pairs.first()
-}
-
-fn is_pair_copied(call: &TacCall) -> Result<bool, AllocError> {
-    match pair_of(call) {
-        Some(pair) => Ok(pair.same(&pair.copy()?)),
-        None => Ok(true),
-    }
-}
-
-fn is_call_copied(alloc: Global, command: &Command) -> Result<bool, AllocError> {
-    match call_of(command) {
-        Some(call) => Ok(call.same(&call.copy(alloc)?) && is_pair_copied(call)?),
-        None => Ok(true),
-    }
-}
-
-/// Whether the two texts are one command, which then is hashed alike and whose call is the same as its copy.
+/// Whether the two texts are one command, which then is hashed alike.
 pub(crate) fn are_alike(alloc: Global, text: &str, other: &str) -> Result<bool, SyntaxError> {
     let command = read_command(alloc, text)?;
-    let other = read_command(alloc, other)?;
-    Ok(are_same(&command, &other) && is_call_copied(alloc, &command)?)
+    is_read_as(alloc, &command, other)
 }
 
 // Whether the texts are alike, or are not, as the row says.
