@@ -7,6 +7,8 @@ mod copies_tests;
 #[cfg(test)]
 mod layers_tests;
 #[cfg(test)]
+mod names_tests;
+#[cfg(test)]
 mod registries_tests;
 #[cfg(test)]
 mod rewriting_tests;

@@ -6,7 +6,7 @@ ghost use Rattle.hol_just.specs.Answering.{AnswersCode, IsJustified};
 
 use crate::steps::first_unmet;
 use hol_exec::{Meter, Setup};
-use hol_goal::{Goal, TacArgs, TacCode};
+use hol_goal::{Goal, Names, TacArgs, TacCode};
 use hol_just::{TacFault, Tried};
 use hol_prelude::Prelude;
 use hol_registry::{Entry, Registry, RegistryError};
@@ -15,11 +15,17 @@ use std::rc::Rc;
 use std::test::Fail;
 
 // NO_TAC.
-fn never(args: &TacArgs, goal: &Goal, turns: u32) -> Result<Tried, TacFault>
-    ensures answer { AnswersCode code.NoTac (args_value args.now) goal.now turns result }
+fn never(
+    alloc: Global,
+    args: &TacArgs,
+    goal: &Goal,
+    names: &Names,
+    turns: u32,
+) -> Result<Tried, TacFault>
+    ensures answer { AnswersCode code.NoTac (args_value args.now) goal.now names.now turns result }
     ensures valid { IfOk result (λ tried. IsJustified (args_value args.now) goal.now tried.step) }
 {
-    Err(TacFault::Refused(turns))
+    Err(TacFault::Refused(turns, Vec::new(alloc)))
 }
 
 // A registry of NO_TAC under these names, or the name that stands twice.
@@ -30,7 +36,13 @@ fn registered(
     let mut entries = Vec::new(alloc);
     for name in names {
         let name = String::from_str(alloc, name)?;
-        entries.push(Entry::new(name, TacCode::NoTac, Box::new(alloc, never)?))?;
+        let tac = Box::new(
+            alloc,
+            move |args: &TacArgs, goal: &Goal, names: &Names, turns: u32| {
+                never(alloc, args, goal, names, turns)
+            },
+        )?;
+        entries.push(Entry::new(name, TacCode::NoTac, tac))?;
     }
     Ok(Registry::new(entries))
 }
