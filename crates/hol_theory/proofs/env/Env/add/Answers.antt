@@ -19,4 +19,4 @@ invariant_of-self-2 c =
     theory_grown c.self.inside.older c.self.inside.newest c.args.self.now ((c.args.key.now, c.args.value.now) ∷ []) c.add.new.self c.self.view_is
     (c.in_ok-add.ensures.ok ∙ ap (λ (e : KeyValue × EntryValue). c.self.inside.newest ++ e ∷ []) c.in_ok-key.ensures)
     c.in_ok-count.count 1 c.add_name.new.names c.self.invariant.0 c.self.invariant.1 (none, tt) (c.requires none) refl c.in_ok-count.ensures
-    (names_with_one c.args.self.now c.args.key.now c.args.value.now c.in_ok-names.names c.add_name.new.names (c.in_ok-names.ensures ∙ c.self.invariant.3 ∙ ap constant_names c.self.view_is) c.in_ok-add_name.ensures.ok)
+    (names_with_one c.args.self.now c.args.key.now c.args.value.now c.in_ok-names.names c.add_name.new.names (c.in_ok-names.ensures ∙ c.self.invariant.3 ∙ ap constant_names c.self.view_is) c.in_ok-add_name.ensures)

@@ -8,7 +8,7 @@ loop-entry-init c = names_start c.args.self.now c.args.more.now c.in_ok-names.na
 
 pub loop-entry-preserved : goal.loop-entry-preserved
 loop-entry-preserved c =
-    names_step c.args.more.now c.loop-entry.entry-index c.entry-item.result c.loop-entry.names c.add_name.new.names (constant_names (c.args.self.now ++ c.args.more.now)) c.loop-entry-test.true c.entry-item.is c.in_ok-add_name.ensures.ok c.loop-entry.invariant
+    names_step c.args.more.now c.loop-entry.entry-index c.entry-item.result c.loop-entry.names c.add_name.new.names (constant_names (c.args.self.now ++ c.args.more.now)) c.loop-entry-test.true c.entry-item.is c.in_ok-add_name.ensures c.loop-entry.invariant
 
 pub returns : goal.returns
 returns c = names_end c.args.more.now c.loop-entry.entry-index c.loop-entry.names (constant_names (c.args.self.now ++ c.args.more.now)) c.loop-entry-test.false c.loop-entry.invariant
