@@ -27,10 +27,10 @@ module _ (f : List ℕ × Bool → Bool) (xs : TestedValue) (i : ℕ) where
   all_at x h at = ap (list_all f) (drop_more xs i x h ∙ ap (λ (y : List ℕ × Bool). y ∷ drop (i + 1) xs) (sym at))
 
   pub all_not : (x : List ℕ × Bool) → i < length xs → x ≡ get_or xs i x → list_all f xs ≡ list_all f (drop i xs) → f x ≡ false → false ≡ list_all f xs
-  all_not x h at so no = sym (so ∙ all_at x h at ∙ ap (λ b. b && list_all f (drop (i + 1) xs)) no)
+  all_not x h at so differs = sym (so ∙ all_at x h at ∙ ap (λ b. b && list_all f (drop (i + 1) xs)) differs)
 
   pub all_on : (x : List ℕ × Bool) → i < length xs → x ≡ get_or xs i x → list_all f xs ≡ list_all f (drop i xs) → f x ≡ true → list_all f xs ≡ list_all f (drop (i + 1) xs)
-  all_on x h at so yes = so ∙ all_at x h at ∙ ap (λ b. b && list_all f (drop (i + 1) xs)) yes
+  all_on x h at so fits = so ∙ all_at x h at ∙ ap (λ b. b && list_all f (drop (i + 1) xs)) fits
 
   pub all_end : length xs ≤ i → list_all f xs ≡ list_all f (drop i xs) → true ≡ list_all f xs
   all_end h so = sym (so ∙ ap (list_all f) (drop_all i xs h))

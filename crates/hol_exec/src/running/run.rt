@@ -11,8 +11,8 @@ ghost use Rattle.hol_exec.specs.SetupView.{setup_value};
 ghost use Rattle.hol_kernel.specs.Items.{Items};
 ghost use Rattle.hol_goal.specs.Goal.{GoalValue};
 ghost use Rattle.hol_combine.specs.Runs.{RunValue};
-ghost use Rattle.hol_combine.specs.RunView.{IsError};
-ghost use Rattle.hol_exec.specs.Local.{IsLocalOutcome, IsOpening, IsApplying, given_by, run_outcome, opens, opens_term, applied, finishes, finished};
+ghost use Rattle.hol_combine.specs.RunView.{refusal_value, IsError};
+ghost use Rattle.hol_exec.specs.Local.{IsLocalOutcome, IsOpening, IsApplying, given_by, refused_outcome, run_outcome, opens, opens_term, applied, finishes, finished};
 ghost use Rattle.hol_exec.specs.Signature.{signature_of};
 ghost use Rattle.hol_exec.specs.Resolved.{resolved_basis};
 ghost use Rattle.hol_exec.specs.Standing.{first_taken};
@@ -214,15 +214,20 @@ fn not_left(alloc: Global, error: RunError) -> Result<(Outcome, Vec<Name>), Allo
     ensures { (run : RunValue) (names : List (List ℕ)) (goal : GoalValue) (basis : Items) → IsError run error → IfOk result (λ r. given_by names r.0 r.1.items ≡ run_outcome names goal basis run) }
 {
     match error {
-        RunError::Refused(Refusal::DoesNotFit(name), _, tested) => {
-            Ok((Outcome::refuses(RefusalKind::Refused, name), tested))
-        }
-        RunError::Refused(Refusal::LacksHyps(name), _, tested) => {
-            Ok((Outcome::refuses(RefusalKind::HypsNotAssumed, name), tested))
-        }
+        RunError::Refused(refusal, _, tested) => Ok((refused_by(refusal), tested)),
         RunError::TurnLimit(tested) => Ok((refused(alloc, RefusalKind::TurnLimit), tested)),
         RunError::LargeGoal(tested) => Ok((refused(alloc, RefusalKind::TooLarge), tested)),
         RunError::Memory => Err(AllocError),
+    }
+}
+
+// The outcome of a refusal.
+fn refused_by(refusal: Refusal) -> Outcome
+    ensures { result ≡ refused_outcome (refusal_value refusal) }
+{
+    match refusal {
+        Refusal::DoesNotFit(name) => Outcome::refuses(RefusalKind::Refused, name),
+        Refusal::LacksHyps(name) => Outcome::refuses(RefusalKind::HypsNotAssumed, name),
     }
 }
 
