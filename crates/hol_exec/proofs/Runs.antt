@@ -8,15 +8,11 @@ use Rattle.hol_exec.specs.Signature.{signature_of}
 use Rattle.hol_resolve.specs.Reading.{ReadingValue, IsTermReadAs}
 use Rattle.hol_exec.specs.ReadsValue.{ReadsValue}
 use Rattle.hol_exec.specs.Expr.{ResolutionValue, IsResolution}
-use Rattle.hol_exec.specs.OutcomeValue.{OutcomeValue, Leaves}
-use Rattle.hol_exec.specs.Local.{LocalValue, given_by, opens_read, IsOpening, refused_outcome, stopped_outcome, run_outcome, applied, resolved_outcome, IsApplying}
+use Rattle.hol_exec.specs.OutcomeValue.{OutcomeValue}
+use Rattle.hol_exec.specs.Local.{LocalValue, given_by, opens_read, IsOpening, refused_outcome, stopped_outcome, run_outcome, resolved_outcome, IsApplying}
 use Rattle.hol_kernel.specs.Items.{Items}
-use Rattle.hol_goal.specs.Answer.{starting}
 use Rattle.hol_goal.specs.Goal.{GoalValue}
-use Rattle.hol_goal.specs.declared.tac_code.TacCode.{TacCode}
-use Rattle.hol_combine.specs.Agreeing.{known}
-use Rattle.hol_combine.specs.ExprValue.{ExprValue}
-use Rattle.hol_combine.specs.Runs.{RunValue, TurnLimit, LargeGoal, run as run_of}
+use Rattle.hol_combine.specs.Runs.{RunValue, TurnLimit, LargeGoal}
 use Rattle.hol_combine.specs.Runs as runs
 use Rattle.hol_combine.specs.RunView.{refusal_value, using, IsError}
 use Rattle.hol_combine.specs.declared.ran.Refusal.{Refusal}
@@ -60,17 +56,3 @@ module _ (names : List (List ℕ)) (goal : GoalValue) (basis : Items) (run : Run
   large_as tested o is told h =
       let ends : run ≡ runs.Stops LargeGoal tested.items = subst (IsError run) is h in
       ap (λ (x : OutcomeValue). given_by names x tested.items) told ∙ sym (ap (run_outcome names goal basis) ends)
-
--- ---- what a run on the goal that is read ends with, by the set-up's table and turns
-
-module _ (setup : SetupValue) (names : List (List ℕ)) (goal : GoalValue) (read : Option GoalValue) (expr : ExprValue) (basis : Items) (table : List (List ℕ × TacCode)) (turns : ℕ)
-    (reads : read ≡ Some goal) (knows : table ≡ setup.table) (starts : turns ≡ setup.turns) where
-  pub run_given : (given : LocalValue) → given ≡ run_outcome names goal basis (run_of (known table names) expr goal (starting turns)) → given ≡ applied setup names read expr basis
-  run_given given e =
-      let same : run_outcome names goal basis (run_of (known table names) expr goal (starting turns)) ≡ run_outcome names goal basis (run_of (known setup.table names) expr goal (starting setup.turns)) =
-      λ i. run_outcome names goal basis (run_of (known (knows i) names) expr goal (starting (starts i))) in
-      e ∙ same ∙ ap (λ (o : Option GoalValue). applied setup names o expr basis) (sym reads)
-
-  pub left_given : (goals : List GoalValue) (left : ℕ) (tested : List (List ℕ)) (o : OutcomeValue) → run_of (known table names) expr goal (starting turns) ≡ runs.Leaves goals (using left tested) → o ≡ Leaves goal goals basis →
-      given_by names o tested ≡ applied setup names read expr basis
-  left_given goals left tested o ends is = run_given (given_by names o tested) (ap (λ (x : OutcomeValue). given_by names x tested) is ∙ sym (ap (run_outcome names goal basis) ends))

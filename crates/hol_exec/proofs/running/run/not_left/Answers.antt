@@ -8,4 +8,4 @@ pub returns-in-TurnLimit : goal.returns-in-TurnLimit
 returns-in-TurnLimit c = λ run names goal basis h. out_of_turns_as names goal basis run c.args.error c.in-TurnLimit.tested c.refused.result c.in-TurnLimit.is c.refused.ensures h
 
 pub returns-in-LargeGoal : goal.returns-in-LargeGoal
-returns-in-LargeGoal c = λ run names goal basis h. large_as names goal basis run c.args.error c.in-LargeGoal.tested c.refused.result c.in-LargeGoal.is c.refused.ensures h
+returns-in-LargeGoal c = λ run names goal basis h. large_as names goal basis run c.args.error c.in-LargeGoal.tested c.refused-in-LargeGoal.result c.in-LargeGoal.is c.refused-in-LargeGoal.ensures h
