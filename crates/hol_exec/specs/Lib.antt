@@ -28,6 +28,7 @@ pub mod ChangedKeys
 pub mod Filters
 pub mod Defining
 pub mod Making
+pub mod Tested
 pub mod Local
 pub mod At
 pub mod Valid

@@ -9,6 +9,8 @@ mod copies_tests;
 #[cfg(test)]
 mod limits_tests;
 #[cfg(test)]
+mod names_tests;
+#[cfg(test)]
 mod reductions_tests;
 #[cfg(test)]
 mod steps_tests;

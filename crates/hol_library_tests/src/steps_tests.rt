@@ -51,7 +51,7 @@ fn is_carried_out(
     requires keys { AreKeyed (local_text command.now) reads.now }
     requires reads { reads.now ≡ reads_of (local_text command.now) state.old }
 {
-    let outcome = run_local(alloc, meter, command, reads)?;
+    let (outcome, _tested) = run_local(alloc, meter, command, reads, state.env().names())?;
     apply(alloc, state, &outcome)?;
     are_copied(alloc, reads, &outcome)
 }

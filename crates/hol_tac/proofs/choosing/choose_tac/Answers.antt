@@ -1,8 +1,8 @@
 use Rattle.std.specs.Prelude.{List, ℕ}
-use Rattle.std.proofs.Common.{[], ◌∷◌, refl}
+use Rattle.std.proofs.Common.{[], ◌∷◌, ap, refl}
 use Rattle.hol_types.specs.Tree.{TypeTree}
 use Rattle.hol_terms.specs.Nameless.{free, nameless, base_of}
-use Rattle.hol_just.specs.FreeNames.{free_name}
+use Rattle.hol_just.specs.Fresh.{fresh}
 use Rattle.hol_just.specs.QuantifierTacs.{terms_by, assuming_of}
 use Rattle.hol_formulas.specs.Formula.{Abstraction}
 use Rattle.hol_tac.proofs.Justified.{by_theorem_among}
@@ -13,7 +13,7 @@ pub returns-clause-valid : goal.returns-clause-valid
 returns-clause-valid c =
     let x = c.in-Some.x.now in
     let th = c.in-Theorem.th in
-    let v : List ℕ × TypeTree = (free_name (terms_by th c.args.goal.now) (base_of x.0), x.1) in
+    let v : List ℕ × TypeTree = ((fresh c.args.names.now (terms_by th c.args.goal.now) (base_of x.0)).name, x.1) in
     let property : Abstraction = record { base = base_of x.0; domain = x.1; body = nameless (x ∷ []) c.in-Some.p.now } in
-    by_theorem_among c.args.goal.now c.in_ok-step.step c.in_ok-step.step.just (assuming_of c.args.goal.now (free v) property ∷ []) refl c.in_ok-step.ensures.goals c.args.args.now th c.in-Theorem.is
+    by_theorem_among c.args.goal.now c.in_ok-step.step c.in_ok-step.step.just (assuming_of c.args.goal.now (free v) property ∷ []) refl (ap (λ r. r.0) c.in_ok-step.ensures.goals) c.args.args.now th c.in-Theorem.is
     (chosen_valid th c.args.goal.now (nameless [] c.concl.result.now) property v c.in_ok-step.step.just c.concl.ensures.concl c.in-Some.ensures.parts refl c.in_ok-step.ensures.absent c.in_ok-step.ensures.just)

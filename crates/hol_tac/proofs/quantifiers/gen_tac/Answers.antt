@@ -1,7 +1,7 @@
-use Rattle.std.proofs.Common.{[], ◌∷◌, refl}
+use Rattle.std.proofs.Common.{[], ◌∷◌, ap, refl}
 use Rattle.hol_terms.specs.Nameless.{free, nameless, base_of}
 use Rattle.hol_subst.specs.Closing.{open_with}
-use Rattle.hol_just.specs.FreeNames.{free_name}
+use Rattle.hol_just.specs.Fresh.{fresh}
 use Rattle.hol_just.specs.Leaving.{concluding, goal_terms}
 use Rattle.hol_tac.proofs.Justified.{by_nothing}
 use Rattle.hol_tac.proofs.QuantifierLaws.{gen_valid}
@@ -10,8 +10,8 @@ use Rattle.hol_tac.proofs.quantifiers.gen_tac.Goals as goal
 pub returns-clause-valid : goal.returns-clause-valid
 returns-clause-valid c =
     let x = c.in-Some.x.now in
-    let name = free_name (goal_terms c.args.goal.now) (base_of x.0) in
+    let name = (fresh c.args.names.now (goal_terms c.args.goal.now) (base_of x.0)).name in
     let body = nameless (x ∷ []) c.in-Some.p.now in
-    by_nothing c.args.goal.now c.in_ok-step.step c.in_ok-step.step.just (concluding c.args.goal.now (open_with (free (name, x.1)) 0 body) ∷ []) refl c.in_ok-step.ensures.goals c.args.args.now c.in-Nothing.is
+    by_nothing c.args.goal.now c.in_ok-step.step c.in_ok-step.step.just (concluding c.args.goal.now (open_with (free (name, x.1)) 0 body) ∷ []) refl (ap (λ r. r.0) c.in_ok-step.ensures.goals) c.args.args.now c.in-Nothing.is
     (gen_valid c.args.goal.now (nameless [] c.conclusion.result.now) c.conclusion.ensures.term c.in_ok-step.step.just (record { base = base_of x.0; domain = x.1; body = body }) (name, x.1) c.in-Some.ensures.parts refl
     c.in_ok-step.ensures.absent c.in_ok-step.ensures.just)
