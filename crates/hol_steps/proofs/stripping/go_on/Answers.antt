@@ -1,4 +1,4 @@
-use Rattle.std.specs.Prelude.{◌≡◌, None}
+use Rattle.std.specs.Prelude.{◌≡◌, None, reverse}
 use Rattle.std.proofs.Common.{[], map, rules, ap, ◌∙◌}
 use Rattle.hol_terms.specs.Nameless.{nameless}
 use Rattle.hol_goal.specs.UsedView.{used_value}
@@ -18,15 +18,15 @@ returns-in-RunsOut c =
     let others = avoiding (map (nameless []) c.args.others.now) c.args.names.now in
     let n = nameless [] c.in-Some.piece in
     let rest = c.take.new.self in
-    let none : Becomes others n rest (used_value c.take_used.result) (piece rest.goal n) (becoming.RunsOut c.in-RunsOut.tested) = search rules in
-    λ avoided alike. none_goes avoided n rest c.args.next (progress_value c.args.progress.now) c.in-Some.ensures.first (used_value c.take_used.result) c.in-RunsOut.tested.items c.take_used.ensures.used none.1 (none.0 avoided)
+    let none : Becomes others n rest (used_value c.take_used-used.result) (piece rest.goal n) (becoming.RunsOut c.in-RunsOut.tested) = search rules in
+    λ avoided alike. none_goes avoided n rest c.args.next (progress_value c.args.progress.now) c.in-Some.ensures.first (used_value c.take_used-used.result) c.in-RunsOut.tested.items c.take_used-used.ensures.used none.1 (none.0 avoided)
 
-pub returns-in-Parts : goal.returns-in-Parts
-returns-in-Parts c =
+pub returns-in_ok-again-in-Parts : goal.returns-in_ok-again-in-Parts
+returns-in_ok-again-in-Parts c =
     let others = avoiding (map (nameless []) c.args.others.now) c.args.names.now in
     let n = nameless [] c.in-Some.piece in
     let rest = c.take.new.self in
     let parts = c.in-Parts.parts in
-    let all : ArePartsBy others n rest (used_value c.take_used.result) (piece rest.goal n) parts = search rules in
-    λ avoided alike. parts_go avoided n rest c.args.next (progress_value c.args.progress.now) c.in-Some.ensures.first (used_value c.take_used.result) parts (progress_value c.again.new.self) c.take_used.ensures.used (all avoided alike)
-    (c.in_ok-again.ensures ∙ ap (λ (p : ProgressValue). again p _ parts.just (used_value parts.used)) c.take_used.ensures.rest)
+    let all : ArePartsBy others n rest (used_value c.take_used-used.result) (piece rest.goal n) parts = search rules in
+    λ avoided alike. parts_go avoided n rest c.args.next (progress_value c.args.progress.now) c.in-Some.ensures.first (used_value c.take_used-used.result) parts (progress_value c.again.new.self) c.take_used-used.ensures.used (all avoided alike)
+    (c.in_ok-again-in-Parts.ensures ∙ ap (λ (p : ProgressValue). again p (reverse parts.waiting.items) parts.just (used_value parts.used)) c.take_used-used.ensures.rest)
