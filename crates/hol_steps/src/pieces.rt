@@ -141,11 +141,12 @@ fn property(
     ensures { IfOk result (λ parts. (avoided : AvoidedValue) → IsNewBy avoided (nameless [] piece.now) rest x.now v.variable v.tested.items → AreParts avoided (nameless [] piece.now) rest (used_value used) (Property (abstraction_of x.now p.now)) parts) }
 {
     let FreshVariable { variable, tested } = v;
+    let used = tested_more(used, tested)?;
     let just = Just::choose_tac(alloc, &variable, &assumption(piece)?)?;
     let chosen = at(alloc, x, p, &occurrence(alloc, &variable)?)?;
     let mut rest = rest;
     rest.put(&chosen)?;
-    one_part(alloc, rest, just, tested_more(used, tested)?)
+    one_part(alloc, rest, just, used)
 }
 
 // These names were tested too, after the others.

@@ -13,16 +13,16 @@ pub returns-in_default : goal.returns-in_default
 returns-in_default c = λ avoided alike.
     done_goes avoided c.args.next c.take.new.self (progress_value c.args.progress.now) (progress_value c.finish.new.self) c.into_goal.result c.in_default.ensures.first.0 c.in_default.ensures.first.1 c.into_goal.ensures c.in_ok-finish.ensures
 
-pub returns-in-RunsOut : goal.returns-in-RunsOut
-returns-in-RunsOut c =
+pub returns : goal.returns
+returns c =
     let others = avoiding (map (nameless []) c.args.others.now) c.args.names.now in
     let n = nameless [] c.in-Some.piece in
     let rest = c.take.new.self in
     let none : Becomes others n rest (used_value c.take_used-used.result) (piece rest.goal n) (becoming.RunsOut c.in-RunsOut.tested) = search rules in
     λ avoided alike. none_goes avoided n rest c.args.next (progress_value c.args.progress.now) c.in-Some.ensures.first (used_value c.take_used-used.result) c.in-RunsOut.tested.items c.take_used-used.ensures.used none.1 (none.0 avoided)
 
-pub returns-in_ok-again-in-Parts : goal.returns-in_ok-again-in-Parts
-returns-in_ok-again-in-Parts c =
+pub returns-in-Parts : goal.returns-in-Parts
+returns-in-Parts c =
     let others = avoiding (map (nameless []) c.args.others.now) c.args.names.now in
     let n = nameless [] c.in-Some.piece in
     let rest = c.take.new.self in
