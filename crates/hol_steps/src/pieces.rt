@@ -11,7 +11,7 @@ ghost use Rattle.hol_goal.specs.Answer.{testing};
 ghost use Rattle.hol_goal.specs.UsedView.{used_value};
 ghost use Rattle.hol_just.specs.Strip.{AvoidedValue, avoiding, Conjuncts, Disjuncts, Property, Kept, plain_piece, piece};
 ghost use Rattle.hol_steps.specs.Fresh.{AreAlike, AvoidAlike, IsNewBy, abstraction_of};
-ghost use Rattle.hol_steps.specs.Parts.{AreParts, ArePartsBy, Becomes};
+ghost use Rattle.hol_steps.specs.Parts.{AreParts, Becomes};
 
 use crate::fresh::{FreshVariable, fresh_variable};
 use crate::quantifiers::at;

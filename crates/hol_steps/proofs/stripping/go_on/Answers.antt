@@ -1,10 +1,10 @@
-use Rattle.std.specs.Prelude.{◌≡◌, None, reverse}
+use Rattle.std.specs.Prelude.{reverse}
 use Rattle.std.proofs.Common.{[], map, rules, ap, ◌∙◌}
 use Rattle.hol_terms.specs.Nameless.{nameless}
 use Rattle.hol_goal.specs.UsedView.{used_value}
 use Rattle.hol_just.specs.Strip.{avoiding, piece}
 use Rattle.hol_steps.specs.Parts.{ArePartsBy, Becomes}
-use Rattle.hol_steps.specs.Progress.{ProgressValue, progress_value, without_used, again}
+use Rattle.hol_steps.specs.Progress.{ProgressValue, progress_value, again}
 use Rattle.hol_steps.specs.declared.pieces.Becoming.TheVariants as becoming
 use Rattle.hol_steps.proofs.ProgressLaws.{done_goes, parts_go, none_goes}
 use Rattle.hol_steps.proofs.stripping.go_on.Goals as goal
