@@ -3,13 +3,14 @@ use Rattle.std.specs.Prelude.{◌≡◌, ℕ, false, ◌||◌, List, [], ◌∷�
 use Rattle.std.proofs.lemmas.Bool.{or_parts}
 use Rattle.hol_match.proofs.Apartness.{name_free}
 use Rattle.hol_types.specs.Tree.{TypeTree}
-use Rattle.hol_terms.specs.Nameless.{Nameless}
+use Rattle.hol_terms.specs.Nameless.{Nameless, base_of}
 use Rattle.hol_subst.specs.FreeName.{has_name, is_taken}
 use Rattle.hol_subst.specs.Variant.{is_free_in}
+use Rattle.hol_just.specs.Fresh.{fresh}
 use Rattle.hol_just.specs.Strip.{AvoidedValue, avoiding, WaitingValue}
 use Rattle.hol_steps.specs.Fresh.{AreAlike, AvoidAlike, IsFresh, IsNewBy, terms_of}
 use Rattle.hol_steps.specs.declared.fresh.FreshVariable.{FreshVariable}
-use Rattle.std.proofs.Common.{subst}
+use Rattle.std.proofs.Common.{ap, sym, ◌∙◌, subst}
 pub use Rattle.hol_match.proofs.FreshNames.{not_taken, is_free_name}
 
 -- ---- a variable of a name that is not taken is not free
@@ -19,6 +20,18 @@ not_free [] a s h = refl
 not_free (n ∷ avoid) a s h =
     let p = or_parts (has_name a n) (is_taken avoid a) h in
     λ i. name_free a s n p.0 i || not_free avoid a s p.1 i
+
+-- a variable of the name that is found
+pub fresh_variable_is :
+    (standing : List (List ℕ)) (terms : List Nameless) (x v : List ℕ × TypeTree) (base name : List ℕ) (tested : List (List ℕ)) (s : TypeTree) → base ≡ base_of x.0 → s ≡ x.1 → v ≡ (name, s) →
+    ((others : List Nameless) → AreAlike terms others → fresh standing others base ≡ record { name = name; tested = tested }) → is_taken terms name ≡ false →
+    (others : List Nameless) → AreAlike terms others → IsFresh standing others x v tested
+fresh_variable_is standing terms x v base name tested s based typed is found absent others alike =
+    record {
+      is = ap (fresh standing others) (sym based) ∙ found others alike ∙ (λ i. record { name = (sym is i).0; tested = tested });
+      typed = ap (λ (u : List ℕ × TypeTree). u.1) is ∙ typed;
+      absent = subst (λ (u : List ℕ × TypeTree). is_free_in others u ≡ false) (sym is) (not_free others name s (sym (alike name) ∙ absent));
+    }
 
 -- ---- what calls say
 

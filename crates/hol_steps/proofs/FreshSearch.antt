@@ -1,17 +1,17 @@
 -- The search for a new name, one tested name after the other.
-use Rattle.std.specs.Prelude.{◌≡◌, ◌≤◌, ◌<◌, ◌+◌, ℕ, zero, suc, Bool, true, false, cond, codes, List, [], ◌∷◌, ◌++◌, length, refl}
+use Rattle.std.specs.Prelude.{◌≡◌, ◌<◌, ◌+◌, ℕ, zero, suc, Bool, true, false, cond, codes, List, [], ◌∷◌, ◌++◌, length, refl}
 use Rattle.std.proofs.Common.{ap, sym, ◌∙◌, subst, arith}
 use Rattle.std.proofs.lemmas.List.{append_assoc}
 use Rattle.hol_terms.specs.Nameless.{Nameless}
 use Rattle.hol_terms.specs.Primes.{HasFewestPrimes}
-use Rattle.hol_subst.specs.FreeName.{is_taken, IsFreeName}
+use Rattle.hol_subst.specs.FreeName.{IsFreeName}
 use Rattle.hol_formulas.specs.Constants.{prelude_constants}
 use Rattle.hol_goal.specs.Names.{stands}
 use Rattle.hol_just.specs.FreeNames.{free_name}
 use Rattle.hol_just.specs.Fresh.{FreshValue, after_testing, fresh_in, fresh}
 use Rattle.hol_just.proofs.FreshLaws.{constants_from, fewer_constants, one_constant_fewer, free_name_longer, prime_longer, new_names}
 use Rattle.hol_steps.specs.Fresh.{AreAlike}
-use Rattle.hol_steps.proofs.FreshNames.{not_taken, is_free_name}
+use Rattle.hol_steps.proofs.FreshNames.{is_free_name}
 
 -- these were tested before
 abbrev pub after_all : List (List ℕ) → FreshValue → FreshValue

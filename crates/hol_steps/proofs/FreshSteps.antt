@@ -2,10 +2,8 @@
 use Rattle.std.specs.Prelude.{◌≡◌, ℕ, false, List, [], ◌∷◌}
 use Rattle.std.proofs.Common.{ap, sym, ◌∙◌, subst}
 use Rattle.hol_types.specs.Tree.{TypeTree}
-use Rattle.hol_terms.specs.Nameless.{Nameless, free, base_of}
-use Rattle.hol_subst.specs.Closing.{open_with}
+use Rattle.hol_terms.specs.Nameless.{Nameless, base_of}
 use Rattle.hol_subst.specs.Variant.{is_free_in}
-use Rattle.hol_formulas.specs.Formula.{Abstraction}
 use Rattle.hol_goal.specs.Goal.{GoalValue}
 use Rattle.hol_just.specs.Fresh.{FreshValue, fresh}
 use Rattle.hol_steps.specs.Fresh.{IsFresh}

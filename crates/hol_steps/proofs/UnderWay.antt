@@ -1,11 +1,11 @@
 -- Stripping under way: what it comes to stays, and its moves stay valid.
-use Rattle.std.specs.Prelude.{◌≡◌, ◌<◌, ℕ, List, [], ◌∷◌, Option, Some, None, refl}
+use Rattle.std.specs.Prelude.{◌≡◌, ◌<◌, ℕ, Bool, List, [], ◌∷◌, Option, Some, None, refl}
+use Rattle.std.specs.Option.{option_map}
 use Rattle.std.proofs.Common.{sym, ◌∙◌, subst}
-use Rattle.hol_terms.specs.Nameless.{Nameless}
 use Rattle.hol_kernel.specs.Items.{Items}
 use Rattle.hol_kernel.specs.Sequent.{Hyps}
 use Rattle.hol_goal.specs.Goal.{GoalValue}
-use Rattle.hol_goal.specs.Answer.{UsedValue, starting}
+use Rattle.hol_goal.specs.Answer.{starting}
 use Rattle.hol_just.specs.Strip.{AvoidedValue, WaitingValue, Leaves, RunsOut, strip}
 use Rattle.hol_just.specs.Valid.{IsValid}
 use Rattle.hol_just.specs.declared.reason.Move.{Move}
@@ -16,6 +16,11 @@ use Rattle.hol_steps.specs.Parts.{with_pieces}
 use Rattle.hol_steps.specs.Progress.{ProgressValue, started, with_next, comes_to, all_goals, Goes}
 use Rattle.hol_steps.specs.Stripping.{KeepsValid}
 use Rattle.hol_steps.proofs.ProgressLaws.{start_same, end_same, end_goals}
+
+-- turns didn't run out
+pub none_told : {X : Type 0} (f : X → List (List ℕ)) (o : Option X) → ((x : X) → o ≡ Some x → ⊥) → None ≡ option_map f o
+none_told f None none = refl
+none_told f (Some x) none = absurd (none x refl)
 
 pub record IsUnderWay (others : AvoidedValue) (before : List Move) (first : WaitingValue) (turns : ℕ) (p : ProgressValue) : Type 0 where
   pub same : (avoided : AvoidedValue) → AvoidAlike others avoided → comes_to avoided p ≡ strip avoided first (starting turns)

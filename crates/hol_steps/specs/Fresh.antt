@@ -9,7 +9,7 @@ use Rattle.hol_subst.specs.FreeName.{is_taken}
 use Rattle.hol_subst.specs.Variant.{is_free_in}
 use Rattle.hol_formulas.specs.Formula.{Abstraction}
 use Rattle.hol_kernel.specs.Sequent.{Hyps}
-use Rattle.hol_just.specs.Fresh.{FreshValue, fresh}
+use Rattle.hol_just.specs.Fresh.{fresh}
 use Rattle.hol_just.specs.Leaving.{goal_terms}
 use Rattle.hol_just.specs.Strip.{AvoidedValue, WaitingValue}
 

@@ -11,7 +11,7 @@ ghost use Rattle.hol_goal.specs.Answer.{testing};
 ghost use Rattle.hol_goal.specs.UsedView.{used_value};
 ghost use Rattle.hol_just.specs.Strip.{AvoidedValue, avoiding, Conjuncts, Disjuncts, Property, Kept, plain_piece, piece};
 ghost use Rattle.hol_steps.specs.Fresh.{AreAlike, AvoidAlike, IsNewBy, abstraction_of};
-ghost use Rattle.hol_steps.specs.Parts.{AreParts, ArePartsBy, Becomes};
+ghost use Rattle.hol_steps.specs.Parts.{AreParts, Becomes};
 
 use crate::fresh::{FreshVariable, fresh_variable};
 use crate::quantifiers::at;
@@ -141,11 +141,12 @@ fn property(
     ensures { IfOk result (λ parts. (avoided : AvoidedValue) → IsNewBy avoided (nameless [] piece.now) rest x.now v.variable v.tested.items → AreParts avoided (nameless [] piece.now) rest (used_value used) (Property (abstraction_of x.now p.now)) parts) }
 {
     let FreshVariable { variable, tested } = v;
+    let used = tested_more(used, tested)?;
     let just = Just::choose_tac(alloc, &variable, &assumption(piece)?)?;
     let chosen = at(alloc, x, p, &occurrence(alloc, &variable)?)?;
     let mut rest = rest;
     rest.put(&chosen)?;
-    one_part(alloc, rest, just, tested_more(used, tested)?)
+    one_part(alloc, rest, just, used)
 }
 
 // These names were tested too, after the others.

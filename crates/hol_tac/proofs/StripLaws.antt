@@ -5,7 +5,7 @@ use Rattle.std.specs.FinSet as set
 use Rattle.std.proofs.Common.{ap, sym, ◌∙◌, subst}
 use Rattle.std.proofs.lemmas.Bool.{or_parts}
 use Rattle.hol_terms.specs.Named.{Named}
-use Rattle.hol_terms.specs.Nameless.{Nameless, free, nameless, free_occurrences}
+use Rattle.hol_terms.specs.Nameless.{Nameless, nameless, free_occurrences}
 use Rattle.hol_terms.specs.Scoped.{binds}
 use Rattle.hol_subst.specs.FreeName.{has_name, is_taken}
 use Rattle.hol_subst.specs.Variant.{is_free_in}

@@ -14,13 +14,13 @@ x_choose_step-requires-clause-same c = c.in_ok-variable.ensures.typed
 
 pub returns-clause-goals : goal.returns-clause-goals
 returns-clause-goals c =
-    fresh_goals c.args.names.now (terms_by c.args.th.now c.args.goal.now) c.args.x.now c.in_ok-variable.variable c.in_ok-variable.tested.items c.in_ok-variable.ensures
+    fresh_goals c.args.names.now (terms_by c.args.th.now c.args.goal.now) c.args.x.now c.in_ok-variable.field-0.variable c.in_ok-variable.field-0.tested.items c.in_ok-variable.ensures
     (λ (u : List ℕ × TypeTree). assuming c.args.goal.now (open_with (free u) 0 (nameless (c.args.x.now ∷ []) c.args.p.now)) c.args.goal.now.conclusion) c.in_ok-x_choose_step.field-0.goals.items c.in_ok-x_choose_step.ensures.goals
 
 pub returns-clause-just : goal.returns-clause-just
 returns-clause-just c =
-    of_fresh_is c.args.names.now (terms_by c.args.th.now c.args.goal.now) c.args.x.now c.in_ok-variable.variable c.in_ok-variable.tested.items c.in_ok-variable.ensures (λ (u : List ℕ × TypeTree). LeavesChosen u c.args.th.now c.in_ok-x_choose_step.field-0.just) c.in_ok-x_choose_step.ensures.just
+    of_fresh_is c.args.names.now (terms_by c.args.th.now c.args.goal.now) c.args.x.now c.in_ok-variable.field-0.variable c.in_ok-variable.field-0.tested.items c.in_ok-variable.ensures (λ (u : List ℕ × TypeTree). LeavesChosen u c.args.th.now c.in_ok-x_choose_step.field-0.just) c.in_ok-x_choose_step.ensures.just
 
 pub returns-clause-absent : goal.returns-clause-absent
 returns-clause-absent c =
-    fresh_absent c.args.names.now (terms_by c.args.th.now c.args.goal.now) c.args.x.now c.in_ok-variable.variable c.in_ok-variable.tested.items c.in_ok-variable.ensures
+    fresh_absent c.args.names.now (terms_by c.args.th.now c.args.goal.now) c.args.x.now c.in_ok-variable.field-0.variable c.in_ok-variable.field-0.tested.items c.in_ok-variable.ensures

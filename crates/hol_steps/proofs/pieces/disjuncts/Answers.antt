@@ -1,5 +1,5 @@
-use Rattle.std.specs.Prelude.{◌-◌, List, ℕ}
-use Rattle.std.proofs.Common.{[], ◌∷◌, ap, sym, ◌∙◌, refl, subst}
+use Rattle.std.specs.Prelude.{◌-◌}
+use Rattle.std.proofs.Common.{[], ◌∷◌, ap, ◌∙◌, refl, subst}
 use Rattle.hol_terms.specs.Nameless.{nameless}
 use Rattle.hol_goal.specs.UsedView.{used_value}
 use Rattle.hol_just.specs.Strip.{WaitingValue, Disjuncts, waiting, split_by}

@@ -1,6 +1,5 @@
-use Rattle.std.specs.Prelude.{List, ℕ}
+use Rattle.std.specs.Prelude.{List}
 use Rattle.std.proofs.Common.{[], map, sym, subst}
-use Rattle.hol_types.specs.Tree.{TypeTree}
 use Rattle.hol_terms.specs.Named.{Named}
 use Rattle.hol_terms.specs.Nameless.{nameless}
 use Rattle.hol_steps.specs.Fresh.{AreAlike, terms_of}

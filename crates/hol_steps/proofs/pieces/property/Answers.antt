@@ -1,4 +1,4 @@
-use Rattle.std.specs.Prelude.{ℕ, List, Some}
+use Rattle.std.specs.Prelude.{Some}
 use Rattle.std.proofs.Common.{[], ◌∷◌, ap, sym, ◌∙◌, subst}
 use Rattle.hol_types.specs.Tree.{TypeTree}
 use Rattle.hol_terms.specs.Named.{Named}
@@ -34,4 +34,4 @@ returns c =
     (λ avoided new extra apart.
     chosen_valid n rest extra moves avoided.terms (abstraction_of x c.args.p.now) v apart c.requires.parts new.typed new.absent
     (subst (λ (th : Given). LeavesChosen v th moves) c.in_ok-assumption.ensures c.in_ok-just.ensures))
-    c.one_part.ensures.waiting c.one_part.ensures.just (used_value c.in_ok-tested_more.field-0) c.one_part.ensures.used c.in_ok-tested_more.ensures
+    c.one_part.ensures.waiting c.one_part.ensures.just (used_value c.in_ok-used.used) c.one_part.ensures.used c.in_ok-used.ensures

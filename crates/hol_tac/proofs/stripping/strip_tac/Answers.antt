@@ -51,5 +51,5 @@ returns-clause-answer c =
     let g = c.args.goal.now in
     let none : dest_forall g.conclusion ≡ None = not_found (dest_forall g.conclusion) (c.if-is_forall.ensures ∙ ap (λ (t : Nameless). is_some (dest_forall t)) c.conclusion.ensures.term) in
     let neither : dest_conj g.conclusion ≡ None = not_found (dest_conj g.conclusion) (c.if-is_conj.ensures ∙ ap (λ (t : Nameless). is_some (dest_conj t)) c.conclusion-2.ensures.term) in
-    subst (λ (a : TacArgs). AnswersCode code.StripTac (args_value a) g c.args.names.now c.args.turns (Err (Refused c.args.turns c.new.result))) (sym c.in-Nothing.is)
-    (strips_nothing g c.args.names.now c.args.turns (Err (Refused c.args.turns c.new.result)) none neither (ap dest_imp (sym c.conclusion-3.ensures.term) ∙ c.in_default-dest_imp.ensures.parts) (ap dest_neg (sym c.conclusion-4.ensures.term) ∙ c.in_default-dest_neg.ensures.part) (refl, c.new.ensures.items))
+    subst (λ (a : TacArgs). AnswersCode code.StripTac (args_value a) g c.args.names.now c.args.turns (Err (Refused c.args.turns c.new-2.result))) (sym c.in-Nothing.is)
+    (strips_nothing g c.args.names.now c.args.turns (Err (Refused c.args.turns c.new-2.result)) none neither (ap dest_imp (sym c.conclusion-3.ensures.term) ∙ c.in_default-dest_imp.ensures.parts) (ap dest_neg (sym c.conclusion-4.ensures.term) ∙ c.in_default-dest_neg.ensures.part) (refl, c.new-2.ensures.items))
