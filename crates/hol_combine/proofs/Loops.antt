@@ -106,6 +106,10 @@ module _ (more : Items → Bool) (ran : Ran) (whole : RunValue) where
         fails more ran whole (run_each known ts) w0 w1 goal used e was
         (subst (λ (xs : ExprValues). IsError (run_each known xs (goal ∷ w1.waiting) used) e) (sym first) (error_then (run known t goal used) (λ new l. before_goals new (run_each known us w1.waiting l)) e is)) p
 
+-- a stop says so
+pub stop_is : (run : RunValue) (why : StopValue) (tested : List (List ℕ)) (e : RunError) → run ≡ Stops why tested → IsError (Stops why tested) e → IsError run e
+stop_is run why tested e is h = subst (λ (v : RunValue). IsError v e) (sym is) h
+
 -- as many expressions as goals
 count_is : (ts : List ExprValue) → count (exprs ts) ≡ length ts
 count_is [] = refl

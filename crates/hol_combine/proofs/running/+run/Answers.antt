@@ -18,7 +18,7 @@ use Rattle.hol_combine.proofs.Lists.{each_every_one, in_or_else, of_one, one_of,
 use Rattle.hol_combine.proofs.Arms.{kept_run, then_tests, then_first, then_second_of, then_rest, then_valid, then_list_valid, item_valid, item_goes_on, split_tests, every_only, every_rest, every_valid, first_runs, first_valid, repeat_valid}
 use Rattle.hol_combine.proofs.Paying.{IsPaid, paid_is}
 use Rattle.hol_combine.proofs.Progress.{ends_at}
-use Rattle.hol_combine.proofs.Loops.{ends_valid, goes_to_end, next_left, each_finishes, repeat_again, repeat_keeps, repeat_stops, repeat_out, count_starts, count_finishes, count_goes_again, count_out_at, list_finishes, list_fails_at, list_as_many, list_refused, refusal_is, more_fails_at, more_goes_on, popped, rounds_start, rounds_finish, rounds_again, parts_waiting, refused_left}
+use Rattle.hol_combine.proofs.Loops.{ends_valid, goes_to_end, next_left, each_finishes, repeat_again, repeat_keeps, repeat_stops, repeat_out, count_starts, count_finishes, count_goes_again, count_out_at, list_finishes, list_fails_at, list_as_many, list_refused, refusal_is, more_fails_at, more_goes_on, popped, rounds_start, rounds_finish, rounds_again, parts_waiting, refused_left, stop_is}
 use Rattle.hol_combine.proofs.running.+run.Goals as goal
 
 pub repeat-rounds-preserved-in-Ok : goal.repeat-rounds-preserved-in-Ok
@@ -329,15 +329,15 @@ run_then_list-returns-clause-valid g t c =
 pub repeat-returns-in_err-paid-clause-answer : goal.repeat-returns-in_err-paid-clause-answer
 repeat-returns-in_err-paid-clause-answer g t c =
     let p = err_from_is_err_and c.from_residual.result c.from_residual.ensures.1 in
-    rw (p.1, p.2) (subst (λ (v : RunValue). IsError v _)
-    (sym (repeat_out (suits_expr c.args.part.now) c.args.ran _ (run (g.T.Tacs.known_of c.args.tacs.now) c.args.part.now) (run_falls (g.T.Tacs.known_of c.args.tacs.now) c.args.part.now) (work_value c.rounds.work) (work_value c.next.new.self) c.in-Some.goal (used_value c.in-Some.used) c.in-Some.ensures c.in_err-paid.ensures.none.0 c.rounds.invariant))
+    rw (p.1, p.2) (stop_is _ TurnLimit (used_value c.in-Some.used).tested _
+    (repeat_out (suits_expr c.args.part.now) c.args.ran _ (run (g.T.Tacs.known_of c.args.tacs.now) c.args.part.now) (run_falls (g.T.Tacs.known_of c.args.tacs.now) c.args.part.now) (work_value c.rounds.work) (work_value c.next.new.self) c.in-Some.goal (used_value c.in-Some.used) c.in-Some.ensures c.in_err-paid.ensures.none.0 c.rounds.invariant)
     c.in_err-paid.ensures.none.1)
 
 pub replicate-returns-in_err-paid-clause-answer : goal.replicate-returns-in_err-paid-clause-answer
 replicate-returns-in_err-paid-clause-answer g t c =
     let was : c.rounds.rounds.items ≡ c.pop.new.self.items ++ c.in-Some-pop.more ∷ [] = search rules in
     let p = err_from_is_err_and c.from_residual-in_err-paid.result c.from_residual-in_err-paid.ensures.1 in
-    rw (p.1, p.2) (subst (λ (v : RunValue). IsError v _)
-    (sym (count_out_at (suits_expr c.args.part.now) c.args.ran _ (run (g.T.Tacs.known_of c.args.tacs.now) c.args.part.now) (reverse c.rounds.rounds.items) (reverse c.pop.new.self.items) c.in-Some-pop.more (work_value c.rounds.work) (work_value c.next.new.self) c.in-Some.goal (used_value c.in-Some.used)
-    (popped c.rounds.rounds.items c.pop.new.self.items c.in-Some-pop.more was) c.in-Some.ensures c.in_err-paid.ensures.none.0 c.rounds.invariant.progress))
+    rw (p.1, p.2) (stop_is _ TurnLimit (used_value c.in-Some.used).tested _
+    (count_out_at (suits_expr c.args.part.now) c.args.ran _ (run (g.T.Tacs.known_of c.args.tacs.now) c.args.part.now) (reverse c.rounds.rounds.items) (reverse c.pop.new.self.items) c.in-Some-pop.more (work_value c.rounds.work) (work_value c.next.new.self) c.in-Some.goal (used_value c.in-Some.used)
+    (popped c.rounds.rounds.items c.pop.new.self.items c.in-Some-pop.more was) c.in-Some.ensures c.in_err-paid.ensures.none.0 c.rounds.invariant.progress)
     c.in_err-paid.ensures.none.1)
