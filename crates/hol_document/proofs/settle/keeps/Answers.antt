@@ -9,6 +9,6 @@ use Rattle.hol_document.proofs.settle.keeps.Goals as goal
 
 pub returns-in-Direct-clause-no : goal.returns-in-Direct-clause-no
 returns-in-Direct-clause-no c = λ again setup earlier row is.
-    let value : c.args.slot.now.row.value ≡ read.Reads (Direct (direct_text c.in-Direct.command.now)) = search rules in
+    let value : c.args.slot.now.row.value ≡ read.Reads (Direct (direct_text c.in-Direct.command)) = search rules in
     let parsed : IsRead c.args.slot.now.text c.args.slot.now.row.value = search rules in
-    counts_direct setup earlier c.args.state.now c.args.slot.now.text (direct_text c.in-Direct.command.now) c.args.slot.now.row row (one_text c.args.slot.now.text row.value c.args.slot.now.row.value is.parsed parsed) value is
+    counts_direct setup earlier c.args.state.now c.args.slot.now.text (direct_text c.in-Direct.command) c.args.slot.now.row row (one_text c.args.slot.now.text row.value c.args.slot.now.row.value is.parsed parsed) value is
