@@ -7,7 +7,7 @@ use Rattle.hol_theory.specs.Key.{KeyValue}
 use Rattle.hol_theory.specs.Theory.{IsTheory}
 use Rattle.hol_exec.specs.At.{IsOutcome, IsOutcomeAt}
 use Rattle.hol_exec.specs.ChangedKeys.{AreApart}
-use Rattle.hol_exec.specs.CommandText.{LocalText, Local}
+use Rattle.hol_exec.specs.CommandText.{LocalText, DirectText, Local, Direct}
 use Rattle.hol_exec.specs.Keys.{cited_keys, made_keys}
 use Rattle.hol_exec.specs.OutcomeValue.{OutcomeValue, after}
 use Rattle.hol_exec.specs.Reading.{ReadText, Reads, IsRead}
@@ -138,6 +138,18 @@ module _ (setup : SetupValue) (earlier : List EndedTheory) (s : StateValue) (tex
   counts_read old row same e is =
       let read : row.reads ≡ reads_at old.value s = is.read ∙ ap (λ v. reads_at v s) same in
       counts_else old row (ap (counts_beside old.reads) read ∙ (e ∙ ap (counts_beside None) (sym read)))
+
+  none_counts : (o : Option ReadsValue) → counts_beside o None ≡ 0
+  none_counts None = refl
+  none_counts (Some reads) = refl
+
+  -- what is answered from the state reads nothing
+  pub counts_direct : (command : DirectText) (old row : Row) → row.value ≡ old.value → old.value ≡ Reads (Direct command) → IsRow setup earlier s text row → counts (Some old) row ≡ counts None row
+  counts_direct command old row same direct is =
+      let none : reads_at old.value s ≡ None = ap (λ v. reads_at v s) direct in
+      let counted : counts_beside old.reads (reads_at old.value s) ≡ counts_beside None (reads_at old.value s) =
+      ap (counts_beside old.reads) none ∙ (none_counts old.reads ∙ sym (ap (counts_beside None) none)) in
+      counts_read old row same counted is
 
   pub row_untold : (command : LocalText) (old row : Row) → row.value ≡ old.value → old.value ≡ Reads (Local command) → agrees old.tested s.entries ≡ false → IsRow setup earlier s text row → counts (Some old) row ≡ counts None row
   row_untold command old row same local none is = counts_tested old row (false_from_ne_true (same_tested old.tested row.tested) (λ e.

@@ -131,7 +131,8 @@ impl Cache {
         let _ = line.parsed();
         if is_of(run, line, reads) && agrees(run.tested(), env) {
             let outcome = run.outcome().clone()?;
-            return Ok(Some((outcome, run.tested().clone()?)));
+            let tested = run.tested().clone()?;
+            return Ok(Some((outcome, tested)));
         }
         Ok(None)
     }

@@ -7,14 +7,14 @@ use Rattle.hol_exec.specs.Local.{IsLocalOutcome}
 use Rattle.hol_document.proofs.Runs.{found_run}
 use Rattle.hol_document.proofs.cache.Cache.find.Goals as goal
 
-pub returns-then-is_of-clause-outcome : goal.returns-then-is_of-clause-outcome
-returns-then-is_of-clause-outcome c =
+pub returns-then-agrees : goal.returns-then-agrees
+returns-then-agrees c =
     let run = c.in-Some.run'.now in
     let there = Contains-lookup _ _ run (sym c.in-Some.ensures) in
     let is = c.self.invariant (there.0, run) there.1 in
     let outcome : c.in_ok-outcome.outcome.value ≡ run.outcome = search rules in
-    let tested : c.in_ok-clone-4.field-0.value ≡ run.tested = search rules in
-    subst (λ s. IsLocalOutcome s (constant_names c.args.env.now) (local_text c.args.command.now) c.args.reads.now.value (record { outcome = c.in_ok-outcome.outcome.value; tested = c.in_ok-clone-4.field-0.value })) c.self.view_is
+    let tested : c.in_ok-tested.tested.value ≡ run.tested = search rules in
+    subst (λ s. IsLocalOutcome s (constant_names c.args.env.now) (local_text c.args.command.now) c.args.reads.now.value (record { outcome = c.in_ok-outcome.outcome.value; tested = c.in_ok-tested.tested.value })) c.self.view_is
     (subst (λ l. IsLocalOutcome c.self.inside.setup.value (constant_names c.args.env.now) (local_text c.args.command.now) c.args.reads.now.value l) (λ i. record { outcome = sym outcome i; tested = sym tested i })
     (found_run c.self.inside.setup.value (constant_names c.args.env.now) run c.args.line.now.text c.args.line.now.value (local_text c.args.command.now) c.args.reads.now.value is c.parsed.ensures.read
     (c.if-is_of.ensures.text refl) c.requires (c.if-is_of.ensures.reads refl ∙ c.deref.ensures) (search rules)))
