@@ -9,7 +9,7 @@ use Rattle.hol_kernel.specs.declared.error.Rule.TheVariants.{Inst}
 use Rattle.std.proofs.Common.{rules}
 use Rattle.hol_derived.specs.Lemmas.{put}
 use Rattle.hol_derived.proofs.Instances.{formulas_fit}
-use Rattle.hol_derived.proofs.lemmas.with_formulas.Goals as goal
+use Rattle.hol_derived.proofs.lemmas.Lemmas.with_formulas.Goals as goal
 
 pub unrefused-requires : goal.unrefused-requires
 unrefused-requires c =
