@@ -4,8 +4,8 @@ ghost use Rattle.std.specs.Prelude.{◌≡◌, IfOk};
 use crate::sequents::{Made, told};
 use crate::written::{term, terms};
 use hol_bool::{
-    choose, conj, conjunct1, conjunct2, contr, disch, disj_cases, disj1, disj2, eqf_intro,
-    eqt_intro, exists, generalize, mp, not_intro, spec, undisch,
+    Lemmas, choose, conjunct1, conjunct2, contr, disch, disj_cases, disj1, disj2, eqf_intro,
+    exists, generalize, mp, not_intro, spec, undisch,
 };
 use hol_equal::{alpha, ap_term, ap_thm, beta_conv, prove_hyp, subst, sym};
 use hol_kernel::{Basis, Thm};
@@ -98,8 +98,9 @@ fn by_three(alloc: Global, rule: &str, a: &Thm, b: &Thm, c: &Thm) -> Result<Made
     requires second { a.now.basis ≡ b.now.basis }
     requires third { a.now.basis ≡ c.now.basis }
 {
+    let mut lemmas = Lemmas::new(alloc, a.basis())?;
     match rule {
-        "DISJ_CASES" => told(alloc, disj_cases(alloc, a, b, c)),
+        "DISJ_CASES" => told(alloc, disj_cases(alloc, &mut lemmas, a, b, c)),
         _ => Err("no such rule".into()),
     }
 }
@@ -129,12 +130,12 @@ fn of_one(alloc: Global, rule: &str, terms: &[Term], a: &Thm) -> Result<Made<Thm
 fn with_none(alloc: Global, rule: &str, a: &Thm) -> Result<Made<Thm>, Fail> {
     match rule {
         "SYM" => told(alloc, sym(alloc, a)),
-        "EQT_INTRO" => told(alloc, eqt_intro(alloc, a)),
-        "EQF_INTRO" => told(alloc, eqf_intro(alloc, a)),
-        "CONJUNCT1" => told(alloc, conjunct1(alloc, a)),
-        "CONJUNCT2" => told(alloc, conjunct2(alloc, a)),
-        "UNDISCH" => told(alloc, undisch(alloc, a)),
-        "NOT_INTRO" => told(alloc, not_intro(alloc, a)),
+        "EQT_INTRO" => told(alloc, lemmas.eqt_intro(alloc, a)),
+        "EQF_INTRO" => told(alloc, eqf_intro(alloc, &mut lemmas, a)),
+        "CONJUNCT1" => told(alloc, conjunct1(alloc, &mut lemmas, a)),
+        "CONJUNCT2" => told(alloc, conjunct2(alloc, &mut lemmas, a)),
+        "UNDISCH" => told(alloc, undisch(alloc, &mut lemmas, a)),
+        "NOT_INTRO" => told(alloc, not_intro(alloc, &mut lemmas, a)),
         _ => Err("no such rule".into()),
     }
 }
@@ -151,12 +152,12 @@ fn with_one(alloc: Global, rule: &str, t: &Term, a: &Thm) -> Result<Made<Thm>, F
 
 fn with_formula(alloc: Global, rule: &str, t: &Term, a: &Thm) -> Result<Made<Thm>, Fail> {
     match rule {
-        "SPEC" => told(alloc, spec(alloc, t, a)),
-        "GEN" => told(alloc, generalize(alloc, t, a)),
-        "DISCH" => told(alloc, disch(alloc, t, a)),
-        "DISJ1" => told(alloc, disj1(alloc, a, t)),
-        "DISJ2" => told(alloc, disj2(alloc, t, a)),
-        "CONTR" => told(alloc, contr(alloc, t, a)),
+        "SPEC" => told(alloc, spec(alloc, &mut lemmas, t, a)),
+        "GEN" => told(alloc, generalize(alloc, &mut lemmas, t, a)),
+        "DISCH" => told(alloc, disch(alloc, &mut lemmas, t, a)),
+        "DISJ1" => told(alloc, disj1(alloc, &mut lemmas, a, t)),
+        "DISJ2" => told(alloc, disj2(alloc, &mut lemmas, t, a)),
+        "CONTR" => told(alloc, contr(alloc, &mut lemmas, t, a)),
         _ => Err("no such rule".into()),
     }
 }
@@ -176,7 +177,7 @@ fn with_two(alloc: Global, rule: &str, s: &Term, t: &Term, a: &Thm) -> Result<Ma
             let pairs = [(s.copy()?, t.copy()?)];
             told(alloc, Thm::inst(alloc, &pairs, a))
         }
-        "EXISTS" => told(alloc, exists(alloc, s, t, a)),
+        "EXISTS" => told(alloc, exists(alloc, &mut lemmas, s, t, a)),
         _ => Err("no such rule".into()),
     }
 }
@@ -196,6 +197,9 @@ fn of_two(
 fn by_two(alloc: Global, rule: &str, terms: &[Term], a: &Thm, b: &Thm) -> Result<Made<Thm>, Fail>
     requires { a.now.basis ≡ b.now.basis }
 {
+    let mut lemmas = Lemmas::new(alloc, a.basis())?;
+    let mut lemmas = Lemmas::new(alloc, a.basis())?;
+    let mut lemmas = Lemmas::new(alloc, a.basis())?;
     match (rule, terms) {
         ("TRANS", []) => told(alloc, Thm::trans(alloc, a, b)),
         ("MK_COMB", []) => told(alloc, Thm::mk_comb(alloc, a, b)),
@@ -215,10 +219,11 @@ fn by_formulas(
 ) -> Result<Made<Thm>, Fail>
     requires { a.now.basis ≡ b.now.basis }
 {
+    let mut lemmas = Lemmas::new(alloc, a.basis())?;
     match (rule, terms) {
-        ("CONJ", []) => told(alloc, conj(alloc, a, b)),
-        ("MP", []) => told(alloc, mp(alloc, a, b)),
-        ("CHOOSE", [v]) => told(alloc, choose(alloc, v, a, b)),
+        ("CONJ", []) => told(alloc, lemmas.conj(alloc, a, b)),
+        ("MP", []) => told(alloc, mp(alloc, &mut lemmas, a, b)),
+        ("CHOOSE", [v]) => told(alloc, choose(alloc, &mut lemmas, v, a, b)),
         ("SUBST", [v, m]) => told(alloc, subst(alloc, a, v, m, b)),
         _ => Err("no such rule".into()),
     }
