@@ -1,12 +1,15 @@
 -- A variable of a name that is not taken is not free, and what calls say of such names.
-use Rattle.std.specs.Prelude.{◌≡◌, ℕ, false, ◌||◌, List, [], ◌∷◌, Result, Ok, Err, IfOk, refl}
+use Rattle.std.specs.Prelude.{◌≡◌, ℕ, Bool, true, false, ◌||◌, List, [], ◌∷◌, map, Result, Ok, Err, IfOk, refl}
 use Rattle.std.proofs.lemmas.Bool.{or_parts}
 use Rattle.hol_match.proofs.Apartness.{name_free}
 use Rattle.hol_types.specs.Tree.{TypeTree}
-use Rattle.hol_terms.specs.Nameless.{Nameless, base_of}
-use Rattle.hol_subst.specs.FreeName.{has_name, is_taken}
+use Rattle.hol_terms.specs.Named.{Named}
+use Rattle.hol_terms.specs.Nameless.{Nameless, nameless, base_of}
+use Rattle.hol_terms.specs.Primes.{HasFewestPrimes}
+use Rattle.hol_subst.specs.FreeName.{has_name, is_taken, IsFreeName}
 use Rattle.hol_subst.specs.Variant.{is_free_in}
 use Rattle.hol_just.specs.Fresh.{fresh}
+use Rattle.hol_just.specs.FreeNames.{free_name}
 use Rattle.hol_just.specs.Strip.{AvoidedValue, avoiding, WaitingValue}
 use Rattle.hol_steps.specs.Fresh.{AreAlike, AvoidAlike, IsFresh, IsNewBy, terms_of}
 use Rattle.hol_steps.specs.declared.fresh.FreshVariable.{FreshVariable}
@@ -35,9 +38,14 @@ fresh_variable_is standing terms x v base name tested s based typed is found abs
 
 -- ---- what calls say
 
-pub always_so : {X E : Type 0} (r : Result X E) (P : Type 0) (Q : X → Type 0) → P → IfOk r Q → IfOk r (λ x. P)
-always_so (Ok x) P Q p h = p
-always_so (Err e) P Q p h = h
+-- a variable of a name that is free in some terms, over others with the same names
+pub named_new :
+    (terms : List Named) (avoid : List Nameless) (base kept name : List ℕ) (own : TypeTree) → ((a : List ℕ) → is_taken (map (nameless []) terms) a ≡ is_taken avoid a) → base ≡ kept →
+    IsFreeName (map (nameless []) terms) base name → {E : Type 0} (r : Result (List ℕ × TypeTree) E) (ty : TypeTree) → ty ≡ own → IfOk r (λ v. v ≡ (name, ty)) → IfOk r (λ v. v ≡ (free_name avoid kept, own))
+named_new terms avoid base kept name own terms_are base_is h (Ok v) ty typed is =
+    let found : IsFreeName avoid kept name = subst (λ (taken : List ℕ → Bool). HasFewestPrimes (λ a. taken a ≡ true) kept name) (λ i a. terms_are a i) (subst (λ (b : List ℕ). IsFreeName (map (nameless []) terms) b name) base_is h) in
+    is ∙ (λ i. (is_free_name avoid kept name found i, typed i))
+named_new terms avoid base kept name own terms_are base_is h (Err e) ty typed is = is
 
 -- a fresh variable avoids what the terms are gathered from
 pub new_always :
