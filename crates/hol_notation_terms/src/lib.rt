@@ -3,8 +3,8 @@
 //! Calls that answer a `Result` answer its memory error where memory is short, and nowhere else.
 //!
 //! A reader calls itself for each part inside another and for each that follows, and dropping, comparing and hashing what is read do too. Texts
-//! at the limits on tokens and brackets are read, copied, compared, hashed and dropped natively in the 8 MB of call stack that a program's
-//! main thread has (hol_reading_tests).
+//! at the limits on tokens and brackets are read, compared, hashed and dropped natively in the 8 MB of call stack that a program's
+//! main thread has (hol_library_tests).
 #![tactic(auto)]
 
 mod definition;
