@@ -1,0 +1,158 @@
+-- States that are alike give the commands that read nothing changed the same rows, and stay alike.
+use Rattle.std.specs.Prelude.{◌≡◌, ℕ, List, [], ◌∷◌, ◌++◌, Bool, true, false, cond, Option, Some, None, is_some, IsTrue, refl}
+use Rattle.std.specs.List.{list_any}
+use Rattle.std.proofs.Common.{ap, sym, ◌∙◌, subst}
+use Rattle.hol_goal.specs.Goal.{GoalValue}
+use Rattle.hol_stack.specs.StackValue.{StepValue}
+use Rattle.hol_theory.specs.Entry.{EntryValue, Entries, entry_at}
+use Rattle.hol_theory.specs.Key.{KeyValue, key_eq}
+use Rattle.hol_exec.specs.declared.refusal.RefusalKind.TheVariants as refusal
+use Rattle.hol_exec.specs.At.{IsOutcome, direct, undoes, rotates, drops, imports_theory}
+use Rattle.hol_exec.specs.Changes.{IsApart, AreApart}
+use Rattle.hol_exec.specs.CommandText.{LocalText, DirectText, Back, Rotate, Oops, Import, Local, Direct}
+use Rattle.hol_exec.specs.Keys.{cited_keys, made_keys}
+use Rattle.hol_exec.specs.OutcomeValue.{OutcomeValue, Opens, Leaves, Undoes, Rotates, Makes, Refuses, stepped_in, undone_in, rotated_in, after}
+use Rattle.hol_exec.specs.Reading.{ReadText, Reads, Breaks}
+use Rattle.hol_exec.specs.ReadsValue.{Values, ReadsValue, values_of, goal_for, closing_for, reads_of, reads_at}
+use Rattle.hol_exec.specs.Setup.{SetupValue}
+use Rattle.hol_exec.specs.StateValue.{ProofValue, StateValue, EndedTheory, newest_of}
+use Rattle.hol_document.specs.Afresh.{Row, IsRow}
+use Rattle.hol_document.specs.Alike.{DriftValue, IsUntouched, AreAlike, IsPassedOver, ImportsAlike}
+
+-- ---- entries one after the other
+
+abbrev pub or_else : Option EntryValue → Option EntryValue → Option EntryValue
+or_else None o = o
+or_else (Some v) o = Some v
+
+over : (b : Bool) (v : EntryValue) (rest all more : Option EntryValue) → all ≡ or_else rest more → cond b (Some v) all ≡ or_else (cond b (Some v) rest) more
+over true v rest all more h = refl
+over false v rest all more h = h
+
+pub at_left : (key : KeyValue) (es more : Entries) → entry_at key (es ++ more) ≡ or_else (entry_at key es) (entry_at key more)
+at_left key [] more = refl
+at_left key (e ∷ es) more = over (key_eq key e.0) e.1 (entry_at key es) (entry_at key (es ++ more)) (entry_at key more) (at_left key es more)
+
+made_alike : (key : KeyValue) (es fs more : Entries) → entry_at key es ≡ entry_at key fs → entry_at key (es ++ more) ≡ entry_at key (fs ++ more)
+made_alike key es fs more h = at_left key es more ∙ ap (λ o. or_else o (entry_at key more)) h ∙ sym (at_left key fs more)
+
+-- ---- reads
+
+module _ (changed : List KeyValue) (a b : StateValue) (apart : (key : KeyValue) → IsApart changed key → entry_at key a.entries ≡ entry_at key b.entries) where
+  values_alike : (keys : List KeyValue) → AreApart changed keys → values_of a.entries keys ≡ values_of b.entries keys
+  values_alike [] h = refl
+  values_alike (key ∷ keys) h = λ i. (key, apart key h.0 i) ∷ values_alike keys h.1 i
+
+  pub reads_alike : (command : LocalText) → IsUntouched changed command → a.proof ≡ b.proof → reads_of command a ≡ reads_of command b
+  reads_alike command h held = λ i. record {
+    cited = values_alike (cited_keys command) h.0 i;
+    made = values_alike (made_keys command) h.1 i;
+    in_proof = is_some (held i);
+    goal = goal_for command (held i);
+    closing = closing_for command (held i);
+  }
+
+-- ---- one outcome after each of two states
+
+pub next_alike : (drift : DriftValue) (a b : StateValue) (outcome : OutcomeValue)
+    → AreAlike drift a b → AreAlike drift (after a outcome) (after b outcome)
+next_alike drift a b (Opens name statement basis) h = record { apart = h.apart; whole = h.whole; held = λ p. refl }
+next_alike drift a b (Leaves goal goals basis) h = record { apart = h.apart; whole = h.whole; held = λ p. ap (stepped_in goals basis) (h.held p) }
+next_alike drift a b Undoes h = record { apart = h.apart; whole = h.whole; held = λ p. ap undone_in (h.held p) }
+next_alike drift a b (Rotates times) h = record { apart = h.apart; whole = h.whole; held = λ p. ap (rotated_in times) (h.held p) }
+next_alike drift a b (Makes es) h = record {
+  apart = λ key k. made_alike key a.entries b.entries es (h.apart key k);
+  whole = λ p. ap (λ (s : Entries). s ++ es) (h.whole p);
+  held = λ p. refl;
+}
+next_alike drift a b (Refuses kind arg) h = h
+
+-- the proof is the same where none is open in either
+pub none_open : (p q : Option ProofValue) → newest_of p ≡ None → newest_of q ≡ None → p ≡ q
+none_open None None h k = refl
+none_open None (Some q) h k = absurd (cc)
+none_open (Some p) q h k = absurd (cc)
+
+pub closed_alike : (drift : DriftValue) (a b : StateValue) → newest_of a.proof ≡ None → newest_of b.proof ≡ None → AreAlike drift a b
+    → AreAlike (record { changed = drift.changed; entries = drift.entries; proof = true }) a b
+closed_alike drift a b h k alike = record { apart = alike.apart; whole = alike.whole; held = λ p. none_open a.proof b.proof h k }
+
+-- nothing differs any more: the states are one
+pub states_one : (drift : DriftValue) (a b : StateValue) → drift.entries ≡ true → drift.proof ≡ true → AreAlike drift a b → a ≡ b
+states_one drift a b p q h = λ i. record { entries = h.whole p i; proof = h.held q i }
+
+-- a state is like itself
+pub alike_itself : (drift : DriftValue) (s : StateValue) → AreAlike drift s s
+alike_itself drift s = record { apart = λ key k. refl; whole = λ p. refl; held = λ p. refl }
+
+-- ---- rows
+
+-- what is answered from the state, at the same state after theories that end alike
+direct_alike : (command : DirectText) (s : StateValue) (before earlier : List EndedTheory) → ImportsAlike before earlier (Reads (Direct command)) → direct command s before ≡ direct command s earlier
+direct_alike Back s before earlier same = refl
+direct_alike (Rotate times) s before earlier same = refl
+direct_alike Oops s before earlier same = refl
+direct_alike (Import name) s before earlier same = ap (λ theory. cond (is_some s.proof) (Refuses refusal.InProof []) (imports_theory name s.entries theory)) same
+
+-- a row that is passed over stands at the other state
+pub row_passed : (setup : SetupValue) (before earlier : List EndedTheory) (drift : DriftValue) (a b : StateValue) (text : List ℕ) (row : Row)
+    → AreAlike drift a b → IsPassedOver drift row.value → IsRow setup before a text row → IsRow setup earlier b text row
+row_passed setup before earlier drift a b text row alike passed is = record {
+  parsed = is.parsed;
+  read = is.read ∙ reads row.value passed;
+  gets = gets row.value row.reads row.outcome passed is.gets;
+}
+  where
+    reads : (value : ReadText) → IsPassedOver drift value → reads_at value a ≡ reads_at value b
+    reads (Reads (Local command)) p = ap Some (reads_alike drift.changed a b alike.apart command p.0 (alike.held p.1))
+    reads (Reads (Direct command)) p = refl
+    reads (Breaks place) p = refl
+
+    gets : (value : ReadText) (read : Option ReadsValue) (outcome : OutcomeValue) → IsPassedOver drift value → IsOutcome setup before a value read outcome → IsOutcome setup earlier b value read outcome
+    gets (Reads (Local command)) None outcome p h = h
+    gets (Reads (Local command)) (Some own) outcome p h = h
+    gets (Reads (Direct Back)) None outcome p h = h ∙ ap undoes (alike.held p)
+    gets (Reads (Direct (Rotate times))) None outcome p h = h ∙ ap (rotates times) (alike.held p)
+    gets (Reads (Direct Oops)) None outcome p h = h ∙ ap drops (alike.held p)
+    gets (Reads (Direct (Import name))) None outcome p h = absurd p
+    gets (Reads (Direct command)) (Some own) outcome p h = absurd h
+    gets (Breaks place) None outcome p h = h
+    gets (Breaks place) (Some own) outcome p h = h
+
+-- the outcome of a row, where the reads at the other state are the same
+pub row_read_again : (setup : SetupValue) (before earlier : List EndedTheory) (a b : StateValue) (text : List ℕ) (command : LocalText) (reads : ReadsValue) (row : Row)
+    → row.value ≡ Reads (Local command) → row.reads ≡ Some reads → reads ≡ reads_of command b → IsRow setup before a text row → IsRow setup earlier b text row
+row_read_again setup before earlier a b text command reads row is read same h = record {
+  parsed = h.parsed;
+  read = read ∙ (ap Some same ∙ sym (ap (λ value. reads_at value b) is));
+  gets = subst (λ value. IsOutcome setup earlier b value row.reads row.outcome) (sym is) (subst (λ own. IsOutcome setup earlier b (Reads (Local command)) own row.outcome) (sym read)
+      (subst (λ own. IsOutcome setup before a (Reads (Local command)) own row.outcome) read (subst (λ value. IsOutcome setup before a value row.reads row.outcome) is h.gets)));
+}
+
+-- a row at the same state, after theories that end alike
+pub row_elsewhere : (setup : SetupValue) (before earlier : List EndedTheory) (s : StateValue) (text : List ℕ) (row : Row)
+    → ImportsAlike before earlier row.value → IsRow setup before s text row → IsRow setup earlier s text row
+row_elsewhere setup before earlier s text row same h = record { parsed = h.parsed; read = h.read; gets = gets row.value row.reads row.outcome same h.gets }
+  where
+    gets : (value : ReadText) (read : Option ReadsValue) (outcome : OutcomeValue) → ImportsAlike before earlier value → IsOutcome setup before s value read outcome → IsOutcome setup earlier s value read outcome
+    gets (Reads (Local command)) None outcome p h = h
+    gets (Reads (Local command)) (Some own) outcome p h = h
+    gets (Reads (Direct command)) None outcome p h = h ∙ direct_alike command s before earlier p
+    gets (Reads (Direct command)) (Some own) outcome p h = absurd h
+    gets (Breaks place) None outcome p h = h
+    gets (Breaks place) (Some own) outcome p h = h
+
+-- the same outcome after both, and with the proof the same where none is open after it
+pub go_on_alike : (drift next : DriftValue) (a b : StateValue) (outcome : OutcomeValue) → next.changed ≡ drift.changed → next.entries ≡ drift.entries
+    → (next.proof ≡ true → drift.proof ≡ false → newest_of (after a outcome).proof ≡ None) → (next.proof ≡ true → drift.proof ≡ false → newest_of (after b outcome).proof ≡ None)
+    → AreAlike drift a b → AreAlike next (after a outcome) (after b outcome)
+go_on_alike drift next a b outcome keys same p q h =
+    let on : AreAlike drift (after a outcome) (after b outcome) = next_alike drift a b outcome h in record {
+      apart = λ key k. on.apart key (subst (λ changed. IsApart changed key) keys k);
+      whole = λ e. on.whole (sym same ∙ e);
+      held = λ e. by e drift.proof refl;
+    }
+  where
+    by : next.proof ≡ true → (t : Bool) → drift.proof ≡ t → (after a outcome).proof ≡ (after b outcome).proof
+    by e true k = (next_alike drift a b outcome h).held k
+    by e false k = none_open (after a outcome).proof (after b outcome).proof (p e k) (q e k)

@@ -1,0 +1,9 @@
+pub mod Alike
+pub mod Apart
+pub mod Counting
+pub mod Standing
+pub mod Redone
+pub mod Followed
+pub mod Settled
+pub mod Agreeing
+pub mod Edited

@@ -1,0 +1,15 @@
+use Rattle.std.proofs.Common.{◌≡◌, ◌≤◌, List, map, take, drop, string_bytes}
+use Rattle.hol_document.specs.MeterView.{setup_of, ran_of}
+use Rattle.hol_exec.specs.StateValue.{EndedTheory}
+use Rattle.hol_document.specs.Alike.{EndAlike}
+use Rattle.hol_document.specs.Settled.{HaveFollowed}
+use Rattle.hol_document.specs.Slots.{AreStanding, ended_of}
+use Rattle.hol_document.proofs.redo.follow.Given as goal
+
+abbrev pub invariant-loop-theory : goal.invariant-loop-theory
+invariant-loop-theory g l = record {
+  setup : setup_of l.meter ≡ setup_of l.fn.meter;
+  rises : ran_of l.fn.meter ≤ ran_of l.meter;
+  done : HaveFollowed (setup_of l.fn.meter) l.fn.done.items (take l.theory-index l.theories) (ran_of l.fn.meter) (ran_of l.meter) l.done.items;
+  left : (before : List EndedTheory) × AreStanding (setup_of l.fn.meter) before (drop l.theory-index l.theories) × EndAlike (map (λ name. string_bytes name.value) l.names.items) before (map ended_of l.done.items);
+}

@@ -1,0 +1,11 @@
+pub mod CommandView
+pub mod ParsedView
+pub mod MeterView
+pub mod Documents
+pub mod Afresh
+pub mod Affected
+pub mod Slots
+pub mod Alike
+pub mod Settled
+pub mod DocsView
+pub mod IfRefused

@@ -1,0 +1,12 @@
+pub mod CommandText
+pub mod Reading
+pub mod Setup
+pub mod SetupCode
+pub mod StateValue
+pub mod Keys
+pub mod ReadsValue
+pub mod SameReads
+pub mod OutcomeValue
+pub mod Changes
+pub mod Local
+pub mod At

@@ -1,0 +1,4 @@
+//! A stand-in.
+#![tactic(auto)]
+pub mod refusal;
+pub use refusal::RefusalKind;

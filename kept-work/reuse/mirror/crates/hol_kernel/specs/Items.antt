@@ -1,0 +1,3 @@
+use Rattle.std.specs.Prelude.{ℕ, List}
+abbrev pub Items : Type 0
+Items = List ℕ

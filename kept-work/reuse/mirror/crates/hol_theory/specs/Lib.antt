@@ -1,0 +1,4 @@
+pub mod Key
+pub mod Entry
+pub mod Theory
+pub mod Adding

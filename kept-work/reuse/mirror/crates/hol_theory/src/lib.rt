@@ -1,0 +1,4 @@
+//! A stand-in.
+#![tactic(auto)]
+pub mod key;
+pub use key::Kind;

@@ -1,0 +1,3 @@
+//! A stand-in.
+#![tactic(auto)]
+
