@@ -25,6 +25,7 @@ pub mod OutcomeValue
 pub mod NewEntriesView
 pub mod OutcomeView
 pub mod ChangedKeys
+pub mod ChangedKeysView
 pub mod Filters
 pub mod Defining
 pub mod Making

@@ -12,15 +12,13 @@ module _ {A : Type 0} (f : A → List (List ℕ)) where
   part_more [] part = append-nil (f part)
   part_more (p ∷ parts) part = ap (λ (t : List (List ℕ)). f p ++ t) (part_more parts part) ∙ sym (append_assoc (f p) (all_names (map f parts)) (f part))
 
-  -- one part more, which holds what was taken out and a name more
-  pub name_more : (parts new : List A) (part : A) (self short : List (List ℕ)) (a : List ℕ) → new ≡ parts ++ part ∷ [] → f part ≡ short ++ a ∷ [] → self ≡ all_names (map f parts) ++ short →
-      all_names (map f new) ≡ self ++ a ∷ []
-  name_more parts new part self short a is has was =
+  -- one part more
+  pub part_put : (parts new : List A) (part : A) (self names : List (List ℕ)) → new ≡ parts ++ part ∷ [] → f part ≡ names → all_names (map f parts) ≡ self → all_names (map f new) ≡ self ++ names
+  part_put parts new part self names is has view =
       ap (λ (ps : List A). all_names (map f ps)) is
       ∙ part_more parts part
       ∙ ap (λ (t : List (List ℕ)). all_names (map f parts) ++ t) has
-      ∙ sym (append_assoc (all_names (map f parts)) short (a ∷ []))
-      ∙ ap (λ (t : List (List ℕ)). t ++ a ∷ []) (sym was)
+      ∙ ap (λ (t : List (List ℕ)). t ++ names) view
 
   -- the last part taken out
   pub last_out : (parts rest : List A) (last : A) (self : List (List ℕ)) → all_names (map f parts) ≡ self → parts ≡ rest ++ last ∷ [] → self ≡ all_names (map f rest) ++ f last
@@ -40,6 +38,11 @@ module _ {A : Type 0} (f : A → List (List ℕ)) where
     -- where there is none, one in those after it
     pub in_later : false ≡ list_any test (f part) → list_any test self ≡ list_any test (all_names (map f (drop (i + 1) parts)))
     in_later none = at_part ∙ ap (λ b. b || list_any test (all_names (map f (drop (i + 1) parts)))) (sym none)
+
+-- both parts in one
+pub one_of_two : {X : Type 0} (self rest whole first second names : List X) → self ≡ rest ++ second → rest ≡ whole ++ first → names ≡ first ++ second → whole ++ names ≡ self
+one_of_two self rest whole first second names last before is =
+    ap (λ (t : List _). whole ++ t) is ∙ sym (append_assoc whole first second) ∙ ap (λ (t : List _). t ++ second) (sym before) ∙ sym last
 
 -- a copy of one more
 pub copied_more : {A X : Type 0} (f : A → X) (copied parts : List A) (i : ℕ) (part copy : A) → i < length parts → part ≡ slice_index_or parts i part → f copy ≡ f part →

@@ -76,7 +76,33 @@ impl Names {
         ensures { OnOk result (self.new ≡ self.old ++ name.now ∷ []) }
     {
         let short = self.take_short();
+        if self.ends_evenly() {
+            self.join(alloc)?;
+        }
         let part = with_name(alloc, names_in(&short), name)?;
+        self.put(alloc, part)
+    }
+
+    // Whether the last two parts have as many names. They are made one, and so the number of parts grows by the logarithm of that of the names.
+    fn ends_evenly(&self) -> bool {
+        let len = self.parts.len();
+        len > 1 && self.parts[len - 2].len() == self.parts[len - 1].len()
+    }
+
+    // Makes the last two parts one.
+    fn join(&mut self, alloc: Global) -> Result<(), AllocError>
+        ensures { OnOk result (self.new ≡ self.old) }
+    {
+        let last = self.take_last();
+        let before = self.take_last();
+        let names = both(alloc, names_in(&before), names_in(&last))?;
+        self.put(alloc, names)
+    }
+
+    // Puts a part at the end.
+    fn put(&mut self, alloc: Global, part: Vec<Name>) -> Result<(), AllocError>
+        ensures { OnOk result (self.new ≡ self.old ++ part.items) }
+    {
         self.parts.push(Rc::new(alloc, part)?)?;
         Ok(())
     }
@@ -91,6 +117,14 @@ impl Names {
         }
         self.parts.push_reserved(last);
         None
+    }
+
+    // Takes out the last part, if there is one.
+    fn take_last(&mut self) -> Option<Rc<Vec<Name>>>
+        ensures { self.old ≡ self.new ++ unwrap_or (option_map (λ part. part.value.items) result) [] }
+    {
+        let last = self.parts.pop()?;
+        Some(last)
     }
 
     /// The same names, sharing the parts.
@@ -137,9 +171,27 @@ fn with_name(alloc: Global, list: &[Name], name: &Name) -> Result<Vec<Name>, All
     ensures { IfOk result (λ names. names.items ≡ list.now ++ name.now ∷ []) }
 {
     let mut names = Vec::with_capacity(alloc, list.len() + 1)?;
-    for listed in list {
-        names.push(listed.copy()?)?;
-    }
+    add_names(&mut names, list)?;
     names.push(name.copy()?)?;
     Ok(names)
+}
+
+// The names of both lists.
+fn both(alloc: Global, first: &[Name], second: &[Name]) -> Result<Vec<Name>, AllocError>
+    ensures { IfOk result (λ names. names.items ≡ first.now ++ second.now) }
+{
+    let mut names = Vec::new(alloc);
+    add_names(&mut names, first)?;
+    add_names(&mut names, second)?;
+    Ok(names)
+}
+
+// Puts the names of a list at the end.
+fn add_names(to: &mut Vec<Name>, list: &[Name]) -> Result<(), AllocError>
+    ensures { OnOk result (to.new.items ≡ to.old.items ++ list.now) }
+{
+    for name in list {
+        to.push(name.copy()?)?;
+    }
+    Ok(())
 }

@@ -4,7 +4,7 @@ use Rattle.hol_theory.specs.Key.{KeyValue, key_eq}
 use Rattle.hol_exec.specs.ChangedKeys.{is_one_of}
 use Rattle.hol_exec.specs.Filters.{HasNames}
 use Rattle.hol_exec.proofs.Changing.{inserted, inserted_names}
-use Rattle.hol_exec.proofs.reads.changed_keys.ChangedKeys.add.Goals as goal
+use Rattle.hol_exec.proofs.reads.listed_keys.ListedKeys.add.Goals as goal
 
 pub invariant_of-self-2 : goal.invariant_of-self-2
 invariant_of-self-2 c =

@@ -1,0 +1,4 @@
+use Rattle.hol_exec.proofs.reads.changed_keys.ChangedKeys.add_listed.Goals as goal
+
+pub returns : goal.returns
+returns c = ?
