@@ -1,13 +1,15 @@
 -- Changed keys, and more of them.
-use Rattle.std.proofs.Common.{◌≡◌, ℕ, ◌+◌, ◌<◌, List, [], ◌∷◌, ◌++◌, length, get_or, take, map, refl, sym, ap, ◌∙◌, Bool, true, false, ◌||◌, if◌then◌else◌}
+use Rattle.std.proofs.Common.{◌≡◌, ℕ, ◌+◌, ◌<◌, List, [], ◌∷◌, ◌++◌, length, get_or, take, map, refl, sym, ap, ◌∙◌, Bool, true, false, ◌||◌, if◌then◌else◌, arith}
 use lib.Bits.{bit_or}
 use Rattle.std.specs.List.{list_any}
 use Rattle.std.proofs.lemmas.List.{take_more, map_more}
 use Rattle.indexmap.specs.IndexSet.{insert_key}
 use Rattle.hol_types.specs.Filter.{name_bit}
 use Rattle.std.specs.Prelude.{◌≢◌, ◌↔◌, IsTrue, is_some}
+use Rattle.std.specs.Bool.{◌==◌}
 use Rattle.std.specs.Map.{keys_of}
 use Rattle.std.proofs.Common.{subst}
+use Rattle.std.proofs.lemmas.Bool.Decides.{Decides-eqb}
 use Rattle.std.proofs.lemmas.Map.Made.{is_some-lookup}
 use Rattle.std.proofs.lemmas.List.{append-nil, append_assoc}
 use lib.Bits.{bit_and}
@@ -90,9 +92,17 @@ in_theories key [] = refl
 in_theories key (entries ∷ theories) =
     (λ i. is_some-lookup (key_eq key) entries i || in_theories key theories i) ∙ sym (one_of_both (keys_of entries) (all_keys theories) key)
 
-pub one_of_all : (listed : List KeyValue) (theories : List Entries) (key : KeyValue) →
-    (is_one_of listed key || list_any (λ entries. is_some (entry_at key entries)) theories) ≡ is_one_of (listed ++ all_keys theories) key
-one_of_all listed theories key = ap (λ b. is_one_of listed key || b) (in_theories key theories) ∙ sym (one_of_both listed (all_keys theories) key)
+module _ (listed self : List KeyValue) (theories : List Entries) (key : KeyValue) where
+  both : listed ++ all_keys theories ≡ self → is_one_of self key ≡ (is_one_of listed key || is_one_of (all_keys theories) key)
+  both view = ap (λ (ks : List KeyValue). is_one_of ks key) (sym view) ∙ one_of_both listed (all_keys theories) key
+
+  -- a key that is listed
+  pub in_listed : (r : Bool) → listed ++ all_keys theories ≡ self → r ≡ is_one_of listed key → r ≡ true → r ≡ is_one_of self key
+  in_listed r view has is = is ∙ sym (both view ∙ ap (λ b. b || is_one_of (all_keys theories) key) (sym has ∙ is))
+
+  -- and of one that isn't the theories tell
+  pub in_rest : (r s : Bool) → listed ++ all_keys theories ≡ self → r ≡ is_one_of listed key → r ≡ false → s ≡ list_any (λ entries. is_some (entry_at key entries)) theories → s ≡ is_one_of self key
+  in_rest r s view has is some = some ∙ in_theories key theories ∙ sym (both view ∙ ap (λ b. b || is_one_of (all_keys theories) key) (sym has ∙ is))
 
 one_theory_more : (theories : List Entries) (entries : Entries) → all_keys (theories ++ entries ∷ []) ≡ all_keys theories ++ keys_of entries
 one_theory_more [] entries = append-nil (keys_of entries)
@@ -123,6 +133,13 @@ listed_added old new self theories added view more k =
     ∙ ap (λ b. b || is_one_of (all_keys theories) k) (more k)
     ∙ swapped (is_one_of old k) (is_one_of added k) (is_one_of (all_keys theories) k)
     ∙ ap (λ b. b || is_one_of added k) (sym (one_of_both old (all_keys theories) k) ∙ ap (λ (ks : List KeyValue). is_one_of ks k) view)
+
+pub no_theories : (theories : List Entries) (n : ℕ) → length theories ≡ n → true ≡ (n == 0) → theories ≡ []
+no_theories theories n len e = none theories (len ∙ (Decides-eqb n 0).0 (sym e))
+  where
+    none : (ts : List Entries) → length ts ≡ 0 → ts ≡ []
+    none [] f = refl
+    none (t ∷ ts) f = absurd (omega (arith, f))
 
 -- without such theories the filter tells
 pub none_meets : (n m : ℕ) (listed self : List KeyValue) (theories : List Entries) (r : Bool) → theories ≡ [] → listed ++ all_keys theories ≡ self → HasNames m listed → IsTrue r ↔ (bit_and n m ≢ 0) → r ≡ false →

@@ -117,26 +117,19 @@ fn serve_with<R: Source, W: Sink>(
     let prelude = Rc::new(alloc, Prelude::new(alloc)?)?;
     let mut entries = Vec::new(alloc);
     for code in codes {
-        entries.push(entry_of(alloc, *code, &prelude)?)?;
+        let coded = CodedTac::new(*code, &prelude)?;
+        let tac = Box::new(
+            alloc,
+            move |args: &TacArgs, goal: &Goal, names: &Names, turns: u32|
+                requires { turns ≤ 100000 }
+            { coded.answer(alloc, args, goal, names, turns) },
+        )?;
+        let name = String::from_str(alloc, code.name())?;
+        entries.push(Entry::new(name, *code, tac))?;
     }
     let setup = setup_of(alloc, entries, prelude, turns)?;
     let mut docs = Docs::new(alloc, setup, cache)?;
     run(alloc, reader, writer, &mut docs)
-}
-
-// The function of a code, under the code's name.
-fn entry_of(alloc: Global, code: TacCode, prelude: &Rc<Prelude>) -> Result<Entry, AllocError>
-    ensures { IfOk result (λ entry. row entry ≡ row_of code) }
-{
-    let coded = CodedTac::new(code, prelude)?;
-    let tac = Box::new(
-        alloc,
-        move |args: &TacArgs, goal: &Goal, names: &Names, turns: u32|
-            requires { turns ≤ 100000 }
-        { coded.answer(alloc, args, goal, names, turns) },
-    )?;
-    let name = String::from_str(alloc, code.name())?;
-    Ok(Entry::new(name, code, tac))
 }
 
 // The set-up of these functions, whose names differ, of the prelude, and of this number of turns.
