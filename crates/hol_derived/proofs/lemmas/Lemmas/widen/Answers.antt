@@ -32,7 +32,9 @@ widen-requires-2 c =
 pub invariant_of-result : goal.invariant_of-result
 invariant_of-result c =
     let basis = c.in_ok-copy.ensures in
-    let kept = c.self.invariant in
-    (subst (λ (b : Items). AreGeneral b c.loop-entry.made.items) (sym basis) c.loop-entry.invariant,
-    c.in_ok-widen-2.ensures ∙ (λ i. theorem_on (sym basis i) (kept.1 i).sequent),
-    c.in_ok-copy-2.ensures ∙ kept.2, c.in_ok-copy-3.ensures ∙ kept.3)
+    let kept = c.self.invariant in (
+      subst (λ (b : Items). AreGeneral b c.loop-entry.made.items) (sym basis) c.loop-entry.invariant,
+      c.in_ok-widen-2.ensures ∙ (λ i. theorem_on (sym basis i) (kept.1 i).sequent),
+      c.in_ok-copy-2.ensures ∙ kept.2,
+      c.in_ok-copy-3.ensures ∙ kept.3,
+    )
