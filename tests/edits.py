@@ -100,6 +100,8 @@ WHOLE = [
         ("D", ["import C", "import B", *PROOF_OF_Q]),
     ],
 ]
+# The names that a text binds, which are read, and are none of the constants that it rests on.
+BOUND = {"g Q `!c:bool. c ==> c`": ["const:c"]}
 UNCOUNTED = {"b", "r", "oops", "import", "nonsense"}
 
 
@@ -198,7 +200,7 @@ class Theory:
     def accept(self, text, report, ends):
         """The command was accepted with this report."""
         word, goals, made = text.split()[0], report.get("goals"), [key_of(entry) for entry in report.get("made", [])]
-        standing = [key for key in KEYS[text][0] if key in self.values]
+        standing = [key for key in KEYS[text][0] if key in self.values and key not in BOUND.get(text, [])]
         basis = frozenset().union(*(self.values[key][1] for key in standing))
         if word == "g":
             self.proof = ((text.split()[1], json.dumps(goals)), [(goals, basis)])
