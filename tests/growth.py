@@ -90,10 +90,10 @@ class Case:
 class Page:
     """The page of refusing.c."""
 
-    def __init__(self, folder):
+    def __init__(self, folder, said):
         compiler, library, self.file = os.environ.get("CC") or "cc", f"{folder}/refusing.so", f"{folder}/page"
         if not shutil.which(compiler):
-            print(f"growths refused: 0 passed, 0 failed; skipped, since there is no C compiler {compiler}: set CC")
+            print(f"{said}: 0 passed, 0 failed; skipped, since there is no C compiler {compiler}: set CC")
             sys.exit(0)
         subprocess.run([compiler, "-O2", "-shared", "-fPIC", "-o", library, HERE / "refusing.c"], check=True)
         pathlib.Path(self.file).write_bytes(bytes(mmap.PAGESIZE))
@@ -318,7 +318,7 @@ def main():
     words = given.parse_args()
     passed = failed = requests = most = 0
     with tempfile.TemporaryDirectory() as folder:
-        page, row = Page(folder), Standing(words.program, AN_IMPORT)
+        page, row = Page(folder, "growths refused"), Standing(words.program, AN_IMPORT)
         found = [begins(words.program, page), closes(words.program, page, row), fixed_replies(words.program, page, row)]
         tried_cases = (case for case in cases(words.program) if words.only in case.line.decode())
         for faults, tried, growths in itertools.chain(found, (of_case(words.program, page, case, words.all) for case in tried_cases)):
