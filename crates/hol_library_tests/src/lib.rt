@@ -3,6 +3,8 @@
 #![tactic(auto)]
 
 #[cfg(test)]
+mod again_tests;
+#[cfg(test)]
 mod commands_tests;
 #[cfg(test)]
 mod copies_tests;

@@ -1,7 +1,7 @@
 //! Names of constants: which stand, also over copies that go on apart; and those of a theory and its checkpoint.
 use hol_formulas::bool_type;
 use hol_goal::Names;
-use hol_kernel::{Basis, KernelError};
+use hol_kernel::Basis;
 use hol_theory::{Env, new_constant, new_type};
 use hol_types::Name;
 use std::alloc::{AllocError, Global};
@@ -59,37 +59,50 @@ fn copies_go_on_apart(rt: HostRuntime) -> Result<(), Fail> {
 }
 
 // Adds a constant of this name, of type `bool`, to the theory.
-fn declared(alloc: Global, env: &mut Env, name: &str) -> Result<bool, KernelError> {
+fn declare(alloc: Global, env: &mut Env, name: &str) -> Result<(), Fail> {
     let name = Name::new(alloc, name)?;
     let (key, value) = new_constant(alloc, &Basis::empty(alloc)?, &name, &bool_type(alloc)?)?;
-    Ok(env.add(&key, &value).is_ok())
+    env.add(&key, &value)?;
+    Ok(())
 }
 
 // The same of a type constructor without arguments.
-fn declared_type(alloc: Global, env: &mut Env, name: &str) -> Result<bool, KernelError> {
+fn declare_type(alloc: Global, env: &mut Env, name: &str) -> Result<(), Fail> {
     let name = Name::new(alloc, name)?;
     let (key, value) = new_type(alloc, &Basis::empty(alloc)?, &name, 0)?;
-    Ok(env.add(&key, &value).is_ok())
+    env.add(&key, &value)?;
+    Ok(())
+}
+
+// Imports the theory, at the second time where memory is short the first time, which then has changed nothing.
+fn is_imported(env: &mut Env, other: &Env) -> Result<bool, Fail> {
+    let count = env.len();
+    if env.import(other).is_ok() {
+        return Ok(true);
+    }
+    if env.len() != count {
+        return Ok(false);
+    }
+    env.import(other)?;
+    Ok(true)
 }
 
 // Whether a theory has the names of its constants, its checkpoint those that it had, and one that imports it the same.
-fn are_names_of_theories(alloc: Global) -> Result<bool, KernelError> {
+fn are_names_of_theories(alloc: Global) -> Result<bool, Fail> {
     let mut env = Env::new(alloc);
-    let made = declared(alloc, &mut env, "c")? && declared_type(alloc, &mut env, "t")?;
+    declare(alloc, &mut env, "c")?;
+    declare_type(alloc, &mut env, "t")?;
     let checkpoint = env.checkpoint()?;
-    let more = declared(alloc, &mut env, "d")?;
+    declare(alloc, &mut env, "d")?;
     let mut other = Env::new(alloc);
     let mut third = Env::new(alloc);
-    let done = declared(alloc, &mut third, "e")?
-        && other.import(&env).is_ok()
-        && third.import(&env).is_ok();
-    if !made || !more || !done {
-        return Ok(false);
-    }
+    declare(alloc, &mut third, "e")?;
+    let done = is_imported(&mut other, &env)? && is_imported(&mut third, &env)?;
     let before = checkpoint.names().has("c") && !checkpoint.names().has("d");
     let now = env.names().has("c") && env.names().has("d") && !env.names().has("t");
     let imported = other.names().has("c") && other.names().has("d") && !other.names().has("e");
-    Ok(before && now && imported && third.names().has("d") && third.names().has("e"))
+    let both = third.names().has("d") && third.names().has("e") && third.len() == 4;
+    Ok(done && before && now && imported && both)
 }
 
 #[test]

@@ -1,4 +1,4 @@
-use Rattle.hol_library_tests.proofs.names_tests.declared.Goals as goal
+use Rattle.hol_library_tests.proofs.names_tests.declare.Goals as goal
 use Rattle.hol_library_tests.proofs.Declared.{constant_follows}
 
 pub add-requires : goal.add-requires

@@ -1,4 +1,4 @@
-use Rattle.hol_library_tests.proofs.names_tests.declared_type.Goals as goal
+use Rattle.hol_library_tests.proofs.names_tests.declare_type.Goals as goal
 use Rattle.hol_library_tests.proofs.Declared.{type_follows}
 
 pub add-requires : goal.add-requires
