@@ -2,11 +2,10 @@
 
 A growth is a call by which the program asks the C library for memory; refusing.c, which is preloaded into it, refuses those that are named here. What
 is wanted comes from docs/PROTOCOL.md: where a growth of a request is refused the reply is the memory line, all reports, theorems and bases are those
-from before, and the same request with memory is answered as by a new session; but an edit whose outcome alone can't be kept for later is carried out, and
-that outcome is run again.
-Nor is memory lost: over many refusals of one request the program comes to have no more blocks with each (how many it has may differ a little, since
-what is shared does). So for each k the k-th growth of a request is refused alone, and then all from the k-th on. By default some k of each request
-are tried, the first ones, the last ones and some between; with `--all` each k."""
+from before, and the same request with memory is answered as by a new session; but an edit whose outcome alone can't be kept for later is carried out,
+and that outcome is run again. Nor is memory lost: over many refusals of one request the program comes to have no more blocks with each (how many it has
+may differ a little, since what is shared does). So for each k the k-th growth of a request is refused alone, and then all from the k-th on. By default
+some k of each request are tried, the first ones, the last ones and some between; with `--all` each k."""
 
 import argparse
 import itertools
