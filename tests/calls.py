@@ -19,10 +19,10 @@ PASSED, MEMORY = "passed", "memory"
 SAID = "\nthe test failed: its result gives status 1\n"
 # The test's own answer where memory is short: the error of calls that can fail for that alone, and the case of the others.
 ENDS = {(0, "\ntest result: ok\n", ""): PASSED, (101, "", "error: AllocError" + SAID): MEMORY, (101, "", "error: Memory" + SAID): MEMORY}
-# The tests in which growths of these calls are refused have to be there.
+# The functions of tests in which growths of these calls are refused: they have to be there, and to tell want of memory.
 CALLS = {
-    "again_tests::refused_commands_change_nothing": "hol_combine::run, justify, Stack::apply, State::checkpoint",
-    "names_tests::theories_have_names": "Env::import, Env::checkpoint",
+    "refused_commands_change_nothing": "hol_combine::run, justify, Stack::apply, State::checkpoint",
+    "theories_have_names": "Env::import, Env::checkpoint",
 }
 
 
@@ -49,6 +49,11 @@ class Tests:
         if status or count != f"tests: {len(names)}" or not all(row.endswith(": test") for row in rows):
             sys.exit(f"calls: {self.program} doesn't list its tests: {wrote[:300]}")
         return names
+
+
+def function(name):
+    """The name of a test without those of its modules."""
+    return name.rpartition("::")[2]
 
 
 def of_test(tests, name, every):
@@ -79,13 +84,13 @@ def main():
     with tempfile.TemporaryDirectory() as folder:
         tests = Tests(str(pathlib.Path(words.program).resolve()), growth.Page(folder, "calls refused"))
         names = tests.names()
-        for name in sorted({*CALLS} - {*names}):
+        for name in sorted({*CALLS} - {*map(function, names)}):
             failed += 1
             print(f"FAILED {name}, of {CALLS[name]}: there is no such test")
         names = [name for name in names if words.only in name]
         for name in names:
             faults, tried, told, most = of_test(tests, name, words.all)
-            if name in CALLS and not told:
+            if function(name) in CALLS and not told:
                 faults.append(f"{name} never told want of memory, in {tried} tries")
             passed, failed = passed + tried - len(faults), failed + len(faults)
             tells, growths = tells + told, growths + most

@@ -117,23 +117,26 @@ fn is_proved(alloc: Global, state: &State) -> Result<bool, AllocError> {
 }
 
 // The first command of which this is not so, or nothing.
-fn first_undone(alloc: Global, meter: &mut Meter) -> Result<&'static str, AllocError> {
-    let mut state = State::new(alloc);
+fn first_undone(
+    alloc: Global,
+    meter: &mut Meter,
+    state: &mut State,
+) -> Result<&'static str, AllocError> {
     for step in STEPS.lines() {
-        if !is_step_done(alloc, meter, step, &mut state)? {
+        if !is_step_done(alloc, meter, step, state)? {
             return Ok(step);
         }
     }
-    Ok(if is_proved(alloc, &state)? {
-        ""
-    } else {
-        "the theorem"
-    })
+    if !is_proved(alloc, state)? {
+        return Ok("the theorem");
+    }
+    Ok("")
 }
 
 fn undone_by(alloc: Global, setup: Setup) -> Result<&'static str, AllocError> {
     let mut meter = Meter::new(setup);
-    first_undone(alloc, &mut meter)
+    let mut state = State::new(alloc);
+    first_undone(alloc, &mut meter, &mut state)
 }
 
 fn undone(alloc: Global) -> Result<&'static str, AllocError> {
