@@ -18,37 +18,6 @@ g N `x:A = x /\ c = c`
 e CONJ_TAC THEN REFL_TAC
 qed";
 
-// The function that closes an equation of a term with itself.
-fn closing_entry(alloc: Global) -> Result<Entry, AllocError> {
-    let tac = Box::new(
-        alloc,
-        move |args: &TacArgs, goal: &Goal, names: &Names, turns: u32|
-            requires { turns ≤ 100000 }
-        { refl_tac(alloc, args, goal, names, turns) },
-    )?;
-    let name = String::from_str(alloc, "REFL_TAC")?;
-    Ok(Entry::new(name, TacCode::ReflTac, tac))
-}
-
-// The function that leaves the two parts of a conjunction.
-fn parting_entry(alloc: Global) -> Result<Entry, AllocError> {
-    let tac = Box::new(
-        alloc,
-        move |args: &TacArgs, goal: &Goal, names: &Names, turns: u32|
-            requires { turns ≤ 100000 }
-        { conj_tac(alloc, args, goal, names, turns) },
-    )?;
-    let name = String::from_str(alloc, "CONJ_TAC")?;
-    Ok(Entry::new(name, TacCode::ConjTac, tac))
-}
-
-fn entries(alloc: Global) -> Result<Vec<Entry>, AllocError> {
-    let mut entries = Vec::new(alloc);
-    entries.push(closing_entry(alloc)?)?;
-    entries.push(parting_entry(alloc)?)?;
-    Ok(entries)
-}
-
 // Whether the command reads just this of the state, and is carried out.
 fn is_done_from(
     alloc: Global,
@@ -139,8 +108,26 @@ fn undone_by(alloc: Global, setup: Setup) -> Result<&'static str, AllocError> {
     first_undone(alloc, &mut meter, &mut state)
 }
 
+// By two functions: one closes an equation of a term with itself, the other leaves the two parts of a conjunction.
 fn undone(alloc: Global) -> Result<&'static str, AllocError> {
-    match Registry::new(entries(alloc)?) {
+    let closing = Box::new(
+        alloc,
+        move |args: &TacArgs, goal: &Goal, names: &Names, turns: u32|
+            requires { turns ≤ 100000 }
+        { refl_tac(alloc, args, goal, names, turns) },
+    )?;
+    let parting = Box::new(
+        alloc,
+        move |args: &TacArgs, goal: &Goal, names: &Names, turns: u32|
+            requires { turns ≤ 100000 }
+        { conj_tac(alloc, args, goal, names, turns) },
+    )?;
+    let mut entries = Vec::new(alloc);
+    let name = String::from_str(alloc, "REFL_TAC")?;
+    entries.push(Entry::new(name, TacCode::ReflTac, closing))?;
+    let name = String::from_str(alloc, "CONJ_TAC")?;
+    entries.push(Entry::new(name, TacCode::ConjTac, parting))?;
+    match Registry::new(entries) {
         Ok(registry) => undone_by(alloc, setup(alloc, registry)?),
         Err(RegistryError::Twice(_)) => Ok("a name stands twice"),
     }
