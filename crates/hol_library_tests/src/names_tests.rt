@@ -87,22 +87,45 @@ fn is_imported(env: &mut Env, other: &Env) -> Result<bool, Fail> {
     Ok(true)
 }
 
-// Whether a theory has the names of its constants, its checkpoint those that it had, and one that imports it the same.
-fn are_names_of_theories(alloc: Global) -> Result<bool, Fail> {
+// The theory of a constant and a type constructor.
+fn begun(alloc: Global) -> Result<Env, Fail> {
     let mut env = Env::new(alloc);
     declare(alloc, &mut env, "c")?;
     declare_type(alloc, &mut env, "t")?;
+    Ok(env)
+}
+
+// Whether it gets the name of a constant that is added, and its checkpoint has those that it had.
+fn goes_on_apart(alloc: Global, env: &mut Env) -> Result<bool, Fail> {
     let checkpoint = env.checkpoint()?;
-    declare(alloc, &mut env, "d")?;
-    let mut other = Env::new(alloc);
-    let mut third = Env::new(alloc);
-    declare(alloc, &mut third, "e")?;
-    let done = is_imported(&mut other, &env)? && is_imported(&mut third, &env)?;
+    declare(alloc, env, "d")?;
     let before = checkpoint.names().has("c") && !checkpoint.names().has("d");
     let now = env.names().has("c") && env.names().has("d") && !env.names().has("t");
-    let imported = other.names().has("c") && other.names().has("d") && !other.names().has("e");
-    let both = third.names().has("d") && third.names().has("e") && third.len() == 4;
-    Ok(done && before && now && imported && both)
+    Ok(before && now)
+}
+
+// Whether a theory without entries that imports it has its names.
+fn is_imported_whole(alloc: Global, env: &Env) -> Result<bool, Fail> {
+    let mut other = Env::new(alloc);
+    let done = is_imported(&mut other, env)?;
+    Ok(done && other.names().has("c") && other.names().has("d") && !other.names().has("e"))
+}
+
+// The same of a theory with a constant of its own.
+fn is_imported_beside(alloc: Global, env: &Env) -> Result<bool, Fail> {
+    let mut other = Env::new(alloc);
+    declare(alloc, &mut other, "e")?;
+    let done = is_imported(&mut other, env)?;
+    Ok(done && other.names().has("d") && other.names().has("e") && other.len() == 4)
+}
+
+fn are_names_of_theories(alloc: Global) -> Result<bool, Fail> {
+    let mut env = begun(alloc)?;
+    Ok(
+        goes_on_apart(alloc, &mut env)?
+            && is_imported_whole(alloc, &env)?
+            && is_imported_beside(alloc, &env)?,
+    )
 }
 
 #[test]
