@@ -3,8 +3,8 @@
 After every edit all reports, all lists of theorems and all bases have to be those that a new session gives, to which the same texts are put in order. Where the edit
 was carried out, the number of `stats` may rise by the commands that it affects and no more; where it was refused, it has to stay. Which commands are affected is told
 from the new sessions' reports before and after the edit alone: a command is counted where it was inserted or replaced, or where something else stands under a name that
-it writes or makes, or another proof is open where it looks at that. What a theorem rests on is told from the commands that were accepted, and compared with the replies
-to `basis`.
+it writes or makes, or a constant comes or goes whose name a step may free, or another proof is open where it looks at that. What a theorem rests on is told from the
+commands that were accepted, and compared with the replies to `basis`.
 
 Commands come from a list below, with the names that each of them writes and makes. By chance alone they would nearly all be refused, so most edits go towards
 documents in which proofs are finished and imported (`WHOLE`, one after the other), and the others away from them. At the end each kind of command has to have been
@@ -28,6 +28,7 @@ COMMANDS = [
     ("new_type t 0", [], ["type:t"]),
     ("new_type u 1", [], ["type:u"]),
     ("new_constant c `:bool`", ["type:bool"], ["const:c"]),
+    ("new_constant c' `:bool`", ["type:bool"], ["const:c'"]),
     ("new_constant d `:bool`", ["type:bool"], ["const:d"]),
     ("new_constant k `:t`", ["type:t"], ["const:k"]),
     ("new_constant k `:bool`", ["type:bool"], ["const:k"]),
@@ -43,6 +44,8 @@ COMMANDS = [
     ("g M `p /\\ q ==> q /\\ p`", ["const:p", "const:q"], ["thm:M"]),
     ("g N `(c ==> c) /\\ (d ==> d)`", ["const:c", "const:d"], ["thm:N"]),
     ("g N `c /\\ d ==> e`", ["const:c", "const:d", "const:e"], ["thm:N"]),
+    ("g Q `!c:bool. c ==> c`", ["const:c", "type:bool"], ["thm:Q"]),
+    ("e GEN_TAC", [], []),
     ("e DISCH_TAC", [], []),
     ("e STRIP_TAC", [], []),
     ("e CONJ_TAC", [], []),
@@ -76,6 +79,7 @@ CONSTANTS = ["new_constant c `:bool`", "new_constant d `:bool`"]
 AXIOMS = ["new_axiom AX `c ==> c`", "new_axiom AY `d /\\ c`"]
 PROOF_OF_L = ["g L `c ==> c`", "e DISCH_TAC THEN FIRST_ASSUM ACCEPT_TAC", "qed"]
 PROOF_OF_M = ["g M `p /\\ q ==> q /\\ p`", "e STRIP_TAC", "e CONJ_TAC", "b", "e REPEAT STRIP_TAC THEN FIRST_ASSUM ACCEPT_TAC", "qed"]
+PROOF_OF_Q = ["g Q `!c:bool. c ==> c`", "e GEN_TAC", "e REPEAT STRIP_TAC THEN FIRST_ASSUM ACCEPT_TAC", "qed"]
 WHOLE = [
     [
         ("A", [*CONSTANTS, *AXIOMS, *PROOF_OF_L, "new_definition e_DEF `e = (c /\\ d)`"]),
@@ -84,7 +88,7 @@ WHOLE = [
         ("D", ["import A", "g N `c /\\ d ==> e`", "e REWRITE_TAC [e_DEF]", "qed", "import C", "new_constant k `:t`"]),
     ],
     [
-        ("B", [*PROOF_OF_M, "new_constant p `:bool`", "g L `c ==> c`", "e DISCH_TAC", "oops"]),
+        ("B", ["new_constant c' `:bool`", *PROOF_OF_Q, "new_constant p `:bool`", "g L `c ==> c`", "e DISCH_TAC", "oops"]),
         ("A", [*reversed(CONSTANTS), *AXIOMS, "g L `c ==> c`", "e ACCEPT_TAC AX", "qed", "new_definition e_DEF `e = (d \\/ c)`"]),
         ("C", ["import A", "g N `(c ==> c) /\\ (d ==> d)`", "e ASM_REWRITE_TAC [AY; L]", "qed", "import B", "new_type u 1"]),
         ("D", ["import C", "g L `d ==> d`", "new_constant k `:t`", "new_type t 0", "new_constant k `:bool`", *PROOF_OF_M]),
@@ -93,9 +97,11 @@ WHOLE = [
         ("C", [*CONSTANTS, *AXIOMS, "g L `d ==> d`", "e DISCH_TAC", "e MP_TAC AY", "e REWRITE_TAC []", "e DISCH_TAC", "b", "e REPEAT STRIP_TAC THEN FIRST_ASSUM ACCEPT_TAC", "qed"]),
         ("A", ["import C", "new_definition e_DEF `e = (d \\/ c)`", "g N `c /\\ d ==> e`", "e DISCH_TAC", "e REWRITE_TAC [e_DEF]", "e ASM_REWRITE_TAC [AY; L]", "qed"]),
         ("B", ["import A", "g M `p /\\ q ==> q /\\ p`", "e SUBGOAL_THEN `c:bool` ASSUME_TAC", "e REWRITE_TAC [AY]", "e REPEAT STRIP_TAC THEN FIRST_ASSUM ACCEPT_TAC", "qed"]),
-        ("D", ["import C", "import B", *PROOF_OF_M]),
+        ("D", ["import C", "import B", *PROOF_OF_Q]),
     ],
 ]
+# The names that a text binds, which are read, and are none of the constants that it rests on.
+BOUND = {"g Q `!c:bool. c ==> c`": ["const:c"]}
 UNCOUNTED = {"b", "r", "oops", "import", "nonsense"}
 
 
@@ -187,14 +193,14 @@ class Theory:
         cited, makes = KEYS[text]
         seen = tuple((key, self.values.get(key)) for key in cited + makes)
         word, goals = text.split()[0], self.proof[1][-1][0] if self.proof else []
-        first = json.dumps(goals[0]) if word == "e" and goals else None
+        first = json.dumps([goals[0], tested(text, goals[0], self.values)]) if word == "e" and goals else None
         closing = (self.proof[0], self.proof[1][-1][1], len(goals)) if word == "qed" and self.proof else None
         return seen, self.proof is not None, first, closing
 
     def accept(self, text, report, ends):
         """The command was accepted with this report."""
         word, goals, made = text.split()[0], report.get("goals"), [key_of(entry) for entry in report.get("made", [])]
-        standing = [key for key in KEYS[text][0] if key in self.values]
+        standing = [key for key in KEYS[text][0] if key in self.values and key not in BOUND.get(text, [])]
         basis = frozenset().union(*(self.values[key][1] for key in standing))
         if word == "g":
             self.proof = ((text.split()[1], json.dumps(goals)), [(goals, basis)])
@@ -212,6 +218,12 @@ class Theory:
         else:
             item = (item_of(text), text, tuple(standing))
             self.values.update((key, (item, basis | {item})) for key in made)
+
+
+def tested(text, goal, values):
+    """Whether constants stand of the names that the step may free: a bound variable of a goal is `c`, and at most two constants are `c` with primes."""
+    frees = "GEN_TAC" in text or "STRIP_TAC" in text
+    return [name in values for name in ("const:c", "const:c'")] if frees and "!" in goal["goal"] else []
 
 
 def item_of(text):

@@ -2,10 +2,10 @@
 
 A growth is a call by which the program asks the C library for memory; refusing.c, which is preloaded into it, refuses those that are named here. What
 is wanted comes from docs/PROTOCOL.md: where a growth of a request is refused the reply is the memory line, all reports, theorems and bases are those
-from before, and the same request with memory is answered as by a new session; but an edit whose outcome alone can't be kept for later is carried out.
-Nor is memory lost: over many refusals of one request the program comes to have no more blocks with each (how many it has may differ a little, since
-what is shared does). So for each k the k-th growth of a request is refused alone, and then all from the k-th on. By default some k of each request
-are tried, the first ones, the last ones and some between; with `--all` each k."""
+from before, and the same request with memory is answered as by a new session; but an edit whose outcome alone can't be kept for later is carried out,
+and that outcome is run again. Nor is memory lost: over many refusals of one request the program comes to have no more blocks with each (how many it has
+may differ a little, since what is shared does). So for each k the k-th growth of a request is refused alone, and then all from the k-th on. By default
+some k of each request are tried, the first ones, the last ones and some between; with `--all` each k."""
 
 import argparse
 import itertools
@@ -90,10 +90,10 @@ class Case:
 class Page:
     """The page of refusing.c."""
 
-    def __init__(self, folder):
+    def __init__(self, folder, said):
         compiler, library, self.file = os.environ.get("CC") or "cc", f"{folder}/refusing.so", f"{folder}/page"
         if not shutil.which(compiler):
-            print(f"growths refused: 0 passed, 0 failed; skipped, since there is no C compiler {compiler}: set CC")
+            print(f"{said}: 0 passed, 0 failed; skipped, since there is no C compiler {compiler}: set CC")
             sys.exit(0)
         subprocess.run([compiler, "-O2", "-shared", "-fPIC", "-o", library, HERE / "refusing.c"], check=True)
         pathlib.Path(self.file).write_bytes(bytes(mmap.PAGESIZE))
@@ -118,10 +118,10 @@ class Page:
 class Trial:
     """A program with documents in it, whose growths are refused."""
 
-    def __init__(self, program, page, before):
+    def __init__(self, program, page, before, cache="1"):
         self.page, self.faults, self.tried, self.growths, self.blocks = page, [], 0, 0, []
         page.refuse(0, 0)
-        self.server = watched.Watched(program, ["--cache", "1"], environment=page.environment)
+        self.server = watched.Watched(program, ["--cache", cache], environment=page.environment)
         self.server.ask(making(before.docs))
 
     def rests(self):
@@ -137,6 +137,9 @@ class Trial:
         self.growths = self.page.growths()
         self.page.refuse(0, 0)
         return replies[0] if replies else b"", refused
+
+    def ran(self):
+        return json.loads(self.server.ask([request("stats")])[0])["ran"]
 
     def expects(self, said, want, found):
         if want == found or len(self.faults) == 5:
@@ -171,7 +174,6 @@ class Trial:
         self.expects(f"{said}: what stands", case.before.replies, self.server.ask(case.before.lines))
         if again:
             self.carries_out(case, f"{said}, and again with memory", self.answered(case.line)[0])
-
 
     def loses_memory(self):
         """Whether the program came to have a block more for each try between the first third and the last."""
@@ -254,6 +256,54 @@ def closes(program, page, before):
         trial.expects(f"close, growth {number} refused: what stands", before.replies, trial.server.ask(before.lines))
 
 
+def losing(program, page, case, first, last):
+    """The faults where these growths of an edit are refused, how many were, and at which of the requests that undo it an outcome that it lost is run again."""
+    said, trial = f"{case.line.decode()}, growths {first} to {last} refused", Trial(program, page, case.before, "256")
+    reply, refused = trial.answered(case.line, first, last)
+    again = []
+    if reply == OK:
+        trial.expects(f"{said}: what stands after it", case.after.replies, trial.server.ask(case.after.lines))
+        for number, line in enumerate(case.undoing):
+            ran = trial.ran()
+            trial.expects(f"{said}: undone", [OK], trial.server.ask([line]))
+            again += [number] * (trial.ran() - ran)
+        trial.expects(f"{said}: outcomes that are lost", refused, len(again))
+        ran = trial.ran()
+        trial.expects(f"{said}: again with memory, and undone", [OK] * (len(case.undoing) + 1), trial.server.ask([case.line, *case.undoing]))
+        trial.expects(f"{said}: outcomes that are lost again", ran, trial.ran())
+        trial.expects(f"{said}: what stands where it is undone", case.before.replies, trial.server.ask(case.before.lines))
+    else:
+        trial.expects(f"{said}: the reply", MEMORY, reply)
+    trial.expects(f"{said}: the end", (b"", 0), trial.server.end())
+    return trial.faults, refused, again
+
+
+def lost_outcomes(program, page, case):
+    """Where the growth by which an outcome is kept after it has left the documents is refused, the edit is carried out and that outcome alone is lost."""
+    faults, tried, lost = [], 0, set()
+    for number in range(1, 10**6):
+        found, refused, again = losing(program, page, case, number, number)
+        if again:
+            found += losing(program, page, case, number, EVERY)[0]
+        faults, tried, lost = faults + found, tried + (2 if again else 1), lost | {*again}
+        if not refused:
+            break
+    # The first request that puts a theory back runs nothing, and each other one a command whose outcome left.
+    if not lost or len(case.undoing) > 1 and lost != {*range(1, len(case.undoing))}:
+        faults.append(f"{case.line.decode()}: the outcomes that it can lose are run again at {sorted(lost)} of the requests that undo it")
+    return faults, tried, number - 1
+
+
+def edits_that_lose(program):
+    """Edits by which outcomes leave the documents."""
+    before, (name, texts) = Standing(program, ONE_THEORY), ONE_THEORY[0]
+    removed, replaced = [*texts[:2], *texts[3:]], [*texts[:3], "nonsense", *texts[4:]]
+    back = [request("insert", theory=name, at=2, text=texts[2])], [request("replace", theory=name, at=3, text=texts[3])]
+    yield Case(request("remove", theory=name, at=2), before, Standing(program, [(name, removed)]), back[0])
+    yield Case(request("replace", theory=name, at=3, text="nonsense"), before, Standing(program, [(name, replaced)]), back[1])
+    yield Case(request("drop_theory", name=name), before, Standing(program, []), making(ONE_THEORY))
+
+
 def fixed_replies(program, page, before):
     """An empty line and one that is too long are answered as ever, whatever is refused."""
     trial = Trial(program, page, before)
@@ -318,8 +368,9 @@ def main():
     words = given.parse_args()
     passed = failed = requests = most = 0
     with tempfile.TemporaryDirectory() as folder:
-        page, row = Page(folder), Standing(words.program, AN_IMPORT)
+        page, row = Page(folder, "growths refused"), Standing(words.program, AN_IMPORT)
         found = [begins(words.program, page), closes(words.program, page, row), fixed_replies(words.program, page, row)]
+        found += [lost_outcomes(words.program, page, case) for case in edits_that_lose(words.program)]
         tried_cases = (case for case in cases(words.program) if words.only in case.line.decode())
         for faults, tried, growths in itertools.chain(found, (of_case(words.program, page, case, words.all) for case in tried_cases)):
             requests, most = requests + 1, max(most, growths)

@@ -5,6 +5,7 @@ a reply before the next line is read, and the words of the command line. Where t
 that of a program with memory to which the lines that were refused aren't sent."""
 
 import argparse
+import fcntl
 import json
 import os
 import resource
@@ -40,6 +41,7 @@ REPLIES = br"""{"ok":true}
 
 READ, WRITE, BAD = b"hol-serve: read fault\n", b"hol-serve: write fault\n", b"hol-serve: bad words\n"
 NO_MEMORY, MEMORY = b"hol-serve: no memory\n", b'{"error":9,"ok":false,"text":"memory"}\n'
+OK = REPLIES[0]
 NOT_JSON, LONG = b'{"error":2,"ok":false,"text":"not JSON"}\n', b'{"error":1,"ok":false,"text":"line too long"}\n'
 
 
@@ -68,27 +70,28 @@ def read_fails_after(program, lines, rest):
 
 def failed_reads(program):
     """The lines that were read whole are answered, and no more."""
-    for lines in range(len(LINES)):
-        rest = LINES[lines][:-1][: 7 * lines]
-        yield f"a read that fails after {lines} lines and {len(rest)} bytes", (1, b"".join(REPLIES[:lines]), READ), read_fails_after(program, lines, rest)
+    for lines, line in enumerate(LINES):
+        for length in sorted({0, 1, len(line) // 2, len(line) - 1} & {*range(len(line))}):
+            want = 1, b"".join(REPLIES[:lines]), READ
+            yield f"a read that fails after {lines} lines and {length} bytes", want, read_fails_after(program, lines, line[:length])
 
 
-def write_fails_after(program, room):
+def write_fails_after(program, room, lines=LINES):
     """Replies go to a file that takes so many bytes."""
     def limited():
         signal.signal(signal.SIGXFSZ, signal.SIG_IGN)
         resource.setrlimit(resource.RLIMIT_FSIZE, (room, room))
 
     with tempfile.TemporaryFile() as out:
-        ran = subprocess.run([program], input=b"".join(LINES), stdout=out, stderr=subprocess.PIPE, preexec_fn=limited, timeout=60)
+        ran = subprocess.run([program], input=b"".join(lines), stdout=out, stderr=subprocess.PIPE, preexec_fn=limited, timeout=60)
         out.seek(0)
         return ran.returncode, out.read(), ran.stderr
 
 
 def failed_writes(program):
-    """All bytes before the first one that isn't taken are written."""
+    """All bytes before the first one that isn't taken are written, wherever it stands."""
     whole = b"".join(REPLIES)
-    for room in range(0, len(whole), 5):
+    for room in range(len(whole)):
         yield f"a write that fails after {room} bytes", (1, whole[:room], WRITE), write_fails_after(program, room)
     with open("/dev/full", "wb") as full:
         ran = subprocess.run([program], input=b"".join(LINES), stdout=full, stderr=subprocess.PIPE, timeout=60)
@@ -120,9 +123,9 @@ def one_byte_at_a_time(program):
 
 
 def ends_within_a_line(program):
-    """What stands before the end is a line too: where it is cut short it is no JSON."""
+    """What stands before the end is a line too: where it is cut short, at whichever byte, it is no JSON."""
     for number, line in enumerate(LINES):
-        for length in sorted({1, 7, len(line) // 2, len(line) - 2, len(line) - 1} & {*range(1, len(line))}):
+        for length in range(1, len(line)):
             want = b"".join(REPLIES[:number]) + (REPLIES[number] if length == len(line) - 1 else NOT_JSON)
             ran = subprocess.run([program], input=b"".join(LINES[:number]) + line[:length], capture_output=True, timeout=60)
             yield f"an end after {number} lines and {length} bytes", (0, want, b""), (ran.returncode, ran.stdout, ran.stderr)
@@ -131,12 +134,15 @@ def ends_within_a_line(program):
         yield f"an end after {length} bytes of a line", (0, want, b""), (ran.returncode, ran.stdout, ran.stderr)
 
 
+def begin(is_ignored):
+    """What sets the signal SIGPIPE in the process that is about to become the program."""
+    return lambda: signal.signal(signal.SIGPIPE, signal.SIG_IGN if is_ignored else signal.SIG_DFL)
+
+
 def reader_that_goes_away(program, is_ignored):
     """Reads three replies, and goes: the write fails, whether the signal SIGPIPE was ignored by what started the program or not."""
-    def begin():
-        signal.signal(signal.SIGPIPE, signal.SIG_IGN if is_ignored else signal.SIG_DFL)
-
-    process = subprocess.Popen([program], stdin=subprocess.PIPE, stdout=subprocess.PIPE, stderr=subprocess.PIPE, restore_signals=False, preexec_fn=begin)
+    pipes = {"stdin": subprocess.PIPE, "stdout": subprocess.PIPE, "stderr": subprocess.PIPE}
+    process = subprocess.Popen([program], **pipes, restore_signals=False, preexec_fn=begin(is_ignored))
     process.stdin.write(b"".join(LINES[:3]))
     process.stdin.flush()
     replies = [process.stdout.readline() for _ in range(3)]
@@ -148,9 +154,62 @@ def reader_that_goes_away(program, is_ignored):
     return status, replies, process.stderr.read()
 
 
+def reader_that_is_gone(program, is_ignored, pair):
+    """The reader of a pipe or of a socket is gone before the program begins."""
+    ours, theirs = pair()
+    os.close(ours)
+    process = subprocess.Popen([program], stdin=subprocess.PIPE, stdout=theirs, stderr=subprocess.PIPE, restore_signals=False, preexec_fn=begin(is_ignored))
+    os.close(theirs)
+    told = process.communicate(LINES[0], timeout=60)[1]
+    return process.returncode, told
+
+
+def socket_pair():
+    return [end.detach() for end in socket.socketpair()]
+
+
+def long_lines():
+    """Lines of which the last one is answered by more than a pipe holds: a long type at each of many variables."""
+    equations = " /\\ ".join(f"x{number} = x{number + 1}" for number in range(300))
+    insert = {"op": "insert", "theory": "A", "at": 0, "text": f"g N `{equations} /\\ x0 = (x1:{'A' * 1_000})`"}
+    return [LINES[0], json.dumps(insert).encode() + b"\n", LINES[4]]
+
+
+def reads_some(program, lines, size):
+    """Reads so many bytes of the replies to lines, a few at a time by a pipe that holds a page, and goes."""
+    ours, theirs = os.pipe()
+    fcntl.fcntl(ours, fcntl.F_SETPIPE_SZ, 4_096)
+    process = subprocess.Popen([program], stdin=subprocess.PIPE, stdout=theirs, stderr=subprocess.PIPE)
+    os.close(theirs)
+    process.stdin.write(b"".join(lines))
+    process.stdin.close()
+    found = b""
+    while len(found) < size:
+        part = os.read(ours, min(1_000, size - len(found)))
+        if not part:
+            break
+        found += part
+    os.close(ours)
+    return process.wait(timeout=60), found, process.stderr.read()
+
+
+def long_replies(program):
+    """A reply that is written in parts is whole, or its first bytes, up to the first one that isn't taken."""
+    lines = long_lines()
+    whole = replies_to(program, lines)[1]
+    yield "a long reply", [OK, OK, True], [*whole[:2], len(whole[-1]) > 300_000]
+    whole = b"".join(whole)
+    yield "a long reply, read slowly", (0, whole, b""), reads_some(program, lines, len(whole))
+    for size in (1, 4_095, 4_096, 4_097, 65_536, 65_537, 100_000, len(whole) - 5_000):
+        yield f"a reader that goes away after {size} bytes of a long reply", (1, whole[:size], WRITE), reads_some(program, lines, size)
+        yield f"a write that fails after {size} bytes of a long reply", (1, whole[:size], WRITE), write_fails_after(program, size, lines)
+
+
 def signals(program):
     for is_ignored in (False, True):
         yield f"a reader that goes away, SIGPIPE ignored: {is_ignored}", (1, REPLIES[:3], WRITE), reader_that_goes_away(program, is_ignored)
+        for pair in (os.pipe, socket_pair):
+            yield f"a reader that is gone, SIGPIPE ignored: {is_ignored}, {pair.__name__}", (1, WRITE), reader_that_is_gone(program, is_ignored, pair)
     process = started(program, subprocess.PIPE)
     process.stdin.write(b"".join(LINES[:3]))
     process.stdin.flush()
@@ -180,6 +239,24 @@ def missing(program):
             yield said, 1, ran.returncode
             ran = subprocess.run([program], input=lines, stdout=subprocess.PIPE, timeout=60, preexec_fn=end)
             yield f"{said}, and nothing to tell", (0, b"".join(REPLIES)), (ran.returncode, ran.stdout)
+
+
+def unwaiting(program):
+    """Input and output that are set not to wait fail where there is nothing yet, or no room: what was read until then is answered, and what was taken stays."""
+    for lines in (0, 3):
+        ours, theirs = os.pipe()
+        os.set_blocking(ours, False)
+        os.write(theirs, b"".join(LINES[:lines]))
+        yield f"input that doesn't wait, after {lines} lines", (1, b"".join(REPLIES[:lines]), READ), ended(started(program, ours))
+        os.close(ours)
+        os.close(theirs)
+    ours, theirs = os.pipe()
+    os.set_blocking(theirs, False)
+    ran = subprocess.run([program], input=b"\n" * 4_000, stdout=theirs, stderr=subprocess.PIPE, timeout=60)
+    os.close(theirs)
+    with os.fdopen(ours, "rb") as taken:
+        found = taken.read()
+    yield "output that doesn't wait", (1, True, WRITE), (ran.returncode, bool(found) and (NOT_JSON * 4_000).startswith(found), ran.stderr)
 
 
 def large():
@@ -245,7 +322,8 @@ def main():
     given.add_argument("--program", default=str(watched.BUILT))
     program = given.parse_args().program
     passed = failed = 0
-    for group in (failed_reads, failed_writes, replies_in_turn, words, one_byte_at_a_time, ends_within_a_line, signals, missing, limited_memory):
+    reads = failed_reads, one_byte_at_a_time, ends_within_a_line, replies_in_turn
+    for group in (*reads, failed_writes, signals, long_replies, unwaiting, missing, words, limited_memory):
         for name, want, found in group(program):
             passed, failed = passed + (want == found), failed + (want != found)
             if want != found:

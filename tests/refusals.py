@@ -55,7 +55,7 @@ def functions():
     """The functions on goals, each with its kind of arguments, the number of places where it refuses a goal, and whether it pays turns."""
     names = dict(found(r'TacCode::(\w+) => "(\w+)"', "src/tac_code.rt", 33))
     kinds = dict(found(r"TacCode::(\w+) => ArgumentKind::(\w+)", "src/tac_code.rt", 33))
-    paying = {code for code, _ in found(r"^tac (\w+) = .*\b(stripped|converted) \(", "specs/Tac.antt", 7)}
+    paying = {code for code, _ in found(r"^ *tac (\w+) = .*\b(stripped|converted) \(", "specs/Tac.antt", 7)}
     bodies = dict(found(r"^pub fn (\w+_tac)\(((?:.|\n)*?\n)\}", "src/*.rt", 33))
     for code, name in names.items():
         body = re.sub(r"let TacArgs::.*\n.*TacFault::Refused.*", "", bodies[name.lower()])

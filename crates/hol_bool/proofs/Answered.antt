@@ -9,9 +9,8 @@ use Rattle.hol_formulas.proofs.FormulaLaws.{dest_forall_universal}
 use Rattle.hol_kernel.specs.Items.{Items}
 use Rattle.hol_kernel.specs.Sequent.{Sequent, sequent_of}
 use Rattle.hol_kernel.specs.Typing.{has_type}
-use Rattle.hol_derived.specs.Applied.{specialized, abstraction_in}
+use Rattle.hol_derived.specs.Applied.{specialized}
 use Rattle.hol_bool.specs.Rules.{spec_of}
-use Rattle.hol_equal.specs.Applied.{rand}
 
 module _ (basis : Items) (t : Nameless) (a : Sequent) where
   pub spec_none : dest_forall a.concl ≡ None → spec_of basis t a ≡ None
@@ -29,6 +28,3 @@ module _ (basis : Items) (t : Nameless) (a : Sequent) where
 
     pub spec_gives : has_type basis t x.domain ≡ true → spec_of basis t a ≡ Some (specialized t a)
     spec_gives e = spec_at true e ∙ ap (λ c. Some (specialized t (sequent_of a.hyps c))) (sym is)
-
-    pub is_universal : a.concl ≡ universal (abstraction_in (rand a.concl))
-    is_universal = is ∙ ap (λ c. universal (abstraction_in (rand c))) (sym is)

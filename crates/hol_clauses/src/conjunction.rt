@@ -6,114 +6,142 @@ ghost use Rattle.hol_equal.specs.Applied.{lhs, rhs};
 ghost use Rattle.hol_clauses.specs.Deduction.{theorem_under, concl_of, IsFrom, conj_rewrites};
 ghost use Rattle.hol_clauses.specs.Statements.{theorem_of};
 
-use crate::deduction::{absurd, assumed_conclusion, assumed_falsity, both, equivalent, truth};
-use hol_derived::applied::{conj, conjunct1, conjunct2};
+use crate::deduction::{absurd, assumed_conclusion, assumed_falsity, both, equivalent};
+use crate::rules::Rules;
 use hol_kernel::Thm;
 use std::alloc::{AllocError, Global};
 
 // `{p /\ q} |- p`, for what the theorem concludes.
-fn assumed_first(alloc: Global, all: &Thm) -> Result<Thm, AllocError>
+fn assumed_first(alloc: Global, rules: &mut Rules, all: &Thm) -> Result<Thm, AllocError>
     requires over { all.now.basis ≡ no_items }
     requires is { concl_of all.now ≡ conjunction (lhs (concl_of all.now)) (rhs (concl_of all.now)) }
     ensures { IfOk result (λ th. th ≡ theorem_under (concl_of all.now) (lhs (concl_of all.now))) }
 {
     let own = assumed_conclusion(alloc, all)?;
-    conjunct1(alloc, &own)
+    rules.conjunct1(alloc, &own)
 }
 
 // `{p /\ q} |- q`, for the same.
-fn assumed_second(alloc: Global, all: &Thm) -> Result<Thm, AllocError>
+fn assumed_second(alloc: Global, rules: &mut Rules, all: &Thm) -> Result<Thm, AllocError>
     requires over { all.now.basis ≡ no_items }
     requires is { concl_of all.now ≡ conjunction (lhs (concl_of all.now)) (rhs (concl_of all.now)) }
     ensures { IfOk result (λ th. th ≡ theorem_under (concl_of all.now) (rhs (concl_of all.now))) }
 {
     let own = assumed_conclusion(alloc, all)?;
-    conjunct2(alloc, &own)
+    rules.conjunct2(alloc, &own)
 }
 
 // `p /\ q <=> p`, from `p` and `q` that assume `p` alone.
-fn implied_on_the_right(alloc: Global, p: &Thm, q: &Thm) -> Result<Thm, AllocError>
+fn implied_on_the_right(
+    alloc: Global,
+    rules: &mut Rules,
+    p: &Thm,
+    q: &Thm,
+) -> Result<Thm, AllocError>
     requires own { IsFrom (concl_of p.now) p.now }
     requires implied { IsFrom (concl_of p.now) q.now }
     ensures { IfOk result (λ th. th ≡ theorem_of (equivalence (conjunction (concl_of p.now) (concl_of q.now)) (concl_of p.now))) }
 {
-    let back = conj(alloc, p, q)?;
-    let first = assumed_first(alloc, &back)?;
+    let back = rules.conj(alloc, p, q)?;
+    let first = assumed_first(alloc, rules, &back)?;
     equivalent(alloc, &back, &first)
 }
 
 // `q /\ p <=> p`, from the same.
-fn implied_on_the_left(alloc: Global, p: &Thm, q: &Thm) -> Result<Thm, AllocError>
+fn implied_on_the_left(
+    alloc: Global,
+    rules: &mut Rules,
+    p: &Thm,
+    q: &Thm,
+) -> Result<Thm, AllocError>
     requires own { IsFrom (concl_of p.now) p.now }
     requires implied { IsFrom (concl_of p.now) q.now }
     ensures { IfOk result (λ th. th ≡ theorem_of (equivalence (conjunction (concl_of q.now) (concl_of p.now)) (concl_of p.now))) }
 {
-    let back = conj(alloc, q, p)?;
-    let second = assumed_second(alloc, &back)?;
+    let back = rules.conj(alloc, q, p)?;
+    let second = assumed_second(alloc, rules, &back)?;
     equivalent(alloc, &back, &second)
 }
 
 // `(p /\ q <=> p) /\ r`, from the same and `r`.
-fn joined_on_the_right(alloc: Global, p: &Thm, q: &Thm, rest: &Thm) -> Result<Thm, AllocError>
+fn joined_on_the_right(
+    alloc: Global,
+    rules: &mut Rules,
+    p: &Thm,
+    q: &Thm,
+    rest: &Thm,
+) -> Result<Thm, AllocError>
     requires own { IsFrom (concl_of p.now) p.now }
     requires implied { IsFrom (concl_of p.now) q.now }
     requires rest { rest.now ≡ theorem_of (concl_of rest.now) }
     ensures { IfOk result (λ th. th ≡ theorem_of (conjunction (equivalence (conjunction (concl_of p.now) (concl_of q.now)) (concl_of p.now)) (concl_of rest.now))) }
 {
-    let first = implied_on_the_right(alloc, p, q)?;
-    both(alloc, &first, rest)
+    let first = implied_on_the_right(alloc, rules, p, q)?;
+    both(alloc, rules, &first, rest)
 }
 
 // `(q /\ p <=> p) /\ r`, from the same.
-fn joined_on_the_left(alloc: Global, p: &Thm, q: &Thm, rest: &Thm) -> Result<Thm, AllocError>
+fn joined_on_the_left(
+    alloc: Global,
+    rules: &mut Rules,
+    p: &Thm,
+    q: &Thm,
+    rest: &Thm,
+) -> Result<Thm, AllocError>
     requires own { IsFrom (concl_of p.now) p.now }
     requires implied { IsFrom (concl_of p.now) q.now }
     requires rest { rest.now ≡ theorem_of (concl_of rest.now) }
     ensures { IfOk result (λ th. th ≡ theorem_of (conjunction (equivalence (conjunction (concl_of q.now) (concl_of p.now)) (concl_of p.now)) (concl_of rest.now))) }
 {
-    let first = implied_on_the_left(alloc, p, q)?;
-    both(alloc, &first, rest)
+    let first = implied_on_the_left(alloc, rules, p, q)?;
+    both(alloc, rules, &first, rest)
 }
 
 // `(p /\ q <=> p) /\ (q /\ p <=> p) /\ r`, from the same.
-fn joined_on_both_sides(alloc: Global, p: &Thm, q: &Thm, rest: &Thm) -> Result<Thm, AllocError>
+fn joined_on_both_sides(
+    alloc: Global,
+    rules: &mut Rules,
+    p: &Thm,
+    q: &Thm,
+    rest: &Thm,
+) -> Result<Thm, AllocError>
     requires own { IsFrom (concl_of p.now) p.now }
     requires implied { IsFrom (concl_of p.now) q.now }
     requires rest { rest.now ≡ theorem_of (concl_of rest.now) }
     ensures { IfOk result (λ th. th ≡ theorem_of (conjunction (equivalence (conjunction (concl_of p.now) (concl_of q.now)) (concl_of p.now)) (conjunction (equivalence (conjunction (concl_of q.now) (concl_of p.now)) (concl_of p.now)) (concl_of rest.now)))) }
 {
-    let tail = joined_on_the_left(alloc, p, q, rest)?;
-    joined_on_the_right(alloc, p, q, &tail)
+    let tail = joined_on_the_left(alloc, rules, p, q, rest)?;
+    joined_on_the_right(alloc, rules, p, q, &tail)
 }
 
 // `(T /\ p <=> p) /\ (p /\ T <=> p) /\ r`, from `{p} |- p` and `r`.
-fn with_truth(alloc: Global, p: &Thm, rest: &Thm) -> Result<Thm, AllocError>
+fn with_truth(alloc: Global, rules: &mut Rules, p: &Thm, rest: &Thm) -> Result<Thm, AllocError>
     requires own { IsFrom (concl_of p.now) p.now }
     requires rest { rest.now ≡ theorem_of (concl_of rest.now) }
     ensures { IfOk result (λ th. th ≡ theorem_of (conjunction (equivalence (conjunction truth (concl_of p.now)) (concl_of p.now)) (conjunction (equivalence (conjunction (concl_of p.now) truth) (concl_of p.now)) (concl_of rest.now)))) }
 {
-    let holds = truth(alloc)?;
-    let tail = joined_on_the_right(alloc, p, &holds, rest)?;
-    joined_on_the_left(alloc, p, &holds, &tail)
+    let holds = rules.truth()?;
+    let tail = joined_on_the_right(alloc, rules, p, &holds, rest)?;
+    joined_on_the_left(alloc, rules, p, &holds, &tail)
 }
 
 // `(F /\ p <=> F) /\ (p /\ F <=> F) /\ r`, from a theorem that concludes `p`, and `r`.
-fn with_falsity(alloc: Global, p: &Thm, rest: &Thm) -> Result<Thm, AllocError>
+fn with_falsity(alloc: Global, rules: &mut Rules, p: &Thm, rest: &Thm) -> Result<Thm, AllocError>
     requires over { p.now.basis ≡ no_items }
     requires rest { rest.now ≡ theorem_of (concl_of rest.now) }
     ensures { IfOk result (λ th. th ≡ theorem_of (conjunction (equivalence (conjunction falsity (concl_of p.now)) falsity) (conjunction (equivalence (conjunction (concl_of p.now) falsity) falsity) (concl_of rest.now)))) }
 {
     let own = assumed_falsity(alloc)?;
-    let any = absurd(alloc, p)?;
-    joined_on_both_sides(alloc, &own, &any, rest)
+    let any = absurd(alloc, rules, p)?;
+    joined_on_both_sides(alloc, rules, &own, &any, rest)
 }
 
 /// The rewrites of `p` beside truth values and itself, from `{p} |- p`.
-pub(crate) fn conj_rewrites(alloc: Global, p: &Thm) -> Result<Thm, AllocError>
+pub(crate) fn conj_rewrites(alloc: Global, rules: &mut Rules, p: &Thm) -> Result<Thm, AllocError>
     requires { IsFrom (concl_of p.now) p.now }
     ensures { IfOk result (λ th. th ≡ theorem_of (conj_rewrites (concl_of p.now))) }
 {
-    let same = implied_on_the_right(alloc, p, p)?;
-    let rest = with_falsity(alloc, p, &same)?;
-    with_truth(alloc, p, &rest)
+    let same = implied_on_the_right(alloc, rules, p, p)?;
+    let rest = with_falsity(alloc, rules, p, &same)?;
+    with_truth(alloc, rules, p, &rest)
 }

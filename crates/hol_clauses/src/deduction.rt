@@ -9,7 +9,7 @@ ghost use Rattle.hol_equal.specs.Applied.{lhs, rhs};
 ghost use Rattle.hol_clauses.specs.Deduction.{theorem_under, concl_of, IsFrom};
 ghost use Rattle.hol_clauses.specs.Statements.{theorem_of};
 
-use hol_derived::applied::{self, conj, contr, eqt_intro};
+use crate::rules::Rules;
 use hol_equal::applied::{assume, trans};
 use hol_formulas::mk_falsity;
 use hol_kernel::{Basis, Thm};
@@ -34,14 +34,6 @@ pub(crate) fn assumed_conclusion(alloc: Global, a: &Thm) -> Result<Thm, AllocErr
     assume(alloc, a.basis(), a.concl())
 }
 
-/// `|- T`.
-pub fn truth(alloc: Global) -> Result<Thm, AllocError>
-    ensures { IfOk result (λ th. th ≡ theorem_of truth) }
-{
-    let basis = Basis::empty(alloc)?;
-    applied::truth(alloc, &basis)
-}
-
 /// `{F} |- F`.
 pub(crate) fn assumed_falsity(alloc: Global) -> Result<Thm, AllocError>
     ensures { IfOk result (λ th. th ≡ theorem_under falsity falsity) }
@@ -51,13 +43,13 @@ pub(crate) fn assumed_falsity(alloc: Global) -> Result<Thm, AllocError>
 }
 
 /// `{F} |- p`, for what the theorem concludes.
-pub(crate) fn absurd(alloc: Global, a: &Thm) -> Result<Thm, AllocError>
+pub(crate) fn absurd(alloc: Global, rules: &mut Rules, a: &Thm) -> Result<Thm, AllocError>
     requires over { a.now.basis ≡ no_items }
     ensures { IfOk result (λ th. th ≡ theorem_under falsity (concl_of a.now)) }
 {
     a.well_typed();
     let own = assumed_falsity(alloc)?;
-    contr(alloc, a.concl(), &own)
+    rules.contr(alloc, a.concl(), &own)
 }
 
 /// `|- p <=> q`, from `p` that assumes `q` alone and `q` that assumes `p` alone.
@@ -70,20 +62,20 @@ pub(crate) fn equivalent(alloc: Global, p: &Thm, q: &Thm) -> Result<Thm, AllocEr
 }
 
 /// `|- p /\ q`, from `|- p` and `|- q`.
-pub(crate) fn both(alloc: Global, p: &Thm, q: &Thm) -> Result<Thm, AllocError>
+pub(crate) fn both(alloc: Global, rules: &mut Rules, p: &Thm, q: &Thm) -> Result<Thm, AllocError>
     requires first { p.now ≡ theorem_of (concl_of p.now) }
     requires second { q.now ≡ theorem_of (concl_of q.now) }
     ensures { IfOk result (λ th. th ≡ theorem_of (conjunction (concl_of p.now) (concl_of q.now))) }
 {
-    conj(alloc, p, q)
+    rules.conj(alloc, p, q)
 }
 
 /// `|- p <=> T`, from `|- p`.
-pub(crate) fn holds(alloc: Global, p: &Thm) -> Result<Thm, AllocError>
+pub(crate) fn holds(alloc: Global, rules: &mut Rules, p: &Thm) -> Result<Thm, AllocError>
     requires { p.now ≡ theorem_of (concl_of p.now) }
     ensures { IfOk result (λ th. th ≡ theorem_of (equivalence (concl_of p.now) truth)) }
 {
-    eqt_intro(alloc, p)
+    rules.eqt_intro(alloc, p)
 }
 
 /// `|- p <=> r`, from `|- p <=> q` and `|- q <=> r`.

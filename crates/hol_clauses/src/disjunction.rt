@@ -6,13 +6,19 @@ ghost use Rattle.hol_equal.specs.Applied.{lhs, rhs};
 ghost use Rattle.hol_clauses.specs.Deduction.{theorem_under, concl_of, IsFrom, disj_rewrites};
 ghost use Rattle.hol_clauses.specs.Statements.{theorem_of};
 
-use crate::deduction::{absurd, assumed_conclusion, assumed_falsity, both, equivalent, truth};
-use hol_derived::applied::{disj_cases, disj1, disj2};
+use crate::deduction::{absurd, assumed_conclusion, assumed_falsity, both, equivalent};
+use crate::rules::Rules;
 use hol_kernel::Thm;
 use std::alloc::{AllocError, Global};
 
 // `r` that assumes what the first theorem concludes, which is a disjunction, from `r` that assumes one side alone and `r` that assumes the other alone.
-fn from_either(alloc: Global, either: &Thm, first: &Thm, second: &Thm) -> Result<Thm, AllocError>
+fn from_either(
+    alloc: Global,
+    rules: &mut Rules,
+    either: &Thm,
+    first: &Thm,
+    second: &Thm,
+) -> Result<Thm, AllocError>
     requires over { either.now.basis ≡ no_items }
     requires is { concl_of either.now ≡ disjunction (lhs (concl_of either.now)) (rhs (concl_of either.now)) }
     requires first { IsFrom (lhs (concl_of either.now)) first.now }
@@ -21,11 +27,17 @@ fn from_either(alloc: Global, either: &Thm, first: &Thm, second: &Thm) -> Result
     ensures { IfOk result (λ th. th ≡ theorem_under (concl_of either.now) (concl_of first.now)) }
 {
     let all = assumed_conclusion(alloc, either)?;
-    disj_cases(alloc, &all, first, second)
+    rules.disj_cases(alloc, &all, first, second)
 }
 
 // `p \/ q <=> p`, from `p` that assumes `p` alone, `p` that assumes `q` alone, and a theorem that concludes `q`.
-fn implying_on_the_right(alloc: Global, p: &Thm, implied: &Thm, q: &Thm) -> Result<Thm, AllocError>
+fn implying_on_the_right(
+    alloc: Global,
+    rules: &mut Rules,
+    p: &Thm,
+    implied: &Thm,
+    q: &Thm,
+) -> Result<Thm, AllocError>
     requires own { IsFrom (concl_of p.now) p.now }
     requires implied { IsFrom (concl_of q.now) implied.now }
     requires same { concl_of implied.now ≡ concl_of p.now }
@@ -33,13 +45,19 @@ fn implying_on_the_right(alloc: Global, p: &Thm, implied: &Thm, q: &Thm) -> Resu
     ensures { IfOk result (λ th. th ≡ theorem_of (equivalence (disjunction (concl_of p.now) (concl_of q.now)) (concl_of p.now))) }
 {
     q.well_typed();
-    let back = disj1(alloc, p, q.concl())?;
-    let cases = from_either(alloc, &back, p, implied)?;
+    let back = rules.disj1(alloc, p, q.concl())?;
+    let cases = from_either(alloc, rules, &back, p, implied)?;
     equivalent(alloc, &back, &cases)
 }
 
 // `q \/ p <=> p`, from the same.
-fn implying_on_the_left(alloc: Global, p: &Thm, implied: &Thm, q: &Thm) -> Result<Thm, AllocError>
+fn implying_on_the_left(
+    alloc: Global,
+    rules: &mut Rules,
+    p: &Thm,
+    implied: &Thm,
+    q: &Thm,
+) -> Result<Thm, AllocError>
     requires own { IsFrom (concl_of p.now) p.now }
     requires implied { IsFrom (concl_of q.now) implied.now }
     requires same { concl_of implied.now ≡ concl_of p.now }
@@ -47,14 +65,15 @@ fn implying_on_the_left(alloc: Global, p: &Thm, implied: &Thm, q: &Thm) -> Resul
     ensures { IfOk result (λ th. th ≡ theorem_of (equivalence (disjunction (concl_of q.now) (concl_of p.now)) (concl_of p.now))) }
 {
     q.well_typed();
-    let back = disj2(alloc, q.concl(), p)?;
-    let cases = from_either(alloc, &back, implied, p)?;
+    let back = rules.disj2(alloc, q.concl(), p)?;
+    let cases = from_either(alloc, rules, &back, implied, p)?;
     equivalent(alloc, &back, &cases)
 }
 
 // `(p \/ q <=> p) /\ r`, from the same and `r`.
 fn joined_on_the_right(
     alloc: Global,
+    rules: &mut Rules,
     p: &Thm,
     implied: &Thm,
     q: &Thm,
@@ -67,13 +86,14 @@ fn joined_on_the_right(
     requires rest { rest.now ≡ theorem_of (concl_of rest.now) }
     ensures { IfOk result (λ th. th ≡ theorem_of (conjunction (equivalence (disjunction (concl_of p.now) (concl_of q.now)) (concl_of p.now)) (concl_of rest.now))) }
 {
-    let first = implying_on_the_right(alloc, p, implied, q)?;
-    both(alloc, &first, rest)
+    let first = implying_on_the_right(alloc, rules, p, implied, q)?;
+    both(alloc, rules, &first, rest)
 }
 
 // `(q \/ p <=> p) /\ r`, from the same.
 fn joined_on_the_left(
     alloc: Global,
+    rules: &mut Rules,
     p: &Thm,
     implied: &Thm,
     q: &Thm,
@@ -86,13 +106,14 @@ fn joined_on_the_left(
     requires rest { rest.now ≡ theorem_of (concl_of rest.now) }
     ensures { IfOk result (λ th. th ≡ theorem_of (conjunction (equivalence (disjunction (concl_of q.now) (concl_of p.now)) (concl_of p.now)) (concl_of rest.now))) }
 {
-    let first = implying_on_the_left(alloc, p, implied, q)?;
-    both(alloc, &first, rest)
+    let first = implying_on_the_left(alloc, rules, p, implied, q)?;
+    both(alloc, rules, &first, rest)
 }
 
 // `(q \/ p <=> p) /\ (p \/ q <=> p) /\ r`, from the same.
 fn joined_on_both_sides(
     alloc: Global,
+    rules: &mut Rules,
     p: &Thm,
     implied: &Thm,
     q: &Thm,
@@ -105,38 +126,38 @@ fn joined_on_both_sides(
     requires rest { rest.now ≡ theorem_of (concl_of rest.now) }
     ensures { IfOk result (λ th. th ≡ theorem_of (conjunction (equivalence (disjunction (concl_of q.now) (concl_of p.now)) (concl_of p.now)) (conjunction (equivalence (disjunction (concl_of p.now) (concl_of q.now)) (concl_of p.now)) (concl_of rest.now)))) }
 {
-    let tail = joined_on_the_right(alloc, p, implied, q, rest)?;
-    joined_on_the_left(alloc, p, implied, q, &tail)
+    let tail = joined_on_the_right(alloc, rules, p, implied, q, rest)?;
+    joined_on_the_left(alloc, rules, p, implied, q, &tail)
 }
 
 // `(T \/ p <=> T) /\ (p \/ T <=> T) /\ r`, from a theorem that concludes `p`, and `r`.
-fn with_truth(alloc: Global, p: &Thm, rest: &Thm) -> Result<Thm, AllocError>
+fn with_truth(alloc: Global, rules: &mut Rules, p: &Thm, rest: &Thm) -> Result<Thm, AllocError>
     requires over { p.now.basis ≡ no_items }
     requires rest { rest.now ≡ theorem_of (concl_of rest.now) }
     ensures { IfOk result (λ th. th ≡ theorem_of (conjunction (equivalence (disjunction truth (concl_of p.now)) truth) (conjunction (equivalence (disjunction (concl_of p.now) truth) truth) (concl_of rest.now)))) }
 {
-    let holds = truth(alloc)?;
-    let tail = joined_on_the_left(alloc, &holds, &holds, p, rest)?;
-    joined_on_the_right(alloc, &holds, &holds, p, &tail)
+    let holds = rules.truth()?;
+    let tail = joined_on_the_left(alloc, rules, &holds, &holds, p, rest)?;
+    joined_on_the_right(alloc, rules, &holds, &holds, p, &tail)
 }
 
 // `(F \/ p <=> p) /\ (p \/ F <=> p) /\ r`, from `{p} |- p` and `r`.
-fn with_falsity(alloc: Global, p: &Thm, rest: &Thm) -> Result<Thm, AllocError>
+fn with_falsity(alloc: Global, rules: &mut Rules, p: &Thm, rest: &Thm) -> Result<Thm, AllocError>
     requires own { IsFrom (concl_of p.now) p.now }
     requires rest { rest.now ≡ theorem_of (concl_of rest.now) }
     ensures { IfOk result (λ th. th ≡ theorem_of (conjunction (equivalence (disjunction falsity (concl_of p.now)) (concl_of p.now)) (conjunction (equivalence (disjunction (concl_of p.now) falsity) (concl_of p.now)) (concl_of rest.now)))) }
 {
     let own = assumed_falsity(alloc)?;
-    let any = absurd(alloc, p)?;
-    joined_on_both_sides(alloc, p, &any, &own, rest)
+    let any = absurd(alloc, rules, p)?;
+    joined_on_both_sides(alloc, rules, p, &any, &own, rest)
 }
 
 /// The rewrites of `p` beside truth values and itself, from `{p} |- p`.
-pub(crate) fn disj_rewrites(alloc: Global, p: &Thm) -> Result<Thm, AllocError>
+pub(crate) fn disj_rewrites(alloc: Global, rules: &mut Rules, p: &Thm) -> Result<Thm, AllocError>
     requires { IsFrom (concl_of p.now) p.now }
     ensures { IfOk result (λ th. th ≡ theorem_of (disj_rewrites (concl_of p.now))) }
 {
-    let same = implying_on_the_right(alloc, p, p, p)?;
-    let rest = with_falsity(alloc, p, &same)?;
-    with_truth(alloc, p, &rest)
+    let same = implying_on_the_right(alloc, rules, p, p, p)?;
+    let rest = with_falsity(alloc, rules, p, &same)?;
+    with_truth(alloc, rules, p, &rest)
 }

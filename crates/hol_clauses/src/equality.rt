@@ -10,9 +10,9 @@ ghost use Rattle.hol_equal.specs.Applied.{lhs, rhs};
 ghost use Rattle.hol_clauses.specs.Deduction.{theorem_under, concl_of, IsFrom, eq_rewrites};
 ghost use Rattle.hol_clauses.specs.Statements.{theorem_of};
 
-use crate::deduction::{assumed, assumed_conclusion, both, chained, equivalent, truth};
+use crate::deduction::{assumed, assumed_conclusion, both, chained, equivalent};
 use crate::negation::denied;
-use hol_derived::applied::{disch, eqf_intro, eqt_intro};
+use crate::rules::Rules;
 use hol_equal::applied::{eq_mp, sym};
 use hol_formulas::mk_neg;
 use hol_kernel::Thm;
@@ -40,77 +40,83 @@ fn turned(alloc: Global, equal: &Thm) -> Result<Thm, AllocError>
 }
 
 // `T <=> p`, from `p`.
-fn truth_equal(alloc: Global, p: &Thm) -> Result<Thm, AllocError>
+fn truth_equal(alloc: Global, rules: &mut Rules, p: &Thm) -> Result<Thm, AllocError>
     requires over { p.now.basis ≡ no_items }
     ensures { IfOk result (λ th. th ≡ theorem_over no_items p.now.sequent.hyps (equivalence truth (concl_of p.now))) }
 {
-    let same = eqt_intro(alloc, p)?;
+    let same = rules.eqt_intro(alloc, p)?;
     sym(alloc, &same)
 }
 
 // `{T <=> p} |- p`, for what the theorem concludes.
-fn from_truth_equal(alloc: Global, equal: &Thm) -> Result<Thm, AllocError>
+fn from_truth_equal(alloc: Global, rules: &Rules, equal: &Thm) -> Result<Thm, AllocError>
     requires over { equal.now.basis ≡ no_items }
     requires is { concl_of equal.now ≡ equivalence truth (rhs (concl_of equal.now)) }
     ensures { IfOk result (λ th. th ≡ theorem_under (concl_of equal.now) (rhs (concl_of equal.now))) }
 {
-    let holds = truth(alloc)?;
+    let holds = rules.truth()?;
     let all = assumed_conclusion(alloc, equal)?;
     eq_mp(alloc, &all, &holds)
 }
 
 // `(T <=> p) <=> p`, from `p` that assumes `p` alone.
-fn truth_is(alloc: Global, p: &Thm) -> Result<Thm, AllocError>
+fn truth_is(alloc: Global, rules: &mut Rules, p: &Thm) -> Result<Thm, AllocError>
     requires { IsFrom (concl_of p.now) p.now }
     ensures { IfOk result (λ th. th ≡ theorem_of (equivalence (equivalence truth (concl_of p.now)) (concl_of p.now))) }
 {
-    let back = truth_equal(alloc, p)?;
-    let own = from_truth_equal(alloc, &back)?;
+    let back = truth_equal(alloc, rules, p)?;
+    let own = from_truth_equal(alloc, rules, &back)?;
     equivalent(alloc, &back, &own)
 }
 
 // `(p <=> T) <=> p`, from a theorem that concludes `p`, and `(T <=> p) <=> p`.
-fn is_truth(alloc: Global, p: &Thm, first: &Thm) -> Result<Thm, AllocError>
+fn is_truth(alloc: Global, rules: &mut Rules, p: &Thm, first: &Thm) -> Result<Thm, AllocError>
     requires over { p.now.basis ≡ no_items }
     requires is { first.now ≡ theorem_of (equivalence (equivalence truth (concl_of p.now)) (concl_of p.now)) }
     ensures { IfOk result (λ th. th ≡ theorem_of (equivalence (equivalence (concl_of p.now) truth) (concl_of p.now))) }
 {
-    let same = eqt_intro(alloc, p)?;
+    let same = rules.eqt_intro(alloc, p)?;
     let back = turned(alloc, &same)?;
     chained(alloc, &back, first)
 }
 
 // `((p <=> T) <=> p) /\ r`, from the same and `r`.
-fn is_truth_joined(alloc: Global, p: &Thm, first: &Thm, rest: &Thm) -> Result<Thm, AllocError>
+fn is_truth_joined(
+    alloc: Global,
+    rules: &mut Rules,
+    p: &Thm,
+    first: &Thm,
+    rest: &Thm,
+) -> Result<Thm, AllocError>
     requires over { p.now.basis ≡ no_items }
     requires is { first.now ≡ theorem_of (equivalence (equivalence truth (concl_of p.now)) (concl_of p.now)) }
     requires rest { rest.now ≡ theorem_of (concl_of rest.now) }
     ensures { IfOk result (λ th. th ≡ theorem_of (conjunction (equivalence (equivalence (concl_of p.now) truth) (concl_of p.now)) (concl_of rest.now))) }
 {
-    let second = is_truth(alloc, p, first)?;
-    both(alloc, &second, rest)
+    let second = is_truth(alloc, rules, p, first)?;
+    both(alloc, rules, &second, rest)
 }
 
 // `((T <=> p) <=> p) /\ ((p <=> T) <=> p) /\ r`, from `p` that assumes `p` alone, and `r`.
-fn with_truth(alloc: Global, p: &Thm, rest: &Thm) -> Result<Thm, AllocError>
+fn with_truth(alloc: Global, rules: &mut Rules, p: &Thm, rest: &Thm) -> Result<Thm, AllocError>
     requires own { IsFrom (concl_of p.now) p.now }
     requires rest { rest.now ≡ theorem_of (concl_of rest.now) }
     ensures { IfOk result (λ th. th ≡ theorem_of (conjunction (equivalence (equivalence truth (concl_of p.now)) (concl_of p.now)) (conjunction (equivalence (equivalence (concl_of p.now) truth) (concl_of p.now)) (concl_of rest.now)))) }
 {
-    let first = truth_is(alloc, p)?;
-    let tail = is_truth_joined(alloc, p, &first, rest)?;
-    both(alloc, &first, &tail)
+    let first = truth_is(alloc, rules, p)?;
+    let tail = is_truth_joined(alloc, rules, p, &first, rest)?;
+    both(alloc, rules, &first, &tail)
 }
 
 // `{~p} |- p <=> F`, for what the theorem concludes.
-fn false_if_denied(alloc: Global, p: &Thm) -> Result<Thm, AllocError>
+fn false_if_denied(alloc: Global, rules: &mut Rules, p: &Thm) -> Result<Thm, AllocError>
     requires over { p.now.basis ≡ no_items }
     ensures { IfOk result (λ th. th ≡ theorem_under (negation (concl_of p.now)) (equivalence (concl_of p.now) falsity)) }
 {
     p.well_typed();
     let not = mk_neg(alloc, p.concl())?;
     let own = assumed(alloc, &not)?;
-    eqf_intro(alloc, &own)
+    rules.eqf_intro(alloc, &own)
 }
 
 // `F` that assumes `p <=> F` and what `p` assumes, from a theorem that concludes this equation, and `p`.
@@ -125,7 +131,12 @@ fn falsity_from(alloc: Global, equal: &Thm, p: &Thm) -> Result<Thm, AllocError>
 }
 
 // `~p` that assumes `p <=> F` and what `p` assumes but `p`, from the same.
-fn denied_if_false(alloc: Global, equal: &Thm, p: &Thm) -> Result<Thm, AllocError>
+fn denied_if_false(
+    alloc: Global,
+    rules: &mut Rules,
+    equal: &Thm,
+    p: &Thm,
+) -> Result<Thm, AllocError>
     requires over { equal.now.basis ≡ no_items }
     requires is { concl_of equal.now ≡ equivalence (concl_of p.now) falsity }
     requires own { IsFrom (concl_of p.now) p.now }
@@ -133,55 +144,55 @@ fn denied_if_false(alloc: Global, equal: &Thm, p: &Thm) -> Result<Thm, AllocErro
 {
     p.well_typed();
     let none = falsity_from(alloc, equal, p)?;
-    let implies = disch(alloc, p.concl(), &none)?;
+    let implies = rules.disch(alloc, p.concl(), &none)?;
     denied(alloc, p, &implies)
 }
 
 // `(p <=> F) <=> ~p`, from `p` that assumes `p` alone.
-fn is_falsity(alloc: Global, p: &Thm) -> Result<Thm, AllocError>
+fn is_falsity(alloc: Global, rules: &mut Rules, p: &Thm) -> Result<Thm, AllocError>
     requires { IsFrom (concl_of p.now) p.now }
     ensures { IfOk result (λ th. th ≡ theorem_of (equivalence (equivalence (concl_of p.now) falsity) (negation (concl_of p.now)))) }
 {
-    let equal = false_if_denied(alloc, p)?;
-    let not = denied_if_false(alloc, &equal, p)?;
+    let equal = false_if_denied(alloc, rules, p)?;
+    let not = denied_if_false(alloc, rules, &equal, p)?;
     equivalent(alloc, &equal, &not)
 }
 
 // `(F <=> p) <=> (p <=> F)`, for what the theorem concludes.
-fn falsity_turned(alloc: Global, p: &Thm) -> Result<Thm, AllocError>
+fn falsity_turned(alloc: Global, rules: &mut Rules, p: &Thm) -> Result<Thm, AllocError>
     requires over { p.now.basis ≡ no_items }
     ensures { IfOk result (λ th. th ≡ theorem_of (equivalence (equivalence falsity (concl_of p.now)) (equivalence (concl_of p.now) falsity))) }
 {
-    let equal = false_if_denied(alloc, p)?;
+    let equal = false_if_denied(alloc, rules, p)?;
     let back = sym(alloc, &equal)?;
     turned(alloc, &back)
 }
 
 // `(F <=> p) <=> ~p`, from a theorem that concludes `p`, and `(p <=> F) <=> ~p`.
-fn falsity_is(alloc: Global, p: &Thm, second: &Thm) -> Result<Thm, AllocError>
+fn falsity_is(alloc: Global, rules: &mut Rules, p: &Thm, second: &Thm) -> Result<Thm, AllocError>
     requires over { p.now.basis ≡ no_items }
     requires is { second.now ≡ theorem_of (equivalence (equivalence (concl_of p.now) falsity) (negation (concl_of p.now))) }
     ensures { IfOk result (λ th. th ≡ theorem_of (equivalence (equivalence falsity (concl_of p.now)) (negation (concl_of p.now)))) }
 {
-    let first = falsity_turned(alloc, p)?;
+    let first = falsity_turned(alloc, rules, p)?;
     chained(alloc, &first, second)
 }
 
 // `((F <=> p) <=> ~p) /\ ((p <=> F) <=> ~p)`, from `p` that assumes `p` alone.
-fn with_falsity(alloc: Global, p: &Thm) -> Result<Thm, AllocError>
+fn with_falsity(alloc: Global, rules: &mut Rules, p: &Thm) -> Result<Thm, AllocError>
     requires { IsFrom (concl_of p.now) p.now }
     ensures { IfOk result (λ th. th ≡ theorem_of (conjunction (equivalence (equivalence falsity (concl_of p.now)) (negation (concl_of p.now))) (equivalence (equivalence (concl_of p.now) falsity) (negation (concl_of p.now))))) }
 {
-    let right = is_falsity(alloc, p)?;
-    let left = falsity_is(alloc, p, &right)?;
-    both(alloc, &left, &right)
+    let right = is_falsity(alloc, rules, p)?;
+    let left = falsity_is(alloc, rules, p, &right)?;
+    both(alloc, rules, &left, &right)
 }
 
 /// The rewrites of `p` beside truth values, from `{p} |- p`.
-pub(crate) fn eq_rewrites(alloc: Global, p: &Thm) -> Result<Thm, AllocError>
+pub(crate) fn eq_rewrites(alloc: Global, rules: &mut Rules, p: &Thm) -> Result<Thm, AllocError>
     requires { IsFrom (concl_of p.now) p.now }
     ensures { IfOk result (λ th. th ≡ theorem_of (eq_rewrites (concl_of p.now))) }
 {
-    let rest = with_falsity(alloc, p)?;
-    with_truth(alloc, p, &rest)
+    let rest = with_falsity(alloc, rules, p)?;
+    with_truth(alloc, rules, p, &rest)
 }

@@ -12,7 +12,7 @@ ghost use Rattle.hol_derived.specs.Applied.{defining, unfolded};
 ghost use Rattle.hol_clauses.specs.Deduction.{concl_of};
 ghost use Rattle.hol_clauses.specs.Statements.{stated, one_one, onto};
 
-use hol_derived::applied::generalize;
+use crate::rules::Rules;
 use hol_derived::unfold;
 use hol_formulas::{Postulate, bool_type, function_type, occurrence, variable};
 use hol_kernel::Thm;
@@ -50,19 +50,19 @@ fn at_function(alloc: Global, property: Postulate, f: &Variable) -> Result<Thm, 
 }
 
 /// ONE_ONE: `!f. ONE_ONE f <=> (!x1 x2. f x1 = f x2 ==> x1 = x2)`.
-pub fn one_one(alloc: Global) -> Result<Thm, AllocError>
+pub fn one_one(alloc: Global, rules: &mut Rules) -> Result<Thm, AllocError>
     ensures { IfOk result (λ th. th ≡ stated one_one) }
 {
     let f = function(alloc)?;
     let own = at_function(alloc, Postulate::OneOne, &f)?;
-    generalize(alloc, &f, &own)
+    rules.generalize(alloc, &f, &own)
 }
 
 /// ONTO: `!f. ONTO f <=> (!y. ?x. y = f x)`.
-pub fn onto(alloc: Global) -> Result<Thm, AllocError>
+pub fn onto(alloc: Global, rules: &mut Rules) -> Result<Thm, AllocError>
     ensures { IfOk result (λ th. th ≡ stated onto) }
 {
     let f = function(alloc)?;
     let own = at_function(alloc, Postulate::Onto, &f)?;
-    generalize(alloc, &f, &own)
+    rules.generalize(alloc, &f, &own)
 }

@@ -1,4 +1,4 @@
-//! The prelude's derived theorems: ONE_ONE, ONTO, TRUTH and the basic rewrites.
+//! The prelude's derived theorems: ONE_ONE, ONTO, TRUTH and the basic rewrites, by the rules over no items.
 //!
 //! Calls that answer a `Result` answer its memory error where memory is short, and nowhere else.
 #![tactic(auto)]
@@ -11,9 +11,10 @@ mod functions;
 mod implication;
 mod negation;
 mod rewrites;
+mod rules;
 
-pub use deduction::truth;
 pub use functions::{one_one, onto};
 pub use rewrites::{
     and_clauses, eq_clauses, imp_clauses, not_clauses_weak, or_clauses, refl_clause,
 };
+pub use rules::Rules;

@@ -12,12 +12,12 @@ ghost use Rattle.hol_clauses.specs.Deduction.{theorem_under, concl_of};
 ghost use Rattle.hol_clauses.specs.Statements.{theorem_of, stated, refl_clause, eq_clauses, not_clauses_weak, and_clauses, or_clauses, imp_clauses};
 
 use crate::conjunction::conj_rewrites;
-use crate::deduction::{assumed, assumed_falsity, both, truth};
+use crate::deduction::{assumed, assumed_falsity, both};
 use crate::disjunction::disj_rewrites;
 use crate::equality::eq_rewrites;
 use crate::implication::{always, imp_rewrites, truth_implies};
 use crate::negation::denial;
-use hol_derived::applied::{eqt_intro, generalize};
+use crate::rules::Rules;
 use hol_equal::applied::refl;
 use hol_formulas::{bool_type, occurrence, type_variable, variable};
 use hol_kernel::{Basis, Thm};
@@ -60,100 +60,100 @@ fn itself(alloc: Global, v: &Variable) -> Result<Thm, AllocError>
 }
 
 // `x = x <=> T`, for the same.
-fn itself_holds(alloc: Global, v: &Variable) -> Result<Thm, AllocError>
+fn itself_holds(alloc: Global, rules: &mut Rules, v: &Variable) -> Result<Thm, AllocError>
     requires { is_type no_items v.now.1 ≡ true }
     ensures { IfOk result (λ th. th ≡ theorem_of (equivalence (equation v.now.1 (free v.now) (free v.now)) truth)) }
 {
     let same = itself(alloc, v)?;
-    eqt_intro(alloc, &same)
+    rules.eqt_intro(alloc, &same)
 }
 
 /// REFL_CLAUSE: `!x:A. x = x <=> T`.
-pub fn refl_clause(alloc: Global) -> Result<Thm, AllocError>
+pub fn refl_clause(alloc: Global, rules: &mut Rules) -> Result<Thm, AllocError>
     ensures { IfOk result (λ th. th ≡ stated refl_clause) }
 {
     let x = any_element(alloc)?;
-    let holds = itself_holds(alloc, &x)?;
-    generalize(alloc, &x, &holds)
+    let holds = itself_holds(alloc, rules, &x)?;
+    rules.generalize(alloc, &x, &holds)
 }
 
 // `!t. p`, from `p`.
-fn for_truth_values(alloc: Global, p: &Thm) -> Result<Thm, AllocError>
+fn for_truth_values(alloc: Global, rules: &mut Rules, p: &Thm) -> Result<Thm, AllocError>
     requires { p.now ≡ theorem_of (concl_of p.now) }
     ensures { IfOk result (λ th. th ≡ theorem_on no_items (generalized (boolean (codes "t")) p.now.sequent)) }
 {
     let t = truth_value(alloc)?;
-    generalize(alloc, &t, p)
+    rules.generalize(alloc, &t, p)
 }
 
 /// EQ_CLAUSES: the rewrites of `<=>`.
-pub fn eq_clauses(alloc: Global) -> Result<Thm, AllocError>
+pub fn eq_clauses(alloc: Global, rules: &mut Rules) -> Result<Thm, AllocError>
     ensures { IfOk result (λ th. th ≡ stated eq_clauses) }
 {
     let own = assumed_truth_value(alloc)?;
-    let all = eq_rewrites(alloc, &own)?;
-    for_truth_values(alloc, &all)
+    let all = eq_rewrites(alloc, rules, &own)?;
+    for_truth_values(alloc, rules, &all)
 }
 
 // `(T ==> F) <=> F`, from `T`.
-fn truth_implies_falsity(alloc: Global, holds: &Thm) -> Result<Thm, AllocError>
+fn truth_implies_falsity(alloc: Global, rules: &mut Rules, holds: &Thm) -> Result<Thm, AllocError>
     requires { holds.now ≡ theorem_of truth }
     ensures { IfOk result (λ th. th ≡ theorem_of (equivalence (implication truth falsity) falsity)) }
 {
     let own = assumed_falsity(alloc)?;
-    truth_implies(alloc, holds, &own)
+    truth_implies(alloc, rules, holds, &own)
 }
 
 // `~T <=> F`.
-fn not_truth(alloc: Global) -> Result<Thm, AllocError>
+fn not_truth(alloc: Global, rules: &mut Rules) -> Result<Thm, AllocError>
     ensures { IfOk result (λ th. th ≡ theorem_of (equivalence (negation truth) falsity)) }
 {
-    let holds = truth(alloc)?;
-    let implied = truth_implies_falsity(alloc, &holds)?;
+    let holds = rules.truth()?;
+    let implied = truth_implies_falsity(alloc, rules, &holds)?;
     denial(alloc, &holds, &implied)
 }
 
 // `~F <=> T`.
-fn not_falsity(alloc: Global) -> Result<Thm, AllocError>
+fn not_falsity(alloc: Global, rules: &mut Rules) -> Result<Thm, AllocError>
     ensures { IfOk result (λ th. th ≡ theorem_of (equivalence (negation falsity) truth)) }
 {
     let own = assumed_falsity(alloc)?;
-    let implied = always(alloc, &own, &own)?;
+    let implied = always(alloc, rules, &own, &own)?;
     denial(alloc, &own, &implied)
 }
 
 /// NOT_CLAUSES_WEAK: the rewrites of `~T` and `~F`.
-pub fn not_clauses_weak(alloc: Global) -> Result<Thm, AllocError>
+pub fn not_clauses_weak(alloc: Global, rules: &mut Rules) -> Result<Thm, AllocError>
     ensures { IfOk result (λ th. th ≡ stated not_clauses_weak) }
 {
-    let first = not_truth(alloc)?;
-    let second = not_falsity(alloc)?;
-    both(alloc, &first, &second)
+    let first = not_truth(alloc, rules)?;
+    let second = not_falsity(alloc, rules)?;
+    both(alloc, rules, &first, &second)
 }
 
 /// AND_CLAUSES: the rewrites of `/\`.
-pub fn and_clauses(alloc: Global) -> Result<Thm, AllocError>
+pub fn and_clauses(alloc: Global, rules: &mut Rules) -> Result<Thm, AllocError>
     ensures { IfOk result (λ th. th ≡ stated and_clauses) }
 {
     let own = assumed_truth_value(alloc)?;
-    let all = conj_rewrites(alloc, &own)?;
-    for_truth_values(alloc, &all)
+    let all = conj_rewrites(alloc, rules, &own)?;
+    for_truth_values(alloc, rules, &all)
 }
 
 /// OR_CLAUSES: the rewrites of `\/`.
-pub fn or_clauses(alloc: Global) -> Result<Thm, AllocError>
+pub fn or_clauses(alloc: Global, rules: &mut Rules) -> Result<Thm, AllocError>
     ensures { IfOk result (λ th. th ≡ stated or_clauses) }
 {
     let own = assumed_truth_value(alloc)?;
-    let all = disj_rewrites(alloc, &own)?;
-    for_truth_values(alloc, &all)
+    let all = disj_rewrites(alloc, rules, &own)?;
+    for_truth_values(alloc, rules, &all)
 }
 
 /// IMP_CLAUSES: the rewrites of `==>`.
-pub fn imp_clauses(alloc: Global) -> Result<Thm, AllocError>
+pub fn imp_clauses(alloc: Global, rules: &mut Rules) -> Result<Thm, AllocError>
     ensures { IfOk result (λ th. th ≡ stated imp_clauses) }
 {
     let own = assumed_truth_value(alloc)?;
-    let all = imp_rewrites(alloc, &own)?;
-    for_truth_values(alloc, &all)
+    let all = imp_rewrites(alloc, rules, &own)?;
+    for_truth_values(alloc, rules, &all)
 }

@@ -1,4 +1,4 @@
--- Theorems that are handed over: validity, turns, and the tacticals by what they hand.
+-- Theorems that are handed over: validity, used, and the tacticals by what they hand.
 use Rattle.std.specs.Prelude.{◌≡◌, ◌≤◌, ◌<◌, ◌+◌, ℕ, zero, suc, true, IsTrue, codes, List, [], ◌∷◌, ◌++◌, map, length, Option, Some, None, Result, Ok, Err, IfOk, refl}
 use Rattle.std.specs.FinSet as set
 use Rattle.std.specs.FinSet.{contains-is_subset}
@@ -18,8 +18,8 @@ use Rattle.hol_kernel.proofs.Declared.{has_type_of}
 use Rattle.hol_kernel.proofs.HypothesisLists.{hyps_total, hyps_same, empty_in}
 use Rattle.hol_kernel.proofs.Members.{Among, in_union_cases, in_union_left, in_union_right, not_in_empty}
 use Rattle.hol_goal.specs.Goal.{GoalValue}
+use Rattle.hol_goal.specs.Answer.{UsedValue}
 use Rattle.hol_goal.specs.Achieves.{assumed, AreAllowed}
-use Rattle.hol_goal.specs.declared.tac_code.TacCode.{TacCode}
 use Rattle.hol_just.specs.Answering.{suits, AreLeft, IsJustified}
 use Rattle.hol_just.specs.Gives.{moved}
 use Rattle.hol_just.specs.Justifies.{goal_at, always, holds_formula, LeavesConsequent, LeavesRefutation}
@@ -31,7 +31,7 @@ use Rattle.hol_just.proofs.Handed.{valid_from_assumption}
 use Rattle.hol_just.proofs.Validity.{valid_at, valid_under}
 use Rattle.hol_just.proofs.Weaker.{all_at, assumed_allowed}
 use Rattle.hol_combine.specs.ExprValue.{TheoremTacValue, SubgoalThen}
-use Rattle.hol_combine.specs.Runs.{RunValue, Refuses, DoesNotFit, otherwise, handed_args, handed, hand, first_assum}
+use Rattle.hol_combine.specs.Runs.{KnownValue, RunValue, Refuses, DoesNotFit, otherwise, handed_args, handed, hand, first_assum}
 use Rattle.hol_combine.specs.Suits.{written_args, suits_written, suits_expr}
 use Rattle.hol_combine.specs.RunView.{IsValidRun}
 use Rattle.hol_combine.specs.Going.{FollowsCut}
@@ -140,22 +140,22 @@ among_at [] i t h e = absurd (omega (arith, h))
 among_at (x ∷ terms) zero t h e = inl (ap (nameless []) e)
 among_at (x ∷ terms) (suc i) t h e = inr (among_at terms i t (omega (arith, h)) e)
 
-module _ (table : List (List ℕ × TacCode)) (called : TheoremTacValue) (goal : GoalValue) where
-  first_at : (terms : List Named) (i : ℕ) (t : Named) (turns : ℕ) → i < length terms → t ≡ get_or terms i t →
-      first_assum table called (map (nameless []) (drop i terms)) goal turns ≡ otherwise (hand table called (nameless [] t) goal turns) (first_assum table called (map (nameless []) (drop (i + 1) terms)) goal)
-  first_at terms i t turns h e =
-      ap (λ (ts : List Named). first_assum table called (map (nameless []) ts) goal turns) (drop_more terms i t h)
-      ∙ ap (λ x. otherwise (hand table called (nameless [] x) goal turns) (first_assum table called (map (nameless []) (drop (i + 1) terms)) goal)) (sym e)
+module _ (known : KnownValue) (called : TheoremTacValue) (goal : GoalValue) where
+  first_at : (terms : List Named) (i : ℕ) (t : Named) (used : UsedValue) → i < length terms → t ≡ get_or terms i t →
+      first_assum known called (map (nameless []) (drop i terms)) goal used ≡ otherwise (hand known called (nameless [] t) goal used) (first_assum known called (map (nameless []) (drop (i + 1) terms)) goal)
+  first_at terms i t used h e =
+      ap (λ (ts : List Named). first_assum known called (map (nameless []) ts) goal used) (drop_more terms i t h)
+      ∙ ap (λ x. otherwise (hand known called (nameless [] x) goal used) (first_assum known called (map (nameless []) (drop (i + 1) terms)) goal)) (sym e)
 
   -- what is answered of an assumption, where those before it were refused
-  pub first_answers : (whole answer : RunValue) (terms : List Named) (i : ℕ) (t : Named) (turns : ℕ) → i < length terms → t ≡ get_or terms i t → first_assum table called (map (nameless []) (drop i terms)) goal turns ≡ whole →
-      hand table called (nameless [] t) goal turns ≡ answer → whole ≡ otherwise answer (first_assum table called (map (nameless []) (drop (i + 1) terms)) goal)
-  first_answers whole answer terms i t turns h e before is =
-      sym before ∙ first_at terms i t turns h e ∙ ap (λ a. otherwise a (first_assum table called (map (nameless []) (drop (i + 1) terms)) goal)) is
+  pub first_answers : (whole answer : RunValue) (terms : List Named) (i : ℕ) (t : Named) (used : UsedValue) → i < length terms → t ≡ get_or terms i t → first_assum known called (map (nameless []) (drop i terms)) goal used ≡ whole →
+      hand known called (nameless [] t) goal used ≡ answer → whole ≡ otherwise answer (first_assum known called (map (nameless []) (drop (i + 1) terms)) goal)
+  first_answers whole answer terms i t used h e before is =
+      sym before ∙ first_at terms i t used h e ∙ ap (λ a. otherwise a (first_assum known called (map (nameless []) (drop (i + 1) terms)) goal)) is
 
   -- where all were refused
-  pub first_ends : (whole : RunValue) (terms : List Named) (i turns : ℕ) → length terms ≤ i → first_assum table called (map (nameless []) (drop i terms)) goal turns ≡ whole → whole ≡ Refuses (DoesNotFit (codes "FIRST_ASSUM")) turns
-  first_ends whole terms i turns h before = sym before ∙ ap (λ (ts : List Named). first_assum table called (map (nameless []) ts) goal turns) (drop_all i terms h)
+  pub first_ends : (whole : RunValue) (terms : List Named) (i : ℕ) (used : UsedValue) → length terms ≤ i → first_assum known called (map (nameless []) (drop i terms)) goal used ≡ whole → whole ≡ Refuses (DoesNotFit (codes "FIRST_ASSUM")) used
+  first_ends whole terms i used h before = sym before ∙ ap (λ (ts : List Named). first_assum known called (map (nameless []) ts) goal used) (drop_all i terms h)
 
 -- ---- SUBGOAL_THEN
 

@@ -1,6 +1,8 @@
 pub mod After
+pub mod Paying
 pub mod Falling
 pub mod Turns
+pub mod Agreement
 pub mod Counted
 pub mod Progress
 pub mod Lists

@@ -5,9 +5,9 @@ use Rattle.std.proofs.Common.{ap, sym, ◌∙◌, arith, get_or, drop, take, ◌
 use Rattle.std.proofs.lemmas.Bool.{and_parts}
 use Rattle.std.proofs.lemmas.List.{take_rest}
 use Rattle.hol_goal.specs.Goal.{GoalValue}
-use Rattle.hol_goal.specs.declared.tac_code.TacCode.{TacCode}
+use Rattle.hol_goal.specs.Answer.{UsedValue}
 use Rattle.hol_combine.specs.ExprValue.{CallValue, ExprValue, ExprValues, Call, Then, ThenL, OrElse, Try, Repeat, Every, First, Replicate, Changed, DischThen, PopAssum, FirstAssum, SubgoalThen, no_exprs, more_exprs, exprs, then_all, or_else_all, expr_nodes, exprs_nodes}
-use Rattle.hol_combine.specs.Runs.{RunValue, Leaves, Refuses, Stops, before_goals, then_on, each, run, run_every, run_first, run_each}
+use Rattle.hol_combine.specs.Runs.{KnownValue, RunValue, Leaves, Refuses, Stops, before_goals, then_on, each, run, run_every, run_first, run_each}
 use Rattle.hol_combine.specs.Suits.{all_calls, all_calls_of}
 use Rattle.hol_combine.specs.More.{run_more}
 use Rattle.hol_combine.proofs.After.{then_leaves, then_then, otherwise_same, each_unchanged}
@@ -79,34 +79,34 @@ nodes_in_or_else t (u ∷ us) = omega (arith, nodes_in_or_else u us)
 
 -- ---- runs
 
-module _ (table : List (List ℕ × TacCode)) where
-  pub every_one : (t : ExprValue) (goal : GoalValue) (turns : ℕ) → run_every table (more_exprs t no_exprs) goal turns ≡ run table t goal turns
-  every_one t goal turns = go (run table t goal turns)
+module _ (known : KnownValue) where
+  pub every_one : (t : ExprValue) (goal : GoalValue) (used : UsedValue) → run_every known (more_exprs t no_exprs) goal used ≡ run known t goal used
+  every_one t goal used = go (run known t goal used)
     where
-      go : (x : RunValue) → then_on x (each (run_every table no_exprs)) ≡ x
+      go : (x : RunValue) → then_on x (each (run_every known no_exprs)) ≡ x
       go (Leaves goals left) = each_unchanged goals left
       go (Refuses why left) = refl
-      go (Stops why) = refl
+      go (Stops why tested) = refl
 
-  pub each_every_one : (t : ExprValue) (goals : List GoalValue) (turns : ℕ) → each (run_every table (more_exprs t no_exprs)) goals turns ≡ each (run table t) goals turns
-  each_every_one t [] turns = refl
-  each_every_one t (g ∷ goals) turns = ap (λ x. then_on x (λ new l. before_goals new (each (run_every table (more_exprs t no_exprs)) goals l))) (every_one t g turns) ∙ go (run table t g turns) (λ l. each_every_one t goals l)
+  pub each_every_one : (t : ExprValue) (goals : List GoalValue) (used : UsedValue) → each (run_every known (more_exprs t no_exprs)) goals used ≡ each (run known t) goals used
+  each_every_one t [] used = refl
+  each_every_one t (g ∷ goals) used = ap (λ x. then_on x (λ new l. before_goals new (each (run_every known (more_exprs t no_exprs)) goals l))) (every_one t g used) ∙ go (run known t g used) (λ l. each_every_one t goals l)
     where
-      go : (x : RunValue) → ((l : ℕ) → each (run_every table (more_exprs t no_exprs)) goals l ≡ each (run table t) goals l) →
-          then_on x (λ new l. before_goals new (each (run_every table (more_exprs t no_exprs)) goals l)) ≡ then_on x (λ new l. before_goals new (each (run table t) goals l))
+      go : (x : RunValue) → ((l : UsedValue) → each (run_every known (more_exprs t no_exprs)) goals l ≡ each (run known t) goals l) →
+          then_on x (λ new l. before_goals new (each (run_every known (more_exprs t no_exprs)) goals l)) ≡ then_on x (λ new l. before_goals new (each (run known t) goals l))
       go (Leaves new left) h = ap (before_goals new) (h left)
       go (Refuses why left) h = refl
-      go (Stops why) h = refl
+      go (Stops why tested) h = refl
 
   -- a chain of THEN
-  pub then_more : (t : ExprValue) (us : List ExprValue) (goal : GoalValue) (turns : ℕ) → run table (then_all t us) goal turns ≡ then_on (run table t goal turns) (run_more table (exprs us))
-  then_more t [] goal turns = sym (then_leaves (run table t goal turns))
-  then_more t (u ∷ us) goal turns = then_more (Then t u) us goal turns ∙ then_then (run table t goal turns) (each (run table u)) (run_more table (exprs us))
+  pub then_more : (t : ExprValue) (us : List ExprValue) (goal : GoalValue) (used : UsedValue) → run known (then_all t us) goal used ≡ then_on (run known t goal used) (run_more known (exprs us))
+  then_more t [] goal used = sym (then_leaves (run known t goal used))
+  then_more t (u ∷ us) goal used = then_more (Then t u) us goal used ∙ then_then (run known t goal used) (each (run known u)) (run_more known (exprs us))
 
   -- FIRST of a list is a chain of ORELSE
-  pub first_is : (t : ExprValue) (us : List ExprValue) (goal : GoalValue) (turns : ℕ) → run_first table (more_exprs t (exprs us)) goal turns ≡ run table (or_else_all t us) goal turns
-  first_is t [] goal turns = refl
-  first_is t (u ∷ us) goal turns = otherwise_same (run table t goal turns) (run_first table (more_exprs u (exprs us)) goal) (run table (or_else_all u us) goal) (λ l. first_is u us goal l)
+  pub first_is : (t : ExprValue) (us : List ExprValue) (goal : GoalValue) (used : UsedValue) → run_first known (more_exprs t (exprs us)) goal used ≡ run known (or_else_all t us) goal used
+  first_is t [] goal used = refl
+  first_is t (u ∷ us) goal used = otherwise_same (run known t goal used) (run_first known (more_exprs u (exprs us)) goal) (run known (or_else_all u us) goal) (λ l. first_is u us goal l)
 
 -- ---- the expression at a place of a list
 
@@ -130,9 +130,9 @@ dropped_all [] (suc i) h = refl
 dropped_all (x ∷ ts) zero h = absurd (omega (arith, h))
 dropped_all (x ∷ ts) (suc i) h = dropped_all ts i (omega (arith, h))
 
-pub nothing_left : (table : List (List ℕ × TacCode)) (ts : ExprValues) (l : ℕ) → run_each table ts [] l ≡ Leaves [] l
-nothing_left table no_exprs l = refl
-nothing_left table (more_exprs t ts) l = refl
+pub nothing_left : (known : KnownValue) (ts : ExprValues) (l : UsedValue) → run_each known ts [] l ≡ Leaves [] l
+nothing_left known no_exprs l = refl
+nothing_left known (more_exprs t ts) l = refl
 
 pub no_goals : (goals : List GoalValue) → length goals ≡ 0 → goals ≡ []
 no_goals [] h = refl

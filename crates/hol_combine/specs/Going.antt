@@ -3,21 +3,22 @@ use Rattle.std.specs.Prelude.{◌≡◌, ◌≤◌, ℕ, zero, suc, Bool, IsTrue
 use Rattle.hol_kernel.specs.Items.{Items}
 use Rattle.hol_kernel.specs.Sequent.{no_hyps}
 use Rattle.hol_goal.specs.Goal.{GoalValue}
+use Rattle.hol_goal.specs.Answer.{UsedValue}
 use Rattle.hol_just.specs.Gives.{moved}
 use Rattle.hol_just.specs.Justifies.{CutsBy}
 use Rattle.hol_just.specs.Valid.{IsValid}
 use Rattle.hol_just.specs.declared.reason.Move.{Move}
 use Rattle.hol_combine.specs.Runs.{DoesNotFit}
-use Rattle.hol_combine.specs.RunView.{refusal_value}
+use Rattle.hol_combine.specs.RunView.{using, used_by, refusal_value}
 use Rattle.hol_combine.specs.declared.ran.Ran.{Ran}
 use Rattle.hol_combine.specs.declared.ran.RunError.{RunError}
 use Rattle.hol_combine.specs.declared.ran.RunError.TheVariants as error
 
 -- no more turns are left than there were
 abbrev pub HasAtMost : ℕ → RunError → Type 0
-HasAtMost turns (error.Refused why left) = left ≤ turns
-HasAtMost turns error.TurnLimit = Unit {0}
-HasAtMost turns error.LargeGoal = Unit {0}
+HasAtMost turns (error.Refused why left tested) = left ≤ turns
+HasAtMost turns (error.TurnLimit tested) = Unit {0}
+HasAtMost turns (error.LargeGoal tested) = Unit {0}
 HasAtMost turns error.Memory = Unit {0}
 
 abbrev pub LeavesAtMost : ℕ → Result Ran RunError → Type 0
@@ -35,17 +36,17 @@ abbrev pub GoesOnFrom : (Items → Bool) → Ran → Ran → Type 0
 GoesOnFrom more old new = GoesOn more old.step.just old.step.goals.items new.step.just new.step.goals.items
 
 -- a goal that was left as it is
-pub record IsKept (goal : GoalValue) (turns : ℕ) (ran : Ran) : Type 0 where
+pub record IsKept (goal : GoalValue) (left : UsedValue) (ran : Ran) : Type 0 where
   pub goals : ran.step.goals.items ≡ goal ∷ []
   pub just : ran.step.just ≡ []
-  pub left : ran.left ≡ turns
+  pub used : used_by ran ≡ left
 
 -- the refusal of a tactical
-abbrev pub IsRefusal : List ℕ → ℕ → RunError → Type 0
-IsRefusal name turns (error.Refused why left) = (refusal_value why ≡ DoesNotFit name) × (left ≡ turns)
-IsRefusal name turns error.TurnLimit = ⊥
-IsRefusal name turns error.LargeGoal = ⊥
-IsRefusal name turns error.Memory = Unit {0}
+abbrev pub IsRefusal : List ℕ → UsedValue → RunError → Type 0
+IsRefusal name used (error.Refused why left tested) = (refusal_value why ≡ DoesNotFit name) × (using left tested.items ≡ used)
+IsRefusal name used (error.TurnLimit tested) = ⊥
+IsRefusal name used (error.LargeGoal tested) = ⊥
+IsRefusal name used error.Memory = Unit {0}
 
 -- moves that begin with a cut, and go on where what was cut in is assumed
 abbrev pub FollowsCut : List Move → List Move → Type 0

@@ -3,6 +3,7 @@ pub mod Code
 pub mod ExprView
 pub mod Falls
 pub mod Runs
+pub mod Agreeing
 pub mod Suits
 pub mod RunView
 pub mod More

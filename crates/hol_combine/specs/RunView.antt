@@ -3,6 +3,7 @@ use Rattle.std.specs.Prelude.{◌≡◌, ◌≤◌, ℕ, Bool, IsTrue, List, [],
 use Rattle.hol_kernel.specs.Items.{Items}
 use Rattle.hol_kernel.specs.Sequent.{no_hyps}
 use Rattle.hol_goal.specs.Goal.{GoalValue}
+use Rattle.hol_goal.specs.Answer.{UsedValue}
 use Rattle.hol_just.specs.Valid.{IsValid}
 use Rattle.hol_just.specs.declared.reason.Move.{Move}
 use Rattle.hol_combine.specs.Runs.{RefusalValue, DoesNotFit, LacksHyps, TurnLimit, LargeGoal, RunValue, Leaves, Refuses, Stops}
@@ -16,14 +17,21 @@ abbrev pub refusal_value : Refusal → RefusalValue
 refusal_value (refusal.DoesNotFit name) = DoesNotFit (string_bytes name)
 refusal_value (refusal.LacksHyps name) = LacksHyps (string_bytes name)
 
+-- what the code's turns and tested names stand for
+abbrev pub using : ℕ → List (List ℕ) → UsedValue
+using left tested = record { turns_left = left; tested = tested }
+
+abbrev pub used_by : Ran → UsedValue
+used_by ran = using ran.left ran.tested.items
+
 abbrev pub IsError : RunValue → RunError → Type 0
-IsError run (error.Refused why left) = run ≡ Refuses (refusal_value why) left
-IsError run error.TurnLimit = run ≡ Stops TurnLimit
-IsError run error.LargeGoal = run ≡ Stops LargeGoal
+IsError run (error.Refused why left tested) = run ≡ Refuses (refusal_value why) (using left tested.items)
+IsError run (error.TurnLimit tested) = run ≡ Stops TurnLimit tested.items
+IsError run (error.LargeGoal tested) = run ≡ Stops LargeGoal tested.items
 IsError run error.Memory = Unit {0}
 
 abbrev pub IsRun : RunValue → Result Ran RunError → Type 0
-IsRun run (Ok ran) = run ≡ Leaves ran.step.goals.items ran.left
+IsRun run (Ok ran) = run ≡ Leaves ran.step.goals.items (used_by ran)
 IsRun run (Err e) = IsError run e
 
 -- the moves that led from the goals to those that are left are valid, over each basis that suits

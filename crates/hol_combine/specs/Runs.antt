@@ -5,7 +5,7 @@ use Rattle.std.specs.List.{list_any}
 use Rattle.hol_terms.specs.Nameless.{Nameless}
 use Rattle.hol_terms.specs.Alpha.{alpha_eq}
 use Rattle.hol_goal.specs.Goal.{GoalValue, goal_size}
-use Rattle.hol_goal.specs.Answer.{AnswerResult, AnswerValue, Left, Unfit, OutOfTurns, TooLarge}
+use Rattle.hol_goal.specs.Answer.{UsedValue, starting, AnswerResult, AnswerValue, Left, Unfit, OutOfTurns, TooLarge}
 use Rattle.hol_kernel.specs.Given.{assumed as assume}
 use Rattle.hol_goal.specs.Arguments.{TacArgsValue, Theorem, TermAndTheorem}
 use Rattle.hol_goal.specs.declared.tac_code.TacCode.{TacCode}
@@ -25,45 +25,53 @@ pub data StopValue : Type 0 where
   TurnLimit : StopValue
   LargeGoal : StopValue
 
--- what a run comes to: the goals that are left, or a refusal, each with the turns left; or a stop
+-- what a run comes to: the goals that are left, or a refusal, each with what may still be used; or a stop, with the names that were tested
 pub data RunValue : Type 0 where
-  Leaves : List GoalValue → ℕ → RunValue
-  Refuses : RefusalValue → ℕ → RunValue
-  Stops : StopValue → RunValue
+  Leaves : List GoalValue → UsedValue → RunValue
+  Refuses : RefusalValue → UsedValue → RunValue
+  Stops : StopValue → List (List ℕ) → RunValue
+
+-- what a run knows: the registered functions, and the names of constants
+pub record KnownValue : Type 0 where
+  pub table : List (List ℕ × TacCode)
+  pub names : List (List ℕ)
 
 -- ---- runs after runs
 
 -- the goals before those that a run leaves
 abbrev pub before_goals : List GoalValue → RunValue → RunValue
-before_goals goals (Leaves more turns) = Leaves (goals ++ more) turns
-before_goals goals (Refuses why turns) = Refuses why turns
-before_goals goals (Stops why) = Stops why
+before_goals goals (Leaves more used) = Leaves (goals ++ more) used
+before_goals goals (Refuses why used) = Refuses why used
+before_goals goals (Stops why tested) = Stops why tested
 
 -- what follows on the goals that are left
-abbrev pub then_on : RunValue → (List GoalValue → ℕ → RunValue) → RunValue
-then_on (Leaves goals turns) next = next goals turns
-then_on (Refuses why turns) next = Refuses why turns
-then_on (Stops why) next = Stops why
+abbrev pub then_on : RunValue → (List GoalValue → UsedValue → RunValue) → RunValue
+then_on (Leaves goals used) next = next goals used
+then_on (Refuses why used) next = Refuses why used
+then_on (Stops why tested) next = Stops why tested
 
--- what comes in the place of a refusal, whose turns stay spent
-abbrev pub otherwise : RunValue → (ℕ → RunValue) → RunValue
-otherwise (Leaves goals turns) next = Leaves goals turns
-otherwise (Refuses why turns) next = next turns
-otherwise (Stops why) next = Stops why
+-- what comes in the place of a refusal, whose turns stay spent, and whose tested names tested
+abbrev pub otherwise : RunValue → (UsedValue → RunValue) → RunValue
+otherwise (Leaves goals used) next = Leaves goals used
+otherwise (Refuses why used) next = next used
+otherwise (Stops why tested) next = Stops why tested
 
--- on each in order, with what the one before left of the turns; the goals left are joined
-abbrev pub each : {X : Type 0} → (X → ℕ → RunValue) → List X → ℕ → RunValue
-each f [] turns = Leaves [] turns
-each f (x ∷ xs) turns = then_on (f x turns) (λ goals left. before_goals goals (each f xs left))
+-- on each in order, with what the one before left to be used; the goals left are joined
+abbrev pub each : {X : Type 0} → (X → UsedValue → RunValue) → List X → UsedValue → RunValue
+each f [] used = Leaves [] used
+each f (x ∷ xs) used = then_on (f x used) (λ goals left. before_goals goals (each f xs left))
 
 -- the goal unchanged
-abbrev pub unchanged : GoalValue → ℕ → RunValue
-unchanged goal turns = Leaves (goal ∷ []) turns
+abbrev pub unchanged : GoalValue → UsedValue → RunValue
+unchanged goal used = Leaves (goal ∷ []) used
 
 -- a turn is paid for what follows
-abbrev pub paying : (ℕ → RunValue) → ℕ → RunValue
-paying next zero = Stops TurnLimit
-paying next (suc turns) = next turns
+abbrev pub paying_from : (UsedValue → RunValue) → List (List ℕ) → ℕ → RunValue
+paying_from next tested zero = Stops TurnLimit tested
+paying_from next tested (suc turns) = next (record { turns_left = turns; tested = tested })
+
+abbrev pub paying : (UsedValue → RunValue) → UsedValue → RunValue
+paying next used = paying_from next used.tested used.turns_left
 
 -- ---- calls
 
@@ -71,34 +79,34 @@ paying next (suc turns) = next turns
 abbrev pub has_large : List GoalValue → Bool
 has_large goals = list_any (λ g. nat_lt 20000 (goal_size g)) goals
 
-abbrev pub small : List GoalValue → ℕ → RunValue
-small goals turns = cond (has_large goals) (Stops LargeGoal) (Leaves goals turns)
+abbrev pub small : List GoalValue → UsedValue → RunValue
+small goals used = cond (has_large goals) (Stops LargeGoal used.tested) (Leaves goals used)
 
-abbrev pub answer_of : List ℕ → AnswerResult → ℕ → RunValue
-answer_of name (Left goals) turns = small goals turns
-answer_of name Unfit turns = Refuses (DoesNotFit name) turns
-answer_of name OutOfTurns turns = Stops TurnLimit
-answer_of name TooLarge turns = Stops LargeGoal
+abbrev pub answer_of : List ℕ → AnswerResult → UsedValue → RunValue
+answer_of name (Left goals) used = small goals used
+answer_of name Unfit used = Refuses (DoesNotFit name) used
+answer_of name OutOfTurns used = Stops TurnLimit used.tested
+answer_of name TooLarge used = Stops LargeGoal used.tested
 
--- a function on goals by its meaning
-abbrev pub run_meaning : Option Meaning → List ℕ → TacArgsValue → GoalValue → ℕ → RunValue
-run_meaning None name args goal turns = Refuses (DoesNotFit name) turns
-run_meaning (Some f) name args goal turns =
-    let answer : AnswerValue = f args goal (record { turns_left = turns }) in
-    answer_of name answer.result answer.used.turns_left
+-- a function on goals by its meaning: it starts without tested names, and its own come after those before
+abbrev pub run_meaning : Option Meaning → List ℕ → TacArgsValue → GoalValue → UsedValue → RunValue
+run_meaning None name args goal used = Refuses (DoesNotFit name) used
+run_meaning (Some f) name args goal used =
+    let answer : AnswerValue = f args goal (starting used.turns_left) in
+    answer_of name answer.result (record { turns_left = answer.used.turns_left; tested = used.tested ++ answer.used.tested })
 
--- the code at an index of the table of registered functions
-abbrev pub meaning_at : List (List ℕ × TacCode) → ℕ → Option Meaning
-meaning_at [] index = None
-meaning_at (row ∷ rows) zero = Some (tac row.1)
-meaning_at (row ∷ rows) (suc index) = meaning_at rows index
+-- the code at an index of the table of registered functions, where constants have these names
+abbrev pub meaning_at : List (List ℕ) → List (List ℕ × TacCode) → ℕ → Option Meaning
+meaning_at names [] index = None
+meaning_at names (row ∷ rows) zero = Some (tac names row.1)
+meaning_at names (row ∷ rows) (suc index) = meaning_at names rows index
 
-abbrev pub call_paid : List (List ℕ × TacCode) → CallValue → GoalValue → ℕ → RunValue
-call_paid table call goal turns = run_meaning (meaning_at table call.index) call.name call.args goal turns
+abbrev pub call_paid : KnownValue → CallValue → GoalValue → UsedValue → RunValue
+call_paid known call goal used = run_meaning (meaning_at known.names known.table call.index) call.name call.args goal used
 
 -- A call pays, tests the hypotheses of the theorems that are written, and calls.
-abbrev pub run_call : List (List ℕ × TacCode) → CallValue → GoalValue → ℕ → RunValue
-run_call table call goal turns = paying (λ left. cond (are_assumed call.args goal) (call_paid table call goal left) (Refuses (LacksHyps call.name) left)) turns
+abbrev pub run_call : KnownValue → CallValue → GoalValue → UsedValue → RunValue
+run_call known call goal used = paying (λ left. cond (are_assumed call.args goal) (call_paid known call goal left) (Refuses (LacksHyps call.name) left)) used
 
 -- ---- tacticals
 
@@ -119,9 +127,9 @@ is_just goal (g ∷ h ∷ goals) = false
 
 -- CHANGED_TAC refuses where just the same goal is left.
 abbrev pub changed : GoalValue → RunValue → RunValue
-changed goal (Leaves goals turns) = cond (is_just goal goals) (Refuses (DoesNotFit (codes "CHANGED_TAC")) turns) (Leaves goals turns)
-changed goal (Refuses why turns) = Refuses why turns
-changed goal (Stops why) = Stops why
+changed goal (Leaves goals used) = cond (is_just goal goals) (Refuses (DoesNotFit (codes "CHANGED_TAC")) used) (Leaves goals used)
+changed goal (Refuses why used) = Refuses why used
+changed goal (Stops why tested) = Stops why tested
 
 -- ---- functions of a theorem
 
@@ -134,45 +142,45 @@ abbrev pub handed : TheoremTacValue → Nameless → CallValue
 handed called p = record { index = called.index; name = called.name; args = handed_args called.term p }
 
 -- It pays and calls. The hypotheses of a theorem that a tactical hands over are not tested.
-abbrev pub hand : List (List ℕ × TacCode) → TheoremTacValue → Nameless → GoalValue → ℕ → RunValue
-hand table called p goal turns = paying (call_paid table (handed called p) goal) turns
+abbrev pub hand : KnownValue → TheoremTacValue → Nameless → GoalValue → UsedValue → RunValue
+hand known called p goal used = paying (call_paid known (handed called p) goal) used
 
 -- DISCH_THEN hands p of `p ==> q` over, on q, and p of `~p`, on F.
-abbrev pub disch_then : List (List ℕ × TacCode) → TheoremTacValue → GoalValue → Option (Nameless × Nameless) → ℕ → RunValue
-disch_then table called goal None turns = Refuses (DoesNotFit (codes "DISCH_THEN")) turns
-disch_then table called goal (Some (p, q)) turns = hand table called p (concluding goal q) turns
+abbrev pub disch_then : KnownValue → TheoremTacValue → GoalValue → Option (Nameless × Nameless) → UsedValue → RunValue
+disch_then known called goal None used = Refuses (DoesNotFit (codes "DISCH_THEN")) used
+disch_then known called goal (Some (p, q)) used = hand known called p (concluding goal q) used
 
 -- POP_ASSUM takes the newest assumption out, and hands it over.
-abbrev pub pop_assum : List (List ℕ × TacCode) → TheoremTacValue → List Nameless → Nameless → ℕ → RunValue
-pop_assum table called [] w turns = Refuses (DoesNotFit (codes "POP_ASSUM")) turns
-pop_assum table called (p ∷ ps) w turns = hand table called p (record { assumptions = ps; conclusion = w }) turns
+abbrev pub pop_assum : KnownValue → TheoremTacValue → List Nameless → Nameless → UsedValue → RunValue
+pop_assum known called [] w used = Refuses (DoesNotFit (codes "POP_ASSUM")) used
+pop_assum known called (p ∷ ps) w used = hand known called p (record { assumptions = ps; conclusion = w }) used
 
 -- FIRST_ASSUM hands over the first assumption, the newest first, with which the function isn't refused. The goal keeps all.
-abbrev pub first_assum : List (List ℕ × TacCode) → TheoremTacValue → List Nameless → GoalValue → ℕ → RunValue
-first_assum table called [] goal turns = Refuses (DoesNotFit (codes "FIRST_ASSUM")) turns
-first_assum table called (p ∷ ps) goal turns = otherwise (hand table called p goal turns) (first_assum table called ps goal)
+abbrev pub first_assum : KnownValue → TheoremTacValue → List Nameless → GoalValue → UsedValue → RunValue
+first_assum known called [] goal used = Refuses (DoesNotFit (codes "FIRST_ASSUM")) used
+first_assum known called (p ∷ ps) goal used = otherwise (hand known called p goal used) (first_assum known called ps goal)
 
 -- SUBGOAL_THEN leaves p, which may not be too large, and then what comes of the goal with p handed over.
-abbrev pub subgoal_then : List (List ℕ × TacCode) → Nameless → TheoremTacValue → GoalValue → ℕ → RunValue
-subgoal_then table p called goal turns =
+abbrev pub subgoal_then : KnownValue → Nameless → TheoremTacValue → GoalValue → UsedValue → RunValue
+subgoal_then known p called goal used =
     let first : List GoalValue = concluding goal p ∷ [] in
-    cond (has_large first) (Stops LargeGoal) (before_goals first (hand table called p goal turns))
+    cond (has_large first) (Stops LargeGoal used.tested) (before_goals first (hand known called p goal used))
 
 -- ---- rounds
 
 -- REPEAT pays, and then does it and repeats on each goal that is left, or leaves the goal unchanged where that is refused: at most so many rounds.
-abbrev pub repeat : (GoalValue → ℕ → RunValue) → ℕ → GoalValue → ℕ → RunValue
-repeat f zero goal turns = Stops TurnLimit
-repeat f (suc most) goal turns = paying (λ left. otherwise (then_on (f goal left) (each (repeat f most))) (unchanged goal)) turns
+abbrev pub repeat : (GoalValue → UsedValue → RunValue) → ℕ → GoalValue → UsedValue → RunValue
+repeat f zero goal used = Stops TurnLimit used.tested
+repeat f (suc most) goal used = paying (λ left. otherwise (then_on (f goal left) (each (repeat f most))) (unchanged goal)) used
 
 -- each round pays, so that there are no more rounds than turns
-abbrev pub repeated : (GoalValue → ℕ → RunValue) → GoalValue → ℕ → RunValue
-repeated f goal turns = repeat f turns goal turns
+abbrev pub repeated : (GoalValue → UsedValue → RunValue) → GoalValue → UsedValue → RunValue
+repeated f goal used = repeat f used.turns_left goal used
 
 -- REPLICATE_TAC does it so many times, and pays for each.
-abbrev pub replicate : (GoalValue → ℕ → RunValue) → ℕ → GoalValue → ℕ → RunValue
-replicate f zero goal turns = unchanged goal turns
-replicate f (suc n) goal turns = paying (λ left. then_on (f goal left) (each (replicate f n))) turns
+abbrev pub replicate : (GoalValue → UsedValue → RunValue) → ℕ → GoalValue → UsedValue → RunValue
+replicate f zero goal used = unchanged goal used
+replicate f (suc n) goal used = paying (λ left. then_on (f goal left) (each (replicate f n))) used
 
 -- how many expressions there are
 abbrev pub count : ExprValues → ℕ
@@ -180,40 +188,40 @@ count no_exprs = 0
 count (more_exprs t ts) = suc (count ts)
 
 -- as many expressions as goals
-abbrev pub as_many : ℕ → List GoalValue → ℕ → RunValue → RunValue
-as_many n goals turns all = cond (nat_eq n (length goals)) all (Refuses (DoesNotFit (codes "THENL")) turns)
+abbrev pub as_many : ℕ → List GoalValue → UsedValue → RunValue → RunValue
+as_many n goals used all = cond (nat_eq n (length goals)) all (Refuses (DoesNotFit (codes "THENL")) used)
 
--- The run of an expression on a goal with so many turns, over the table of registered functions.
+-- The run of an expression on a goal, by what is known, with what may still be used.
 abbrev mutual
-  pub run : List (List ℕ × TacCode) → ExprValue → GoalValue → ℕ → RunValue
-  run table (Call call) goal turns = run_call table call goal turns
-  run table (Then t u) goal turns = then_on (run table t goal turns) (each (run table u))
-  run table (ThenL t us) goal turns = then_on (run table t goal turns) (λ goals left. as_many (count us) goals left (run_each table us goals left))
-  run table (OrElse t u) goal turns = otherwise (run table t goal turns) (run table u goal)
-  run table (Try t) goal turns = otherwise (run table t goal turns) (unchanged goal)
-  run table (Repeat t) goal turns = repeated (run table t) goal turns
-  run table (Every ts) goal turns = run_every table ts goal turns
-  run table (First ts) goal turns = run_first table ts goal turns
-  run table (Replicate n t) goal turns = replicate (run table t) n goal turns
-  run table (Changed t) goal turns = changed goal (run table t goal turns)
-  run table (DischThen called) goal turns = disch_then table called goal (antecedent goal.conclusion) turns
-  run table (PopAssum called) goal turns = pop_assum table called goal.assumptions goal.conclusion turns
-  run table (FirstAssum called) goal turns = first_assum table called goal.assumptions goal turns
-  run table (SubgoalThen p called) goal turns = subgoal_then table p called goal turns
+  pub run : KnownValue → ExprValue → GoalValue → UsedValue → RunValue
+  run known (Call call) goal used = run_call known call goal used
+  run known (Then t u) goal used = then_on (run known t goal used) (each (run known u))
+  run known (ThenL t us) goal used = then_on (run known t goal used) (λ goals left. as_many (count us) goals left (run_each known us goals left))
+  run known (OrElse t u) goal used = otherwise (run known t goal used) (run known u goal)
+  run known (Try t) goal used = otherwise (run known t goal used) (unchanged goal)
+  run known (Repeat t) goal used = repeated (run known t) goal used
+  run known (Every ts) goal used = run_every known ts goal used
+  run known (First ts) goal used = run_first known ts goal used
+  run known (Replicate n t) goal used = replicate (run known t) n goal used
+  run known (Changed t) goal used = changed goal (run known t goal used)
+  run known (DischThen called) goal used = disch_then known called goal (antecedent goal.conclusion) used
+  run known (PopAssum called) goal used = pop_assum known called goal.assumptions goal.conclusion used
+  run known (FirstAssum called) goal used = first_assum known called goal.assumptions goal used
+  run known (SubgoalThen p called) goal used = subgoal_then known p called goal used
 
   -- each after those before it
-  pub run_every : List (List ℕ × TacCode) → ExprValues → GoalValue → ℕ → RunValue
-  run_every table no_exprs goal turns = unchanged goal turns
-  run_every table (more_exprs t ts) goal turns = then_on (run table t goal turns) (each (run_every table ts))
+  pub run_every : KnownValue → ExprValues → GoalValue → UsedValue → RunValue
+  run_every known no_exprs goal used = unchanged goal used
+  run_every known (more_exprs t ts) goal used = then_on (run known t goal used) (each (run_every known ts))
 
   -- the first that isn't refused; the last one's refusal where all are
-  pub run_first : List (List ℕ × TacCode) → ExprValues → GoalValue → ℕ → RunValue
-  run_first table no_exprs goal turns = Refuses (DoesNotFit (codes "FIRST")) turns
-  run_first table (more_exprs t no_exprs) goal turns = run table t goal turns
-  run_first table (more_exprs t (more_exprs u us)) goal turns = otherwise (run table t goal turns) (run_first table (more_exprs u us) goal)
+  pub run_first : KnownValue → ExprValues → GoalValue → UsedValue → RunValue
+  run_first known no_exprs goal used = Refuses (DoesNotFit (codes "FIRST")) used
+  run_first known (more_exprs t no_exprs) goal used = run known t goal used
+  run_first known (more_exprs t (more_exprs u us)) goal used = otherwise (run known t goal used) (run_first known (more_exprs u us) goal)
 
   -- each on the goal of its place
-  pub run_each : List (List ℕ × TacCode) → ExprValues → List GoalValue → ℕ → RunValue
-  run_each table no_exprs goals turns = Leaves [] turns
-  run_each table (more_exprs t ts) [] turns = Leaves [] turns
-  run_each table (more_exprs t ts) (g ∷ goals) turns = then_on (run table t g turns) (λ new left. before_goals new (run_each table ts goals left))
+  pub run_each : KnownValue → ExprValues → List GoalValue → UsedValue → RunValue
+  run_each known no_exprs goals used = Leaves [] used
+  run_each known (more_exprs t ts) [] used = Leaves [] used
+  run_each known (more_exprs t ts) (g ∷ goals) used = then_on (run known t g used) (λ new left. before_goals new (run_each known ts goals left))

@@ -7,6 +7,7 @@ ghost use Rattle.hol_goal.specs.ArgumentsView.{args_value};
 ghost use Rattle.hol_just.specs.Gives.{moved};
 ghost use Rattle.hol_combine.specs.ExprView.{call_value, theorem_tac_value};
 ghost use Rattle.hol_combine.specs.Runs.{handed_args, handed};
+ghost use Rattle.hol_combine.specs.RunView.{used_by};
 ghost use Rattle.hol_combine.specs.Going.{FollowsCut};
 
 use crate::expr::{TacCall, TheoremTac};
@@ -46,9 +47,9 @@ fn handed_args(tac: &TheoremTac, p: &Term) -> Result<TacArgs, AllocError>
 pub(crate) fn after(just: Just, ran: Ran) -> Result<Ran, AllocError>
     ensures goals { IfOk result (λ new. new.step.goals.items ≡ ran.step.goals.items) }
     ensures just { IfOk result (λ new. new.step.just ≡ just ++ moved 0 ran.step.just) }
-    ensures left { IfOk result (λ new. new.left ≡ ran.left) }
+    ensures used { IfOk result (λ new. used_by new ≡ used_by ran) }
 {
-    let Ran { step, left } = ran;
+    let Ran { step, left, tested } = ran;
     let mut just = just;
     just.then_at(0, &step.just)?;
     Ok(Ran {
@@ -57,6 +58,7 @@ pub(crate) fn after(just: Just, ran: Ran) -> Result<Ran, AllocError>
             just,
         },
         left,
+        tested,
     })
 }
 
@@ -64,9 +66,9 @@ pub(crate) fn after(just: Just, ran: Ran) -> Result<Ran, AllocError>
 pub(crate) fn after_cut(alloc: Global, first: Goal, ran: Ran) -> Result<Ran, AllocError>
     ensures goals { IfOk result (λ new. new.step.goals.items ≡ first ∷ ran.step.goals.items) }
     ensures just { IfOk result (λ new. FollowsCut ran.step.just new.step.just) }
-    ensures left { IfOk result (λ new. new.left ≡ ran.left) }
+    ensures used { IfOk result (λ new. used_by new ≡ used_by ran) }
 {
-    let Ran { step, left } = ran;
+    let Ran { step, left, tested } = ran;
     let mut goals = step.goals;
     goals.insert(0, first)?;
     let mut just = Just::prove_hyp(alloc)?;
@@ -74,5 +76,6 @@ pub(crate) fn after_cut(alloc: Global, first: Goal, ran: Ran) -> Result<Ran, All
     Ok(Ran {
         step: Step { goals, just },
         left,
+        tested,
     })
 }

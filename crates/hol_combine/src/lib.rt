@@ -17,6 +17,6 @@ mod work;
 
 pub use expr::{Expr, ExprNode, Handing, TacCall, TheoremTac};
 pub use formula::Formula;
-pub use laws::repeat_law;
+pub use laws::{repeat_law, runs_need_the_tested_names_alone};
 pub use ran::{Ran, Refusal, RunError};
 pub use running::run;

@@ -2,18 +2,19 @@
 ghost use Rattle.std.specs.Prelude.{◌≡◌, ◌++◌, ◌∷◌, [], map, reverse, OnOk, IfOk};
 ghost use Rattle.hol_terms.specs.Nameless.{nameless};
 ghost use Rattle.hol_combine.specs.Runs.{are_same_terms, is_same_goal, is_just};
+ghost use Rattle.hol_goal.specs.UsedView.{used_value};
 ghost use Rattle.hol_combine.specs.Going.{IsKept, IsRefusal, copies};
 
 use crate::ran::{Ran, Refusal, RunError};
-use hol_goal::Goal;
+use hol_goal::{Goal, Used};
 use hol_just::{Just, Step};
 use hol_subst::aconv;
 use hol_terms::Term;
 use std::alloc::{AllocError, Global};
 
 /// The goal, unchanged.
-pub(crate) fn unchanged(alloc: Global, goal: &Goal, turns: u32) -> Result<Ran, AllocError>
-    ensures { IfOk result (IsKept goal.now turns) }
+pub(crate) fn unchanged(alloc: Global, goal: &Goal, used: Used) -> Result<Ran, AllocError>
+    ensures { IfOk result (IsKept goal.now (used_value used)) }
 {
     let mut goals = Vec::new(alloc);
     goals.push(goal.copy()?)?;
@@ -21,15 +22,16 @@ pub(crate) fn unchanged(alloc: Global, goal: &Goal, turns: u32) -> Result<Ran, A
         goals,
         just: Just::none(alloc),
     };
-    Ok(Ran { step, left: turns })
+    let Used { left, tested } = used;
+    Ok(Ran { step, left, tested })
 }
 
 /// A refusal by the tactical of this name.
-pub(crate) fn refused(alloc: Global, name: &str, turns: u32) -> RunError
-    ensures { IsRefusal name.now turns result }
+pub(crate) fn refused(alloc: Global, name: &str, used: Used) -> RunError
+    ensures { IsRefusal name.now (used_value used) result }
 {
     match String::from_str(alloc, name) {
-        Ok(name) => RunError::Refused(Refusal::DoesNotFit(name), turns),
+        Ok(name) => RunError::Refused(Refusal::DoesNotFit(name), used.left, used.tested),
         Err(_) => RunError::Memory,
     }
 }

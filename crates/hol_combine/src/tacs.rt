@@ -1,23 +1,23 @@
 //! What calls registered functions on goals.
-ghost use Rattle.std.specs.Prelude.{ℕ, ◌≤◌, ◌<◌, List, length, IfOk};
+ghost use Rattle.std.specs.Prelude.{◌≤◌, ◌<◌, length, IfOk};
 ghost use Rattle.hol_goal.specs.ArgumentsView.{args_value};
-ghost use Rattle.hol_goal.specs.declared.tac_code.TacCode.{TacCode};
 ghost use Rattle.hol_just.specs.Answering.{IsJustified};
 ghost use Rattle.hol_combine.specs.Called.{IsCalled};
+ghost use Rattle.hol_combine.specs.Runs.{KnownValue};
 
-use hol_goal::{Goal, TacArgs};
+use hol_goal::{Goal, Names, TacArgs};
 use hol_just::{TacFault, Tried};
 use hol_registry::Registry;
 
-/// What calls registered functions on goals: a registry. The functions that call each other to run an expression take it by this trait.
+/// What calls registered functions on goals: a registry, and the names of constants. The functions that call each other to run an expression take it by this trait.
 pub(crate) trait Tacs {
-    ghost use Rattle.std.specs.Prelude.{ℕ, ◌≤◌, ◌<◌, List, length, IfOk};
+    ghost use Rattle.std.specs.Prelude.{◌≤◌, ◌<◌, length, IfOk};
     ghost use Rattle.hol_goal.specs.ArgumentsView.{args_value};
-    ghost use Rattle.hol_goal.specs.declared.tac_code.TacCode.{TacCode};
     ghost use Rattle.hol_just.specs.Answering.{IsJustified};
     ghost use Rattle.hol_combine.specs.Called.{IsCalled};
+    ghost use Rattle.hol_combine.specs.Runs.{KnownValue};
 
-    ghost table_of: { Self → List (List ℕ × TacCode) };
+    ghost known_of: { Self → KnownValue };
 
     fn call_at(
         &self,
@@ -26,16 +26,23 @@ pub(crate) trait Tacs {
         goal: &Goal,
         turns: u32,
     ) -> Result<Tried, TacFault>
-        requires index { index < length (table_of self.now) }
+        requires index { index < length (known_of self.now).table }
         requires turns { turns ≤ 100000 }
-        ensures answer { IsCalled (table_of self.now) index (args_value args.now) goal.now turns result }
+        ensures answer { IsCalled (known_of self.now) index (args_value args.now) goal.now turns result }
         ensures valid { IfOk result (λ tried. IsJustified (args_value args.now) goal.now tried.step) };
 }
 
-impl Tacs for Registry {
+/// The registry, and the names of constants.
+#[derive(Clone, Copy)]
+pub(crate) struct Calls<'a> {
+    pub(crate) registry: &'a Registry,
+    pub(crate) names: &'a Names,
+}
+
+impl<'a> Tacs for Calls<'a> {
     ghost use Rattle.hol_registry.specs.RegistryView.{table};
 
-    ghost table_of = { λ registry. table registry };
+    ghost known_of = { λ calls. record { table = table calls.registry.now; names = calls.names.now } };
 
     fn call_at(
         &self,
@@ -44,6 +51,6 @@ impl Tacs for Registry {
         goal: &Goal,
         turns: u32,
     ) -> Result<Tried, TacFault> {
-        self.call(index, args, goal, turns)
+        self.registry.call(index, args, goal, self.names, turns)
     }
 }

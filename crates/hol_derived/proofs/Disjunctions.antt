@@ -15,7 +15,7 @@ use Rattle.hol_subst.specs.Closing.{open_with}
 use Rattle.hol_subst.specs.Variant.{is_free_in}
 use Rattle.hol_subst.proofs.Closing.{IsClosed, shift_whole}
 use Rattle.hol_formulas.specs.Equation.{bool_type}
-use Rattle.hol_formulas.specs.Formula.{disjunction, implication, universal}
+use Rattle.hol_formulas.specs.Formula.{implication, universal}
 use Rattle.hol_formulas.specs.Prelude.{boolean}
 use Rattle.hol_kernel.specs.Items.{Items}
 use Rattle.hol_kernel.specs.Sequent.{Hyps, no_hyps, only_hyp}
@@ -85,19 +85,6 @@ module _ (p q : Nameless) (c : IsClosed 0 p) (d : IsClosed 0 q) where
 
   pub either_opened : (r : Nameless) → IsClosed 0 r → open_with r 0 (either p q (bound 0)) ≡ either p q r
   either_opened r e = λ i. either (open_whole r 0 p c i) (open_whole r 0 q d i) (shift_whole 0 0 r e i)
-
-  -- !q. p ==> p \/ q at q, and !q. q ==> p \/ q
-  pub left_opened : open_with q 0 (implication p (disjunction p (bound 0))) ≡ implication p (disjunction p q)
-  left_opened = λ i. implication (open_whole q 0 p c i) (disjunction (open_whole q 0 p c i) (shift_whole 0 0 q d i))
-
-  pub right_opened : open_with q 0 (implication (bound 0) (disjunction p (bound 0))) ≡ implication q (disjunction p q)
-  right_opened = λ i. implication (shift_whole 0 0 q d i) (disjunction (open_whole q 0 p c i) (shift_whole 0 0 q d i))
-
-abbrev pub left_at : Nameless → Nameless
-left_at p = universal (record { base = codes "q"; domain = bool_type; body = implication p (disjunction p (bound 0)) })
-
-abbrev pub right_at : Nameless → Nameless
-right_at p = universal (record { base = codes "q"; domain = bool_type; body = implication (bound 0) (disjunction p (bound 0)) })
 
 -- ---- hypotheses of the derivation of a disjunction
 

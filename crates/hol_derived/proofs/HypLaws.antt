@@ -32,30 +32,25 @@ in_none q = set.contains-empty nameless_cmp q
 
 -- ---- EQT_INTRO
 
-two_ways : (e p t a : Bool) → (((not e && (e || false)) || (not p && ((not t && (p || false)) || (not p && false)))) || a) ≡ a
-two_ways true true t a = refl
-two_ways true false true a = refl
-two_ways true false false a = refl
-two_ways false true t a = refl
-two_ways false false true a = refl
-two_ways false false false a = refl
+left_ways : (h p t : Bool) → (h || (not p && ((not t && (p || false)) || (not p && false)))) ≡ h
+left_ways true p t = refl
+left_ways false true t = refl
+left_ways false false true = refl
+left_ways false false false = refl
 
-pub nothing_left : (e p t : Nameless) (hs : Hyps) → set.union (set.union (set.remove (only_hyp e) (strip e)) (set.remove (set.union (set.remove (only_hyp p) (strip t)) (set.remove no_hyps (strip p))) (strip p))) hs ≡ hs
-nothing_left e p t hs =
+pub nothing_left : (p t : Nameless) (hs : Hyps) → set.union hs (set.remove (set.union (set.remove (only_hyp p) (strip t)) (set.remove no_hyps (strip p))) (strip p)) ≡ hs
+nothing_left p t hs =
     same _ hs
     (λ q.
-    in_union (set.union (set.remove (only_hyp e) (strip e)) (set.remove (set.union (set.remove (only_hyp p) (strip t)) (set.remove no_hyps (strip p))) (strip p))) hs q
-    ∙ ap (λ b. b || has hs q)
-    (in_union (set.remove (only_hyp e) (strip e)) (set.remove (set.union (set.remove (only_hyp p) (strip t)) (set.remove no_hyps (strip p))) (strip p)) q
-    ∙ (λ i.
-    (in_rest (only_hyp e) (strip e) q ∙ ap (λ b. not (is q (strip e)) && b) (in_one e q)) i
-    || (in_rest (set.union (set.remove (only_hyp p) (strip t)) (set.remove no_hyps (strip p))) (strip p) q
+    in_union hs (set.remove (set.union (set.remove (only_hyp p) (strip t)) (set.remove no_hyps (strip p))) (strip p)) q
+    ∙ ap (λ b. has hs q || b)
+    (in_rest (set.union (set.remove (only_hyp p) (strip t)) (set.remove no_hyps (strip p))) (strip p) q
     ∙ ap (λ b. not (is q (strip p)) && b)
     (in_union (set.remove (only_hyp p) (strip t)) (set.remove no_hyps (strip p)) q
-    ∙ (λ j.
-    (in_rest (only_hyp p) (strip t) q ∙ ap (λ b. not (is q (strip t)) && b) (in_one p q)) j
-    || (in_rest no_hyps (strip p) q ∙ ap (λ b. not (is q (strip p)) && b) (in_none q)) j))) i))
-    ∙ two_ways (is q (strip e)) (is q (strip p)) (is q (strip t)) (has hs q))
+    ∙ (λ i.
+    (in_rest (only_hyp p) (strip t) q ∙ ap (λ b. not (is q (strip t)) && b) (in_one p q)) i
+    || (in_rest no_hyps (strip p) q ∙ ap (λ b. not (is q (strip p)) && b) (in_none q)) i)))
+    ∙ left_ways (has hs q) (is q (strip p)) (is q (strip t)))
 
 -- ---- DISCH
 

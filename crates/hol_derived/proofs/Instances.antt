@@ -28,7 +28,7 @@ use Rattle.hol_derived.specs.Applied.{constantly_true}
 use Rattle.hol_derived.specs.Unfolded.{letter, predicate, of_witness, exists_in, implied_by_all, either_for_all}
 use Rattle.hol_derived.specs.Lemmas.{hypothesis, conclusion, lemma_at, general, put, put_predicate, put_at}
 use Rattle.hol_derived.specs.declared.lemma.Lemma.{Lemma}
-use Rattle.hol_derived.specs.declared.lemma.Lemma.TheVariants.{EqtIntro, Conj, Conjunct1, Conjunct2, Mp, Disch, Disj1, Disj2, Contr, NotIntro, Gen, DisjCases, Spec, Exists, Choose}
+use Rattle.hol_derived.specs.declared.lemma.Lemma.TheVariants.{EqtIntro, Conj, Conjunct1, Conjunct2, Mp, Disch, Disj1, Disj2, Contr, NotIntro, EqfIntro, Gen, DisjCases, Spec, Exists, Choose}
 use Rattle.hol_derived.proofs.Disjunctions.{one_removed}
 
 -- what a map makes of one hypothesis
@@ -59,6 +59,7 @@ module _ (p q : Nameless) (c : IsClosed 0 p) (d : IsClosed 0 q) where
   assumed_is Disj2 = ap strip second
   assumed_is Contr = refl
   assumed_is NotIntro = λ i. strip (implication (first i) falsity)
+  assumed_is EqfIntro = λ i. strip (negation (first i))
   assumed_is Gen = refl
   assumed_is DisjCases = λ i. strip (disjunction (first i) (second i))
   assumed_is Spec = refl
@@ -77,6 +78,7 @@ module _ (p q : Nameless) (c : IsClosed 0 p) (d : IsClosed 0 q) where
   concluded_is Disj2 = λ i. disjunction (first i) (second i)
   concluded_is Contr = first
   concluded_is NotIntro = λ i. negation (first i)
+  concluded_is EqfIntro = λ i. equivalence (first i) falsity
   concluded_is Gen = refl
   concluded_is DisjCases = λ i. universal (either_for_all (shift_whole 1 0 p c i) (shift_whole 1 0 q d i))
   concluded_is Spec = refl
@@ -207,7 +209,7 @@ pub gives_by : {E : Type 0} (r : Result Theorem E) (t : Theorem) (basis : Items)
 gives_by (Ok th) t basis o s given is gives = ap (over basis) gives ∙ ap Some (sym (given ∙ is))
 gives_by (Err e) t basis o s given is gives = given
 
--- what a rule gives, it gives where it applies
+-- what a rule gives, it gives where it applies, over the same items
 pub applies_by : (basis : Items) (o : Option Sequent) (s : Sequent) → o ≡ Some s → IsSome (over basis o)
 applies_by basis o s gives = ap (λ (x : Option Sequent). is_some (over basis x)) gives
 
@@ -216,6 +218,10 @@ gave_by basis o s th gives given =
     let same : Some (theorem_on basis s) ≡ Some th = sym (ap (over basis) gives) ∙ given in
     let is : theorem_on basis s ≡ th = cc in
     sym is
+
+pub over_basis : (basis : Items) (o : Option Sequent) (th : Theorem) → over basis o ≡ Some th → th.basis ≡ basis
+over_basis basis None th e = absurd (cc)
+over_basis basis (Some s) th e = let is : theorem_on basis s ≡ th = cc in sym (ap (λ (r : Theorem). r.basis) is)
 
 pub given_by : {E : Type 0} (r : Result Theorem E) (basis : Items) (o : Option Sequent) (s : Sequent) → o ≡ Some s → IfOk r (λ th. over basis o ≡ Some th) → IfOk r (λ th. th ≡ theorem_on basis s)
 given_by (Ok th) basis o s gives given = gave_by basis o s th gives given

@@ -15,7 +15,7 @@ use Rattle.hol_formulas.specs.Formula.{implication, universal}
 use Rattle.hol_formulas.specs.Prelude.{boolean, property, element}
 use Rattle.hol_kernel.specs.Sequent.{only_hyp}
 use Rattle.hol_derived.specs.Rules.{over_variable}
-use Rattle.hol_derived.specs.Unfolded.{all_imply, exists_in, followed, of_witness, all_witnesses}
+use Rattle.hol_derived.specs.Unfolded.{all_imply, followed, of_witness, all_witnesses}
 use Rattle.hol_derived.proofs.Bodies.{open_whole}
 use Rattle.hol_derived.proofs.HypLaws.{is, same, in_union, in_rest, in_one}
 use Rattle.hol_derived.proofs.Disjunctions.{apart, free_in_one}
@@ -28,9 +28,6 @@ held P (Err x) s e h = tt
 module _ (a : TypeTree) (f t : Nameless) (c : IsClosed 0 f) (d : IsClosed 0 t) where
   pub eliminated_opened : open_with t 0 (implication (all_imply a f (bound 1)) (bound 0)) ≡ implication (all_imply a f t) t
   eliminated_opened = λ i. implication (all_imply a (open_whole t 1 f c i) (shift_whole 1 0 t d i)) (shift_whole 0 0 t d i)
-
-  pub witness_opened : open_with t 0 (implication (app f (bound 0)) (exists_in a f)) ≡ implication (app f t) (exists_in a f)
-  witness_opened = λ i. implication (app (open_whole t 0 f c i) (shift_whole 0 0 t d i)) (exists_in a (open_whole t 0 f c i))
 
   -- !v. f v ==> t for a variable that is free in neither
   pub each_closed : (v : List ℕ × TypeTree) → binds (free_occurrences f) v ≡ false → binds (free_occurrences t) v ≡ false → strip (all_imply v.1 f t) ≡ strip (universal (over_variable v (implication (app f (free v)) t)))

@@ -4,6 +4,7 @@ use Rattle.std.specs.Prelude.{◌≡◌, List, [], ◌∷◌, codes}
 use Rattle.std.specs.List.{AllByRecursion}
 use Rattle.hol_types.specs.Tree.{TypeTree}
 use Rattle.hol_types.specs.Fun.{fun_type}
+use Rattle.hol_terms.specs.Named.{Named, var}
 use Rattle.hol_terms.specs.Nameless.{Nameless, fixed, app}
 use Rattle.hol_formulas.specs.Equation.{bool_type, equation}
 use Rattle.hol_formulas.specs.Formula.{quantifier_type, truth, falsity, negation, conjunction, disjunction, implication, equivalence, universal}
@@ -13,11 +14,11 @@ use Rattle.hol_subst.specs.Substitution.{term_subst, types_inst}
 use Rattle.hol_kernel.specs.Items.{Items}
 use Rattle.hol_kernel.specs.Rules.{sequent_image}
 use Rattle.hol_kernel.specs.Theorem.{Theorem, theorem_on}
-use Rattle.hol_kernel.specs.Sequent.{only_hyp, Sequent, sequent_of}
+use Rattle.hol_kernel.specs.Sequent.{no_hyps, only_hyp, Sequent, sequent_of}
 use Rattle.hol_derived.specs.Applied.{constantly_true}
 use Rattle.hol_derived.specs.Unfolded.{letter, predicate, of_witness, exists_in, implied_by_all, either_for_all}
 use Rattle.hol_derived.specs.declared.lemma.Lemma.{Lemma}
-use Rattle.hol_derived.specs.declared.lemma.Lemma.TheVariants.{EqtIntro, Conj, Conjunct1, Conjunct2, Mp, Disch, Disj1, Disj2, Contr, NotIntro, Gen, DisjCases, Spec, Exists, Choose}
+use Rattle.hol_derived.specs.declared.lemma.Lemma.TheVariants.{EqtIntro, Conj, Conjunct1, Conjunct2, Mp, Disch, Disj1, Disj2, Contr, NotIntro, EqfIntro, Gen, DisjCases, Spec, Exists, Choose}
 
 abbrev pub hypothesis : Lemma → Nameless → Nameless → Nameless
 hypothesis EqtIntro p q = p
@@ -30,6 +31,7 @@ hypothesis Disj1 p q = p
 hypothesis Disj2 p q = q
 hypothesis Contr p q = falsity
 hypothesis NotIntro p q = implication p falsity
+hypothesis EqfIntro p q = negation p
 hypothesis Gen p q = equation (fun_type var_a bool_type) predicate (constantly_true var_a)
 hypothesis DisjCases p q = disjunction p q
 hypothesis Spec p q = app (fixed (codes "!") (quantifier_type var_a)) predicate
@@ -47,6 +49,7 @@ conclusion Disj1 p q = disjunction p q
 conclusion Disj2 p q = disjunction p q
 conclusion Contr p q = p
 conclusion NotIntro p q = negation p
+conclusion EqfIntro p q = equivalence p falsity
 conclusion Gen p q = app (fixed (codes "!") (quantifier_type var_a)) predicate
 conclusion DisjCases p q = universal (either_for_all p q)
 conclusion Spec p q = of_witness
@@ -63,6 +66,11 @@ general which = lemma_at which (letter (codes "p")) (letter (codes "q"))
 -- the theorems that were made, each with its name, are those of a basis
 abbrev pub AreGeneral : Items → List (Lemma × Theorem) → Type 0
 AreGeneral basis made = AllByRecursion (λ e. e.1 ≡ theorem_on basis (general e.0)) made
+
+-- what is kept over a basis: these, truth, and the variables p and q of type bool
+abbrev pub AreKept : Items → List (Lemma × Theorem) → Theorem → Named → Named → Type 0
+AreKept basis made holds p q =
+    AreGeneral basis made × (holds ≡ theorem_on basis (sequent_of no_hyps truth)) × (p ≡ var (boolean (codes "p"))) × (q ≡ var (boolean (codes "q")))
 
 -- p and q for the variables of these names, in a sequent
 abbrev pub put : Nameless → Nameless → Sequent → Sequent

@@ -2,29 +2,22 @@
 use Rattle.std.specs.Prelude.{ℕ, List, codes}
 use Rattle.std.specs.FinSet as set
 use Rattle.hol_types.specs.Tree.{TypeTree}
-use Rattle.hol_types.specs.Fun.{fun_type}
 use Rattle.hol_terms.specs.Nameless.{Nameless, free, bound, fixed, app}
 use Rattle.hol_formulas.specs.Equation.{bool_type, equation}
-use Rattle.hol_formulas.specs.Formula.{Abstraction, quantifier_type, truth, falsity, negation, disjunction, implication, universal}
+use Rattle.hol_formulas.specs.Formula.{Abstraction, quantifier_type, falsity, negation, disjunction, implication, universal}
 use Rattle.hol_formulas.specs.Constants.{var_a}
 use Rattle.hol_formulas.specs.Prelude.{property, element}
 use Rattle.hol_kernel.specs.Sequent.{no_hyps, only_hyp, Sequent, sequent_of}
 use Rattle.hol_kernel.specs.Rules.{deduct_antisym_of}
 use Rattle.hol_equal.specs.Applied.{lhs, rhs}
 use Rattle.hol_derived.specs.Rules.{over_variable, choose_left}
-use Rattle.hol_derived.specs.Applied.{abstraction_in, true_under}
+use Rattle.hol_derived.specs.Applied.{abstraction_in}
 use Rattle.hol_derived.specs.declared.disjunction.Side.{Side}
 use Rattle.hol_derived.specs.declared.disjunction.Side.TheVariants.{Left, Right}
 
 -- l, from l = r and r
 abbrev pub replaced : Sequent → Sequent → Sequent
 replaced e a = sequent_of (set.union e.hyps a.hyps) (lhs e.concl)
-
--- ---- truth
-
--- p = (p = T)
-abbrev pub equal_to_truth : Nameless → Sequent
-equal_to_truth p = deduct_antisym_of (sequent_of (only_hyp (equation bool_type p truth)) p) (true_under p)
 
 -- ---- falsity
 
@@ -66,12 +59,6 @@ side_name Right = codes "q"
 abbrev pub reached_from : List ℕ → Sequent
 reached_from name = sequent_of (set.union (only_hyp (implication (letter name) (letter (codes "r")))) (only_hyp (letter name))) (letter (codes "r"))
 
--- !p q. x ==> p \/ q, where x is the variable of the name
-abbrev pub injection : List ℕ → Nameless
-injection name =
-    universal (over_variable (codes "p", bool_type) (universal (over_variable (codes "q", bool_type)
-    (implication (letter name) (disjunction (letter (codes "p")) (letter (codes "q")))))))
-
 -- ---- existence
 
 -- !x. f x ==> q
@@ -103,11 +90,6 @@ all_witnesses = all_imply var_a predicate (letter (codes "q"))
 -- q under the hypotheses !x. P x ==> q and P x
 abbrev pub followed : Sequent
 followed = sequent_of (set.union (only_hyp all_witnesses) (only_hyp of_witness)) (letter (codes "q"))
-
--- !P x. P x ==> (?) P
-abbrev pub witnessed : TypeTree → Nameless
-witnessed a =
-    universal (record { base = codes "P"; domain = fun_type a bool_type; body = universal (record { base = codes "x"; domain = a; body = implication (app (bound 1) (bound 0)) (exists_in a (bound 1)) }) })
 
 -- !v. f v ==> t, from the sequent of t without the hypothesis f v
 abbrev pub each_witness : List ℕ × TypeTree → Nameless → Sequent → Sequent

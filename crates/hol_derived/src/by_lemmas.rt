@@ -7,18 +7,18 @@ ghost use Rattle.hol_terms.specs.Alpha.{strip};
 ghost use Rattle.hol_subst.specs.Closing.{bind};
 ghost use Rattle.hol_subst.specs.Variant.{is_free_in};
 ghost use Rattle.hol_formulas.specs.Equation.{bool_type, equation};
-ghost use Rattle.hol_formulas.specs.Formula.{quantifier_type, truth, equivalence, conjunction, implication};
+ghost use Rattle.hol_formulas.specs.Formula.{quantifier_type, truth, equivalence, conjunction, negation};
 ghost use Rattle.hol_kernel.specs.Sequent.{only_hyp, sequent_of};
 ghost use Rattle.hol_kernel.specs.Theorem.{theorem_on, over};
 ghost use Rattle.hol_kernel.specs.Typing.{HasType, is_type};
-ghost use Rattle.hol_equal.specs.Applied.{lhs, rhs};
-ghost use Rattle.hol_derived.specs.Applied.{generalized, first_conjunct, second_conjunct};
+ghost use Rattle.hol_equal.specs.Applied.{lhs, rand, rhs};
+ghost use Rattle.hol_derived.specs.Applied.{generalized, false_of, first_conjunct, second_conjunct};
 ghost use Rattle.hol_derived.specs.Rules.{conj_of, conjunct1_of, conjunct2_of, mp_of, disch_of, undisch_of, not_intro_of, disj1_of, disj2_of, contr_of, gen_of, eqt_intro_of};
 
 use crate::lemma::Lemma;
 use crate::lemmas::{Lemmas, with_predicate};
 use hol_equal::applied::{abs, assume, eq_mp, prove_hyp, sides_of};
-use hol_formulas::{dest_conj, dest_imp};
+use hol_formulas::{dest_conj, dest_imp, dest_neg};
 use hol_kernel::Thm;
 use hol_terms::{Term, TermNode, Variable};
 use std::alloc::{AllocError, Global};
@@ -172,6 +172,20 @@ impl Lemmas {
             unreachable!()
         };
         self.follow(alloc, Lemma::NotIntro, p, p, a)
+    }
+
+    /// EQF_INTRO: from `~p`, `p <=> F`.
+    pub fn eqf_intro(&mut self, alloc: Global, a: &Thm) -> Result<Thm, AllocError>
+        requires one_basis { self.old ≡ a.now.basis }
+        requires is { a.now.sequent.concl ≡ negation (rand a.now.sequent.concl) }
+        ensures gives { IfOk result (λ th. th ≡ theorem_on a.now.basis (false_of a.now.sequent)) }
+        ensures kept { self.new ≡ self.old }
+    {
+        a.well_typed();
+        let Some(p) = dest_neg(a.concl()) else {
+            unreachable!()
+        };
+        self.follow(alloc, Lemma::EqfIntro, p, p, a)
     }
 
     /// DISJ1: from `p`, `p \/ q`, for a formula over the basis.

@@ -85,7 +85,7 @@ fn as_truths(alloc: Global, a: &Thm, b: &Thm) -> Result<Thm, AllocError>
 }
 
 /// CONJ: from `p` and `q`, `p /\ q`.
-pub fn conj(alloc: Global, a: &Thm, b: &Thm) -> Result<Thm, AllocError>
+pub(crate) fn conj(alloc: Global, a: &Thm, b: &Thm) -> Result<Thm, AllocError>
     requires one_basis { a.now.basis ≡ b.now.basis }
     ensures { IfOk result (λ th. th ≡ theorem_on a.now.basis (conj_of a.now.sequent b.now.sequent)) }
 {
@@ -231,7 +231,7 @@ fn conjunct(alloc: Global, a: &Thm, k: &Term) -> Result<Thm, AllocError>
 }
 
 /// CONJUNCT1: from `p /\ q`, `p`.
-pub fn conjunct1(alloc: Global, a: &Thm) -> Result<Thm, AllocError>
+pub(crate) fn conjunct1(alloc: Global, a: &Thm) -> Result<Thm, AllocError>
     requires is { a.now.sequent.concl ≡ conjunction (lhs a.now.sequent.concl) (rhs a.now.sequent.concl) }
     ensures { IfOk result (λ th. th ≡ theorem_on a.now.basis (first_conjunct a.now.sequent)) }
 {
@@ -241,7 +241,7 @@ pub fn conjunct1(alloc: Global, a: &Thm) -> Result<Thm, AllocError>
 }
 
 /// CONJUNCT2: from `p /\ q`, `q`.
-pub fn conjunct2(alloc: Global, a: &Thm) -> Result<Thm, AllocError>
+pub(crate) fn conjunct2(alloc: Global, a: &Thm) -> Result<Thm, AllocError>
     requires is { a.now.sequent.concl ≡ conjunction (lhs a.now.sequent.concl) (rhs a.now.sequent.concl) }
     ensures { IfOk result (λ th. th ≡ theorem_on a.now.basis (second_conjunct a.now.sequent)) }
 {

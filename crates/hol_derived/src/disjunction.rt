@@ -2,7 +2,6 @@
 ghost use Rattle.std.specs.Prelude.{◌≡◌, IfOk, [], codes};
 ghost use Rattle.hol_terms.specs.Named.{var};
 ghost use Rattle.hol_terms.specs.Nameless.{nameless};
-ghost use Rattle.hol_terms.specs.Alpha.{strip};
 ghost use Rattle.hol_formulas.specs.Equation.{bool_type};
 ghost use Rattle.hol_formulas.specs.Formula.{disjunction, implication, universal};
 ghost use Rattle.hol_formulas.specs.Making.{mk_imp};
@@ -10,19 +9,15 @@ ghost use Rattle.hol_formulas.specs.Prelude.{boolean};
 ghost use Rattle.hol_kernel.specs.Sequent.{only_hyp, sequent_of};
 ghost use Rattle.hol_kernel.specs.Theorem.{theorem_on};
 ghost use Rattle.hol_kernel.specs.Typing.{HasType};
-ghost use Rattle.hol_equal.specs.Applied.{lhs, rhs, concluded};
-ghost use Rattle.hol_derived.specs.Applied.{with_right, with_left, by_cases, discharged};
+ghost use Rattle.hol_derived.specs.Applied.{discharged};
 ghost use Rattle.hol_derived.specs.Unfolded.{or_unfolded, either, either_for_all, letter, side_name, reached_from};
 
 use crate::definitions::{definition, unfold_first, unfold_last};
 use crate::equations::eq_mp_sym;
 use crate::implication::{disch, mp};
-use crate::lemma::Lemma;
-use crate::lemmas::Lemmas;
 use crate::letters::{for_every, letter};
-use crate::universal::spec;
-use hol_equal::applied::{assume, eq_mp};
-use hol_formulas::{Postulate, dest_disj, mk_imp};
+use hol_equal::applied::assume;
+use hol_formulas::{Postulate, mk_imp};
 use hol_kernel::{Basis, Thm};
 use hol_terms::Term;
 use std::alloc::{AllocError, Global};
@@ -36,49 +31,6 @@ fn or_at(alloc: Global, basis: &Basis, p: &Term, q: &Term) -> Result<Thm, AllocE
     let own = definition(alloc, basis, Postulate::OrDef)?;
     let one = unfold_first(alloc, &own, p)?;
     unfold_last(alloc, &one, q)
-}
-
-// From `p \/ q`, `(p ==> r) ==> (q ==> r) ==> r`.
-fn eliminated(alloc: Global, a: &Thm, p: &Term, q: &Term, r: &Term) -> Result<Thm, AllocError>
-    requires is { a.now.sequent.concl ≡ disjunction (nameless [] p.now) (nameless [] q.now) }
-    requires first { HasType a.now.basis (nameless [] p.now) bool_type }
-    requires second { HasType a.now.basis (nameless [] q.now) bool_type }
-    requires third { HasType a.now.basis (nameless [] r.now) bool_type }
-    ensures { IfOk result (λ th. th ≡ theorem_on a.now.basis (sequent_of a.now.sequent.hyps (either (nameless [] p.now) (nameless [] q.now) (nameless [] r.now)))) }
-{
-    let own = or_at(alloc, a.basis(), p, q)?;
-    let every = eq_mp(alloc, &own, a)?;
-    spec(alloc, r, &every)
-}
-
-// From `(p ==> r) ==> t` and `r'` that is `r` up to bound names, `t` without the hypothesis `p` of the second.
-fn one_case(alloc: Global, a: &Thm, p: &Term, b: &Thm) -> Result<Thm, AllocError>
-    requires one_basis { a.now.basis ≡ b.now.basis }
-    requires typed { HasType a.now.basis (nameless [] p.now) bool_type }
-    requires is { a.now.sequent.concl ≡ implication (implication (nameless [] p.now) (rhs (lhs a.now.sequent.concl))) (rhs a.now.sequent.concl) }
-    requires fits { strip (rhs (lhs a.now.sequent.concl)) ≡ strip b.now.sequent.concl }
-    ensures { IfOk result (λ th. th ≡ theorem_on a.now.basis (concluded a.now.sequent (discharged (nameless [] p.now) b.now.sequent))) }
-{
-    let way = disch(alloc, p, b)?;
-    mp(alloc, a, &way)
-}
-
-/// DISJ_CASES: from `p \/ q`, `r` and `r'` that is `r` up to bound names, `r` without the hypotheses `p` of the one and `q` of the other.
-pub fn disj_cases(alloc: Global, a: &Thm, b: &Thm, c: &Thm) -> Result<Thm, AllocError>
-    requires one_basis { a.now.basis ≡ b.now.basis }
-    requires same_basis { a.now.basis ≡ c.now.basis }
-    requires is { a.now.sequent.concl ≡ disjunction (lhs a.now.sequent.concl) (rhs a.now.sequent.concl) }
-    requires fits { strip b.now.sequent.concl ≡ strip c.now.sequent.concl }
-    ensures { IfOk result (λ th. th ≡ theorem_on a.now.basis (by_cases a.now.sequent b.now.sequent c.now.sequent)) }
-{
-    a.well_typed();
-    b.well_typed();
-    let Some((p, q)) = dest_disj(a.concl()) else {
-        unreachable!()
-    };
-    let either = eliminated(alloc, a, p, q, b.concl())?;
-    let rest = one_case(alloc, &either, p, b)?;
-    one_case(alloc, &rest, q, c)
 }
 
 /// A side of a disjunction.
@@ -178,24 +130,4 @@ pub(crate) fn from_side(alloc: Global, basis: &Basis, side: Side) -> Result<Thm,
     let ways = both_ways(alloc, basis, side)?;
     let every = for_every(alloc, "r", &ways)?;
     folded(alloc, &every)
-}
-
-/// DISJ1: from `p`, `p \/ q`, for a formula over the basis.
-pub fn disj1(alloc: Global, a: &Thm, q: &Term) -> Result<Thm, AllocError>
-    requires typed { HasType a.now.basis (nameless [] q.now) bool_type }
-    ensures { IfOk result (λ th. th ≡ theorem_on a.now.basis (with_right a.now.sequent (nameless [] q.now))) }
-{
-    a.well_typed();
-    let mut lemmas = Lemmas::new(alloc, a.basis())?;
-    lemmas.follow(alloc, Lemma::Disj1, a.concl(), q, a)
-}
-
-/// DISJ2: from `q`, `p \/ q`, for a formula over the basis.
-pub fn disj2(alloc: Global, p: &Term, a: &Thm) -> Result<Thm, AllocError>
-    requires typed { HasType a.now.basis (nameless [] p.now) bool_type }
-    ensures { IfOk result (λ th. th ≡ theorem_on a.now.basis (with_left (nameless [] p.now) a.now.sequent)) }
-{
-    a.well_typed();
-    let mut lemmas = Lemmas::new(alloc, a.basis())?;
-    lemmas.follow(alloc, Lemma::Disj2, p, a.concl(), a)
 }

@@ -55,8 +55,8 @@ impl Lemmas {
         self.mp(alloc, a, &way)
     }
 
-    // From `p \/ q`, `r` and `r'` that is `r` up to bound names, `r` without the hypotheses `p` of the one and `q` of the other.
-    fn by_cases(&mut self, alloc: Global, a: &Thm, b: &Thm, c: &Thm) -> Result<Thm, AllocError>
+    /// DISJ_CASES, for a theorem that is known to be a disjunction.
+    pub fn by_cases(&mut self, alloc: Global, a: &Thm, b: &Thm, c: &Thm) -> Result<Thm, AllocError>
         requires one_basis { self.old ≡ a.now.basis }
         requires same_basis { a.now.basis ≡ b.now.basis }
         requires third_basis { a.now.basis ≡ c.now.basis }

@@ -81,8 +81,8 @@ impl Lemmas {
         self.specialize(alloc, t, &every)
     }
 
-    // `(\x. s) v ==> t` from `t`, without the hypothesis `s` with `v` for `x`; `f` is the abstraction and `own` the variable.
-    fn witness_implies(
+    /// `(\x. s) v ==> t` from `t`, without the hypothesis `s` with `v` for `x`; `f` is the abstraction and `own` the variable.
+    pub fn witness_implies(
         &mut self,
         alloc: Global,
         own: &Term,

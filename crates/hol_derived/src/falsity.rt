@@ -2,27 +2,26 @@
 ghost use Rattle.std.specs.Prelude.{◌≡◌, IfOk, []};
 ghost use Rattle.hol_terms.specs.Nameless.{nameless};
 ghost use Rattle.hol_formulas.specs.Equation.{bool_type};
-ghost use Rattle.hol_formulas.specs.Formula.{falsity, implication, negation};
+ghost use Rattle.hol_formulas.specs.Formula.{falsity, negation};
 ghost use Rattle.hol_kernel.specs.Sequent.{only_hyp, sequent_of};
 ghost use Rattle.hol_kernel.specs.Theorem.{theorem_on};
 ghost use Rattle.hol_kernel.specs.Typing.{HasType};
-ghost use Rattle.hol_equal.specs.Applied.{rand, lhs};
-ghost use Rattle.hol_derived.specs.Applied.{negated, false_of};
+ghost use Rattle.hol_equal.specs.Applied.{rand};
+ghost use Rattle.hol_derived.specs.Applied.{false_of};
 ghost use Rattle.hol_derived.specs.Unfolded.{not_unfolded, refuted_under, false_under};
 
 use crate::definitions::{definition, unfold_last};
-use crate::equations::eq_mp_sym;
 use crate::implication::undisch;
 use crate::universal::spec;
 use hol_equal::applied::{assume, eq_mp};
 use hol_equal::prove_hyp;
-use hol_formulas::{Postulate, dest_imp, dest_neg, mk_falsity};
+use hol_formulas::{Postulate, dest_neg, mk_falsity};
 use hol_kernel::{Basis, Thm};
 use hol_terms::Term;
 use std::alloc::{AllocError, Global};
 
 /// CONTR: from `F`, a formula over the basis.
-pub fn contr(alloc: Global, p: &Term, a: &Thm) -> Result<Thm, AllocError>
+pub(crate) fn contr(alloc: Global, p: &Term, a: &Thm) -> Result<Thm, AllocError>
     requires is { a.now.sequent.concl ≡ falsity }
     requires typed { HasType a.now.basis (nameless [] p.now) bool_type }
     ensures { IfOk result (λ th. th ≡ theorem_on a.now.basis (sequent_of a.now.sequent.hyps (nameless [] p.now))) }
@@ -39,19 +38,6 @@ pub(crate) fn not_at(alloc: Global, basis: &Basis, p: &Term) -> Result<Thm, Allo
 {
     let own = definition(alloc, basis, Postulate::NotDef)?;
     unfold_last(alloc, &own, p)
-}
-
-/// NOT_INTRO: from `p ==> F`, `~p`.
-pub fn not_intro(alloc: Global, a: &Thm) -> Result<Thm, AllocError>
-    requires is { a.now.sequent.concl ≡ implication (lhs a.now.sequent.concl) falsity }
-    ensures { IfOk result (λ th. th ≡ theorem_on a.now.basis (negated a.now.sequent)) }
-{
-    a.well_typed();
-    let Some((p, _)) = dest_imp(a.concl()) else {
-        unreachable!()
-    };
-    let own = not_at(alloc, a.basis(), p)?;
-    eq_mp_sym(alloc, &own, a)
 }
 
 // From `~p`, `F` under the hypothesis `p`.
@@ -104,7 +90,7 @@ fn false_if_denied(alloc: Global, basis: &Basis, denied: &Term, p: &Term) -> Res
 }
 
 /// EQF_INTRO: from `~p`, `p <=> F`.
-pub fn eqf_intro(alloc: Global, a: &Thm) -> Result<Thm, AllocError>
+pub(crate) fn eqf_intro(alloc: Global, a: &Thm) -> Result<Thm, AllocError>
     requires is { a.now.sequent.concl ≡ negation (rand a.now.sequent.concl) }
     ensures { IfOk result (λ th. th ≡ theorem_on a.now.basis (false_of a.now.sequent)) }
 {

@@ -44,7 +44,7 @@ pub(crate) fn as_equivalence(alloc: Global, a: &Thm) -> Result<Thm, AllocError>
 }
 
 /// MP: from `p ==> q` and `p'` that is `p` up to bound names, `q`.
-pub fn mp(alloc: Global, a: &Thm, b: &Thm) -> Result<Thm, AllocError>
+pub(crate) fn mp(alloc: Global, a: &Thm, b: &Thm) -> Result<Thm, AllocError>
     requires one_basis { a.now.basis ≡ b.now.basis }
     requires is { a.now.sequent.concl ≡ implication (lhs a.now.sequent.concl) (rhs a.now.sequent.concl) }
     requires fits { strip (lhs a.now.sequent.concl) ≡ strip b.now.sequent.concl }
@@ -86,7 +86,7 @@ pub(crate) fn with_first(alloc: Global, p: &Term, a: &Thm) -> Result<Thm, AllocE
 }
 
 /// DISCH: from `q`, `p ==> q` without the hypothesis `p`, for a formula over the basis.
-pub fn disch(alloc: Global, p: &Term, a: &Thm) -> Result<Thm, AllocError>
+pub(crate) fn disch(alloc: Global, p: &Term, a: &Thm) -> Result<Thm, AllocError>
     requires typed { HasType a.now.basis (nameless [] p.now) bool_type }
     ensures { IfOk result (λ th. th ≡ theorem_on a.now.basis (discharged (nameless [] p.now) a.now.sequent)) }
 {
@@ -97,7 +97,7 @@ pub fn disch(alloc: Global, p: &Term, a: &Thm) -> Result<Thm, AllocError>
 }
 
 /// UNDISCH: from `p ==> q`, `q` under the hypothesis `p`.
-pub fn undisch(alloc: Global, a: &Thm) -> Result<Thm, AllocError>
+pub(crate) fn undisch(alloc: Global, a: &Thm) -> Result<Thm, AllocError>
     requires is { a.now.sequent.concl ≡ implication (lhs a.now.sequent.concl) (rhs a.now.sequent.concl) }
     ensures { IfOk result (λ th. th ≡ theorem_on a.now.basis (undischarged a.now.sequent)) }
 {

@@ -20,13 +20,13 @@ use crate::conjunction;
 use crate::definitions::{forall_at, unfold};
 use crate::disjunction::{Side, assumed_letter, from_side, or_at_letters};
 use crate::equations::eq_mp_sym;
-use crate::falsity::{from_falsity, not_at};
+use crate::falsity::{self, from_falsity, not_at};
 use crate::implication::{self, first_of, imp_at, with_first};
 use crate::letters::letter;
 use crate::truth::{eqt_elim, true_if_assumed};
 use crate::witness::{element_term, element_type, exists_at_property, from_witness, property_term};
 use hol_equal::applied::{assume, eq_mp, sides_of, sym};
-use hol_formulas::{bool_type, mk_conj, mk_imp};
+use hol_formulas::{bool_type, mk_conj, mk_imp, mk_neg};
 use hol_kernel::{Basis, Thm};
 use hol_terms::Term;
 use std::alloc::{AllocError, Global};
@@ -54,6 +54,8 @@ pub(crate) enum Lemma {
     Contr,
     /// `{p ==> F} |- ~p`.
     NotIntro,
+    /// `{~p} |- p <=> F`.
+    EqfIntro,
     /// `{P = (\x:A. T)} |- (!) P`.
     Gen,
     /// `{p \/ q} |- !r. (p ==> r) ==> (q ==> r) ==> r`.
@@ -67,7 +69,7 @@ pub(crate) enum Lemma {
 }
 
 /// The general theorems, those that are used most first.
-pub(crate) const LEMMAS: [Lemma; 15] = [
+pub(crate) const LEMMAS: [Lemma; 16] = [
     Lemma::Mp,
     Lemma::Conj,
     Lemma::Conjunct1,
@@ -83,6 +85,7 @@ pub(crate) const LEMMAS: [Lemma; 15] = [
     Lemma::Disj2,
     Lemma::Contr,
     Lemma::NotIntro,
+    Lemma::EqfIntro,
 ];
 
 /// Derives a general theorem over the basis.
@@ -100,6 +103,7 @@ pub(crate) fn derived(alloc: Global, basis: &Basis, which: Lemma) -> Result<Thm,
         Lemma::Disj2 => from_side(alloc, basis, Side::Right),
         Lemma::Contr => contr(alloc, basis),
         Lemma::NotIntro => not_intro(alloc, basis),
+        Lemma::EqfIntro => eqf_intro(alloc, basis),
         Lemma::Gen => generalization(alloc, basis),
         Lemma::DisjCases => disj_cases(alloc, basis),
         Lemma::Spec => specialization(alloc, basis),
@@ -249,6 +253,16 @@ fn not_intro(alloc: Global, basis: &Basis) -> Result<Thm, AllocError>
     let p = letter(alloc, "p")?;
     let equal = not_at(alloc, basis, &p)?;
     assumed_right(alloc, &equal)
+}
+
+// `{~p} |- p <=> F`.
+fn eqf_intro(alloc: Global, basis: &Basis) -> Result<Thm, AllocError>
+    ensures { IfOk result (λ th. th ≡ theorem_on basis.now (general Lemma.EqfIntro)) }
+{
+    let p = letter(alloc, "p")?;
+    let denied = mk_neg(alloc, &p)?;
+    let assumed = assume(alloc, basis, &denied)?;
+    falsity::eqf_intro(alloc, &assumed)
 }
 
 // `{P = (\x:A. T)} |- (!) P`.

@@ -4,17 +4,19 @@ ghost use Rattle.hol_terms.specs.Named.{var};
 ghost use Rattle.hol_types.specs.Fun.{fun_type};
 ghost use Rattle.hol_terms.specs.Nameless.{nameless};
 ghost use Rattle.hol_formulas.specs.Equation.{bool_type};
+ghost use Rattle.hol_formulas.specs.Formula.{truth};
 ghost use Rattle.hol_formulas.specs.Prelude.{boolean};
 ghost use Rattle.hol_subst.specs.Substitution.{term_subst};
 ghost use Rattle.hol_kernel.specs.Items.{IsSubset, no_items};
 ghost use Rattle.hol_kernel.specs.Rules.{sequent_image};
-ghost use Rattle.hol_kernel.specs.Sequent.{only_hyp, sequent_of};
+ghost use Rattle.hol_kernel.specs.Sequent.{no_hyps, only_hyp, sequent_of};
 ghost use Rattle.hol_kernel.specs.Theorem.{theorem_on};
 ghost use Rattle.hol_kernel.specs.Typing.{HasType, is_type};
 ghost use Rattle.hol_derived.specs.Lemmas.{hypothesis, conclusion, lemma_at, general, put, put_predicate, put_at};
 
 use crate::lemma::{LEMMAS, Lemma, derived};
 use crate::letters::letter;
+use crate::truth::truth;
 use hol_equal::applied::{inst_type, prove_hyp, unrefused};
 use hol_formulas::{bool_type, occurrence, variable};
 use hol_kernel::{Basis, Thm};
@@ -24,16 +26,20 @@ use std::alloc::{AllocError, Global};
 use std::marker::Model;
 
 /// The general theorems of the rules over one basis. Each is derived when a rule first needs it, and then kept, so that who uses many rules pays for their
-/// derivations once; who works over many bases has them all made over no items, and brings them to each.
+/// derivations once; who works over many bases has them all made over no items, and brings them to each. `|- T` is kept beside them, and the variables `p` and
+/// `q` that instances are made of.
 #[derive(Drop)]
 pub struct Lemmas {
     basis: Basis,
+    truth: Thm,
+    p: Term,
+    q: Term,
     made: Vec<(Lemma, Thm)>,
 }
 
 impl Model for Lemmas {
     ghost use Rattle.hol_kernel.specs.Items.{Items, items_code};
-    ghost use Rattle.hol_derived.specs.Lemmas.{AreGeneral};
+    ghost use Rattle.hol_derived.specs.Lemmas.{AreKept};
 
     ghost Value = { Items };
 
@@ -41,7 +47,7 @@ impl Model for Lemmas {
 
     ghost view = { λ l. l.basis };
 
-    ghost invariant = { λ l. AreGeneral l.basis l.made.items };
+    ghost invariant = { λ l. AreKept l.basis l.made.items l.truth l.p l.q };
 }
 
 impl Lemmas {
@@ -49,10 +55,12 @@ impl Lemmas {
     pub fn new(alloc: Global, basis: &Basis) -> Result<Lemmas, AllocError>
         ensures { IfOk result (λ lemmas. lemmas ≡ basis.now) }
     {
-        let made = Vec::new(alloc);
         Ok(Lemmas {
             basis: basis.copy()?,
-            made,
+            truth: truth(alloc, basis)?,
+            p: letter(alloc, "p")?,
+            q: letter(alloc, "q")?,
+            made: Vec::new(alloc),
         })
     }
 
@@ -79,8 +87,18 @@ impl Lemmas {
         }
         Ok(Lemmas {
             basis: basis.copy()?,
+            truth: self.truth.widen(basis)?,
+            p: self.p.copy()?,
+            q: self.q.copy()?,
             made,
         })
+    }
+
+    /// TRUTH: `|- T`.
+    pub fn truth(&self) -> Result<Thm, AllocError>
+        ensures { IfOk result (λ th. th ≡ theorem_on self.now (sequent_of no_hyps truth)) }
+    {
+        self.truth.copy()
     }
 
     // The general theorem, if it was made.
@@ -108,6 +126,31 @@ impl Lemmas {
         Ok(th)
     }
 
+    // The formulas beside the variables `p` and `q`.
+    fn beside_letters(
+        &self,
+        alloc: Global,
+        p: &Term,
+        q: &Term,
+    ) -> Result<Vec<(Term, Term)>, AllocError>
+        ensures { IfOk result (λ pairs. pairs.items ≡ (p.now, var (boolean (codes "p"))) ∷ (q.now, var (boolean (codes "q"))) ∷ []) }
+    {
+        let mut pairs = Vec::with_capacity(alloc, 2)?;
+        pairs.push((p.copy()?, self.p.copy()?))?;
+        pairs.push((q.copy()?, self.q.copy()?))?;
+        Ok(pairs)
+    }
+
+    // INST: the theorem with the formulas for the variables `p` and `q`.
+    fn with_formulas(&self, alloc: Global, a: &Thm, p: &Term, q: &Term) -> Result<Thm, AllocError>
+        requires first { HasType a.now.basis (nameless [] p.now) bool_type }
+        requires second { HasType a.now.basis (nameless [] q.now) bool_type }
+        ensures { IfOk result (λ th. th ≡ theorem_on a.now.basis (put (nameless [] p.now) (nameless [] q.now) a.now.sequent)) }
+    {
+        let pairs = self.beside_letters(alloc, p, q)?;
+        unrefused(Thm::inst(alloc, &pairs, a))
+    }
+
     /// An instance of the general theorem.
     pub(crate) fn instance(
         &mut self,
@@ -122,7 +165,7 @@ impl Lemmas {
         ensures kept { self.new ≡ self.old }
     {
         let own = self.get(alloc, which)?;
-        with_formulas(alloc, &own, p, q)
+        self.with_formulas(alloc, &own, p, q)
     }
 
     /// What an instance of the general theorem concludes from the premise, which is what it assumes.
@@ -144,34 +187,6 @@ impl Lemmas {
         let own = self.instance(alloc, which, p, q)?;
         prove_hyp(alloc, premise, &own)
     }
-}
-
-// The formula beside the variable of the name.
-fn beside_letter(alloc: Global, p: &Term, name: &str) -> Result<(Term, Term), AllocError>
-    ensures { IfOk result (λ pair. pair ≡ (p.now, var (boolean name.now))) }
-{
-    let own = p.copy()?;
-    Ok((own, letter(alloc, name)?))
-}
-
-// The formulas beside the variables `p` and `q`.
-fn beside_letters(alloc: Global, p: &Term, q: &Term) -> Result<Vec<(Term, Term)>, AllocError>
-    ensures { IfOk result (λ pairs. pairs.items ≡ (p.now, var (boolean (codes "p"))) ∷ (q.now, var (boolean (codes "q"))) ∷ []) }
-{
-    let mut pairs = Vec::with_capacity(alloc, 2)?;
-    pairs.push(beside_letter(alloc, p, "p")?)?;
-    pairs.push(beside_letter(alloc, q, "q")?)?;
-    Ok(pairs)
-}
-
-// INST: the theorem with the formulas for the variables `p` and `q`.
-fn with_formulas(alloc: Global, a: &Thm, p: &Term, q: &Term) -> Result<Thm, AllocError>
-    requires first { HasType a.now.basis (nameless [] p.now) bool_type }
-    requires second { HasType a.now.basis (nameless [] q.now) bool_type }
-    ensures { IfOk result (λ th. th ≡ theorem_on a.now.basis (put (nameless [] p.now) (nameless [] q.now) a.now.sequent)) }
-{
-    let pairs = beside_letters(alloc, p, q)?;
-    unrefused(Thm::inst(alloc, &pairs, a))
 }
 
 // `P`, of properties of what has the type.

@@ -24,6 +24,5 @@ mod witness;
 
 pub use definitions::unfold;
 pub use equations::contracted;
-pub use existential::witness_implies;
 pub use lemmas::Lemmas;
 pub use universal::forall_of;

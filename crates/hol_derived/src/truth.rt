@@ -5,18 +5,17 @@ ghost use Rattle.hol_formulas.specs.Equation.{bool_type, equation};
 ghost use Rattle.hol_formulas.specs.Formula.{negation_type, truth};
 ghost use Rattle.hol_formulas.specs.Prelude.{identity};
 ghost use Rattle.hol_kernel.specs.Rules.{reflexive};
-ghost use Rattle.hol_kernel.specs.Sequent.{no_hyps, only_hyp, sequent_of};
+ghost use Rattle.hol_kernel.specs.Sequent.{no_hyps, sequent_of};
 ghost use Rattle.hol_kernel.specs.Theorem.{theorem_on};
 ghost use Rattle.hol_kernel.specs.Typing.{HasType};
 ghost use Rattle.hol_equal.specs.Applied.{lhs};
 ghost use Rattle.hol_derived.specs.Applied.{true_of, true_under};
 ghost use Rattle.hol_derived.specs.Rules.{eqt_intro_of};
-ghost use Rattle.hol_derived.specs.Unfolded.{equal_to_truth};
 
 use crate::definitions::definition;
 use crate::equations::eq_mp_sym;
 use crate::letters::boolean;
-use hol_equal::applied::{assume, eq_mp, refl};
+use hol_equal::applied::{assume, prove_hyp, refl};
 use hol_formulas::{Postulate, negation_type, occurrence};
 use hol_kernel::{Basis, Thm};
 use hol_terms::Term;
@@ -41,7 +40,7 @@ fn identity_itself(alloc: Global, basis: &Basis) -> Result<Thm, AllocError>
 }
 
 /// TRUTH: `|- T`.
-pub fn truth(alloc: Global, basis: &Basis) -> Result<Thm, AllocError>
+pub(crate) fn truth(alloc: Global, basis: &Basis) -> Result<Thm, AllocError>
     ensures { IfOk result (λ th. th ≡ theorem_on basis.now (sequent_of no_hyps truth)) }
 {
     let own = definition(alloc, basis, Postulate::TDef)?;
@@ -68,31 +67,11 @@ pub(crate) fn true_if_assumed(alloc: Global, basis: &Basis, p: &Term) -> Result<
     Thm::deduct_antisym(alloc, &assumed, &holds)
 }
 
-// `p` under the hypothesis `p = T`; `equal` is the equation.
-fn assumed_if_true(alloc: Global, basis: &Basis, equal: &Term) -> Result<Thm, AllocError>
-    requires typed { HasType basis.now (nameless [] equal.now) bool_type }
-    requires is { nameless [] equal.now ≡ equation bool_type (lhs (nameless [] equal.now)) truth }
-    ensures { IfOk result (λ th. th ≡ theorem_on basis.now (sequent_of (only_hyp (nameless [] equal.now)) (lhs (nameless [] equal.now)))) }
-{
-    let assumed = assume(alloc, basis, equal)?;
-    eqt_elim(alloc, &assumed)
-}
-
-// `p = (p = T)`, for the theorem's conclusion `p`.
-fn iff_true(alloc: Global, a: &Thm) -> Result<Thm, AllocError>
-    ensures { IfOk result (λ th. th ≡ theorem_on a.now.basis (equal_to_truth a.now.sequent.concl)) }
-{
-    a.well_typed();
-    let forward = true_if_assumed(alloc, a.basis(), a.concl())?;
-    forward.well_typed();
-    let back = assumed_if_true(alloc, a.basis(), forward.concl())?;
-    Thm::deduct_antisym(alloc, &back, &forward)
-}
-
 /// EQT_INTRO: from `p`, `p <=> T`.
-pub fn eqt_intro(alloc: Global, a: &Thm) -> Result<Thm, AllocError>
+pub(crate) fn eqt_intro(alloc: Global, a: &Thm) -> Result<Thm, AllocError>
     ensures { IfOk result (λ th. th ≡ theorem_on a.now.basis (eqt_intro_of a.now.sequent)) }
 {
-    let iff = iff_true(alloc, a)?;
-    eq_mp(alloc, &iff, a)
+    a.well_typed();
+    let iff = true_if_assumed(alloc, a.basis(), a.concl())?;
+    prove_hyp(alloc, a, &iff)
 }

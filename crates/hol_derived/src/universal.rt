@@ -72,7 +72,7 @@ fn reduced(alloc: Global, a: &Thm, f: &Term, t: &Term) -> Result<Thm, AllocError
 }
 
 /// SPEC: from `!x. p`, `p` with `t` for `x`, for a term of the type of `x`.
-pub fn spec(alloc: Global, t: &Term, a: &Thm) -> Result<Thm, AllocError>
+pub(crate) fn spec(alloc: Global, t: &Term, a: &Thm) -> Result<Thm, AllocError>
     requires is { a.now.sequent.concl ≡ universal (abstraction_in (rand a.now.sequent.concl)) }
     requires typed { HasType a.now.basis (nameless [] t.now) (bound_type (rand a.now.sequent.concl)) }
     ensures { IfOk result (λ th. th ≡ theorem_on a.now.basis (specialized (nameless [] t.now) a.now.sequent)) }

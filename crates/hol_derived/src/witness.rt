@@ -1,26 +1,22 @@
 //! That what holds of something exists: `!P x. P x ==> (?) P`.
-ghost use Rattle.std.specs.Prelude.{◌≡◌, [], true, codes, IfOk, Some};
+ghost use Rattle.std.specs.Prelude.{◌≡◌, codes, IfOk, Some};
 ghost use Rattle.std.specs.FinSet as set;
-ghost use Rattle.hol_types.specs.Fun.{fun_type};
 ghost use Rattle.hol_terms.specs.Named.{var, named_type};
-ghost use Rattle.hol_terms.specs.Nameless.{nameless, app};
 ghost use Rattle.hol_formulas.specs.Constants.{var_a};
 ghost use Rattle.hol_formulas.specs.Equation.{bool_type};
 ghost use Rattle.hol_formulas.specs.Formula.{implication, universal};
 ghost use Rattle.hol_formulas.specs.Making.{mk_imp, mk_forall};
 ghost use Rattle.hol_formulas.specs.Prelude.{boolean, element, of_element, property, property_type};
-ghost use Rattle.hol_kernel.specs.Sequent.{no_hyps, only_hyp, sequent_of};
+ghost use Rattle.hol_kernel.specs.Sequent.{only_hyp, sequent_of};
 ghost use Rattle.hol_kernel.specs.Theorem.{theorem_on};
-ghost use Rattle.hol_kernel.specs.Typing.{HasType, is_type};
-ghost use Rattle.hol_derived.specs.Applied.{generalized};
-ghost use Rattle.hol_derived.specs.Unfolded.{letter, exists_in, exists_unfolded, implied_by_all, predicate, of_witness, all_witnesses, followed, witnessed};
+ghost use Rattle.hol_derived.specs.Unfolded.{letter, exists_in, exists_unfolded, implied_by_all, predicate, of_witness, all_witnesses, followed};
 
 use crate::equations::eq_mp_sym;
 use crate::existential::exists_at;
 use crate::implication::{disch, mp};
 use crate::letters::{for_every, letter};
-use crate::universal::{generalize, spec};
-use hol_equal::applied::{assume, inst_type};
+use crate::universal::spec;
+use hol_equal::applied::assume;
 use hol_formulas::{bool_type, mk_forall, mk_imp, occurrence, variable};
 use hol_kernel::{Basis, Thm};
 use hol_terms::{Term, Variable};
@@ -182,51 +178,4 @@ pub(crate) fn from_witness(alloc: Global, basis: &Basis) -> Result<Thm, AllocErr
 {
     let every = implied(alloc, basis)?;
     folded(alloc, &every)
-}
-
-// `P x ==> (?) P`.
-fn witness_implies(alloc: Global, basis: &Basis) -> Result<Thm, AllocError>
-    ensures { IfOk result (λ th. th ≡ theorem_on basis.now (sequent_of no_hyps (implication of_witness (exists_in var_a predicate)))) }
-{
-    let holds = from_witness(alloc, basis)?;
-    let witness = of_element(alloc)?;
-    disch(alloc, &witness, &holds)
-}
-
-// `!x. P x ==> (?) P`.
-fn each_witness(alloc: Global, basis: &Basis) -> Result<Thm, AllocError>
-    ensures { IfOk result (λ th. th ≡ theorem_on basis.now (generalized (element (codes "x")) (sequent_of no_hyps (implication of_witness (exists_in var_a predicate))))) }
-{
-    let implies = witness_implies(alloc, basis)?;
-    let x = element(alloc)?;
-    generalize(alloc, &x, &implies)
-}
-
-// `!P x. P x ==> (?) P`, at the type.
-fn witnessed(alloc: Global, basis: &Basis, ty: &Ty) -> Result<Thm, AllocError>
-    requires { is_type basis.now ty.now ≡ true }
-    ensures { IfOk result (λ th. th ≡ theorem_on basis.now (sequent_of no_hyps (witnessed ty.now))) }
-{
-    let inner = each_witness(alloc, basis)?;
-    let p = property(alloc)?;
-    let general = generalize(alloc, &p, &inner)?;
-    inst_type(alloc, ty, "A", &general)
-}
-
-/// `f t ==> (?) f`.
-pub(crate) fn witness_rule(
-    alloc: Global,
-    basis: &Basis,
-    ty: &Ty,
-    f: &Term,
-    t: &Term,
-) -> Result<Thm, AllocError>
-    requires stands { is_type basis.now ty.now ≡ true }
-    requires function { HasType basis.now (nameless [] f.now) (fun_type ty.now bool_type) }
-    requires argument { HasType basis.now (nameless [] t.now) ty.now }
-    ensures { IfOk result (λ th. th ≡ theorem_on basis.now (sequent_of no_hyps (implication (app (nameless [] f.now) (nameless [] t.now)) (exists_in ty.now (nameless [] f.now))))) }
-{
-    let general = witnessed(alloc, basis, ty)?;
-    let at = spec(alloc, f, &general)?;
-    spec(alloc, t, &at)
 }

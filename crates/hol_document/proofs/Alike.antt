@@ -4,6 +4,9 @@ use Rattle.std.proofs.Common.{ap, sym, ◌∙◌, subst}
 use Rattle.hol_theory.specs.Entry.{EntryValue, Entries, entry_at}
 use Rattle.hol_theory.specs.Key.{KeyValue, key_eq}
 use Rattle.hol_exec.specs.declared.reports.refusal.RefusalKind.TheVariants as refusal
+use Rattle.hol_theory.specs.Constants.{constant_names}
+use Rattle.hol_exec.proofs.Needing.{local_needs, local_told}
+use Rattle.hol_exec.specs.Tested.{TestedValue, agrees}
 use Rattle.hol_exec.specs.At.{IsOutcome, direct, undoes, rotates, drops, imports_theory}
 use Rattle.hol_exec.specs.ChangedKeys.{IsApart, AreApart}
 use Rattle.hol_exec.specs.CommandText.{LocalText, DirectText, Back, Rotate, Oops, Import, Local, Direct}
@@ -91,13 +94,31 @@ direct_alike (Rotate times) s before earlier same = refl
 direct_alike Oops s before earlier same = refl
 direct_alike (Import name) s before earlier same = ap (λ theory. cond (is_some s.proof) (Refuses refusal.InProof []) (imports_theory name s.entries theory)) same
 
+-- the names that were tested are those of constants at the state, or not, as they were; what has no reads tested none
+abbrev pub IsTold : StateValue → TestedValue → ReadText → Type 0
+IsTold s tested (Reads (Local command)) = agrees tested s.entries ≡ true
+IsTold s tested (Reads (Direct command)) = Unit {0}
+IsTold s tested (Breaks place) = Unit {0}
+
+-- a row's are, at its own state
+pub row_told : (setup : SetupValue) (earlier : List EndedTheory) (s : StateValue) (text : List ℕ) (command : LocalText) (row : Row) → row.value ≡ Reads (Local command) → IsRow setup earlier s text row → agrees row.tested s.entries ≡ true
+row_told setup earlier s text command row is h = by row.reads (subst (λ value. IsOutcome setup earlier s value row.reads row.tested row.outcome) is h.gets)
+  where
+    by : (reads : Option ReadsValue) → IsOutcome setup earlier s (Reads (Local command)) reads row.tested row.outcome → agrees row.tested s.entries ≡ true
+    by None h = absurd h
+    by (Some own) h = local_told setup (constant_names s.entries) command own (record { outcome = row.outcome; tested = row.tested }) h
+
+-- so they are at a state with the same entries
+pub told_here : (setup : SetupValue) (before : List EndedTheory) (s state : StateValue) (text : List ℕ) (command : LocalText) (row : Row) → row.value ≡ Reads (Local command) → s.entries ≡ state.entries → IsRow setup before s text row → agrees row.tested state.entries ≡ true
+told_here setup before s state text command row is same h = subst (λ (es : Entries). agrees row.tested es ≡ true) same (row_told setup before s text command row is h)
+
 -- a row that is passed over stands at the other state
 pub row_passed : (setup : SetupValue) (before earlier : List EndedTheory) (drift : DriftValue) (a b : StateValue) (text : List ℕ) (row : Row)
-    → AreAlike drift a b → IsPassedOver drift row.value → IsRow setup before a text row → IsRow setup earlier b text row
-row_passed setup before earlier drift a b text row alike passed is = record {
+    → AreAlike drift a b → IsPassedOver drift row.value → IsTold b row.tested row.value → IsRow setup before a text row → IsRow setup earlier b text row
+row_passed setup before earlier drift a b text row alike passed told is = record {
   parsed = is.parsed;
   read = is.read ∙ reads row.value passed;
-  gets = gets row.value row.reads row.outcome passed is.gets;
+  gets = gets row.value row.reads row.tested row.outcome passed told is.gets;
 }
   where
     reads : (value : ReadText) → IsPassedOver drift value → reads_at value a ≡ reads_at value b
@@ -105,39 +126,40 @@ row_passed setup before earlier drift a b text row alike passed is = record {
     reads (Reads (Direct command)) p = refl
     reads (Breaks place) p = refl
 
-    gets : (value : ReadText) (read : Option ReadsValue) (outcome : OutcomeValue) → IsPassedOver drift value → IsOutcome setup before a value read outcome → IsOutcome setup earlier b value read outcome
-    gets (Reads (Local command)) None outcome p h = h
-    gets (Reads (Local command)) (Some own) outcome p h = h
-    gets (Reads (Direct Back)) None outcome p h = h ∙ ap undoes (alike.held p)
-    gets (Reads (Direct (Rotate times))) None outcome p h = h ∙ ap (rotates times) (alike.held p)
-    gets (Reads (Direct Oops)) None outcome p h = h ∙ ap drops (alike.held p)
-    gets (Reads (Direct (Import name))) None outcome p h = absurd p
-    gets (Reads (Direct command)) (Some own) outcome p h = absurd h
-    gets (Breaks place) None outcome p h = h
-    gets (Breaks place) (Some own) outcome p h = h
+    gets : (value : ReadText) (read : Option ReadsValue) (tested : TestedValue) (outcome : OutcomeValue) → IsPassedOver drift value → IsTold b tested value → IsOutcome setup before a value read tested outcome → IsOutcome setup earlier b value read tested outcome
+    gets (Reads (Local command)) None tested outcome p told h = h
+    gets (Reads (Local command)) (Some own) tested outcome p told h = local_needs setup (constant_names a.entries) (constant_names b.entries) command own (record { outcome = outcome; tested = tested }) h told
+    gets (Reads (Direct Back)) None tested outcome p told h = (h.0 ∙ ap undoes (alike.held p), h.1)
+    gets (Reads (Direct (Rotate times))) None tested outcome p told h = (h.0 ∙ ap (rotates times) (alike.held p), h.1)
+    gets (Reads (Direct Oops)) None tested outcome p told h = (h.0 ∙ ap drops (alike.held p), h.1)
+    gets (Reads (Direct (Import name))) None tested outcome p told h = absurd p
+    gets (Reads (Direct command)) (Some own) tested outcome p told h = absurd h
+    gets (Breaks place) None tested outcome p told h = h
+    gets (Breaks place) (Some own) tested outcome p told h = h
 
 -- the outcome of a row, where the reads at the other state are the same
 pub row_read_again : (setup : SetupValue) (before earlier : List EndedTheory) (a b : StateValue) (text : List ℕ) (command : LocalText) (reads : ReadsValue) (row : Row)
-    → row.value ≡ Reads (Local command) → row.reads ≡ Some reads → reads ≡ reads_of command b → IsRow setup before a text row → IsRow setup earlier b text row
-row_read_again setup before earlier a b text command reads row is read same h = record {
+    → row.value ≡ Reads (Local command) → row.reads ≡ Some reads → reads ≡ reads_of command b → agrees row.tested b.entries ≡ true → IsRow setup before a text row → IsRow setup earlier b text row
+row_read_again setup before earlier a b text command reads row is read same told h = record {
   parsed = h.parsed;
   read = read ∙ (ap Some same ∙ sym (ap (λ value. reads_at value b) is));
-  gets = subst (λ value. IsOutcome setup earlier b value row.reads row.outcome) (sym is) (subst (λ own. IsOutcome setup earlier b (Reads (Local command)) own row.outcome) (sym read)
-      (subst (λ own. IsOutcome setup before a (Reads (Local command)) own row.outcome) read (subst (λ value. IsOutcome setup before a value row.reads row.outcome) is h.gets)));
+  gets = subst (λ value. IsOutcome setup earlier b value row.reads row.tested row.outcome) (sym is) (subst (λ own. IsOutcome setup earlier b (Reads (Local command)) own row.tested row.outcome) (sym read)
+      (local_needs setup (constant_names a.entries) (constant_names b.entries) command reads (record { outcome = row.outcome; tested = row.tested })
+      (subst (λ own. IsOutcome setup before a (Reads (Local command)) own row.tested row.outcome) read (subst (λ value. IsOutcome setup before a value row.reads row.tested row.outcome) is h.gets)) told));
 }
 
 -- a row at the same state, after theories that end alike
 pub row_elsewhere : (setup : SetupValue) (before earlier : List EndedTheory) (s : StateValue) (text : List ℕ) (row : Row)
     → ImportsAlike before earlier row.value → IsRow setup before s text row → IsRow setup earlier s text row
-row_elsewhere setup before earlier s text row same h = record { parsed = h.parsed; read = h.read; gets = gets row.value row.reads row.outcome same h.gets }
+row_elsewhere setup before earlier s text row same h = record { parsed = h.parsed; read = h.read; gets = gets row.value row.reads row.tested row.outcome same h.gets }
   where
-    gets : (value : ReadText) (read : Option ReadsValue) (outcome : OutcomeValue) → ImportsAlike before earlier value → IsOutcome setup before s value read outcome → IsOutcome setup earlier s value read outcome
-    gets (Reads (Local command)) None outcome p h = h
-    gets (Reads (Local command)) (Some own) outcome p h = h
-    gets (Reads (Direct command)) None outcome p h = h ∙ direct_alike command s before earlier p
-    gets (Reads (Direct command)) (Some own) outcome p h = absurd h
-    gets (Breaks place) None outcome p h = h
-    gets (Breaks place) (Some own) outcome p h = h
+    gets : (value : ReadText) (read : Option ReadsValue) (tested : TestedValue) (outcome : OutcomeValue) → ImportsAlike before earlier value → IsOutcome setup before s value read tested outcome → IsOutcome setup earlier s value read tested outcome
+    gets (Reads (Local command)) None tested outcome p h = h
+    gets (Reads (Local command)) (Some own) tested outcome p h = h
+    gets (Reads (Direct command)) None tested outcome p h = (h.0 ∙ direct_alike command s before earlier p, h.1)
+    gets (Reads (Direct command)) (Some own) tested outcome p h = absurd h
+    gets (Breaks place) None tested outcome p h = h
+    gets (Breaks place) (Some own) tested outcome p h = h
 
 -- the same outcome after both, and with the proof the same where none is open after it
 pub go_on_alike : (drift next : DriftValue) (a b : StateValue) (outcome : OutcomeValue) → next.changed ≡ drift.changed → next.entries ≡ drift.entries

@@ -2,8 +2,8 @@
 use Rattle.std.specs.Prelude.{◌≡◌, ◌+◌, List, [], ◌∷◌, ◌++◌, cond, map, length, Option, Some, None, refl}
 use Rattle.std.proofs.Common.{ap, ◌∙◌, arith}
 use Rattle.hol_exec.specs.ReadsValue.{ReadsValue}
-use Rattle.hol_exec.specs.SameReads.{same_reads_are}
-use Rattle.hol_document.specs.Affected.{counts_beside, counts, affected_rows, affected_in, rows_before, changed_at}
+use Rattle.hol_exec.specs.SameReads.{same_reads_are, same_tested_are}
+use Rattle.hol_document.specs.Affected.{counts_beside, counts_where, counts, affected_rows, affected_in, rows_before, changed_at}
 use Rattle.hol_document.specs.Afresh.{Row, TheoryRun}
 
 -- ---- one command
@@ -14,7 +14,10 @@ same_count (Some reads) = ap (λ b. cond b 0 1) ((same_reads_are reads reads).1 
 
 -- a row that stands as it did isn't counted
 pub counts_same : (old new : Row) → new ≡ old → counts (Some old) new ≡ 0
-counts_same old new e = ap (λ (row : Row). counts_beside old.reads row.reads) e ∙ same_count old.reads
+counts_same old new e =
+    ap (λ (row : Row). counts (Some old) row) e
+    ∙ ap (λ b. counts_where b old.reads old.reads) ((same_tested_are old.tested old.tested).1 refl)
+    ∙ same_count old.reads
 
 -- ---- the commands of a theory
 

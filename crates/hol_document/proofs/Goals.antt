@@ -4,6 +4,8 @@ use Rattle.std.specs.Prelude.{Option, Some, None}
 use Rattle.hol_terms.specs.Nameless.{Nameless}
 use Rattle.hol_kernel.specs.Items.{Items}
 use Rattle.hol_exec.specs.declared.reports.refusal.RefusalKind.TheVariants as refusal
+use Rattle.hol_exec.specs.Tested.{TestedValue}
+use Rattle.hol_exec.specs.Local.{LocalValue}
 use Rattle.hol_exec.specs.At.{IsOutcome}
 use Rattle.hol_goal.specs.Goal.{GoalValue}
 use Rattle.hol_stack.specs.StackValue.{StepValue}
@@ -57,18 +59,18 @@ qed_finishes before (Some p) k =
     elim (nat_eq (length p.newest.goals) 0) as (λ (t : Bool). MakesFinished before (cond t (finished c) (Refuses refusal.GoalsRemain [])))
     [ true ↦ (record { name = p.name; under = refl; goal = sym k; without_hypotheses = refl }, tt) | false ↦ tt ]
 
-row_finishes : (setup : SetupValue) (earlier : List EndedTheory) (before : List Row) (s : StateValue) (value : ReadText) (reads : Option ReadsValue) (outcome : OutcomeValue)
-    → AreReads value s reads → IsOutcome setup earlier s value reads outcome → goal_of s.proof ≡ open_goal None before → FinishesBy before value outcome
-row_finishes setup earlier before s (Reads (Local (Goal name quotation))) reads outcome are h k = tt
-row_finishes setup earlier before s (Reads (Local (Apply call))) reads outcome are h k = tt
-row_finishes setup earlier before s (Reads (Local Qed)) None outcome are h k = absurd h
-row_finishes setup earlier before s (Reads (Local Qed)) (Some reads) outcome are h k =
+row_finishes : (setup : SetupValue) (earlier : List EndedTheory) (before : List Row) (s : StateValue) (value : ReadText) (reads : Option ReadsValue) (tested : TestedValue) (outcome : OutcomeValue)
+    → AreReads value s reads → IsOutcome setup earlier s value reads tested outcome → goal_of s.proof ≡ open_goal None before → FinishesBy before value outcome
+row_finishes setup earlier before s (Reads (Local (Goal name quotation))) reads tested outcome are h k = tt
+row_finishes setup earlier before s (Reads (Local (Apply call))) reads tested outcome are h k = tt
+row_finishes setup earlier before s (Reads (Local Qed)) None tested outcome are h k = absurd h
+row_finishes setup earlier before s (Reads (Local Qed)) (Some reads) tested outcome are h k =
     let same : reads ≡ reads_of Qed s = cc in
-    let is : outcome ≡ finishes (closing_of s.proof) = rw same at h in
+    let is : outcome ≡ finishes (closing_of s.proof) = ap (λ (l : LocalValue). l.outcome) (rw same at h) in
     rw is (qed_finishes before s.proof k)
-row_finishes setup earlier before s (Reads (Local (Make making))) reads outcome are h k = tt
-row_finishes setup earlier before s (Reads (Direct command)) reads outcome are h k = tt
-row_finishes setup earlier before s (Breaks place) reads outcome are h k = tt
+row_finishes setup earlier before s (Reads (Local (Make making))) reads tested outcome are h k = tt
+row_finishes setup earlier before s (Reads (Direct command)) reads tested outcome are h k = tt
+row_finishes setup earlier before s (Breaks place) reads tested outcome are h k = tt
 
 -- the state that rows lead to has their open goal
 leads_goal : (setup : SetupValue) (earlier : List EndedTheory) (goal : Option (List ℕ × Nameless)) (s : StateValue) (texts : List (List ℕ)) (rows : List Row) (last : StateValue)
@@ -83,7 +85,7 @@ leads_goal setup earlier goal s (text ∷ texts) (row ∷ rows) last h k =
 pub next_finishes : (setup : SetupValue) (earlier : List EndedTheory) (texts : List (List ℕ)) (rows : List Row) (s : StateValue) (text : List ℕ) (row : Row)
     → AreRows setup earlier start texts rows s → IsRow setup earlier s text row → FinishesBy rows row.value row.outcome
 next_finishes setup earlier texts rows s text row leads is =
-    row_finishes setup earlier rows s row.value row.reads row.outcome is.read is.gets (leads_goal setup earlier None start texts rows s leads refl)
+    row_finishes setup earlier rows s row.value row.reads row.tested row.outcome is.read is.gets (leads_goal setup earlier None start texts rows s leads refl)
 
 rows_finish : (setup : SetupValue) (earlier : List EndedTheory) (before : List Row) (s : StateValue) (texts : List (List ℕ)) (rows : List Row) (last : StateValue)
     → AreRows setup earlier s texts rows last → goal_of s.proof ≡ open_goal None before → EachFinishes before rows
@@ -91,7 +93,7 @@ rows_finish setup earlier before s [] [] last h k = tt
 rows_finish setup earlier before s [] (row ∷ rows) last h k = absurd h
 rows_finish setup earlier before s (text ∷ texts) [] last h k = absurd h
 rows_finish setup earlier before s (text ∷ texts) (row ∷ rows) last h k = (
-  row_finishes setup earlier before s row.value row.reads row.outcome h.0.read h.0.gets k,
+  row_finishes setup earlier before s row.value row.reads row.tested row.outcome h.0.read h.0.gets k,
   rows_finish setup earlier (before ++ row ∷ []) (after s row.outcome) texts rows last h.1
       (goal_next s row.outcome ∙ (ap (λ g. goal_after g row.outcome) k ∙ sym (open_goal_more None before row))),
 )

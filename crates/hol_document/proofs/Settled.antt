@@ -1,5 +1,5 @@
 -- Slots of answers, and of rows that stand again.
-use Rattle.std.specs.Prelude.{◌≡◌, ◌≤◌, ◌+◌, ℕ, List, [], ◌∷◌, true, false, cond, Option, Some, None, Result, Ok, Err, IfOk, IfSome, refl}
+use Rattle.std.specs.Prelude.{◌≡◌, ◌≤◌, ◌+◌, ℕ, Bool, List, [], ◌∷◌, true, false, cond, Option, Some, None, Result, Ok, Err, IfOk, IfSome, refl}
 use Rattle.std.specs.Map.{keys_of}
 use Rattle.std.proofs.Common.{ap, sym, ◌∙◌, subst}
 use Rattle.hol_theory.specs.Entry.{Entries}
@@ -7,42 +7,44 @@ use Rattle.hol_theory.specs.Key.{KeyValue}
 use Rattle.hol_theory.specs.Theory.{IsTheory}
 use Rattle.hol_exec.specs.At.{IsOutcome, IsOutcomeAt}
 use Rattle.hol_exec.specs.ChangedKeys.{AreApart}
-use Rattle.hol_exec.specs.CommandText.{LocalText, Local}
+use Rattle.hol_exec.specs.CommandText.{LocalText, DirectText, Local, Direct}
 use Rattle.hol_exec.specs.Keys.{cited_keys, made_keys}
 use Rattle.hol_exec.specs.OutcomeValue.{OutcomeValue, after}
 use Rattle.hol_exec.specs.Reading.{ReadText, Reads, IsRead}
 use Rattle.hol_exec.specs.ReadsValue.{ReadsValue, values_of, reads_of, reads_at}
-use Rattle.hol_exec.specs.SameReads.{same_reads}
+use Rattle.hol_exec.specs.SameReads.{same_reads, same_tested, same_tested_are}
+use Rattle.hol_exec.specs.Tested.{TestedValue, agrees}
 use Rattle.hol_exec.specs.Setup.{SetupValue}
 use Rattle.hol_exec.specs.StateValue.{StateValue, EndedTheory, AreTheories, newest_of}
-use Rattle.hol_document.specs.Affected.{counts_beside, counts}
+use Rattle.hol_document.specs.Affected.{counts_beside, counts_where, counts}
 use Rattle.hol_document.specs.Afresh.{Row, IsRow}
 use Rattle.hol_document.specs.Alike.{DriftValue, AreAlike, IsPassedOver}
 use Rattle.hol_document.specs.Settled.{IsAnswer, IsKeyed}
 use Rattle.hol_document.specs.Slots.{SlotValue, IsSlot}
-use Rattle.hol_document.proofs.Alike.{next_alike}
+use Rattle.std.proofs.lemmas.Bool.{false_from_ne_true}
+use Rattle.hol_document.proofs.Alike.{next_alike, row_told}
 
 -- ---- answers
 
 -- an answer may come to the state
-pub answer_at : (setup : SetupValue) (earlier : List EndedTheory) (s : StateValue) (value : ReadText) (reads : Option ReadsValue) (outcome : OutcomeValue)
-    → AreTheories earlier → IsAnswer setup earlier s value reads outcome → IsOutcomeAt s outcome
-answer_at setup earlier s value reads outcome theories is = record { setup = setup; earlier = earlier; theories = theories; value = value; reads = reads; read = is.read; gets = is.gets }
+pub answer_at : (setup : SetupValue) (earlier : List EndedTheory) (s : StateValue) (value : ReadText) (reads : Option ReadsValue) (tested : TestedValue) (outcome : OutcomeValue)
+    → AreTheories earlier → IsAnswer setup earlier s value reads tested outcome → IsOutcomeAt s outcome
+answer_at setup earlier s value reads tested outcome theories is = record { setup = setup; earlier = earlier; theories = theories; value = value; reads = reads; tested = tested; read = is.read; gets = is.gets }
 
 -- the slot of an answer
-pub answer_slot : (setup : SetupValue) (earlier : List EndedTheory) (s next : StateValue) (value : ReadText) (reads : Option ReadsValue) (outcome : OutcomeValue) (slot : SlotValue)
-    → IsAnswer setup earlier s value reads outcome → IsRead slot.text value → slot.row.value ≡ value → slot.row.reads ≡ reads → slot.row.outcome ≡ outcome
+pub answer_slot : (setup : SetupValue) (earlier : List EndedTheory) (s next : StateValue) (value : ReadText) (reads : Option ReadsValue) (tested : TestedValue) (outcome : OutcomeValue) (slot : SlotValue)
+    → IsAnswer setup earlier s value reads tested outcome → IsRead slot.text value → slot.row.value ≡ value → slot.row.reads ≡ reads → slot.row.tested ≡ tested → slot.row.outcome ≡ outcome
     → next ≡ after s outcome → slot.opened ≡ newest_of next.proof → IsTheory next.entries → IfSome slot.kept (λ kept. kept ≡ s) → IsSlot setup earlier s slot
-answer_slot setup earlier s next value reads outcome slot is parsed v r o e opened stands kept =
+answer_slot setup earlier s next value reads tested outcome slot is parsed v r t o e opened stands kept =
     let leads : next ≡ after s slot.row.outcome = e ∙ ap (after s) (sym o) in record {
       row = record {
         parsed = subst (λ w. IsRead slot.text w) (sym v) parsed;
         read = r ∙ (is.read ∙ ap (λ w. reads_at w s) (sym v));
-        gets = subst (λ w. IsOutcome setup earlier s w slot.row.reads slot.row.outcome) (sym v) (subst (λ w. IsOutcome setup earlier s value w slot.row.outcome) (sym r)
-            (subst (λ w. IsOutcome setup earlier s value reads w) (sym o) is.gets));
+        gets = subst (λ w. IsOutcome setup earlier s w slot.row.reads slot.row.tested slot.row.outcome) (sym v) (subst (λ w. IsOutcome setup earlier s value w slot.row.tested slot.row.outcome) (sym r)
+            (subst (λ w. IsOutcome setup earlier s value reads w slot.row.outcome) (sym t) (subst (λ w. IsOutcome setup earlier s value reads tested w) (sym o) is.gets)));
       };
-      opened = opened ∙ ap (λ (t : StateValue). newest_of t.proof) leads;
-      stands = subst (λ (t : StateValue). IsTheory t.entries) leads stands;
+      opened = opened ∙ ap (λ (u : StateValue). newest_of u.proof) leads;
+      stands = subst (λ (u : StateValue). IsTheory u.entries) leads stands;
       kept = kept;
     }
 
@@ -105,27 +107,67 @@ kept_slot setup earlier s next old new is text row e opened stands kept =
     row_slot setup earlier s next new (subst (λ t. IsRow setup earlier s t new.row) (sym text) (subst (λ r. IsRow setup earlier s old.text r) (sym row) is))
     (e ∙ ap (λ (r : Row). after s r.outcome) (sym row)) opened stands kept
 
--- what is run again is counted
+-- what is run again is counted: no row of the text at the state is passed over
 pub run_counts : (setup : SetupValue) (earlier : List EndedTheory) (s : StateValue) (old new : SlotValue) (n m : ℕ)
-    → IsSlot setup earlier s new → new.row.value ≡ old.row.value
-    → counts_beside old.row.reads (reads_at old.row.value s) ≡ counts_beside None (reads_at old.row.value s)
+    → IsSlot setup earlier s new → new.text ≡ old.text
+    → ((row : Row) → IsRow setup earlier s old.text row → counts (Some old.row) row ≡ counts None row)
     → m ≤ n + counts None new.row → m ≤ n + counts (Some old.row) new.row
-run_counts setup earlier s old new n m is value counted few =
-    let read : new.row.reads ≡ reads_at old.row.value s = is.row.read ∙ ap (λ v. reads_at v s) value in
-    let same : counts (Some old.row) new.row ≡ counts None new.row =
-    ap (counts_beside old.row.reads) read ∙ (counted ∙ ap (counts_beside None) (sym read)) in
-    subst (λ c. m ≤ n + c) (sym same) few
+run_counts setup earlier s old new n m is text counted few = subst (λ c. m ≤ n + c) (sym (counted new.row (subst (λ t. IsRow setup earlier s t new.row) text is.row))) few
+
+pub few_again : {R E : Type 0} (f : R → SlotValue) (r : Result R E) (setup : SetupValue) (earlier : List EndedTheory) (s : StateValue) (old : SlotValue) (n m : ℕ)
+    → IfOk r (λ new. IsSlot setup earlier s (f new)) → IfOk r (λ new. (f new).text ≡ old.text) → ((row : Row) → IsRow setup earlier s old.text row → counts (Some old.row) row ≡ counts None row)
+    → IfOk r (λ new. m ≤ n + counts None (f new).row) → IfOk r (λ new. m ≤ n + counts (Some old.row) (f new).row)
+few_again f (Ok new) setup earlier s old n m is text counted few = run_counts setup earlier s old (f new) n m is text counted few
+few_again f (Err e) setup earlier s old n m is text counted few = tt
+
+-- where other names were tested, or these stand otherwise, it is counted
+pub counts_tested : (old new : Row) → same_tested old.tested new.tested ≡ false → counts (Some old) new ≡ counts None new
+counts_tested old new e = ap (λ b. counts_where b old.reads new.reads) e
+
+-- and where it reads something else
+counts_else : (old new : Row) → counts_beside old.reads new.reads ≡ counts_beside None new.reads → counts (Some old) new ≡ counts None new
+counts_else old new e = by (same_tested old.tested new.tested)
+  where
+    by : (b : Bool) → counts_where b old.reads new.reads ≡ counts_beside None new.reads
+    by true = e
+    by false = refl
+
+-- the row of the same text at the state
+module _ (setup : SetupValue) (earlier : List EndedTheory) (s : StateValue) (text : List ℕ) where
+  pub counts_read : (old row : Row) → row.value ≡ old.value → counts_beside old.reads (reads_at old.value s) ≡ counts_beside None (reads_at old.value s) → IsRow setup earlier s text row → counts (Some old) row ≡ counts None row
+  counts_read old row same e is =
+      let read : row.reads ≡ reads_at old.value s = is.read ∙ ap (λ v. reads_at v s) same in
+      counts_else old row (ap (counts_beside old.reads) read ∙ (e ∙ ap (counts_beside None) (sym read)))
+
+  none_counts : (o : Option ReadsValue) → counts_beside o None ≡ 0
+  none_counts None = refl
+  none_counts (Some reads) = refl
+
+  -- what is answered from the state reads nothing
+  pub counts_direct : (command : DirectText) (old row : Row) → row.value ≡ old.value → old.value ≡ Reads (Direct command) → IsRow setup earlier s text row → counts (Some old) row ≡ counts None row
+  counts_direct command old row same direct is =
+      let none : reads_at old.value s ≡ None = ap (λ v. reads_at v s) direct in
+      let counted : counts_beside old.reads (reads_at old.value s) ≡ counts_beside None (reads_at old.value s) =
+      ap (counts_beside old.reads) none ∙ (none_counts old.reads ∙ sym (ap (counts_beside None) none)) in
+      counts_read old row same counted is
+
+  pub row_untold : (command : LocalText) (old row : Row) → row.value ≡ old.value → old.value ≡ Reads (Local command) → agrees old.tested s.entries ≡ false → IsRow setup earlier s text row → counts (Some old) row ≡ counts None row
+  row_untold command old row same local none is = counts_tested old row (false_from_ne_true (same_tested old.tested row.tested) (λ e.
+      let one : old.tested ≡ row.tested = (same_tested_are old.tested row.tested).0 e in
+      let told : agrees row.tested s.entries ≡ true = row_told setup earlier s text command row (same ∙ local) is in
+      let clash : false ≡ true = sym none ∙ ap (λ t. agrees t s.entries) one ∙ told in
+      absurd (cc)))
 
 -- none is open after a slot
 pub none_opened : (s : StateValue) (slot : SlotValue) → slot.opened ≡ newest_of (after s slot.row.outcome).proof → slot.opened ≡ None → newest_of (after s slot.row.outcome).proof ≡ None
 none_opened s slot is none = sym is ∙ none
 
 -- the slots of an answer that is carried out
-pub run_slots : {R E : Type 0} (f : R → SlotValue) (r : Result R E) (setup : SetupValue) (earlier : List EndedTheory) (s next : StateValue) (text : List ℕ) (value : ReadText) (reads : Option ReadsValue) (outcome : OutcomeValue) (kept : Option StateValue)
-    → IfSome kept (λ k. k ≡ s) → IsRead text value → IsAnswer setup earlier s value reads outcome
-    → IfOk r (λ new. (f new).text ≡ text) → IfOk r (λ new. (f new).row.value ≡ value) → IfOk r (λ new. (f new).row.reads ≡ reads) → IfOk r (λ new. (f new).row.outcome ≡ outcome)
+pub run_slots : {R E : Type 0} (f : R → SlotValue) (r : Result R E) (setup : SetupValue) (earlier : List EndedTheory) (s next : StateValue) (text : List ℕ) (value : ReadText) (reads : Option ReadsValue) (tested : TestedValue) (outcome : OutcomeValue) (kept : Option StateValue)
+    → IfSome kept (λ k. k ≡ s) → IsRead text value → IsAnswer setup earlier s value reads tested outcome
+    → IfOk r (λ new. (f new).text ≡ text) → IfOk r (λ new. (f new).row.value ≡ value) → IfOk r (λ new. (f new).row.reads ≡ reads) → IfOk r (λ new. (f new).row.tested ≡ tested) → IfOk r (λ new. (f new).row.outcome ≡ outcome)
     → IfOk r (λ new. (f new).opened ≡ newest_of next.proof) → IfOk r (λ new. (f new).kept ≡ kept) → IfOk r (λ new. next ≡ after s outcome) → IfOk r (λ new. IsTheory next.entries)
     → IfOk r (λ new. IsSlot setup earlier s (f new))
-run_slots f (Ok new) setup earlier s next text value reads outcome kept at parsed is t v d o p k e stands =
-    answer_slot setup earlier s next value reads outcome (f new) is (subst (λ (bytes : List ℕ). IsRead bytes value) (sym t) parsed) v d o e p stands (subst (λ found. IfSome found (λ k. k ≡ s)) (sym k) at)
-run_slots f (Err e) setup earlier s next text value reads outcome kept at parsed is t v d o p k n stands = tt
+run_slots f (Ok new) setup earlier s next text value reads tested outcome kept at parsed is t v d w o p k e stands =
+    answer_slot setup earlier s next value reads tested outcome (f new) is (subst (λ (bytes : List ℕ). IsRead bytes value) (sym t) parsed) v d w o e p stands (subst (λ found. IfSome found (λ k. k ≡ s)) (sym k) at)
+run_slots f (Err e) setup earlier s next text value reads tested outcome kept at parsed is t v d w o p k n stands = tt

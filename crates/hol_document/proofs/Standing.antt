@@ -61,7 +61,7 @@ slots_elsewhere setup before earlier s (slot ∷ slots) last same h = (
 
 -- the outcome of a slot may come to the state
 pub slot_at : (setup : SetupValue) (earlier : List EndedTheory) (s : StateValue) (text : List ℕ) (row : Row) → AreTheories earlier → IsRow setup earlier s text row → IsOutcomeAt s row.outcome
-slot_at setup earlier s text row theories is = record { setup = setup; earlier = earlier; theories = theories; value = row.value; reads = row.reads; read = is.read; gets = is.gets }
+slot_at setup earlier s text row theories is = record { setup = setup; earlier = earlier; theories = theories; value = row.value; reads = row.reads; tested = row.tested; read = is.read; gets = is.gets }
 
 pub rows_of_slots : (setup : SetupValue) (earlier : List EndedTheory) (s : StateValue) (slots : List SlotValue) (last : StateValue)
     → AreSlots setup earlier s slots last → AreRows setup earlier s (texts_of slots) (rows_of slots) last

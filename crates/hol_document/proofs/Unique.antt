@@ -18,8 +18,8 @@ one_row : (setup : SetupValue) (earlier : List EndedTheory) (s : StateValue) (te
 one_row setup earlier s text a b h k =
     let value : a.value ≡ b.value = one_text text a.value b.value h.parsed k.parsed in
     let reads : a.reads ≡ b.reads = h.read ∙ (ap (λ v. reads_at v s) value ∙ sym k.read) in
-    let outcome : a.outcome ≡ b.outcome = one_outcome setup earlier s b.value b.reads a.outcome b.outcome (rw (value, reads) at h.gets) k.gets in
-    λ i. record { value = value i; reads = reads i; outcome = outcome i }
+    let same = one_outcome setup earlier s b.value b.reads a.tested b.tested a.outcome b.outcome (rw (value, reads) at h.gets) k.gets in
+    λ i. record { value = value i; reads = reads i; tested = same.1 i; outcome = same.0 i }
 
 -- rows and the state that they lead to
 record Same {X Y : Type 0} (a b : X) (p q : Y) : Type 0 where

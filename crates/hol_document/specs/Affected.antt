@@ -1,10 +1,11 @@
--- The commands that an edit affects: those that are inserted or replaced, and those whose reads are others than they were. A text that is no command, and what is answered
--- from the state, has no reads and is never counted.
+-- The commands that an edit affects: those that are inserted or replaced, and those whose reads are others than they were, the names of constants
+-- that their runs tested among these, each with whether it stood. A text that is no command, and what is answered from the state, has no reads and is never
+-- counted.
 -- Source: this project.
-use Rattle.std.specs.Prelude.{◌≡◌, ℕ, zero, suc, ◌+◌, ◌≤◌, List, [], ◌∷◌, cond, map, slice_set, Option, Some, None}
+use Rattle.std.specs.Prelude.{◌≡◌, ℕ, zero, suc, ◌+◌, ◌≤◌, Bool, true, false, List, [], ◌∷◌, cond, map, slice_set, Option, Some, None}
 use Rattle.std.specs.List.{insert, remove}
 use Rattle.hol_exec.specs.ReadsValue.{ReadsValue}
-use Rattle.hol_exec.specs.SameReads.{same_reads}
+use Rattle.hol_exec.specs.SameReads.{same_reads, same_tested}
 use Rattle.hol_document.specs.Documents.{Documents, find_theory}
 use Rattle.hol_document.specs.Afresh.{Row, TheoryRun, AreRunsOf}
 
@@ -24,9 +25,14 @@ counts_beside old None = 0
 counts_beside None (Some reads) = 1
 counts_beside (Some old) (Some reads) = cond (same_reads old reads) 0 1
 
+-- where other names were tested, or these stand otherwise, it is as if it hadn't stood there
+abbrev pub counts_where : Bool → Option ReadsValue → Option ReadsValue → ℕ
+counts_where true old reads = counts_beside old reads
+counts_where false old reads = counts_beside None reads
+
 abbrev pub counts : Option Row → Row → ℕ
 counts None row = counts_beside None row.reads
-counts (Some old) row = counts_beside old.reads row.reads
+counts (Some old) row = counts_where (same_tested old.tested row.tested) old.reads row.reads
 
 -- ---- the sums, in a theory and over theories
 

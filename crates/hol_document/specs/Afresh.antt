@@ -8,19 +8,21 @@ use Rattle.hol_exec.specs.StateValue.{StateValue, EndedTheory, start}
 use Rattle.hol_exec.specs.ReadsValue.{ReadsValue, AreReads}
 use Rattle.hol_exec.specs.OutcomeValue.{OutcomeValue, after}
 use Rattle.hol_exec.specs.At.{IsOutcome}
+use Rattle.hol_exec.specs.Tested.{TestedValue}
 use Rattle.hol_document.specs.Documents.{TheoryText, Documents}
 
--- what running a text comes to: what it reads as, what that reads of the state, and its outcome from these
+-- what running a text comes to: what it reads as, what that reads of the state, which names of constants were tested, and its outcome from these
 pub record Row : Type 0 where
   pub value : ReadText
   pub reads : Option ReadsValue
+  pub tested : TestedValue
   pub outcome : OutcomeValue
 
 -- the row of a text at a state
 pub record IsRow (setup : SetupValue) (earlier : List EndedTheory) (s : StateValue) (text : List ℕ) (row : Row) : Type 0 where
   pub parsed : IsRead text row.value
   pub read : AreReads row.value s row.reads
-  pub gets : IsOutcome setup earlier s row.value row.reads row.outcome
+  pub gets : IsOutcome setup earlier s row.value row.reads row.tested row.outcome
 
 -- The texts have these rows, each at the state that the one before it gives, and so lead from the first state to the last.
 abbrev pub AreRows : SetupValue → List EndedTheory → StateValue → List (List ℕ) → List Row → StateValue → Type 0

@@ -7,6 +7,7 @@ use Rattle.hol_exec.specs.OutcomeValue.{OutcomeValue, after}
 use Rattle.hol_exec.specs.Reading.{ReadText, Reads}
 use Rattle.hol_exec.specs.ReadsValue.{ReadsValue, AreReads, AreKeyed}
 use Rattle.hol_exec.specs.Setup.{SetupValue}
+use Rattle.hol_exec.specs.Tested.{TestedValue}
 use Rattle.hol_exec.specs.StateValue.{StateValue, EndedTheory, start}
 use Rattle.hol_document.specs.declared.redo.Edit.{Edit}
 use Rattle.hol_document.specs.declared.redo.Edit.TheVariants as edit
@@ -17,9 +18,9 @@ use Rattle.hol_document.specs.Documents.{TheoryText}
 use Rattle.hol_document.specs.Slots.{SlotValue, IsSlot, AreSlots, StandingValue, AreStanding, ended_of, text_of, run_of}
 
 -- what is read at the state, and the outcome from that
-pub record IsAnswer (setup : SetupValue) (earlier : List EndedTheory) (s : StateValue) (value : ReadText) (reads : Option ReadsValue) (outcome : OutcomeValue) : Type 0 where
+pub record IsAnswer (setup : SetupValue) (earlier : List EndedTheory) (s : StateValue) (value : ReadText) (reads : Option ReadsValue) (tested : TestedValue) (outcome : OutcomeValue) : Type 0 where
   pub read : AreReads value s reads
-  pub gets : IsOutcome setup earlier s value reads outcome
+  pub gets : IsOutcome setup earlier s value reads tested outcome
 
 -- the reads of a command are under its keys
 abbrev pub IsKeyed : Row → Type 0

@@ -5,12 +5,14 @@ ghost use Rattle.hol_exec.specs.CommandView.{local_text};
 ghost use Rattle.hol_exec.specs.Local.{IsLocalOutcome};
 ghost use Rattle.hol_exec.specs.Reading as read;
 ghost use Rattle.hol_exec.specs.StateValue.{StateValue, EndedTheory};
+ghost use Rattle.hol_theory.specs.Constants.{constant_names};
 ghost use Rattle.hol_document.specs.Runs.{IsRun};
 ghost use Rattle.hol_document.specs.Slots.{IsSlot};
 
 use crate::line::Line;
 use crate::slot::Slot;
-use hol_exec::{LocalCommand, Outcome, Reads, SetupTable};
+use hol_exec::{LocalCommand, Outcome, Reads, SetupTable, Tested, agrees};
+use hol_theory::Env;
 use lru::LruCache;
 use std::alloc::{AllocError, Global};
 use std::marker::Model;
@@ -24,25 +26,26 @@ struct RunKey {
     reads: Rc<Reads>,
 }
 
-// A command that was run: its text, what it read, and what it came to.
+// A command that was run: its text, what it read, which names of constants were tested, and what it came to.
 #[derive(Drop)]
 struct Run {
     line: Rc<Line>,
     reads: Rc<Reads>,
+    tested: Rc<Tested>,
     outcome: Rc<Outcome>,
 }
 
 impl Model for Run {
     ghost use Rattle.std.specs.Coded.{codes};
     ghost use Rattle.hol_exec.specs.CommandCode.{coded_command};
-    ghost use Rattle.hol_exec.specs.Codes.{coded_reads, coded_outcome};
+    ghost use Rattle.hol_exec.specs.Codes.{coded_reads, coded_tested, coded_outcome};
     ghost use Rattle.hol_document.specs.Runs.{RunValue};
 
     ghost Value = { RunValue };
 
-    ghost coded = { Prim.hlevel (codes, coded_command, coded_reads, coded_outcome) };
+    ghost coded = { Prim.hlevel (codes, coded_command, coded_reads, coded_tested, coded_outcome) };
 
-    ghost view = { λ r. record { text = r.line.value.text; value = r.line.value.value; reads = r.reads.value; outcome = r.outcome.value } };
+    ghost view = { λ r. record { text = r.line.value.text; value = r.line.value.value; reads = r.reads.value; tested = r.tested.value; outcome = r.outcome.value } };
 }
 
 impl Run {
@@ -57,6 +60,12 @@ impl Run {
         ensures { result.now.value ≡ self.now.reads }
     {
         &self.reads
+    }
+
+    fn tested(&self) -> &Rc<Tested>
+        ensures { result.now.value ≡ self.now.tested }
+    {
+        &self.tested
     }
 
     fn outcome(&self) -> &Rc<Outcome>
@@ -77,6 +86,7 @@ pub(crate) struct Cache {
 impl Model for Cache {
     ghost use Rattle.std.specs.Prelude.{Contains};
     ghost use Rattle.hol_exec.specs.Setup.{SetupValue};
+    ghost use Rattle.hol_theory.specs.Constants.{constant_names};
     ghost use Rattle.hol_document.specs.Runs.{IsRun};
 
     ghost Value = { SetupValue };
@@ -99,15 +109,17 @@ impl Cache {
         Ok(Cache { setup, runs })
     }
 
-    /// What the command came to where it read this, if that is there. It stays, since other slots may ask for it too.
+    /// What the command came to where it read this, if that is there and was run where the names that were tested are those of constants, or not, as they are here. It stays,
+    /// since other slots may ask for it too.
     pub(crate) fn find(
         &self,
         line: &Line,
         command: &LocalCommand,
         reads: &Rc<Reads>,
-    ) -> Result<Option<Rc<Outcome>>, AllocError>
+        env: &Env,
+    ) -> Result<Option<(Rc<Outcome>, Rc<Tested>)>, AllocError>
         requires { line.now.value ≡ read.Reads (Local (local_text command.now)) }
-        ensures { IfOk result (λ found. IfSome found (λ outcome. IsLocalOutcome self.now (local_text command.now) reads.now.value outcome.value)) }
+        ensures { IfOk result (λ found. IfSome found (λ r. IsLocalOutcome self.now (constant_names env.now) (local_text command.now) reads.now.value (record { outcome = r.0.value; tested = r.1.value }))) }
     {
         let key = RunKey {
             text: line.text().clone()?,
@@ -117,8 +129,10 @@ impl Cache {
             return Ok(None);
         };
         let _ = line.parsed();
-        if is_of(run, line, reads) {
-            return Ok(Some(run.outcome().clone()?));
+        if is_of(run, line, reads) && agrees(run.tested(), env) {
+            let outcome = run.outcome().clone()?;
+            let tested = run.tested().clone()?;
+            return Ok(Some((outcome, tested)));
         }
         Ok(None)
     }
@@ -146,7 +160,7 @@ fn is_of(run: &Run, line: &Line, reads: &Reads) -> bool
 
 // The slot's run, which read this, and what it is found by.
 fn run_of(slot: &Slot, reads: &Rc<Reads>) -> Result<(RunKey, Run), AllocError>
-    ensures { IfOk result (λ found. found.1 ≡ record { text = slot.now.text; value = slot.now.row.value; reads = reads.now.value; outcome = slot.now.row.outcome }) }
+    ensures { IfOk result (λ found. found.1 ≡ record { text = slot.now.text; value = slot.now.row.value; reads = reads.now.value; tested = slot.now.row.tested; outcome = slot.now.row.outcome }) }
 {
     let line = slot.line().clone()?;
     let key = RunKey {
@@ -156,6 +170,7 @@ fn run_of(slot: &Slot, reads: &Rc<Reads>) -> Result<(RunKey, Run), AllocError>
     let run = Run {
         line,
         reads: reads.clone()?,
+        tested: slot.tested().clone()?,
         outcome: slot.outcome().clone()?,
     };
     Ok((key, run))

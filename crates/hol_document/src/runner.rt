@@ -7,7 +7,8 @@ ghost use Rattle.hol_exec.specs.SetupCode.{coded_setup};
 use crate::cache::Cache;
 use crate::line::Line;
 use crate::slot::Slot;
-use hol_exec::{LocalCommand, Meter, Outcome, Reads, SetupTable, run_local};
+use hol_exec::{LocalCommand, Meter, Outcome, Reads, SetupTable, Tested, run_local};
+use hol_theory::Env;
 use std::alloc::{AllocError, Global};
 use std::rc::Rc;
 
@@ -28,6 +29,7 @@ impl Runner {
     ghost use Rattle.hol_exec.specs.Reading as read;
     ghost use Rattle.hol_exec.specs.ReadsValue.{AreKeyed};
     ghost use Rattle.hol_exec.specs.StateValue.{StateValue, EndedTheory};
+    ghost use Rattle.hol_theory.specs.Constants.{constant_names};
     ghost use Rattle.hol_document.specs.RunnerView.{setup_of, ran_of};
     ghost use Rattle.hol_document.specs.Slots.{IsSlot, AreSlots};
 
@@ -54,26 +56,28 @@ impl Runner {
         self.meter.ran()
     }
 
-    /// What the command comes to where it reads this: an outcome that has left its slot, else it is run.
+    /// What the command comes to where it reads this and these are the entries, with the names of constants that were tested: an outcome that has left its slot, else it
+    /// is run.
     pub(crate) fn outcome(
         &mut self,
         alloc: Global,
         line: &Line,
         command: &LocalCommand,
         reads: &Rc<Reads>,
-    ) -> Result<Rc<Outcome>, AllocError>
+        env: &Env,
+    ) -> Result<(Rc<Outcome>, Rc<Tested>), AllocError>
         requires command { line.now.value ≡ read.Reads (Local (local_text command.now)) }
         requires keyed { AreKeyed (local_text command.now) reads.now.value }
-        ensures outcome { IfOk result (λ outcome. IsLocalOutcome (setup_of self.old) (local_text command.now) reads.now.value outcome.value) }
+        ensures outcome { IfOk result (λ r. IsLocalOutcome (setup_of self.old) (constant_names env.now) (local_text command.now) reads.now.value (record { outcome = r.0.value; tested = r.1.value })) }
         ensures setup { setup_of self.new ≡ setup_of self.old }
         ensures few { ran_of self.new ≤ ran_of self.old + 1 }
         ensures rises { ran_of self.old ≤ ran_of self.new }
     {
-        if let Some(outcome) = self.cache.find(line, command, reads)? {
-            return Ok(outcome);
+        if let Some(known) = self.cache.find(line, command, reads, env)? {
+            return Ok(known);
         }
-        let outcome = run_local(alloc, &mut self.meter, command, reads)?;
-        Ok(Rc::new(alloc, outcome)?)
+        let (outcome, tested) = run_local(alloc, &mut self.meter, command, reads, env.names())?;
+        Ok((Rc::new(alloc, outcome)?, Rc::new(alloc, tested)?))
     }
 
     /// The slot's outcome has left it.

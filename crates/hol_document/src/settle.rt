@@ -1,9 +1,10 @@
 //! What a text comes to at a state: its slot from before, where that stands there as well, or one that is made by running the text.
-ghost use Rattle.std.specs.Prelude.{◌≡◌, ◌≤◌, ◌+◌, List, true, false, IfOk, IfSome, Some, None, map};
+ghost use Rattle.std.specs.Prelude.{◌≡◌, ◌≤◌, ◌+◌, List, [], true, false, IfOk, IfSome, Some, None, map};
 ghost use Rattle.std.specs.Option.{option_map};
 ghost use Rattle.hol_exec.specs.At.{IsOutcomeAt};
 ghost use Rattle.hol_exec.specs.CommandView.{local_text, direct_text};
-ghost use Rattle.hol_exec.specs.CommandText.{Local, Direct};
+ghost use Rattle.hol_exec.specs.CommandText.{LocalText, Local, Direct};
+ghost use Rattle.hol_exec.specs.Tested.{agrees};
 ghost use Rattle.hol_document.specs.RunnerView.{setup_of, ran_of};
 ghost use Rattle.hol_exec.specs.OutcomeValue.{after};
 ghost use Rattle.hol_exec.specs.Reading as read;
@@ -13,7 +14,7 @@ ghost use Rattle.hol_exec.specs.Setup.{SetupValue};
 ghost use Rattle.hol_exec.specs.StateValue.{StateValue, EndedTheory, AreTheories, newest_of};
 ghost use Rattle.hol_theory.specs.Theory.{IsTheory};
 ghost use Rattle.hol_document.specs.Affected.{counts, counts_beside};
-ghost use Rattle.hol_document.specs.Afresh.{IsRow};
+ghost use Rattle.hol_document.specs.Afresh.{Row, IsRow};
 ghost use Rattle.hol_document.specs.Alike.{AreAlike, IsPassedOver};
 ghost use Rattle.hol_document.specs.Settled.{IsAnswer, IsKeyed, StoodAlike};
 ghost use Rattle.hol_document.specs.Slots.{IsSlot, ended_of};
@@ -25,15 +26,16 @@ use crate::slot::{Slot, keeping, kept_again};
 use crate::theory::Theory;
 use hol_exec::{
     Command, CommandKeys, CommandNode, DirectCommand, LocalCommand, Outcome, Parsed, Reads, State,
-    apply, direct, resume, unread,
+    Tested, agrees, apply, direct, resume, unread,
 };
 use std::alloc::{AllocError, Global};
 use std::rc::Rc;
 
-// What a text reads of a state, and its outcome there.
+// What a text reads of a state, which names of constants were tested, and its outcome there.
 #[derive(Drop)]
 struct Answer {
     reads: Option<Rc<Reads>>,
+    tested: Rc<Tested>,
     outcome: Rc<Outcome>,
 }
 
@@ -46,7 +48,7 @@ fn answered(
     state: &State,
 ) -> Result<Answer, AllocError>
     ensures read { IsRead line.now.text line.now.value }
-    ensures is { IfOk result (λ a. IsAnswer (setup_of runner.old) (map ended_of earlier.now) state.now line.now.value (option_map (λ r. r.value) a.reads) a.outcome.value) }
+    ensures is { IfOk result (λ a. IsAnswer (setup_of runner.old) (map ended_of earlier.now) state.now line.now.value (option_map (λ r. r.value) a.reads) a.tested.value a.outcome.value) }
     ensures setup { setup_of runner.new ≡ setup_of runner.old }
     ensures rises { ran_of runner.old ≤ ran_of runner.new }
     ensures few { IfOk result (λ a. ran_of runner.new ≤ ran_of runner.old + counts_beside None (option_map (λ r. r.value) a.reads)) }
@@ -60,11 +62,14 @@ fn answered(
 // What is told from the state alone.
 fn unread_answer(alloc: Global, outcome: Outcome) -> Result<Answer, AllocError>
     ensures reads { IfOk result (λ a. a.reads ≡ None) }
+    ensures tested { IfOk result (λ a. a.tested.value ≡ []) }
     ensures outcome { IfOk result (λ a. a.outcome.value ≡ outcome) }
 {
     let outcome = Rc::new(alloc, outcome)?;
+    let tested = Rc::new(alloc, Tested::none(alloc))?;
     Ok(Answer {
         reads: None,
+        tested,
         outcome,
     })
 }
@@ -78,7 +83,7 @@ fn answer_of_command(
     state: &State,
 ) -> Result<Answer, AllocError>
     requires { line.now.value ≡ read.Reads command.now }
-    ensures is { IfOk result (λ a. IsAnswer (setup_of runner.old) (map ended_of earlier.now) state.now (read.Reads command.now) (option_map (λ r. r.value) a.reads) a.outcome.value) }
+    ensures is { IfOk result (λ a. IsAnswer (setup_of runner.old) (map ended_of earlier.now) state.now (read.Reads command.now) (option_map (λ r. r.value) a.reads) a.tested.value a.outcome.value) }
     ensures setup { setup_of runner.new ≡ setup_of runner.old }
     ensures rises { ran_of runner.old ≤ ran_of runner.new }
     ensures few { IfOk result (λ a. ran_of runner.new ≤ ran_of runner.old + counts_beside None (option_map (λ r. r.value) a.reads)) }
@@ -100,44 +105,51 @@ fn answer_of_local(
     state: &State,
 ) -> Result<Answer, AllocError>
     requires { line.now.value ≡ read.Reads (Local (local_text command.now)) }
-    ensures is { IfOk result (λ a. (earlier : List EndedTheory) → IsAnswer (setup_of runner.old) earlier state.now (read.Reads (Local (local_text command.now))) (option_map (λ r. r.value) a.reads) a.outcome.value) }
+    ensures is { IfOk result (λ a. (earlier : List EndedTheory) → IsAnswer (setup_of runner.old) earlier state.now (read.Reads (Local (local_text command.now))) (option_map (λ r. r.value) a.reads) a.tested.value a.outcome.value) }
     ensures setup { setup_of runner.new ≡ setup_of runner.old }
     ensures rises { ran_of runner.old ≤ ran_of runner.new }
     ensures few { IfOk result (λ a. ran_of runner.new ≤ ran_of runner.old + counts_beside None (option_map (λ r. r.value) a.reads)) }
 {
     let keys = CommandKeys::of(alloc, command)?;
     let reads = Rc::new(alloc, Reads::of(alloc, command, &keys, state)?)?;
-    let outcome = runner.outcome(alloc, line, command, &reads)?;
+    let (outcome, tested) = runner.outcome(alloc, line, command, &reads, state.env())?;
     Ok(Answer {
         reads: Some(reads),
+        tested,
         outcome,
     })
 }
 
-// The slot of an outcome, which the state is brought on by.
+// The slot of an answer, whose outcome brings the state on.
 fn carried_out(
     alloc: Global,
     line: &Rc<Line>,
-    reads: Option<Rc<Reads>>,
-    outcome: Rc<Outcome>,
+    answer: Answer,
     kept: Option<State>,
     state: &mut State,
 ) -> Result<Rc<Slot>, AllocError>
-    requires { IsOutcomeAt state.old outcome.value }
+    requires { IsOutcomeAt state.old answer.outcome.value }
     ensures text { IfOk result (λ slot. slot.value.text ≡ line.now.value.text) }
     ensures value { IfOk result (λ slot. slot.value.row.value ≡ line.now.value.value) }
-    ensures reads { IfOk result (λ slot. slot.value.row.reads ≡ option_map (λ r. r.value) reads) }
-    ensures outcome { IfOk result (λ slot. slot.value.row.outcome ≡ outcome.value) }
+    ensures reads { IfOk result (λ slot. slot.value.row.reads ≡ option_map (λ r. r.value) answer.reads) }
+    ensures tested { IfOk result (λ slot. slot.value.row.tested ≡ answer.tested.value) }
+    ensures outcome { IfOk result (λ slot. slot.value.row.outcome ≡ answer.outcome.value) }
     ensures opened { IfOk result (λ slot. slot.value.opened ≡ newest_of state.new.proof) }
     ensures kept { IfOk result (λ slot. slot.value.kept ≡ kept) }
-    ensures state { IfOk result (λ slot. state.new ≡ after state.old outcome.value) }
+    ensures state { IfOk result (λ slot. state.new ≡ after state.old answer.outcome.value) }
     ensures stands { IfOk result (λ slot. IsTheory state.new.entries) }
 {
+    let Answer {
+        reads,
+        tested,
+        outcome,
+    } = answer;
     apply(alloc, state, &outcome)?;
     state.promise();
     let opened = state.newest()?;
     let line = line.clone()?;
-    Ok(Rc::new(alloc, Slot::new(line, reads, outcome, opened, kept))?)
+    let slot = Slot::new(line, reads, tested, outcome, opened, kept);
+    Ok(Rc::new(alloc, slot)?)
 }
 
 /// The slot of a text that is run at the state, which goes on with it; what is kept, if anything is, is that state.
@@ -159,8 +171,8 @@ pub(crate) fn run(
     ensures rises { ran_of runner.old ≤ ran_of runner.new }
     ensures few { IfOk result (λ new. ran_of runner.new ≤ ran_of runner.old + counts None new.value.row) }
 {
-    let Answer { reads, outcome } = answered(alloc, runner, earlier, line, state)?;
-    carried_out(alloc, line, reads, outcome, kept, state)
+    let answer = answered(alloc, runner, earlier, line, state)?;
+    carried_out(alloc, line, answer, kept, state)
 }
 
 // Whether the row of the slot stands at the state as well: nothing that it reads was changed, or it is found to read the same.
@@ -168,7 +180,7 @@ fn keeps(slot: &Slot, state: &State, drift: &Drift) -> bool
     requires { IsKeyed slot.now.row }
     ensures yes { result ≡ true → (setup : SetupValue) (before earlier : List EndedTheory) (s : StateValue) → AreAlike drift.now s state.now
         → IsRow setup before s slot.now.text slot.now.row → IsRow setup earlier state.now slot.now.text slot.now.row }
-    ensures no { result ≡ false → counts_beside slot.now.row.reads (reads_at slot.now.row.value state.now) ≡ counts_beside None (reads_at slot.now.row.value state.now) }
+    ensures no { result ≡ false → (setup : SetupValue) (earlier : List EndedTheory) (row : Row) → IsRow setup earlier state.now slot.now.text row → counts (Some slot.now.row) row ≡ counts None row }
 {
     match slot.line().parsed() {
         Parsed::Read(command) => match command.node() {
@@ -179,11 +191,23 @@ fn keeps(slot: &Slot, state: &State, drift: &Drift) -> bool
     }
 }
 
-// The same for a command: no key that it cites or makes is changed, and the open proof is the same; or it reads the same.
+// The same for a command: it reads the same, and of the names that were tested the same are constants.
 fn keeps_local(slot: &Slot, command: &LocalCommand, state: &State, drift: &Drift) -> bool
+    requires parsed { IsRead slot.now.text slot.now.row.value }
     requires value { slot.now.row.value ≡ read.Reads (Local (local_text command.now)) }
     requires keyed { IsKeyed slot.now.row }
     ensures yes { result ≡ true → (setup : SetupValue) (before earlier : List EndedTheory) (s : StateValue) → AreAlike drift.now s state.now
+        → IsRow setup before s slot.now.text slot.now.row → IsRow setup earlier state.now slot.now.text slot.now.row }
+    ensures no { result ≡ false → (setup : SetupValue) (earlier : List EndedTheory) (row : Row) → IsRow setup earlier state.now slot.now.text row → counts (Some slot.now.row) row ≡ counts None row }
+{
+    reads_again(slot, command, state, drift) && tests_again(slot, state, drift)
+}
+
+// Whether a command reads the same of the state: no key that it cites or makes is changed, and the open proof is the same, or it is found to.
+fn reads_again(slot: &Slot, command: &LocalCommand, state: &State, drift: &Drift) -> bool
+    requires value { slot.now.row.value ≡ read.Reads (Local (local_text command.now)) }
+    requires keyed { IsKeyed slot.now.row }
+    ensures yes { result ≡ true → (setup : SetupValue) (before earlier : List EndedTheory) (s : StateValue) → AreAlike drift.now s state.now → agrees slot.now.row.tested state.now.entries ≡ true
         → IsRow setup before s slot.now.text slot.now.row → IsRow setup earlier state.now slot.now.text slot.now.row }
     ensures no { result ≡ false → counts_beside slot.now.row.reads (reads_at slot.now.row.value state.now) ≡ counts_beside None (reads_at slot.now.row.value state.now) }
 {
@@ -193,6 +217,15 @@ fn keeps_local(slot: &Slot, command: &LocalCommand, state: &State, drift: &Drift
         }
         None => unreachable!(),
     }
+}
+
+// Whether the names that were tested for a command are those of constants at the state, or not, as they were: the entries are the same, or they are found to.
+fn tests_again(slot: &Slot, state: &State, drift: &Drift) -> bool
+    ensures yes { result ≡ true → (setup : SetupValue) (before : List EndedTheory) (s : StateValue) (command : LocalText) → slot.now.row.value ≡ read.Reads (Local command) → AreAlike drift.now s state.now
+        → IsRow setup before s slot.now.text slot.now.row → agrees slot.now.row.tested state.now.entries ≡ true }
+    ensures no { result ≡ false → agrees slot.now.row.tested state.now.entries ≡ false }
+{
+    drift.has_same_entries() || agrees(slot.tested(), state.env())
 }
 
 // The same for what is answered from the state: the open proof is the same. An import is made again.
@@ -205,6 +238,23 @@ fn keeps_direct(command: &DirectCommand, drift: &Drift) -> bool
         }
         DirectCommand::Import(_) => false,
     }
+}
+
+// What is told in the slot.
+fn answer_in(slot: &Slot) -> Result<Answer, AllocError>
+    ensures reads { IfOk result (λ a. option_map (λ r. r.value) a.reads ≡ slot.now.row.reads) }
+    ensures tested { IfOk result (λ a. a.tested.value ≡ slot.now.row.tested) }
+    ensures outcome { IfOk result (λ a. a.outcome.value ≡ slot.now.row.outcome) }
+{
+    let reads = match slot.reads() {
+        Some(reads) => Some(reads.clone()?),
+        None => None,
+    };
+    Ok(Answer {
+        reads,
+        tested: slot.tested().clone()?,
+        outcome: slot.outcome().clone()?,
+    })
 }
 
 // The slot of a row that stands at the state as well.
@@ -229,12 +279,7 @@ fn keep(
         state.promise();
         return keeping(alloc, slot, kept);
     }
-    let reads = match slot.reads() {
-        Some(reads) => Some(reads.clone()?),
-        None => None,
-    };
-    let outcome = slot.outcome().clone()?;
-    carried_out(alloc, slot.line(), reads, outcome, kept, state)
+    carried_out(alloc, slot.line(), answer_in(slot)?, kept, state)
 }
 
 /// Whether a proof is open after either.

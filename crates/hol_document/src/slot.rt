@@ -3,17 +3,18 @@ ghost use Rattle.std.specs.Prelude.{◌≡◌, IfOk, IfSome};
 ghost use Rattle.std.specs.Option.{option_map};
 
 use crate::line::Line;
-use hol_exec::{Element, Outcome, Reads, State};
+use hol_exec::{Element, Outcome, Reads, State, Tested};
 use std::alloc::{AllocError, Global};
 use std::marker::Model;
 use std::rc::Rc;
 
-/// A command that stands: its text, what it read of the state, what it came to, and the newest element of the open proof's history after it; and the state before it, where
-/// that is kept, so that an edit behind it may begin there.
+/// A command that stands: its text, what it read of the state, which names of constants were tested, what it came to, and the newest element of the open proof's history
+/// after it; and the state before it, where that is kept, so that an edit behind it may begin there.
 #[derive(Drop)]
 pub(crate) struct Slot {
     line: Rc<Line>,
     reads: Option<Rc<Reads>>,
+    tested: Rc<Tested>,
     outcome: Rc<Outcome>,
     opened: Option<Element>,
     kept: Option<State>,
@@ -24,14 +25,14 @@ impl Model for Slot {
     ghost use Rattle.std.specs.Coded.{codes};
     ghost use Rattle.hol_exec.specs.CommandCode.{coded_command};
     ghost use Rattle.hol_stack.specs.Codes.{step_code};
-    ghost use Rattle.hol_exec.specs.Codes.{coded_reads, coded_outcome, coded_state};
+    ghost use Rattle.hol_exec.specs.Codes.{coded_reads, coded_tested, coded_outcome, coded_state};
     ghost use Rattle.hol_document.specs.Slots.{SlotValue};
 
     ghost Value = { SlotValue };
 
-    ghost coded = { Prim.hlevel (codes, coded_command, coded_reads, coded_outcome, step_code, coded_state) };
+    ghost coded = { Prim.hlevel (codes, coded_command, coded_reads, coded_tested, coded_outcome, step_code, coded_state) };
 
-    ghost view = { λ s. record { text = s.line.value.text; row = record { value = s.line.value.value; reads = option_map (λ r. r.value) s.reads; outcome = s.outcome.value }; opened = s.opened; kept = s.kept } };
+    ghost view = { λ s. record { text = s.line.value.text; row = record { value = s.line.value.value; reads = option_map (λ r. r.value) s.reads; tested = s.tested.value; outcome = s.outcome.value }; opened = s.opened; kept = s.kept } };
 }
 
 impl Slot {
@@ -39,15 +40,17 @@ impl Slot {
     pub(crate) fn new(
         line: Rc<Line>,
         reads: Option<Rc<Reads>>,
+        tested: Rc<Tested>,
         outcome: Rc<Outcome>,
         opened: Option<Element>,
         kept: Option<State>,
     ) -> Slot
-        ensures { result ≡ record { text = line.value.text; row = record { value = line.value.value; reads = option_map (λ r. r.value) reads; outcome = outcome.value }; opened = opened; kept = kept } }
+        ensures { result ≡ record { text = line.value.text; row = record { value = line.value.value; reads = option_map (λ r. r.value) reads; tested = tested.value; outcome = outcome.value }; opened = opened; kept = kept } }
     {
         Slot {
             line,
             reads,
+            tested,
             outcome,
             opened,
             kept,
@@ -67,7 +70,9 @@ impl Slot {
             None => None,
         };
         let line = self.line.clone()?;
-        Ok(Slot::new(line, reads, self.outcome.clone()?, opened, kept))
+        let tested = self.tested.clone()?;
+        let outcome = self.outcome.clone()?;
+        Ok(Slot::new(line, reads, tested, outcome, opened, kept))
     }
 
     /// Its text.
@@ -83,6 +88,13 @@ impl Slot {
         ensures { option_map (λ r. r.value) result.now ≡ self.now.row.reads }
     {
         &self.reads
+    }
+
+    /// Which names of constants were tested.
+    pub(crate) fn tested(&self) -> &Rc<Tested>
+        ensures { result.now.value ≡ self.now.row.tested }
+    {
+        &self.tested
     }
 
     /// What it came to.

@@ -1,15 +1,25 @@
 -- Changed keys, and more of them.
-use Rattle.std.proofs.Common.{◌≡◌, ℕ, ◌+◌, ◌<◌, List, [], ◌∷◌, ◌++◌, length, get_or, take, map, refl, sym, ap, ◌∙◌, Bool, true, false, ◌||◌, if◌then◌else◌}
+use Rattle.std.proofs.Common.{◌≡◌, ℕ, ◌+◌, ◌<◌, List, [], ◌∷◌, ◌++◌, length, get_or, take, map, refl, sym, ap, ◌∙◌, Bool, true, false, ◌||◌, if◌then◌else◌, arith}
 use lib.Bits.{bit_or}
 use Rattle.std.specs.List.{list_any}
 use Rattle.std.proofs.lemmas.List.{take_more, map_more}
 use Rattle.indexmap.specs.IndexSet.{insert_key}
 use Rattle.hol_types.specs.Filter.{name_bit}
+use Rattle.std.specs.Prelude.{◌≢◌, ◌↔◌, IsTrue, is_some}
+use Rattle.std.specs.Bool.{◌==◌}
+use Rattle.std.specs.Map.{keys_of}
+use Rattle.std.proofs.Common.{subst}
+use Rattle.std.proofs.lemmas.Bool.Decides.{Decides-eqb}
+use Rattle.std.proofs.lemmas.Map.Made.{is_some-lookup}
+use Rattle.std.proofs.lemmas.List.{append-nil, append_assoc}
+use lib.Bits.{bit_and}
+use Rattle.hol_theory.specs.Entry.{Entries, entry_at}
 use Rattle.hol_theory.specs.Key.{KeyValue, key_eq}
 use Rattle.hol_theory.proofs.Keys.{key_is}
-use Rattle.hol_exec.specs.ChangedKeys.{is_one_of}
+use Rattle.hol_exec.specs.ChangedKeys.{is_one_of, AreApart}
+use Rattle.hol_exec.specs.ChangedKeysView.{all_keys}
 use Rattle.hol_exec.specs.Filters.{HasNames}
-use Rattle.hol_exec.proofs.NameFilters.{names_left, names_more}
+use Rattle.hol_exec.proofs.NameFilters.{names_left, names_more, no_names}
 
 or_none : (a : Bool) → (a || false) ≡ a
 or_none true = refl
@@ -74,3 +84,67 @@ pub entry_added : {V : Type 0} (old mid new : List KeyValue) (entries : List (Ke
 entry_added old mid new entries i e lt is =
     grown old mid new (map (λ entry. entry.0) (take i entries)) (map (λ entry. entry.0) (take (i + 1) entries)) e.0
     (map_more (λ entry. entry.0) entries i e lt ∙ ap (λ x. map (λ entry. entry.0) (take i entries) ++ x.0 ∷ []) (sym is))
+
+-- ---- theories that are held whole
+
+pub in_theories : (key : KeyValue) (theories : List Entries) → list_any (λ entries. is_some (entry_at key entries)) theories ≡ is_one_of (all_keys theories) key
+in_theories key [] = refl
+in_theories key (entries ∷ theories) =
+    (λ i. is_some-lookup (key_eq key) entries i || in_theories key theories i) ∙ sym (one_of_both (keys_of entries) (all_keys theories) key)
+
+module _ (listed self : List KeyValue) (theories : List Entries) (key : KeyValue) where
+  both : listed ++ all_keys theories ≡ self → is_one_of self key ≡ (is_one_of listed key || is_one_of (all_keys theories) key)
+  both view = ap (λ (ks : List KeyValue). is_one_of ks key) (sym view) ∙ one_of_both listed (all_keys theories) key
+
+  -- a key that is listed
+  pub in_listed : (r : Bool) → listed ++ all_keys theories ≡ self → r ≡ is_one_of listed key → r ≡ true → r ≡ is_one_of self key
+  in_listed r view has is = is ∙ sym (both view ∙ ap (λ b. b || is_one_of (all_keys theories) key) (sym has ∙ is))
+
+  -- and of one that isn't the theories tell
+  pub in_rest : (r s : Bool) → listed ++ all_keys theories ≡ self → r ≡ is_one_of listed key → r ≡ false → s ≡ list_any (λ entries. is_some (entry_at key entries)) theories → s ≡ is_one_of self key
+  in_rest r s view has is some = some ∙ in_theories key theories ∙ sym (both view ∙ ap (λ b. b || is_one_of (all_keys theories) key) (sym has ∙ is))
+
+one_theory_more : (theories : List Entries) (entries : Entries) → all_keys (theories ++ entries ∷ []) ≡ all_keys theories ++ keys_of entries
+one_theory_more [] entries = append-nil (keys_of entries)
+one_theory_more (t ∷ theories) entries =
+    ap (λ (ks : List KeyValue). keys_of t ++ ks) (one_theory_more theories entries) ∙ sym (append_assoc (keys_of t) (all_keys theories) (keys_of entries))
+
+pub theory_added : (listed self : List KeyValue) (theories new : List Entries) (entries theory : Entries) → listed ++ all_keys theories ≡ self → new ≡ theories ++ entries ∷ [] → entries ≡ theory →
+    AreMore self (listed ++ all_keys new) (keys_of theory)
+theory_added listed self theories new entries theory view pushed is k =
+    ap (λ (ks : List KeyValue). is_one_of ks k)
+    (ap (λ (ts : List Entries). listed ++ all_keys ts) pushed
+    ∙ ap (λ (ks : List KeyValue). listed ++ ks) (one_theory_more theories entries)
+    ∙ sym (append_assoc listed (all_keys theories) (keys_of entries))
+    ∙ (λ i. view i ++ keys_of (is i)))
+    ∙ one_of_both self (keys_of theory) k
+
+swapped : (a b c : Bool) → ((a || b) || c) ≡ ((a || c) || b)
+swapped true b c = refl
+swapped false true true = refl
+swapped false true false = refl
+swapped false false true = refl
+swapped false false false = refl
+
+pub listed_added : (old new self : List KeyValue) (theories : List Entries) (added : List KeyValue) → old ++ all_keys theories ≡ self → AreMore old new added →
+    AreMore self (new ++ all_keys theories) added
+listed_added old new self theories added view more k =
+    one_of_both new (all_keys theories) k
+    ∙ ap (λ b. b || is_one_of (all_keys theories) k) (more k)
+    ∙ swapped (is_one_of old k) (is_one_of added k) (is_one_of (all_keys theories) k)
+    ∙ ap (λ b. b || is_one_of added k) (sym (one_of_both old (all_keys theories) k) ∙ ap (λ (ks : List KeyValue). is_one_of ks k) view)
+
+pub no_theories : (theories : List Entries) (n : ℕ) → length theories ≡ n → true ≡ (n == 0) → theories ≡ []
+no_theories theories n len e = none theories (len ∙ (Decides-eqb n 0).0 (sym e))
+  where
+    none : (ts : List Entries) → length ts ≡ 0 → ts ≡ []
+    none [] f = refl
+    none (t ∷ ts) f = absurd (omega (arith, f))
+
+-- without such theories the filter tells
+pub none_meets : (n m : ℕ) (listed self : List KeyValue) (theories : List Entries) (r : Bool) → theories ≡ [] → listed ++ all_keys theories ≡ self → HasNames m listed → IsTrue r ↔ (bit_and n m ≢ 0) → r ≡ false →
+    (keys : List KeyValue) → HasNames n keys → AreApart self keys
+none_meets n m listed self theories r none view has meets e keys own =
+    subst (λ (changed : List KeyValue). AreApart changed keys)
+    (sym (append-nil listed) ∙ ap (λ (ts : List Entries). listed ++ all_keys ts) (sym none) ∙ view)
+    (no_names n m keys listed r own has meets e)

@@ -23,16 +23,19 @@ use Rattle.hol_notation_terms.specs.Text.{QuotationText, DefinitionText}
 use Rattle.hol_notation_tactics.specs.Parts.{parts_of}
 use Rattle.hol_notation_tactics.specs.Text.{TacText}
 use Rattle.hol_notation_commands.specs.Text.{TypeDefinitionText, MakingText, NewType, NewConstant, NewAxiom, NewDefinition, NewBasicTypeDefinition, LocalText, Goal, Apply, Qed, Make, DirectText, Back, Rotate, Oops, Import, Local, Direct}
+use Rattle.hol_goal.specs.Answer.{starting}
 use Rattle.hol_goal.specs.Goal.{GoalValue}
 use Rattle.hol_stack.specs.StackValue.{StepValue}
 use Rattle.hol_combine.specs.ExprValue.{ExprValue}
 use Rattle.hol_combine.specs.Runs.{RefusalValue, DoesNotFit, LacksHyps, StopValue, TurnLimit, LargeGoal, RunValue, run}
 use Rattle.hol_combine.specs.Runs as runs
+use Rattle.hol_combine.specs.Agreeing.{known}
 use Rattle.hol_resolve.specs.Reading.{ReadingValue, WrongArity, NoTyping, LargeReading, ReadsAs, type_reading}
 use Rattle.hol_resolve.specs.Readings.{ATerm, ReadingsValue}
 use Rattle.hol_resolve.specs.Readings as quoting
 use Rattle.hol_resolve.specs.declared.refusal.Refusal.{Refusal}
 use Rattle.hol_theory.specs.Adding.{AreNew, CanFollow, first_clash, missing}
+use Rattle.hol_theory.specs.Constants.{constant_names}
 use Rattle.hol_theory.specs.Entry.{Entries, EntryValue, AType, AConstant, ATheorem, EachIsEntry, entry_at}
 use Rattle.hol_theory.specs.Key.{KeyValue, key_eq, type_key, constant_key, theorem_key}
 use Rattle.hol_theory.specs.Making.{IsNewType, IsNewConstant, IsNewAxiom, item_entries, constant_entry}
@@ -58,7 +61,8 @@ use Rattle.hol_exec.specs.Defining.{first_free, first_unreflected}
 use Rattle.hol_definition.specs.ForAll.{for_all}
 use Rattle.hol_equal.specs.Applied.{rand}
 use Rattle.hol_exec.specs.Making.{UnlessTaken, taken, MakesOne, MakesConstantOf, StatesAxiom, MakesAxiomOf, MakesDefined, UnlessOpen, MakesDefinitionOf, UnlessFree, MakesTypeBy, MakesTypeOf, MakesTypeFrom, IsMade, IsMaking}
-use Rattle.hol_exec.specs.Local.{opens, opens_read, IsOpening, refused_outcome, stopped_outcome, run_outcome, applied, resolved_outcome, IsApplying, finished, finishes, IsLocalOutcome}
+use Rattle.hol_exec.specs.Tested.{TestedValue}
+use Rattle.hol_exec.specs.Local.{LocalValue, opens, opens_read, IsOpening, refused_outcome, stopped_outcome, run_outcome, applied, resolved_outcome, IsApplying, finished, finishes, IsLocalOutcome}
 use Rattle.hol_exec.specs.At.{undoes_to, undoes, rotates_goals, rotates, drops, imports_theory, imports_from, entries_named, direct, IsOutcome, IsOutcomeAt}
 use Rattle.hol_exec.specs.Valid.{IsFreeFor, IsProofWithin}
 use Rattle.hol_exec.proofs.CitedBases.{values_stand, resolved_fine}
@@ -136,22 +140,22 @@ module _ (es : Entries) (t : IsTheory es) where
   stopping TurnLimit = tt
   stopping LargeGoal = tt
 
-  running : (goal : GoalValue) (basis : Items) (r : RunValue) → IsSubset basis (items_in es) → Fits es (run_outcome goal basis r)
-  running goal basis (runs.Leaves goals turns) within = within
-  running goal basis (runs.Refuses why turns) within = refusing why
-  running goal basis (runs.Stops why) within = stopping why
+  running : (names : List (List ℕ)) (goal : GoalValue) (basis : Items) (r : RunValue) → IsSubset basis (items_in es) → Fits es (run_outcome names goal basis r).outcome
+  running names goal basis (runs.Leaves goals used) within = within
+  running names goal basis (runs.Refuses why used) within = refusing why
+  running names goal basis (runs.Stops why tested) within = stopping why
 
-  applying : (setup : SetupValue) (o : Option GoalValue) (x : ExprValue) (basis : Items) → IsSubset basis (items_in es) → Fits es (applied setup o x basis)
-  applying setup None x basis within = tt
-  applying setup (Some goal) x basis within = running goal basis (run setup.table x goal setup.turns) within
+  applying : (setup : SetupValue) (names : List (List ℕ)) (o : Option GoalValue) (x : ExprValue) (basis : Items) → IsSubset basis (items_in es) → Fits es (applied setup names o x basis).outcome
+  applying setup names None x basis within = tt
+  applying setup names (Some goal) x basis within = running names goal basis (run (known setup.table names) x goal (starting setup.turns)) within
 
   abbrev Rests : ResolutionValue → Type 0
   Rests (Resolved x basis) = IsSubset basis (items_in es)
   Rests (Unresolved kind arg) = Unit {0}
 
-  resolving : (setup : SetupValue) (o : Option GoalValue) (r : ResolutionValue) → Rests r → Fits es (resolved_outcome setup o r)
-  resolving setup o (Resolved x basis) h = applying setup o x basis h
-  resolving setup o (Unresolved kind arg) h = tt
+  resolving : (setup : SetupValue) (names : List (List ℕ)) (o : Option GoalValue) (r : ResolutionValue) → Rests r → Fits es (resolved_outcome setup names o r).outcome
+  resolving setup names o (Resolved x basis) h = applying setup names o x basis h
+  resolving setup names o (Unresolved kind arg) h = tt
 
   resting : (basis : Items) (r : Result ExprValue RefusedValue) → IsSubset basis (items_in es) → Rests (resolution_of basis r)
   resting basis (Ok x) within = within
@@ -171,11 +175,11 @@ module _ (es : Entries) (t : IsTheory es) where
   resting_past setup tactic keys (Some refused) r h = subst Rests (sym h) tt
   resting_past setup tactic keys None r h = subst Rests (sym h.2) (resting_read setup tactic keys h.0)
 
-applying_fits : (s : StateValue) (in_proof : Bool) (setup : SetupValue) (tactic : TacText) (o : OutcomeValue) → IsTheory s.entries → IsApplying in_proof setup tactic (reads_of (Apply tactic) s) o → Fits s.entries o
-applying_fits s false setup tactic o t h = subst (Fits s.entries) (sym h) tt
-applying_fits s true setup tactic o t h =
-    subst (Fits s.entries) (sym h.2)
-    (resolving s.entries t setup (reads_of (Apply tactic) s).goal h.0
+applying_fits : (s : StateValue) (in_proof : Bool) (setup : SetupValue) (names : List (List ℕ)) (tactic : TacText) (given : LocalValue) → IsTheory s.entries → IsApplying in_proof setup names tactic (reads_of (Apply tactic) s) given → Fits s.entries given.outcome
+applying_fits s false setup names tactic given t h = subst (λ (l : LocalValue). Fits s.entries l.outcome) (sym h) tt
+applying_fits s true setup names tactic given t h =
+    subst (λ (l : LocalValue). Fits s.entries l.outcome) (sym h.2)
+    (resolving s.entries t setup names (reads_of (Apply tactic) s).goal h.0
     (resting_past s.entries t setup tactic (keys_in (parts_of tactic)) (first_refusal (named_refusals setup tactic (values_of s.entries (keys_in (parts_of tactic))))) h.0 h.1))
 
 -- ---- `qed`
@@ -379,12 +383,12 @@ making_fits : (s : StateValue) (in_proof : Bool) (making : MakingText) (x : Outc
 making_fits s true making x t h = subst (Fits s.entries) (sym h) tt
 making_fits s false making x t h = making_read s making x t h
 
-local_fits : (setup : SetupValue) (command : LocalText) (s : StateValue) (o : OutcomeValue) → IsTheory s.entries → IsFreeFor s.entries s.proof → IsProofWithin s.entries s.proof →
-    IsLocalOutcome setup command (reads_of command s) o → Fits s.entries o
-local_fits setup (Goal name q) s o t free within h = opening_fits s _ name q o t h
-local_fits setup (Apply tactic) s o t free within h = applying_fits s _ setup tactic o t h
-local_fits setup Qed s o t free within h = subst (Fits s.entries) (sym h) (finishing s.entries s.proof free within)
-local_fits setup (Make making) s o t free within h = making_fits s _ making o t h
+local_fits : (setup : SetupValue) (names : List (List ℕ)) (command : LocalText) (s : StateValue) (given : LocalValue) → IsTheory s.entries → IsFreeFor s.entries s.proof → IsProofWithin s.entries s.proof →
+    IsLocalOutcome setup names command (reads_of command s) given → Fits s.entries given.outcome
+local_fits setup names (Goal name q) s given t free within h = opening_fits s _ name q given.outcome t h.0
+local_fits setup names (Apply tactic) s given t free within h = applying_fits s _ setup names tactic given t h
+local_fits setup names Qed s given t free within h = subst (λ (l : LocalValue). Fits s.entries l.outcome) (sym h) (finishing s.entries s.proof free within)
+local_fits setup names (Make making) s given t free within h = making_fits s _ making given.outcome t h.0
 
 -- ---- what is answered from the state
 
@@ -440,17 +444,19 @@ direct_fits (Import name) s earlier t = importing_outside name s.entries (entrie
 abbrev pub IsKept : StateValue → Type 0
 IsKept s = IsTheory s.entries × IsFreeFor s.entries s.proof × IsProofWithin s.entries s.proof
 
-outcome_fits : (setup : SetupValue) (earlier : List EndedTheory) (s : StateValue) (value : ReadText) (reads : Option ReadsValue) (o : OutcomeValue) → IsKept s → AreTheories earlier →
-    AreReads value s reads → IsOutcome setup earlier s value reads o → Fits s.entries o
-outcome_fits setup earlier s (Reads (Local command)) None o kept t are h = absurd h
-outcome_fits setup earlier s (Reads (Local command)) (Some reads) o kept t are h = let same : reads ≡ reads_of command s = cc in local_fits setup command s o kept.0 kept.1 kept.2 (rw same at h)
-outcome_fits setup earlier s (Reads (Direct command)) None o kept t are h = subst (Fits s.entries) (sym h) (direct_fits command s earlier t)
-outcome_fits setup earlier s (Reads (Direct command)) (Some reads) o kept t are h = absurd h
-outcome_fits setup earlier s (Breaks place) None o kept t are h = subst (Fits s.entries) (sym h) tt
-outcome_fits setup earlier s (Breaks place) (Some reads) o kept t are h = absurd h
+outcome_fits : (setup : SetupValue) (earlier : List EndedTheory) (s : StateValue) (value : ReadText) (reads : Option ReadsValue) (tested : TestedValue) (o : OutcomeValue) → IsKept s → AreTheories earlier →
+    AreReads value s reads → IsOutcome setup earlier s value reads tested o → Fits s.entries o
+outcome_fits setup earlier s (Reads (Local command)) None tested o kept t are h = absurd h
+outcome_fits setup earlier s (Reads (Local command)) (Some reads) tested o kept t are h =
+    let same : reads ≡ reads_of command s = cc in
+    local_fits setup (constant_names s.entries) command s (record { outcome = o; tested = tested }) kept.0 kept.1 kept.2 (rw same at h)
+outcome_fits setup earlier s (Reads (Direct command)) None tested o kept t are h = subst (Fits s.entries) (sym h.0) (direct_fits command s earlier t)
+outcome_fits setup earlier s (Reads (Direct command)) (Some reads) tested o kept t are h = absurd h
+outcome_fits setup earlier s (Breaks place) None tested o kept t are h = subst (Fits s.entries) (sym h.0) tt
+outcome_fits setup earlier s (Breaks place) (Some reads) tested o kept t are h = absurd h
 
 fits_at : (s : StateValue) (o : OutcomeValue) → IsKept s → IsOutcomeAt s o → Fits s.entries o
-fits_at s o kept h = outcome_fits h.setup h.earlier s h.value h.reads o kept h.theories h.read h.gets
+fits_at s o kept h = outcome_fits h.setup h.earlier s h.value h.reads h.tested o kept h.theories h.read h.gets
 
 module _ (s : StateValue) (o : OutcomeValue) (kept : IsKept s) (h : IsOutcomeAt s o) where
   pub opens_new : (name : List ℕ) (statement : Nameless) (basis : Items) → o ≡ Opens name statement basis → (entry_at (theorem_key name) s.entries ≡ None) × IsSubset basis (items_in s.entries)

@@ -26,5 +26,7 @@ pub mod Runs
 pub mod Readings
 pub mod UniqueMade
 pub mod Unique
+pub mod Needing
+pub mod Marks
 pub mod Runnable
 pub mod Parts

@@ -1,5 +1,5 @@
 -- What the outcomes that a state may get say of it: a step runs on the first goal.
-use Rattle.std.proofs.Common.{◌≡◌, ℕ, List, [], ◌∷◌, refl, ap, subst, Bool, true, false, cond, decimal, nat_eq}
+use Rattle.std.proofs.Common.{◌≡◌, ◌∙◌, ℕ, List, [], ◌∷◌, refl, ap, subst, Bool, true, false, cond, decimal, nat_eq}
 use Rattle.std.specs.Prelude.{Option, Some, None, IfSome, is_some}
 use Rattle.hol_terms.specs.Nameless.{Nameless, nameless_type}
 use Rattle.hol_notation_terms.specs.Text.{QuotationText, DefinitionText}
@@ -7,10 +7,12 @@ use Rattle.hol_notation_tactics.specs.Text.{TacText}
 use Rattle.hol_kernel.specs.Items.{Items}
 use Rattle.hol_formulas.specs.Equation.{bool_type, dest_comb}
 use Rattle.hol_kernel.specs.Typing.{is_type_at}
+use Rattle.hol_goal.specs.Answer.{starting}
 use Rattle.hol_goal.specs.Goal.{GoalValue}
 use Rattle.hol_just.specs.declared.reason.Move.{Move}
 use Rattle.hol_stack.specs.StackValue.{StepValue}
 use Rattle.hol_theory.specs.Adding.{first_clash}
+use Rattle.hol_theory.specs.Constants.{constant_names}
 use Rattle.hol_theory.specs.Entry.{Entries, EntryValue}
 use Rattle.hol_theory.specs.Key.{KeyValue}
 use Rattle.hol_exec.specs.Setup.{SetupValue}
@@ -23,7 +25,8 @@ use Rattle.hol_exec.specs.OutcomeValue.{OutcomeValue, Leaves, Makes, Refuses, Ma
 use Rattle.hol_exec.specs.OutcomeView.{outcome_of}
 use Rattle.hol_exec.specs.declared.running.outcome.Change.{Change}
 use Rattle.hol_exec.specs.declared.running.outcome.Change.TheVariants as changes
-use Rattle.hol_exec.specs.Local.{opens, opens_read, IsOpening, refused_outcome, stopped_outcome, run_outcome, applied, resolved_outcome, IsApplying, finishes, IsLocalOutcome}
+use Rattle.hol_exec.specs.Tested.{TestedValue}
+use Rattle.hol_exec.specs.Local.{LocalValue, opens, opens_read, IsOpening, refused_outcome, stopped_outcome, run_outcome, applied, resolved_outcome, IsApplying, finishes, IsLocalOutcome}
 use Rattle.hol_exec.specs.Resolved.{cited_theorem, resolved_basis}
 use Rattle.hol_exec.specs.Signature.{signature_of}
 use Rattle.hol_exec.specs.Defining.{first_free, first_unreflected}
@@ -37,6 +40,7 @@ use Rattle.hol_exec.specs.Standing.{first_taken}
 use Rattle.hol_combine.specs.ExprValue.{ExprValue}
 use Rattle.hol_combine.specs.Runs.{RefusalValue, DoesNotFit, LacksHyps, StopValue, TurnLimit, LargeGoal, RunValue, run}
 use Rattle.hol_combine.specs.Runs as runs
+use Rattle.hol_combine.specs.Agreeing.{known}
 use Rattle.hol_exec.specs.Expr.{ResolutionValue, Resolved, Unresolved}
 use Rattle.hol_exec.specs.declared.reports.refusal.RefusalKind.TheVariants as refusal
 use Rattle.hol_exec.specs.At.{undoes_to, undoes, rotates_goals, rotates, drops, imports, imports_theory, imports_from, entries_named, direct, IsOutcome, IsOutcomeAt}
@@ -81,22 +85,24 @@ module _ (goal : GoalValue) (goals : List GoalValue) (basis : Items) where
   stopped_none TurnLimit e = absurd (cc)
   stopped_none LargeGoal e = absurd (cc)
 
-  run_first : (g : GoalValue) (b : Items) (r : RunValue) → Leaves goal goals basis ≡ run_outcome g b r → g ≡ goal
-  run_first g b (runs.Leaves more turns) e = cc
-  run_first g b (runs.Refuses why turns) e = absurd (refused_none why e)
-  run_first g b (runs.Stops why) e = absurd (stopped_none why e)
+  run_first : (names : List (List ℕ)) (g : GoalValue) (b : Items) (r : RunValue) → Leaves goal goals basis ≡ (run_outcome names g b r).outcome → g ≡ goal
+  run_first names g b (runs.Leaves more used) e = cc
+  run_first names g b (runs.Refuses why used) e = absurd (refused_none why e)
+  run_first names g b (runs.Stops why tested) e = absurd (stopped_none why e)
 
-  applied_first : (setup : SetupValue) (o : Option GoalValue) (x : ExprValue) (b : Items) → Leaves goal goals basis ≡ applied setup o x b → o ≡ Some goal
-  applied_first setup None x b e = absurd (cc)
-  applied_first setup (Some g) x b e = ap Some (run_first g b (run setup.table x g setup.turns) e)
+  applied_first : (setup : SetupValue) (names : List (List ℕ)) (o : Option GoalValue) (x : ExprValue) (b : Items) → Leaves goal goals basis ≡ (applied setup names o x b).outcome → o ≡ Some goal
+  applied_first setup names None x b e = absurd (cc)
+  applied_first setup names (Some g) x b e = ap Some (run_first names g b (run (known setup.table names) x g (starting setup.turns)) e)
 
-  resolved_first : (setup : SetupValue) (o : Option GoalValue) (r : ResolutionValue) → Leaves goal goals basis ≡ resolved_outcome setup o r → o ≡ Some goal
-  resolved_first setup o (Resolved x b) e = applied_first setup o x b e
-  resolved_first setup o (Unresolved kind arg) e = absurd (cc)
+  resolved_first : (setup : SetupValue) (names : List (List ℕ)) (o : Option GoalValue) (r : ResolutionValue) → Leaves goal goals basis ≡ (resolved_outcome setup names o r).outcome → o ≡ Some goal
+  resolved_first setup names o (Resolved x b) e = applied_first setup names o x b e
+  resolved_first setup names o (Unresolved kind arg) e = absurd (cc)
 
-  applying_first : (in_proof : Bool) (setup : SetupValue) (tactic : TacText) (reads : ReadsValue) → IsApplying in_proof setup tactic reads (Leaves goal goals basis) → reads.goal ≡ Some goal
-  applying_first false setup tactic reads h = absurd (cc)
-  applying_first true setup tactic reads h = resolved_first setup reads.goal h.0 h.2
+  applying_first : (in_proof : Bool) (setup : SetupValue) (names : List (List ℕ)) (tactic : TacText) (reads : ReadsValue) (given : LocalValue) → Leaves goal goals basis ≡ given.outcome → IsApplying in_proof setup names tactic reads given → reads.goal ≡ Some goal
+  applying_first false setup names tactic reads given e h =
+      let refused : Leaves goal goals basis ≡ Refuses refusal.NoProofOpen [] = e ∙ ap (λ (l : LocalValue). l.outcome) h in
+      absurd (cc)
+  applying_first true setup names tactic reads given e h = resolved_first setup names reads.goal h.0 (e ∙ ap (λ (l : LocalValue). l.outcome) h.2)
 
   -- what makes types, constants, axioms and definitions takes no step
   abbrev Leaving : OutcomeValue
@@ -165,11 +171,11 @@ module _ (goal : GoalValue) (goals : List GoalValue) (basis : Items) where
   making_none true making reads h = absurd (cc)
   making_none false making reads h = made_none making reads h
 
-  local_first : (setup : SetupValue) (command : LocalText) (s : StateValue) → IsLocalOutcome setup command (reads_of command s) (Leaves goal goals basis) → first_goal s.proof ≡ Some goal
-  local_first setup (Goal name q) s h = absurd (opening_none _ name q _ h)
-  local_first setup (Apply tactic) s h = applying_first _ setup tactic (reads_of (Apply tactic) s) h
-  local_first setup Qed s h = absurd (finish_none (reads_of Qed s).closing h)
-  local_first setup (Make making) s h = absurd (making_none _ making (reads_of (Make making) s) h)
+  local_first : (setup : SetupValue) (names : List (List ℕ)) (command : LocalText) (s : StateValue) (tested : TestedValue) → IsLocalOutcome setup names command (reads_of command s) (record { outcome = Leaves goal goals basis; tested = tested }) → first_goal s.proof ≡ Some goal
+  local_first setup names (Goal name q) s tested h = absurd (opening_none _ name q _ h.0)
+  local_first setup names (Apply tactic) s tested h = applying_first _ setup names tactic (reads_of (Apply tactic) s) (record { outcome = Leaves goal goals basis; tested = tested }) refl h
+  local_first setup names Qed s tested h = absurd (finish_none (reads_of Qed s).closing (ap (λ (l : LocalValue). l.outcome) h))
+  local_first setup names (Make making) s tested h = absurd (making_none _ making (reads_of (Make making) s) h.0)
 
   -- nothing that is answered from the state takes a step
   undoing_none : (o : Option ProofValue) → Leaves goal goals basis ≡ undoes o → ⊥
@@ -213,20 +219,20 @@ module _ (goal : GoalValue) (goals : List GoalValue) (basis : Items) where
   direct_none Oops s earlier e = dropping_none s.proof e
   direct_none (Import name) s earlier e = importing_none name s earlier e
 
-  outcome_first : (setup : SetupValue) (earlier : List EndedTheory) (s : StateValue) (value : ReadText) (reads : Option ReadsValue) →
-      AreReads value s reads → IsOutcome setup earlier s value reads (Leaves goal goals basis) → first_goal s.proof ≡ Some goal
-  outcome_first setup earlier s (Reads (Local command)) None are h = absurd h
-  outcome_first setup earlier s (Reads (Local command)) (Some reads) are h = let same : reads ≡ reads_of command s = cc in local_first setup command s (rw same at h)
-  outcome_first setup earlier s (Reads (Direct command)) None are h = absurd (direct_none command s earlier h)
-  outcome_first setup earlier s (Reads (Direct command)) (Some reads) are h = absurd h
-  outcome_first setup earlier s (Breaks place) None are h = absurd (cc)
-  outcome_first setup earlier s (Breaks place) (Some reads) are h = absurd h
+  outcome_first : (setup : SetupValue) (earlier : List EndedTheory) (s : StateValue) (value : ReadText) (reads : Option ReadsValue) (tested : TestedValue) →
+      AreReads value s reads → IsOutcome setup earlier s value reads tested (Leaves goal goals basis) → first_goal s.proof ≡ Some goal
+  outcome_first setup earlier s (Reads (Local command)) None tested are h = absurd h
+  outcome_first setup earlier s (Reads (Local command)) (Some reads) tested are h = let same : reads ≡ reads_of command s = cc in local_first setup (constant_names s.entries) command s tested (rw same at h)
+  outcome_first setup earlier s (Reads (Direct command)) None tested are h = absurd (direct_none command s earlier h.0)
+  outcome_first setup earlier s (Reads (Direct command)) (Some reads) tested are h = absurd h
+  outcome_first setup earlier s (Breaks place) None tested are h = let e = h.0 in absurd (cc)
+  outcome_first setup earlier s (Breaks place) (Some reads) tested are h = absurd h
 
 pub can_step : (s : StateValue) (outcome : OutcomeValue) → IsKept s → IsOutcomeAt s outcome → (goal : GoalValue) (goals : List GoalValue) (basis : Items) (moves : List Move) → outcome ≡ Leaves goal goals basis → IsLeft basis moves goal goals → IfSome s.proof (CanStep basis moves goals)
 can_step s outcome kept h goal goals basis moves e left = by s.proof refl
   where
     first : first_goal s.proof ≡ Some goal
-    first = outcome_first goal goals basis h.setup h.earlier s h.value h.reads h.read (rw e at h.gets)
+    first = outcome_first goal goals basis h.setup h.earlier s h.value h.reads h.tested h.read (rw e at h.gets)
 
     by : (o : Option ProofValue) → s.proof ≡ o → IfSome o (CanStep basis moves goals)
     by None z = tt

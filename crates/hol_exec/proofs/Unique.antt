@@ -21,7 +21,9 @@ use Rattle.hol_exec.specs.ReadsValue.{ReadsValue, Values}
 use Rattle.hol_exec.specs.declared.reports.refusal.RefusalKind.{RefusalKind}
 use Rattle.hol_exec.specs.Expr.{ResolutionValue, named_refusals, first_refusal, resolved_read, IsResolvedFitting, IsResolvedPast}
 use Rattle.hol_exec.specs.OutcomeValue.{OutcomeValue}
-use Rattle.hol_exec.specs.Local.{opens_read, IsOpening, resolved_outcome, IsApplying, IsLocalOutcome}
+use Rattle.hol_theory.specs.Constants.{constant_names}
+use Rattle.hol_exec.specs.Tested.{TestedValue}
+use Rattle.hol_exec.specs.Local.{LocalValue, opens_read, IsOpening, resolved_outcome, IsApplying, IsLocalOutcome}
 use Rattle.hol_exec.specs.At.{IsOutcome}
 use Rattle.hol_exec.proofs.Readings.{one_reading}
 use Rattle.hol_exec.proofs.UniqueMade.{one_making}
@@ -70,22 +72,28 @@ one_opening true name quotation reads a b p q = p ∙ sym q
 one_opening false name quotation reads a b p q =
     p.2 ∙ ap (opens_read name quotation.place reads) (one_reading (signature_of reads.cited) quotation.term p.0 q.0 p.1 q.1) ∙ sym q.2
 
-one_applying : (in_proof : Bool) (setup : SetupValue) (tactic : TacText) (reads : ReadsValue) (a b : OutcomeValue) → IsApplying in_proof setup tactic reads a → IsApplying in_proof setup tactic reads b → a ≡ b
-one_applying false setup tactic reads a b p q = p ∙ sym q
-one_applying true setup tactic reads a b p q =
-    p.2 ∙ ap (resolved_outcome setup reads.goal) (one_past setup reads.cited tactic (first_refusal (named_refusals setup tactic reads.cited)) p.0 q.0 p.1 q.1) ∙ sym q.2
+one_applying : (in_proof : Bool) (setup : SetupValue) (names : List (List ℕ)) (tactic : TacText) (reads : ReadsValue) (a b : LocalValue) → IsApplying in_proof setup names tactic reads a → IsApplying in_proof setup names tactic reads b → a ≡ b
+one_applying false setup names tactic reads a b p q = p ∙ sym q
+one_applying true setup names tactic reads a b p q =
+    p.2 ∙ ap (resolved_outcome setup names reads.goal) (one_past setup reads.cited tactic (first_refusal (named_refusals setup tactic reads.cited)) p.0 q.0 p.1 q.1) ∙ sym q.2
 
-pub one_local : (setup : SetupValue) (command : LocalText) (reads : ReadsValue) (a b : OutcomeValue) → IsLocalOutcome setup command reads a → IsLocalOutcome setup command reads b → a ≡ b
-one_local setup (Goal name quotation) reads a b p q = one_opening reads.in_proof name quotation reads a b p q
-one_local setup (Apply tactic) reads a b p q = one_applying reads.in_proof setup tactic reads a b p q
-one_local setup Qed reads a b p q = p ∙ sym q
-one_local setup (Make making) reads a b p q = one_making reads.in_proof making reads a b p q
+-- of one outcome, where nothing was tested for both
+both_are : (a b : LocalValue) → a.outcome ≡ b.outcome → a.tested ≡ [] → b.tested ≡ [] → a ≡ b
+both_are a b same p q = λ i. record { outcome = same i; tested = (p ∙ sym q) i }
 
-pub one_outcome : (setup : SetupValue) (earlier : List EndedTheory) (s : StateValue) (value : ReadText) (reads : Option ReadsValue) (a b : OutcomeValue) →
-    IsOutcome setup earlier s value reads a → IsOutcome setup earlier s value reads b → a ≡ b
-one_outcome setup earlier s (Reads (Local command)) None a b p q = absurd p
-one_outcome setup earlier s (Reads (Local command)) (Some reads) a b p q = one_local setup command reads a b p q
-one_outcome setup earlier s (Reads (Direct command)) None a b p q = p ∙ sym q
-one_outcome setup earlier s (Reads (Direct command)) (Some reads) a b p q = absurd p
-one_outcome setup earlier s (Breaks place) None a b p q = p ∙ sym q
-one_outcome setup earlier s (Breaks place) (Some reads) a b p q = absurd p
+pub one_local : (setup : SetupValue) (names : List (List ℕ)) (command : LocalText) (reads : ReadsValue) (a b : LocalValue) → IsLocalOutcome setup names command reads a → IsLocalOutcome setup names command reads b → a ≡ b
+one_local setup names (Goal name quotation) reads a b p q = both_are a b (one_opening reads.in_proof name quotation reads a.outcome b.outcome p.0 q.0) p.1 q.1
+one_local setup names (Apply tactic) reads a b p q = one_applying reads.in_proof setup names tactic reads a b p q
+one_local setup names Qed reads a b p q = p ∙ sym q
+one_local setup names (Make making) reads a b p q = both_are a b (one_making reads.in_proof making reads a.outcome b.outcome p.0 q.0) p.1 q.1
+
+pub one_outcome : (setup : SetupValue) (earlier : List EndedTheory) (s : StateValue) (value : ReadText) (reads : Option ReadsValue) (tested more : TestedValue) (a b : OutcomeValue) →
+    IsOutcome setup earlier s value reads tested a → IsOutcome setup earlier s value reads more b → (a ≡ b) × (tested ≡ more)
+one_outcome setup earlier s (Reads (Local command)) None tested more a b p q = absurd p
+one_outcome setup earlier s (Reads (Local command)) (Some reads) tested more a b p q =
+    let same = one_local setup (constant_names s.entries) command reads (record { outcome = a; tested = tested }) (record { outcome = b; tested = more }) p q in
+    (ap (λ (l : LocalValue). l.outcome) same, ap (λ (l : LocalValue). l.tested) same)
+one_outcome setup earlier s (Reads (Direct command)) None tested more a b p q = (p.0 ∙ sym q.0, p.1 ∙ sym q.1)
+one_outcome setup earlier s (Reads (Direct command)) (Some reads) tested more a b p q = absurd p
+one_outcome setup earlier s (Breaks place) None tested more a b p q = (p.0 ∙ sym q.0, p.1 ∙ sym q.1)
+one_outcome setup earlier s (Breaks place) (Some reads) tested more a b p q = absurd p

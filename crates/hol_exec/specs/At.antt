@@ -13,6 +13,8 @@ use Rattle.hol_exec.specs.StateValue.{ProofValue, StateValue, EndedTheory, AreTh
 use Rattle.hol_exec.specs.ReadsValue.{ReadsValue, AreReads}
 use Rattle.hol_exec.specs.OutcomeValue.{OutcomeValue, Undoes, Rotates, Makes, Refuses}
 use Rattle.hol_exec.specs.Local.{IsLocalOutcome}
+use Rattle.hol_exec.specs.Tested.{TestedValue}
+use Rattle.hol_theory.specs.Constants.{constant_names}
 
 -- ---- `b`: no proof open; nothing to undo
 
@@ -66,14 +68,14 @@ direct (Rotate times) s earlier = rotates times s.proof
 direct Oops s earlier = drops s.proof
 direct (Import name) s earlier = imports name s earlier
 
--- the outcome of what a text reads as, from its reads: a text that breaks, and what is answered from the state, have none
-abbrev pub IsOutcome : SetupValue → List EndedTheory → StateValue → ReadText → Option ReadsValue → OutcomeValue → Type 0
-IsOutcome setup earlier s (Reads (Local command)) None outcome = ⊥
-IsOutcome setup earlier s (Reads (Local command)) (Some reads) outcome = IsLocalOutcome setup command reads outcome
-IsOutcome setup earlier s (Reads (Direct command)) None outcome = outcome ≡ direct command s earlier
-IsOutcome setup earlier s (Reads (Direct command)) (Some reads) outcome = ⊥
-IsOutcome setup earlier s (Breaks place) None outcome = outcome ≡ Refuses refusal.Syntax (decimal place)
-IsOutcome setup earlier s (Breaks place) (Some reads) outcome = ⊥
+-- the outcome of what a text reads as, from its reads, with the names that were tested for it: a text that breaks, and what is answered from the state, have no reads
+abbrev pub IsOutcome : SetupValue → List EndedTheory → StateValue → ReadText → Option ReadsValue → TestedValue → OutcomeValue → Type 0
+IsOutcome setup earlier s (Reads (Local command)) None tested outcome = ⊥
+IsOutcome setup earlier s (Reads (Local command)) (Some reads) tested outcome = IsLocalOutcome setup (constant_names s.entries) command reads (record { outcome = outcome; tested = tested })
+IsOutcome setup earlier s (Reads (Direct command)) None tested outcome = (outcome ≡ direct command s earlier) × (tested ≡ [])
+IsOutcome setup earlier s (Reads (Direct command)) (Some reads) tested outcome = ⊥
+IsOutcome setup earlier s (Breaks place) None tested outcome = (outcome ≡ Refuses refusal.Syntax (decimal place)) × (tested ≡ [])
+IsOutcome setup earlier s (Breaks place) (Some reads) tested outcome = ⊥
 
 -- an outcome that the state may get, where what stands earlier are theories
 pub record IsOutcomeAt (s : StateValue) (outcome : OutcomeValue) : Type 0 where
@@ -82,5 +84,6 @@ pub record IsOutcomeAt (s : StateValue) (outcome : OutcomeValue) : Type 0 where
   pub theories : AreTheories earlier
   pub value : ReadText
   pub reads : Option ReadsValue
+  pub tested : TestedValue
   pub read : AreReads value s reads
-  pub gets : IsOutcome setup earlier s value reads outcome
+  pub gets : IsOutcome setup earlier s value reads tested outcome

@@ -20,6 +20,7 @@ use Rattle.hol_exec.specs.StateValue.{ProofValue, StateValue}
 use Rattle.hol_exec.specs.ReadsValue.{ClosingValue, Values, ReadsValue}
 use Rattle.hol_exec.specs.OutcomeValue.{OutcomeValue, Opens, Leaves, Undoes, Rotates, Makes, Refuses}
 use Rattle.hol_exec.specs.Refusal.{kind_number}
+use Rattle.hol_exec.specs.Tested.{TestedValue}
 
 -- ---- states
 
@@ -57,6 +58,11 @@ coded_reads =
     (λ r. ((r.cited, r.made), (r.in_proof, (r.goal, r.closing))))
     (λ p. record { cited = p.0.0; made = p.0.1; in_proof = p.1.0; goal = p.1.1.0; closing = p.1.1.1 })
     (λ _. refl)
+
+-- ---- tested names
+
+abbrev pub coded_tested : Coded TestedValue
+coded_tested = coded_list (coded× coded_name coded_bool)
 
 -- ---- keys of commands
 

@@ -25,9 +25,11 @@ pub mod OutcomeValue
 pub mod NewEntriesView
 pub mod OutcomeView
 pub mod ChangedKeys
+pub mod ChangedKeysView
 pub mod Filters
 pub mod Defining
 pub mod Making
+pub mod Tested
 pub mod Local
 pub mod At
 pub mod Valid

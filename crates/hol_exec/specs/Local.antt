@@ -11,9 +11,11 @@ use Rattle.hol_kernel.specs.Typing.{is_type_at}
 use Rattle.hol_notation_terms.specs.Text.{QuotationText}
 use Rattle.hol_notation_tactics.specs.Text.{TacText}
 use Rattle.hol_goal.specs.Goal.{GoalValue}
+use Rattle.hol_goal.specs.Answer.{starting}
 use Rattle.hol_combine.specs.ExprValue.{ExprValue}
 use Rattle.hol_combine.specs.Runs.{RefusalValue, DoesNotFit, LacksHyps, StopValue, TurnLimit, LargeGoal, RunValue, run}
 use Rattle.hol_combine.specs.Runs as runs
+use Rattle.hol_combine.specs.Agreeing.{known}
 use Rattle.hol_exec.specs.declared.reports.refusal.RefusalKind.TheVariants as refusal
 use Rattle.hol_theory.specs.Key.{KeyValue, theorem_key, key_text}
 use Rattle.hol_theory.specs.Entry.{ATheorem}
@@ -28,6 +30,19 @@ use Rattle.hol_exec.specs.Standing.{first_taken}
 use Rattle.hol_exec.specs.Expr.{ResolutionValue, Resolved, Unresolved, IsResolution}
 use Rattle.hol_exec.specs.OutcomeValue.{OutcomeValue, Opens, Leaves, Makes, Refuses}
 use Rattle.hol_exec.specs.Making.{IsMaking}
+use Rattle.hol_exec.specs.Tested.{TestedValue, marked}
+
+-- an outcome, with the names that were tested for it
+pub record LocalValue : Type 0 where
+  pub outcome : OutcomeValue
+  pub tested : TestedValue
+
+abbrev pub untested : OutcomeValue → LocalValue
+untested outcome = record { outcome = outcome; tested = [] }
+
+-- with the names that were tested, where constants have these
+abbrev pub given_by : List (List ℕ) → OutcomeValue → List (List ℕ) → LocalValue
+given_by names outcome tested = record { outcome = outcome; tested = marked names tested }
 
 -- ---- `g`: in a proof; arity; untypable; too large; not bool; name taken
 
@@ -62,25 +77,25 @@ abbrev pub stopped_outcome : StopValue → OutcomeValue
 stopped_outcome TurnLimit = Refuses refusal.TurnLimit []
 stopped_outcome LargeGoal = Refuses refusal.TooLarge []
 
-abbrev pub run_outcome : GoalValue → Items → RunValue → OutcomeValue
-run_outcome goal basis (runs.Leaves goals turns) = Leaves goal goals basis
-run_outcome goal basis (runs.Refuses why turns) = refused_outcome why
-run_outcome goal basis (runs.Stops why) = stopped_outcome why
+abbrev pub run_outcome : List (List ℕ) → GoalValue → Items → RunValue → LocalValue
+run_outcome names goal basis (runs.Leaves goals used) = given_by names (Leaves goal goals basis) used.tested
+run_outcome names goal basis (runs.Refuses why used) = given_by names (refused_outcome why) used.tested
+run_outcome names goal basis (runs.Stops why tested) = given_by names (stopped_outcome why) tested
 
 -- a command's run starts with all of its turns
-abbrev pub applied : SetupValue → Option GoalValue → ExprValue → Items → OutcomeValue
-applied setup None expr basis = Refuses refusal.NoGoalOpen []
-applied setup (Some goal) expr basis = run_outcome goal basis (run setup.table expr goal setup.turns)
+abbrev pub applied : SetupValue → List (List ℕ) → Option GoalValue → ExprValue → Items → LocalValue
+applied setup names None expr basis = untested (Refuses refusal.NoGoalOpen [])
+applied setup names (Some goal) expr basis = run_outcome names goal basis (run (known setup.table names) expr goal (starting setup.turns))
 
-abbrev pub resolved_outcome : SetupValue → Option GoalValue → ResolutionValue → OutcomeValue
-resolved_outcome setup goal (Resolved expr basis) = applied setup goal expr basis
-resolved_outcome setup goal (Unresolved kind arg) = Refuses kind arg
+abbrev pub resolved_outcome : SetupValue → List (List ℕ) → Option GoalValue → ResolutionValue → LocalValue
+resolved_outcome setup names goal (Resolved expr basis) = applied setup names goal expr basis
+resolved_outcome setup names goal (Unresolved kind arg) = untested (Refuses kind arg)
 
 -- no proof is open, or what is written resolves to something, and the outcome is by that
-abbrev pub IsApplying : Bool → SetupValue → TacText → ReadsValue → OutcomeValue → Type 0
-IsApplying false setup tactic reads outcome = outcome ≡ Refuses refusal.NoProofOpen []
-IsApplying true setup tactic reads outcome =
-    (resolution : ResolutionValue) × IsResolution setup tactic reads.cited resolution × (outcome ≡ resolved_outcome setup reads.goal resolution)
+abbrev pub IsApplying : Bool → SetupValue → List (List ℕ) → TacText → ReadsValue → LocalValue → Type 0
+IsApplying false setup names tactic reads given = given ≡ untested (Refuses refusal.NoProofOpen [])
+IsApplying true setup names tactic reads given =
+    (resolution : ResolutionValue) × IsResolution setup tactic reads.cited resolution × (given ≡ resolved_outcome setup names reads.goal resolution)
 
 -- ---- `qed`: no proof open; goals remain
 
@@ -92,10 +107,10 @@ abbrev pub finishes : Option ClosingValue → OutcomeValue
 finishes None = Refuses refusal.NoProofOpen []
 finishes (Some c) = cond (nat_eq c.open_goals 0) (finished c) (Refuses refusal.GoalsRemain [])
 
--- ---- the outcome of a command from what it reads
+-- ---- the outcome of a command from what it reads, where constants have these names
 
-abbrev pub IsLocalOutcome : SetupValue → LocalText → ReadsValue → OutcomeValue → Type 0
-IsLocalOutcome setup (Goal name quotation) reads outcome = IsOpening reads.in_proof name quotation reads outcome
-IsLocalOutcome setup (Apply tactic) reads outcome = IsApplying reads.in_proof setup tactic reads outcome
-IsLocalOutcome setup Qed reads outcome = outcome ≡ finishes reads.closing
-IsLocalOutcome setup (Make making) reads outcome = IsMaking reads.in_proof making reads outcome
+abbrev pub IsLocalOutcome : SetupValue → List (List ℕ) → LocalText → ReadsValue → LocalValue → Type 0
+IsLocalOutcome setup names (Goal name quotation) reads given = IsOpening reads.in_proof name quotation reads given.outcome × (given.tested ≡ [])
+IsLocalOutcome setup names (Apply tactic) reads given = IsApplying reads.in_proof setup names tactic reads given
+IsLocalOutcome setup names Qed reads given = given ≡ untested (finishes reads.closing)
+IsLocalOutcome setup names (Make making) reads given = IsMaking reads.in_proof making reads given.outcome × (given.tested ≡ [])

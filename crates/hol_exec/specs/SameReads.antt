@@ -1,4 +1,4 @@
--- Whether two reads are the same: names, terms with their base names, theorems with their bases, numbers.
+-- Whether two reads, and two lists of tested names, are the same: names, terms with their base names, theorems with their bases, numbers.
 use Rattle.std.specs.Prelude.{◌≡◌, ◌↔◌, ◌++◌, ℕ, Bool, IsTrue, length, min, Option, Some, None}
 use Rattle.std.specs.Hash as fed
 use Rattle.std.specs.Ordering.{eq_by_cmp, is_eq}
@@ -7,7 +7,8 @@ use Rattle.std.proofs.Common.{ap, sym, ◌∙◌}
 use Rattle.hol_subst.specs.CodeOrder.{coded_cmp, coded_total, coded_same}
 use Rattle.hol_goal.specs.Goal.{GoalValue, goal_size}
 use Rattle.hol_exec.specs.ReadsValue.{ReadsValue}
-use Rattle.hol_exec.specs.Codes.{coded_reads}
+use Rattle.hol_exec.specs.Codes.{coded_reads, coded_tested}
+use Rattle.hol_exec.specs.Tested.{TestedValue}
 
 abbrev pub same_reads : ReadsValue → ReadsValue → Bool
 same_reads = eq_by_cmp (coded_cmp coded_reads)
@@ -23,6 +24,16 @@ same_reads_laws = eq_by_cmp_equiv (coded_total coded_reads)
 
 pub same_reads_partial_laws : IsPartialEquivalence same_reads
 same_reads_partial_laws = partial_equiv_from_equiv same_reads_laws
+
+-- the same of tested names
+abbrev pub same_tested : TestedValue → TestedValue → Bool
+same_tested = eq_by_cmp (coded_cmp coded_tested)
+
+pub same_tested_are : (a b : TestedValue) → IsTrue (same_tested a b) ↔ (a ≡ b)
+same_tested_are a b = (
+  (λ e. coded_same coded_tested a b ((Equal-is (coded_cmp coded_tested a b)).0 e)),
+  (λ e. ap (same_tested a) (sym e) ∙ ap is_eq (tied_itself (coded_total coded_tested) a)),
+)
 
 -- the size of the goal, up to 20,001; 0 where none is read
 abbrev pub size_read : Option GoalValue → ℕ

@@ -1,16 +1,25 @@
 //! Laws of outcomes.
-ghost use Rattle.std.specs.Prelude.{◌≡◌, List, Option};
+ghost use Rattle.std.specs.Prelude.{◌≡◌, ℕ, true, List, Option};
+ghost use Rattle.std.specs.List.{list_all};
 ghost use Rattle.hol_exec.specs.Setup.{SetupValue};
 ghost use Rattle.hol_notation_commands.specs.Text.{LocalText};
 ghost use Rattle.hol_notation_commands.specs.Reading.{ReadText};
 ghost use Rattle.hol_exec.specs.StateValue.{StateValue, EndedTheory};
 ghost use Rattle.hol_exec.specs.OutcomeValue.{OutcomeValue};
 ghost use Rattle.hol_exec.specs.ReadsValue.{ReadsValue};
-ghost use Rattle.hol_exec.specs.Local.{IsLocalOutcome};
+ghost use Rattle.hol_exec.specs.Tested.{TestedValue, is_marked};
+ghost use Rattle.hol_exec.specs.Local.{LocalValue, IsLocalOutcome};
 ghost use Rattle.hol_exec.specs.At.{IsOutcome};
 
-/// A command has at most one outcome from what it reads, and what a text reads as has at most one from its reads at a state.
+/// A command has at most one outcome from what it reads, where constants have the same names, and what a text reads as has at most one from its reads at a state; each
+/// with one list of tested names.
 pub fn one_outcome()
-    ensures local { (setup : SetupValue) (command : LocalText) (reads : ReadsValue) (a b : OutcomeValue) → IsLocalOutcome setup command reads a → IsLocalOutcome setup command reads b → a ≡ b }
-    ensures at_state { (setup : SetupValue) (earlier : List EndedTheory) (s : StateValue) (value : ReadText) (reads : Option ReadsValue) (a b : OutcomeValue) → IsOutcome setup earlier s value reads a → IsOutcome setup earlier s value reads b → a ≡ b }
+    ensures local { (setup : SetupValue) (names : List (List ℕ)) (command : LocalText) (reads : ReadsValue) (a b : LocalValue) → IsLocalOutcome setup names command reads a → IsLocalOutcome setup names command reads b → a ≡ b }
+    ensures at_state { (setup : SetupValue) (earlier : List EndedTheory) (s : StateValue) (value : ReadText) (reads : Option ReadsValue) (tested more : TestedValue) (a b : OutcomeValue) → IsOutcome setup earlier s value reads tested a → IsOutcome setup earlier s value reads more b → (a ≡ b) × (tested ≡ more) }
+{}
+
+/// An outcome depends on the names of constants by those that were tested for it: where these are the names of constants, or not, as they were, it is the outcome as
+/// well.
+pub fn outcomes_need_the_tested_names_alone()
+    ensures { (setup : SetupValue) (names more : List (List ℕ)) (command : LocalText) (reads : ReadsValue) (given : LocalValue) → IsLocalOutcome setup names command reads given → list_all (is_marked more) given.tested ≡ true → IsLocalOutcome setup more command reads given }
 {}

@@ -15,12 +15,12 @@ mod state;
 pub use hol_notation_commands::{Command, CommandNode, DirectCommand, LocalCommand, Making};
 pub use hol_print::ShownGoal;
 pub use hol_stack::Element;
-pub use laws::one_outcome;
+pub use laws::{one_outcome, outcomes_need_the_tested_names_alone};
 pub use reading::{Parsed, parse, unread};
 pub use reads::{ChangedKeys, CommandKeys, Reads};
 pub use reports::{RefusalKind, Report, entry_text, goals_of, report_of, report_with};
 pub use running::{
-    EarlierTheory, Meter, Outcome, Setup, SetupTable, apply, direct, promise_each, resume,
-    run_local,
+    EarlierTheory, Meter, Outcome, Setup, SetupTable, Tested, agrees, apply, direct, promise_each,
+    resume, run_local,
 };
 pub use state::State;

@@ -16,6 +16,7 @@ mod changed_keys;
 mod closing;
 mod command_keys;
 mod keys;
+mod listed_keys;
 mod names;
 mod same;
 mod standing;
@@ -168,7 +169,7 @@ impl Reads {
     pub fn is_apart(&self, changes: &ChangedKeys) -> bool
         ensures { result ≡ true → AreApart changes.now (keys_of self.now.cited) × AreApart changes.now (keys_of self.now.made) }
     {
-        if !self.names.meets(changes.names()) {
+        if !changes.may_meet(self.names) {
             return true;
         }
         are_apart(&self.cited, changes) && are_apart(&self.made, changes)

@@ -9,6 +9,7 @@ mod registered;
 mod run;
 mod setup;
 mod setup_table;
+mod tested;
 
 pub use direct_outcome::{EarlierTheory, direct, promise_each};
 pub use meter::Meter;
@@ -20,3 +21,4 @@ pub(crate) use registered::RegisteredTac;
 pub use run::run_local;
 pub use setup::Setup;
 pub use setup_table::SetupTable;
+pub use tested::{Tested, agrees};

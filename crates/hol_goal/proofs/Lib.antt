@@ -1,0 +1,2 @@
+pub mod NameParts
+pub mod Testing

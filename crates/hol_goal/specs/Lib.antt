@@ -1,7 +1,10 @@
 pub mod Goal
 pub mod Formulas
 pub mod Achieves
+pub mod Names
+pub mod NamesView
 pub mod Answer
+pub mod UsedView
 pub mod TacNames
 pub mod Arguments
 pub mod ArgumentsView

@@ -12,6 +12,7 @@ use Rattle.hol_conv.specs.Rewriting.{rewrite_turn}
 use Rattle.hol_conv.specs.Once.{rewritten_once, topmost_count}
 use Rattle.hol_conv.proofs.OnceLaws.{topmost_replaced}
 use Rattle.hol_goal.specs.Goal.{GoalValue}
+use Rattle.hol_goal.specs.Answer.{starting}
 use Rattle.hol_goal.specs.Arguments.{TacArgsValue, Nothing, Term, Pair, Theorem, TermAndTheorem, Theorems}
 use Rattle.hol_just.specs.Leaving.{with_nothing, with_theorems}
 use Rattle.hol_just.specs.ConversionTacs.{beta_tac, rules_by, rewritten_by, rewritten_once_by, converted}
@@ -43,12 +44,12 @@ each_falls rules n t u left e =
     let counted : left + topmost_count (λ env m. contractum env rules m) [] t ≡ n = (topmost_replaced rules n left t u e).1 in
     omega (arith, counted)
 
-converted_falls : (o : Outcome) (goal : GoalValue) (turns : ℕ) → Falls turns o → (converted (Some o) goal (record { turns_left = turns })).used.turns_left ≤ turns
+converted_falls : (o : Outcome) (goal : GoalValue) (turns : ℕ) → Falls turns o → (converted (Some o) goal (starting turns)).used.turns_left ≤ turns
 converted_falls (finished u left) goal turns h = h u left refl
 converted_falls limit goal turns h = omega arith
 converted_falls too_large goal turns h = omega arith
 
-pub beta_falls : (args : TacArgsValue) (goal : GoalValue) (turns : ℕ) → (converted (with_nothing args (beta_tac goal turns)) goal (record { turns_left = turns })).used.turns_left ≤ turns
+pub beta_falls : (args : TacArgsValue) (goal : GoalValue) (turns : ℕ) → (converted (with_nothing args (beta_tac goal turns)) goal (starting turns)).used.turns_left ≤ turns
 beta_falls Nothing goal turns = converted_falls (all_turns beta_turn turns goal.conclusion) goal turns (turns_fall beta_turn turns goal.conclusion)
 beta_falls (Term t) goal turns = omega arith
 beta_falls (Pair s t) goal turns = omega arith
@@ -57,7 +58,7 @@ beta_falls (TermAndTheorem t th) goal turns = omega arith
 beta_falls (Theorems ths) goal turns = omega arith
 
 -- by whatever is given for the theorems
-pub rewrite_falls : (args : TacArgsValue) (goal : GoalValue) (turns : ℕ) (givens : List Given → List Given) → (converted (with_theorems args (λ ths. rewritten_by (givens ths) goal turns)) goal (record { turns_left = turns })).used.turns_left ≤ turns
+pub rewrite_falls : (args : TacArgsValue) (goal : GoalValue) (turns : ℕ) (givens : List Given → List Given) → (converted (with_theorems args (λ ths. rewritten_by (givens ths) goal turns)) goal (starting turns)).used.turns_left ≤ turns
 rewrite_falls Nothing goal turns givens = omega arith
 rewrite_falls (Term t) goal turns givens = omega arith
 rewrite_falls (Pair s t) goal turns givens = omega arith
@@ -66,7 +67,7 @@ rewrite_falls (TermAndTheorem t th) goal turns givens = omega arith
 rewrite_falls (Theorems ths) goal turns givens =
     converted_falls (all_turns (rewrite_turn (rules_by (givens ths))) turns goal.conclusion) goal turns (turns_fall (rewrite_turn (rules_by (givens ths))) turns goal.conclusion)
 
-pub once_falls : (args : TacArgsValue) (goal : GoalValue) (turns : ℕ) (givens : List Given → List Given) → (converted (with_theorems args (λ ths. rewritten_once_by (givens ths) goal turns)) goal (record { turns_left = turns })).used.turns_left ≤ turns
+pub once_falls : (args : TacArgsValue) (goal : GoalValue) (turns : ℕ) (givens : List Given → List Given) → (converted (with_theorems args (λ ths. rewritten_once_by (givens ths) goal turns)) goal (starting turns)).used.turns_left ≤ turns
 once_falls Nothing goal turns givens = omega arith
 once_falls (Term t) goal turns givens = omega arith
 once_falls (Pair s t) goal turns givens = omega arith

@@ -15,10 +15,6 @@ use Rattle.hol_conv.specs.Traces.{TraceValue}
 use Rattle.hol_replay.specs.Replays.{trace_equation}
 use Rattle.hol_just.specs.Reasons.{expanded_by}
 
-pub over_basis : (basis : Items) (o : Option Sequent) (th : Theorem) → over basis o ≡ Some th → th.basis ≡ basis
-over_basis basis None th e = absurd (cc)
-over_basis basis (Some s) th e = let is : theorem_on basis s ≡ th = cc in sym (ap (λ (r : Theorem). r.basis) is)
-
 pub over_sequent : (basis : Items) (o : Option Sequent) (th : Theorem) → over basis o ≡ Some th → o ≡ Some th.sequent
 over_sequent basis None th e = absurd (cc)
 over_sequent basis (Some s) th e = let is : theorem_on basis s ≡ th = cc in ap (λ (r : Theorem). Some r.sequent) is

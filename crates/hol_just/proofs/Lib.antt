@@ -30,6 +30,8 @@ pub mod MatchTyped
 pub mod ByTheorems
 pub mod Handed
 pub mod Joined
+pub mod FreshLaws
 pub mod Pieces
+pub mod StripFalls
 pub mod Weaker
 pub mod NeverRefused

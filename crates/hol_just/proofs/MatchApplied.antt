@@ -33,7 +33,8 @@ use Rattle.hol_just.specs.Inference.{from_none, inferred}
 use Rattle.hol_just.specs.Matching.{bound_variables, bound_by, specialized, instance_like, matching}
 use Rattle.hol_just.specs.Reasons.{premise_of}
 use Rattle.hol_just.specs.Over.{CutValue, Infers}
-use Rattle.hol_just.proofs.Expanding.{over_basis, over_sequent}
+use Rattle.hol_derived.proofs.Instances.{over_basis}
+use Rattle.hol_just.proofs.Expanding.{over_sequent}
 use Rattle.hol_just.proofs.MatchAlike.{AreAlike, matched_alike, alike_gives, same_instance}
 use Rattle.hol_just.proofs.MatchStays.{stays_alike}
 use Rattle.hol_just.proofs.MatchApart.{apart_listed}

@@ -1,12 +1,12 @@
 -- When what a function on goals answers is right: it is what its code means, and the step is justified.
-use Rattle.std.specs.Prelude.{◌≡◌, ℕ, Bool, true, ◌&&◌, [], ◌∷◌, Result, Ok, Err}
+use Rattle.std.specs.Prelude.{◌≡◌, ℕ, Bool, true, ◌&&◌, List, [], ◌∷◌, Result, Ok, Err}
 use Rattle.std.specs.List.{list_all}
 use Rattle.std.specs.FinSet as set
 use Rattle.hol_kernel.specs.Items.{Items}
 use Rattle.hol_kernel.specs.Given.{given_sequent}
 use Rattle.hol_kernel.specs.Sequent.{Hyps, no_hyps}
 use Rattle.hol_goal.specs.Goal.{GoalValue}
-use Rattle.hol_goal.specs.Answer.{UsedValue, AnswerResult, Left, Unfit, OutOfTurns, TooLarge, AnswerValue}
+use Rattle.hol_goal.specs.Answer.{UsedValue, starting, AnswerResult, Left, Unfit, OutOfTurns, TooLarge, AnswerValue}
 use Rattle.hol_goal.specs.Achieves.{AreAllowed, assumed}
 use Rattle.hol_goal.specs.Arguments.{TacArgsValue, Nothing, Term, Pair, Theorem, TermAndTheorem, Theorems}
 use Rattle.hol_goal.specs.declared.tac_code.TacCode.{TacCode}
@@ -23,33 +23,33 @@ use Rattle.hol_just.specs.declared.tried.TacFault.TheVariants as fault
 
 -- The answer is the one that is right. Want of memory may come in its place.
 abbrev pub IsResult : AnswerResult → UsedValue → Result Tried TacFault → Type 0
-IsResult (Left goals) used (Ok tried) = (tried.step.goals.items ≡ goals) × (tried.left ≡ used.turns_left)
-IsResult (Left goals) used (Err (fault.Refused left)) = ⊥
-IsResult (Left goals) used (Err fault.TurnLimit) = ⊥
-IsResult (Left goals) used (Err fault.TooLarge) = ⊥
+IsResult (Left goals) used (Ok tried) = (tried.step.goals.items ≡ goals) × ((tried.left ≡ used.turns_left) × (tried.tested.items ≡ used.tested))
+IsResult (Left goals) used (Err (fault.Refused left tested)) = ⊥
+IsResult (Left goals) used (Err (fault.TurnLimit tested)) = ⊥
+IsResult (Left goals) used (Err (fault.TooLarge tested)) = ⊥
 IsResult (Left goals) used (Err fault.Memory) = Unit {0}
 IsResult Unfit used (Ok tried) = ⊥
-IsResult Unfit used (Err (fault.Refused left)) = left ≡ used.turns_left
-IsResult Unfit used (Err fault.TurnLimit) = ⊥
-IsResult Unfit used (Err fault.TooLarge) = ⊥
+IsResult Unfit used (Err (fault.Refused left tested)) = (left ≡ used.turns_left) × (tested.items ≡ used.tested)
+IsResult Unfit used (Err (fault.TurnLimit tested)) = ⊥
+IsResult Unfit used (Err (fault.TooLarge tested)) = ⊥
 IsResult Unfit used (Err fault.Memory) = Unit {0}
 IsResult OutOfTurns used (Ok tried) = ⊥
-IsResult OutOfTurns used (Err (fault.Refused left)) = ⊥
-IsResult OutOfTurns used (Err fault.TurnLimit) = used.turns_left ≡ 0
-IsResult OutOfTurns used (Err fault.TooLarge) = ⊥
+IsResult OutOfTurns used (Err (fault.Refused left tested)) = ⊥
+IsResult OutOfTurns used (Err (fault.TurnLimit tested)) = (used.turns_left ≡ 0) × (tested.items ≡ used.tested)
+IsResult OutOfTurns used (Err (fault.TooLarge tested)) = ⊥
 IsResult OutOfTurns used (Err fault.Memory) = Unit {0}
 IsResult TooLarge used (Ok tried) = ⊥
-IsResult TooLarge used (Err (fault.Refused left)) = ⊥
-IsResult TooLarge used (Err fault.TurnLimit) = ⊥
-IsResult TooLarge used (Err fault.TooLarge) = Unit {0}
+IsResult TooLarge used (Err (fault.Refused left tested)) = ⊥
+IsResult TooLarge used (Err (fault.TurnLimit tested)) = ⊥
+IsResult TooLarge used (Err (fault.TooLarge tested)) = tested.items ≡ used.tested
 IsResult TooLarge used (Err fault.Memory) = Unit {0}
 
 abbrev pub IsAnswered : AnswerValue → Result Tried TacFault → Type 0
 IsAnswered answer result = IsResult answer.result answer.used result
 
--- the same by the code
-abbrev pub AnswersCode : TacCode → TacArgsValue → GoalValue → ℕ → Result Tried TacFault → Type 0
-AnswersCode code args goal turns result = IsAnswered (tac code args goal (record { turns_left = turns })) result
+-- the same by the code, where constants have these names
+abbrev pub AnswersCode : TacCode → TacArgsValue → GoalValue → List (List ℕ) → ℕ → Result Tried TacFault → Type 0
+AnswersCode code args goal names turns result = IsAnswered (tac names code args goal (starting turns)) result
 
 -- ---- the justification
 

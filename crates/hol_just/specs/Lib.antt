@@ -8,6 +8,7 @@ pub mod Over
 pub mod Made
 pub mod Justifies
 pub use Rattle.hol_match.specs.FreeNames
+pub mod Fresh
 pub mod Leaving
 pub mod Replacing
 pub mod EquationTacs

@@ -13,7 +13,7 @@ use Rattle.hol_kernel.specs.Typing.{is_type_at}
 use Rattle.hol_kernel.specs.Given.{Given, given_sequent}
 use Rattle.hol_derived.specs.Rules.{over_variable}
 use Rattle.hol_goal.specs.Goal.{GoalValue}
-use Rattle.hol_just.specs.FreeNames.{free_name}
+use Rattle.hol_just.specs.Fresh.{FreshValue, fresh}
 use Rattle.hol_just.specs.Leaving.{concluding, assuming, goal_terms, theorem_terms}
 use Rattle.hol_just.specs.Replacing.{replace_each}
 
@@ -21,9 +21,12 @@ use Rattle.hol_just.specs.Replacing.{replace_each}
 abbrev pub of_term : GoalValue → Nameless → Abstraction → GoalValue
 of_term goal t x = concluding goal (open_with t 0 x.body)
 
--- GEN_TAC leaves p of `!x. p` at a variable whose name no free variable and no constant of the goal has.
-abbrev pub gen_tac : GoalValue → Option (List GoalValue)
-gen_tac goal = option_map (λ x. of_term goal (free (free_name (goal_terms goal) x.base, x.domain)) x ∷ []) (dest_forall goal.conclusion)
+-- GEN_TAC leaves p of `!x. p` at a variable of a new name, that of nothing in the goal. The names that are tested for it are told too.
+abbrev pub of_fresh : GoalValue → Abstraction → FreshValue → List GoalValue × List (List ℕ)
+of_fresh goal x f = (of_term goal (free (f.name, x.domain)) x ∷ [], f.tested)
+
+abbrev pub gen_tac : List (List ℕ) → GoalValue → Option (List GoalValue × List (List ℕ))
+gen_tac names goal = option_map (λ x. of_fresh goal x (fresh names (goal_terms goal) x.base)) (dest_forall goal.conclusion)
 
 -- X_GEN_TAC leaves p of `!x. p` at a variable of x's type that is not free in the goal.
 abbrev pub of_variable : GoalValue → List ℕ × TypeTree → Abstraction → Option (List GoalValue)
@@ -63,9 +66,12 @@ terms_by th goal = goal_terms goal ++ theorem_terms th
 abbrev pub assuming_of : GoalValue → Nameless → Abstraction → GoalValue
 assuming_of goal t x = assuming goal (open_with t 0 x.body) goal.conclusion
 
--- CHOOSE_TAC assumes p at a variable whose name no free variable and no constant of the goal and the theorem has.
-abbrev pub choose_tac : Given → GoalValue → Option (List GoalValue)
-choose_tac th goal = option_map (λ x. assuming_of goal (free (free_name (terms_by th goal) x.base, x.domain)) x ∷ []) (dest_exists (given_sequent th).concl)
+-- CHOOSE_TAC assumes p at a variable of a new name, that of nothing in the goal and the theorem. The names that are tested for it are told too.
+abbrev pub assuming_fresh : GoalValue → Abstraction → FreshValue → List GoalValue × List (List ℕ)
+assuming_fresh goal x f = (assuming_of goal (free (f.name, x.domain)) x ∷ [], f.tested)
+
+abbrev pub choose_tac : List (List ℕ) → Given → GoalValue → Option (List GoalValue × List (List ℕ))
+choose_tac names th goal = option_map (λ x. assuming_fresh goal x (fresh names (terms_by th goal) x.base)) (dest_exists (given_sequent th).concl)
 
 -- X_CHOOSE_TAC assumes p at a variable of x's type that is free neither in the goal nor in the theorem.
 abbrev pub of_chosen : Given → GoalValue → List ℕ × TypeTree → Abstraction → Option (List GoalValue)

@@ -11,8 +11,8 @@ use Rattle.hol_formulas.specs.Formula.{Abstraction, falsity, is_truth, is_falsit
 use Rattle.hol_kernel.specs.Given.{Given, given_sequent}
 use Rattle.hol_match.specs.Rules.{nodes}
 use Rattle.hol_goal.specs.Goal.{GoalValue}
-use Rattle.hol_goal.specs.Answer.{UsedValue, AnswerValue, Left, OutOfTurns, answered}
-use Rattle.hol_just.specs.FreeNames.{free_name}
+use Rattle.hol_goal.specs.Answer.{UsedValue, testing, AnswerValue, Left, OutOfTurns, answered}
+use Rattle.hol_just.specs.Fresh.{FreshValue, fresh}
 use Rattle.hol_just.specs.Leaving.{concluding, assuming, goal_terms, theorem_terms}
 use Rattle.hol_just.specs.ConnectiveTacs.{conj_tac}
 use Rattle.hol_just.specs.QuantifierTacs.{gen_tac}
@@ -52,79 +52,97 @@ pub record WaitingValue : Type 0 where
 abbrev pub waiting : List Nameless → GoalValue → WaitingValue
 waiting ps goal = record { pieces = ps; goal = goal }
 
--- the new variable: its name is that of no free variable and no constant of the terms `others`, of the pieces and of the goal
-abbrev pub new_variable : List Nameless → List Nameless → GoalValue → Abstraction → Nameless
-new_variable others ps goal x = free (free_name (others ++ (ps ++ goal_terms goal)) x.base, x.domain)
+-- what a new name avoids: the names in terms, and those that constants have
+pub record AvoidedValue : Type 0 where
+  pub terms : List Nameless
+  pub names : List (List ℕ)
 
--- What the pieces p and then ps on the goal become, by what becomes of p: what is to be stripped one after the other, and the turns that are left. Nothing where a turn is to be paid and none is left.
-abbrev pub becomes : List Nameless → Nameless → List Nameless → GoalValue → Piece → ℕ → Option (List WaitingValue × ℕ)
-becomes others p ps goal (Conjuncts a b) turns = Some (waiting (a ∷ b ∷ ps) goal ∷ [], turns)
-becomes others p ps goal (Disjuncts a b) zero = None
-becomes others p ps goal (Disjuncts a b) (suc turns) = Some (waiting (a ∷ ps) goal ∷ waiting (b ∷ ps) goal ∷ [], turns)
-becomes others p ps goal (Property x) turns = Some (waiting (open_with (new_variable others (p ∷ ps) goal x) 0 x.body ∷ ps) goal ∷ [], turns)
-becomes others p ps goal Closing turns = Some ([], turns)
-becomes others p ps goal Dropped turns = Some (waiting ps goal ∷ [], turns)
-becomes others p ps goal Kept turns = Some (waiting ps (assuming goal p goal.conclusion) ∷ [], turns)
+abbrev pub avoiding : List Nameless → List (List ℕ) → AvoidedValue
+avoiding terms names = record { terms = terms; names = names }
+
+-- the new name: that of nothing in the terms that are avoided, in the pieces and in the goal
+abbrev pub new_name : AvoidedValue → List Nameless → GoalValue → Abstraction → FreshValue
+new_name avoided ps goal x = fresh avoided.names (avoided.terms ++ (ps ++ goal_terms goal)) x.base
+
+-- the property is a piece, at a variable of this name
+abbrev pub property_at : List Nameless → GoalValue → Abstraction → FreshValue → UsedValue → List WaitingValue × UsedValue
+property_at ps goal x f used = (waiting (open_with (free (f.name, x.domain)) 0 x.body ∷ ps) goal ∷ [], testing f.tested used)
+
+-- each disjunct is a piece on a goal of its own, where a turn is left to be paid
+abbrev pub split_by : Nameless → Nameless → List Nameless → GoalValue → List (List ℕ) → ℕ → Option (List WaitingValue × UsedValue)
+split_by a b ps goal tested zero = None
+split_by a b ps goal tested (suc turns) = Some (waiting (a ∷ ps) goal ∷ waiting (b ∷ ps) goal ∷ [], record { turns_left = turns; tested = tested })
+
+-- What the pieces p and then ps on the goal become, by what becomes of p: what is to be stripped one after the other, and what may still be used. Nothing where a turn is to be
+-- paid and none is left.
+abbrev pub becomes : AvoidedValue → Nameless → List Nameless → GoalValue → Piece → UsedValue → Option (List WaitingValue × UsedValue)
+becomes avoided p ps goal (Conjuncts a b) used = Some (waiting (a ∷ b ∷ ps) goal ∷ [], used)
+becomes avoided p ps goal (Disjuncts a b) used = split_by a b ps goal used.tested used.turns_left
+becomes avoided p ps goal (Property x) used = Some (property_at ps goal x (new_name avoided (p ∷ ps) goal x) used)
+becomes avoided p ps goal Closing used = Some ([], used)
+becomes avoided p ps goal Dropped used = Some (waiting ps goal ∷ [], used)
+becomes avoided p ps goal Kept used = Some (waiting ps (assuming goal p goal.conclusion) ∷ [], used)
 
 -- ---- the goals that are left
 
--- the goals and the turns that are left, or the turns run out
+-- the goals and what may still be used, or the turns run out
 pub data Stripped : Type 0 where
-  Leaves : List GoalValue → ℕ → Stripped
-  RunsOut : Stripped
+  Leaves : List GoalValue → UsedValue → Stripped
+  RunsOut : List (List ℕ) → Stripped
 
 abbrev pub before_goals : List GoalValue → Stripped → Stripped
-before_goals goals (Leaves more turns) = Leaves (goals ++ more) turns
-before_goals goals RunsOut = RunsOut
+before_goals goals (Leaves more used) = Leaves (goals ++ more) used
+before_goals goals (RunsOut tested) = RunsOut tested
 
--- the goals of the one and then those of the other, which has the turns that the one leaves
-abbrev pub and_also : Stripped → (ℕ → Stripped) → Stripped
-and_also (Leaves goals turns) other = before_goals goals (other turns)
-and_also RunsOut other = RunsOut
+-- the goals of the one and then those of the other, which may use what the one leaves
+abbrev pub and_also : Stripped → (UsedValue → Stripped) → Stripped
+and_also (Leaves goals used) other = before_goals goals (other used)
+and_also (RunsOut tested) other = RunsOut tested
 
 -- one after the other
-abbrev pub strip_each : (WaitingValue → ℕ → Stripped) → List WaitingValue → ℕ → Stripped
-strip_each f [] turns = Leaves [] turns
-strip_each f (w ∷ ws) turns = and_also (f w turns) (strip_each f ws)
+abbrev pub strip_each : (WaitingValue → UsedValue → Stripped) → List WaitingValue → UsedValue → Stripped
+strip_each f [] used = Leaves [] used
+strip_each f (w ∷ ws) used = and_also (f w used) (strip_each f ws)
 
-abbrev pub strip_parts : (WaitingValue → ℕ → Stripped) → Option (List WaitingValue × ℕ) → Stripped
-strip_parts f None = RunsOut
-strip_parts f (Some parts) = strip_each f parts.0 parts.1
+abbrev pub strip_parts : (WaitingValue → UsedValue → Stripped) → List (List ℕ) → Option (List WaitingValue × UsedValue) → Stripped
+strip_parts f tested None = RunsOut tested
+strip_parts f tested (Some parts) = strip_each f parts.0 parts.1
 
-abbrev pub strip_first : (WaitingValue → ℕ → Stripped) → List Nameless → List Nameless → GoalValue → ℕ → Stripped
-strip_first f others [] goal turns = Leaves (goal ∷ []) turns
-strip_first f others (p ∷ ps) goal turns = strip_parts f (becomes others p ps goal (piece goal p) turns)
+abbrev pub strip_first : (WaitingValue → UsedValue → Stripped) → AvoidedValue → List Nameless → GoalValue → UsedValue → Stripped
+strip_first f avoided [] goal used = Leaves (goal ∷ []) used
+strip_first f avoided (p ∷ ps) goal used = strip_parts f used.tested (becomes avoided p ps goal (piece goal p) used)
 
 -- in at most so many steps
-abbrev pub strip_in : ℕ → List Nameless → WaitingValue → ℕ → Stripped
-strip_in zero others w turns = Leaves (w.goal ∷ []) turns
-strip_in (suc steps) others w turns = strip_first (strip_in steps others) others w.pieces w.goal turns
+abbrev pub strip_in : ℕ → AvoidedValue → WaitingValue → UsedValue → Stripped
+strip_in zero avoided w used = Leaves (w.goal ∷ []) used
+strip_in (suc steps) avoided w used = strip_first (strip_in steps avoided) avoided w.pieces w.goal used
 
 -- No more steps are needed than the pieces have nodes, since what becomes of a piece has fewer: `strip_goes_by_pieces` of laws.rt.
 abbrev pub all_nodes : List Nameless → ℕ
 all_nodes [] = 0
 all_nodes (p ∷ ps) = nodes p + all_nodes ps
 
-abbrev pub strip : List Nameless → WaitingValue → ℕ → Stripped
-strip others w turns = strip_in (all_nodes w.pieces) others w turns
+abbrev pub strip : AvoidedValue → WaitingValue → UsedValue → Stripped
+strip avoided w used = strip_in (all_nodes w.pieces) avoided w used
 
 -- ---- the functions
 
 -- STRIP_ASSUME_TAC assumes the parts of a theorem.
-abbrev pub strip_assume_tac : Given → GoalValue → ℕ → Option Stripped
-strip_assume_tac th goal turns = Some (strip (theorem_terms th) (waiting ((given_sequent th).concl ∷ []) goal) turns)
+abbrev pub strip_assume_tac : List (List ℕ) → Given → GoalValue → UsedValue → Option Stripped
+strip_assume_tac names th goal used = Some (strip (avoiding (theorem_terms th) names) (waiting ((given_sequent th).concl ∷ []) goal) used)
 
 -- STRIP_TAC is GEN_TAC, or CONJ_TAC, or assumes the parts of p, of `p ==> q`, which leaves q, and of `~p`, which leaves F.
 abbrev pub antecedent : Nameless → Option (Nameless × Nameless)
 antecedent w = option_or (dest_imp w) (option_map (λ p. (p, falsity)) (dest_neg w))
 
-abbrev pub strip_tac : GoalValue → ℕ → Option Stripped
-strip_tac goal turns =
-    option_or (option_map (λ goals. Leaves goals turns) (option_or (gen_tac goal) (conj_tac goal)))
-    (option_map (λ r. strip [] (waiting (r.0 ∷ []) (concluding goal r.1)) turns) (antecedent goal.conclusion))
+abbrev pub strip_tac : List (List ℕ) → GoalValue → UsedValue → Option Stripped
+strip_tac names goal used =
+    option_or (option_map (λ r. Leaves r.0 (testing r.1 used)) (gen_tac names goal))
+    (option_or (option_map (λ goals. Leaves goals used) (conj_tac goal))
+    (option_map (λ r. strip (avoiding [] names) (waiting (r.0 ∷ []) (concluding goal r.1)) used) (antecedent goal.conclusion)))
 
 -- the answer: where turns run out none is left
 abbrev pub stripped : Option Stripped → UsedValue → AnswerValue
 stripped None used = answered None used
-stripped (Some (Leaves goals turns)) used = record { result = Left goals; used = record used { turns_left = turns } }
-stripped (Some RunsOut) used = record { result = OutOfTurns; used = record used { turns_left = 0 } }
+stripped (Some (Leaves goals left)) used = record { result = Left goals; used = left }
+stripped (Some (RunsOut tested)) used = record { result = OutOfTurns; used = record { turns_left = 0; tested = tested } }

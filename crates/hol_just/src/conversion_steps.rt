@@ -9,17 +9,17 @@ use crate::cursor::Cursor;
 use crate::refusals::{made_in_equal, made_in_kernel};
 use hol_conv::Trace;
 use hol_derived::Lemmas;
-use hol_derived::applied::truth;
 use hol_equal::sym;
 use hol_kernel::Thm;
 use hol_replay::replay;
 use std::alloc::{AllocError, Global};
 
 /// TRUTH.
-pub(crate) fn true_formula(alloc: Global, thms: &mut Cursor) -> Result<(), AllocError>
+pub(crate) fn true_formula(lemmas: &Lemmas, thms: &mut Cursor) -> Result<(), AllocError>
+    requires { lemmas.now ≡ thms.old.basis }
     ensures { OnOk result (Infers (from_none true_sequent) thms.old thms.new) }
 {
-    let thm = truth(alloc, thms.basis())?;
+    let thm = lemmas.truth()?;
     thms.put(thm)
 }
 

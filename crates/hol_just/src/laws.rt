@@ -4,11 +4,13 @@ ghost use Rattle.std.specs.FinSet as set;
 ghost use Rattle.hol_terms.specs.Nameless.{Nameless};
 ghost use Rattle.hol_kernel.specs.Items.{Items};
 ghost use Rattle.hol_kernel.specs.Sequent.{Hyps, only_hyp};
+ghost use Rattle.hol_goal.specs.Answer.{UsedValue};
 ghost use Rattle.hol_goal.specs.Goal.{GoalValue};
+ghost use Rattle.hol_just.specs.Fresh.{fresh, IsNewName};
 ghost use Rattle.hol_just.specs.Gives.{moved};
 ghost use Rattle.hol_just.specs.Openings.{OpeningGoesByQuantifiers};
 ghost use Rattle.hol_just.specs.Justifies.{goal_at};
-ghost use Rattle.hol_just.specs.Strip.{piece, waiting, becomes, Leaves, strip_parts, strip};
+ghost use Rattle.hol_just.specs.Strip.{AvoidedValue, piece, waiting, becomes, Leaves, strip_parts, strip};
 ghost use Rattle.hol_just.specs.Valid.{IsValid};
 ghost use Rattle.hol_just.specs.declared.reason.Move.{Move};
 
@@ -55,6 +57,11 @@ pub fn opening_goes_by_quantifiers()
 /// Stripping goes by pieces: what is left of pieces is what is left of what the first one becomes, and turns run out where none is left to pay for that. So the number of steps that the
 /// definition counts is always enough.
 pub fn strip_goes_by_pieces()
-    ensures none { (others : List Nameless) (goal : GoalValue) (turns : ℕ) → strip others (waiting [] goal) turns ≡ Leaves (goal ∷ []) turns }
-    ensures first { (others : List Nameless) (p : Nameless) (ps : List Nameless) (goal : GoalValue) (turns : ℕ) → strip others (waiting (p ∷ ps) goal) turns ≡ strip_parts (strip others) (becomes others p ps goal (piece goal p) turns) }
+    ensures none { (avoided : AvoidedValue) (goal : GoalValue) (used : UsedValue) → strip avoided (waiting [] goal) used ≡ Leaves (goal ∷ []) used }
+    ensures first { (avoided : AvoidedValue) (p : Nameless) (ps : List Nameless) (goal : GoalValue) (used : UsedValue) → strip avoided (waiting (p ∷ ps) goal) used ≡ strip_parts (strip avoided) used.tested (becomes avoided p ps goal (piece goal p) used) }
+{}
+
+/// A new name is that of no free variable and no constant of the terms, and of no constant that stands: so the number of names that the definition tests is always enough.
+pub fn fresh_names_are_new()
+    ensures { (names : List (List ℕ)) (avoid : List Nameless) (base : List ℕ) → IsNewName names avoid (fresh names avoid base) }
 {}

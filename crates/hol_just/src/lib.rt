@@ -29,8 +29,9 @@ pub use hypotheses::are_assumed;
 pub use just::Just;
 pub use justifying::justify;
 pub use laws::{
-    none_is_valid, opening_goes_by_quantifiers, strip_goes_by_pieces, valid_at_a_place,
-    valid_from_assumption, valid_one_after_the_other, valid_under, validity_is_a_proposition,
+    fresh_names_are_new, none_is_valid, opening_goes_by_quantifiers, strip_goes_by_pieces,
+    valid_at_a_place, valid_from_assumption, valid_one_after_the_other, valid_under,
+    validity_is_a_proposition,
 };
 pub use reason::{Move, Reason};
 pub use tried::{Step, TacFault, Tried};

@@ -59,7 +59,7 @@ pub(crate) fn infer(
         Reason::Replacement(v, m) => replacement(alloc, v, m, thms),
         Reason::Specialization(t) => specialization(alloc, t, lemmas, thms),
         Reason::Choice(v) => choice(alloc, v, lemmas, thms),
-        Reason::Truth => true_formula(alloc, thms),
+        Reason::Truth => true_formula(lemmas, thms),
         Reason::Conversion(trace) => conversion(alloc, trace, lemmas, thms),
         Reason::Matching(given, formula, t) => matching(alloc, given, formula, t, lemmas, thms),
     }

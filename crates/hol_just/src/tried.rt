@@ -4,7 +4,9 @@ ghost use Rattle.hol_just.specs.declared.tried.TacFault.TheVariants.{Memory};
 
 use crate::just::Just;
 use hol_goal::{Goal, copies};
+use hol_types::Name;
 use std::alloc::{AllocError, AllocFailed, Global};
+use std::fmt;
 use thiserror::Error;
 
 /// The goals that are left of a goal, and why they are.
@@ -36,23 +38,36 @@ pub struct Tried {
     pub step: Step,
     /// The turns left.
     pub left: u32,
+    /// The names that were tested, in order.
+    pub tested: Vec<Name>,
 }
 
-/// Why a function on goals did nothing.
-#[derive(Clone, Copy, Debug, Error, PartialEq, Eq)]
+/// Why a function on goals did nothing. All but the last have the names that were tested, in order.
+#[derive(Drop, Error)]
 pub enum TacFault {
     /// The function doesn't fit the goal, or takes other arguments. The turns left.
     #[error("the goal or the arguments don't fit")]
-    Refused(u32),
+    Refused(u32, Vec<Name>),
     /// A turn was to be paid, and none was left.
     #[error("no turn is left")]
-    TurnLimit,
+    TurnLimit(Vec<Name>),
     /// A turn made a term of over 20,000 nodes.
     #[error("a term is too large")]
-    TooLarge,
+    TooLarge(Vec<Name>),
     /// Memory is short.
     #[error("no memory")]
     Memory,
+}
+
+impl fmt::Debug for TacFault {
+    fn fmt<W: fmt::Write>(&self, f: &mut fmt::Formatter<W>) -> fmt::Result {
+        match self {
+            TacFault::Refused(left, _) => write!(f, "Refused({left})"),
+            TacFault::TurnLimit(_) => write!(f, "TurnLimit"),
+            TacFault::TooLarge(_) => write!(f, "TooLarge"),
+            TacFault::Memory => write!(f, "Memory"),
+        }
+    }
 }
 
 impl From<AllocError> for TacFault {

@@ -1,3 +1,4 @@
 pub mod Applied
 pub mod Reduced
 pub mod Patterns
+pub mod Declared

@@ -39,9 +39,9 @@ fn are_copied(alloc: Global, reads: &Reads, outcome: &Outcome) -> Result<bool, A
     Ok(are_reads_copied(alloc, reads)? && is_outcome_copied(alloc, outcome)?)
 }
 
-// The same of the command's outcome, which is carried out.
+/// The same of the command's outcome, which is then carried out: without memory the state stays.
 #[tactic(auto, using(crate::proofs::Applied::local_outcome_applies))]
-fn is_carried_out(
+pub(crate) fn is_carried_out(
     alloc: Global,
     meter: &mut Meter,
     command: &LocalCommand,
@@ -51,9 +51,10 @@ fn is_carried_out(
     requires keys { AreKeyed (local_text command.now) reads.now }
     requires reads { reads.now ≡ reads_of (local_text command.now) state.old }
 {
-    let outcome = run_local(alloc, meter, command, reads)?;
+    let (outcome, _tested) = run_local(alloc, meter, command, reads, state.env().names())?;
+    let copied = are_copied(alloc, reads, &outcome)?;
     apply(alloc, state, &outcome)?;
-    are_copied(alloc, reads, &outcome)
+    Ok(copied)
 }
 
 fn is_making_copied(alloc: Global, making: &Making) -> Result<bool, AllocError> {
@@ -136,7 +137,8 @@ fn first_unmet(alloc: Global, meter: &mut Meter) -> Result<&'static str, AllocEr
     unmet(alloc, meter, &mut state)
 }
 
-fn setup(alloc: Global, registry: Registry) -> Result<Setup, AllocError> {
+/// The set-up of these functions, for commands of ten turns.
+pub(crate) fn setup(alloc: Global, registry: Registry) -> Result<Setup, AllocError> {
     let prelude = Rc::new(alloc, Prelude::new(alloc)?)?;
     Setup::new(alloc, registry, prelude, 10)
 }

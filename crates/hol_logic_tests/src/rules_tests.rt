@@ -4,7 +4,7 @@ ghost use Rattle.std.specs.Prelude.{◌≡◌, IfOk};
 
 use crate::written::Written;
 use hol_bool::{
-    choose, conj, contr, disch, disj_cases, disj1, disj2, eqf_intro, eqt_intro, exists, generalize,
+    Lemmas, choose, contr, disch, disj_cases, disj1, disj2, eqf_intro, exists, generalize,
     not_intro, undisch,
 };
 use hol_equal::{alpha, ap_term, ap_thm, beta_conv, prove_hyp, subst};
@@ -121,11 +121,12 @@ impl Row<'_> {
 
     fn of_theorem(&self, a: &Thm) -> Result<bool, Fail> {
         let alloc = self.written.alloc;
+        let mut lemmas = Lemmas::new(alloc, a.basis())?;
         match self.rule {
-            "EQT_INTRO" => self.gives(eqt_intro(alloc, a)),
-            "EQF_INTRO" => self.gives(eqf_intro(alloc, a)),
-            "UNDISCH" => self.gives(undisch(alloc, a)),
-            "NOT_INTRO" => self.gives(not_intro(alloc, a)),
+            "EQT_INTRO" => self.gives(lemmas.eqt_intro(alloc, a)),
+            "EQF_INTRO" => self.gives(eqf_intro(alloc, &mut lemmas, a)),
+            "UNDISCH" => self.gives(undisch(alloc, &mut lemmas, a)),
+            "NOT_INTRO" => self.gives(not_intro(alloc, &mut lemmas, a)),
             _ => Ok(false),
         }
     }
@@ -135,26 +136,28 @@ impl Row<'_> {
         requires third { a.now.basis ≡ c.now.basis }
     {
         let alloc = self.written.alloc;
+        let mut lemmas = Lemmas::new(alloc, a.basis())?;
         match self.rule {
             "TRANS" => self.gives(Thm::trans(alloc, a, b)),
             "MK_COMB" => self.gives(Thm::mk_comb(alloc, a, b)),
             "EQ_MP" => self.gives(Thm::eq_mp(alloc, a, b)),
             "DEDUCT_ANTISYM_RULE" => self.gives(Thm::deduct_antisym(alloc, a, b)),
             "PROVE_HYP" => self.gives(prove_hyp(alloc, a, b)),
-            "CONJ" => self.gives(conj(alloc, a, b)),
-            "DISJ_CASES" => self.gives(disj_cases(alloc, a, b, c)),
+            "CONJ" => self.gives(lemmas.conj(alloc, a, b)),
+            "DISJ_CASES" => self.gives(disj_cases(alloc, &mut lemmas, a, b, c)),
             _ => self.of_theorem(a),
         }
     }
 
     fn with_formula(&self, t: &Term, a: &Thm) -> Result<bool, Fail> {
         let alloc = self.written.alloc;
+        let mut lemmas = Lemmas::new(alloc, a.basis())?;
         match self.rule {
-            "GEN" => self.gives(generalize(alloc, t, a)),
-            "DISCH" => self.gives(disch(alloc, t, a)),
-            "DISJ1" => self.gives(disj1(alloc, a, t)),
-            "DISJ2" => self.gives(disj2(alloc, t, a)),
-            "CONTR" => self.gives(contr(alloc, t, a)),
+            "GEN" => self.gives(generalize(alloc, &mut lemmas, t, a)),
+            "DISCH" => self.gives(disch(alloc, &mut lemmas, t, a)),
+            "DISJ1" => self.gives(disj1(alloc, &mut lemmas, a, t)),
+            "DISJ2" => self.gives(disj2(alloc, &mut lemmas, t, a)),
+            "CONTR" => self.gives(contr(alloc, &mut lemmas, t, a)),
             _ => Ok(false),
         }
     }
@@ -163,13 +166,14 @@ impl Row<'_> {
         requires { a.now.basis ≡ b.now.basis }
     {
         let alloc = self.written.alloc;
+        let mut lemmas = Lemmas::new(alloc, a.basis())?;
         match self.rule {
             "ABS" => self.gives(Thm::abs(alloc, t, a)),
             "BETA" => self.gives(Thm::beta(alloc, a.basis(), t)),
             "BETA_CONV" => self.gives(beta_conv(alloc, a.basis(), t)),
             "AP_TERM" => self.gives(ap_term(alloc, t, a)),
             "AP_THM" => self.gives(ap_thm(alloc, a, t)),
-            "CHOOSE" => self.gives(choose(alloc, t, a, b)),
+            "CHOOSE" => self.gives(choose(alloc, &mut lemmas, t, a, b)),
             _ => self.with_formula(t, a),
         }
     }
@@ -183,10 +187,11 @@ impl Row<'_> {
         requires { a.now.basis ≡ b.now.basis }
     {
         let alloc = self.written.alloc;
+        let mut lemmas = Lemmas::new(alloc, a.basis())?;
         match self.rule {
             "INST" => self.with_pair(s, t, a),
             "ALPHA" => self.gives(alpha(alloc, a.basis(), s, t)),
-            "EXISTS" => self.gives(exists(alloc, s, t, a)),
+            "EXISTS" => self.gives(exists(alloc, &mut lemmas, s, t, a)),
             "SUBST" => self.gives(subst(alloc, a, s, t, b)),
             _ => Ok(false),
         }

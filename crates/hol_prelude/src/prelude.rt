@@ -7,8 +7,8 @@ ghost use Rattle.hol_prelude.specs.Statements.{prelude_statements, prelude_theor
 ghost use Rattle.hol_prelude.specs.Prelude.{named_theorems, prelude_theorems, theorem_in};
 
 use hol_clauses::{
-    and_clauses, eq_clauses, imp_clauses, not_clauses_weak, one_one, onto, or_clauses, refl_clause,
-    truth,
+    Rules, and_clauses, eq_clauses, imp_clauses, not_clauses_weak, one_one, onto, or_clauses,
+    refl_clause,
 };
 use hol_derived::Lemmas;
 use hol_formulas::Postulate;
@@ -44,12 +44,13 @@ impl Prelude {
     pub fn new(alloc: Global) -> Result<Prelude, AllocError>
         ensures { IfOk result (λ prelude. prelude ≡ prelude_theorems) }
     {
+        let mut rules = Rules::new(alloc)?;
         let mut theorems = Vec::new(alloc);
-        add_given(alloc, &mut theorems)?;
-        add_rewrites(alloc, &mut theorems)?;
+        add_given(alloc, &mut rules, &mut theorems)?;
+        add_rewrites(alloc, &mut rules, &mut theorems)?;
         Ok(Prelude {
             theorems,
-            lemmas: Lemmas::all(alloc)?,
+            lemmas: rules.into_lemmas(),
         })
     }
 
@@ -144,51 +145,71 @@ fn add_axioms(alloc: Global, theorems: &mut Vec<(Name, Thm)>) -> Result<(), Allo
 }
 
 // ONE_ONE to TRUTH.
-fn add_functions(alloc: Global, theorems: &mut Vec<(Name, Thm)>) -> Result<(), AllocError>
+fn add_functions(
+    alloc: Global,
+    rules: &mut Rules,
+    theorems: &mut Vec<(Name, Thm)>,
+) -> Result<(), AllocError>
     ensures { IfOk result (λ _. theorems.new.items ≡ theorems.old.items ++ named_theorems (take 4 (drop 11 prelude_statements))) }
 {
-    add(alloc, theorems, "ONE_ONE", one_one(alloc)?)?;
-    add(alloc, theorems, "ONTO", onto(alloc)?)?;
+    add(alloc, theorems, "ONE_ONE", one_one(alloc, rules)?)?;
+    add(alloc, theorems, "ONTO", onto(alloc, rules)?)?;
     add_postulate(alloc, theorems, "INFINITY_AX", Postulate::InfinityAx)?;
-    add(alloc, theorems, "TRUTH", truth(alloc)?)
+    add(alloc, theorems, "TRUTH", rules.truth()?)
 }
 
 // T_DEF to TRUTH.
-fn add_given(alloc: Global, theorems: &mut Vec<(Name, Thm)>) -> Result<(), AllocError>
+fn add_given(
+    alloc: Global,
+    rules: &mut Rules,
+    theorems: &mut Vec<(Name, Thm)>,
+) -> Result<(), AllocError>
     ensures { IfOk result (λ _. theorems.new.items ≡ theorems.old.items ++ named_theorems (take 15 prelude_statements)) }
 {
     add_connectives(alloc, theorems)?;
     add_axioms(alloc, theorems)?;
-    add_functions(alloc, theorems)
+    add_functions(alloc, rules, theorems)
 }
 
 // REFL_CLAUSE to NOT_CLAUSES_WEAK.
-fn add_first_rewrites(alloc: Global, theorems: &mut Vec<(Name, Thm)>) -> Result<(), AllocError>
+fn add_first_rewrites(
+    alloc: Global,
+    rules: &mut Rules,
+    theorems: &mut Vec<(Name, Thm)>,
+) -> Result<(), AllocError>
     ensures { IfOk result (λ _. theorems.new.items ≡ theorems.old.items ++ named_theorems (take 3 (drop 15 prelude_statements))) }
 {
-    add(alloc, theorems, "REFL_CLAUSE", refl_clause(alloc)?)?;
-    add(alloc, theorems, "EQ_CLAUSES", eq_clauses(alloc)?)?;
+    add(alloc, theorems, "REFL_CLAUSE", refl_clause(alloc, rules)?)?;
+    add(alloc, theorems, "EQ_CLAUSES", eq_clauses(alloc, rules)?)?;
     add(
         alloc,
         theorems,
         "NOT_CLAUSES_WEAK",
-        not_clauses_weak(alloc)?,
+        not_clauses_weak(alloc, rules)?,
     )
 }
 
 // AND_CLAUSES to IMP_CLAUSES.
-fn add_last_rewrites(alloc: Global, theorems: &mut Vec<(Name, Thm)>) -> Result<(), AllocError>
+fn add_last_rewrites(
+    alloc: Global,
+    rules: &mut Rules,
+    theorems: &mut Vec<(Name, Thm)>,
+) -> Result<(), AllocError>
     ensures { IfOk result (λ _. theorems.new.items ≡ theorems.old.items ++ named_theorems (drop 18 prelude_statements)) }
 {
-    add(alloc, theorems, "AND_CLAUSES", and_clauses(alloc)?)?;
-    add(alloc, theorems, "OR_CLAUSES", or_clauses(alloc)?)?;
-    add(alloc, theorems, "IMP_CLAUSES", imp_clauses(alloc)?)
+    add(alloc, theorems, "AND_CLAUSES", and_clauses(alloc, rules)?)?;
+    add(alloc, theorems, "OR_CLAUSES", or_clauses(alloc, rules)?)?;
+    add(alloc, theorems, "IMP_CLAUSES", imp_clauses(alloc, rules)?)
 }
 
 // The basic rewrites.
-fn add_rewrites(alloc: Global, theorems: &mut Vec<(Name, Thm)>) -> Result<(), AllocError>
+fn add_rewrites(
+    alloc: Global,
+    rules: &mut Rules,
+    theorems: &mut Vec<(Name, Thm)>,
+) -> Result<(), AllocError>
     ensures { IfOk result (λ _. theorems.new.items ≡ theorems.old.items ++ named_theorems (drop 15 prelude_statements)) }
 {
-    add_first_rewrites(alloc, theorems)?;
-    add_last_rewrites(alloc, theorems)
+    add_first_rewrites(alloc, rules, theorems)?;
+    add_last_rewrites(alloc, rules, theorems)
 }

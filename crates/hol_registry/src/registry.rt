@@ -10,7 +10,7 @@ ghost use Rattle.hol_registry.specs.Refusal.{IsRefusal};
 use crate::entry::Entry;
 use crate::error::RegistryError;
 use crate::named::{self, Named};
-use hol_goal::{Goal, TacArgs, TacCode};
+use hol_goal::{Goal, Names, TacArgs, TacCode};
 use hol_just::{TacFault, Tried};
 use std::alloc::{AllocError, Global};
 
@@ -71,13 +71,14 @@ impl Registry {
         index: usize,
         args: &TacArgs,
         goal: &Goal,
+        names: &Names,
         turns: u32,
     ) -> Result<Tried, TacFault>
         requires index { index < length (table self.now) }
         requires turns { turns ≤ 100000 }
-        ensures answer { IfSome (slice_get (table self.now) index) (λ row. AnswersCode row.1 (args_value args.now) goal.now turns result) }
+        ensures answer { IfSome (slice_get (table self.now) index) (λ row. AnswersCode row.1 (args_value args.now) goal.now names.now turns result) }
         ensures valid { IfOk result (λ tried. IsJustified (args_value args.now) goal.now tried.step) }
     {
-        self.entries[index].call(args, goal, turns)
+        self.entries[index].call(args, goal, names, turns)
     }
 }

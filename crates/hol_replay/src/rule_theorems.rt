@@ -11,7 +11,6 @@ ghost use Rattle.hol_replay.specs.RuleTheorems.{IsRuleTheorem};
 ghost use Rattle.hol_replay.specs.RuleSteps.{IsSame, IsStepped, IsFollowed, AreGeneral, IsEquation, is_taken};
 
 use hol_derived::Lemmas;
-use hol_derived::applied::eqf_intro;
 use hol_equal::applied::{sides_of, unrefused};
 use hol_formulas::{dest_neg, occurrence};
 use hol_kernel::{Basis, Given, Thm};
@@ -138,7 +137,7 @@ fn as_equation(
         return th.copy();
     }
     match dest_neg(th.concl()) {
-        Some(_) => eqf_intro(alloc, th),
+        Some(_) => lemmas.eqf_intro(alloc, th),
         None => lemmas.eqt_intro(alloc, th),
     }
 }

@@ -95,6 +95,10 @@ placed_is basis v r e = subst (IsPlaced basis) (sym e) (by v)
     by (Ok s) = refl
     by (Err x) = tt
 
+-- the same over the items under another name
+pub placed_over_these : (basis own : Items) (r : Result Theorem Refusal) → IsPlaced basis r → own ≡ basis → IsPlaced own r
+placed_over_these basis own r h same = subst (λ (b : Items). IsPlaced b r) (sym same) h
+
 pub placed_step : (by : ForwardRule) (f : Sequent → Option Sequent) (basis : Items) (v : Result Sequent Refusal) (part r : Result Theorem Refusal) → part ≡ placed basis v → r ≡ then_step by f part → r ≡ placed basis (then_by by f v)
 placed_step by f basis v part r e h = h ∙ ap (then_step by f) e ∙ same v
   where

@@ -34,6 +34,10 @@ term_over basis readings place h = by (lookup (nat_eq place) readings) (found_ov
     by (Some (ATerm t)) g = g
     by (Some (AType a)) g = tt
 
+-- the same over the items under another name
+pub term_over_these : (basis own : Items) (readings : ReadingsValue) (place : ℕ) → AreOver basis readings → own ≡ basis → IsTermOver own (term_at readings place)
+term_over_these basis own readings place h same = subst (λ (b : Items). IsTermOver b (term_at readings place)) (sym same) (term_over basis readings place h)
+
 abbrev IsTypeOver : Items → Option TypeTree → Type 0
 IsTypeOver basis None = Unit {0}
 IsTypeOver basis (Some a) = is_type basis a ≡ true

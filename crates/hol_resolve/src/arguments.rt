@@ -2,6 +2,7 @@
 ghost use Rattle.std.specs.Prelude.{◌≡◌, [], IfOk, IsTrue};
 ghost use Rattle.hol_goal.specs.Arguments.{Pair, TermAndTheorem};
 ghost use Rattle.hol_goal.specs.ArgumentsView.{args_value};
+ghost use Rattle.hol_kernel.specs.Items.{no_items};
 ghost use Rattle.hol_just.specs.Answering.{suits};
 ghost use Rattle.hol_terms.specs.Nameless.{nameless};
 ghost use Rattle.hol_resolve.specs.Over.{AreOver, AreWithin};
@@ -14,6 +15,7 @@ use crate::readings::Readings;
 use crate::refusal::Refusal;
 use crate::theorems::theorem_written;
 use crate::written::WrittenArgs;
+use hol_bool::Lemmas;
 use hol_goal::TacArgs;
 use hol_kernel::{Basis, Given, Thm};
 use hol_notation_tactics::ThmExpr;
@@ -22,20 +24,23 @@ use hol_terms::Term;
 use hol_types::Name;
 use std::alloc::{AllocError, Global};
 
-/// What the arguments come to, over a basis that contains those of the theorems that are cited by their names, and over which the readings stand.
+/// What the arguments come to, over a basis that contains those of the theorems that are cited by their names, and over which the readings stand, by the general theorems over
+/// no items.
 pub fn arguments_given(
     alloc: Global,
+    general: &Lemmas,
     written: WrittenArgs<'_>,
     cited: &[(Name, Thm)],
     readings: &Readings,
     basis: &Basis,
 ) -> Result<Result<TacArgs, Refusal>, AllocError>
+    requires general { general.now ≡ no_items }
     requires over { AreOver basis.now (readings_value readings.now) }
     requires within { AreWithin basis.now cited.now }
     ensures value { IfOk result (λ r. result_map args_value r ≡ arguments_given basis.now cited.now (readings_value readings.now) (written_value written.entry)) }
     ensures suits { IfOk result (λ r. IfOk r (λ args. IsTrue (suits (args_value args) basis.now))) }
 {
-    of_form(alloc, written, cited, readings, basis)
+    of_form(alloc, general, written, cited, readings, basis)
 }
 
 // They come to these arguments, or are refused.
@@ -43,11 +48,13 @@ type Arguments = Result<TacArgs, Refusal>;
 
 fn of_form(
     alloc: Global,
+    general: &Lemmas,
     written: WrittenArgs<'_>,
     cited: &[(Name, Thm)],
     readings: &Readings,
     basis: &Basis,
 ) -> Result<Arguments, AllocError>
+    requires general { general.now ≡ no_items }
     requires over { AreOver basis.now (readings_value readings.now) }
     requires within { AreWithin basis.now cited.now }
     ensures { IfOk result (λ r. result_map args_value r ≡ arguments_given basis.now cited.now (readings_value readings.now) (written_value written.entry)) }
@@ -60,16 +67,16 @@ fn of_form(
         },
         WrittenArgs::Pair(first, second) => pair_given(first, second, readings),
         WrittenArgs::Theorem(theorem) => {
-            match theorem_given(alloc, theorem, cited, readings, basis)? {
+            match theorem_given(alloc, general, theorem, cited, readings, basis)? {
                 Ok(th) => Ok(Ok(TacArgs::Theorem(th))),
                 Err(refusal) => Ok(Err(refusal)),
             }
         }
         WrittenArgs::TermAndTheorem(term, theorem) => {
-            with_theorem(alloc, term, theorem, cited, readings, basis)
+            with_theorem(alloc, general, term, theorem, cited, readings, basis)
         }
         WrittenArgs::Theorems(theorems) => {
-            match theorems_given(alloc, theorems, cited, readings, basis)? {
+            match theorems_given(alloc, general, theorems, cited, readings, basis)? {
                 Ok(ths) => Ok(Ok(TacArgs::Theorems(ths))),
                 Err(refusal) => Ok(Err(refusal)),
             }
@@ -96,12 +103,14 @@ fn pair_given(
 
 fn with_theorem(
     alloc: Global,
+    general: &Lemmas,
     term: &Quotation,
     theorem: &ThmExpr,
     cited: &[(Name, Thm)],
     readings: &Readings,
     basis: &Basis,
 ) -> Result<Arguments, AllocError>
+    requires general { general.now ≡ no_items }
     requires over { AreOver basis.now (readings_value readings.now) }
     requires within { AreWithin basis.now cited.now }
     ensures { IfOk result (λ r. result_map args_value r ≡ result_both TermAndTheorem (term_given (readings_value readings.now) term.now) (theorem_given basis.now cited.now (readings_value readings.now) theorem.now)) }
@@ -110,7 +119,7 @@ fn with_theorem(
         Ok(term) => term,
         Err(refusal) => return Ok(Err(refusal)),
     };
-    match theorem_given(alloc, theorem, cited, readings, basis)? {
+    match theorem_given(alloc, general, theorem, cited, readings, basis)? {
         Ok(th) => Ok(Ok(TacArgs::TermAndTheorem(term, th))),
         Err(refusal) => Ok(Err(refusal)),
     }
@@ -129,16 +138,19 @@ fn term_given(term: &Quotation, readings: &Readings) -> Result<Result<Term, Refu
 // The theorem that is written, as what is given.
 fn theorem_given(
     alloc: Global,
+    general: &Lemmas,
     theorem: &ThmExpr,
     cited: &[(Name, Thm)],
     readings: &Readings,
     basis: &Basis,
 ) -> Result<Result<Given, Refusal>, AllocError>
+    requires general { general.now ≡ no_items }
     requires over { AreOver basis.now (readings_value readings.now) }
     requires within { AreWithin basis.now cited.now }
     ensures { IfOk result (λ r. r ≡ theorem_given basis.now cited.now (readings_value readings.now) theorem.now) }
 {
-    match theorem_written(alloc, theorem, cited, readings, basis)? {
+    let mut lemmas = general.widen(alloc, basis)?;
+    match theorem_written(alloc, &mut lemmas, theorem, cited, readings, basis)? {
         Ok(th) => Ok(Ok(Given::theorem(&th)?)),
         Err(refusal) => Ok(Err(refusal)),
     }
@@ -147,18 +159,20 @@ fn theorem_given(
 // The theorems that are written, each after those before it.
 fn theorems_given(
     alloc: Global,
+    general: &Lemmas,
     theorems: &[ThmExpr],
     cited: &[(Name, Thm)],
     readings: &Readings,
     basis: &Basis,
 ) -> Result<Result<Vec<Given>, Refusal>, AllocError>
+    requires general { general.now ≡ no_items }
     requires over { AreOver basis.now (readings_value readings.now) }
     requires within { AreWithin basis.now cited.now }
     ensures { IfOk result (λ r. result_map (λ ths. ths.items) r ≡ theorems_given basis.now cited.now (readings_value readings.now) theorems.now) }
 {
     let mut given = Vec::with_capacity(alloc, theorems.len())?;
     for theorem in theorems {
-        match theorem_given(alloc, theorem, cited, readings, basis)? {
+        match theorem_given(alloc, general, theorem, cited, readings, basis)? {
             Ok(th) => given.push(th)?,
             Err(refusal) => return Ok(Err(refusal)),
         }

@@ -1,9 +1,9 @@
 -- Codes whose functions the program registers.
 use Rattle.std.specs.Prelude.{◌≡◌, ◌+◌, ◌<◌, ◌≤◌, ℕ, Bool, true, false, not, List, [], ◌∷◌, ◌++◌, map, take, length, get_or, bytes_eq, refl, suc, zero, string_bytes}
 use Rattle.std.specs.List.{list_all}
-use Rattle.std.proofs.Common.{ap, ◌∙◌, arith}
+use Rattle.std.proofs.Common.{ap, sym, ◌∙◌, arith}
 use Rattle.std.proofs.lemmas.Bool.{and_parts}
-use Rattle.std.proofs.lemmas.List.{take_all}
+use Rattle.std.proofs.lemmas.List.{take_all, map_more, map-append}
 use Rattle.std.proofs.lemmas.Slice.Eq.{bytes_eq-Decides}
 use Rattle.hol_goal.specs.TacNames.{tac_name}
 use Rattle.hol_goal.specs.declared.tac_code.TacCode.{TacCode}
@@ -32,6 +32,19 @@ names_plain codes rows differ is =
     ap (λ (rs : List (List ℕ × TacCode)). names_differ (map (λ (row : List ℕ × TacCode). row.0) rs)) is
     ∙ ap names_differ (names_of codes)
     ∙ differ
+
+-- one function more is registered, under the name of its code
+pub one_registered : {X W g : _} (entries new : List (Entry X W g)) (entry : Entry X W g) (codes : List TacCode) (i : ℕ) (code : TacCode) (text : List ℕ) → i < length codes → code ≡ get_or codes i code →
+    new ≡ entries ++ entry ∷ [] → row entry ≡ (text, code) → text ≡ tac_name code → map row entries ≡ map row_of (take i codes) → map row new ≡ map row_of (take (i + 1) codes)
+one_registered entries new entry codes i code text lt at pushed is named before =
+    ap (map row) pushed ∙ map-append row entries (entry ∷ []) ∙ (λ j. before j ++ (is ∙ ap (λ (t : List ℕ). (t, code)) named) j ∷ [])
+    ∙ sym (map_more row_of codes i code lt ∙ ap (λ (c : TacCode). map row_of (take i codes) ++ row_of c ∷ []) (sym at))
+
+-- what stands at a place doesn't depend on what is said where nothing does
+pub same_place : (codes : List TacCode) (i : ℕ) (other more : TacCode) → i < length codes → get_or codes i other ≡ get_or codes i more
+same_place [] i other more lt = absurd (omega (arith, lt))
+same_place (code ∷ codes) zero other more lt = refl
+same_place (code ∷ codes) (suc i) other more lt = same_place codes i other more (omega (arith, lt))
 
 -- ---- no name is met again
 

@@ -12,7 +12,7 @@ ghost use Rattle.hol_session.specs.Session.{CountsUp, Finishes, StopsReading, St
 use crate::coded_tac::CodedTac;
 use hol_document::Docs;
 use hol_exec::Setup;
-use hol_goal::{Goal, TacArgs, TacCode};
+use hol_goal::{Goal, Names, TacArgs, TacCode};
 use hol_prelude::Prelude;
 use hol_registry::{Entry, Registry, RegistryError};
 use hol_session::{Fault, Sink, Source, run};
@@ -120,9 +120,9 @@ fn serve_with<R: Source, W: Sink>(
         let coded = CodedTac::new(*code, &prelude)?;
         let tac = Box::new(
             alloc,
-            move |args: &TacArgs, goal: &Goal, turns: u32|
+            move |args: &TacArgs, goal: &Goal, names: &Names, turns: u32|
                 requires { turns ≤ 100000 }
-            { coded.answer(alloc, args, goal, turns) },
+            { coded.answer(alloc, args, goal, names, turns) },
         )?;
         let name = String::from_str(alloc, code.name())?;
         entries.push(Entry::new(name, *code, tac))?;

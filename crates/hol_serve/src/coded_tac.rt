@@ -3,7 +3,7 @@ ghost use Rattle.std.specs.Prelude.{◌≡◌, IfOk};
 ghost use Rattle.hol_goal.specs.ArgumentsView.{args_value};
 ghost use Rattle.hol_just.specs.Answering.{AnswersCode, IsJustified};
 
-use hol_goal::{Goal, TacArgs, TacCode};
+use hol_goal::{Goal, Names, TacArgs, TacCode};
 use hol_just::{TacFault, Tried};
 use hol_prelude::Prelude;
 use hol_tac::tac;
@@ -34,11 +34,12 @@ impl CodedTac {
         alloc: Global,
         args: &TacArgs,
         goal: &Goal,
+        names: &Names,
         turns: u32,
     ) -> Result<Tried, TacFault>
-        ensures answer { AnswersCode self.now.code (args_value args.now) goal.now turns result }
+        ensures answer { AnswersCode self.now.code (args_value args.now) goal.now names.now turns result }
         ensures valid { IfOk result (λ tried. IsJustified (args_value args.now) goal.now tried.step) }
     {
-        tac(alloc, &self.prelude, self.code, args, goal, turns)
+        tac(alloc, &self.prelude, self.code, args, goal, names, turns)
     }
 }

@@ -3,12 +3,13 @@ pub mod ApplicationLaws
 pub mod Instances
 pub mod AssumptionLaws
 pub mod FreshNames
+pub mod FreshSearch
+pub mod FreshSteps
 pub mod TermsBy
 pub mod Templates
 pub mod PieceLaws
 pub mod ProgressLaws
 pub mod WaitingLaws
-pub mod NewBy
 pub mod UnderWay
 pub mod GivenAmong
 pub mod ConvertedGoals

@@ -1,5 +1,5 @@
 -- What becomes of a piece: which kind it is, and that the moves are valid where pieces are assumptions.
-use Rattle.std.specs.Prelude.{◌≡◌, ◌-◌, ℕ, zero, suc, true, false, cond, ◌||◌, List, [], ◌∷◌, ◌++◌, map, reverse, codes, Option, Some, None, Result, Ok, Err, IfOk, refl}
+use Rattle.std.specs.Prelude.{◌≡◌, ◌-◌, ℕ, zero, suc, true, false, cond, ◌||◌, List, [], ◌∷◌, ◌++◌, map, reverse, codes, Some, None, Result, Ok, Err, IfOk, refl}
 use Rattle.std.specs.Option.{option_map, option_or, unwrap_or}
 use Rattle.std.specs.List.{list_any}
 use Rattle.std.proofs.Common.{ap, sym, ◌∙◌, subst, inl, inr, arith}
@@ -18,15 +18,18 @@ use Rattle.hol_kernel.specs.Sequent.{Hyps}
 use Rattle.hol_kernel.proofs.Members.{Among}
 use Rattle.hol_goal.specs.Goal.{GoalValue}
 use Rattle.hol_just.specs.Leaving.{assuming, goal_terms}
-use Rattle.hol_just.specs.Strip.{Piece, Conjuncts, Disjuncts, Property, Closing, Dropped, Kept, plain_piece, piece, WaitingValue, waiting, becomes}
+use Rattle.hol_goal.specs.Answer.{UsedValue}
+use Rattle.hol_goal.specs.UsedView.{used_value}
+use Rattle.hol_just.specs.Strip.{AvoidedValue, split_by, Piece, Conjuncts, Disjuncts, Property, Closing, Dropped, Kept, plain_piece, piece, WaitingValue, waiting, becomes}
 use Rattle.hol_just.specs.Valid.{IsValid}
 use Rattle.hol_just.specs.Justifies.{goal_at, always, holds_given, ClosesByGiven, ClosesByFalsity, LeavesConjuncts, LeavesCases, LeavesChosen}
 use Rattle.hol_just.specs.declared.reason.Move.{Move}
 use Rattle.hol_just.proofs.Validity.{valid_none}
 use Rattle.hol_just.proofs.Weaker.{AreAmong, IsWeaker, valid_weaker, valid_assumed, assumed_allowed}
-use Rattle.hol_steps.specs.Fresh.{AreAlike, AreApart, terms_of}
+use Rattle.hol_steps.specs.Fresh.{AvoidAlike, AreApart, terms_of}
 use Rattle.hol_steps.specs.Parts.{with_pieces, AreParts, ArePartsBy, Becomes}
 use Rattle.hol_steps.specs.declared.pieces.Parts.{Parts}
+use Rattle.hol_steps.specs.declared.pieces.Becoming.{Becoming}
 use Rattle.hol_steps.proofs.TermsBy.{free_in_both}
 
 -- ---- which piece is which
@@ -151,11 +154,11 @@ kept_valid p w extra =
 
 -- ---- parts
 
-module _ (names : List Nameless) (p : Nameless) (w : WaitingValue) (turns : ℕ) (c : Piece) (ws : List WaitingValue) (moves : List Move) (left : ℕ)
-    (is : becomes names p w.pieces w.goal c turns ≡ Some (ws, left))
-    (valid : (extra : Hyps) → AreApart names extra → IsValid always extra moves (with_pieces (waiting (p ∷ w.pieces) w.goal) ∷ []) (map with_pieces ws)) where
-  -- what is made of what waits, in reverse, of the moves and of the turns
-  pub parts_are : (parts : Parts) → ws ≡ reverse parts.waiting.items → parts.just ≡ moves → parts.left ≡ left → AreParts names p w turns c parts
+module _ (avoided : AvoidedValue) (p : Nameless) (w : WaitingValue) (used : UsedValue) (c : Piece) (ws : List WaitingValue) (moves : List Move) (left : UsedValue)
+    (is : becomes avoided p w.pieces w.goal c used ≡ Some (ws, left))
+    (valid : (extra : Hyps) → AreApart avoided.terms extra → IsValid always extra moves (with_pieces (waiting (p ∷ w.pieces) w.goal) ∷ []) (map with_pieces ws)) where
+  -- what is made of what waits, in reverse, of the moves and of the used
+  pub parts_are : (parts : Parts) → ws ≡ reverse parts.waiting.items → parts.just ≡ moves → used_value parts.used ≡ left → AreParts avoided p w used c parts
   parts_are parts all kept same =
       record {
         is = is ∙ (λ i. Some (all i, sym same i));
@@ -163,55 +166,56 @@ module _ (names : List Nameless) (p : Nameless) (w : WaitingValue) (turns : ℕ)
             (subst (λ (vs : List WaitingValue). IsValid always extra moves (with_pieces (waiting (p ∷ w.pieces) w.goal) ∷ []) (map with_pieces vs)) all (valid extra apart));
       }
 
--- an answer that was made of one, where a condition on the names holds
-pub one_answers :
-    {E : Type 0} (r : Result Parts E) (Q : List Nameless → Type 0) (p : Nameless) (w : WaitingValue) (turns : ℕ) (c : Piece) (made new : WaitingValue) (moves : List Move) → made ≡ new →
-    ((names : List Nameless) → Q names → becomes names p w.pieces w.goal c turns ≡ Some (new ∷ [], turns)) →
-    ((names : List Nameless) → Q names → (extra : Hyps) → AreApart names extra → IsValid always extra moves (with_pieces (waiting (p ∷ w.pieces) w.goal) ∷ []) (with_pieces new ∷ [])) →
-    IfOk r (λ parts. parts.waiting.items ≡ made ∷ []) → IfOk r (λ parts. parts.just ≡ moves) → IfOk r (λ parts. parts.left ≡ turns) →
-    IfOk r (λ parts. (names : List Nameless) → Q names → AreParts names p w turns c parts)
-one_answers (Ok parts) Q p w turns c made new moves same is valid all kept left =
-    λ names q. parts_are names p w turns c (new ∷ []) moves turns (is names q) (valid names q) parts (ap reverse (sym (all ∙ ap (λ v. v ∷ []) same))) kept left
-one_answers (Err e) Q p w turns c made new moves same is valid all kept left = all
+-- an answer that was made of one, where a condition on what is avoided holds, and names were tested for it
+pub freeing_answers :
+    {E : Type 0} (r : Result Parts E) (Q : AvoidedValue → Type 0) (p : Nameless) (w : WaitingValue) (used left : UsedValue) (c : Piece) (made new : WaitingValue) (moves : List Move) → made ≡ new →
+    ((avoided : AvoidedValue) → Q avoided → becomes avoided p w.pieces w.goal c used ≡ Some (new ∷ [], left)) →
+    ((avoided : AvoidedValue) → Q avoided → (extra : Hyps) → AreApart avoided.terms extra → IsValid always extra moves (with_pieces (waiting (p ∷ w.pieces) w.goal) ∷ []) (with_pieces new ∷ [])) →
+    IfOk r (λ parts. parts.waiting.items ≡ made ∷ []) → IfOk r (λ parts. parts.just ≡ moves) → (told : UsedValue) → IfOk r (λ parts. used_value parts.used ≡ told) → told ≡ left →
+    IfOk r (λ parts. (avoided : AvoidedValue) → Q avoided → AreParts avoided p w used c parts)
+freeing_answers (Ok parts) Q p w used left c made new moves same is valid all kept told uses told_is =
+    λ avoided q. parts_are avoided p w used c (new ∷ []) moves left (is avoided q) (valid avoided q) parts (ap reverse (sym (all ∙ ap (λ v. v ∷ []) same))) kept (uses ∙ told_is)
+freeing_answers (Err e) Q p w used left c made new moves same is valid all kept told uses told_is = all
 
--- the same for all names
+-- the same for all that may be avoided
 pub one_always :
-    {E : Type 0} (r : Result Parts E) (p : Nameless) (w : WaitingValue) (turns : ℕ) (c : Piece) (made new : WaitingValue) (moves : List Move) → made ≡ new →
-    ((names : List Nameless) → becomes names p w.pieces w.goal c turns ≡ Some (new ∷ [], turns)) →
+    {E : Type 0} (r : Result Parts E) (p : Nameless) (w : WaitingValue) (used : UsedValue) (c : Piece) (made new : WaitingValue) (moves : List Move) → made ≡ new →
+    ((avoided : AvoidedValue) → becomes avoided p w.pieces w.goal c used ≡ Some (new ∷ [], used)) →
     ((extra : Hyps) → IsValid always extra moves (with_pieces (waiting (p ∷ w.pieces) w.goal) ∷ []) (with_pieces new ∷ [])) →
-    IfOk r (λ parts. parts.waiting.items ≡ made ∷ []) → IfOk r (λ parts. parts.just ≡ moves) → IfOk r (λ parts. parts.left ≡ turns) →
-    IfOk r (λ parts. (names : List Nameless) → AreParts names p w turns c parts)
-one_always (Ok parts) p w turns c made new moves same is valid all kept left =
-    λ names. parts_are names p w turns c (new ∷ []) moves turns (is names) (λ extra apart. valid extra) parts (ap reverse (sym (all ∙ ap (λ v. v ∷ []) same))) kept left
-one_always (Err e) p w turns c made new moves same is valid all kept left = all
+    IfOk r (λ parts. parts.waiting.items ≡ made ∷ []) → IfOk r (λ parts. parts.just ≡ moves) → IfOk r (λ parts. used_value parts.used ≡ used) →
+    IfOk r (λ parts. (avoided : AvoidedValue) → AreParts avoided p w used c parts)
+one_always (Ok parts) p w used c made new moves same is valid all kept left =
+    λ avoided. parts_are avoided p w used c (new ∷ []) moves used (is avoided) (λ extra apart. valid extra) parts (ap reverse (sym (all ∙ ap (λ v. v ∷ []) same))) kept left
+one_always (Err e) p w used c made new moves same is valid all kept left = all
 
 -- parts that were made of two
 pub two_always :
-    (parts : Parts) (p : Nameless) (w : WaitingValue) (turns left : ℕ) (c : Piece) (made_first made_second first second : WaitingValue) (moves : List Move) → made_first ≡ first → made_second ≡ second →
-    ((names : List Nameless) → becomes names p w.pieces w.goal c turns ≡ Some (first ∷ second ∷ [], left)) →
+    (parts : Parts) (p : Nameless) (w : WaitingValue) (used left : UsedValue) (c : Piece) (made_first made_second first second : WaitingValue) (moves : List Move) → made_first ≡ first → made_second ≡ second →
+    ((avoided : AvoidedValue) → becomes avoided p w.pieces w.goal c used ≡ Some (first ∷ second ∷ [], left)) →
     ((extra : Hyps) → IsValid always extra moves (with_pieces (waiting (p ∷ w.pieces) w.goal) ∷ []) (with_pieces first ∷ with_pieces second ∷ [])) →
-    parts.waiting.items ≡ made_second ∷ made_first ∷ [] → parts.just ≡ moves → parts.left ≡ left → (names : List Nameless) → AreParts names p w turns c parts
-two_always parts p w turns left c made_first made_second first second moves one two is valid all kept same names =
-    parts_are names p w turns c (first ∷ second ∷ []) moves left (is names) (λ extra apart. valid extra) parts (ap reverse (sym (all ∙ (λ i. two i ∷ one i ∷ [])))) kept same
+    parts.waiting.items ≡ made_second ∷ made_first ∷ [] → parts.just ≡ moves → used_value parts.used ≡ left → (avoided : AvoidedValue) → AreParts avoided p w used c parts
+two_always parts p w used left c made_first made_second first second moves one two is valid all kept same avoided =
+    parts_are avoided p w used c (first ∷ second ∷ []) moves left (is avoided) (λ extra apart. valid extra) parts (ap reverse (sym (all ∙ (λ i. two i ∷ one i ∷ [])))) kept same
 
 -- nothing is left of it
 pub none_always :
-    (parts : Parts) (p : Nameless) (w : WaitingValue) (turns : ℕ) (moves : List Move) → ((extra : Hyps) → IsValid always extra moves (with_pieces (waiting (p ∷ w.pieces) w.goal) ∷ []) []) →
-    parts.waiting.items ≡ [] → parts.just ≡ moves → parts.left ≡ turns → (names : List Nameless) → AreParts names p w turns Closing parts
-none_always parts p w turns moves valid all kept same names =
-    parts_are names p w turns Closing [] moves turns refl (λ extra apart. valid extra) parts (ap reverse (sym all)) kept same
+    (parts : Parts) (p : Nameless) (w : WaitingValue) (used : UsedValue) (moves : List Move) → ((extra : Hyps) → IsValid always extra moves (with_pieces (waiting (p ∷ w.pieces) w.goal) ∷ []) []) →
+    parts.waiting.items ≡ [] → parts.just ≡ moves → used_value parts.used ≡ used → (avoided : AvoidedValue) → AreParts avoided p w used Closing parts
+none_always parts p w used moves valid all kept same avoided =
+    parts_are avoided p w used Closing [] moves used refl (λ extra apart. valid extra) parts (ap reverse (sym all)) kept same
 
 -- parts of another name for the kind
 pub kind_is :
-    {E : Type 0} (r : Result Parts E) (p : Nameless) (w : WaitingValue) (turns : ℕ) (c d : Piece) → c ≡ d → IfOk r (λ parts. (names : List Nameless) → AreParts names p w turns c parts) →
-    IfOk r (λ parts. (names : List Nameless) → AreParts names p w turns d parts)
-kind_is r p w turns c d e h = subst (λ (k : Piece). IfOk r (λ parts. (names : List Nameless) → AreParts names p w turns k parts)) e h
+    {E : Type 0} (r : Result Parts E) (p : Nameless) (w : WaitingValue) (used : UsedValue) (c d : Piece) → c ≡ d → IfOk r (λ parts. (avoided : AvoidedValue) → AreParts avoided p w used c parts) →
+    IfOk r (λ parts. (avoided : AvoidedValue) → AreParts avoided p w used d parts)
+kind_is r p w used c d e h = subst (λ (k : Piece). IfOk r (λ parts. (avoided : AvoidedValue) → AreParts avoided p w used k parts)) e h
 
 -- ---- disjunctions cost a turn
 
-pub turn_paid : (names : List Nameless) (p a b : Nameless) (w : WaitingValue) (turns left : ℕ) → (turns ≡ 0 → ⊥) → left ≡ turns - 1 → becomes names p w.pieces w.goal (Disjuncts a b) turns ≡ Some (waiting (a ∷ w.pieces) w.goal ∷ waiting (b ∷ w.pieces) w.goal ∷ [], left)
-turn_paid names p a b w zero left some is = absurd (some refl)
-turn_paid names p a b w (suc n) left some is = let same : n ≡ left = omega (arith, is) in λ i. Some (waiting (a ∷ w.pieces) w.goal ∷ waiting (b ∷ w.pieces) w.goal ∷ [], same i)
+pub turn_paid : (a b : Nameless) (w : WaitingValue) (tested : List (List ℕ)) (turns left : ℕ) → (turns ≡ 0 → ⊥) → left ≡ turns - 1 →
+    split_by a b w.pieces w.goal tested turns ≡ Some (waiting (a ∷ w.pieces) w.goal ∷ waiting (b ∷ w.pieces) w.goal ∷ [], record { turns_left = left; tested = tested })
+turn_paid a b w tested zero left some is = absurd (some refl)
+turn_paid a b w tested (suc n) left some is = let same : n ≡ left = omega (arith, is) in λ i. Some (waiting (a ∷ w.pieces) w.goal ∷ waiting (b ∷ w.pieces) w.goal ∷ [], record { turns_left = same i; tested = tested })
 
 -- ---- what is no compound formula
 
@@ -230,9 +234,9 @@ module _ (goal : GoalValue) (p : Nameless) where
 
 -- ---- what becomes of it, whichever it is
 
-module _ (others : List Nameless) (p : Nameless) (w : WaitingValue) (turns : ℕ) where
-  pub become_as : (c : Piece) (parts : Parts) → piece w.goal p ≡ c → ((names : List Nameless) → AreAlike others names → AreParts names p w turns c parts) → ArePartsBy others p w turns (piece w.goal p) parts
-  become_as c parts is h names alike = subst (λ (k : Piece). AreParts names p w turns k parts) (sym is) (h names alike)
+module _ (others : AvoidedValue) (p : Nameless) (w : WaitingValue) (used : UsedValue) where
+  pub become_as : (c : Piece) (parts : Parts) → piece w.goal p ≡ c → ((avoided : AvoidedValue) → AvoidAlike others avoided → AreParts avoided p w used c parts) → ArePartsBy others p w used (piece w.goal p) parts
+  become_as c parts is h avoided alike = subst (λ (k : Piece). AreParts avoided p w used k parts) (sym is) (h avoided alike)
 
-  pub becomes_as : {E : Type 0} (r : Result (Option Parts) E) (c : Piece) → piece w.goal p ≡ c → IfOk r (Becomes others p w turns c) → IfOk r (Becomes others p w turns (piece w.goal p))
-  becomes_as r c is h = subst (λ (k : Piece). IfOk r (Becomes others p w turns k)) (sym is) h
+  pub becomes_as : {E : Type 0} (r : Result Becoming E) (c : Piece) → piece w.goal p ≡ c → IfOk r (Becomes others p w used c) → IfOk r (Becomes others p w used (piece w.goal p))
+  becomes_as r c is h = subst (λ (k : Piece). IfOk r (Becomes others p w used k)) (sym is) h

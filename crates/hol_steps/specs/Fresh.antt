@@ -9,13 +9,17 @@ use Rattle.hol_subst.specs.FreeName.{is_taken}
 use Rattle.hol_subst.specs.Variant.{is_free_in}
 use Rattle.hol_formulas.specs.Formula.{Abstraction}
 use Rattle.hol_kernel.specs.Sequent.{Hyps}
-use Rattle.hol_just.specs.FreeNames.{free_name}
+use Rattle.hol_just.specs.Fresh.{fresh}
 use Rattle.hol_just.specs.Leaving.{goal_terms}
-use Rattle.hol_just.specs.Strip.{WaitingValue}
+use Rattle.hol_just.specs.Strip.{AvoidedValue, WaitingValue}
 
 -- they have the same names
 abbrev pub AreAlike : List Nameless → List Nameless → Type 0
 AreAlike ns ms = (a : List ℕ) → is_taken ns a ≡ is_taken ms a
+
+-- the same of what new names avoid
+abbrev pub AvoidAlike : AvoidedValue → AvoidedValue → Type 0
+AvoidAlike a b = AreAlike a.terms b.terms × (a.names ≡ b.names)
 
 -- they have the same names and free variables
 abbrev pub HaveSame : List Nameless → List Nameless → Type 0
@@ -37,7 +41,12 @@ abstraction_of x p = record { base = base_of x.0; domain = x.1; body = nameless 
 abbrev pub terms_of : List Nameless → Nameless → WaitingValue → List Nameless
 terms_of names p w = names ++ ((p ∷ w.pieces) ++ goal_terms w.goal)
 
--- v has the type of x, and its base with the fewest primes that make it the name of nothing in them
-pub record IsNewBy (names : List Nameless) (p : Nameless) (w : WaitingValue) (x v : List ℕ × TypeTree) : Type 0 where
-  pub is : v ≡ (free_name (terms_of names p w) (base_of x.0), x.1)
-  pub absent : is_free_in (terms_of names p w) v ≡ false
+-- v has the type of x and a new name: that of nothing in the terms, and of no constant where these are their names; and these names were tested for it
+pub record IsFresh (names : List (List ℕ)) (avoid : List Nameless) (x v : List ℕ × TypeTree) (tested : List (List ℕ)) : Type 0 where
+  pub is : fresh names avoid (base_of x.0) ≡ record { name = v.0; tested = tested }
+  pub typed : v.1 ≡ x.1
+  pub absent : is_free_in avoid v ≡ false
+
+-- the same where the terms are those that are avoided, the pieces p and then those of w, and the goal
+abbrev pub IsNewBy : AvoidedValue → Nameless → WaitingValue → List ℕ × TypeTree → List ℕ × TypeTree → List (List ℕ) → Type 0
+IsNewBy avoided p w x v tested = IsFresh avoided.names (terms_of avoided.terms p w) x v tested

@@ -6,53 +6,56 @@ ghost use Rattle.hol_terms.specs.Nameless.{free, nameless, base_of};
 ghost use Rattle.hol_subst.specs.Closing.{open_with};
 ghost use Rattle.hol_subst.specs.Variant.{is_free_in};
 ghost use Rattle.hol_formulas.specs.Equation.{bool_type};
-ghost use Rattle.hol_just.specs.FreeNames.{free_name};
+ghost use Rattle.hol_just.specs.Fresh.{fresh};
 ghost use Rattle.hol_just.specs.Leaving.{assuming};
-ghost use Rattle.hol_just.specs.QuantifierTacs.{terms_by};
+ghost use Rattle.hol_just.specs.QuantifierTacs.{terms_by, assuming_fresh};
 ghost use Rattle.hol_just.specs.Justifies.{LeavesChosen};
+ghost use Rattle.hol_steps.specs.Fresh.{IsFresh, abstraction_of};
 
+use crate::fresh::{FreeingStep, FreshVariable, fresh_variable};
 use crate::quantifiers::{all_terms, at, is_free_in_goal};
 use crate::steps::{assume, leaving_one};
 use hol_formulas::occurrence;
-use hol_goal::Goal;
+use hol_goal::{Goal, Names};
 use hol_just::{Just, Step};
 use hol_kernel::Given;
-use hol_subst::{free_name, is_free_in_one};
-use hol_terms::{Term, Variable, add_copies, base_name};
-use hol_types::Name;
+use hol_subst::is_free_in_one;
+use hol_terms::{Term, Variable, add_copies};
 use std::alloc::{AllocError, Global};
 
-/// The step to the goal with the property at a new variable assumed.
+/// The step to the goal with the property at a variable of a new name assumed.
 pub fn choose_step(
     alloc: Global,
     th: &Given,
     goal: &Goal,
+    names: &Names,
     x: &Variable,
     p: &Term,
-) -> Result<Step, AllocError>
+) -> Result<FreeingStep, AllocError>
     requires body { named_type p.now ≡ Some bool_type }
-    ensures goals { IfOk result (λ step. step.goals.items ≡ assuming goal.now (open_with (free (free_name (terms_by th.now goal.now) (base_of x.now.0), x.now.1)) 0 (nameless (x.now ∷ []) p.now)) goal.now.conclusion ∷ []) }
-    ensures just { IfOk result (λ step. LeavesChosen (free_name (terms_by th.now goal.now) (base_of x.now.0), x.now.1) th.now step.just) }
-    ensures absent { IfOk result (λ step. is_free_in (terms_by th.now goal.now) (free_name (terms_by th.now goal.now) (base_of x.now.0), x.now.1) ≡ false) }
+    ensures goals { IfOk result (λ f. (f.step.goals.items, f.tested.items) ≡ assuming_fresh goal.now (abstraction_of x.now p.now) (fresh names.now (terms_by th.now goal.now) (base_of x.now.0))) }
+    ensures just { IfOk result (λ f. LeavesChosen ((fresh names.now (terms_by th.now goal.now) (base_of x.now.0)).name, x.now.1) th.now f.step.just) }
+    ensures absent { IfOk result (λ f. is_free_in (terms_by th.now goal.now) ((fresh names.now (terms_by th.now goal.now) (base_of x.now.0)).name, x.now.1) ≡ false) }
 {
-    let v = chosen_variable(alloc, th, goal, x)?;
-    x_choose_step(alloc, th, goal, x, p, &v)
+    let FreshVariable { variable, tested } = chosen_variable(alloc, th, goal, names, x)?;
+    Ok(FreeingStep {
+        step: x_choose_step(alloc, th, goal, x, p, &variable)?,
+        tested,
+    })
 }
 
-// A variable of the type of `x` whose name is its base with the fewest primes that make it new.
+// A variable of the type of `x` and a new name, that of nothing in the goal and the theorem.
 fn chosen_variable(
     alloc: Global,
     th: &Given,
     goal: &Goal,
+    names: &Names,
     x: &Variable,
-) -> Result<Variable, AllocError>
-    ensures is { IfOk result (λ v. v ≡ (free_name (terms_by th.now goal.now) (base_of x.now.0), x.now.1)) }
-    ensures absent { IfOk result (λ v. is_free_in (terms_by th.now goal.now) (free_name (terms_by th.now goal.now) (base_of x.now.0), x.now.1) ≡ false) }
+) -> Result<FreshVariable, AllocError>
+    ensures { IfOk result (λ f. IsFresh names.now (terms_by th.now goal.now) x.now f.variable f.tested.items) }
 {
     let avoid = all_terms_by(alloc, th, goal)?;
-    let base = Name::new(alloc, base_name(x.name().as_str()))?;
-    let name = free_name(alloc, avoid.as_slice(), &base)?;
-    Variable::new(&name, x.ty())
+    fresh_variable(alloc, names, avoid.as_slice(), x)
 }
 
 /// Copies of all terms of the goal and the theorem.

@@ -9,6 +9,7 @@ ghost use Rattle.hol_kernel.specs.Sequent.{Hyps};
 ghost use Rattle.hol_match.specs.SetView.{AreGivenIn};
 ghost use Rattle.hol_conv.specs.Turns.{Outcome};
 ghost use Rattle.hol_conv.specs.Outcomes.{Tells};
+ghost use Rattle.hol_goal.specs.Answer.{starting};
 ghost use Rattle.hol_just.specs.Leaving.{concluding};
 ghost use Rattle.hol_just.specs.ConversionTacs.{left_with, converted};
 ghost use Rattle.hol_just.specs.Valid.{IsValid};
@@ -30,13 +31,13 @@ pub fn converted(
     outcome: Result<Rewritten, ConvError>,
 ) -> Result<Tried, TacFault>
     requires { IfOk outcome (λ r. IsConversion goal.now.conclusion r) }
-    ensures answer { (o : Outcome) (turns : ℕ) → Tells outcome o → IsAnswered (converted (Some o) goal.now (record { turns_left = turns })) result }
+    ensures answer { (o : Outcome) (turns : ℕ) → Tells outcome o → IsAnswered (converted (Some o) goal.now (starting turns)) result }
     ensures valid { (givens : List Given) → IfOk outcome (λ r. AreGivenIn givens r.trace.used) → IfOk result (λ tried. LeadsBy goal.now givens tried.step) }
 {
     match outcome {
         Ok(rewritten) => Ok(converted_to(alloc, goal, rewritten)?),
-        Err(ConvError::Limit) => Err(TacFault::TurnLimit),
-        Err(ConvError::TooLarge) => Err(TacFault::TooLarge),
+        Err(ConvError::Limit) => Err(TacFault::TurnLimit(Vec::new(alloc))),
+        Err(ConvError::TooLarge) => Err(TacFault::TooLarge(Vec::new(alloc))),
         Err(ConvError::Memory) => Err(TacFault::Memory),
     }
 }
@@ -46,6 +47,7 @@ fn converted_to(alloc: Global, goal: &Goal, rewritten: Rewritten) -> Result<Trie
     requires { IsConversion goal.now.conclusion rewritten }
     ensures goals { IfOk result (λ tried. tried.step.goals.items ≡ left_with goal.now (nameless [] rewritten.term)) }
     ensures left { IfOk result (λ tried. tried.left ≡ rewritten.left) }
+    ensures tested { IfOk result (λ tried. tried.tested.items ≡ []) }
     ensures valid { IfOk result (λ tried. LeadsBy goal.now rewritten.trace.used tried.step) }
 {
     let _conclusion = goal.conclusion();
@@ -55,6 +57,7 @@ fn converted_to(alloc: Global, goal: &Goal, rewritten: Rewritten) -> Result<Trie
     Ok(Tried {
         step,
         left: rewritten.left,
+        tested: Vec::new(alloc),
     })
 }
 

@@ -9,6 +9,7 @@ mod choosing;
 mod connectives;
 mod converting;
 mod equations;
+mod fresh;
 mod generalizing;
 mod keeping;
 mod matching;
@@ -31,6 +32,7 @@ pub use connectives::{
 };
 pub use converting::converted;
 pub use equations::eq_step;
+pub use fresh::FreeingStep;
 pub use matching::match_mp_step;
 pub use quantifiers::{exists_step, gen_step, is_free_in_goal, x_gen_step};
 pub use steps::{closing, leaving_one};

@@ -7,18 +7,20 @@ ghost use Rattle.hol_terms.specs.Alpha.{alpha_eq};
 ghost use Rattle.hol_formulas.specs.Equation.{bool_type};
 ghost use Rattle.hol_formulas.specs.Formula.{is_truth, dest_conj, dest_disj, dest_exists};
 ghost use Rattle.hol_just.specs.Leaving.{goal_terms};
-ghost use Rattle.hol_just.specs.Strip.{Conjuncts, Disjuncts, Property, Kept, plain_piece, piece};
-ghost use Rattle.hol_steps.specs.Fresh.{AreAlike, IsNewBy, abstraction_of};
-ghost use Rattle.hol_steps.specs.Parts.{AreParts, ArePartsBy, Becomes};
+ghost use Rattle.hol_goal.specs.Answer.{testing};
+ghost use Rattle.hol_goal.specs.UsedView.{used_value};
+ghost use Rattle.hol_just.specs.Strip.{AvoidedValue, avoiding, Conjuncts, Disjuncts, Property, Kept, plain_piece, piece};
+ghost use Rattle.hol_steps.specs.Fresh.{AreAlike, AvoidAlike, IsNewBy, abstraction_of};
+ghost use Rattle.hol_steps.specs.Parts.{AreParts, Becomes};
 
+use crate::fresh::{FreshVariable, fresh_variable};
 use crate::quantifiers::at;
 use crate::steps::assume;
 use crate::waiting::Waiting;
 use hol_formulas::{dest_conj, dest_disj, dest_exists, is_falsity, is_truth, occurrence};
-use hol_goal::Goal;
+use hol_goal::{Goal, Names, Used};
 use hol_just::{Just, assumption};
-use hol_subst::free_name;
-use hol_terms::{Term, Variable, add_copies, base_name};
+use hol_terms::{Term, Variable, add_copies};
 use hol_types::Name;
 use std::alloc::{AllocError, Global};
 
@@ -29,31 +31,41 @@ pub(crate) struct Parts {
     pub(crate) waiting: Vec<Waiting>,
     /// Why, where the pieces are assumptions of their goals.
     pub(crate) just: Just,
-    /// The turns left.
-    pub(crate) left: u32,
+    /// What may still be used.
+    pub(crate) used: Used,
 }
 
-/// What a piece and those after it become. Names of new variables are those of none of the others. None where a turn is to be paid and none is left.
+/// What pieces on a goal become, or a turn is to be paid and none is left.
+#[derive(Drop)]
+pub(crate) enum Becoming {
+    Parts(Parts),
+    /// The names that were tested before.
+    RunsOut(Vec<Name>),
+}
+
+/// What a piece and those after it become. New names are those of nothing in the other terms, and of no constant.
 pub(crate) fn becomes(
     alloc: Global,
     others: &[Term],
+    names: &Names,
     formula: &Term,
     rest: Waiting,
-    turns: u32,
-) -> Result<Option<Parts>, AllocError>
+    used: Used,
+) -> Result<Becoming, AllocError>
     requires { named_type formula.now ≡ Some bool_type }
-    ensures { IfOk result (Becomes (map (nameless []) others.now) (nameless [] formula.now) rest turns (piece rest.goal (nameless [] formula.now))) }
+    ensures { IfOk result (Becomes (avoiding (map (nameless []) others.now) names.now) (nameless [] formula.now) rest (used_value used) (piece rest.goal (nameless [] formula.now))) }
 {
     if let Some((p, q)) = dest_conj(formula) {
-        return Ok(Some(conjuncts(alloc, formula, p, q, rest, turns)?));
+        return Ok(Becoming::Parts(conjuncts(alloc, formula, p, q, rest, used)?));
     }
     if let Some((p, q)) = dest_disj(formula) {
-        return disjuncts(alloc, formula, p, q, rest, turns);
+        return disjuncts(alloc, formula, p, q, rest, used);
     }
     if let Some((x, p)) = dest_exists(formula) {
-        return Ok(Some(property(alloc, others, formula, x, p, rest, turns)?));
+        let v = new_variable(alloc, others, names, formula, x, &rest)?;
+        return Ok(Becoming::Parts(property(alloc, formula, x, p, v, rest, used)?));
     }
-    Ok(Some(plain(alloc, formula, rest, turns)?))
+    Ok(Becoming::Parts(plain(alloc, formula, rest, used)?))
 }
 
 // Both conjuncts are pieces.
@@ -63,19 +75,19 @@ fn conjuncts(
     p: &Term,
     q: &Term,
     rest: Waiting,
-    turns: u32,
+    used: Used,
 ) -> Result<Parts, AllocError>
     requires formula { named_type piece.now ≡ Some bool_type }
     requires first { named_type p.now ≡ Some bool_type }
     requires second { named_type q.now ≡ Some bool_type }
     requires parts { dest_conj (nameless [] piece.now) ≡ Some (nameless [] p.now, nameless [] q.now) }
-    ensures { IfOk result (λ parts. (names : List Nameless) → AreParts names (nameless [] piece.now) rest turns (Conjuncts (nameless [] p.now) (nameless [] q.now)) parts) }
+    ensures { IfOk result (λ parts. (avoided : AvoidedValue) → AreParts avoided (nameless [] piece.now) rest (used_value used) (Conjuncts (nameless [] p.now) (nameless [] q.now)) parts) }
 {
     let just = Just::conjuncts(alloc, &assumption(piece)?)?;
     let mut rest = rest;
     rest.put(q)?;
     rest.put(p)?;
-    one_part(alloc, rest, just, turns)
+    one_part(alloc, rest, just, used)
 }
 
 // Each disjunct is a piece, on a goal of its own, which costs a turn.
@@ -85,74 +97,95 @@ fn disjuncts(
     p: &Term,
     q: &Term,
     rest: Waiting,
-    turns: u32,
-) -> Result<Option<Parts>, AllocError>
+    used: Used,
+) -> Result<Becoming, AllocError>
     requires formula { named_type piece.now ≡ Some bool_type }
     requires first { named_type p.now ≡ Some bool_type }
     requires second { named_type q.now ≡ Some bool_type }
     requires parts { dest_disj (nameless [] piece.now) ≡ Some (nameless [] p.now, nameless [] q.now) }
-    ensures { (others : List Nameless) → IfOk result (Becomes others (nameless [] piece.now) rest turns (Disjuncts (nameless [] p.now) (nameless [] q.now))) }
+    ensures { (others : AvoidedValue) → IfOk result (Becomes others (nameless [] piece.now) rest (used_value used) (Disjuncts (nameless [] p.now) (nameless [] q.now))) }
 {
+    let Used {
+        left: turns,
+        tested,
+    } = used;
     if turns == 0 {
-        return Ok(None);
+        return Ok(Becoming::RunsOut(tested));
     }
     let just = Just::disj_cases_tac(alloc, &assumption(piece)?)?;
     let mut left = rest.copy(alloc)?;
     left.put(p)?;
     let mut right = rest;
     right.put(q)?;
-    Ok(Some(two_parts(alloc, left, right, just, turns - 1)?))
+    let used = Used {
+        left: turns - 1,
+        tested,
+    };
+    Ok(Becoming::Parts(two_parts(alloc, left, right, just, used)?))
 }
 
-// What is said to exist is a piece, at a new variable.
+// What is said to exist is a piece, at the variable, for whose new name names were tested.
 fn property(
     alloc: Global,
-    others: &[Term],
     piece: &Term,
     x: &Variable,
     p: &Term,
+    v: FreshVariable,
     rest: Waiting,
-    turns: u32,
+    used: Used,
 ) -> Result<Parts, AllocError>
     requires formula { named_type piece.now ≡ Some bool_type }
     requires body { named_type p.now ≡ Some bool_type }
     requires parts { dest_exists (nameless [] piece.now) ≡ Some (abstraction_of x.now p.now) }
-    ensures { IfOk result (ArePartsBy (map (nameless []) others.now) (nameless [] piece.now) rest turns (Property (abstraction_of x.now p.now))) }
+    requires typed { v.variable.1 ≡ x.now.1 }
+    ensures { IfOk result (λ parts. (avoided : AvoidedValue) → IsNewBy avoided (nameless [] piece.now) rest x.now v.variable v.tested.items → AreParts avoided (nameless [] piece.now) rest (used_value used) (Property (abstraction_of x.now p.now)) parts) }
 {
-    let v = new_variable(alloc, others, piece, x, &rest)?;
-    let just = Just::choose_tac(alloc, &v, &assumption(piece)?)?;
-    let chosen = at(alloc, x, p, &occurrence(alloc, &v)?)?;
+    let FreshVariable { variable, tested } = v;
+    let used = tested_more(used, tested)?;
+    let just = Just::choose_tac(alloc, &variable, &assumption(piece)?)?;
+    let chosen = at(alloc, x, p, &occurrence(alloc, &variable)?)?;
     let mut rest = rest;
     rest.put(&chosen)?;
-    one_part(alloc, rest, just, turns)
+    one_part(alloc, rest, just, used)
+}
+
+// These names were tested too, after the others.
+fn tested_more(used: Used, more: Vec<Name>) -> Result<Used, AllocError>
+    ensures { IfOk result (λ u. used_value u ≡ testing more.items (used_value used)) }
+{
+    let Used { left, tested } = used;
+    let mut tested = tested;
+    let mut more = more;
+    tested.append(&mut more)?;
+    Ok(Used { left, tested })
 }
 
 // What is no such formula closes the goal, or is dropped, or is the newest assumption.
-fn plain(alloc: Global, piece: &Term, rest: Waiting, turns: u32) -> Result<Parts, AllocError>
+fn plain(alloc: Global, piece: &Term, rest: Waiting, used: Used) -> Result<Parts, AllocError>
     requires { named_type piece.now ≡ Some bool_type }
-    ensures { IfOk result (λ parts. (names : List Nameless) → AreParts names (nameless [] piece.now) rest turns (plain_piece rest.goal (nameless [] piece.now)) parts) }
+    ensures { IfOk result (λ parts. (avoided : AvoidedValue) → AreParts avoided (nameless [] piece.now) rest (used_value used) (plain_piece rest.goal (nameless [] piece.now)) parts) }
 {
     if is_falsity(piece) {
         let just = Just::contr_tac(alloc, rest.goal().conclusion(), &assumption(piece)?)?;
-        return Ok(no_part(alloc, just, turns));
+        return Ok(no_part(alloc, just, used));
     }
     if piece.alpha_equivalent(rest.goal().conclusion()) {
         let just = Just::accept_tac(alloc, &assumption(piece)?)?;
-        return Ok(no_part(alloc, just, turns));
+        return Ok(no_part(alloc, just, used));
     }
     if is_dropped(piece, rest.goal()) {
-        return one_part(alloc, rest, Just::none(alloc), turns);
+        return one_part(alloc, rest, Just::none(alloc), used);
     }
-    kept(alloc, piece, rest, turns)
+    kept(alloc, piece, rest, used)
 }
 
 // The piece is the newest assumption.
-fn kept(alloc: Global, piece: &Term, rest: Waiting, turns: u32) -> Result<Parts, AllocError>
+fn kept(alloc: Global, piece: &Term, rest: Waiting, used: Used) -> Result<Parts, AllocError>
     requires { named_type piece.now ≡ Some bool_type }
-    ensures { IfOk result (λ parts. (names : List Nameless) → AreParts names (nameless [] piece.now) rest turns Kept parts) }
+    ensures { IfOk result (λ parts. (avoided : AvoidedValue) → AreParts avoided (nameless [] piece.now) rest (used_value used) Kept parts) }
 {
     let goal = assume(alloc, rest.goal(), piece, rest.goal().conclusion())?;
-    one_part(alloc, rest.on(goal), Just::none(alloc), turns)
+    one_part(alloc, rest.on(goal), Just::none(alloc), used)
 }
 
 // Whether the piece is `T`, or an assumption of the goal up to bound names.
@@ -174,20 +207,19 @@ fn is_one_of(term: &Term, list: &[Term]) -> bool
     false
 }
 
-// A variable of the type of `x` whose name is its base with the fewest primes that make it new.
+// A variable of the type of `x` and a new name, that of nothing in the pieces, the goal and the others.
 fn new_variable(
     alloc: Global,
     others: &[Term],
+    names: &Names,
     piece: &Term,
     x: &Variable,
     rest: &Waiting,
-) -> Result<Variable, AllocError>
-    ensures { IfOk result (λ v. (names : List Nameless) → AreAlike (map (nameless []) others.now) names → IsNewBy names (nameless [] piece.now) rest.now x.now v) }
+) -> Result<FreshVariable, AllocError>
+    ensures { IfOk result (λ v. (avoided : AvoidedValue) → AvoidAlike (avoiding (map (nameless []) others.now) names.now) avoided → IsNewBy avoided (nameless [] piece.now) rest.now x.now v.variable v.tested.items) }
 {
     let avoid = all_terms(alloc, others, piece, rest)?;
-    let base = Name::new(alloc, base_name(x.name().as_str()))?;
-    let name = free_name(alloc, avoid.as_slice(), &base)?;
-    Variable::new(&name, x.ty())
+    fresh_variable(alloc, names, avoid.as_slice(), x)
 }
 
 // Copies of all terms of the pieces, the goal and the others.
@@ -197,7 +229,7 @@ fn all_terms(
     piece: &Term,
     rest: &Waiting,
 ) -> Result<Vec<Term>, AllocError>
-    ensures { IfOk result (λ terms. (names : List Nameless) → AreAlike (map (nameless []) others.now) names → AreAlike (map (nameless []) terms.items) (names ++ ((nameless [] piece.now ∷ rest.now.pieces) ++ goal_terms rest.now.goal))) }
+    ensures { IfOk result (λ terms. (others' : List Nameless) → AreAlike (map (nameless []) others.now) others' → AreAlike (map (nameless []) terms.items) (others' ++ ((nameless [] piece.now ∷ rest.now.pieces) ++ goal_terms rest.now.goal))) }
 {
     let mut terms = Vec::new(alloc);
     rest.add_terms(&mut terms)?;
@@ -207,30 +239,30 @@ fn all_terms(
 }
 
 // Nothing is to be stripped any more.
-fn no_part(alloc: Global, just: Just, left: u32) -> Parts
+fn no_part(alloc: Global, just: Just, used: Used) -> Parts
     ensures waiting { result.waiting.items ≡ [] }
     ensures just { result.just ≡ just }
-    ensures left { result.left ≡ left }
+    ensures used { used_value result.used ≡ used_value used }
 {
     Parts {
         waiting: Vec::new(alloc),
         just,
-        left,
+        used,
     }
 }
 
 // This is to be stripped.
-fn one_part(alloc: Global, first: Waiting, just: Just, left: u32) -> Result<Parts, AllocError>
+fn one_part(alloc: Global, first: Waiting, just: Just, used: Used) -> Result<Parts, AllocError>
     ensures waiting { IfOk result (λ parts. parts.waiting.items ≡ first ∷ []) }
     ensures just { IfOk result (λ parts. parts.just ≡ just) }
-    ensures left { IfOk result (λ parts. parts.left ≡ left) }
+    ensures used { IfOk result (λ parts. used_value parts.used ≡ used_value used) }
 {
     let mut waiting = Vec::new(alloc);
     waiting.push(first)?;
     Ok(Parts {
         waiting,
         just,
-        left,
+        used,
     })
 }
 
@@ -240,11 +272,11 @@ fn two_parts(
     first: Waiting,
     second: Waiting,
     just: Just,
-    left: u32,
+    used: Used,
 ) -> Result<Parts, AllocError>
     ensures waiting { IfOk result (λ parts. parts.waiting.items ≡ second ∷ first ∷ []) }
     ensures just { IfOk result (λ parts. parts.just ≡ just) }
-    ensures left { IfOk result (λ parts. parts.left ≡ left) }
+    ensures used { IfOk result (λ parts. used_value parts.used ≡ used_value used) }
 {
     let mut waiting = Vec::new(alloc);
     waiting.push(second)?;
@@ -252,6 +284,6 @@ fn two_parts(
     Ok(Parts {
         waiting,
         just,
-        left,
+        used,
     })
 }

@@ -1,21 +1,23 @@
 //! What was stripped so far.
 ghost use Rattle.std.specs.Prelude.{◌≡◌, reverse, IfOk, OnOk};
-ghost use Rattle.hol_steps.specs.Progress.{progress_value, started, IsNext, finished, again};
+ghost use Rattle.hol_goal.specs.UsedView.{used_value};
+ghost use Rattle.hol_steps.specs.Progress.{progress_value, started, IsNext, without_used, finished, again};
 
 use crate::pieces::Parts;
 use crate::waiting::Waiting;
-use hol_goal::Goal;
+use hol_goal::{Goal, Used};
 use hol_just::{Just, Step, Tried};
 use std::alloc::{AllocError, Global};
+use std::mem;
 
-/// What was stripped so far: the goals that are done, the pieces that wait on theirs, the moves that led to all of them, and the turns left.
+/// What was stripped so far: the goals that are done, the pieces that wait on theirs, the moves that led to all of them, and what may still be used.
 #[derive(Drop)]
 pub(crate) struct Progress {
     done: Vec<Goal>,
     // The first last.
     waiting: Vec<Waiting>,
     just: Just,
-    left: u32,
+    used: Used,
 }
 
 impl Progress {
@@ -34,15 +36,22 @@ impl Progress {
             done: Vec::new(alloc),
             waiting,
             just,
-            left: turns,
+            used: Used {
+                left: turns,
+                tested: Vec::new(alloc),
+            },
         })
     }
 
-    /// The turns left.
-    pub(crate) fn left(&self) -> u32
-        ensures { result ≡ (progress_value self.now).left }
+    /// Takes what may still be used.
+    pub(crate) fn take_used(&mut self, alloc: Global) -> Used
+        ensures used { used_value result ≡ (progress_value self.old).used }
+        ensures rest { progress_value self.new ≡ without_used (progress_value self.old) }
     {
-        self.left
+        Used {
+            left: self.used.left,
+            tested: mem::replace(&mut self.used.tested, Vec::new(alloc)),
+        }
     }
 
     /// Takes the first that waits.
@@ -62,17 +71,17 @@ impl Progress {
 
     /// What the pieces that were taken became waits, before the others.
     pub(crate) fn again(&mut self, parts: Parts) -> Result<(), AllocError>
-        ensures { OnOk result (progress_value self.new ≡ again (progress_value self.old) (reverse parts.waiting.items) parts.just parts.left) }
+        ensures { OnOk result (progress_value self.new ≡ again (progress_value self.old) (reverse parts.waiting.items) parts.just (used_value parts.used)) }
     {
         let Parts {
             waiting,
             just,
-            left,
+            used,
         } = parts;
         let mut waiting = waiting;
         self.just.then_at(self.done.len(), &just)?;
         self.waiting.append(&mut waiting)?;
-        self.left = left;
+        self.used = used;
         Ok(())
     }
 
@@ -80,17 +89,20 @@ impl Progress {
     pub(crate) fn end(self) -> Tried
         ensures goals { result.step.goals.items ≡ (progress_value self).done }
         ensures just { result.step.just ≡ (progress_value self).moves }
-        ensures left { result.left ≡ (progress_value self).left }
+        ensures left { result.left ≡ (progress_value self).used.turns_left }
+        ensures tested { result.tested.items ≡ (progress_value self).used.tested }
     {
         let Progress {
             done,
             just,
-            left,
+            used,
             ..
         } = self;
+        let Used { left, tested } = used;
         Tried {
             step: Step { goals: done, just },
             left,
+            tested,
         }
     }
 }

@@ -6,39 +6,52 @@ ghost use Rattle.hol_subst.specs.Closing.{open_with};
 ghost use Rattle.hol_subst.specs.Variant.{is_free_in};
 ghost use Rattle.hol_subst.specs.declared.error.SubstError.TheVariants as SubstError;
 ghost use Rattle.hol_formulas.specs.Equation.{bool_type};
-ghost use Rattle.hol_just.specs.FreeNames.{free_name};
+ghost use Rattle.hol_just.specs.Fresh.{fresh};
 ghost use Rattle.hol_just.specs.Leaving.{concluding, goal_terms};
+ghost use Rattle.hol_just.specs.QuantifierTacs.{of_fresh};
 ghost use Rattle.hol_just.specs.Justifies.{LeavesProperty, LeavesAtWitness};
+ghost use Rattle.hol_steps.specs.Fresh.{IsFresh, abstraction_of};
 
+use crate::fresh::{FreeingStep, FreshVariable, fresh_variable};
 use crate::steps::leaving_one;
 use hol_formulas::occurrence;
-use hol_goal::Goal;
+use hol_goal::{Goal, Names};
 use hol_just::{Just, Step};
-use hol_subst::{SubstError, free_name, is_free_in_one, vsubst};
-use hol_terms::{Term, Variable, add_copies, base_name};
-use hol_types::Name;
+use hol_subst::{SubstError, is_free_in_one, vsubst};
+use hol_terms::{Term, Variable, add_copies};
 use std::alloc::{AllocError, Global};
 
-/// The step to the property at a new variable.
-pub fn gen_step(alloc: Global, goal: &Goal, x: &Variable, p: &Term) -> Result<Step, AllocError>
+/// The step to the property at a variable of a new name.
+pub fn gen_step(
+    alloc: Global,
+    goal: &Goal,
+    names: &Names,
+    x: &Variable,
+    p: &Term,
+) -> Result<FreeingStep, AllocError>
     requires body { named_type p.now ≡ Some bool_type }
-    ensures goals { IfOk result (λ step. step.goals.items ≡ concluding goal.now (open_with (free (free_name (goal_terms goal.now) (base_of x.now.0), x.now.1)) 0 (nameless (x.now ∷ []) p.now)) ∷ []) }
-    ensures just { IfOk result (λ step. LeavesProperty (free_name (goal_terms goal.now) (base_of x.now.0), x.now.1) step.just) }
-    ensures absent { IfOk result (λ step. is_free_in (goal_terms goal.now) (free_name (goal_terms goal.now) (base_of x.now.0), x.now.1) ≡ false) }
+    ensures goals { IfOk result (λ f. (f.step.goals.items, f.tested.items) ≡ of_fresh goal.now (abstraction_of x.now p.now) (fresh names.now (goal_terms goal.now) (base_of x.now.0))) }
+    ensures just { IfOk result (λ f. LeavesProperty ((fresh names.now (goal_terms goal.now) (base_of x.now.0)).name, x.now.1) f.step.just) }
+    ensures absent { IfOk result (λ f. is_free_in (goal_terms goal.now) ((fresh names.now (goal_terms goal.now) (base_of x.now.0)).name, x.now.1) ≡ false) }
 {
-    let v = new_variable(alloc, goal, x)?;
-    x_gen_step(alloc, goal, x, p, &v)
+    let FreshVariable { variable, tested } = new_variable(alloc, goal, names, x)?;
+    Ok(FreeingStep {
+        step: x_gen_step(alloc, goal, x, p, &variable)?,
+        tested,
+    })
 }
 
-// A variable of the type of `x` whose name is its base with the fewest primes that make it new.
-fn new_variable(alloc: Global, goal: &Goal, x: &Variable) -> Result<Variable, AllocError>
-    ensures is { IfOk result (λ v. v ≡ (free_name (goal_terms goal.now) (base_of x.now.0), x.now.1)) }
-    ensures absent { IfOk result (λ v. is_free_in (goal_terms goal.now) (free_name (goal_terms goal.now) (base_of x.now.0), x.now.1) ≡ false) }
+// A variable of the type of `x` and a new name, that of nothing in the goal.
+fn new_variable(
+    alloc: Global,
+    goal: &Goal,
+    names: &Names,
+    x: &Variable,
+) -> Result<FreshVariable, AllocError>
+    ensures { IfOk result (λ f. IsFresh names.now (goal_terms goal.now) x.now f.variable f.tested.items) }
 {
     let avoid = all_terms(alloc, goal)?;
-    let base = Name::new(alloc, base_name(x.name().as_str()))?;
-    let name = free_name(alloc, avoid.as_slice(), &base)?;
-    Variable::new(&name, x.ty())
+    fresh_variable(alloc, names, avoid.as_slice(), x)
 }
 
 /// Copies of all its terms.

@@ -5,7 +5,7 @@ use Rattle.std.specs.FinSet as set
 use Rattle.std.proofs.Common.{ap, sym, ◌∙◌, subst}
 use Rattle.std.proofs.lemmas.Bool.{or_parts}
 use Rattle.hol_terms.specs.Named.{Named}
-use Rattle.hol_terms.specs.Nameless.{Nameless, free, nameless, free_occurrences}
+use Rattle.hol_terms.specs.Nameless.{Nameless, nameless, free_occurrences}
 use Rattle.hol_terms.specs.Scoped.{binds}
 use Rattle.hol_subst.specs.FreeName.{has_name, is_taken}
 use Rattle.hol_subst.specs.Variant.{is_free_in}
@@ -17,16 +17,16 @@ use Rattle.hol_kernel.proofs.HypothesisLists.{hyps_total, hyps_same}
 use Rattle.hol_kernel.proofs.Members.{in_union_left}
 use Rattle.hol_kernel.proofs.Sets.{items_empty}
 use Rattle.hol_goal.specs.Goal.{GoalValue}
-use Rattle.hol_goal.specs.Answer.{UsedValue, answered}
+use Rattle.hol_goal.specs.Answer.{UsedValue, starting, testing, answered, naming}
 use Rattle.hol_goal.specs.Achieves.{assumed, AreAllowed}
 use Rattle.hol_goal.specs.Arguments.{TacArgsValue, Nothing, Term, Pair, Theorem, TermAndTheorem, Theorems}
 use Rattle.hol_goal.specs.declared.tac_args.TacArgs.TheVariants as args
 use Rattle.hol_goal.specs.declared.tac_code.TacCode.TheVariants as code
-use Rattle.hol_just.specs.FreeNames.{free_name}
+use Rattle.hol_just.specs.Fresh.{fresh}
 use Rattle.hol_just.specs.Leaving.{concluding, assuming, goal_terms, theorem_terms, with_nothing}
 use Rattle.hol_just.specs.ConnectiveTacs.{conj_tac}
-use Rattle.hol_just.specs.QuantifierTacs.{of_term, gen_tac}
-use Rattle.hol_just.specs.Strip.{WaitingValue, waiting, Stripped, Leaves, RunsOut, strip, antecedent, strip_tac, stripped}
+use Rattle.hol_just.specs.QuantifierTacs.{of_fresh, gen_tac}
+use Rattle.hol_just.specs.Strip.{avoiding, WaitingValue, waiting, Stripped, Leaves, RunsOut, strip, antecedent, strip_tac, stripped}
 use Rattle.hol_just.specs.Valid.{IsValid}
 use Rattle.hol_just.specs.Justifies.{always, holds_given, LeavesAssuming}
 use Rattle.hol_just.specs.Answering.{IsAnswered, AnswersCode, IsJustified}
@@ -45,61 +45,74 @@ use Rattle.hol_steps.proofs.TermsBy.{collected, taken_in_hyps}
 -- ---- the answer
 
 answers_by : (s : Stripped) (used : UsedValue) (r : Result Tried TacFault) → IsStripped s r → IsAnswered (stripped (Some s) used) r
-answers_by s used (Ok tried) h = subst (λ (t : Stripped). IsAnswered (stripped (Some t) used) (Ok tried)) (sym h) (refl, refl)
-answers_by s used (Err (Refused left)) h = absurd h
-answers_by s used (Err TurnLimit) h = subst (λ (t : Stripped). IsAnswered (stripped (Some t) used) (Err TurnLimit)) (sym h) refl
-answers_by s used (Err TooLarge) h = absurd h
-answers_by (Leaves goals turns) used (Err Memory) h = tt
-answers_by RunsOut used (Err Memory) h = tt
+answers_by s used (Ok tried) h = subst (λ (t : Stripped). IsAnswered (stripped (Some t) used) (Ok tried)) (sym h) (refl, (refl, refl))
+answers_by s used (Err (Refused left tested)) h = absurd h
+answers_by s used (Err (TurnLimit tested)) h = subst (λ (t : Stripped). IsAnswered (stripped (Some t) used) (Err (TurnLimit tested))) (sym h) (refl, refl)
+answers_by s used (Err (TooLarge tested)) h = absurd h
+answers_by (Leaves goals left) used (Err Memory) h = tt
+answers_by (RunsOut tested) used (Err Memory) h = tt
 
-pub assumes : (th : Given) (goal : GoalValue) (turns : ℕ) (r : Result Tried TacFault) → IsStripped (strip (theorem_terms th) (waiting ((given_sequent th).concl ∷ []) goal) turns) r → AnswersCode code.StripAssumeTac (Theorem th) goal turns r
-assumes th goal turns r h = answers_by (strip (theorem_terms th) (waiting ((given_sequent th).concl ∷ []) goal) turns) (record { turns_left = turns }) r h
+pub assumes : (th : Given) (goal : GoalValue) (names : List (List ℕ)) (turns : ℕ) (r : Result Tried TacFault) → IsStripped (strip (avoiding (theorem_terms th) names) (waiting ((given_sequent th).concl ∷ []) goal) (starting turns)) r → AnswersCode code.StripAssumeTac (Theorem th) goal names turns r
+assumes th goal names turns r h = answers_by (strip (avoiding (theorem_terms th) names) (waiting ((given_sequent th).concl ∷ []) goal) (starting turns)) (starting turns) r h
 
-abbrev gen_goals : GoalValue → Abstraction → List GoalValue
-gen_goals goal x = of_term goal (free (free_name (goal_terms goal) x.base, x.domain)) x ∷ []
+module _ (goal : GoalValue) (names : List (List ℕ)) (turns : ℕ) (r : Result Tried TacFault) where
+  -- what is done, by what the three find
+  abbrev whole : Option (List GoalValue × List (List ℕ)) → Option (List GoalValue) → Option (Nameless × Nameless) → Option Stripped
+  whole f gs o =
+      option_or (option_map (λ p. Leaves p.0 (testing p.1 (starting turns))) f)
+      (option_or (option_map (λ goals. Leaves goals (starting turns)) gs) (option_map (λ a. strip (avoiding [] names) (waiting (a.0 ∷ []) (concluding goal a.1)) (starting turns)) o))
 
-abbrev conj_goals : GoalValue → Nameless × Nameless → List GoalValue
-conj_goals goal p = concluding goal p.0 ∷ concluding goal p.1 ∷ []
+  abbrev freed_by : Option Abstraction → Option (List GoalValue × List (List ℕ))
+  freed_by o = option_map (λ x. of_fresh goal x (fresh names (goal_terms goal) x.base)) o
 
-module _ (goal : GoalValue) (turns : ℕ) (r : Result Tried TacFault) where
-  by_goals :
-      (args : TacArgsValue) (goals : List GoalValue) (o : Option (List GoalValue)) → option_or (gen_tac goal) (conj_tac goal) ≡ Some goals → o ≡ Some goals → IsAnswered (answered (with_nothing args o) (record { turns_left = turns })) r →
-      AnswersCode code.StripTac args goal turns r
-  by_goals Nothing goals o is same h =
-      subst (λ (p : Option (List GoalValue)). IsAnswered (stripped (option_or (option_map (λ gs. Leaves gs turns) p) (option_map (λ a. strip [] (waiting (a.0 ∷ []) (concluding goal a.1)) turns) (antecedent goal.conclusion))) (record { turns_left = turns })) r) (sym is)
-      (subst (λ (p : Option (List GoalValue)). IsAnswered (answered p (record { turns_left = turns })) r) same h)
-  by_goals (Term t) goals o is same h = h
-  by_goals (Pair s t) goals o is same h = h
-  by_goals (Theorem th) goals o is same h = h
-  by_goals (TermAndTheorem t th) goals o is same h = h
-  by_goals (Theorems ths) goals o is same h = h
+  abbrev split_by_conj : Option (Nameless × Nameless) → Option (List GoalValue)
+  split_by_conj o = option_map (λ p. concluding goal p.0 ∷ concluding goal p.1 ∷ []) o
 
-  pub generalizes : (args : TacArgsValue) (x : Abstraction) → dest_forall goal.conclusion ≡ Some x → AnswersCode code.GenTac args goal turns r → AnswersCode code.StripTac args goal turns r
-  generalizes args x is h = by_goals args (gen_goals goal x) (gen_tac goal) (ap (λ (o : Option Abstraction). option_or (option_map (gen_goals goal) o) (conj_tac goal)) is) (ap (option_map (gen_goals goal)) is) h
+  by_freed : (args : TacArgsValue) (f : List GoalValue × List (List ℕ)) → gen_tac names goal ≡ Some f → IsAnswered (naming (with_nothing args (gen_tac names goal)) (starting turns)) r → AnswersCode code.StripTac args goal names turns r
+  by_freed Nothing f is h =
+      subst (λ (p : Option (List GoalValue × List (List ℕ))). IsAnswered (stripped (whole p (conj_tac goal) (antecedent goal.conclusion)) (starting turns)) r) (sym is)
+      (subst (λ (p : Option (List GoalValue × List (List ℕ))). IsAnswered (naming p (starting turns)) r) is h)
+  by_freed (Term t) f is h = h
+  by_freed (Pair s t) f is h = h
+  by_freed (Theorem th) f is h = h
+  by_freed (TermAndTheorem t th) f is h = h
+  by_freed (Theorems ths) f is h = h
 
-  pub splits : (args : TacArgsValue) (p : Nameless × Nameless) → dest_forall goal.conclusion ≡ None → dest_conj goal.conclusion ≡ Some p → AnswersCode code.ConjTac args goal turns r → AnswersCode code.StripTac args goal turns r
-  splits args p none is h = by_goals args (conj_goals goal p) (conj_tac goal) (λ i. option_or (option_map (gen_goals goal) (none i)) (option_map (conj_goals goal) (is i))) (ap (option_map (conj_goals goal)) is) h
+  by_split : (args : TacArgsValue) (goals : List GoalValue) → gen_tac names goal ≡ None → conj_tac goal ≡ Some goals → IsAnswered (answered (with_nothing args (conj_tac goal)) (starting turns)) r → AnswersCode code.StripTac args goal names turns r
+  by_split Nothing goals none is h =
+      subst (λ (p : Option (List GoalValue × List (List ℕ))). IsAnswered (stripped (whole p (conj_tac goal) (antecedent goal.conclusion)) (starting turns)) r) (sym none)
+      (subst (λ (p : Option (List GoalValue)). IsAnswered (stripped (whole None p (antecedent goal.conclusion)) (starting turns)) r) (sym is)
+      (subst (λ (p : Option (List GoalValue)). IsAnswered (answered p (starting turns)) r) is h))
+  by_split (Term t) goals none is h = h
+  by_split (Pair s t) goals none is h = h
+  by_split (Theorem th) goals none is h = h
+  by_split (TermAndTheorem t th) goals none is h = h
+  by_split (Theorems ths) goals none is h = h
+
+  pub generalizes : (args : TacArgsValue) (x : Abstraction) → dest_forall goal.conclusion ≡ Some x → AnswersCode code.GenTac args goal names turns r → AnswersCode code.StripTac args goal names turns r
+  generalizes args x is h = by_freed args (of_fresh goal x (fresh names (goal_terms goal) x.base)) (ap freed_by is) h
+
+  pub splits : (args : TacArgsValue) (p : Nameless × Nameless) → dest_forall goal.conclusion ≡ None → dest_conj goal.conclusion ≡ Some p → AnswersCode code.ConjTac args goal names turns r → AnswersCode code.StripTac args goal names turns r
+  splits args p none is h = by_split args (concluding goal p.0 ∷ concluding goal p.1 ∷ []) (ap freed_by none) (ap split_by_conj is) h
 
   -- where neither fits
   module _ (none : dest_forall goal.conclusion ≡ None) (neither : dest_conj goal.conclusion ≡ None) where
-    rest : (o : Option (Nameless × Nameless)) → antecedent goal.conclusion ≡ o → strip_tac goal turns ≡ option_map (λ a. strip [] (waiting (a.0 ∷ []) (concluding goal a.1)) turns) o
-    rest o is = λ i. option_or (option_map (λ gs. Leaves gs turns) (option_or (option_map (gen_goals goal) (none i)) (option_map (conj_goals goal) (neither i)))) (option_map (λ a. strip [] (waiting (a.0 ∷ []) (concluding goal a.1)) turns) (is i))
+    rest : (o : Option (Nameless × Nameless)) → antecedent goal.conclusion ≡ o → strip_tac names goal (starting turns) ≡ option_map (λ a. strip (avoiding [] names) (waiting (a.0 ∷ []) (concluding goal a.1)) (starting turns)) o
+    rest o is = λ i. whole (freed_by (none i)) (split_by_conj (neither i)) (is i)
 
-    by_antecedent : (p q : Nameless) → antecedent goal.conclusion ≡ Some (p, q) → IsStripped (strip [] (waiting (p ∷ []) (concluding goal q)) turns) r → AnswersCode code.StripTac Nothing goal turns r
+    by_antecedent : (p q : Nameless) → antecedent goal.conclusion ≡ Some (p, q) → IsStripped (strip (avoiding [] names) (waiting (p ∷ []) (concluding goal q)) (starting turns)) r → AnswersCode code.StripTac Nothing goal names turns r
     by_antecedent p q is h =
-        subst (λ (o : Option Stripped). IsAnswered (stripped o (record { turns_left = turns })) r) (sym (rest (Some (p, q)) is))
-        (answers_by (strip [] (waiting (p ∷ []) (concluding goal q)) turns) (record { turns_left = turns }) r h)
+        subst (λ (o : Option Stripped). IsAnswered (stripped o (starting turns)) r) (sym (rest (Some (p, q)) is))
+        (answers_by (strip (avoiding [] names) (waiting (p ∷ []) (concluding goal q)) (starting turns)) (starting turns) r h)
 
-    pub strips_imp : (p q : Nameless) → dest_imp goal.conclusion ≡ Some (p, q) → IsStripped (strip [] (waiting (p ∷ []) (concluding goal q)) turns) r → AnswersCode code.StripTac Nothing goal turns r
+    pub strips_imp : (p q : Nameless) → dest_imp goal.conclusion ≡ Some (p, q) → IsStripped (strip (avoiding [] names) (waiting (p ∷ []) (concluding goal q)) (starting turns)) r → AnswersCode code.StripTac Nothing goal names turns r
     strips_imp p q is h = by_antecedent p q (ap (λ o. option_or o (option_map (λ d. (d, falsity)) (dest_neg goal.conclusion))) is) h
 
-    pub strips_neg : (p : Nameless) → dest_imp goal.conclusion ≡ None → dest_neg goal.conclusion ≡ Some p → IsStripped (strip [] (waiting (p ∷ []) (concluding goal falsity)) turns) r → AnswersCode code.StripTac Nothing goal turns r
+    pub strips_neg : (p : Nameless) → dest_imp goal.conclusion ≡ None → dest_neg goal.conclusion ≡ Some p → IsStripped (strip (avoiding [] names) (waiting (p ∷ []) (concluding goal falsity)) (starting turns)) r → AnswersCode code.StripTac Nothing goal names turns r
     strips_neg p nor is h = by_antecedent p falsity (λ i. option_or (nor i) (option_map (λ d. (d, falsity)) (is i))) h
 
-    pub strips_nothing : dest_imp goal.conclusion ≡ None → dest_neg goal.conclusion ≡ None → r ≡ Err (Refused turns) → AnswersCode code.StripTac Nothing goal turns r
-    strips_nothing nor not is =
-        subst (λ (o : Option Stripped). IsAnswered (stripped o (record { turns_left = turns })) r) (sym (rest None (λ i. option_or (nor i) (option_map (λ d. (d, falsity)) (not i)))))
-        (subst (λ (s : Result Tried TacFault). IsAnswered (answered None (record { turns_left = turns })) s) (sym is) refl)
+    pub strips_nothing : dest_imp goal.conclusion ≡ None → dest_neg goal.conclusion ≡ None → IsAnswered (answered None (starting turns)) r → AnswersCode code.StripTac Nothing goal names turns r
+    strips_nothing nor not is = subst (λ (o : Option Stripped). IsAnswered (stripped o (starting turns)) r) (sym (rest None (λ i. option_or (nor i) (option_map (λ d. (d, falsity)) (not i))))) is
 
 -- ---- extra hypotheses
 
@@ -127,16 +140,16 @@ each_ok (Ok x) P Q f h = f x h
 each_ok (Err e) P Q f h = h
 
 pub theorem_valid :
-    (th : Given) (goal : GoalValue) (before : List Move) (w : WaitingValue) (step : Step) → w ≡ waiting ((given_sequent th).concl ∷ []) goal → LeavesAssuming th before → KeepsValid (theorem_terms th) before w step →
+    (th : Given) (goal : GoalValue) (names : List (List ℕ)) (before : List Move) (w : WaitingValue) (step : Step) → w ≡ waiting ((given_sequent th).concl ∷ []) goal → LeavesAssuming th before → KeepsValid (avoiding (theorem_terms th) names) before w step →
     IsJustified (Theorem th) goal step
-theorem_valid th goal before w step is leaves keeps extra over =
+theorem_valid th goal names before w step is leaves keeps extra over =
     keeps (holds_given th) extra (goal ∷ []) (apart_of th extra over.among)
     (subst (λ (v : WaitingValue). IsValid (holds_given th) extra before (goal ∷ []) (with_pieces v ∷ [])) (sym is) (leaves extra goal.assumptions goal.conclusion over.all))
 
 pub antecedent_valid :
-    (goal : GoalValue) (before : List Move) (w : WaitingValue) (step : Step) (p q : Nameless) → w ≡ waiting (p ∷ []) (concluding goal q) → IsValid always no_hyps before (goal ∷ []) (assuming goal p q ∷ []) →
-    KeepsValid [] before w step → IsJustified Nothing goal step
-antecedent_valid goal before w step p q is valid keeps =
+    (goal : GoalValue) (names : List (List ℕ)) (before : List Move) (w : WaitingValue) (step : Step) (p q : Nameless) → w ≡ waiting (p ∷ []) (concluding goal q) → IsValid always no_hyps before (goal ∷ []) (assuming goal p q ∷ []) →
+    KeepsValid (avoiding [] names) before w step → IsJustified Nothing goal step
+antecedent_valid goal names before w step p q is valid keeps =
     by_nothing goal step step.just step.goals.items refl refl args.Nothing refl
     (keeps always no_hyps (goal ∷ []) (none_apart []) (subst (λ (v : WaitingValue). IsValid always no_hyps before (goal ∷ []) (with_pieces v ∷ [])) (sym is) valid))
 

@@ -20,7 +20,7 @@ use crate::rewriting::{
 use crate::stripping::{strip_assume_tac, strip_tac};
 use crate::substituting::{spec_tac, subst1_tac};
 use crate::trivial::{all_tac, no_tac};
-use hol_goal::{Goal, TacArgs, TacCode};
+use hol_goal::{Goal, Names, TacArgs, TacCode};
 use hol_just::{TacFault, Tried};
 use hol_prelude::Prelude;
 use std::alloc::Global;
@@ -32,44 +32,47 @@ pub fn tac(
     code: TacCode,
     args: &TacArgs,
     goal: &Goal,
+    names: &Names,
     turns: u32,
 ) -> Result<Tried, TacFault>
-    ensures answer { AnswersCode code (args_value args.now) goal.now turns result }
+    ensures answer { AnswersCode code (args_value args.now) goal.now names.now turns result }
     ensures valid { IfOk result (λ tried. IsJustified (args_value args.now) goal.now tried.step) }
 {
     match code {
-        TacCode::AllTac => all_tac(alloc, args, goal, turns),
-        TacCode::NoTac => no_tac(alloc, args, goal, turns),
-        TacCode::ReflTac => refl_tac(alloc, args, goal, turns),
-        TacCode::AcceptTac => accept_tac(alloc, args, goal, turns),
-        TacCode::ConjTac => conj_tac(alloc, args, goal, turns),
-        TacCode::Disj1Tac => disj1_tac(alloc, args, goal, turns),
-        TacCode::Disj2Tac => disj2_tac(alloc, args, goal, turns),
-        TacCode::EqTac => eq_tac(alloc, args, goal, turns),
-        TacCode::DischTac => disch_tac(alloc, args, goal, turns),
-        TacCode::GenTac => gen_tac(alloc, args, goal, turns),
-        TacCode::XGenTac => x_gen_tac(alloc, args, goal, turns),
-        TacCode::ExistsTac => exists_tac(alloc, args, goal, turns),
-        TacCode::MpTac => mp_tac(alloc, args, goal, turns),
-        TacCode::AssumeTac => assume_tac(alloc, args, goal, turns),
-        TacCode::ContrTac => contr_tac(alloc, args, goal, turns),
-        TacCode::ApTermTac => ap_term_tac(alloc, args, goal, turns),
-        TacCode::ApThmTac => ap_thm_tac(alloc, args, goal, turns),
-        TacCode::MkCombTac => mk_comb_tac(alloc, args, goal, turns),
-        TacCode::UndischTac => undisch_tac(alloc, args, goal, turns),
-        TacCode::ChooseTac => choose_tac(alloc, args, goal, turns),
-        TacCode::XChooseTac => x_choose_tac(alloc, args, goal, turns),
-        TacCode::DisjCasesTac => disj_cases_tac(alloc, args, goal, turns),
-        TacCode::Subst1Tac => subst1_tac(alloc, args, goal, turns),
-        TacCode::SpecTac => spec_tac(alloc, args, goal, turns),
-        TacCode::StripAssumeTac => strip_assume_tac(alloc, args, goal, turns),
-        TacCode::StripTac => strip_tac(alloc, args, goal, turns),
-        TacCode::BetaTac => beta_tac(alloc, args, goal, turns),
-        TacCode::MatchMpTac => match_mp_tac(alloc, args, goal, turns),
-        TacCode::RewriteTac => rewrite_tac(alloc, prelude, args, goal, turns),
-        TacCode::OnceRewriteTac => once_rewrite_tac(alloc, prelude, args, goal, turns),
-        TacCode::AsmRewriteTac => asm_rewrite_tac(alloc, prelude, args, goal, turns),
-        TacCode::OnceAsmRewriteTac => once_asm_rewrite_tac(alloc, prelude, args, goal, turns),
-        TacCode::PureRewriteTac => pure_rewrite_tac(alloc, args, goal, turns),
+        TacCode::AllTac => all_tac(alloc, args, goal, names, turns),
+        TacCode::NoTac => no_tac(alloc, args, goal, names, turns),
+        TacCode::ReflTac => refl_tac(alloc, args, goal, names, turns),
+        TacCode::AcceptTac => accept_tac(alloc, args, goal, names, turns),
+        TacCode::ConjTac => conj_tac(alloc, args, goal, names, turns),
+        TacCode::Disj1Tac => disj1_tac(alloc, args, goal, names, turns),
+        TacCode::Disj2Tac => disj2_tac(alloc, args, goal, names, turns),
+        TacCode::EqTac => eq_tac(alloc, args, goal, names, turns),
+        TacCode::DischTac => disch_tac(alloc, args, goal, names, turns),
+        TacCode::GenTac => gen_tac(alloc, args, goal, names, turns),
+        TacCode::XGenTac => x_gen_tac(alloc, args, goal, names, turns),
+        TacCode::ExistsTac => exists_tac(alloc, args, goal, names, turns),
+        TacCode::MpTac => mp_tac(alloc, args, goal, names, turns),
+        TacCode::AssumeTac => assume_tac(alloc, args, goal, names, turns),
+        TacCode::ContrTac => contr_tac(alloc, args, goal, names, turns),
+        TacCode::ApTermTac => ap_term_tac(alloc, args, goal, names, turns),
+        TacCode::ApThmTac => ap_thm_tac(alloc, args, goal, names, turns),
+        TacCode::MkCombTac => mk_comb_tac(alloc, args, goal, names, turns),
+        TacCode::UndischTac => undisch_tac(alloc, args, goal, names, turns),
+        TacCode::ChooseTac => choose_tac(alloc, args, goal, names, turns),
+        TacCode::XChooseTac => x_choose_tac(alloc, args, goal, names, turns),
+        TacCode::DisjCasesTac => disj_cases_tac(alloc, args, goal, names, turns),
+        TacCode::Subst1Tac => subst1_tac(alloc, args, goal, names, turns),
+        TacCode::SpecTac => spec_tac(alloc, args, goal, names, turns),
+        TacCode::StripAssumeTac => strip_assume_tac(alloc, args, goal, names, turns),
+        TacCode::StripTac => strip_tac(alloc, args, goal, names, turns),
+        TacCode::BetaTac => beta_tac(alloc, args, goal, names, turns),
+        TacCode::MatchMpTac => match_mp_tac(alloc, args, goal, names, turns),
+        TacCode::RewriteTac => rewrite_tac(alloc, prelude, args, goal, names, turns),
+        TacCode::OnceRewriteTac => once_rewrite_tac(alloc, prelude, args, goal, names, turns),
+        TacCode::AsmRewriteTac => asm_rewrite_tac(alloc, prelude, args, goal, names, turns),
+        TacCode::OnceAsmRewriteTac => once_asm_rewrite_tac(
+            alloc, prelude, args, goal, names, turns,
+        ),
+        TacCode::PureRewriteTac => pure_rewrite_tac(alloc, args, goal, names, turns),
     }
 }

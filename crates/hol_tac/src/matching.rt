@@ -4,7 +4,7 @@ ghost use Rattle.hol_goal.specs.ArgumentsView.{args_value};
 ghost use Rattle.hol_goal.specs.declared.tac_code.TacCode.TheVariants as code;
 ghost use Rattle.hol_just.specs.Answering.{AnswersCode, IsJustified};
 
-use hol_goal::{Goal, TacArgs};
+use hol_goal::{Goal, Names, TacArgs};
 use hol_just::{TacFault, Tried};
 use hol_steps::match_mp_step;
 use std::alloc::Global;
@@ -15,16 +15,21 @@ pub fn match_mp_tac(
     alloc: Global,
     args: &TacArgs,
     goal: &Goal,
+    names: &Names,
     turns: u32,
 ) -> Result<Tried, TacFault>
-    ensures answer { AnswersCode code.MatchMpTac (args_value args.now) goal.now turns result }
+    ensures answer { AnswersCode code.MatchMpTac (args_value args.now) goal.now names.now turns result }
     ensures valid { IfOk result (λ tried. IsJustified (args_value args.now) goal.now tried.step) }
 {
     let TacArgs::Theorem(th) = args else {
-        return Err(TacFault::Refused(turns));
+        return Err(TacFault::Refused(turns, Vec::new(alloc)));
     };
     let Some(step) = match_mp_step(alloc, th, goal)? else {
-        return Err(TacFault::Refused(turns));
+        return Err(TacFault::Refused(turns, Vec::new(alloc)));
     };
-    Ok(Tried { step, left: turns })
+    Ok(Tried {
+        step,
+        left: turns,
+        tested: Vec::new(alloc),
+    })
 }

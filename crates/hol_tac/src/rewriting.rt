@@ -2,6 +2,7 @@
 ghost use Rattle.std.specs.Prelude.{◌≡◌, ◌++◌, [], map, IfOk, OnOk};
 ghost use Rattle.hol_terms.specs.Nameless.{nameless};
 ghost use Rattle.hol_kernel.specs.Given.{proved, assumed};
+ghost use Rattle.hol_goal.specs.Answer.{starting};
 ghost use Rattle.hol_goal.specs.ArgumentsView.{args_value};
 ghost use Rattle.hol_goal.specs.Formulas.{AreFormulas};
 ghost use Rattle.hol_goal.specs.declared.tac_code.TacCode.TheVariants as code;
@@ -10,7 +11,7 @@ ghost use Rattle.hol_just.specs.Answering.{IsAnswered, AnswersCode, IsJustified}
 ghost use Rattle.hol_steps.specs.Converting.{LeadsBy};
 
 use hol_conv::{once, rewrite};
-use hol_goal::{Goal, TacArgs};
+use hol_goal::{Goal, Names, TacArgs};
 use hol_just::{TacFault, Tried, assumption};
 use hol_kernel::{Given, Thm};
 use hol_match::RuleSet;
@@ -26,13 +27,14 @@ pub fn rewrite_tac(
     prelude: &Prelude,
     args: &TacArgs,
     goal: &Goal,
+    names: &Names,
     turns: u32,
 ) -> Result<Tried, TacFault>
-    ensures answer { AnswersCode code.RewriteTac (args_value args.now) goal.now turns result }
+    ensures answer { AnswersCode code.RewriteTac (args_value args.now) goal.now names.now turns result }
     ensures valid { IfOk result (λ tried. IsJustified (args_value args.now) goal.now tried.step) }
 {
     let TacArgs::Theorems(ths) = args else {
-        return Err(TacFault::Refused(turns));
+        return Err(TacFault::Refused(turns, Vec::new(alloc)));
     };
     let givens = with_basic(alloc, prelude, ths)?;
     rewritten(alloc, goal, turns, &givens)
@@ -44,13 +46,14 @@ pub fn once_rewrite_tac(
     prelude: &Prelude,
     args: &TacArgs,
     goal: &Goal,
+    names: &Names,
     turns: u32,
 ) -> Result<Tried, TacFault>
-    ensures answer { AnswersCode code.OnceRewriteTac (args_value args.now) goal.now turns result }
+    ensures answer { AnswersCode code.OnceRewriteTac (args_value args.now) goal.now names.now turns result }
     ensures valid { IfOk result (λ tried. IsJustified (args_value args.now) goal.now tried.step) }
 {
     let TacArgs::Theorems(ths) = args else {
-        return Err(TacFault::Refused(turns));
+        return Err(TacFault::Refused(turns, Vec::new(alloc)));
     };
     let givens = with_basic(alloc, prelude, ths)?;
     rewritten_once(alloc, goal, turns, &givens)
@@ -62,13 +65,14 @@ pub fn asm_rewrite_tac(
     prelude: &Prelude,
     args: &TacArgs,
     goal: &Goal,
+    names: &Names,
     turns: u32,
 ) -> Result<Tried, TacFault>
-    ensures answer { AnswersCode code.AsmRewriteTac (args_value args.now) goal.now turns result }
+    ensures answer { AnswersCode code.AsmRewriteTac (args_value args.now) goal.now names.now turns result }
     ensures valid { IfOk result (λ tried. IsJustified (args_value args.now) goal.now tried.step) }
 {
     let TacArgs::Theorems(ths) = args else {
-        return Err(TacFault::Refused(turns));
+        return Err(TacFault::Refused(turns, Vec::new(alloc)));
     };
     let givens = with_assumed(alloc, prelude, goal, ths)?;
     rewritten(alloc, goal, turns, &givens)
@@ -80,13 +84,14 @@ pub fn once_asm_rewrite_tac(
     prelude: &Prelude,
     args: &TacArgs,
     goal: &Goal,
+    names: &Names,
     turns: u32,
 ) -> Result<Tried, TacFault>
-    ensures answer { AnswersCode code.OnceAsmRewriteTac (args_value args.now) goal.now turns result }
+    ensures answer { AnswersCode code.OnceAsmRewriteTac (args_value args.now) goal.now names.now turns result }
     ensures valid { IfOk result (λ tried. IsJustified (args_value args.now) goal.now tried.step) }
 {
     let TacArgs::Theorems(ths) = args else {
-        return Err(TacFault::Refused(turns));
+        return Err(TacFault::Refused(turns, Vec::new(alloc)));
     };
     let givens = with_assumed(alloc, prelude, goal, ths)?;
     rewritten_once(alloc, goal, turns, &givens)
@@ -97,20 +102,21 @@ pub fn pure_rewrite_tac(
     alloc: Global,
     args: &TacArgs,
     goal: &Goal,
+    names: &Names,
     turns: u32,
 ) -> Result<Tried, TacFault>
-    ensures answer { AnswersCode code.PureRewriteTac (args_value args.now) goal.now turns result }
+    ensures answer { AnswersCode code.PureRewriteTac (args_value args.now) goal.now names.now turns result }
     ensures valid { IfOk result (λ tried. IsJustified (args_value args.now) goal.now tried.step) }
 {
     let TacArgs::Theorems(ths) = args else {
-        return Err(TacFault::Refused(turns));
+        return Err(TacFault::Refused(turns, Vec::new(alloc)));
     };
     rewritten(alloc, goal, turns, ths)
 }
 
 // The conclusion is rewritten to the end by what is given.
 fn rewritten(alloc: Global, goal: &Goal, turns: u32, givens: &[Given]) -> Result<Tried, TacFault>
-    ensures answer { IsAnswered (converted (rewritten_by givens.now goal.now turns) goal.now (record { turns_left = turns })) result }
+    ensures answer { IsAnswered (converted (rewritten_by givens.now goal.now turns) goal.now (starting turns)) result }
     ensures valid { IfOk result (λ tried. LeadsBy goal.now givens.now tried.step) }
 {
     let rules = RuleSet::new(alloc, givens)?;
@@ -125,7 +131,7 @@ fn rewritten_once(
     turns: u32,
     givens: &[Given],
 ) -> Result<Tried, TacFault>
-    ensures answer { IsAnswered (converted (rewritten_once_by givens.now goal.now turns) goal.now (record { turns_left = turns })) result }
+    ensures answer { IsAnswered (converted (rewritten_once_by givens.now goal.now turns) goal.now (starting turns)) result }
     ensures valid { IfOk result (λ tried. LeadsBy goal.now givens.now tried.step) }
 {
     let rules = RuleSet::new(alloc, givens)?;

@@ -8,46 +8,66 @@ ghost use Rattle.hol_goal.specs.declared.tac_code.TacCode.TheVariants as code;
 ghost use Rattle.hol_just.specs.Answering.{AnswersCode, IsJustified};
 
 use hol_formulas::dest_eq;
-use hol_goal::{Goal, TacArgs};
+use hol_goal::{Goal, Names, TacArgs};
 use hol_just::{TacFault, Tried};
 use hol_steps::{spec_step, subst1_step};
 use hol_terms::{Term, TermNode, Variable};
 use std::alloc::Global;
 
 /// SUBST1_TAC leaves the conclusion with `t` for each `s`, by a theorem `s = t`.
-pub fn subst1_tac(alloc: Global, args: &TacArgs, goal: &Goal, turns: u32) -> Result<Tried, TacFault>
-    ensures answer { AnswersCode code.Subst1Tac (args_value args.now) goal.now turns result }
+pub fn subst1_tac(
+    alloc: Global,
+    args: &TacArgs,
+    goal: &Goal,
+    names: &Names,
+    turns: u32,
+) -> Result<Tried, TacFault>
+    ensures answer { AnswersCode code.Subst1Tac (args_value args.now) goal.now names.now turns result }
     ensures valid { IfOk result (λ tried. IsJustified (args_value args.now) goal.now tried.step) }
 {
     let TacArgs::Theorem(th) = args else {
-        return Err(TacFault::Refused(turns));
+        return Err(TacFault::Refused(turns, Vec::new(alloc)));
     };
     let Some(sides) = dest_eq(th.concl()) else {
-        return Err(TacFault::Refused(turns));
+        return Err(TacFault::Refused(turns, Vec::new(alloc)));
     };
     let step = subst1_step(alloc, th, goal, &sides)?;
-    Ok(Tried { step, left: turns })
+    Ok(Tried {
+        step,
+        left: turns,
+        tested: Vec::new(alloc),
+    })
 }
 
 /// SPEC_TAC leaves `!x. w`, with `x` for each `t` of the conclusion `w`, for a variable `x` of the type of `t` that is `t` or not free in `w`.
-pub fn spec_tac(alloc: Global, args: &TacArgs, goal: &Goal, turns: u32) -> Result<Tried, TacFault>
-    ensures answer { AnswersCode code.SpecTac (args_value args.now) goal.now turns result }
+pub fn spec_tac(
+    alloc: Global,
+    args: &TacArgs,
+    goal: &Goal,
+    names: &Names,
+    turns: u32,
+) -> Result<Tried, TacFault>
+    ensures answer { AnswersCode code.SpecTac (args_value args.now) goal.now names.now turns result }
     ensures valid { IfOk result (λ tried. IsJustified (args_value args.now) goal.now tried.step) }
 {
     let TacArgs::Pair(t, u) = args else {
-        return Err(TacFault::Refused(turns));
+        return Err(TacFault::Refused(turns, Vec::new(alloc)));
     };
     let TermNode::Var(x) = u.node() else {
-        return Err(TacFault::Refused(turns));
+        return Err(TacFault::Refused(turns, Vec::new(alloc)));
     };
     if !t.type_of().same(x.ty()) {
-        return Err(TacFault::Refused(turns));
+        return Err(TacFault::Refused(turns, Vec::new(alloc)));
     }
     if !may_generalize(goal, t, u, x) {
-        return Err(TacFault::Refused(turns));
+        return Err(TacFault::Refused(turns, Vec::new(alloc)));
     }
     let step = spec_step(alloc, goal, t, x)?;
-    Ok(Tried { step, left: turns })
+    Ok(Tried {
+        step,
+        left: turns,
+        tested: Vec::new(alloc),
+    })
 }
 
 // Whether the variable is the term, or not free in the conclusion.

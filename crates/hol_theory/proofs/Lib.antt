@@ -1,6 +1,7 @@
 pub mod Keys
 pub mod Entries
 pub mod Layers
+pub mod Naming
 pub mod Items
 pub mod Theories
 pub mod Imports

@@ -14,6 +14,7 @@ use Rattle.hol_kernel.proofs.ItemOrder.{total, only}
 use Rattle.hol_kernel.proofs.Members.{not_in_empty, in_insert_cases}
 use Rattle.hol_kernel.proofs.Subsets.{within_of_subset, subset_of_within}
 use Rattle.hol_theory.specs.Key.{KeyValue, key_eq}
+use Rattle.hol_theory.specs.Constants.{constant_names}
 use Rattle.hol_theory.specs.Entry.{EntryValue, Entries, IsEntry, EachIsEntry, entry_at, entry_basis, own_item}
 use Rattle.hol_theory.specs.Theory.{with_item, items_of, items_in, RestsOn, entry_key, IsNamedIn, IsTheory}
 use Rattle.hol_theory.specs.Adding.{AreNew, CanFollow}
@@ -63,12 +64,13 @@ module _ (older newest self more new : Entries) (is : older ++ newest ≡ self) 
   pub entries_grown : older ++ new ≡ self ++ more
   entries_grown = ap (λ (t : Entries). older ++ t) n ∙ sym (append_assoc older newest more) ∙ ap (λ (t : Entries). t ++ more) is
 
-  pub theory_grown : (count some : ℕ) → AreNew [] (older ++ newest) → IsTheory (older ++ newest) → AreNew self more → CanFollow self more → some ≡ length more → count ≡ length self + some →
-      AreNew [] (older ++ new) × IsTheory (older ++ new) × (count ≡ length (older ++ new))
-  theory_grown count some old t fresh follow few all = (
+  pub theory_grown : (count some : ℕ) (names : List (List ℕ)) → AreNew [] (older ++ newest) → IsTheory (older ++ newest) → AreNew self more → CanFollow self more → some ≡ length more → count ≡ length self + some → names ≡ constant_names (self ++ more) →
+      AreNew [] (older ++ new) × IsTheory (older ++ new) × (count ≡ length (older ++ new)) × (names ≡ constant_names (older ++ new))
+  theory_grown count some names old t fresh follow few all called = (
     subst (AreNew []) (sym entries_grown) (new_joined [] self more (subst (AreNew []) is old) fresh),
     subst IsTheory (sym entries_grown) (theory_followed self more (subst IsTheory is t) fresh follow),
     all ∙ ap (λ k. length self + k) few ∙ sym (length-append self more) ∙ ap length (sym entries_grown),
+    called ∙ ap constant_names (sym entries_grown),
   )
 
 -- ---- what a map has after new entries are inserted; `self` is what it had

@@ -1,5 +1,6 @@
 pub mod Key
 pub mod Entry
+pub mod Constants
 pub mod EntryView
 pub mod Codes
 pub mod Theory

@@ -3,15 +3,17 @@ ghost use Rattle.std.specs.Prelude.{◌≡◌, ◌<◌, ◌+◌, ◌++◌, [], �
 ghost use Rattle.std.specs.List.{IsDistinct};
 ghost use Rattle.std.specs.Map.{keys_of};
 ghost use Rattle.hol_theory.specs.Key.{key_eq};
+ghost use Rattle.hol_theory.specs.Constants.{constant_name, constant_names};
 ghost use Rattle.hol_theory.specs.Entry.{entry_at};
 ghost use Rattle.hol_theory.specs.Theory.{IsTheory};
 ghost use Rattle.hol_theory.specs.Adding.{AreNew, CanFollow, Adds, Imports, stands_otherwise, first_clash, missing};
 
 use crate::error::EnvError;
-use crate::key::Key;
+use crate::key::{Key, Kind};
 use crate::layer::Layer;
 use crate::older::Older;
 use crate::value::Value;
+use hol_goal::Names;
 use std::alloc::{AllocError, AllocFailed, Global};
 use std::marker::Model;
 use std::mem;
@@ -26,10 +28,12 @@ pub struct Env {
     count: usize,
     older: Older,
     newest: Layer,
+    names: Names,
 }
 
 impl Model for Env {
     ghost use Rattle.std.specs.Prelude.{◌≡◌, ◌++◌, [], length};
+    ghost use Rattle.hol_theory.specs.Constants.{constant_names};
     ghost use Rattle.hol_theory.specs.Entry.{Entries};
     ghost use Rattle.hol_theory.specs.Theory.{IsTheory};
     ghost use Rattle.hol_theory.specs.Adding.{AreNew};
@@ -41,7 +45,7 @@ impl Model for Env {
 
     ghost view = { λ env. env.older ++ env.newest };
 
-    ghost invariant = { λ env. AreNew [] (env.older ++ env.newest) × IsTheory (env.older ++ env.newest) × (env.count ≡ length (env.older ++ env.newest)) };
+    ghost invariant = { λ env. AreNew [] (env.older ++ env.newest) × IsTheory (env.older ++ env.newest) × (env.count ≡ length (env.older ++ env.newest)) × (env.names ≡ constant_names (env.older ++ env.newest)) };
 }
 
 impl Env {
@@ -54,6 +58,7 @@ impl Env {
             count: 0,
             older: Older::new(alloc),
             newest: Layer::new(alloc),
+            names: Names::none(alloc),
         }
     }
 
@@ -72,6 +77,13 @@ impl Env {
         ensures { result ≡ length self.now }
     {
         self.count
+    }
+
+    /// The names of its constants, in standing order. Takes no memory.
+    pub fn names(&self) -> &Names
+        ensures { result.now ≡ constant_names self.now }
+    {
+        &self.names
     }
 
     /// An entry by its place in standing order, from 0.
@@ -105,6 +117,7 @@ impl Env {
             count: self.count,
             older: self.older.copy(self.alloc)?,
             newest: self.newest.copy(self.alloc)?,
+            names: self.names.copy(self.alloc)?,
         })
     }
 
@@ -119,8 +132,11 @@ impl Env {
             return Err(EnvError::Taken(key.copy()?));
         }
         let count = self.count_with(1)?;
+        let mut names = self.names.copy(self.alloc)?;
+        add_name(self.alloc, &mut names, key)?;
         let (key, value) = entry_copy(key, value)?;
         self.newest.add(key, value)?;
+        self.names = names;
         self.count = count;
         self.settle();
         Ok(())
@@ -218,6 +234,17 @@ impl Env {
         }
     }
 
+    // The names with those of the constants among more entries.
+    fn names_with(&self, more: &[(Key, Value)]) -> Result<Names, AllocError>
+        ensures { IfOk result (λ names. names ≡ constant_names (self.now ++ more.now)) }
+    {
+        let mut names = self.names.copy(self.alloc)?;
+        for entry in more {
+            add_name(self.alloc, &mut names, &entry.0)?;
+        }
+        Ok(names)
+    }
+
     // Adds entries, which come last in their order: all of them, or none.
     fn take_all(&mut self, more: Vec<(Key, Value)>) -> Result<(), AllocError>
         requires new { AreNew self.old more.items }
@@ -226,7 +253,9 @@ impl Env {
         ensures err { OnErr result (self.new ≡ self.old) }
     {
         let count = self.count_with(more.len())?;
+        let names = self.names_with(&more)?;
         self.newest.add_all(more)?;
+        self.names = names;
         self.count = count;
         self.settle();
         Ok(())
@@ -243,6 +272,16 @@ impl Env {
         if let Err(AllocFailed { value }) = self.older.push(self.alloc, newest) {
             self.newest = value;
         }
+    }
+}
+
+// Adds the name of a key, where it is that of a constant.
+fn add_name(alloc: Global, names: &mut Names, key: &Key) -> Result<(), AllocError>
+    ensures { OnOk result (names.new ≡ names.old ++ constant_name key.now.kind key.now.name) }
+{
+    match key.kind() {
+        Kind::Constant => names.add(alloc, key.shared_name()),
+        Kind::Type | Kind::Theorem => Ok(()),
     }
 }
 

@@ -82,6 +82,13 @@ impl Key {
         self.name.as_str()
     }
 
+    /// Its name, which copies share.
+    pub(crate) fn shared_name(&self) -> &Name
+        ensures { result.now ≡ self.now.name }
+    {
+        &self.name
+    }
+
     /// The key as clients see it: `type:N`, `const:N` or `thm:N`.
     pub fn text(&self, alloc: Global) -> Result<String, AllocError>
         ensures { IfOk result (λ text. string_bytes text ≡ key_text self.now) }

@@ -119,6 +119,7 @@ fn resolve_formulas(
         theorems: &theorems,
         readings,
         basis: &basis,
+        lemmas: setup.lemmas(),
     };
     match resolve_expr(alloc, setup, &context, tactic) {
         Ok(expr) => Ok(Resolution::Resolved(expr, basis)),

@@ -1,5 +1,5 @@
 //! The outcome of a command from what it reads.
-ghost use Rattle.std.specs.Prelude.{◌≡◌, ◌≤◌, ◌+◌, ◌-◌, ◌^◌, min, IfOk, [], ◌∷◌};
+ghost use Rattle.std.specs.Prelude.{◌≡◌, ◌≤◌, ◌+◌, ◌-◌, ◌^◌, ℕ, List, min, IfOk, [], ◌∷◌};
 ghost use Rattle.hol_terms.specs.Nameless.{nameless};
 ghost use Rattle.hol_resolve.specs.Reading.{ReadsAs, IsTermReadAs};
 ghost use Rattle.hol_resolve.specs.Readings.{ATerm};
@@ -8,7 +8,11 @@ ghost use Rattle.hol_notation_commands.specs.CommandView.{local_text};
 ghost use Rattle.hol_exec.specs.ReadsValue.{AreKeyed};
 ghost use Rattle.hol_exec.specs.MeterView.{setup_of, ran_of};
 ghost use Rattle.hol_exec.specs.SetupView.{setup_value};
-ghost use Rattle.hol_exec.specs.Local.{IsLocalOutcome, IsOpening, IsApplying, opens, opens_term, applied, finishes, finished};
+ghost use Rattle.hol_kernel.specs.Items.{Items};
+ghost use Rattle.hol_goal.specs.Goal.{GoalValue};
+ghost use Rattle.hol_combine.specs.Runs.{RunValue};
+ghost use Rattle.hol_combine.specs.RunView.{refusal_value, IsError};
+ghost use Rattle.hol_exec.specs.Local.{IsLocalOutcome, IsOpening, IsApplying, given_by, refused_outcome, run_outcome, opens, opens_term, applied, finishes, finished};
 ghost use Rattle.hol_exec.specs.Signature.{signature_of};
 ghost use Rattle.hol_exec.specs.Resolved.{resolved_basis};
 ghost use Rattle.hol_exec.specs.Standing.{first_taken};
@@ -24,8 +28,9 @@ use crate::running::meter::Meter;
 use crate::running::outcome::Outcome;
 use crate::running::refused::{name_taken, refused, refused_at, refused_name};
 use crate::running::setup::Setup;
+use crate::running::tested::Tested;
 use hol_combine::{Expr, Refusal, RunError, run};
-use hol_goal::Goal;
+use hol_goal::{Goal, Names};
 use hol_just::Step;
 use hol_kernel::Basis;
 use hol_notation_commands::LocalCommand;
@@ -35,23 +40,26 @@ use hol_resolve::{Quoted, Reading};
 use hol_stack::SharedStep;
 use hol_terms::Term;
 use hol_theory::{Key, Kind, Value};
+use hol_types::Name;
 use std::alloc::{AllocError, Global};
 
-/// The outcome of a command, from what it reads of a state: it is determined by the set-up, the command and this. It counts one.
+/// The outcome of a command, from what it reads of a state where constants have these names, and which of these were tested for it: it is determined by the set-up, the
+/// command, what it reads and these. It counts one.
 pub fn run_local(
     alloc: Global,
     meter: &mut Meter,
     command: &LocalCommand,
     reads: &Reads,
-) -> Result<Outcome, AllocError>
+    names: &Names,
+) -> Result<(Outcome, Tested), AllocError>
     requires { AreKeyed (local_text command.now) reads.now }
-    ensures outcome { IfOk result (λ outcome. IsLocalOutcome (setup_of meter.old) (local_text command.now) reads.now outcome) }
+    ensures outcome { IfOk result (λ r. IsLocalOutcome (setup_of meter.old) names.now (local_text command.now) reads.now (record { outcome = r.0; tested = r.1 })) }
     ensures setup { setup_of meter.new ≡ setup_of meter.old }
     ensures ran { ran_of meter.new ≡ min (ran_of meter.old + 1) (2 ^ 64 - 1) }
     ensures rises { ran_of meter.old ≤ ran_of meter.new }
 {
     meter.count();
-    outcome_from(alloc, meter.setup(), command, reads)
+    outcome_from(alloc, meter.setup(), command, reads, names)
 }
 
 // The outcome alone.
@@ -60,17 +68,22 @@ fn outcome_from(
     setup: &Setup,
     command: &LocalCommand,
     reads: &Reads,
-) -> Result<Outcome, AllocError>
+    names: &Names,
+) -> Result<(Outcome, Tested), AllocError>
     requires { AreKeyed (local_text command.now) reads.now }
-    ensures { IfOk result (λ outcome. IsLocalOutcome (setup_value setup.now) (local_text command.now) reads.now outcome) }
+    ensures { IfOk result (λ r. IsLocalOutcome (setup_value setup.now) names.now (local_text command.now) reads.now (record { outcome = r.0; tested = r.1 })) }
 {
     match command {
-        LocalCommand::Goal { name, quotation } => {
-            open_goal(alloc, setup, name.as_str(), quotation, reads)
-        }
-        LocalCommand::Apply(tactic) => apply_tactic(alloc, setup, tactic, reads),
-        LocalCommand::Qed => finish(alloc, setup, reads),
-        LocalCommand::Make(command) => making(alloc, setup, command, reads),
+        LocalCommand::Goal { name, quotation } => Ok((
+            open_goal(alloc, setup, name.as_str(), quotation, reads)?,
+            Tested::none(alloc),
+        )),
+        LocalCommand::Apply(tactic) => apply_tactic(alloc, setup, tactic, reads, names),
+        LocalCommand::Qed => Ok((finish(alloc, setup, reads)?, Tested::none(alloc))),
+        LocalCommand::Make(command) => Ok((
+            making(alloc, setup, command, reads)?,
+            Tested::none(alloc),
+        )),
     }
 }
 
@@ -139,15 +152,21 @@ fn apply_tactic(
     setup: &Setup,
     tactic: &TacExpr,
     reads: &Reads,
-) -> Result<Outcome, AllocError>
-    ensures { IfOk result (λ outcome. IsApplying reads.now.in_proof (setup_value setup.now) tactic.now reads.now outcome) }
+    names: &Names,
+) -> Result<(Outcome, Tested), AllocError>
+    ensures { IfOk result (λ r. IsApplying reads.now.in_proof (setup_value setup.now) names.now tactic.now reads.now (record { outcome = r.0; tested = r.1 })) }
 {
     if !reads.in_proof() {
-        return Ok(refused(alloc, RefusalKind::NoProofOpen));
+        return Ok((
+            refused(alloc, RefusalKind::NoProofOpen),
+            Tested::none(alloc),
+        ));
     }
     match resolve(alloc, setup, tactic, reads)? {
-        Resolution::Resolved(expr, basis) => applied(alloc, setup, reads, &expr, basis),
-        Resolution::Unresolved(kind, arg) => Ok(Outcome::refuses(kind, arg)),
+        Resolution::Resolved(expr, basis) => applied(alloc, setup, reads, names, &expr, basis),
+        Resolution::Unresolved(kind, arg) => {
+            Ok((Outcome::refuses(kind, arg), Tested::none(alloc)))
+        }
     }
 }
 
@@ -156,26 +175,59 @@ fn applied(
     alloc: Global,
     setup: &Setup,
     reads: &Reads,
+    names: &Names,
     expr: &Expr,
     basis: Basis,
-) -> Result<Outcome, AllocError>
+) -> Result<(Outcome, Tested), AllocError>
     requires { IsRunnableExpr (setup_value setup.now).table basis expr.now }
-    ensures { IfOk result (λ outcome. outcome ≡ applied (setup_value setup.now) reads.now.goal expr.now basis) }
+    ensures { IfOk result (λ r. record { outcome = r.0; tested = r.1 } ≡ applied (setup_value setup.now) names.now reads.now.goal expr.now basis) }
 {
     let Some(goal) = reads.goal() else {
-        return Ok(refused(alloc, RefusalKind::NoGoalOpen));
+        return Ok((refused(alloc, RefusalKind::NoGoalOpen), Tested::none(alloc)));
     };
-    match run(alloc, expr, goal, setup.registry(), setup.turns()) {
-        Ok(ran) => left(alloc, goal, ran.step, basis),
-        Err(RunError::Refused(Refusal::DoesNotFit(name), _)) => {
-            Ok(Outcome::refuses(RefusalKind::Refused, name))
+    match run(alloc, expr, goal, setup.registry(), names, setup.turns()) {
+        Ok(ran) => {
+            let outcome = left(alloc, goal, ran.step, basis)?;
+            with_tested(alloc, outcome, ran.tested, names)
         }
-        Err(RunError::Refused(Refusal::LacksHyps(name), _)) => {
-            Ok(Outcome::refuses(RefusalKind::HypsNotAssumed, name))
+        Err(error) => {
+            let (outcome, tested) = not_left(alloc, error)?;
+            with_tested(alloc, outcome, tested, names)
         }
-        Err(RunError::TurnLimit) => Ok(refused(alloc, RefusalKind::TurnLimit)),
-        Err(RunError::LargeGoal) => Ok(refused(alloc, RefusalKind::TooLarge)),
-        Err(RunError::Memory) => Err(AllocError),
+    }
+}
+
+// The outcome with the names that were tested, where constants have those.
+fn with_tested(
+    alloc: Global,
+    outcome: Outcome,
+    tested: Vec<Name>,
+    names: &Names,
+) -> Result<(Outcome, Tested), AllocError>
+    ensures { IfOk result (λ r. record { outcome = r.0; tested = r.1 } ≡ given_by names.now outcome tested.items) }
+{
+    Ok((outcome, Tested::of(alloc, &tested, names)?))
+}
+
+// The outcome of a run that left no goals, and the names that were tested.
+fn not_left(alloc: Global, error: RunError) -> Result<(Outcome, Vec<Name>), AllocError>
+    ensures { (run : RunValue) (names : List (List ℕ)) (goal : GoalValue) (basis : Items) → IsError run error → IfOk result (λ r. given_by names r.0 r.1.items ≡ run_outcome names goal basis run) }
+{
+    match error {
+        RunError::Refused(refusal, _, tested) => Ok((refused_by(refusal), tested)),
+        RunError::TurnLimit(tested) => Ok((refused(alloc, RefusalKind::TurnLimit), tested)),
+        RunError::LargeGoal(tested) => Ok((refused(alloc, RefusalKind::TooLarge), tested)),
+        RunError::Memory => Err(AllocError),
+    }
+}
+
+// The outcome of a refusal.
+fn refused_by(refusal: Refusal) -> Outcome
+    ensures { result ≡ refused_outcome (refusal_value refusal) }
+{
+    match refusal {
+        Refusal::DoesNotFit(name) => Outcome::refuses(RefusalKind::Refused, name),
+        Refusal::LacksHyps(name) => Outcome::refuses(RefusalKind::HypsNotAssumed, name),
     }
 }
 

@@ -1,5 +1,5 @@
 //! Entries that come new to a theory.
-ghost use Rattle.std.specs.Prelude.{◌≡◌, ◌<◌, ◌++◌, ◌↔◌, IsTrue, length, slice_get, Some, IfOk, OnOk, OnErr};
+ghost use Rattle.std.specs.Prelude.{◌≡◌, ◌<◌, ◌++◌, ◌↔◌, IsTrue, length, slice_get, option_copied, Some, IfOk, OnOk, OnErr};
 ghost use Rattle.hol_theory.specs.Adding.{AreNew, CanFollow};
 
 use crate::state::entry::copies;
@@ -71,6 +71,16 @@ impl NewEntries {
         match &self.held {
             Held::Listed(entries) => listed_entry(entries, index),
             Held::Shared(env) => env.entry(index),
+        }
+    }
+
+    /// The theory whose entries they are, where they are held as that.
+    pub(crate) fn shared_theory(&self) -> Option<&Env>
+        ensures { (theory : _) → option_copied result ≡ Some theory → theory ≡ self.now }
+    {
+        match &self.held {
+            Held::Listed(_) => None,
+            Held::Shared(env) => Some(env),
         }
     }
 

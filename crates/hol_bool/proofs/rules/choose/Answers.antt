@@ -1,15 +1,13 @@
 use Rattle.std.specs.FinSet as set
-use Rattle.hol_bool.proofs.DisjunctionRules.{choose_gives, existential_is, existential_shape, fresh, inner_is}
+use Rattle.hol_bool.proofs.DisjunctionRules.{choose_gives, existential_is, fresh}
 use Rattle.hol_derived.proofs.Typed.{domain_stands, predicate_typed}
-use Rattle.hol_derived.specs.Applied.{abstraction_in, chosen}
+use Rattle.hol_derived.specs.Applied.{chosen}
 use Rattle.hol_bool.specs.Rules.{choose_left, choose_of}
-use Rattle.hol_equal.proofs.Answered.{gives}
-use Rattle.hol_equal.specs.Applied.{rand}
+use Rattle.hol_derived.proofs.Instances.{applies_by, over_basis}
 use Rattle.hol_formulas.proofs.TypeTests.{same_type}
 use Rattle.hol_formulas.specs.Equation.{bool_type}
 use Rattle.hol_formulas.specs.Formula.{Abstraction, dest_exists, existential}
 use Rattle.hol_kernel.specs.Items.{Items}
-use Rattle.hol_kernel.specs.Theorem.{Theorem}
 use Rattle.hol_kernel.specs.Typing.{HasType, is_type}
 use Rattle.hol_subst.specs.Variant.{is_free_in}
 use Rattle.hol_terms.specs.Named.{Named, var}
@@ -34,28 +32,10 @@ is_free_in_left-requires c =
     let tested : type_eq v.1 w.1 ≡ true = search rules in
     let domain : v.1 ≡ w.1 = same_type v.1 w.1 tested in
     let function : HasType B own (fun_type v.1 bool_type) = subst (λ (d : TypeTree). HasType B own (fun_type d bool_type)) (sym domain) (predicate_typed B (codes "?") w.1 bool_type own (subst (λ (u : Nameless). HasType B u bool_type) whole c.well_typed.ensures.conclusion)) in
-    record { function = subst (λ (k : Items). HasType k own (fun_type v.1 bool_type)) c.requires.one_basis function; stands = subst (λ (k : Items). is_type k v.1 ≡ true) c.requires.one_basis (domain_stands B v.1 bool_type own function) }
+    record { over = c.requires.over ∙ c.requires.one_basis; function = subst (λ (k : Items). HasType k own (fun_type v.1 bool_type)) c.requires.one_basis function; stands = subst (λ (k : Items). is_type k v.1 ≡ true) c.requires.one_basis (domain_stands B v.1 bool_type own function) }
 
 pub choose-requires : goal.choose-requires
 choose-requires c =
-    let s = c.args.a.now.sequent in
-    let b = c.args.b.now.sequent in
-    let v = c.in-Var.variable in
-    let w = c.in-Some.x.now in
-    let x : Abstraction = record { base = base_of w.0; domain = w.1; body = nameless (w ∷ []) c.in-Some.p.now } in
-    let found_is : dest_exists s.concl ≡ Some x = ap dest_exists (sym c.concl.ensures.concl) ∙ c.in-Some.ensures.parts in
-    let inner : abstraction_in (rand s.concl) ≡ x = inner_is s.concl x found_is in
-    let is : c.args.v.now ≡ var v = search rules in
-    let tested : type_eq v.1 w.1 ≡ true = search rules in
-    let domain : v.1 ≡ w.1 = same_type v.1 w.1 tested in
-    let outside : binds (free_occurrences s.concl) v ≡ false = search rules in
-    let beside : binds (free_occurrences b.concl) v ≡ false = search rules in
-    let rest : is_free_in (set.items (choose_left v b.hyps x)) v ≡ false = search rules in
-    let none_free = fresh v s b x found_is outside beside rest in
-    record { one_basis = c.requires.one_basis; is = existential_shape s.concl x found_is; of_type = domain ∙ ap (λ (y : Abstraction). y.domain) (sym inner); absent = subst (λ (y : Abstraction). is_free_in (s.concl ∷ b.concl ∷ set.items (choose_left v b.hyps y)) v ≡ false) (sym inner) none_free }
-
-pub returns-clause-sequent : goal.returns-clause-sequent
-returns-clause-sequent c =
     let B = c.args.a.now.basis in
     let s = c.args.a.now.sequent in
     let b = c.args.b.now.sequent in
@@ -69,8 +49,15 @@ returns-clause-sequent c =
     let beside : binds (free_occurrences b.concl) v ≡ false = search rules in
     let rest : is_free_in (set.items (choose_left v b.hyps x)) v ≡ false = search rules in
     let none_free = fresh v s b x found_is outside beside rest in
-    gives B (choose_of c.args.v.now s b) (chosen v s b) c.in_ok-choose.field-0 (ap (λ (u : Named). choose_of u s b) is ∙ choose_gives v s b x found_is tested none_free) c.in_ok-choose.ensures
+    record { one_basis = c.in_ok-is_free_in_left.ensures.kept ∙ c.requires.over; same_basis = c.requires.one_basis; applies = applies_by B (choose_of c.args.v.now s b) (chosen v s b) (ap (λ (u : Named). choose_of u s b) is ∙ choose_gives v s b x found_is tested none_free) }
+
+pub returns-clause-sequent : goal.returns-clause-sequent
+returns-clause-sequent c = c.in_ok-choose.ensures.gives
 
 pub returns-clause-basis : goal.returns-clause-basis
 returns-clause-basis c =
-    ap (λ (th : Theorem). th.basis) c.in_ok-choose.ensures
+    let B = c.args.a.now.basis in
+    let s = c.args.a.now.sequent in
+    let b = c.args.b.now.sequent in
+    let v = c.in-Var.variable in
+    over_basis B (choose_of c.args.v.now s b) c.in_ok-choose.field-0 c.in_ok-choose.ensures.gives

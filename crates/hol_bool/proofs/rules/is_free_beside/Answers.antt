@@ -18,14 +18,14 @@ witness_implies-requires c =
     let f = nameless [] c.args.f.now in
     let v = c.args.v.now in
     let own : nameless [] c.in_ok-own.own ≡ free v = ap (nameless []) c.in_ok-own.ensures.is in
-    rw own record { function = c.requires.is; typed = applied_typed B v.1 bool_type f (free v) c.requires.function (variable_typed B v c.requires.stands) }
+    rw own record { one_basis = c.requires.over; function = c.requires.is; typed = applied_typed B v.1 bool_type f (free v) c.requires.function (variable_typed B v c.requires.stands) }
 
-pub returns : goal.returns
-returns c =
+pub returns-clause-is : goal.returns-clause-is
+returns-clause-is c =
     let B = c.args.b.now.basis in
     let b = c.args.b.now.sequent in
     let f = nameless [] c.args.f.now in
     let v = c.args.v.now in
     let own : nameless [] c.in_ok-own.own ≡ free v = ap (nameless []) c.in_ok-own.ensures.is in
-    let rest : c.in_ok-rest.rest ≡ theorem_on B (sequent_of (choose_left v b.hyps (abstraction_in f)) (implication (app f (free v)) b.concl)) = rw (c.in_ok-rest.ensures, own) refl in
+    let rest : c.in_ok-rest.rest ≡ theorem_on B (sequent_of (choose_left v b.hyps (abstraction_in f)) (implication (app f (free v)) b.concl)) = rw (c.in_ok-rest.ensures.gives, own) refl in
     c.is_free_in_hypotheses.ensures ∙ (λ i. is_free_in (set.items (rest i).sequent.hyps) v)

@@ -1,3 +1,4 @@
+use Rattle.std.proofs.Common.{refl}
 use Rattle.hol_kernel.specs.Theorem.{theorem_on}
 use Rattle.hol_equal.proofs.Outcomes.{became}
 use Rattle.hol_equal.specs.Applied.{lhs}
@@ -11,7 +12,7 @@ assumed_conclusion-requires c =
 
 pub conjunct1-requires : goal.conjunct1-requires
 conjunct1-requires c =
-    rw c.in_ok-own.ensures record { is = c.requires.is }
+    rw c.in_ok-own.ensures record { over = refl; is = c.requires.is }
 
 pub returns : goal.returns
 returns c =

@@ -1,4 +1,4 @@
-use Rattle.std.proofs.Common.{sym, ◌∙◌, refl}
+use Rattle.std.proofs.Common.{refl}
 use Rattle.hol_formulas.specs.Formula.{conjunction, equivalence}
 use Rattle.hol_equal.proofs.Outcomes.{became}
 use Rattle.hol_clauses.specs.Deduction.{concl_of}
@@ -8,7 +8,7 @@ use Rattle.hol_clauses.proofs.conjunction.implied_on_the_left.Goals as goal
 
 pub conj-requires : goal.conj-requires
 conj-requires c =
-    record { one_basis = c.requires.implied.over ∙ sym c.requires.own.over }
+    record { first = c.requires.implied.over; second = c.requires.own.over }
 
 pub assumed_second-requires : goal.assumed_second-requires
 assumed_second-requires c =

@@ -1,4 +1,4 @@
-use Rattle.std.proofs.Common.{sym, ◌∙◌, refl}
+use Rattle.std.proofs.Common.{refl}
 use Rattle.hol_formulas.specs.Formula.{conjunction, equivalence}
 use Rattle.hol_equal.proofs.Outcomes.{became}
 use Rattle.hol_clauses.specs.Deduction.{concl_of}
@@ -8,7 +8,7 @@ use Rattle.hol_clauses.proofs.conjunction.implied_on_the_right.Goals as goal
 
 pub conj-requires : goal.conj-requires
 conj-requires c =
-    record { one_basis = c.requires.own.over ∙ sym c.requires.implied.over }
+    record { first = c.requires.own.over; second = c.requires.implied.over }
 
 pub assumed_first-requires : goal.assumed_first-requires
 assumed_first-requires c =

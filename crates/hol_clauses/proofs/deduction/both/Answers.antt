@@ -3,13 +3,16 @@ use Rattle.std.proofs.Common.{ap, ◌∙◌}
 use Rattle.hol_formulas.specs.Formula.{conjunction}
 use Rattle.hol_kernel.specs.Items.{no_items}
 use Rattle.hol_kernel.specs.Sequent.{no_hyps, Hyps}
-use Rattle.hol_kernel.specs.Theorem.{theorem_on, theorem_over}
+use Rattle.hol_kernel.specs.Theorem.{Theorem, theorem_on, theorem_over}
 use Rattle.hol_equal.proofs.HypSets.{none_left}
 use Rattle.hol_equal.proofs.Outcomes.{became}
 use Rattle.hol_derived.specs.Rules.{conj_of}
 use Rattle.hol_clauses.specs.Deduction.{concl_of}
 use Rattle.hol_clauses.specs.Statements.{theorem_of}
 use Rattle.hol_clauses.proofs.deduction.both.Goals as goal
+
+pub conj-requires : goal.conj-requires
+conj-requires c = record { first = ap (λ (th : Theorem). th.basis) c.requires.first; second = ap (λ (th : Theorem). th.basis) c.requires.second }
 
 pub returns : goal.returns
 returns c =

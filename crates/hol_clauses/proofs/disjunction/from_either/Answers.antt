@@ -1,5 +1,5 @@
 use Rattle.std.specs.FinSet as set
-use Rattle.std.proofs.Common.{ap, sym, ◌∙◌}
+use Rattle.std.proofs.Common.{ap, ◌∙◌, refl}
 use Rattle.hol_terms.specs.Alpha.{strip}
 use Rattle.hol_kernel.specs.Items.{no_items}
 use Rattle.hol_kernel.specs.Sequent.{Hyps, no_hyps, only_hyp}
@@ -16,7 +16,7 @@ assumed_conclusion-requires c =
 
 pub disj_cases-requires : goal.disj_cases-requires
 disj_cases-requires c =
-    rw c.in_ok-all.ensures record { one_basis = sym c.requires.first.over; same_basis = sym c.requires.second.over; is = c.requires.is; fits = ap strip c.requires.same }
+    rw c.in_ok-all.ensures record { over = refl; first = c.requires.first.over; second = c.requires.second.over; is = c.requires.is; fits = ap strip c.requires.same }
 
 pub returns : goal.returns
 returns c =

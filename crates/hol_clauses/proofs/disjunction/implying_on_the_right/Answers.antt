@@ -13,7 +13,7 @@ use Rattle.hol_clauses.proofs.disjunction.implying_on_the_right.Goals as goal
 
 pub disj1-requires : goal.disj1-requires
 disj1-requires c =
-    rw (c.requires.own.over, c.concl.ensures.concl) record { typed = subst (λ (s : Items). HasType s (concl_of c.args.q.now) bool_type) c.requires.over c.well_typed.ensures.conclusion }
+    rw (c.requires.own.over, c.concl.ensures.concl) record { over = refl; typed = subst (λ (s : Items). HasType s (concl_of c.args.q.now) bool_type) c.requires.over c.well_typed.ensures.conclusion }
 
 pub from_either-requires : goal.from_either-requires
 from_either-requires c =

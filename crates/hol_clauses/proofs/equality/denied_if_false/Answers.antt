@@ -19,7 +19,7 @@ falsity_from-requires c =
 
 pub disch-requires : goal.disch-requires
 disch-requires c =
-    rw (c.in_ok-none.ensures, c.concl.ensures.concl) record { typed = subst (λ (s : Items). HasType s (concl_of c.args.p.now) bool_type) c.requires.own.over c.well_typed.ensures.conclusion }
+    rw (c.in_ok-none.ensures, c.concl.ensures.concl) record { over = refl; typed = subst (λ (s : Items). HasType s (concl_of c.args.p.now) bool_type) c.requires.own.over c.well_typed.ensures.conclusion }
 
 pub denied-requires : goal.denied-requires
 denied-requires c =

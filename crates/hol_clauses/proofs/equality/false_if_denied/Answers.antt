@@ -24,7 +24,7 @@ eqf_intro-requires c =
     let p = concl_of c.args.p.now in
     let not : nameless [] c.in_ok-not.not ≡ negation p = ap (nameless []) c.in_ok-not.ensures.is ∙ ap negation c.concl.ensures.concl in
     let own : c.in_ok-own.own ≡ theorem_under (negation p) (negation p) = c.in_ok-own.ensures ∙ (λ i. theorem_under (not i) (not i)) in
-    rw own record { is = refl }
+    rw own record { over = refl; is = refl }
 
 pub returns : goal.returns
 returns c =

@@ -9,6 +9,9 @@ use Rattle.hol_clauses.specs.Deduction.{concl_of}
 use Rattle.hol_clauses.specs.Statements.{theorem_of}
 use Rattle.hol_clauses.proofs.equality.is_truth.Goals as goal
 
+pub eqt_intro-requires : goal.eqt_intro-requires
+eqt_intro-requires c = c.requires.over
+
 pub turned-requires : goal.turned-requires
 turned-requires c =
     let p = concl_of c.args.p.now in

@@ -10,6 +10,9 @@ use Rattle.hol_derived.specs.Rules.{eqt_intro_of}
 use Rattle.hol_clauses.specs.Deduction.{concl_of}
 use Rattle.hol_clauses.proofs.equality.truth_equal.Goals as goal
 
+pub eqt_intro-requires : goal.eqt_intro-requires
+eqt_intro-requires c = c.requires.over
+
 pub sym-requires : goal.sym-requires
 sym-requires c =
     let p = concl_of c.args.p.now in

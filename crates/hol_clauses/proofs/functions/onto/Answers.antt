@@ -13,7 +13,7 @@ at_function-requires c =
 
 pub generalize-requires : goal.generalize-requires
 generalize-requires c =
-    rw (c.in_ok-own.ensures, c.in_ok-f.ensures) record { stands = refl; absent = none_free function }
+    rw (c.in_ok-own.ensures, c.in_ok-f.ensures) record { over = refl; stands = refl; absent = none_free function }
 
 pub returns : goal.returns
 returns c =

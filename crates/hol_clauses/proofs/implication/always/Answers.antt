@@ -15,7 +15,7 @@ use Rattle.hol_clauses.proofs.implication.always.Goals as goal
 
 pub disch-requires : goal.disch-requires
 disch-requires c =
-    rw (c.requires.implied.over, c.concl.ensures.concl) record { typed = subst (λ (s : Items). HasType s (concl_of c.args.p.now) bool_type) c.requires.over c.well_typed.ensures.conclusion }
+    rw (c.requires.implied.over, c.concl.ensures.concl) record { over = refl; typed = subst (λ (s : Items). HasType s (concl_of c.args.p.now) bool_type) c.requires.over c.well_typed.ensures.conclusion }
 
 pub holds-requires : goal.holds-requires
 holds-requires c =

@@ -21,7 +21,8 @@ mp-requires c =
     let d = implication truth p in
     let all : c.in_ok-all.all ≡ theorem_under d d = c.in_ok-all.ensures ∙ (λ i. theorem_under (c.requires.is i) (c.requires.is i)) in
     record {
-      one_basis = ap (λ (th : Theorem). th.basis) all ∙ sym (ap (λ (th : Theorem). th.basis) c.requires.holds);
+      first = ap (λ (th : Theorem). th.basis) all;
+      second = ap (λ (th : Theorem). th.basis) c.requires.holds;
       is = rw all refl;
       fits = ap (λ (th : Theorem). strip (lhs (concl_of th))) all ∙ sym (ap (λ (th : Theorem). strip (concl_of th)) c.requires.holds);
     }

@@ -15,7 +15,7 @@ use Rattle.hol_clauses.proofs.implication.truth_implies.Goals as goal
 pub disch-requires : goal.disch-requires
 disch-requires c =
     let t : nameless [] c.concl.result.now ≡ truth = c.concl.ensures.concl ∙ ap concl_of c.requires.holds in
-    rw (c.requires.own.over, t) record { typed = refl }
+    rw (c.requires.own.over, t) record { over = refl; typed = refl }
 
 pub from_truth_implies-requires : goal.from_truth_implies-requires
 from_truth_implies-requires c =

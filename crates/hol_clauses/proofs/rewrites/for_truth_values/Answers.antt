@@ -9,7 +9,7 @@ use Rattle.hol_clauses.proofs.rewrites.for_truth_values.Goals as goal
 
 pub generalize-requires : goal.generalize-requires
 generalize-requires c =
-    rw (c.requires, c.in_ok-t.ensures) record { stands = refl; absent = none_free (boolean (codes "t")) }
+    rw (c.requires, c.in_ok-t.ensures) record { over = refl; stands = refl; absent = none_free (boolean (codes "t")) }
 
 pub returns : goal.returns
 returns c =

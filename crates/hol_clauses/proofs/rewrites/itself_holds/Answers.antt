@@ -1,7 +1,8 @@
+use Rattle.std.proofs.Common.{ap}
 use Rattle.hol_terms.specs.Nameless.{free}
 use Rattle.hol_formulas.specs.Equation.{equation}
 use Rattle.hol_formulas.specs.Formula.{truth, equivalence}
-use Rattle.hol_kernel.specs.Theorem.{theorem_on}
+use Rattle.hol_kernel.specs.Theorem.{Theorem, theorem_on}
 use Rattle.hol_equal.proofs.Outcomes.{became}
 use Rattle.hol_derived.specs.Rules.{eqt_intro_of}
 use Rattle.hol_clauses.specs.Statements.{theorem_of}
@@ -10,6 +11,9 @@ use Rattle.hol_clauses.proofs.rewrites.itself_holds.Goals as goal
 pub itself-requires : goal.itself-requires
 itself-requires c =
     c.requires
+
+pub eqt_intro-requires : goal.eqt_intro-requires
+eqt_intro-requires c = ap (λ (th : Theorem). th.basis) c.in_ok-same.ensures
 
 pub returns : goal.returns
 returns c =

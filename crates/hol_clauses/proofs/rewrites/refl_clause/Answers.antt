@@ -19,7 +19,7 @@ itself_holds-requires c =
 
 pub generalize-requires : goal.generalize-requires
 generalize-requires c =
-    rw (c.in_ok-holds.ensures, c.in_ok-x.ensures) record { stands = refl; absent = none_free (element (codes "x")) }
+    rw (c.in_ok-holds.ensures, c.in_ok-x.ensures) record { over = refl; stands = refl; absent = none_free (element (codes "x")) }
 
 pub returns : goal.returns
 returns c =

@@ -4,4 +4,4 @@ use Rattle.hol_combine.proofs.Turns.{run_falls}
 use Rattle.hol_combine.proofs.laws.repeat_law.Goals as goal
 
 pub returns : goal.returns
-returns c table t goal turns = law (run table t) (run_falls table t) goal turns
+returns c known t goal used = law (run known t) (run_falls known t) goal used

@@ -1,5 +1,5 @@
 use Rattle.std.proofs.Common.{◌≡◌, ap, ◌∙◌, [], refl, codes}
-use Rattle.hol_terms.specs.Nameless.{Nameless, nameless, app, fixed, free}
+use Rattle.hol_terms.specs.Nameless.{nameless, app, fixed, free}
 use Rattle.hol_formulas.specs.Constants.{var_a}
 use Rattle.hol_formulas.specs.Equation.{bool_type, equation}
 use Rattle.hol_formulas.specs.Formula.{quantifier_type, truth}

@@ -1,27 +1,18 @@
-use Rattle.std.proofs.Common.{ap, sym, ◌∙◌}
-use Rattle.std.proofs.lemmas.Bool.{true≢false}
-use Rattle.std.specs.Prelude.{◌≡◌, Some}
-use Rattle.std.specs.Option.{option_map}
+use Rattle.std.proofs.Common.{refl}
 use Rattle.hol_exec.specs.CommandView.{local_text}
-use Rattle.hol_document.proofs.Agreeing.{reads_agree}
-use Rattle.hol_document.proofs.Alike.{row_passed, row_read_again}
-use Rattle.hol_document.proofs.Settled.{passed_over}
-use Rattle.hol_document.proofs.settle.keeps_local.Goals.{then-has_same_proof, else-has_same_proof}
+use Rattle.hol_exec.proofs.Unique.{one_text}
+use Rattle.hol_document.proofs.Settled.{counts_read, row_untold}
 use Rattle.hol_document.proofs.settle.keeps_local.Goals as goal
 
-pub returns-then-is_apart-clause-yes : goal.returns-then-is_apart-clause-yes
-returns-then-is_apart-clause-yes c = λ yes setup before earlier s alike is.
-    let read : c.args.slot.now.row.reads ≡ Some c.in-Some.reads.value = sym c.reads.ensures ∙ ap (option_map (λ r. r.value)) c.in-Some.is in
-    elim c.if-has_same_proof.branch [
-      | then-has_same_proof w ↦
-          row_passed setup before earlier c.args.drift.now s c.args.state.now c.args.slot.now.text c.args.slot.now.row alike
-          (passed_over c.args.drift.now c.args.slot.now.row (local_text c.args.command.now) c.in-Some.reads.value c.requires.value read c.requires.keyed
-          (sym c.has_same_proof.ensures ∙ w.if-has_same_proof.true) ((rw (w.changes.ensures, w.deref.ensures) at w.is_apart.ensures) (sym w.value-is ∙ yes))) is
-      | else-has_same_proof w ↦ absurd (true≢false (sym yes ∙ (w.value-is ∙ w.if-has_same_proof.false)))
-    ]
+pub returns-then-reads_again-clause-yes : goal.returns-then-reads_again-clause-yes
+returns-then-reads_again-clause-yes c = λ yes setup before earlier s alike is.
+    c.if-reads_again.ensures.yes refl setup before earlier s alike (c.tests_again.ensures.yes yes setup before s (local_text c.args.command.now) c.requires.value alike is) is
 
-pub returns-else-is_apart-clause-yes : goal.returns-else-is_apart-clause-yes
-returns-else-is_apart-clause-yes c = λ yes setup before earlier s alike is.
-    let read : c.args.slot.now.row.reads ≡ Some c.in-Some.reads.value = sym c.reads.ensures ∙ ap (option_map (λ r. r.value)) c.in-Some.is in
-    row_read_again setup before earlier s c.args.state.now c.args.slot.now.text (local_text c.args.command.now) c.in-Some.reads.value c.args.slot.now.row c.requires.value read
-    (reads_agree _ _ c.agree.result (rw c.deref-else-is_apart.ensures at c.agree.ensures) yes) is
+pub returns-then-reads_again-clause-no : goal.returns-then-reads_again-clause-no
+returns-then-reads_again-clause-no c = λ no setup earlier row is.
+    row_untold setup earlier c.args.state.now c.args.slot.now.text (local_text c.args.command.now) c.args.slot.now.row row (one_text c.args.slot.now.text row.value c.args.slot.now.row.value is.parsed c.requires.parsed) c.requires.value
+    (c.tests_again.ensures.no no) is
+
+pub returns-else-reads_again-clause-no : goal.returns-else-reads_again-clause-no
+returns-else-reads_again-clause-no c = λ no setup earlier row is.
+    counts_read setup earlier c.args.state.now c.args.slot.now.text c.args.slot.now.row row (one_text c.args.slot.now.text row.value c.args.slot.now.row.value is.parsed c.requires.parsed) (c.if-reads_again.ensures.no refl) is

@@ -2,7 +2,7 @@ use Rattle.std.proofs.Common.{[], sym, ◌∙◌}
 use Rattle.hol_terms.specs.Nameless.{nameless}
 use Rattle.hol_derived.specs.Rules.{exists_of}
 use Rattle.hol_just.proofs.Applied.{from_one_taken, is_first, where_ok, one_applies}
-use Rattle.hol_just.proofs.Expanding.{over_basis}
+use Rattle.hol_derived.proofs.Instances.{over_basis}
 use Rattle.hol_just.proofs.bool_steps.existence.Goals as goal
 
 pub exists-requires : goal.exists-requires

@@ -1,7 +1,7 @@
 use Rattle.std.proofs.Common.{sym, ◌∙◌}
 use Rattle.hol_just.specs.Reasons.{converted_back}
 use Rattle.hol_just.proofs.Applied.{from_one_taken, is_first, where_ok, one_applies}
-use Rattle.hol_just.proofs.Expanding.{over_basis}
+use Rattle.hol_derived.proofs.Instances.{over_basis}
 use Rattle.hol_just.proofs.conversion_steps.conversion.Goals as goal
 
 pub converted_back-requires : goal.converted_back-requires

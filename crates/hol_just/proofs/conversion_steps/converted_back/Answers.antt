@@ -11,7 +11,8 @@ use Rattle.hol_equal.specs.declared.error.Rule.TheVariants as rule
 use Rattle.hol_replay.specs.Replays.{trace_equation}
 use Rattle.hol_just.specs.Reasons.{converted_back}
 use Rattle.hol_just.proofs.Applied.{gave, made_or_short}
-use Rattle.hol_just.proofs.Expanding.{over_basis, equation_basis, ok_after, equation_some, sym_applies, eq_mp_applies, expanded_gives}
+use Rattle.hol_derived.proofs.Instances.{over_basis}
+use Rattle.hol_just.proofs.Expanding.{equation_basis, ok_after, equation_some, sym_applies, eq_mp_applies, expanded_gives}
 use Rattle.hol_just.proofs.conversion_steps.converted_back.Goals as goal
 
 pub replay-requires-clause-applies : goal.replay-requires-clause-applies

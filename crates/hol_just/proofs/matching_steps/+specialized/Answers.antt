@@ -7,7 +7,7 @@ use Rattle.hol_terms.specs.Nameless.{nameless}
 use Rattle.hol_kernel.specs.Theorem.{over}
 use Rattle.hol_derived.specs.Rules.{spec_of}
 use Rattle.hol_just.specs.Matching.{bound_variables, specialized}
-use Rattle.hol_just.proofs.Expanding.{over_basis}
+use Rattle.hol_derived.proofs.Instances.{over_basis}
 use Rattle.hol_just.proofs.MatchApplied.{spec_applies, rest_applies, rest_gives}
 use Rattle.hol_just.proofs.matching_steps.+specialized.Goals as goal
 

@@ -1,11 +1,19 @@
-use Rattle.std.proofs.Common.{◌∙◌, ap, [], map}
+use Rattle.std.proofs.Common.{◌∙◌, ap, [], map, get_or}
+use Rattle.std.specs.Prelude.{string_bytes}
 use Rattle.std.proofs.lemmas.Result.{on_ok_weaker}
+use Rattle.hol_goal.specs.declared.tac_code.TacCode.TheVariants.{AllTac}
 use Rattle.hol_serve.specs.Begun.{begun_by}
 use Rattle.hol_serve.specs.BegunView.{row_of, names_differ}
 use Rattle.hol_session.specs.Machine.{MayAnswer}
 use Rattle.hol_session.specs.Session.{Finishes, StopsReading, StopsWriting}
-use Rattle.hol_serve.proofs.Registering.{names_of_rows, names_plain, rows_taken, begins, counted_begun}
+use Rattle.hol_serve.proofs.Registering.{one_registered, same_place, names_of_rows, names_plain, rows_taken, begins, counted_begun}
 use Rattle.hol_serve.proofs.begun.serve_with.Goals as goal
+
+pub loop-code-preserved : goal.loop-code-preserved
+loop-code-preserved g c =
+    let code = get_or c.args.codes.now c.loop-code.code-index AllTac in
+    one_registered c.loop-code.entries.items c.push.new.self.items c.new-in-loop-code-3.result c.args.codes.now c.loop-code.code-index code (string_bytes c.in_ok-name.name) c.loop-code-test.true
+    (same_place c.args.codes.now c.loop-code.code-index AllTac code c.loop-code-test.true) c.in_ok-push.ensures.items c.new-in-loop-code-3.ensures (c.in_ok-name.ensures.ok ∙ c.name.ensures) c.loop-code.invariant
 
 pub setup_of-requires-clause-differ : goal.setup_of-requires-clause-differ
 setup_of-requires-clause-differ g c = ap names_differ (names_of_rows c.loop-code.entries.items) ∙ names_plain c.args.codes.now _ c.requires.differ (rows_taken c.args.codes.now c.loop-code.code-index _ c.loop-code-test.false c.loop-code.invariant)

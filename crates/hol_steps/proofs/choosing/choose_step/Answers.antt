@@ -1,18 +1,26 @@
-use Rattle.std.specs.Prelude.{List, ℕ, IfOk, false, ◌≡◌}
-use Rattle.std.proofs.Common.{subst}
+use Rattle.std.specs.Prelude.{List, ℕ}
+use Rattle.std.proofs.Common.{[], ◌∷◌}
 use Rattle.hol_types.specs.Tree.{TypeTree}
-use Rattle.hol_terms.specs.Nameless.{base_of}
-use Rattle.hol_subst.specs.Variant.{is_free_in}
-use Rattle.hol_just.specs.FreeNames.{free_name}
+use Rattle.hol_terms.specs.Nameless.{free, nameless}
+use Rattle.hol_subst.specs.Closing.{open_with}
+use Rattle.hol_just.specs.Leaving.{assuming}
 use Rattle.hol_just.specs.QuantifierTacs.{terms_by}
 use Rattle.hol_just.specs.Justifies.{LeavesChosen}
-use Rattle.hol_steps.proofs.FreshNames.{always_so}
+use Rattle.hol_steps.proofs.FreshSteps.{of_fresh_is, fresh_absent, fresh_goals}
 use Rattle.hol_steps.proofs.choosing.choose_step.Goals as goal
 
+pub x_choose_step-requires-clause-same : goal.x_choose_step-requires-clause-same
+x_choose_step-requires-clause-same c = c.in_ok-variable.ensures.typed
+
+pub returns-clause-goals : goal.returns-clause-goals
+returns-clause-goals c =
+    fresh_goals c.args.names.now (terms_by c.args.th.now c.args.goal.now) c.args.x.now c.in_ok-variable.field-0.variable c.in_ok-variable.field-0.tested.items c.in_ok-variable.ensures
+    (λ (u : List ℕ × TypeTree). assuming c.args.goal.now (open_with (free u) 0 (nameless (c.args.x.now ∷ []) c.args.p.now)) c.args.goal.now.conclusion) c.in_ok-x_choose_step.field-0.goals.items c.in_ok-x_choose_step.ensures.goals
+
 pub returns-clause-just : goal.returns-clause-just
-returns-clause-just c = subst (λ (u : List ℕ × TypeTree). IfOk c.x_choose_step.result (λ step. LeavesChosen u c.args.th.now step.just)) c.in_ok-v.ensures.is c.x_choose_step.ensures.just
+returns-clause-just c =
+    of_fresh_is c.args.names.now (terms_by c.args.th.now c.args.goal.now) c.args.x.now c.in_ok-variable.field-0.variable c.in_ok-variable.field-0.tested.items c.in_ok-variable.ensures (λ (u : List ℕ × TypeTree). LeavesChosen u c.args.th.now c.in_ok-x_choose_step.field-0.just) c.in_ok-x_choose_step.ensures.just
 
 pub returns-clause-absent : goal.returns-clause-absent
 returns-clause-absent c =
-    always_so c.x_choose_step.result (is_free_in (terms_by c.args.th.now c.args.goal.now) (free_name (terms_by c.args.th.now c.args.goal.now) (base_of c.args.x.now.0), c.args.x.now.1) ≡ false) _ c.in_ok-v.ensures.absent
-    c.x_choose_step.ensures.goals
+    fresh_absent c.args.names.now (terms_by c.args.th.now c.args.goal.now) c.args.x.now c.in_ok-variable.field-0.variable c.in_ok-variable.field-0.tested.items c.in_ok-variable.ensures

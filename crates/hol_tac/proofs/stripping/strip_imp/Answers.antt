@@ -3,7 +3,8 @@ use Rattle.std.proofs.Common.{[], ◌∷◌, ap, ◌∙◌, subst, refl}
 use Rattle.hol_terms.specs.Nameless.{nameless}
 use Rattle.hol_kernel.specs.Sequent.{no_hyps}
 use Rattle.hol_just.specs.Leaving.{concluding}
-use Rattle.hol_just.specs.Strip.{WaitingValue, waiting, strip}
+use Rattle.hol_goal.specs.Answer.{starting}
+use Rattle.hol_just.specs.Strip.{avoiding, WaitingValue, waiting, strip}
 use Rattle.hol_just.specs.Answering.{IsJustified}
 use Rattle.hol_goal.specs.Arguments.{Nothing}
 use Rattle.hol_steps.specs.Stripping.{IsStripped, KeepsValid}
@@ -14,7 +15,7 @@ use Rattle.hol_tac.proofs.stripping.strip_imp.Goals as goal
 pub returns-clause-answer : goal.returns-clause-answer
 returns-clause-answer c =
     let is : c.in_ok-first.first ≡ waiting (nameless [] c.args.p.now ∷ []) (concluding c.args.goal.now (nameless [] c.args.q.now)) = c.in_ok-first.ensures ∙ ap (waiting (nameless [] c.args.p.now ∷ [])) c.in_ok-left.ensures in
-    subst (λ (w : WaitingValue). IsStripped (strip [] w c.args.turns) c.strip.result) is (c.strip.ensures.answer [] (λ a. refl))
+    subst (λ (w : WaitingValue). IsStripped (strip (avoiding [] c.args.names.now) w (starting c.args.turns)) c.strip.result) is (c.strip.ensures.answer (avoiding [] c.args.names.now) ((λ a. refl), refl))
 
 pub returns-clause-valid : goal.returns-clause-valid
 returns-clause-valid c =
@@ -22,6 +23,6 @@ returns-clause-valid c =
     let p = nameless [] c.args.p.now in
     let q = nameless [] c.args.q.now in
     let is : c.in_ok-first.first ≡ waiting (p ∷ []) (concluding g q) = c.in_ok-first.ensures ∙ ap (waiting (p ∷ [])) c.in_ok-left.ensures in
-    each_ok c.strip.result (λ tried. KeepsValid [] c.in_ok-before.before c.in_ok-first.first tried.step) (λ tried. IsJustified Nothing g tried.step)
-    (λ tried k. antecedent_valid g c.in_ok-before.before c.in_ok-first.first tried.step p q is (disch_valid no_hyps g g.conclusion refl c.in_ok-before.before p q c.requires.parts c.in_ok-before.ensures) k)
-    (c.strip.ensures.valid [] (λ a. refl))
+    each_ok c.strip.result (λ tried. KeepsValid (avoiding [] c.args.names.now) c.in_ok-before.before c.in_ok-first.first tried.step) (λ tried. IsJustified Nothing g tried.step)
+    (λ tried k. antecedent_valid g c.args.names.now c.in_ok-before.before c.in_ok-first.first tried.step p q is (disch_valid no_hyps g g.conclusion refl c.in_ok-before.before p q c.requires.parts c.in_ok-before.ensures) k)
+    (c.strip.ensures.valid (avoiding [] c.args.names.now) ((λ a. refl), refl))

@@ -1,4 +1,4 @@
-use Rattle.std.proofs.Common.{◌≡◌, ap, ◌∙◌, []}
+use Rattle.std.proofs.Common.{ap, []}
 use Rattle.hol_terms.specs.Nameless.{nameless}
 use Rattle.hol_formulas.specs.Formula.{truth, equivalence}
 use Rattle.hol_kernel.specs.Sequent.{only_hyp, sequent_of}

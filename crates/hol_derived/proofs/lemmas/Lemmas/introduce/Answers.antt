@@ -10,7 +10,7 @@ use Rattle.hol_equal.specs.Rules.{prove_hyp_of}
 use Rattle.hol_formulas.proofs.FormulaLaws.{dest_exists_existential, dest_quantifier_is}
 use Rattle.hol_formulas.specs.Equation.{bool_type}
 use Rattle.hol_formulas.specs.Formula.{dest_exists}
-use Rattle.hol_kernel.specs.Sequent.{only_hyp, sequent_of, Hyps}
+use Rattle.hol_kernel.specs.Sequent.{only_hyp, sequent_of}
 use Rattle.hol_kernel.specs.Items.{Items}
 use Rattle.hol_subst.proofs.Closing.{IsClosed, closed_named}
 use Rattle.hol_derived.specs.Lemmas.{general, put_at}

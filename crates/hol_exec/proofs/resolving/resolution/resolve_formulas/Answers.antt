@@ -17,6 +17,7 @@ resolve_expr-requires g c =
       theorems = same;
       within = is_context c.args.reads.now.cited c.args.reads.now.made (readings_value c.args.readings.now) c.in_ok-basis.basis c.deref.result.now c.cited.ensures.theory is same;
       over = subst (λ (b : Items). AreOver b (readings_value c.args.readings.now)) (sym is) c.requires;
+      general = c.lemmas.ensures;
     }
 
 pub returns-in-Ok-clause-value : goal.returns-in-Ok-clause-value

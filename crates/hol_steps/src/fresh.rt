@@ -1,0 +1,74 @@
+//! Variables of new names.
+ghost use Rattle.std.specs.Prelude.{◌≡◌, List, map, IfOk, false, []};
+ghost use Rattle.hol_terms.specs.Nameless.{Nameless, nameless};
+ghost use Rattle.hol_subst.specs.FreeName.{is_taken};
+ghost use Rattle.hol_just.specs.Fresh.{fresh};
+ghost use Rattle.hol_steps.specs.Fresh.{AreAlike, IsFresh};
+
+use hol_goal::Names;
+use hol_just::Step;
+use hol_subst::free_name;
+use hol_terms::{Term, Variable, base_name};
+use hol_types::Name;
+use std::alloc::{AllocError, Global};
+
+/// A variable of a new name.
+#[derive(Drop)]
+pub(crate) struct FreshVariable {
+    pub(crate) variable: Variable,
+    /// The names that were tested for it, in order.
+    pub(crate) tested: Vec<Name>,
+}
+
+/// A step to a variable of a new name.
+#[derive(Drop)]
+pub struct FreeingStep {
+    /// The step.
+    pub step: Step,
+    /// The names that were tested for it, in order.
+    pub tested: Vec<Name>,
+}
+
+// A new name, which is the last of those that were tested.
+#[derive(Drop)]
+struct FreshName {
+    name: Name,
+    tested: Vec<Name>,
+}
+
+/// A variable of the type of `x` and a new name, with the fewest primes: that of nothing in the terms, and of no constant, where these are the names of constants.
+pub(crate) fn fresh_variable(
+    alloc: Global,
+    names: &Names,
+    avoid: &[Term],
+    x: &Variable,
+) -> Result<FreshVariable, AllocError>
+    ensures { IfOk result (λ f. (others : List Nameless) → AreAlike (map (nameless []) avoid.now) others → IsFresh names.now others x.now f.variable f.tested.items) }
+{
+    let base = Name::new(alloc, base_name(x.name().as_str()))?;
+    let FreshName { name, tested } = fresh_name(alloc, names, avoid, &base)?;
+    Ok(FreshVariable {
+        variable: Variable::new(&name, x.ty())?,
+        tested,
+    })
+}
+
+// The first name of the base with primes that is that of nothing in the terms, and of no constant.
+fn fresh_name(
+    alloc: Global,
+    names: &Names,
+    avoid: &[Term],
+    base: &Name,
+) -> Result<FreshName, AllocError>
+    ensures is { IfOk result (λ f. (others : List Nameless) → AreAlike (map (nameless []) avoid.now) others → fresh names.now others base.now ≡ record { name = f.name; tested = f.tested.items }) }
+    ensures absent { IfOk result (λ f. is_taken (map (nameless []) avoid.now) f.name ≡ false) }
+{
+    let mut name = free_name(alloc, avoid, base)?;
+    let mut tested = Vec::new(alloc);
+    tested.push(name.copy()?)?;
+    'primes: while names.has(name.as_str()) {
+        name = free_name(alloc, avoid, &name.primed(alloc)?)?;
+        tested.push(name.copy()?)?;
+    }
+    Ok(FreshName { name, tested })
+}
