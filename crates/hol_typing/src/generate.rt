@@ -180,6 +180,7 @@ impl Graph {
     }
 
     // A bound variable, whose type is that of the slot `expected`.
+    #[inline(never)]
     fn bound(
         &mut self,
         scope: &Scope<'_>,
@@ -198,6 +199,7 @@ impl Graph {
     }
 
     // A constant, whose type is that of the slot `expected`.
+    #[inline(never)]
     fn constant(
         &mut self,
         name: &Name,
@@ -213,6 +215,7 @@ impl Graph {
     }
 
     // A free variable, whose type is that of the slot `expected`.
+    #[inline(never)]
     fn free(&mut self, name: &Name, expected: usize) -> Result<Skeleton, AllocError>
         requires well_formed { IsWellFormed self.old }
         requires expected_in { expected < slots self.old }
@@ -224,6 +227,7 @@ impl Graph {
     }
 
     // Two slots more: for the type of functions to that of the slot `expected`, and for the type that these are from.
+    #[inline(never)]
     fn open_application(
         &mut self,
         alloc: Global,
@@ -242,6 +246,7 @@ impl Graph {
     }
 
     // The slots of a bound variable and of what a function of it gives, where the function's type is that of the slot `expected`.
+    #[inline(never)]
     fn open_abstraction(
         &mut self,
         alloc: Global,
@@ -264,6 +269,7 @@ impl Graph {
     }
 
     // Gives the slot `expected` the type that is written.
+    #[inline(never)]
     fn open_annotation(&mut self, alloc: Global, ty: &Ty, expected: usize) -> Result<(), AllocError>
         requires well_formed { IsWellFormed self.old }
         requires rigid { IsRigidBut [] ty.now }

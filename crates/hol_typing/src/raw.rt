@@ -25,11 +25,22 @@ pub enum RawTerm {
 }
 
 impl RawTerm {
-    /// The application of the first to the second.
-    pub fn apply(alloc: Global, function: RawTerm, argument: RawTerm) -> Result<RawTerm, AllocError>
-        ensures { IfOk result (λ t. raw_tree t ≡ RawApply (raw_tree function) (raw_tree argument)) }
+    /// The term in a box: what is handed up a recursion is a box, and takes little of its frame.
+    pub fn boxed(alloc: Global, term: RawTerm) -> Result<Box<RawTerm>, AllocError>
+        ensures { IfOk result (λ b. b.value ≡ term) }
     {
-        Ok(RawTerm::Apply(Box::new(alloc, function)?, Box::new(alloc, argument)?))
+        Ok(Box::new(alloc, term)?)
+    }
+
+    /// The application of the first to the second.
+    pub fn apply(
+        alloc: Global,
+        function: Box<RawTerm>,
+        argument: Box<RawTerm>,
+    ) -> Result<Box<RawTerm>, AllocError>
+        ensures { IfOk result (λ t. raw_tree t.value ≡ RawApply (raw_tree function.value) (raw_tree argument.value)) }
+    {
+        RawTerm::boxed(alloc, RawTerm::Apply(function, argument))
     }
 
     /// The abstraction over a variable of this name.
@@ -37,30 +48,18 @@ impl RawTerm {
         alloc: Global,
         name: &str,
         annotation: Option<Ty>,
-        body: RawTerm,
-    ) -> Result<RawTerm, AllocError>
-        ensures { IfOk result (λ t. raw_tree t ≡ RawAbstraction name.now annotation (raw_tree body)) }
+        body: Box<RawTerm>,
+    ) -> Result<Box<RawTerm>, AllocError>
+        ensures { IfOk result (λ t. raw_tree t.value ≡ RawAbstraction name.now annotation (raw_tree body.value)) }
     {
         let own_name = Name::new(alloc, name)?;
-        RawTerm::over(alloc, own_name, annotation, body)
-    }
-
-    // The same, where the name is made.
-    fn over(
-        alloc: Global,
-        name: Name,
-        annotation: Option<Ty>,
-        body: RawTerm,
-    ) -> Result<RawTerm, AllocError>
-        ensures { IfOk result (λ t. raw_tree t ≡ RawAbstraction name annotation (raw_tree body)) }
-    {
-        Ok(RawTerm::Abstraction(name, annotation, Box::new(alloc, body)?))
+        RawTerm::boxed(alloc, RawTerm::Abstraction(own_name, annotation, body))
     }
 
     /// The term with its type written.
-    pub fn annotated(alloc: Global, term: RawTerm, ty: Ty) -> Result<RawTerm, AllocError>
-        ensures { IfOk result (λ t. raw_tree t ≡ RawAnnotated (raw_tree term) ty) }
+    pub fn annotated(alloc: Global, term: Box<RawTerm>, ty: Ty) -> Result<Box<RawTerm>, AllocError>
+        ensures { IfOk result (λ t. raw_tree t.value ≡ RawAnnotated (raw_tree term.value) ty) }
     {
-        Ok(RawTerm::Annotated(Box::new(alloc, term)?, ty))
+        RawTerm::boxed(alloc, RawTerm::Annotated(term, ty))
     }
 }

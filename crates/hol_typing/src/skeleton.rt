@@ -23,6 +23,7 @@ pub enum Skeleton {
 
 impl Skeleton {
     /// The application of the first to the second.
+    #[inline(never)]
     pub(crate) fn apply(
         alloc: Global,
         function: Skeleton,
@@ -34,6 +35,7 @@ impl Skeleton {
     }
 
     /// The abstraction over a variable of this name and slot.
+    #[inline(never)]
     pub(crate) fn abstraction(
         alloc: Global,
         name: &Name,
