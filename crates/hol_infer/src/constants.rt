@@ -103,7 +103,8 @@ pub(crate) fn resolved(
     ensures arity { IfErr result (λ e. e ≡ ResolveError.Arity → term_has_arities arities.now term.now ≡ false) }
 {
     let schemes = counted(alloc, constants, term)?;
-    resolve(alloc, &schemes, arities, &Names::Outermost, term)
+    let raw = resolve(alloc, &schemes, arities, &Names::Outermost, term)?;
+    Ok(Box::into_inner(raw))
 }
 
 /// The same of the equation of a definition.
@@ -117,5 +118,6 @@ pub(crate) fn resolved_definition(
     ensures arity { IfErr result (λ e. e ≡ ResolveError.Arity → definition_has_arities arities.now definition.now ≡ false) }
 {
     let schemes = counted(alloc, constants, &definition.right.term)?;
-    resolve_definition(alloc, &schemes, arities, definition)
+    let equation = resolve_definition(alloc, &schemes, arities, definition)?;
+    Ok(Box::into_inner(equation))
 }

@@ -7,7 +7,8 @@ ghost use Rattle.hol_typing.specs.RawView.{raw_tree};
 ghost use Rattle.hol_infer.specs.Resolving.{annotated, at_bool, right_raw, value_raw, right_has_arities, value_has_arities, definition_has_arities, without, operator_raw, definition_raw};
 
 use crate::resolving::{
-    Names, ResolveError, applied, operator, over, resolve, resolve_annotation, truth_type,
+    Names, ResolveError, abstracted, applied, boxed, operator, resolve, resolve_annotation,
+    truth_type,
 };
 use hol_notation_terms::{Definition, Operator, PreVariable, RightSide};
 use hol_types::{Name, Ty};
@@ -15,8 +16,12 @@ use hol_typing::{RawTerm, Scheme};
 use std::alloc::{AllocError, Global};
 
 // The term with the type that is written for it, if there is one.
-fn annotated(alloc: Global, annotation: Option<Ty>, term: RawTerm) -> Result<RawTerm, AllocError>
-    ensures { IfOk result (λ t. raw_tree t ≡ annotated annotation (raw_tree term)) }
+fn annotated(
+    alloc: Global,
+    annotation: Option<Ty>,
+    term: Box<RawTerm>,
+) -> Result<Box<RawTerm>, AllocError>
+    ensures { IfOk result (λ t. raw_tree t.value ≡ annotated annotation (raw_tree term.value)) }
 {
     match annotation {
         Some(ty) => RawTerm::annotated(alloc, term, ty),
@@ -25,8 +30,8 @@ fn annotated(alloc: Global, annotation: Option<Ty>, term: RawTerm) -> Result<Raw
 }
 
 // The term, of type `bool` where the sign is `<=>`.
-fn at_bool(alloc: Global, is_iff: bool, term: RawTerm) -> Result<RawTerm, AllocError>
-    ensures { IfOk result (λ t. raw_tree t ≡ at_bool is_iff (raw_tree term)) }
+fn at_bool(alloc: Global, is_iff: bool, term: Box<RawTerm>) -> Result<Box<RawTerm>, AllocError>
+    ensures { IfOk result (λ t. raw_tree t.value ≡ at_bool is_iff (raw_tree term.value)) }
 {
     if !is_iff {
         return Ok(term);
@@ -40,9 +45,9 @@ fn typed_right(
     alloc: Global,
     annotation: Option<Ty>,
     is_iff: bool,
-    term: RawTerm,
-) -> Result<RawTerm, ResolveError>
-    ensures ok { IfOk result (λ t. raw_tree t ≡ at_bool is_iff (annotated annotation (raw_tree term))) }
+    term: Box<RawTerm>,
+) -> Result<Box<RawTerm>, ResolveError>
+    ensures ok { IfOk result (λ t. raw_tree t.value ≡ at_bool is_iff (annotated annotation (raw_tree term.value))) }
     ensures memory { IsOkUnless result ResolveError.Memory }
 {
     let inner = annotated(alloc, annotation, term)?;
@@ -50,14 +55,15 @@ fn typed_right(
 }
 
 // The right side, under abstractions over variables of these names.
+#[inline(never)]
 fn resolve_right(
     alloc: Global,
     constants: &[(Name, Scheme)],
     arities: &[(Name, usize)],
     names: &Names<'_>,
     right: &RightSide,
-) -> Result<RawTerm, ResolveError>
-    ensures ok { IfOk result (λ t. (raw_tree t ≡ right_raw arities.now constants.now (scope_names names.now) right.now) × (right_has_arities arities.now right.now ≡ true)) }
+) -> Result<Box<RawTerm>, ResolveError>
+    ensures ok { IfOk result (λ t. (raw_tree t.value ≡ right_raw arities.now constants.now (scope_names names.now) right.now) × (right_has_arities arities.now right.now ≡ true)) }
     ensures arity { IfErr result (λ e. e ≡ ResolveError.Arity → right_has_arities arities.now right.now ≡ false) }
 {
     let term = resolve(alloc, constants, arities, &*names, &right.term)?;
@@ -73,17 +79,16 @@ fn resolve_value(
     names: &Names<'_>,
     variables: &[PreVariable],
     right: &RightSide,
-) -> Result<RawTerm, ResolveError>
-    ensures ok { IfOk result (λ t. (raw_tree t ≡ value_raw arities.now constants.now (scope_names names.now) variables.now right.now) × (value_has_arities arities.now variables.now right.now ≡ true)) }
+) -> Result<Box<RawTerm>, ResolveError>
+    ensures ok { IfOk result (λ t. (raw_tree t.value ≡ value_raw arities.now constants.now (scope_names names.now) variables.now right.now) × (value_has_arities arities.now variables.now right.now ≡ true)) }
     ensures arity { IfErr result (λ e. e ≡ ResolveError.Arity → value_has_arities arities.now variables.now right.now ≡ false) }
 {
     match variables.split_first() {
         None => resolve_right(alloc, constants, arities, &*names, right),
         Some((variable, rest)) => {
-            let annotation = resolve_annotation(alloc, arities, &variable.annotation)?;
             let inside = Names::Inside(variable.name.as_str(), &*names);
             let inner = resolve_value(alloc, constants, arities, &inside, rest, right)?;
-            over(alloc, variable.name.as_str(), annotation, inner)
+            abstracted(alloc, arities, variable, inner)
         }
     }
 }
@@ -111,8 +116,8 @@ fn resolve_parameters(
     constants: &[(Name, Scheme)],
     arities: &[(Name, usize)],
     definition: &Definition,
-) -> Result<RawTerm, ResolveError>
-    ensures ok { IfOk result (λ t. (raw_tree t ≡ value_raw arities.now (without definition.now.name constants.now) [] definition.now.parameters definition.now.right) × (definition_has_arities arities.now definition.now ≡ true)) }
+) -> Result<Box<RawTerm>, ResolveError>
+    ensures ok { IfOk result (λ t. (raw_tree t.value ≡ value_raw arities.now (without definition.now.name constants.now) [] definition.now.parameters definition.now.right) × (definition_has_arities arities.now definition.now ≡ true)) }
     ensures arity { IfErr result (λ e. e ≡ ResolveError.Arity → definition_has_arities arities.now definition.now ≡ false) }
 {
     let others = without(alloc, constants, definition.name.as_str())?;
@@ -131,13 +136,14 @@ fn equality_with(
     alloc: Global,
     constants: &[(Name, Scheme)],
     defined: &str,
-) -> Result<RawTerm, ResolveError>
-    ensures ok { IfOk result (λ t. raw_tree t ≡ RawApply (operator_raw constants.now [] Equals) (RawFree defined.now)) }
+) -> Result<Box<RawTerm>, ResolveError>
+    ensures ok { IfOk result (λ t. raw_tree t.value ≡ RawApply (operator_raw constants.now [] Equals) (RawFree defined.now)) }
     ensures memory { IsOkUnless result ResolveError.Memory }
 {
     let equality = operator(alloc, constants, &Names::Outermost, Operator::Equals)?;
     let name = Name::new(alloc, defined)?;
-    applied(alloc, equality, RawTerm::Free(name))
+    let constant = boxed(alloc, RawTerm::Free(name))?;
+    applied(alloc, equality, constant)
 }
 
 /// `c = \v1 .. vn. r`, its identifiers resolved: c is a free variable whatever stands.
@@ -148,8 +154,8 @@ pub(crate) fn resolve_definition(
     constants: &[(Name, Scheme)],
     arities: &[(Name, usize)],
     definition: &Definition,
-) -> Result<RawTerm, ResolveError>
-    ensures ok { IfOk result (λ t. (raw_tree t ≡ definition_raw arities.now constants.now definition.now) × (definition_has_arities arities.now definition.now ≡ true)) }
+) -> Result<Box<RawTerm>, ResolveError>
+    ensures ok { IfOk result (λ t. (raw_tree t.value ≡ definition_raw arities.now constants.now definition.now) × (definition_has_arities arities.now definition.now ≡ true)) }
     ensures arity { IfErr result (λ e. e ≡ ResolveError.Arity → definition_has_arities arities.now definition.now ≡ false) }
 {
     let value = resolve_parameters(alloc, constants, arities, definition)?;

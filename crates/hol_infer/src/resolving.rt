@@ -209,6 +209,14 @@ pub(crate) fn resolve_annotation(
     }
 }
 
+/// The term in a box.
+pub(crate) fn boxed(alloc: Global, term: RawTerm) -> Result<Box<RawTerm>, ResolveError>
+    ensures ok { IfOk result (λ b. b.value ≡ term) }
+    ensures memory { IsOkUnless result ResolveError.Memory }
+{
+    Ok(RawTerm::boxed(alloc, term)?)
+}
+
 // What an identifier means.
 #[inline(never)]
 fn identifier(
@@ -216,20 +224,20 @@ fn identifier(
     constants: &[(Name, Scheme)],
     names: &Names<'_>,
     name: &str,
-) -> Result<RawTerm, ResolveError>
-    ensures ok { IfOk result (λ t. raw_tree t ≡ identifier constants.now (scope_names names.now) name.now) }
+) -> Result<Box<RawTerm>, ResolveError>
+    ensures ok { IfOk result (λ t. raw_tree t.value ≡ identifier constants.now (scope_names names.now) name.now) }
     ensures memory { IsOkUnless result ResolveError.Memory }
 {
     match names.index(name)? {
-        Some(index) => Ok(RawTerm::Bound(index)),
+        Some(index) => boxed(alloc, RawTerm::Bound(index)),
         None => {
             let own_name = Name::new(alloc, name)?;
             match generic_type(constants, name) {
                 Some(generic) => {
                     let own_type = generic.copy()?;
-                    Ok(RawTerm::Constant(own_name, own_type))
+                    boxed(alloc, RawTerm::Constant(own_name, own_type))
                 }
-                None => Ok(RawTerm::Free(own_name)),
+                None => boxed(alloc, RawTerm::Free(own_name)),
             }
         }
     }
@@ -241,15 +249,18 @@ fn sign(
     constants: &[(Name, Scheme)],
     names: &Names<'_>,
     name: &str,
-) -> Result<RawTerm, ResolveError>
-    ensures ok { IfOk result (λ t. raw_tree t ≡ sign constants.now (scope_names names.now) name.now) }
+) -> Result<Box<RawTerm>, ResolveError>
+    ensures ok { IfOk result (λ t. raw_tree t.value ≡ sign constants.now (scope_names names.now) name.now) }
     ensures memory { IsOkUnless result ResolveError.Memory }
 {
     match generic_type(constants, name) {
-        Some(generic) => Ok(RawTerm::Constant(Name::new(alloc, name)?, generic.copy()?)),
+        Some(generic) => boxed(
+            alloc,
+            RawTerm::Constant(Name::new(alloc, name)?, generic.copy()?),
+        ),
         None => match names.index(name)? {
-            Some(index) => Ok(RawTerm::Bound(index)),
-            None => Ok(RawTerm::Free(Name::new(alloc, name)?)),
+            Some(index) => boxed(alloc, RawTerm::Bound(index)),
+            None => boxed(alloc, RawTerm::Free(Name::new(alloc, name)?)),
         },
     }
 }
@@ -263,15 +274,15 @@ pub(crate) fn truth_type(alloc: Global) -> Result<Ty, AllocError>
 }
 
 // Equality of truth values.
-fn equivalence(alloc: Global) -> Result<RawTerm, ResolveError>
-    ensures ok { IfOk result (λ t. raw_tree t ≡ RawConstant (codes "=") (fun_type bool_type (fun_type bool_type bool_type))) }
+fn equivalence(alloc: Global) -> Result<Box<RawTerm>, ResolveError>
+    ensures ok { IfOk result (λ t. raw_tree t.value ≡ RawConstant (codes "=") (fun_type bool_type (fun_type bool_type bool_type))) }
     ensures memory { IsOkUnless result ResolveError.Memory }
 {
     let truth = truth_type(alloc)?;
     let range = Ty::fun(alloc, &truth, &truth)?;
     let ty = Ty::fun(alloc, &truth, &range)?;
     let scheme = Scheme::of(&ty, Variables::Unknown)?;
-    Ok(RawTerm::Constant(Name::new(alloc, "=")?, scheme))
+    boxed(alloc, RawTerm::Constant(Name::new(alloc, "=")?, scheme))
 }
 
 /// What an operator means.
@@ -281,8 +292,8 @@ pub(crate) fn operator(
     constants: &[(Name, Scheme)],
     names: &Names<'_>,
     operator: Operator,
-) -> Result<RawTerm, ResolveError>
-    ensures ok { IfOk result (λ t. raw_tree t ≡ operator_raw constants.now (scope_names names.now) operator) }
+) -> Result<Box<RawTerm>, ResolveError>
+    ensures ok { IfOk result (λ t. raw_tree t.value ≡ operator_raw constants.now (scope_names names.now) operator) }
     ensures memory { IsOkUnless result ResolveError.Memory }
 {
     match operator {
@@ -303,37 +314,39 @@ pub(crate) fn operator(
 #[inline(never)]
 pub(crate) fn applied(
     alloc: Global,
-    function: RawTerm,
-    argument: RawTerm,
-) -> Result<RawTerm, ResolveError>
-    ensures ok { IfOk result (λ t. raw_tree t ≡ RawApply (raw_tree function) (raw_tree argument)) }
+    function: Box<RawTerm>,
+    argument: Box<RawTerm>,
+) -> Result<Box<RawTerm>, ResolveError>
+    ensures ok { IfOk result (λ t. raw_tree t.value ≡ RawApply (raw_tree function.value) (raw_tree argument.value)) }
     ensures memory { IsOkUnless result ResolveError.Memory }
 {
     Ok(RawTerm::apply(alloc, function, argument)?)
 }
 
-/// The abstraction over a variable of this name.
-pub(crate) fn over(
+// The abstraction over a variable of this name.
+fn over(
     alloc: Global,
     name: &str,
     annotation: Option<Ty>,
-    body: RawTerm,
-) -> Result<RawTerm, ResolveError>
-    ensures ok { IfOk result (λ t. raw_tree t ≡ RawAbstraction name.now annotation (raw_tree body)) }
+    body: Box<RawTerm>,
+) -> Result<Box<RawTerm>, ResolveError>
+    ensures ok { IfOk result (λ t. raw_tree t.value ≡ RawAbstraction name.now annotation (raw_tree body.value)) }
     ensures memory { IsOkUnless result ResolveError.Memory }
 {
     Ok(RawTerm::abstraction(alloc, name, annotation, body)?)
 }
 
-// The abstraction over the variable that is written.
+/// The abstraction over the variable that is written.
+///
+/// Answers `Arity` only where its type has that fault.
 #[inline(never)]
-fn abstracted(
+pub(crate) fn abstracted(
     alloc: Global,
     arities: &[(Name, usize)],
     variable: &PreVariable,
-    body: RawTerm,
-) -> Result<RawTerm, ResolveError>
-    ensures ok { IfOk result (λ t. (raw_tree t ≡ RawAbstraction variable.now.name (option_map (type_of_text arities.now) variable.now.annotation) (raw_tree body)) × (option_has_arities arities.now variable.now.annotation ≡ true)) }
+    body: Box<RawTerm>,
+) -> Result<Box<RawTerm>, ResolveError>
+    ensures ok { IfOk result (λ t. (raw_tree t.value ≡ RawAbstraction variable.now.name (option_map (type_of_text arities.now) variable.now.annotation) (raw_tree body.value)) × (option_has_arities arities.now variable.now.annotation ≡ true)) }
     ensures arity { IfErr result (λ e. e ≡ ResolveError.Arity → option_has_arities arities.now variable.now.annotation ≡ false) }
 {
     let annotation = resolve_annotation(alloc, arities, &variable.annotation)?;
@@ -345,10 +358,10 @@ fn abstracted(
 fn typed(
     alloc: Global,
     arities: &[(Name, usize)],
-    term: RawTerm,
+    term: Box<RawTerm>,
     ty: &PreType,
-) -> Result<RawTerm, ResolveError>
-    ensures ok { IfOk result (λ t. (raw_tree t ≡ RawAnnotated (raw_tree term) (type_of_text arities.now ty.now)) × (has_arities arities.now ty.now ≡ true)) }
+) -> Result<Box<RawTerm>, ResolveError>
+    ensures ok { IfOk result (λ t. (raw_tree t.value ≡ RawAnnotated (raw_tree term.value) (type_of_text arities.now ty.now)) × (has_arities arities.now ty.now ≡ true)) }
     ensures arity { IfErr result (λ e. e ≡ ResolveError.Arity → has_arities arities.now ty.now ≡ false) }
 {
     let ty = resolve_type(alloc, arities, ty)?;
@@ -357,15 +370,15 @@ fn typed(
 
 /// The term whose identifiers are resolved, under abstractions over variables of these names.
 ///
-/// Answers `Arity` only where a type that is written has that fault.
+/// Answers `Arity` only where a type that is written has that fault. What it answers is in a box, so that a level of it takes little stack.
 pub(crate) fn resolve(
     alloc: Global,
     constants: &[(Name, Scheme)],
     arities: &[(Name, usize)],
     names: &Names<'_>,
     term: &PreTerm,
-) -> Result<RawTerm, ResolveError>
-    ensures ok { IfOk result (λ t. (raw_tree t ≡ raw_of arities.now constants.now (scope_names names.now) term.now) × (term_has_arities arities.now term.now ≡ true)) }
+) -> Result<Box<RawTerm>, ResolveError>
+    ensures ok { IfOk result (λ t. (raw_tree t.value ≡ raw_of arities.now constants.now (scope_names names.now) term.now) × (term_has_arities arities.now term.now ≡ true)) }
     ensures arity { IfErr result (λ e. e ≡ ResolveError.Arity → term_has_arities arities.now term.now ≡ false) }
 {
     match term.node() {

@@ -20,8 +20,8 @@ returns-clause-ok c =
     ∙ ap (λ (d : DefinitionText). value_raw c.args.arities.now c.deref.result.now [] d.parameters d.right) c.definition.view_is
     ∙ ap (λ (o : List (List ℕ × TypeTree)). value_raw c.args.arities.now o [] c.args.definition.now.parameters c.args.definition.now.right) others in
     IfOk-weaker c.resolve_value.result
-    (λ t. (raw_tree t ≡ value_raw c.args.arities.now c.deref.result.now [] c.deref-2.result.now c.definition.inside.right) × (value_has_arities c.args.arities.now c.deref-2.result.now c.definition.inside.right ≡ true))
-    (λ t. (raw_tree t ≡ value_raw c.args.arities.now (without c.args.definition.now.name c.args.constants.now) [] c.args.definition.now.parameters c.args.definition.now.right) × (definition_has_arities c.args.arities.now c.args.definition.now ≡ true))
+    (λ t. (raw_tree t.value ≡ value_raw c.args.arities.now c.deref.result.now [] c.deref-2.result.now c.definition.inside.right) × (value_has_arities c.args.arities.now c.deref-2.result.now c.definition.inside.right ≡ true))
+    (λ t. (raw_tree t.value ≡ value_raw c.args.arities.now (without c.args.definition.now.name c.args.constants.now) [] c.args.definition.now.parameters c.args.definition.now.right) × (definition_has_arities c.args.arities.now c.args.definition.now ≡ true))
     (λ t h. (h.0 ∙ value, sym right ∙ h.1))
     c.resolve_value.ensures.ok
 
