@@ -136,6 +136,7 @@ fn with_binder(renamed: NameFilter, v: &Variable, u: &Variable) -> NameFilter
 }
 
 // What stands for the variable, as a term, or nothing where it is `v`.
+#[inline(never)]
 fn changed_variable(
     alloc: Global,
     pairs: &[(Ty, Name)],
@@ -153,6 +154,7 @@ fn changed_variable(
 }
 
 // The instance of the constant, or nothing where its type stays.
+#[inline(never)]
 fn changed_constant(
     alloc: Global,
     pairs: &[(Ty, Name)],
@@ -169,6 +171,7 @@ fn changed_constant(
 }
 
 // The variable that is bound in the instance of an abstraction: nothing that stands for another free variable of its body.
+#[inline(never)]
 fn new_binder(
     alloc: Global,
     pairs: &[(Ty, Name)],

@@ -8,6 +8,7 @@ use std::alloc::{AllocError, Global};
 
 /// The application of what became of `f` to what became of `x`, or nothing where both stayed. It fits if the types of the application
 /// `t` still fit.
+#[inline(never)]
 pub(crate) fn changed_application(
     alloc: Global,
     t: &Term,
@@ -49,6 +50,7 @@ pub(crate) fn copied(new: &Option<Term>) -> Result<Option<Term>, AllocError>
 }
 
 /// The abstraction of `u` in what became of `b`, or nothing where `u` is `v` and `b` stayed.
+#[inline(never)]
 pub(crate) fn changed_abstraction(
     alloc: Global,
     v: &Variable,

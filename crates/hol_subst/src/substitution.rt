@@ -167,6 +167,7 @@ fn substituted_parts(
 }
 
 // A copy of the term of the first pair of the variable.
+#[inline(never)]
 fn at_variable(pairs: &[(Term, Variable)], v: &Variable) -> Result<Option<Term>, AllocError>
     ensures { IfOk result (λ r. unwrap_or r (var v.now) ≡ given pairs.now v.now) }
 {
@@ -177,6 +178,7 @@ fn at_variable(pairs: &[(Term, Variable)], v: &Variable) -> Result<Option<Term>,
 }
 
 // How substitution goes on in the body `b` of an abstraction over `v`: `v` is renamed where it would capture what comes in.
+#[inline(never)]
 fn entering(
     alloc: Global,
     pairs: &[(Term, Variable)],
