@@ -35,6 +35,7 @@ pub fn unrefused(answer: Result<Thm, KernelError>) -> Result<Thm, AllocError>
 }
 
 /// REFL: `|- t = t`, for a term of the type that is well typed over the basis.
+#[inline(never)]
 pub fn refl(alloc: Global, basis: &Basis, ty: &Ty, t: &Term) -> Result<Thm, AllocError>
     requires typed { HasType basis.now (nameless [] t.now) ty.now }
     ensures { IfOk result (λ th. th ≡ theorem_on basis.now (reflexive (nameless [] t.now) ty.now)) }
@@ -43,6 +44,7 @@ pub fn refl(alloc: Global, basis: &Basis, ty: &Ty, t: &Term) -> Result<Thm, Allo
 }
 
 /// TRANS: from `s = m` and `n = t`, where `m` and `n` are equal up to bound names, `s = t`.
+#[inline(never)]
 pub fn trans(alloc: Global, a: &Thm, b: &Thm) -> Result<Thm, AllocError>
     requires one_basis { a.now.basis ≡ b.now.basis }
     requires applies { trans_of a.now.sequent b.now.sequent ≡ Some (transitive a.now.sequent b.now.sequent) }
@@ -52,6 +54,7 @@ pub fn trans(alloc: Global, a: &Thm, b: &Thm) -> Result<Thm, AllocError>
 }
 
 /// MK_COMB: from `f = g` and `x = y` of fitting types, `f x = g y`.
+#[inline(never)]
 pub fn mk_comb(alloc: Global, a: &Thm, b: &Thm) -> Result<Thm, AllocError>
     requires one_basis { a.now.basis ≡ b.now.basis }
     requires applies { mk_comb_of a.now.sequent b.now.sequent ≡ Some (combined a.now.sequent b.now.sequent) }
@@ -78,6 +81,7 @@ pub fn assume(alloc: Global, basis: &Basis, p: &Term) -> Result<Thm, AllocError>
 }
 
 /// ABS: from `l = r`, for a variable of a type over the basis that is free in no hypothesis, `(\v. l) = (\v. r)`.
+#[inline(never)]
 pub fn abs(alloc: Global, v: &Variable, a: &Thm) -> Result<Thm, AllocError>
     requires applies { abs_of a.now.basis (var v.now) a.now.sequent ≡ Some (abstracted v.now a.now.sequent) }
     ensures { IfOk result (λ th. th ≡ theorem_on a.now.basis (abstracted v.now a.now.sequent)) }
@@ -234,6 +238,7 @@ pub fn inst_type(alloc: Global, ty: &Ty, name: &str, a: &Thm) -> Result<Thm, All
 }
 
 /// BETA_CONV: `(\x. b) r = b` with `r` for `x`, for a redex of the type that is well typed over the basis.
+#[inline(never)]
 pub fn beta_conv(alloc: Global, basis: &Basis, ty: &Ty, redex: &Term) -> Result<Thm, AllocError>
     requires typed { HasType basis.now (nameless [] redex.now) ty.now }
     requires applies { beta_conv_of basis.now (nameless [] redex.now) ≡ Some (contraction ty.now (nameless [] redex.now)) }
