@@ -48,6 +48,7 @@ pub fn for_all(alloc: Global, a: Thm, variables: usize) -> Result<Thm, AllocErro
 }
 
 // The variable, or one with more primes that is free in neither term.
+#[inline(never)]
 fn fresh(alloc: Global, v: &Variable, left: &Term, right: &Term) -> Result<Variable, AllocError>
     ensures { IfOk result (λ w. IsVariant (nameless [] left.now ∷ nameless [] right.now ∷ []) v.now w) }
 {
@@ -58,6 +59,7 @@ fn fresh(alloc: Global, v: &Variable, left: &Term, right: &Term) -> Result<Varia
 }
 
 // What the definition says at the variable.
+#[inline(never)]
 fn at_variable(
     alloc: Global,
     a: &Thm,
