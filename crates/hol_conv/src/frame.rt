@@ -21,6 +21,7 @@ impl Step {
     ghost use Rattle.hol_conv.specs.Places.{around, FitsIn, beside_size};
 
     /// The term around the part.
+    #[inline(never)]
     #[tactic(auto, using(crate::proofs::Places::arounds))]
     pub(crate) fn around(&self, alloc: Global, part: &Term) -> Result<Term, AllocError>
         requires { FitsIn self.now (nameless [] part.now) }

@@ -45,6 +45,7 @@ impl<'a> Redexes<'a> {
     }
 
     /// Whether the term is a redex; where it is said to be none, it is none.
+    #[inline(never)]
     #[tactic(auto, using(crate::proofs::RedexLaws::no_redexes))]
     pub(crate) fn is_redex(&self, alloc: Global, t: &Term) -> Result<bool, AllocError>
         ensures { IfOk result (λ b. IsFalse b → contraction self.now [] (nameless [] t.now) ≡ None) }
