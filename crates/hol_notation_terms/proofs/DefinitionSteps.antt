@@ -1,5 +1,5 @@
 -- From what is read of the parts of a definition to the definition.
-use Rattle.std.proofs.Common.{◌≡◌, inl, true, false, ℕ, List, [], ◌∷◌, ◌++◌, refl, ap, ◌∙◌, sym, subst, Option, Some, None, codes, map}
+use Rattle.std.proofs.Common.{◌≡◌, inl, inr, true, false, ℕ, List, [], ◌∷◌, ◌++◌, refl, ap, ◌∙◌, sym, subst, Option, Some, None, codes, map}
 use Rattle.std.proofs.lemmas.Bool.{false≢true}
 use Rattle.hol_notation_tokens.specs.declared.token.Kind.{Kind}
 use Rattle.hol_notation_tokens.specs.declared.token.Kind.TheVariants.{Ident as IdentKind, Open, Colon, Equals, Iff, Backquote}
@@ -15,6 +15,7 @@ use Rattle.hol_notation_grammar.proofs.Steps.{Completes, fails_part, fails_after
 use Rattle.hol_notation_terms.specs.Text.{TypeText, VariableText, TermText, RightSideText}
 use Rattle.hol_notation_terms.specs.TakenNames.{taken_names}
 use Rattle.hol_notation_terms.specs.Grammar.{Nonterminal, term_grammar, a_type, a_level, a_term, an_ascription, a_definition, a_parameters, a_right_side, an_equation, defined, named_parameter, typed_parameter, no_parameter, typed_side, plain_side, equals_side, iff_side}
+use Rattle.hol_notation_terms.specs.Parameters.{IsParameter}
 use Rattle.hol_notation_terms.specs.Value.{type_value, level_value, ascription_value, equation_value, right_side_value, parameters_value, definition_value}
 use Rattle.hol_notation_terms.proofs.Picks.{pick, looks, choose_parameter, choose_side, choose_equation}
 use Rattle.hol_notation_terms.proofs.Certain.{certain, same_term}
@@ -276,6 +277,57 @@ right_side_found names words rest vs v f = record {
   says = ap (λ (r : RightSideText). (vs, r)) f.says;
 }
 
+pub taken_more : (constant : List ℕ) (vs us : List VariableText) (v : VariableText) → us ≡ vs ++ v ∷ [] → taken_names constant us ≡ taken_names constant vs ++ v.name ∷ []
+taken_more constant vs us v e = ap (taken_names constant) e ∙ ap (λ (l : List (List ℕ)). constant ∷ l) (go vs v)
+  where
+    go : (vs : List VariableText) (v : VariableText) → map (λ w. w.name) (vs ++ v ∷ []) ≡ map (λ w. w.name) vs ++ v.name ∷ []
+    go [] v = refl
+    go (w ∷ vs) v = ap (λ (l : List (List ℕ)). w.name ∷ l) (go vs v)
+
+-- the next parameter
+pub named_next : (names : List (List ℕ)) (words rest : List Lexeme) (x : Lexeme) (text : List ℕ) → Taken (Is (other_than names)) words x rest → text ≡ x.text
+    → IsParameter names words (record { name = text; annotation = None }) rest
+named_next names words rest x text t e = inl (record { word = x; taken = t; is = ap (λ (n : List ℕ). record { name = n; annotation = None }) e })
+
+pub typed_next : (names : List (List ℕ)) (words inside after rest : List Lexeme) (o x : Lexeme) (text : List ℕ) (ty : TypeText) → Taken (Is (sign Open)) words o inside
+    → Taken (Is (other_than names)) inside x after → IsFound ascription_value after ty rest → text ≡ x.text
+    → IsParameter names words (record { name = text; annotation = Some ty }) rest
+typed_next names words inside after rest o x text ty t s f e = inr (record {
+  bracket = o;
+  inside = inside;
+  word = x;
+  after = after;
+  ty = ty;
+  opened = t;
+  taken = s;
+  ascribed = f;
+  is = ap (λ (n : List ℕ). record { name = n; annotation = Some ty }) e;
+})
+
+-- What is read after a parameter is what is read of the parameters, and where reading is stuck there, it is stuck here.
+more_named : (us ws : List VariableText) (v w : VariableText) → ws ≡ us ++ v ∷ [] → v ≡ w → ws ≡ us ++ w ∷ []
+more_named us ws v w q e = q ∙ ap (λ (u : VariableText). us ++ u ∷ []) e
+
+pub parameter_found : (constant : List ℕ) (us ws : List VariableText) (words after rest : List Lexeme) (v : VariableText) (w : Read) → IsParameter (taken_names constant us) words v after
+    → ws ≡ us ++ v ∷ [] → IsRead (taken_names constant ws) ws after w rest → IsRead (taken_names constant us) us words w rest
+parameter_found constant us ws words after rest v w (inl p) q f =
+    let added = more_named us ws v (record { name = p.word.text; annotation = None }) q p.is in
+    named_parameter_found (taken_names constant us) (taken_names constant ws) words after rest p.word us ws w p.taken
+    (taken_more constant us ws (record { name = p.word.text; annotation = None }) added) added f
+parameter_found constant us ws words after rest v w (inr p) q f =
+    let added = more_named us ws v (record { name = p.word.text; annotation = Some p.ty }) q p.is in
+    typed_parameter_found (taken_names constant us) (taken_names constant ws) words p.inside p.after after rest p.bracket p.word p.ty us ws w p.opened p.taken p.ascribed
+    (taken_more constant us ws (record { name = p.word.text; annotation = Some p.ty }) added) added f
+
+pub parameter_fails : (constant : List ℕ) (us ws : List VariableText) (end : ℕ) (words after : List Lexeme) (v : VariableText) (e : SyntaxError) → IsParameter (taken_names constant us) words v after
+    → ws ≡ us ++ v ∷ [] → Failing (a_parameters (taken_names constant ws)) end after e → Failing (a_parameters (taken_names constant us)) end words e
+parameter_fails constant us ws end words after v e (inl p) q h =
+    named_parameter_fails (taken_names constant us) (taken_names constant ws) end words after e p.word p.taken
+    (taken_more constant us ws (record { name = p.word.text; annotation = None }) (more_named us ws v (record { name = p.word.text; annotation = None }) q p.is)) h
+parameter_fails constant us ws end words after v e (inr p) q h =
+    typed_parameter_fails (taken_names constant us) (taken_names constant ws) end words p.inside p.after after e p.bracket p.word p.ty p.opened p.taken p.ascribed
+    (taken_more constant us ws (record { name = p.word.text; annotation = Some p.ty }) (more_named us ws v (record { name = p.word.text; annotation = Some p.ty }) q p.is)) h
+
 -- a definition
 abbrev from_name : Parts Nonterminal
 from_name = token name (λ x. part (a_parameters (x.text ∷ [])) nothing)
@@ -332,17 +384,6 @@ taken_missing names end words rest x t e = record {
 
 pub other_taken : (names : List (List ℕ)) (words rest : List Lexeme) (x : Lexeme) → Taken (Is identifier) words x rest → is_among names x.text ≡ false → Taken (Is (other_than names)) words x rest
 other_taken names words rest x t e = record { is = (t.is, e); whole = t.whole }
-
-pub taken_more : (constant : List ℕ) (vs us : List VariableText) (v : VariableText) → us ≡ vs ++ v ∷ [] → taken_names constant us ≡ taken_names constant vs ++ v.name ∷ []
-taken_more constant vs us v e = ap (taken_names constant) e ∙ ap (λ (l : List (List ℕ)). constant ∷ l) (go vs v)
-  where
-    go : (vs : List VariableText) (v : VariableText) → map (λ w. w.name) (vs ++ v ∷ []) ≡ map (λ w. w.name) vs ++ v.name ∷ []
-    go [] v = refl
-    go (w ∷ vs) v = ap (λ (l : List (List ℕ)). w.name ∷ l) (go vs v)
-
-pub pushed : (ps qs : List VariableText) (p : VariableText) (text : List ℕ) → qs ≡ ps ++ p ∷ [] → p.name ≡ text
-    → qs ≡ ps ++ record { name = text; annotation = p.annotation } ∷ []
-pushed ps qs p text q e = q ∙ ap (λ (n : List ℕ). ps ++ record { name = n; annotation = p.annotation } ∷ []) e
 
 -- before the first parameter
 pub first_fails : (constant : List ℕ) (ps : List VariableText) (end : ℕ) (words : List Lexeme) (e : SyntaxError) → ps ≡ [] → Failing (a_parameters (taken_names constant ps)) end words e

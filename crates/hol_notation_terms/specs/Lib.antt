@@ -7,4 +7,5 @@ pub mod Falls
 pub mod Grammar
 pub mod Value
 pub mod Next
+pub mod Parameters
 pub mod Inside

@@ -1,11 +1,13 @@
 //! The reader of definitions, one function for each part of the grammar.
-ghost use Rattle.std.specs.Prelude.{◌≡◌, ◌<◌, ◌∷◌, ◌++◌, [], length, map, bytes_eq, IfOk, IsOkUnless, MatchResult};
+ghost use Rattle.std.specs.Prelude.{◌≡◌, ◌<◌, length, map, bytes_eq, IfOk, IfSome, MatchOption, MatchResult};
 ghost use Rattle.std.specs.List.{list_any};
 ghost use Rattle.hol_notation_tokens.specs.Token.{is_among};
 ghost use Rattle.hol_notation_tokens.specs.Lexeme.{seen};
 ghost use Rattle.hol_notation_grammar.specs.Terminal.{Is, other_than};
 ghost use Rattle.hol_notation_grammar.specs.Class.{Taken};
-ghost use Rattle.hol_notation_grammar.specs.Reading.{ReadsPart, IsMissing};
+ghost use Rattle.hol_notation_grammar.specs.Reading.{Fails, ReadsPart, IsMissing};
+ghost use Rattle.hol_notation_terms.specs.Grammar.{term_grammar, a_parameters};
+ghost use Rattle.hol_notation_terms.specs.Parameters.{HasNoParameter, IsParameter};
 ghost use Rattle.hol_notation_terms.specs.TakenNames.{taken_names};
 ghost use Rattle.hol_notation_terms.specs.Value.{equation_value, right_side_value, parameters_value, definition_value};
 
@@ -47,23 +49,6 @@ pub fn read_definition_quotation<'a, 't>(
     ))
 }
 
-// The parameters before and one more.
-#[inline(never)]
-fn with_parameter(
-    alloc: Global,
-    before: Vec<PreVariable>,
-    text: &str,
-    annotation: Option<PreType>,
-) -> Result<Vec<PreVariable>, SyntaxError>
-    ensures ok { IfOk result (λ ps. ps.items ≡ before.items ++ record { name = text.now; annotation = annotation } ∷ []) }
-    ensures memory { IsOkUnless result SyntaxError.Memory }
-{
-    let name = String::from_str(alloc, text)?;
-    let mut parameters = before;
-    parameters.push(PreVariable { name, annotation })?;
-    Ok(parameters)
-}
-
 // The parameters that follow those before them, and the right side.
 fn read_parameters<'a, 't>(
     alloc: Global,
@@ -75,31 +60,53 @@ fn read_parameters<'a, 't>(
     ensures reads { ReadsPart (λ p. parameters_value {names = taken_names constant.now before.items} p before.items) (λ x. (x.0.items, x.1)) end words.now result }
     ensures shorter { IfOk result (λ x. length x.1.now < length words.now) }
 {
-    match accept(words, Class::Identifier) {
-        Some((_next, _behind)) => {
-            let (word, after) = expect_parameter(constant, &before, words, end)?;
-            let parameters = with_parameter(alloc, before, word.text, None)?;
+    match read_parameter(alloc, constant, &before, words, end)? {
+        Some((parameter, after)) => {
+            let mut parameters = before;
+            parameters.push(parameter)?;
             let (read, rest) = read_parameters(alloc, constant, parameters, after, end)?;
             Ok((read, rest))
         }
+        None => {
+            let (right, rest) = read_right_side(alloc, words, end)?;
+            Ok(((before, right), rest))
+        }
+    }
+}
+
+// The parameter that comes next, if one does.
+#[inline(never)]
+fn read_parameter<'a, 't>(
+    alloc: Global,
+    constant: &str,
+    before: &[PreVariable],
+    words: &'a [Word<'t>],
+    end: usize,
+) -> Result<Option<(PreVariable, &'a [Word<'t>])>, SyntaxError>
+    ensures next { MatchResult result (λ o. MatchOption o (HasNoParameter (map seen words.now)) (λ x. IsParameter (taken_names constant.now before.now) (map seen words.now) x.0 (map seen x.1.now))) (Fails term_grammar (a_parameters (taken_names constant.now before.now)) end (map seen words.now)) }
+    ensures shorter { IfOk result (λ o. IfSome o (λ x. length x.1.now < length words.now)) }
+{
+    match accept(words, Class::Identifier) {
+        Some((_next, _behind)) => {
+            let (word, after) = expect_parameter(constant, before, words, end)?;
+            let name = String::from_str(alloc, word.text)?;
+            let annotation = None;
+            Ok(Some((PreVariable { name, annotation }, after)))
+        }
         None => match accept(words, Class::Sign(Kind::Open)) {
             Some((_open, inside)) => {
-                let (word, after) = expect_parameter(constant, &before, inside, end)?;
-                let (ty, later) = read_ascription(alloc, after, end)?;
-                let parameters = with_parameter(alloc, before, word.text, Some(ty))?;
-                let (read, rest) = read_parameters(alloc, constant, parameters, later, end)?;
-                Ok((read, rest))
+                let (word, after) = expect_parameter(constant, before, inside, end)?;
+                let (ty, rest) = read_ascription(alloc, after, end)?;
+                let name = String::from_str(alloc, word.text)?;
+                let annotation = Some(ty);
+                Ok(Some((PreVariable { name, annotation }, rest)))
             }
-            None => {
-                let (right, rest) = read_right_side(alloc, words, end)?;
-                Ok(((before, right), rest))
-            }
+            None => Ok(None),
         },
     }
 }
 
 // The next word, where it is an identifier that is neither the constant's name nor an earlier parameter's.
-#[inline(never)]
 fn expect_parameter<'a, 't>(
     constant: &str,
     before: &[PreVariable],
