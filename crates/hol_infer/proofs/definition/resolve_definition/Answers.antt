@@ -13,7 +13,7 @@ returns-clause-ok c =
     IfOk-weaker c.applied.result _ _
     (λ t is. (
       definition_built c.args.arities.now c.args.constants.now (without c.args.definition.now.name c.args.constants.now) c.args.definition.now c.as_str.result.now
-          (raw_tree t.value) (raw_tree c.in_ok-left.left.value) sign (raw_tree c.in_ok-value.value)
+          (raw_tree t.value) (raw_tree c.in_ok-left.left.value) sign (raw_tree c.in_ok-value.value.value)
           is c.in_ok-left.ensures.ok refl (c.as_str.ensures.value ∙ ap (λ (d : DefinitionText). d.name) c.definition.view_is) c.in_ok-value.ensures.ok.0 refl,
       c.in_ok-value.ensures.ok.1,
     ))
