@@ -12,7 +12,7 @@ ghost use Rattle.hol_subst.specs.Renaming.{image, images_without, KeepsTypes, Is
 ghost use Rattle.hol_types.specs.Filter.{name_bit, pairs_filter};
 ghost use Rattle.std.specs.Int.RustNames.{bit_or};
 
-use crate::rebuilt::{changed_abstraction, changed_application, copied, operator};
+use crate::rebuilt::{changed_abstraction, changed_application, changed_function, operator};
 use crate::variants::variant;
 use hol_terms::{Scope, Term, TermNode, Variable};
 use hol_types::{Name, NameFilter, Ty};
@@ -120,7 +120,7 @@ fn changed_parts(
         return Ok((g, y));
     };
     let k = changed(alloc, pairs, names, old, new, renamed, h)?;
-    let g = changed_application(alloc, f, h, k, x, copied(&y)?)?;
+    let g = changed_function(alloc, f, h, k, x, &y)?;
     Ok((g, y))
 }
 
@@ -248,6 +248,7 @@ fn image(
 }
 
 // The variable with types for the variables of its type.
+#[inline(never)]
 fn instance(alloc: Global, pairs: &[(Ty, Name)], v: &Variable) -> Result<Variable, AllocError>
     ensures { IfOk result (λ u. u ≡ variable_inst pairs.now v.now) }
 {

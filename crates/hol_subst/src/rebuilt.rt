@@ -28,6 +28,23 @@ pub(crate) fn changed_application(
     Ok(Some(Term::application(alloc, either(&g, f), either(&y, x))?))
 }
 
+/// The same of `f`, which is the application of `h` to `x`, where what became of `x` is kept.
+#[inline(never)]
+pub(crate) fn changed_function(
+    alloc: Global,
+    f: &Term,
+    h: &Term,
+    k: Option<Term>,
+    x: &Term,
+    y: &Option<Term>,
+) -> Result<Option<Term>, AllocError>
+    requires { (s : TypeTree) → named_type f.now ≡ Some s → IsSome (named_type (comb (unwrap_or k h.now) (unwrap_or y.now x.now))) }
+    ensures { IfOk result (λ r. unwrap_or r (comb h.now x.now) ≡ comb (unwrap_or k h.now) (unwrap_or y.now x.now)) }
+{
+    let own = copied(y)?;
+    changed_application(alloc, f, h, k, x, own)
+}
+
 /// `h`, where `f` is the application of `h` to a term that has the node of `x`: so what becomes of `x` is found once in `f x`, as in an
 /// equation of a term and itself.
 pub(crate) fn operator<'a>(f: &'a Term, x: &Term) -> Option<&'a Term>
@@ -39,8 +56,8 @@ pub(crate) fn operator<'a>(f: &'a Term, x: &Term) -> Option<&'a Term>
     if z.same_node(x) { Some(h) } else { None }
 }
 
-/// A copy, if there is a term.
-pub(crate) fn copied(new: &Option<Term>) -> Result<Option<Term>, AllocError>
+// A copy, if there is a term.
+fn copied(new: &Option<Term>) -> Result<Option<Term>, AllocError>
     ensures { IfOk result (λ r. r ≡ new.now) }
 {
     match new {

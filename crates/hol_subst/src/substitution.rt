@@ -12,7 +12,7 @@ use crate::error::SubstError;
 use crate::pairs::{
     add_pair, comes_in, has_pair, may_touch, renaming, renaming_first, replacement, rest_of,
 };
-use crate::rebuilt::{changed_abstraction, changed_application, copied, operator};
+use crate::rebuilt::{changed_abstraction, changed_application, changed_function, operator};
 use hol_terms::{Term, TermNode, Variable};
 use std::alloc::{AllocError, Global};
 
@@ -162,7 +162,7 @@ fn substituted_parts(
         return Ok((function, argument));
     };
     let inner = substituted(alloc, h, pairs)?;
-    let function = changed_application(alloc, f, h, inner, x, copied(&argument)?)?;
+    let function = changed_function(alloc, f, h, inner, x, &argument)?;
     Ok((function, argument))
 }
 

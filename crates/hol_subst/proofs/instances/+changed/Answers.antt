@@ -1,4 +1,4 @@
-use Rattle.std.proofs.Common.{◌≡◌, refl, ap, arith, rules, sym, subst, ◌∙◌, Option, unwrap_or}
+use Rattle.std.proofs.Common.{◌≡◌, refl, ap, arith, rules, sym, ◌∙◌}
 use Rattle.std.proofs.lemmas.Grind.{common_steps}
 use Rattle.std.proofs.lemmas.Result.{IfOk-weaker}
 use lib.Bits.{bit_and}
@@ -6,8 +6,7 @@ use Rattle.hol_types.specs.Filter.{pairs_filter}
 use Rattle.hol_terms.specs.Filter.{filter_of, type_filter_of}
 use Rattle.hol_terms.specs.Scope.{binders}
 use Rattle.hol_terms.specs.View.{named_of}
-use Rattle.hol_terms.specs.Named.{Named}
-use Rattle.hol_subst.specs.Renaming.{image, IsInstance}
+use Rattle.hol_subst.specs.Renaming.{image}
 use Rattle.hol_subst.proofs.InstSteps.{variable_at, constant_at, application_at, fits_at, abstraction_at}
 use Rattle.hol_subst.proofs.Kept.{kept_instance, renamed_inside}
 use Rattle.hol_subst.proofs.instances.+changed.Goals as goal
@@ -63,13 +62,13 @@ changed-changed-requires t c = (
   ),
 )
 
-pub changed_parts-changed_application-requires : goal.changed_parts-changed_application-requires
-changed_parts-changed_application-requires t c =
-    fits_at c.args.pairs.now (binders c.args.old.now) (binders c.args.new.now) c.in-Some.h.now c.args.x.now c.args.f.now c.in_ok-k.k c.in_ok-copied.field-0
-    c.in-Some.ensures c.in_ok-k.ensures (subst (λ (z : Option Named). IsInstance c.args.pairs.now (binders c.args.old.now) (binders c.args.new.now) c.args.x.now (unwrap_or z c.args.x.now)) (sym c.in_ok-copied.ensures) c.in_ok-y.ensures)
+pub changed_parts-changed_function-requires : goal.changed_parts-changed_function-requires
+changed_parts-changed_function-requires t c =
+    fits_at c.args.pairs.now (binders c.args.old.now) (binders c.args.new.now) c.in-Some.h.now c.args.x.now c.args.f.now c.in_ok-k.k c.in_ok-y.y
+    c.in-Some.ensures c.in_ok-k.ensures c.in_ok-y.ensures
 
 pub changed_parts-returns-clause-function : goal.changed_parts-returns-clause-function
 changed_parts-returns-clause-function t c =
-    application_at c.args.pairs.now (binders c.args.old.now) (binders c.args.new.now) c.in-Some.h.now c.args.x.now c.args.f.now c.in_ok-k.k c.in_ok-copied.field-0 c.in_ok-g-2.g
-    c.in-Some.ensures c.in_ok-k.ensures (subst (λ (z : Option Named). IsInstance c.args.pairs.now (binders c.args.old.now) (binders c.args.new.now) c.args.x.now (unwrap_or z c.args.x.now)) (sym c.in_ok-copied.ensures) c.in_ok-y.ensures)
+    application_at c.args.pairs.now (binders c.args.old.now) (binders c.args.new.now) c.in-Some.h.now c.args.x.now c.args.f.now c.in_ok-k.k c.in_ok-y.y c.in_ok-g-2.g
+    c.in-Some.ensures c.in_ok-k.ensures c.in_ok-y.ensures
     c.in_ok-g-2.ensures

@@ -1,7 +1,6 @@
-use Rattle.std.proofs.Common.{◌∙◌, sym, ap, subst, unwrap_or, Option, rules}
+use Rattle.std.proofs.Common.{◌∙◌, sym, ap, subst, unwrap_or, rules}
 use Rattle.std.proofs.lemmas.Result.{IfOk-weaker}
 use Rattle.hol_terms.specs.View.{named_of}
-use Rattle.hol_terms.specs.Named.{Named}
 use Rattle.hol_subst.specs.Capture.{Fit, IsResult}
 use Rattle.hol_subst.proofs.Steps.{comb_fits, at_comb, untouched, at_var, at_abs}
 use Rattle.hol_subst.proofs.substitution.+substituted.Goals as goal
@@ -41,17 +40,15 @@ substituted-substituted-requires t c = (search rules, subst Fit (sym c.deref.ens
 pub substituted-returns-then-not-may_touch : goal.substituted-returns-then-not-may_touch
 substituted-returns-then-not-may_touch t c = untouched c.args.pairs.now c.args.t.now (c.may_touch.ensures c.if-not-may_touch.true)
 
-pub substituted_parts-changed_application-requires : goal.substituted_parts-changed_application-requires
-substituted_parts-changed_application-requires t c =
+pub substituted_parts-changed_function-requires : goal.substituted_parts-changed_function-requires
+substituted_parts-changed_function-requires t c =
     comb_fits c.args.pairs.now c.args.f.now c.in-Some.h.now c.args.x.now
-    (unwrap_or c.in_ok-inner.inner c.in-Some.h.now) (unwrap_or c.in_ok-copied.field-0 c.args.x.now)
-    c.requires c.in-Some.ensures c.in_ok-inner.ensures
-    (subst (λ (z : Option Named). IsResult c.args.pairs.now c.args.x.now (unwrap_or z c.args.x.now)) (sym c.in_ok-copied.ensures) c.in_ok-argument.ensures)
+    (unwrap_or c.in_ok-inner.inner c.in-Some.h.now) (unwrap_or c.in_ok-argument.argument c.args.x.now)
+    c.requires c.in-Some.ensures c.in_ok-inner.ensures c.in_ok-argument.ensures
 
 pub substituted_parts-returns-clause-function : goal.substituted_parts-returns-clause-function
 substituted_parts-returns-clause-function t c =
     at_comb c.args.pairs.now c.args.f.now c.in-Some.h.now c.args.x.now
-    (unwrap_or c.in_ok-inner.inner c.in-Some.h.now) (unwrap_or c.in_ok-copied.field-0 c.args.x.now) c.in_ok-function-2.function
-    c.in-Some.ensures c.in_ok-inner.ensures
-    (subst (λ (z : Option Named). IsResult c.args.pairs.now c.args.x.now (unwrap_or z c.args.x.now)) (sym c.in_ok-copied.ensures) c.in_ok-argument.ensures)
+    (unwrap_or c.in_ok-inner.inner c.in-Some.h.now) (unwrap_or c.in_ok-argument.argument c.args.x.now) c.in_ok-function-2.function
+    c.in-Some.ensures c.in_ok-inner.ensures c.in_ok-argument.ensures
     c.in_ok-function-2.ensures
