@@ -154,20 +154,23 @@ def of_deep(program, case):
 
 
 def depths(program):
-    """The stack that each deep case has touched once its texts are read, typed and run, shown, and dropped; and whether it is served in 1 MB."""
+    """The kilobytes of stack down to the deepest byte that each deep case has changed once its texts are read, typed and run, shown, and dropped; and
+    whether it is served in 1 MB."""
     print("| what is deep | read | typed and run | told | dropped | at 1 MB |\n|---|---:|---:|---:|---:|---|")
     for case in [*deep_cases(), *large_terms.shared(), *large_terms.at_limits()]:
         session, found, asked = List(case.name, program, ["--turns", str(case.turns)]), [], range(len(case.commands))
+        session.ask([request("theorems", theory="A")], 60)
+        before = session.server.stack()
         # A text that goes on behind its command is read, and then refused.
         session.puts("A", [text + " )" for text in case.commands], 60)
-        found.append(session.server.kilobytes("VmStk"))
+        found.append(watched.used(before, session.server.stack()))
         for lines in (
             [request("replace", theory="A", at=at, text=text) for at, text in enumerate(case.commands)],
             [request("report", theory="A", at=at) for at in asked],
             [request("drop_theory", name="A")],
         ):
             session.ask(lines, 60)
-            found.append(session.server.kilobytes("VmStk"))
+            found.append(watched.used(before, session.server.stack()))
         session.ends()
         served = of_case(program, case, WHOLE).told == of_case(program, case, LEAST).told
         print(f"| {case.name} | {' | '.join(map(str, found))} | {'served' if served else 'ended'} |", flush=True)

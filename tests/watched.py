@@ -18,6 +18,12 @@ def limited(limits):
     return set_limits
 
 
+def used(before, after):
+    """The kilobytes of stack down to the deepest byte that changed between two answers of `stack`."""
+    before = bytes(max(0, len(after) - len(before))) + before
+    return -(-(len(after) - next((at for at in range(0, len(after), 1024) if before[at : at + 1024] != after[at : at + 1024]), len(after))) // 1024)
+
+
 class Watched:
     """A running program. `told` is where its standard error goes."""
 
@@ -50,11 +56,19 @@ class Watched:
         return int(pathlib.Path(f"/proc/{self.process.pid}/schedstat").read_text().split()[0]) / 1e9
 
     def kilobytes(self, key):
-        """VmHWM, the most memory that it had; VmStk, the stack that it touched."""
+        """VmHWM, the most memory that it had."""
         for line in pathlib.Path(f"/proc/{self.process.pid}/status").read_text().splitlines():
             if line.startswith(key + ":"):
                 return int(line.split()[1])
         return 0
+
+    def stack(self):
+        """What stands on its stack and below, as far as it is mapped: the last byte is where the program began. It has to wait for a line."""
+        maps = pathlib.Path(f"/proc/{self.process.pid}/maps").read_text().splitlines()
+        first, last = (int(end, 16) for end in next(it for it in maps if it.endswith("[stack]")).split()[0].split("-"))
+        with open(f"/proc/{self.process.pid}/mem", "rb", buffering=0) as memory:
+            memory.seek(first)
+            return memory.read(last - first)
 
     def is_waiting(self):
         """Whether it sleeps, as it does until a line comes."""
