@@ -58,18 +58,6 @@ reads_stand es cited_keys made_keys cited made e f t = record {
 pub names_stand : (es : Entries) (keys : List KeyValue) (values : Values) (n : ℕ) → values ≡ values_of es keys → HasNames n keys → HasNames n (keys_of values)
 names_stand es keys values n e h = subst (HasNames n) (sym (ap keys_of e ∙ values_keys es keys)) h
 
-pub same_named : (values own : Values) (n : ℕ) → own ≡ values → HasNames n (keys_of values) → HasNames n (keys_of own)
-same_named values own n e h = subst (λ (vs : Values). HasNames n (keys_of vs)) (sym e) h
-
--- the same of equal values
-pub same_stand : (cited made own_cited own_made : Values) → own_cited ≡ cited → own_made ≡ made → AreOfTheory cited made → AreOfTheory own_cited own_made
-same_stand cited made own_cited own_made e f h = record {
-  entries = h.entries;
-  theory = h.theory;
-  cited_stand = subst (StandIn h.entries) (sym e) h.cited_stand;
-  made_stand = subst (StandIn h.entries) (sym f) h.made_stand;
-}
-
 -- ---- bases
 
 module _ (es : Entries) (t : IsTheory es) (readings : ReadingsValue) where

@@ -259,29 +259,6 @@ impl Reads {
             && same_options(&self.goal, &other.goal)
             && same_options(&self.closing, &other.closing)
     }
-
-    /// Equal reads.
-    #[tactic(auto, using(crate::proofs::CitedBases::same_stand, crate::proofs::CitedBases::same_named))]
-    pub fn copy(&self, alloc: Global) -> Result<Reads, AllocError>
-        ensures { IfOk result (λ r. r ≡ self.now) }
-    {
-        let goal = match &self.goal {
-            Some(goal) => Some(goal.copy()?),
-            None => None,
-        };
-        let closing = match &self.closing {
-            Some(closing) => Some(closing.copy(alloc)?),
-            None => None,
-        };
-        Ok(Reads {
-            cited: value_copies(alloc, &self.cited)?,
-            made: value_copies(alloc, &self.made)?,
-            names: self.names,
-            in_proof: self.in_proof,
-            goal,
-            closing,
-        })
-    }
 }
 
 // The first of the keys under which something stands, or which is met again.
@@ -368,28 +345,6 @@ fn are_apart(values: &[(Key, Option<Value>)], changes: &ChangedKeys) -> bool
         }
     }
     true
-}
-
-fn entry_copy(entry: &Option<Value>) -> Result<Option<Value>, AllocError>
-    ensures { IfOk result (λ copied. copied ≡ entry.now) }
-{
-    match entry {
-        Some(entry) => Ok(Some(entry.copy()?)),
-        None => Ok(None),
-    }
-}
-
-fn value_copies(
-    alloc: Global,
-    values: &[(Key, Option<Value>)],
-) -> Result<Vec<(Key, Option<Value>)>, AllocError>
-    ensures { IfOk result (λ copied. copied.items ≡ values.now) }
-{
-    let mut copied = Vec::with_capacity(alloc, values.len())?;
-    for value in values {
-        copied.push((value.0.copy()?, entry_copy(&value.1)?))?;
-    }
-    Ok(copied)
 }
 
 fn goal_for(command: &LocalCommand, state: &State) -> Result<Option<Goal>, AllocError>

@@ -11,7 +11,6 @@ ghost use Rattle.hol_exec.specs.StateValue.{StateValue, start, open_goals, newes
 ghost use Rattle.hol_exec.specs.OutcomeValue.{stepped, stepped_in, undone_in, rotated, rotated_in};
 ghost use Rattle.hol_exec.specs.Valid.{CanStep, IsFreeFor, IsProofWithin};
 
-mod entry;
 mod new_entries;
 mod proof;
 

@@ -1,7 +1,7 @@
 //! A proof by functions on goals: where a command is refused its memory the state reads as before, and the second time it comes to what it would have.
 ghost use Rattle.std.specs.Prelude.{◌≤◌};
 
-use crate::steps_tests::{is_carried_out, setup};
+use crate::steps_tests::{is_done_from, setup};
 use hol_exec::{
     CommandKeys, CommandNode, LocalCommand, Meter, Parsed, Reads, Setup, State, entry_text, parse,
 };
@@ -18,20 +18,7 @@ g N `x:A = x /\ c = c`
 e CONJ_TAC THEN REFL_TAC
 qed";
 
-// Whether the command reads just this of the state, and is carried out.
-fn is_done_from(
-    alloc: Global,
-    meter: &mut Meter,
-    command: &LocalCommand,
-    old: &Reads,
-    state: &mut State,
-) -> Result<bool, AllocError> {
-    let keys = CommandKeys::of(alloc, command)?;
-    let reads = Reads::of(alloc, command, &keys, state)?;
-    Ok(reads.same(old) && is_carried_out(alloc, meter, command, &reads, state)?)
-}
-
-// The same, at the second time where memory is short the first time.
+// Whether the command reads just this of the state, and is carried out: at the second time where memory is short the first time.
 fn is_done_at_last(
     alloc: Global,
     meter: &mut Meter,

@@ -1,11 +1,11 @@
-//! Commands of each kind, one after the other: the parts of each, what it reads, and its outcome, are the same as their copies.
+//! Commands of each kind, one after the other: the parts of each are the same as their copies, and what it reads and its outcome are the same a second time.
 ghost use Rattle.std.specs.Prelude.{◌≡◌};
 ghost use Rattle.hol_exec.specs.CommandView.{local_text};
 ghost use Rattle.hol_exec.specs.ReadsValue.{reads_of, AreKeyed};
 
 use hol_exec::{
-    Command, CommandKeys, CommandNode, LocalCommand, Making, Meter, Outcome, Parsed, Reads, Setup,
-    State, apply, parse, run_local,
+    Command, CommandKeys, CommandNode, LocalCommand, Making, Meter, Parsed, Reads, Setup, State,
+    apply, parse, run_local,
 };
 use hol_prelude::Prelude;
 use hol_registry::{Registry, RegistryError};
@@ -25,23 +25,9 @@ e EVERY []
 e NO_TAC
 qed";
 
-fn is_outcome_copied(alloc: Global, outcome: &Outcome) -> Result<bool, AllocError> {
-    let copy = outcome.copy(alloc)?;
-    Ok(outcome.same(&copy))
-}
-
-fn are_reads_copied(alloc: Global, reads: &Reads) -> Result<bool, AllocError> {
-    let copy = reads.copy(alloc)?;
-    Ok(reads.same(&copy))
-}
-
-fn are_copied(alloc: Global, reads: &Reads, outcome: &Outcome) -> Result<bool, AllocError> {
-    Ok(are_reads_copied(alloc, reads)? && is_outcome_copied(alloc, outcome)?)
-}
-
-/// The same of the command's outcome, which is then carried out: without memory the state stays.
+// The command's outcome is carried out. Whether a second run from the same has the same outcome.
 #[tactic(auto, using(crate::proofs::Applied::local_outcome_applies))]
-pub(crate) fn is_carried_out(
+fn is_carried_out(
     alloc: Global,
     meter: &mut Meter,
     command: &LocalCommand,
@@ -52,9 +38,22 @@ pub(crate) fn is_carried_out(
     requires reads { reads.now ≡ reads_of (local_text command.now) state.old }
 {
     let (outcome, _tested) = run_local(alloc, meter, command, reads, state.env().names())?;
-    let copied = are_copied(alloc, reads, &outcome)?;
+    let (again, _tested) = run_local(alloc, meter, command, reads, state.env().names())?;
     apply(alloc, state, &outcome)?;
-    Ok(copied)
+    Ok(outcome.same(&again))
+}
+
+/// Whether the command reads just this of the state, and has one outcome, which is then carried out: without memory the state stays.
+pub(crate) fn is_done_from(
+    alloc: Global,
+    meter: &mut Meter,
+    command: &LocalCommand,
+    old: &Reads,
+    state: &mut State,
+) -> Result<bool, AllocError> {
+    let keys = CommandKeys::of(alloc, command)?;
+    let reads = Reads::of(alloc, command, &keys, state)?;
+    Ok(reads.same(old) && is_carried_out(alloc, meter, command, &reads, state)?)
 }
 
 fn is_making_copied(alloc: Global, making: &Making) -> Result<bool, AllocError> {
@@ -84,8 +83,8 @@ fn is_run(
         return Ok(false);
     }
     let keys = CommandKeys::of(alloc, command)?;
-    let reads = Reads::of(alloc, command, &keys, state)?;
-    is_carried_out(alloc, meter, command, &reads, state)
+    let old = Reads::of(alloc, command, &keys, state)?;
+    is_done_from(alloc, meter, command, &old, state)
 }
 
 fn is_command_run(
@@ -143,14 +142,14 @@ pub(crate) fn setup(alloc: Global, registry: Registry) -> Result<Setup, AllocErr
     Setup::new(alloc, registry, prelude, 10)
 }
 
-// The same from a meter, on which each of the ten commands is counted.
+// The same from a meter, on which both runs of each of the ten commands are counted.
 fn amiss(alloc: Global, setup: Setup) -> Result<&'static str, AllocError> {
     let mut meter = Meter::new(setup);
     let unmet = first_unmet(alloc, &mut meter)?;
-    Ok(if meter.ran() == 10 {
+    Ok(if meter.ran() == 20 {
         unmet
     } else {
-        "a command isn't counted"
+        "a run isn't counted"
     })
 }
 
@@ -162,7 +161,7 @@ fn amiss_without_functions(alloc: Global) -> Result<&'static str, AllocError> {
 }
 
 #[test]
-fn reads_and_outcomes_are_copied(rt: HostRuntime) -> Result<(), Fail> {
+fn reads_and_outcomes_are_the_same_again(rt: HostRuntime) -> Result<(), Fail> {
     assert_eq!(rt; amiss_without_functions(rt.alloc())?, "");
     Ok(())
 }

@@ -94,16 +94,6 @@ impl Closing {
         self.stack.goals().len()
     }
 
-    /// An equal value.
-    pub(crate) fn copy(&self, alloc: Global) -> Result<Closing, AllocError>
-        ensures { IfOk result (λ c. c ≡ self.now) }
-    {
-        Ok(Closing {
-            name: String::from_str(alloc, self.name.as_str())?,
-            stack: self.stack.copy(alloc)?,
-        })
-    }
-
     /// The theorem of the statement, without hypotheses, on the proof's basis, by the general theorems over no items.
     #[tactic(auto, using(crate::proofs::Steps::none_open))]
     pub(crate) fn theorem(&self, alloc: Global, general: &Lemmas) -> Result<Thm, AllocError>

@@ -1,5 +1,5 @@
 //! What a command does to a state.
-ghost use Rattle.std.specs.Prelude.{◌≡◌, ◌↔◌, true, IsTrue, IfOk, string_bytes, []};
+ghost use Rattle.std.specs.Prelude.{◌≡◌, ◌↔◌, true, IsTrue, string_bytes, []};
 ghost use Rattle.hol_terms.specs.Nameless.{nameless};
 ghost use Rattle.std.specs.List.{IsDistinct};
 ghost use Rattle.std.specs.Map.{keys_of};
@@ -19,7 +19,6 @@ use hol_kernel::Basis;
 use hol_stack::SharedStep;
 use hol_terms::Term;
 use hol_theory::{Entries, Env, same_basis};
-use std::alloc::{AllocError, Global};
 use std::marker::Model;
 
 /// What a command does to a state. Only running a command makes one.
@@ -206,25 +205,6 @@ impl Outcome {
             }
         }
     }
-
-    /// An equal outcome.
-    pub fn copy(&self, alloc: Global) -> Result<Outcome, AllocError>
-        ensures { IfOk result (λ o. o ≡ self.now) }
-    {
-        match self.change() {
-            Change::Opens(name, statement, basis) => {
-                opening_copy(alloc, name.as_str(), statement, basis)
-            }
-            Change::Leaves(goal, step, basis) => leaving_copy(goal, step, basis),
-            Change::Undoes => Ok(Outcome::undoes()),
-            Change::Rotates(times) => Ok(Outcome::rotates(*times)),
-            Change::Makes(entries) => Ok(Outcome::makes_new(entries.copy(alloc)?)),
-            Change::Refuses(kind, arg) => Ok(Outcome::refuses(
-                *kind,
-                String::from_str(alloc, arg.as_str())?,
-            )),
-        }
-    }
 }
 
 // Whether these are no entries.
@@ -233,27 +213,4 @@ fn are_none(entries: &NewEntries) -> bool
     ensures { IsTrue result ↔ (keys_of entries.now ≡ []) }
 {
     entries.len() == 0
-}
-
-fn opening_copy(
-    alloc: Global,
-    name: &str,
-    statement: &Term,
-    basis: &Basis,
-) -> Result<Outcome, AllocError>
-    requires { IsStatement basis.now (nameless [] statement.now) }
-    ensures { IfOk result (λ o. o ≡ Opens name.now (nameless [] statement.now) basis.now) }
-{
-    let name = String::from_str(alloc, name)?;
-    Ok(Outcome::opens(name, statement.copy()?, basis.copy()?))
-}
-
-#[tactic(auto, using(crate::proofs::Steps::left_same))]
-fn leaving_copy(goal: &Goal, step: &SharedStep, basis: &Basis) -> Result<Outcome, AllocError>
-    requires { IsLeft basis.now step.now.moves goal.now step.now.goals }
-    ensures { IfOk result (λ o. o ≡ Leaves goal.now step.now.goals basis.now) }
-{
-    let goal = goal.copy()?;
-    let step = step.copy()?;
-    Ok(Outcome::leaves(goal, step, basis.copy()?))
 }

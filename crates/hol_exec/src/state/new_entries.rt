@@ -2,7 +2,6 @@
 ghost use Rattle.std.specs.Prelude.{◌≡◌, ◌<◌, ◌++◌, ◌↔◌, IsTrue, length, slice_get, option_copied, Some, IfOk, OnOk, OnErr};
 ghost use Rattle.hol_theory.specs.Adding.{AreNew, CanFollow};
 
-use crate::state::entry::copies;
 use hol_theory::{Entries, Env, EnvError, Key, Value};
 use std::alloc::{AllocError, Global};
 use std::marker::Model;
@@ -100,16 +99,6 @@ impl NewEntries {
             }
         }
         true
-    }
-
-    /// The same entries. What is shared is shared once more.
-    pub(crate) fn copy(&self, alloc: Global) -> Result<NewEntries, AllocError>
-        ensures { IfOk result (λ copied. copied ≡ self.now) }
-    {
-        match &self.held {
-            Held::Listed(entries) => Ok(NewEntries::listed(copies(alloc, entries)?)),
-            Held::Shared(env) => Ok(NewEntries::shared(env.checkpoint()?)),
-        }
     }
 
     /// Adds them to the theory, where they come last: all of them, or none. A theory without entries shares those that are another's.
