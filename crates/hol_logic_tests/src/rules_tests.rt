@@ -68,7 +68,7 @@ NOT_INTRO of p ==> F is p ==> F |- ~p
 NOT_INTRO of p ==> q is Refused(NotIntro)";
 
 // A rule, and what it is to make.
-#[derive(Clone, Copy, Drop)]
+#[derive(Drop)]
 struct Row<'a> {
     written: &'a Written,
     rule: &'a str,
@@ -119,24 +119,25 @@ impl Row<'_> {
         self.premise(&basis, text)
     }
 
-    fn of_theorem(&self, a: &Thm) -> Result<bool, Fail> {
+    fn of_theorem(&self, lemmas: &mut Lemmas, a: &Thm) -> Result<bool, Fail>
+        requires { lemmas.old ≡ a.now.basis }
+    {
         let alloc = self.written.alloc;
-        let mut lemmas = Lemmas::new(alloc, a.basis())?;
         match self.rule {
             "EQT_INTRO" => self.gives(lemmas.eqt_intro(alloc, a)),
-            "EQF_INTRO" => self.gives(eqf_intro(alloc, &mut lemmas, a)),
-            "UNDISCH" => self.gives(undisch(alloc, &mut lemmas, a)),
-            "NOT_INTRO" => self.gives(not_intro(alloc, &mut lemmas, a)),
+            "EQF_INTRO" => self.gives(eqf_intro(alloc, lemmas, a)),
+            "UNDISCH" => self.gives(undisch(alloc, lemmas, a)),
+            "NOT_INTRO" => self.gives(not_intro(alloc, lemmas, a)),
             _ => Ok(false),
         }
     }
 
-    fn of_theorems(&self, a: &Thm, b: &Thm, c: &Thm) -> Result<bool, Fail>
+    fn of_theorems(&self, lemmas: &mut Lemmas, a: &Thm, b: &Thm, c: &Thm) -> Result<bool, Fail>
+        requires over { lemmas.old ≡ a.now.basis }
         requires second { a.now.basis ≡ b.now.basis }
         requires third { a.now.basis ≡ c.now.basis }
     {
         let alloc = self.written.alloc;
-        let mut lemmas = Lemmas::new(alloc, a.basis())?;
         match self.rule {
             "TRANS" => self.gives(Thm::trans(alloc, a, b)),
             "MK_COMB" => self.gives(Thm::mk_comb(alloc, a, b)),
@@ -144,37 +145,38 @@ impl Row<'_> {
             "DEDUCT_ANTISYM_RULE" => self.gives(Thm::deduct_antisym(alloc, a, b)),
             "PROVE_HYP" => self.gives(prove_hyp(alloc, a, b)),
             "CONJ" => self.gives(lemmas.conj(alloc, a, b)),
-            "DISJ_CASES" => self.gives(disj_cases(alloc, &mut lemmas, a, b, c)),
-            _ => self.of_theorem(a),
+            "DISJ_CASES" => self.gives(disj_cases(alloc, lemmas, a, b, c)),
+            _ => self.of_theorem(lemmas, a),
         }
     }
 
-    fn with_formula(&self, t: &Term, a: &Thm) -> Result<bool, Fail> {
+    fn with_formula(&self, lemmas: &mut Lemmas, t: &Term, a: &Thm) -> Result<bool, Fail>
+        requires { lemmas.old ≡ a.now.basis }
+    {
         let alloc = self.written.alloc;
-        let mut lemmas = Lemmas::new(alloc, a.basis())?;
         match self.rule {
-            "GEN" => self.gives(generalize(alloc, &mut lemmas, t, a)),
-            "DISCH" => self.gives(disch(alloc, &mut lemmas, t, a)),
-            "DISJ1" => self.gives(disj1(alloc, &mut lemmas, a, t)),
-            "DISJ2" => self.gives(disj2(alloc, &mut lemmas, t, a)),
-            "CONTR" => self.gives(contr(alloc, &mut lemmas, t, a)),
+            "GEN" => self.gives(generalize(alloc, lemmas, t, a)),
+            "DISCH" => self.gives(disch(alloc, lemmas, t, a)),
+            "DISJ1" => self.gives(disj1(alloc, lemmas, a, t)),
+            "DISJ2" => self.gives(disj2(alloc, lemmas, t, a)),
+            "CONTR" => self.gives(contr(alloc, lemmas, t, a)),
             _ => Ok(false),
         }
     }
 
-    fn with_term(&self, t: &Term, a: &Thm, b: &Thm) -> Result<bool, Fail>
-        requires { a.now.basis ≡ b.now.basis }
+    fn with_term(&self, lemmas: &mut Lemmas, t: &Term, a: &Thm, b: &Thm) -> Result<bool, Fail>
+        requires over { lemmas.old ≡ a.now.basis }
+        requires second { a.now.basis ≡ b.now.basis }
     {
         let alloc = self.written.alloc;
-        let mut lemmas = Lemmas::new(alloc, a.basis())?;
         match self.rule {
             "ABS" => self.gives(Thm::abs(alloc, t, a)),
             "BETA" => self.gives(Thm::beta(alloc, a.basis(), t)),
             "BETA_CONV" => self.gives(beta_conv(alloc, a.basis(), t)),
             "AP_TERM" => self.gives(ap_term(alloc, t, a)),
             "AP_THM" => self.gives(ap_thm(alloc, a, t)),
-            "CHOOSE" => self.gives(choose(alloc, &mut lemmas, t, a, b)),
-            _ => self.with_formula(t, a),
+            "CHOOSE" => self.gives(choose(alloc, lemmas, t, a, b)),
+            _ => self.with_formula(lemmas, t, a),
         }
     }
 
@@ -183,37 +185,61 @@ impl Row<'_> {
         self.gives(Thm::inst(self.written.alloc, &pairs, a))
     }
 
-    fn with_two(&self, s: &Term, t: &Term, a: &Thm, b: &Thm) -> Result<bool, Fail>
-        requires { a.now.basis ≡ b.now.basis }
+    fn with_two(
+        &self,
+        lemmas: &mut Lemmas,
+        s: &Term,
+        t: &Term,
+        a: &Thm,
+        b: &Thm,
+    ) -> Result<bool, Fail>
+        requires over { lemmas.old ≡ a.now.basis }
+        requires second { a.now.basis ≡ b.now.basis }
     {
         let alloc = self.written.alloc;
-        let mut lemmas = Lemmas::new(alloc, a.basis())?;
         match self.rule {
             "INST" => self.with_pair(s, t, a),
             "ALPHA" => self.gives(alpha(alloc, a.basis(), s, t)),
-            "EXISTS" => self.gives(exists(alloc, &mut lemmas, s, t, a)),
+            "EXISTS" => self.gives(exists(alloc, lemmas, s, t, a)),
             "SUBST" => self.gives(subst(alloc, a, s, t, b)),
             _ => Ok(false),
         }
     }
 
-    fn with_terms(&self, terms: &[Term], a: &Thm, b: &Thm, c: &Thm) -> Result<bool, Fail>
+    fn with_terms(
+        &self,
+        terms: &[Term],
+        lemmas: &mut Lemmas,
+        a: &Thm,
+        b: &Thm,
+        c: &Thm,
+    ) -> Result<bool, Fail>
+        requires over { lemmas.old ≡ a.now.basis }
         requires second { a.now.basis ≡ b.now.basis }
         requires third { a.now.basis ≡ c.now.basis }
     {
         match terms {
-            [] => self.of_theorems(a, b, c),
-            [t] => self.with_term(t, a, b),
-            [s, t] => self.with_two(s, t, a, b),
+            [] => self.of_theorems(lemmas, a, b, c),
+            [t] => self.with_term(lemmas, t, a, b),
+            [s, t] => self.with_two(lemmas, s, t, a, b),
             _ => Ok(false),
         }
+    }
+
+    // With the general theorems over the basis of the premises.
+    fn by_lemmas(&self, terms: &[Term], a: &Thm, b: &Thm, c: &Thm) -> Result<bool, Fail>
+        requires second { a.now.basis ≡ b.now.basis }
+        requires third { a.now.basis ≡ c.now.basis }
+    {
+        let mut lemmas = Lemmas::new(self.written.alloc, a.basis())?;
+        self.with_terms(terms, &mut lemmas, a, b, c)
     }
 
     fn of_premise(&self, terms: &[Term], a: &Thm, others: &str) -> Result<bool, Fail> {
         let (second, third) = others.split_once(" | ").unwrap_or((others, "T"));
         let b = self.premise(a.basis(), second)?;
         let c = self.premise(a.basis(), third)?;
-        self.with_terms(terms, a, &b, &c)
+        self.by_lemmas(terms, a, &b, &c)
     }
 
     fn of_premises(&self, terms: &[Term], premises: &str) -> Result<bool, Fail> {
