@@ -15,7 +15,9 @@ use Rattle.hol_kernel.proofs.ItemOrder.{total, only}
 use Rattle.hol_kernel.proofs.Subsets.{none_within, union_subset}
 use Rattle.hol_kernel.proofs.Unions.{union_legal}
 use Rattle.hol_stack.proofs.Within.{within_union}
-use Rattle.hol_resolve.specs.Readings.{ReadingsValue}
+use Rattle.hol_resolve.specs.Readings.{QuotedValue, ReadingsValue}
+use Rattle.hol_resolve.specs.ReadingView.{list_value}
+use Rattle.hol_resolve.specs.declared.readings.Quoted.{Quoted}
 use Rattle.hol_theory.specs.Key.{KeyValue}
 use Rattle.hol_theory.specs.Entry.{EntryValue, AType, AConstant, ATheorem, Entries, IsEntry, entry_at, entry_basis}
 use Rattle.hol_theory.specs.Theory.{items_in, IsTheory}
@@ -59,6 +61,11 @@ pub names_stand : (es : Entries) (keys : List KeyValue) (values : Values) (n : �
 names_stand es keys values n e h = subst (HasNames n) (sym (ap keys_of e ∙ values_keys es keys)) h
 
 -- ---- bases
+
+-- the basis of what is resolved with one quotation
+pub quotation_basis : (cited : Values) (own : Items) (passed readings : List (ℕ × Quoted)) (place : ℕ) (q r : QuotedValue) → own ≡ resolved_basis cited (list_value passed) → passed ≡ readings → list_value readings ≡ (place, q) ∷ [] → q ≡ r →
+    own ≡ resolved_basis cited ((place, r) ∷ [])
+quotation_basis cited own passed readings place q r e same is f = e ∙ ap (λ (l : List (ℕ × Quoted)). resolved_basis cited (list_value l)) same ∙ ap (resolved_basis cited) (is ∙ ap (λ (x : QuotedValue). (place, x) ∷ []) f)
 
 module _ (es : Entries) (t : IsTheory es) (readings : ReadingsValue) where
   legal_of : (v : EntryValue) (key : KeyValue) → IsEntry key v → IsLegalSet (entry_basis v)

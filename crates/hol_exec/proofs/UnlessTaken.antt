@@ -10,15 +10,11 @@ use Rattle.hol_resolve.specs.Signature.{SignatureValue}
 use Rattle.hol_resolve.specs.Reading.{ReadsAs, LargeReading, WrongArity, small_type, type_reading}
 use Rattle.hol_terms.specs.Nameless.{Nameless}
 use Rattle.hol_kernel.specs.Items.{Items, no_items}
-use Rattle.hol_resolve.specs.Readings.{QuotedValue}
-use Rattle.hol_resolve.specs.ReadingView.{list_value}
-use Rattle.hol_resolve.specs.declared.readings.Quoted.{Quoted}
 use Rattle.hol_theory.specs.Key.{KeyValue, key_text}
 use Rattle.hol_theory.specs.Entry.{EntryValue}
 use Rattle.hol_theory.specs.Making.{IsNewType, IsNewConstant, IsNewAxiom}
 use Rattle.hol_exec.specs.declared.reports.refusal.RefusalKind.TheVariants as refusal
-use Rattle.hol_exec.specs.ReadsValue.{Values, ReadsValue}
-use Rattle.hol_exec.specs.Resolved.{resolved_basis}
+use Rattle.hol_exec.specs.ReadsValue.{ReadsValue}
 use Rattle.hol_exec.specs.OutcomeValue.{OutcomeValue, Makes, Refuses}
 use Rattle.hol_exec.specs.Making.{UnlessTaken, MakesOne, UnlessOpen, IsMade, IsMaking}
 use Rattle.hol_notation_commands.specs.Text.{MakingText}
@@ -33,11 +29,6 @@ module _ {E : Type 0} (result : Result OutcomeValue E) (taken : Option KeyValue)
 -- one entry is made
 pub one_is : {E : Type 0} (result : Result OutcomeValue E) (entry : KeyValue × EntryValue) (Is : KeyValue × EntryValue → Type 0) → Is entry → IfOk result (λ outcome. outcome ≡ Makes (entry ∷ [])) → IfOk result (MakesOne Is)
 one_is result entry Is is h = IfOk-weaker result (λ outcome. outcome ≡ Makes (entry ∷ [])) (MakesOne Is) (λ outcome e. (entry, is, e)) h
-
--- the basis of what is resolved with one reading
-pub basis_at : (cited : Values) (own : Items) (passed readings : List (ℕ × Quoted)) (place : ℕ) (q r : QuotedValue) → own ≡ resolved_basis cited (list_value passed) → passed ≡ readings → list_value readings ≡ (place, q) ∷ [] → q ≡ r →
-    own ≡ resolved_basis cited ((place, r) ∷ [])
-basis_at cited own passed readings place q r e same is f = e ∙ ap (λ (l : List (ℕ × Quoted)). resolved_basis cited (list_value l)) same ∙ ap (resolved_basis cited) (is ∙ ap (λ (x : QuotedValue). (place, x) ∷ []) f)
 
 -- ---- what is made over a basis is so over an equal one, under an equal name
 

@@ -6,4 +6,4 @@ mod terms;
 
 pub use parsed::{Parsed, parse, unread};
 pub(crate) use signature::signature_of;
-pub(crate) use terms::{is_statement, of_quotation, read_cited};
+pub(crate) use terms::{is_statement, read_cited};

@@ -11,6 +11,6 @@ mod occurring;
 mod resolution;
 mod unresolved;
 
-pub(crate) use basis::resolved_basis;
+pub(crate) use basis::{term_basis, type_basis};
 pub(crate) use cited::theorem_at;
 pub(crate) use resolution::{Resolution, resolve};

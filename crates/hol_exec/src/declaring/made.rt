@@ -27,17 +27,17 @@ ghost use Rattle.hol_exec.specs.Making.{UnlessTaken, taken, MakesOne, MakesType,
 ghost use Rattle.hol_exec.specs.Valid.{IsStatement, AreNewNames};
 
 use crate::declaring::defining::{first_free, first_unreflected, read_definition, right_of};
-use crate::reading::{is_statement, of_quotation, read_cited, signature_of};
+use crate::reading::{is_statement, read_cited, signature_of};
 use crate::reads::Reads;
 use crate::reports::RefusalKind;
-use crate::resolving::{resolved_basis, theorem_at};
+use crate::resolving::{term_basis, theorem_at, type_basis};
 use crate::running::{Outcome, Setup, name_taken, refused, refused_at, refused_name};
 use hol_definition::for_all;
 use hol_infer::{ReadingError, elaborate_type};
 use hol_kernel::{Basis, KernelError, Thm};
 use hol_notation_commands::{Making, TypeDefinition};
 use hol_notation_terms::{Definition, Quotation, TypeQuotation};
-use hol_resolve::{Quoted, Reading};
+use hol_resolve::Reading;
 use hol_terms::{Term, TermNode};
 use hol_theory::{
     DefinedNames, Key, Kind, Value, new_axiom, new_constant, new_definition, new_type,
@@ -150,8 +150,7 @@ fn constant_of(
         return name_taken(alloc, key);
     }
     let name = Name::new(alloc, name)?;
-    let readings = of_quotation(alloc, place, Quoted::Type(ty.copy()?))?;
-    let basis = resolved_basis(alloc, reads, &readings)?;
+    let basis = type_basis(alloc, reads, place, &ty)?;
     match new_constant(alloc, &basis, &name, &ty) {
         Ok(entry) => one_made(alloc, entry),
         Err(error) => Err(memory_alone(error)),
@@ -213,8 +212,7 @@ fn axiom_stated(
 {
     reads.promise();
     let name = Name::new(alloc, name)?;
-    let readings = of_quotation(alloc, place, Quoted::Term(statement.copy()?))?;
-    let basis = resolved_basis(alloc, reads, &readings)?;
+    let basis = term_basis(alloc, reads, place, statement)?;
     match new_axiom(alloc, &basis, &name, statement) {
         Ok(entry) => one_made(alloc, entry),
         Err(error) => Err(memory_alone(error)),
@@ -263,8 +261,7 @@ fn defined_by(
     if let Some(variable) = first_unreflected(alloc, right)? {
         return refused_name(alloc, RefusalKind::NotReflected, variable.as_str());
     }
-    let readings = of_quotation(alloc, definition.place, Quoted::Term(equation.copy()?))?;
-    let basis = resolved_basis(alloc, reads, &readings)?;
+    let basis = term_basis(alloc, reads, definition.place, equation)?;
     defined(alloc, name, definition, &basis, right)
 }
 

@@ -1,18 +1,18 @@
 //! What a term as it is written reads as.
-ghost use Rattle.std.specs.Prelude.{◌≡◌, IfOk, [], ◌∷◌};
+ghost use Rattle.std.specs.Prelude.{◌≡◌, IfOk, []};
 ghost use Rattle.hol_terms.specs.Nameless.{nameless, nameless_type};
 ghost use Rattle.hol_formulas.specs.Equation.{bool_type};
 ghost use Rattle.hol_kernel.specs.Typing.{is_type_at};
 ghost use Rattle.hol_exec.specs.Signature.{signature_of};
 ghost use Rattle.hol_resolve.specs.Reading.{IsTermReadAs};
-ghost use Rattle.hol_resolve.specs.ReadingView.{reading_value, quoted_value, list_value};
+ghost use Rattle.hol_resolve.specs.ReadingView.{reading_value};
 
 use crate::reading::signature::signature_of;
 use crate::reads::Reads;
 use crate::running::Setup;
 use hol_formulas::is_bool;
 use hol_notation_terms::PreTerm;
-use hol_resolve::{Quoted, Reading, term_reading};
+use hol_resolve::{Reading, term_reading};
 use hol_terms::Term;
 use std::alloc::{AllocError, Global};
 
@@ -27,19 +27,6 @@ pub(crate) fn read_cited(
 {
     let signature = signature_of(alloc, setup, reads.cited())?;
     term_reading(alloc, written, &signature)
-}
-
-/// What the one quotation of a command reads as, with its place.
-pub(crate) fn of_quotation(
-    alloc: Global,
-    place: usize,
-    quoted: Quoted,
-) -> Result<Vec<(usize, Quoted)>, AllocError>
-    ensures { IfOk result (λ readings. list_value readings.items ≡ (place, quoted_value quoted) ∷ []) }
-{
-    let mut readings = Vec::new(alloc);
-    readings.push((place, quoted))?;
-    Ok(readings)
 }
 
 /// Whether the term is of type `bool`.

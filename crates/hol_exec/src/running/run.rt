@@ -20,10 +20,10 @@ ghost use Rattle.hol_exec.specs.OutcomeValue.{Leaves};
 ghost use Rattle.hol_exec.specs.Valid.{IsStatement, IsLeft, IsRunnableExpr};
 
 use crate::declaring::making;
-use crate::reading::{is_statement, of_quotation, read_cited};
+use crate::reading::{is_statement, read_cited};
 use crate::reads::{Closing, Reads};
 use crate::reports::RefusalKind;
-use crate::resolving::{Resolution, resolve, resolved_basis};
+use crate::resolving::{Resolution, resolve, term_basis};
 use crate::running::meter::Meter;
 use crate::running::outcome::Outcome;
 use crate::running::refused::{name_taken, refused, refused_at, refused_name};
@@ -36,7 +36,7 @@ use hol_kernel::Basis;
 use hol_notation_commands::LocalCommand;
 use hol_notation_tactics::TacExpr;
 use hol_notation_terms::Quotation;
-use hol_resolve::{Quoted, Reading};
+use hol_resolve::Reading;
 use hol_stack::SharedStep;
 use hol_terms::Term;
 use hol_theory::{Key, Kind, Value};
@@ -141,8 +141,7 @@ fn open_statement(
         return name_taken(alloc, key);
     }
     let name = String::from_str(alloc, name)?;
-    let readings = of_quotation(alloc, place, Quoted::Term(statement.copy()?))?;
-    let basis = resolved_basis(alloc, reads, &readings)?;
+    let basis = term_basis(alloc, reads, place, &statement)?;
     Ok(Outcome::opens(name, statement, basis))
 }
 
