@@ -246,12 +246,8 @@ fn answer_in(slot: &Slot) -> Result<Answer, AllocError>
     ensures tested { IfOk result (λ a. a.tested.value ≡ slot.now.row.tested) }
     ensures outcome { IfOk result (λ a. a.outcome.value ≡ slot.now.row.outcome) }
 {
-    let reads = match slot.reads() {
-        Some(reads) => Some(reads.clone()?),
-        None => None,
-    };
     Ok(Answer {
-        reads,
+        reads: slot.shared_reads()?,
         tested: slot.tested().clone()?,
         outcome: slot.outcome().clone()?,
     })

@@ -1,5 +1,5 @@
 //! Slots.
-ghost use Rattle.std.specs.Prelude.{◌≡◌, IfOk, IfSome};
+ghost use Rattle.std.specs.Prelude.{◌≡◌, IfOk, IfSome, None};
 ghost use Rattle.std.specs.Option.{option_map};
 
 use crate::line::Line;
@@ -61,18 +61,47 @@ impl Slot {
     fn keeping(&self, kept: Option<State>) -> Result<Slot, AllocError>
         ensures { IfOk result (λ new. new ≡ record { text = self.now.text; row = self.now.row; opened = self.now.opened; kept = kept }) }
     {
-        let reads = match &self.reads {
-            Some(reads) => Some(reads.clone()?),
-            None => None,
-        };
-        let opened = match &self.opened {
-            Some(opened) => Some(opened.copy()?),
-            None => None,
-        };
+        let Slot {
+            line,
+            reads,
+            tested,
+            outcome,
+            opened,
+            ..
+        } = self.bare()?;
+        Ok(Slot::new(line, reads, tested, outcome, opened, kept))
+    }
+
+    // The same, which keeps no state.
+    fn bare(&self) -> Result<Slot, AllocError>
+        ensures { IfOk result (λ new. new ≡ record { text = self.now.text; row = self.now.row; opened = self.now.opened; kept = None }) }
+    {
         let line = self.line.clone()?;
         let tested = self.tested.clone()?;
         let outcome = self.outcome.clone()?;
-        Ok(Slot::new(line, reads, tested, outcome, opened, kept))
+        let reads = self.shared_reads()?;
+        let opened = self.shared_opened()?;
+        Ok(Slot::new(line, reads, tested, outcome, opened, None))
+    }
+
+    /// What it read of the state, to share.
+    pub(crate) fn shared_reads(&self) -> Result<Option<Rc<Reads>>, AllocError>
+        ensures { IfOk result (λ reads. option_map (λ r. r.value) reads ≡ self.now.row.reads) }
+    {
+        match &self.reads {
+            Some(reads) => Ok(Some(reads.clone()?)),
+            None => Ok(None),
+        }
+    }
+
+    // The newest element of the open proof's history after it, to share.
+    fn shared_opened(&self) -> Result<Option<Element>, AllocError>
+        ensures { IfOk result (λ opened. opened ≡ self.now.opened) }
+    {
+        match &self.opened {
+            Some(opened) => Ok(Some(opened.copy()?)),
+            None => Ok(None),
+        }
     }
 
     /// Its text.
