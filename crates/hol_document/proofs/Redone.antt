@@ -1,8 +1,9 @@
 -- Slots that are settled one after the other, and a theory that is put together of them.
 use Rattle.std.specs.Prelude.{◌≡◌, ◌≤◌, ◌<◌, ◌+◌, ◌-◌, ℕ, true, zero, suc, List, [], ◌∷◌, ◌++◌, map, take, drop, length, Some, get_or, refl}
-use Rattle.std.proofs.Common.{ap, sym, ◌∙◌, subst, append_assoc, arith, add-one}
+use Rattle.std.proofs.Common.{ap, sym, ◌∙◌, subst, append_assoc, inl, inr, arith, add-one}
 use Rattle.std.proofs.lemmas.List.{length-drop, take_all}
 use Rattle.std.proofs.Math.ListN.{drop_of_length-le}
+use Rattle.std.proofs.Math.Nat.{eq-or-lt_of_le}
 use Rattle.std.proofs.Math.Seq.{drop-cons, take-suc}
 use Rattle.hol_exec.specs.OutcomeValue.{OutcomeValue, after}
 use Rattle.hol_exec.specs.Setup.{SetupValue}
@@ -13,7 +14,7 @@ use Rattle.hol_document.specs.Settled.{AreRedone, HaveAdded, HaveLeft, LeadTo, r
 use Rattle.hol_document.specs.Slots.{SlotValue, IsSlot, AreSlots}
 use Rattle.hol_document.proofs.Alike.{states_one}
 use Rattle.hol_document.proofs.Counting.{rows_append, rows_same}
-use Rattle.hol_document.proofs.Standing.{slots_append, slots_split, slots_elsewhere, kept_here}
+use Rattle.hol_document.proofs.Standing.{slots_append, slots_split, slots_elsewhere, kept_here, imports_later}
 
 pub map_more : {X Y : Type 0} (f : X → Y) (xs ys : List X) → map f (xs ++ ys) ≡ map f xs ++ map f ys
 map_more f [] ys = refl
@@ -186,3 +187,44 @@ module _ {A : Type 0} (f : A → SlotValue) where
       let none : map f (drop at xs) ≡ [] = ap (map f) (drop_of_length-le xs end) in
       let here : last ≡ t = subst (λ zs. AreSlots setup before t zs last) none left in
       sym (alike.whole entries) ∙ ap (λ (s : StateValue). s.entries) (sym here)
+
+  -- the state after slots from a place on, where they lead there
+  pub led_here : (xs : List A) (i : ℕ) (s t : StateValue) → LeadTo (map f xs) (map f (drop i xs)) s
+      → ((setup : SetupValue) (before : List EndedTheory) (last : StateValue) → AreSlots setup before s (map f (take (length xs - i) (drop i xs))) last → t ≡ last)
+      → (setup : SetupValue) (before : List EndedTheory) (last : StateValue) → AreSlots setup before start (map f xs) last → t ≡ last
+  led_here xs i s t leads ends = λ setup before last are. ends setup before last (subst (λ zs. AreSlots setup before s zs last) (sym (rest_here f xs i)) (leads setup before last are))
+
+  rest_all : (xs : List A) (at : ℕ) → take (length xs - at) (drop at xs) ≡ drop at xs
+  rest_all xs at = take_all (length xs - at) (drop at xs) (omega (arith, length-drop at xs))
+
+  rest_none : (xs : List A) (at : ℕ) → at ≡ length xs → take (length xs - at) (drop at xs) ≡ []
+  rest_none xs at e = rest_all xs at ∙ drop_of_length-le xs (omega (arith, e))
+
+  rest_some : (xs : List A) (at : ℕ) → at < length xs → 0 < length (take (length xs - at) (drop at xs))
+  rest_some xs at h = rw (rest_all xs at) (omega (arith, h, length-drop at xs))
+
+  -- from a place on the slots are taken as they stand, if any are left there: the states are one
+  pub added_either : (setup : SetupValue) (before earlier : List EndedTheory) (drift : DriftValue) (s mid last last' : StateValue) (xs : List A) (at until n m : ℕ) (olds front slots slots' : List SlotValue)
+      → olds ≡ map f xs → at ≤ length xs → slots' ≡ slots ++ map f (take (length xs - at) (drop at xs))
+      → (length (take (length xs - at) (drop at xs)) ≡ 0 → last' ≡ mid) → (0 < length (take (length xs - at) (drop at xs)) → last' ≡ last)
+      → (at < length xs → drift.entries ≡ true) → (at < length xs → drift.proof ≡ true) → (at < length xs → until ≤ at) → EachImportsAlike before earlier (drop until olds)
+      → HaveLeft setup before drift (map f (drop at xs)) last mid → HaveAdded setup earlier s (map f (take at xs)) n m front slots mid → HaveAdded setup earlier s olds n m front slots' last'
+  added_either setup before earlier drift s mid last last' xs at until n m olds front slots slots' is within more all cut entries proof past same left added =
+      elim (eq-or-lt_of_le {n = at} {m = length xs} within) [
+        | inl e ↦
+            added_all setup earlier s mid last' xs at n m olds front slots slots' is (omega (arith, e))
+            (more ∙ (ap (λ zs. slots ++ map f zs) (rest_none xs at e) ∙ append_none slots)) (all (ap length (rest_none xs at e))) added
+        | inr h ↦
+            added_cut setup before earlier drift s mid last last' xs at n m olds front slots slots' is
+            (more ∙ ap (λ zs. slots ++ map f zs) (rest_all xs at)) (cut (rest_some xs at h)) (entries h) (proof h) (imports_later before earlier until at olds (past h) same) left added
+      ]
+
+  -- the last entries are the same, where no difference is known of them
+  pub end_either : (setup : SetupValue) (before : List EndedTheory) (drift : DriftValue) (state last last' : StateValue) (xs : List A) (at : ℕ) → at ≤ length xs
+      → (length (take (length xs - at) (drop at xs)) ≡ 0 → last' ≡ state) → (0 < length (take (length xs - at) (drop at xs)) → last' ≡ last)
+      → drift.entries ≡ true → HaveLeft setup before drift (map f (drop at xs)) last state → last'.entries ≡ last.entries
+  end_either setup before drift state last last' xs at within all cut entries left =
+      elim (eq-or-lt_of_le {n = at} {m = length xs} within) [
+        | inl e ↦ ap (λ (s : StateValue). s.entries) (all (ap length (rest_none xs at e))) ∙ end_same setup before drift state last xs at (omega (arith, e)) entries left
+        | inr h ↦ ap (λ (s : StateValue). s.entries) (cut (rest_some xs at h))
+      ]

@@ -86,32 +86,36 @@ fn resumed(alloc: Global, earlier: &[Theory], slots: &[Rc<Slot>]) -> Result<Grow
     ensures drift { IfOk result (λ growing. growing.drift ≡ no_drift) }
 {
     promise_each(earlier);
-    let (from, mut growing) = kept_front(alloc, slots)?;
-    growing.since = slots.len() - from;
-    let mut i = from;
-    while i < slots.len() {
-        let slot = &slots[i];
-        resume(alloc, &mut growing.state, slot.outcome(), slot.opened())?;
-        growing.slots.push(slot.clone()?)?;
-        i += 1;
-    }
-    Ok(growing)
+    let (from, mut state) = kept_front(alloc, slots)?;
+    resume_each(alloc, &slots[from..], &mut state)?;
+    Ok(Growing {
+        slots: copies(alloc, slots)?,
+        state,
+        drift: Drift::none(alloc),
+        since: slots.len() - from,
+    })
 }
 
-// The place of the last slot whose state is kept, the slots before it, and that state; no slots, where none is kept.
-fn kept_front(alloc: Global, slots: &[Rc<Slot>]) -> Result<(usize, Growing), AllocError>
-    ensures within { IfOk result (λ found. found.0 ≤ length slots.now) }
-    ensures slots { IfOk result (λ found. map (λ x. x.value) found.1.slots.items ≡ map (λ x. x.value) (take found.0 slots.now)) }
-    ensures state { IfOk result (λ found. LeadTo (map (λ x. x.value) slots.now) (map (λ x. x.value) (drop found.0 slots.now)) found.1.state) }
-    ensures drift { IfOk result (λ found. found.1.drift ≡ no_drift) }
+// The state goes on with what the slots came to.
+fn resume_each(alloc: Global, slots: &[Rc<Slot>], state: &mut State) -> Result<(), AllocError>
+    requires { (setup : SetupValue) × (earlier : List EndedTheory) × AreTheories earlier × (last : StateValue) × AreSlots setup earlier state.old (map (λ x. x.value) slots.now) last }
+    ensures { OnOk result ((setup : SetupValue) (before : List EndedTheory) (last : StateValue) → AreSlots setup before state.old (map (λ x. x.value) slots.now) last → state.new ≡ last) }
 {
-    let mut growing = begun(alloc);
-    let Some((at, state)) = last_kept(slots) else {
-        return Ok((0, growing));
-    };
-    growing.state = state.checkpoint(alloc)?;
-    add_each(&mut growing.slots, &slots[..at])?;
-    Ok((at, growing))
+    for slot in slots {
+        resume(alloc, state, slot.outcome(), slot.opened())?;
+    }
+    Ok(())
+}
+
+// The place of the last slot whose state is kept, and that state; the first place and the state there, where none is kept.
+fn kept_front(alloc: Global, slots: &[Rc<Slot>]) -> Result<(usize, State), AllocError>
+    ensures within { IfOk result (λ found. found.0 ≤ length slots.now) }
+    ensures state { IfOk result (λ found. LeadTo (map (λ x. x.value) slots.now) (map (λ x. x.value) (drop found.0 slots.now)) found.1) }
+{
+    match last_kept(slots) {
+        Some((at, state)) => Ok((at, state.checkpoint(alloc)?)),
+        None => Ok((0, State::new(alloc))),
+    }
 }
 
 // The place of the last slot whose state is kept, and that state.
@@ -194,16 +198,57 @@ pub(crate) fn redo(
     let slots = &theory.slots()[from..];
     let at = settle_each(alloc, runner, earlier, slots, until, &mut growing)?;
     let is_same = growing.drift.has_same_entries();
-    let name = theory.shared_name().clone()?;
-    if at < slots.len() {
-        add_each(&mut growing.slots, &slots[at..])?;
-        let last = theory.last().clone()?;
-        let theory = Theory::new(alloc, name, growing.slots, last)?;
-        return Ok(Redone { theory, is_same });
-    }
-    let last = Rc::new(alloc, growing.state)?;
-    let theory = Theory::new(alloc, name, growing.slots, last)?;
+    let Growing {
+        slots: done,
+        state,
+        ..
+    } = growing;
+    let theory = ended(alloc, theory, &slots[at..], done, state)?;
     Ok(Redone { theory, is_same })
+}
+
+// The theory of the slots that are done and of those that are left, which are taken as they stand, where there are any; else the state is its last one.
+fn ended(
+    alloc: Global,
+    theory: &Theory,
+    left: &[Rc<Slot>],
+    done: Vec<Rc<Slot>>,
+    state: State,
+) -> Result<Theory, AllocError>
+    ensures name { IfOk result (λ t. t.name ≡ theory.now.name) }
+    ensures slots { IfOk result (λ t. t.slots ≡ map (λ x. x.value) done.items ++ map (λ x. x.value) left.now) }
+    ensures all { IfOk result (λ t. length left.now ≡ 0 → t.last ≡ state) }
+    ensures cut { IfOk result (λ t. 0 < length left.now → t.last ≡ theory.now.last) }
+{
+    let last = last_of(alloc, theory, left, state)?;
+    let mut slots = done;
+    add_each(&mut slots, left)?;
+    theory.with_slots(alloc, slots, last)
+}
+
+// The last state of the theory, where slots are left that are taken as they stand; else this one.
+fn last_of(
+    alloc: Global,
+    theory: &Theory,
+    left: &[Rc<Slot>],
+    state: State,
+) -> Result<Rc<State>, AllocError>
+    ensures all { IfOk result (λ last. length left.now ≡ 0 → last.value ≡ state) }
+    ensures cut { IfOk result (λ last. 0 < length left.now → last.value ≡ theory.now.last) }
+{
+    if left.is_empty() {
+        return Ok(Rc::new(alloc, state)?);
+    }
+    theory.last().clone()
+}
+
+// The same slots.
+fn copies(alloc: Global, slots: &[Rc<Slot>]) -> Result<Vec<Rc<Slot>>, AllocError>
+    ensures { IfOk result (λ copied. map (λ x. x.value) copied.items ≡ map (λ x. x.value) slots.now) }
+{
+    let mut copied = Vec::new(alloc);
+    add_each(&mut copied, slots)?;
+    Ok(copied)
 }
 
 // Adds the slots as they stand.

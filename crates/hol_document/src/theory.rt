@@ -53,6 +53,19 @@ impl Theory {
         })
     }
 
+    /// The theory of the same name with these slots, which lead to this state.
+    pub(crate) fn with_slots(
+        &self,
+        alloc: Global,
+        slots: Vec<Rc<Slot>>,
+        last: Rc<State>,
+    ) -> Result<Theory, AllocError>
+        ensures { IfOk result (λ theory. theory ≡ record { name = self.now.name; slots = map (λ slot. slot.value) slots.items; last = last.value }) }
+    {
+        let name = self.shared.name.clone()?;
+        Theory::new(alloc, name, slots, last)
+    }
+
     /// The same theory.
     pub(crate) fn copy(&self) -> Result<Theory, AllocError>
         ensures { IfOk result (λ theory. theory ≡ self.now) }
