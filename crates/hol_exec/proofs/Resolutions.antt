@@ -1,6 +1,6 @@
 -- What is written, resolved, from the steps of resolving.
-use Rattle.std.specs.Prelude.{◌≡◌, ℕ, List, Some, None, Result, Ok, Err, IfOk, string_bytes}
-use Rattle.std.proofs.Common.{ap, sym, ◌∙◌, subst}
+use Rattle.std.specs.Prelude.{◌≡◌, ◌==◌, true, ℕ, List, [], ◌∷◌, length, Some, None, Result, Ok, Err, IfOk, string_bytes}
+use Rattle.std.proofs.Common.{ap, sym, ◌∙◌, subst, arith}
 use Rattle.hol_kernel.specs.Items.{Items}
 use Rattle.hol_notation_tactics.specs.Parts.{parts_of, calls_in}
 use Rattle.hol_notation_tactics.specs.Text.{TacText}
@@ -8,7 +8,7 @@ use Rattle.hol_resolve.specs.declared.quotations.AnyQuotation.{AnyQuotation}
 use Rattle.hol_resolve.specs.declared.refusal.Refusal.{Refusal}
 use Rattle.hol_resolve.specs.Signature.{SignatureValue}
 use Rattle.hol_resolve.specs.Quotations.{quotations_in}
-use Rattle.hol_resolve.specs.Readings.{ReadingsValue, AreRead}
+use Rattle.hol_resolve.specs.Readings.{ReadingsValue, Attempts, AreAttempts, AreRead}
 use Rattle.hol_exec.specs.declared.reports.refusal.RefusalKind.TheVariants as refusal
 use Rattle.hol_exec.specs.Setup.{SetupValue}
 use Rattle.hol_exec.specs.Signature.{signature_of}
@@ -22,11 +22,21 @@ use Rattle.hol_exec.specs.declared.resolving.resolution.Resolution.{Resolution}
 use Rattle.hol_exec.specs.declared.resolving.unresolved.Unresolved.{Unresolved as Fault}
 use Rattle.hol_exec.specs.declared.resolving.unresolved.Unresolved.TheVariants as fault
 use Rattle.hol_exec.specs.Valid.{AreOfTheory}
+use Rattle.std.proofs.lemmas.Bool.Decides.{Decides-eqb}
 use Rattle.std.proofs.lemmas.Result.{IfOk-from_err}
 use Rattle.hol_resolve.specs.Forward.{CitedValue}
 use Rattle.hol_resolve.specs.Over.{AreWithin}
 use Rattle.hol_exec.proofs.ReadOver.{resolved_cited, theorems_within}
 use Rattle.hol_exec.proofs.Runs.{if_ok}
+
+-- without quotations it is the same what stands
+none_attempted : (over other : SignatureValue) (attempts : Attempts) → AreAttempts over [] attempts → AreAttempts other [] attempts
+none_attempted over other [] h = tt
+none_attempted over other (t ∷ attempts) h = absurd h
+
+pub none_read : (over other : SignatureValue) (quoted : List AnyQuotation) (read : Result ReadingsValue Refusal) → true ≡ (length quoted == 0) → AreRead over quoted read → AreRead other quoted read
+none_read over other [] read e h = (h.0, none_attempted over other h.0 h.1, h.2)
+none_read over other (q ∷ quoted) read e h = absurd (omega (arith, (Decides-eqb (length (q ∷ quoted)) 0).0 (sym e)))
 
 module _ (setup : SetupValue) (cited : Values) where
   module _ (tactic : TacText) where

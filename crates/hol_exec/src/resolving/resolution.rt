@@ -3,7 +3,9 @@ ghost use Rattle.std.specs.Prelude.{◌≡◌, IfOk, None};
 ghost use Rattle.hol_exec.specs.Resolved.{resolved_basis};
 ghost use Rattle.hol_notation_tactics.specs.Parts.{parts_of};
 ghost use Rattle.hol_resolve.specs.Over.{AreOver};
-ghost use Rattle.hol_resolve.specs.ReadingView.{readings_value};
+ghost use Rattle.hol_resolve.specs.ReadingView.{readings_value, readings_result};
+ghost use Rattle.hol_resolve.specs.Readings.{AreRead};
+ghost use Rattle.hol_exec.specs.Signature.{signature_of};
 ghost use Rattle.hol_exec.specs.Setup.{SetupValue};
 ghost use Rattle.hol_exec.specs.SetupView.{setup_value};
 ghost use Rattle.hol_exec.specs.Expr.{formulas_in, first_not_bool, resolved_formulas, IsResolvedFitting, IsResolution};
@@ -23,7 +25,8 @@ use crate::running::Setup;
 use hol_combine::Expr;
 use hol_kernel::Basis;
 use hol_notation_tactics::{Part, TacExpr, calls_in, parts_of};
-use hol_resolve::{Readings, quotations_in, read_quotations};
+use hol_resolve::{AnyQuotation, Readings, Refusal, Signature, quotations_in, read_quotations};
+use hol_theory::{Key, Value};
 use std::alloc::{AllocError, Global};
 
 /// What resolving comes to.
@@ -71,12 +74,31 @@ fn resolve_fitting(
     ensures value { IfOk result (λ r. IsResolvedFitting (setup_value setup.now) tactic.now reads.now.cited (resolution_value r)) }
     ensures runnable { IfOk result (IsRunnableIf (setup_value setup.now)) }
 {
-    let signature = signature_of(alloc, setup, reads.cited())?;
     let quotations = quotations_in(alloc, parts)?;
-    match read_quotations(alloc, &quotations, &signature)? {
+    match read_beside(alloc, setup, reads.cited(), &quotations)? {
         Ok(readings) => resolve_read(alloc, setup, tactic, parts, reads, &readings),
         Err(refusal) => unresolved(refused_by(alloc, "", refusal)?),
     }
+}
+
+// What the quotations read as over what stands where these entries are cited. Without quotations nothing of that is gone through.
+fn read_beside(
+    alloc: Global,
+    setup: &Setup,
+    cited: &[(Key, Option<Value>)],
+    quotations: &[AnyQuotation],
+) -> Result<Result<Readings, Refusal>, AllocError>
+    ensures { IfOk result (λ read. AreRead (signature_of cited.now) quotations.now (readings_result read)) }
+{
+    if quotations.is_empty() {
+        let nothing = Signature {
+            constants: Vec::new(alloc),
+            types: Vec::new(alloc),
+        };
+        return read_quotations(alloc, quotations, &nothing);
+    }
+    let signature = signature_of(alloc, setup, cited)?;
+    read_quotations(alloc, quotations, &signature)
 }
 
 // Resolves what is written, whose quotations are read: not bool; then what rules and arguments refuse.
