@@ -1,5 +1,5 @@
 //! The names that the run of a command tested.
-ghost use Rattle.std.specs.Prelude.{◌≡◌, IfOk, [], map};
+ghost use Rattle.std.specs.Prelude.{◌≡◌, IfOk, IsTrue, [], map};
 ghost use Rattle.std.specs.List.{list_all};
 ghost use Rattle.hol_goal.specs.Names.{stands};
 ghost use Rattle.hol_exec.specs.Tested.{is_marked, marked, agrees};
@@ -35,6 +35,13 @@ impl Tested {
         Tested {
             names: Vec::new(alloc),
         }
+    }
+
+    /// Whether there are no names.
+    pub fn is_none(&self) -> bool
+        ensures { IsTrue result → self.now ≡ [] }
+    {
+        self.names.is_empty()
     }
 
     /// These names, where constants have those.
