@@ -1,6 +1,7 @@
 //! What runs commands.
-ghost use Rattle.std.specs.Prelude.{◌≡◌};
+ghost use Rattle.std.specs.Prelude.{◌≡◌, []};
 ghost use Rattle.std.specs.Coded.{Coded-set};
+ghost use Rattle.hol_exec.specs.Codes.{coded_tested};
 ghost use Rattle.hol_exec.specs.MeterView as metered;
 ghost use Rattle.hol_exec.specs.SetupCode.{coded_setup};
 
@@ -17,11 +18,14 @@ use std::rc::Rc;
 pub(crate) struct Runner {
     meter: Meter,
     cache: Cache,
+    // No tested names: what tested none has these, which are made once.
+    nothing: Rc<Tested>,
     ghost same: { cache ≡ metered.setup_of meter } by { Coded-set coded_setup cache (metered.setup_of meter) },
+    ghost none: { nothing.value ≡ [] } by { Coded-set coded_tested nothing.value [] },
 }
 
 impl Runner {
-    ghost use Rattle.std.specs.Prelude.{◌≡◌, ◌≤◌, ◌+◌, List, IfOk, map};
+    ghost use Rattle.std.specs.Prelude.{◌≡◌, ◌≤◌, ◌+◌, List, IfOk, [], map};
     ghost use Rattle.hol_exec.specs.CommandText.{Local};
     ghost use Rattle.hol_exec.specs.CommandView.{local_text};
     ghost use Rattle.hol_exec.specs.Local.{IsLocalOutcome};
@@ -46,7 +50,12 @@ impl Runner {
         ensures ran { IfOk result (λ runner. ran_of runner ≡ metered.ran_of meter) }
     {
         let cache = Cache::new(alloc, setup, room)?;
-        Ok(Runner { meter, cache })
+        let nothing = Rc::new(alloc, Tested::none(alloc))?;
+        Ok(Runner {
+            meter,
+            cache,
+            nothing,
+        })
     }
 
     /// How many commands were run, or 2^64 - 1 for more.
@@ -77,7 +86,24 @@ impl Runner {
             return Ok(known);
         }
         let (outcome, tested) = run_local(alloc, &mut self.meter, command, reads, env.names())?;
-        Ok((Rc::new(alloc, outcome)?, Rc::new(alloc, tested)?))
+        Ok((Rc::new(alloc, outcome)?, self.shared(alloc, tested)?))
+    }
+
+    /// No tested names.
+    pub(crate) fn nothing(&self) -> Result<Rc<Tested>, AllocError>
+        ensures { IfOk result (λ tested. tested.value ≡ []) }
+    {
+        self.nothing.clone()
+    }
+
+    // The tested names, to be shared.
+    fn shared(&self, alloc: Global, tested: Tested) -> Result<Rc<Tested>, AllocError>
+        ensures { IfOk result (λ shared. shared.value ≡ tested) }
+    {
+        if tested.is_none() {
+            return self.nothing();
+        }
+        Ok(Rc::new(alloc, tested)?)
     }
 
     /// The slot's outcome has left it.

@@ -55,21 +55,20 @@ fn answered(
 {
     match line.parsed() {
         Parsed::Read(command) => answer_of_command(alloc, runner, earlier, line, command, state),
-        Parsed::Unread(place) => unread_answer(alloc, unread(alloc, *place)?),
+        Parsed::Unread(place) => unread_answer(alloc, runner, unread(alloc, *place)?),
     }
 }
 
 // What is told from the state alone.
-fn unread_answer(alloc: Global, outcome: Outcome) -> Result<Answer, AllocError>
+fn unread_answer(alloc: Global, runner: &Runner, outcome: Outcome) -> Result<Answer, AllocError>
     ensures reads { IfOk result (λ a. a.reads ≡ None) }
     ensures tested { IfOk result (λ a. a.tested.value ≡ []) }
     ensures outcome { IfOk result (λ a. a.outcome.value ≡ outcome) }
 {
     let outcome = Rc::new(alloc, outcome)?;
-    let tested = Rc::new(alloc, Tested::none(alloc))?;
     Ok(Answer {
         reads: None,
-        tested,
+        tested: runner.nothing()?,
         outcome,
     })
 }
@@ -91,7 +90,7 @@ fn answer_of_command(
     match command.node() {
         CommandNode::Local(command) => answer_of_local(alloc, runner, line, command, state),
         CommandNode::Direct(command) => {
-            unread_answer(alloc, direct(alloc, command, state, earlier)?)
+            unread_answer(alloc, runner, direct(alloc, command, state, earlier)?)
         }
     }
 }
