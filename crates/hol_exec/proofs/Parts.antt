@@ -142,3 +142,7 @@ chain_node r items after rest head next h two d e f g = by h.more h.added h.is
 -- a formula that is found, and what it is handed to
 pub formula_handed : (r : Result Nameless RefusedValue) (s : Result TheoremTacValue RefusedValue) (p : Nameless) (result : Result ExprNode Fault) → r ≡ Ok p → IsNodeFound (mapped (SubgoalThen p) s) result → IsNodeFound (both SubgoalThen r s) result
 formula_handed r s p result e h = subst (λ (w : Result Nameless RefusedValue). IsNodeFound (both SubgoalThen w s) result) (sym e) h
+
+-- what is found of an expression is so of an equal one
+pub node_at : (context : ContextValue) (t u : TacText) (result : Result ExprNode Fault) → t ≡ u → IsNodeFound (resolved_expr context t) result → IsNodeFound (resolved_expr context u) result
+node_at context t u result e h = subst (λ (x : TacText). IsNodeFound (resolved_expr context x) result) e h

@@ -1,16 +1,17 @@
 //! Expressions of functions on goals, resolved: calls with their arguments, and the tacticals that join them.
-ghost use Rattle.std.specs.Prelude.{◌≡◌, IfOk, Ok, Err, Some, option_copied, []};
+ghost use Rattle.std.specs.Prelude.{◌≡◌, IfOk, Result, Ok, Err, Some, option_copied, []};
 ghost use Rattle.std.specs.Option.{option_map};
 ghost use Rattle.hol_terms.specs.Nameless.{nameless};
 ghost use Rattle.hol_goal.specs.ArgumentsView.{args_value};
-ghost use Rattle.hol_combine.specs.ExprValue.{exprs};
+ghost use Rattle.hol_combine.specs.ExprValue.{CallValue, ExprValue, ExprValues, exprs};
+ghost use Rattle.hol_combine.specs.ExprValue as expr;
 ghost use Rattle.hol_combine.specs.ExprView.{call_value, theorem_tac_value, expr_of_node};
 ghost use Rattle.hol_notation_tactics.specs.Text.{tac_texts, Then, OrElse};
 ghost use Rattle.hol_resolve.specs.Over.{AreOver, AreWithin};
 ghost use Rattle.hol_resolve.specs.Readings.{term_at};
 ghost use Rattle.hol_resolve.specs.FormsView.{written_value};
 ghost use Rattle.hol_resolve.specs.ReadingView.{list_value, readings_value};
-ghost use Rattle.hol_exec.specs.Expr.{both, mapped, named_result, refused_by, term_before, formula, arguments_for, resolved_call, resolved_theorem_tac, resolved_whole, resolved_handing, resolved_expr, resolved_exprs};
+ghost use Rattle.hol_exec.specs.Expr.{RefusedValue, both, mapped, named_result, refused_by, term_before, formula, arguments_for, resolved_call, resolved_theorem_tac, resolved_whole, resolved_handing, resolved_expr, resolved_exprs};
 ghost use Rattle.hol_exec.specs.ContextView.{context_value, IsContext};
 ghost use Rattle.hol_exec.specs.ExprView.{IsFound, IsFault, IsRefusal, IsCallFound, IsTheoremTacFound, AreArgumentsFound, IsNodeFound, ArePartsFound, IsChainFound, AreAlternativesFound, handed};
 ghost use Rattle.hol_exec.specs.Resolved.{cited_theorems};
@@ -76,38 +77,41 @@ fn resolve_node<N: LooksUp>(
     ensures { IsNodeFound (resolved_expr (context_value (N.LooksUp.table_of names.now) context.now) tactic.now) result }
 {
     match tactic.node() {
-        TacExprNode::Call(call) => Ok(ExprNode::Call(resolve_call(alloc, names, context, call)?)),
+        TacExprNode::Call(call) => call_node(resolve_call(alloc, names, context, call)),
         TacExprNode::Then(first, second) => resolve_then(alloc, names, context, first, second),
         TacExprNode::OrElse(first, second) => resolve_or_else(alloc, names, context, first, second),
-        TacExprNode::ThenL(first, parts) => {
-            let first = resolve_expr(alloc, names, context, first)?;
-            Ok(ExprNode::ThenL(first, resolve_each(alloc, names, context, parts)?))
-        }
-        TacExprNode::Repeat(part) => Ok(ExprNode::Repeat(resolve_expr(
-            alloc, names, context, part,
-        )?)),
-        TacExprNode::Try(part) => Ok(ExprNode::Try(resolve_expr(alloc, names, context, part)?)),
-        TacExprNode::Changed(part) => Ok(ExprNode::Changed(resolve_expr(
-            alloc, names, context, part,
-        )?)),
-        TacExprNode::Every(parts) => Ok(ExprNode::Every(resolve_each(
-            alloc, names, context, parts,
-        )?)),
-        TacExprNode::First(parts) => Ok(ExprNode::First(resolve_each(
-            alloc, names, context, parts,
-        )?)),
+        TacExprNode::ThenL(first, parts) => resolve_then_each(alloc, names, context, first, parts),
+        TacExprNode::Repeat(part) => repeat_node(resolve_expr(alloc, names, context, part)),
+        TacExprNode::Try(part) => try_node(resolve_expr(alloc, names, context, part)),
+        TacExprNode::Changed(part) => changed_node(resolve_expr(alloc, names, context, part)),
+        TacExprNode::Every(parts) => every_node(resolve_each(alloc, names, context, parts)),
+        TacExprNode::First(parts) => first_node(resolve_each(alloc, names, context, parts)),
         TacExprNode::Replicate(times, part) => {
-            let part = resolve_expr(alloc, names, context, part)?;
-            Ok(ExprNode::Replicate(*times, part))
+            replicate_node(*times, resolve_expr(alloc, names, context, part))
         }
         TacExprNode::DischThen(call) => hand(alloc, names, context, Handing::DischThen, call),
         TacExprNode::PopAssum(call) => hand(alloc, names, context, Handing::PopAssum, call),
         TacExprNode::FirstAssum(call) => hand(alloc, names, context, Handing::FirstAssum, call),
         TacExprNode::SubgoalThen(formula, call) => {
-            let formula = resolve_formula(alloc, context.readings, formula)?;
-            hand(alloc, names, context, Handing::SubgoalThen(formula), call)
+            hand_formula(alloc, names, context, formula, call)
         }
     }
+}
+
+// Resolves `first THENL [parts]`.
+#[cycle(resolve_expr)]
+fn resolve_then_each<N: LooksUp>(
+    alloc: Global,
+    names: &N,
+    context: &Context<'_>,
+    first: &TacExpr,
+    parts: &[TacExpr],
+) -> Result<ExprNode, Unresolved>
+    requires { IsContext context.now }
+    ensures { IsNodeFound (both expr.ThenL (resolved_expr (context_value (N.LooksUp.table_of names.now) context.now) first.now) (resolved_exprs (context_value (N.LooksUp.table_of names.now) context.now) (tac_texts parts.now))) result }
+{
+    let first = resolve_expr(alloc, names, context, first)?;
+    Ok(ExprNode::ThenL(first, resolve_each(alloc, names, context, parts)?))
 }
 
 // Resolves each in turn.
@@ -237,6 +241,55 @@ fn push_or_else<N: LooksUp>(
     }
 }
 
+// The node of a call that is resolved, if it is: its refusal is that of the whole.
+fn call_node(call: Result<TacCall, Unresolved>) -> Result<ExprNode, Unresolved>
+    ensures { (r : Result CallValue RefusedValue) → IsCallFound r call → IsNodeFound (mapped expr.Call r) result }
+{
+    Ok(ExprNode::Call(call?))
+}
+
+// The same of REPEAT before a part.
+fn repeat_node(part: Result<Expr, Unresolved>) -> Result<ExprNode, Unresolved>
+    ensures { (r : Result ExprValue RefusedValue) → IsFound r part → IsNodeFound (mapped expr.Repeat r) result }
+{
+    Ok(ExprNode::Repeat(part?))
+}
+
+// The same of TRY.
+fn try_node(part: Result<Expr, Unresolved>) -> Result<ExprNode, Unresolved>
+    ensures { (r : Result ExprValue RefusedValue) → IsFound r part → IsNodeFound (mapped expr.Try r) result }
+{
+    Ok(ExprNode::Try(part?))
+}
+
+// The same of CHANGED_TAC.
+fn changed_node(part: Result<Expr, Unresolved>) -> Result<ExprNode, Unresolved>
+    ensures { (r : Result ExprValue RefusedValue) → IsFound r part → IsNodeFound (mapped expr.Changed r) result }
+{
+    Ok(ExprNode::Changed(part?))
+}
+
+// The same of REPLICATE_TAC.
+fn replicate_node(times: usize, part: Result<Expr, Unresolved>) -> Result<ExprNode, Unresolved>
+    ensures { (r : Result ExprValue RefusedValue) → IsFound r part → IsNodeFound (mapped (expr.Replicate times) r) result }
+{
+    Ok(ExprNode::Replicate(times, part?))
+}
+
+// The same of EVERY before parts.
+fn every_node(parts: Result<Vec<Expr>, Unresolved>) -> Result<ExprNode, Unresolved>
+    ensures { (r : Result ExprValues RefusedValue) → ArePartsFound r parts → IsNodeFound (mapped expr.Every r) result }
+{
+    Ok(ExprNode::Every(parts?))
+}
+
+// The same of FIRST.
+fn first_node(parts: Result<Vec<Expr>, Unresolved>) -> Result<ExprNode, Unresolved>
+    ensures { (r : Result ExprValues RefusedValue) → ArePartsFound r parts → IsNodeFound (mapped expr.First r) result }
+{
+    Ok(ExprNode::First(parts?))
+}
+
 // Resolves a function that a theorem is handed to.
 fn hand<N: LooksUp>(
     alloc: Global,
@@ -250,6 +303,21 @@ fn hand<N: LooksUp>(
 {
     let tac = resolve_theorem_tac(alloc, names, context, call)?;
     Ok(ExprNode::Hand(handing, tac))
+}
+
+// The same of SUBGOAL_THEN, which hands over the formula that is written.
+fn hand_formula<N: LooksUp>(
+    alloc: Global,
+    names: &N,
+    context: &Context<'_>,
+    quotation: &Quotation,
+    call: &written::TacCall,
+) -> Result<ExprNode, Unresolved>
+    requires { IsContext context.now }
+    ensures { IsNodeFound (both expr.SubgoalThen (formula quotation.now.place (term_at (readings_value context.now.readings.now) quotation.now.place)) (resolved_handing (context_value (N.LooksUp.table_of names.now) context.now) call.now)) result }
+{
+    let formula = resolve_formula(alloc, context.readings, quotation)?;
+    hand(alloc, names, context, Handing::SubgoalThen(formula), call)
 }
 
 // Resolves a call: what it calls, and its arguments.

@@ -1,13 +1,13 @@
 use Rattle.std.proofs.Common.{rules, ◌≡◌, ◌++◌, ◌∷◌, [], List, drop, ap, sym, ◌∙◌, subst, arith, length, ◌<◌}
 use Rattle.hol_combine.specs.ExprValue.{ExprValue}
-use Rattle.hol_notation_tactics.specs.Text.{TacText, Then, tac_nodes}
+use Rattle.hol_notation_tactics.specs.Text.{TacText, Then, Every, First, tac_nodes, tac_texts}
 use Rattle.hol_notation_tactics.specs.TacView.{tac_of_node}
 use Rattle.hol_notation_tactics.proofs.SameTactics.{nodes_at}
-use Rattle.hol_exec.specs.Expr.{both, resolved_handing, resolved_expr}
+use Rattle.hol_exec.specs.Expr.{both, resolved_expr}
 use Rattle.hol_combine.specs.ExprValue as expr
 use Rattle.hol_exec.specs.ContextView.{context_value}
-use Rattle.hol_exec.specs.ExprView.{IsChain, IsNodeFound}
-use Rattle.hol_exec.proofs.Parts.{each_goes_on, each_ends, nothing_more, chain_longer, chain_node, formula_handed}
+use Rattle.hol_exec.specs.ExprView.{IsChain}
+use Rattle.hol_exec.proofs.Parts.{each_goes_on, each_ends, nothing_more, chain_longer, chain_node, node_at}
 use Rattle.hol_exec.proofs.resolving.expressions.+resolve_expr.Goals as goal
 
 pub push_then-returns-in_ok-push-in-Then : goal.push_then-returns-in_ok-push-in-Then
@@ -34,13 +34,29 @@ resolve_each-returns g t c =
     let none : drop c.loop-tactic.tactic-index c.args.tactics.now ≡ [] = nothing_more c.args.tactics.now c.loop-tactic.tactic-index (omega (arith, c.loop-tactic-test.false)) in
     each_ends (context_value (g.N.LooksUp.table_of c.args.names.now) c.args.context.now) c.args.tactics.now c.loop-tactic.parts.items c.loop-tactic.tactic-index none c.loop-tactic.invariant
 
-pub resolve_node-returns-in_ok-formula-in-SubgoalThen :
-    goal.resolve_node-returns-in_ok-formula-in-SubgoalThen
-resolve_node-returns-in_ok-formula-in-SubgoalThen g t c =
-    let context = context_value (g.N.LooksUp.table_of c.args.names.now) c.args.context.now in
-    let is = sym c.node.ensures ∙ ap tac_of_node c.in-SubgoalThen.is in
-    subst (λ (x : TacText). IsNodeFound (resolved_expr context x) c.hand-in-SubgoalThen.result) (sym is)
-    (formula_handed _ (resolved_handing context c.in-SubgoalThen.call) c.in_ok-formula-in-SubgoalThen.formula c.hand-in-SubgoalThen.result c.in_ok-formula-in-SubgoalThen.ensures c.hand-in-SubgoalThen.ensures)
+pub resolve_node-returns-in-Call : goal.resolve_node-returns-in-Call
+resolve_node-returns-in-Call g t c = node_at (context_value (g.N.LooksUp.table_of c.args.names.now) c.args.context.now) _ _ c.call_node.result (sym (ap tac_of_node c.in-Call.is) ∙ c.node.ensures) (c.call_node.ensures _ c.resolve_call.ensures)
+
+pub resolve_node-returns-in-Repeat : goal.resolve_node-returns-in-Repeat
+resolve_node-returns-in-Repeat g t c = node_at (context_value (g.N.LooksUp.table_of c.args.names.now) c.args.context.now) _ _ c.repeat_node.result (sym (ap tac_of_node c.in-Repeat.is) ∙ c.node.ensures) (c.repeat_node.ensures _ c.resolve_expr.ensures)
+
+pub resolve_node-returns-in-Try : goal.resolve_node-returns-in-Try
+resolve_node-returns-in-Try g t c = node_at (context_value (g.N.LooksUp.table_of c.args.names.now) c.args.context.now) _ _ c.try_node.result (sym (ap tac_of_node c.in-Try.is) ∙ c.node.ensures) (c.try_node.ensures _ c.resolve_expr-in-Try.ensures)
+
+pub resolve_node-returns-in-Changed : goal.resolve_node-returns-in-Changed
+resolve_node-returns-in-Changed g t c = node_at (context_value (g.N.LooksUp.table_of c.args.names.now) c.args.context.now) _ _ c.changed_node.result (sym (ap tac_of_node c.in-Changed.is) ∙ c.node.ensures) (c.changed_node.ensures _ c.resolve_expr-in-Changed.ensures)
+
+pub resolve_node-returns-in-Every : goal.resolve_node-returns-in-Every
+resolve_node-returns-in-Every g t c = node_at (context_value (g.N.LooksUp.table_of c.args.names.now) c.args.context.now) _ _ c.every_node.result (ap (λ (ts : List TacText). Every (tac_texts ts)) c.deref-in-Every.ensures.value ∙ sym (ap tac_of_node c.in-Every.is) ∙ c.node.ensures) (c.every_node.ensures _ c.resolve_each.ensures)
+
+pub resolve_node-returns-in-First : goal.resolve_node-returns-in-First
+resolve_node-returns-in-First g t c = node_at (context_value (g.N.LooksUp.table_of c.args.names.now) c.args.context.now) _ _ c.first_node.result (ap (λ (ts : List TacText). First (tac_texts ts)) c.deref-in-First.ensures.value ∙ sym (ap tac_of_node c.in-First.is) ∙ c.node.ensures) (c.first_node.ensures _ c.resolve_each-in-First.ensures)
+
+pub resolve_node-returns-in-Replicate : goal.resolve_node-returns-in-Replicate
+resolve_node-returns-in-Replicate g t c = node_at (context_value (g.N.LooksUp.table_of c.args.names.now) c.args.context.now) _ _ c.replicate_node.result (sym (ap tac_of_node c.in-Replicate.is) ∙ c.node.ensures) (c.replicate_node.ensures _ c.resolve_expr-in-Replicate.ensures)
+
+pub resolve_node-returns-in-SubgoalThen : goal.resolve_node-returns-in-SubgoalThen
+resolve_node-returns-in-SubgoalThen g t c = node_at (context_value (g.N.LooksUp.table_of c.args.names.now) c.args.context.now) _ _ c.hand_formula.result (sym (ap tac_of_node c.in-SubgoalThen.is) ∙ c.node.ensures) (c.hand_formula.ensures)
 
 pub resolve_then-returns : goal.resolve_then-returns
 resolve_then-returns g t c =

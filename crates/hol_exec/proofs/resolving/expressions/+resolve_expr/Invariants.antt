@@ -14,6 +14,9 @@ decreases-resolve_node g l = 4 * tac_nodes l.tactic.now
 abbrev pub decreases-resolve_each : goal.decreases-resolve_each
 decreases-resolve_each g l = 4 * tacs_nodes (tac_texts l.tactics.now) + 2
 
+abbrev pub decreases-resolve_then_each : goal.decreases-resolve_then_each
+decreases-resolve_then_each g l = 4 * (tac_nodes l.first.now + tacs_nodes (tac_texts l.parts.now)) + 3
+
 abbrev pub decreases-resolve_then : goal.decreases-resolve_then
 decreases-resolve_then g l = 4 * (tac_nodes l.first.now + tac_nodes l.second.now) + 3
 
