@@ -6,7 +6,7 @@ ghost use Rattle.hol_types.specs.Fun.{fun_type};
 ghost use Rattle.hol_formulas.specs.Equation.{bool_type, equality_type};
 ghost use Rattle.hol_formulas.specs.Formula.{negation_type, connective_type, quantifier_type};
 
-use hol_types::{Name, Ty, TyNode};
+use hol_types::{Name, Ty};
 use std::alloc::{AllocError, Global};
 
 /// The type of truth values.
@@ -18,14 +18,11 @@ pub fn bool_type(alloc: Global) -> Result<Ty, AllocError>
 }
 
 /// Whether the type is that of truth values.
-#[tactic(auto, using(crate::proofs::TypeTests::bool_types))]
+#[tactic(auto, using(crate::proofs::TypeTests::truth_test))]
 pub fn is_bool(ty: &Ty) -> bool
     ensures { result ≡ type_eq ty.now bool_type }
 {
-    match ty.node() {
-        TyNode::Var(_) => false,
-        TyNode::App(name, args) => name.as_str() == "bool" && args.is_empty(),
-    }
+    ty.is_bool()
 }
 
 /// The type variable of this name.
