@@ -11,7 +11,7 @@ use hol_types::Ty;
 use std::alloc::{AllocError, Global};
 use std::marker::Model;
 
-/// The constant `=` between terms of a type. Its copies share it.
+/// The constant `=` between terms of a type.
 #[derive(Drop)]
 pub struct Equality {
     ty: Ty,
@@ -43,16 +43,6 @@ impl Equality {
         let sign = constant_named(alloc, "=", &sign_type)?;
         let ty = ty.copy()?;
         Ok(Equality { ty, sign })
-    }
-
-    /// The same, sharing its nodes.
-    pub fn copy(&self) -> Result<Equality, AllocError>
-        ensures { IfOk result (λ equality. equality ≡ self.now) }
-    {
-        Ok(Equality {
-            ty: self.ty.copy()?,
-            sign: self.sign.copy()?,
-        })
     }
 
     /// Whether it is between terms of the type.

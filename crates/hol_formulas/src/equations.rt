@@ -72,7 +72,7 @@ fn is_sign(sign: &Term, ty: &Ty) -> bool
 }
 
 /// `p <=> q`: the equation of two terms of type `bool`.
-pub fn mk_iff(alloc: Global, p: &Term, q: &Term) -> Result<Term, AllocError>
+pub(crate) fn mk_iff(alloc: Global, p: &Term, q: &Term) -> Result<Term, AllocError>
     requires first { named_type p.now ≡ Some bool_type }
     requires second { named_type q.now ≡ Some bool_type }
     ensures is { IfOk result (λ t. t ≡ mk_iff p.now q.now) }

@@ -12,7 +12,7 @@ ghost use Rattle.hol_kernel.specs.declared.error.Rule.TheVariants as rule;
 use crate::basis::Basis;
 use crate::error::{KernelError, Rule};
 use crate::thm::Thm;
-use hol_formulas::{Sides, dest_eq, is_bool, mk_eq, mk_eq_like, mk_iff};
+use hol_formulas::{Sides, dest_eq, is_bool, mk_eq_like};
 use hol_subst::Hypotheses;
 use hol_terms::{Term, TermNode, Variable};
 use hol_types::Ty;
@@ -120,7 +120,7 @@ impl Thm {
         if !a.basis().is_type(variable.ty()) || a.hypotheses().has_free(variable) {
             return Err(KernelError::Refused(Rule::Abs));
         }
-        let concl = abstracted(alloc, variable, x)?;
+        let concl = abstracted(alloc, a.basis(), variable, x)?;
         let hyps = a.hypotheses().copy()?;
         Ok(Thm::closed(a.basis(), hyps, concl)?)
     }
@@ -181,7 +181,7 @@ impl Thm {
         b.promise();
         let first = a.hypotheses().without(alloc, b.concl())?;
         let second = b.hypotheses().without(alloc, a.concl())?;
-        let concl = mk_iff(alloc, a.concl(), b.concl())?;
+        let concl = a.basis().equation(alloc, a.concl().type_of(), a.concl(), b.concl())?;
         let hyps = first.union(alloc, &second)?;
         Thm::closed(a.basis(), hyps, concl)
     }
@@ -210,7 +210,12 @@ fn applied(
 }
 
 // The equation of the abstractions of the sides.
-fn abstracted(alloc: Global, v: &Variable, x: Sides<'_>) -> Result<Term, AllocError>
+fn abstracted(
+    alloc: Global,
+    basis: &Basis,
+    v: &Variable,
+    x: Sides<'_>,
+) -> Result<Term, AllocError>
     requires left { named_type x.left.now ≡ Some x.ty.now }
     requires right { named_type x.right.now ≡ Some x.ty.now }
     ensures is { IfOk result (λ t. t ≡ mk_eq (fun_type v.now.1 x.entry.ty.now) (abs v.now x.entry.left.now) (abs v.now x.entry.right.now)) }
@@ -218,6 +223,5 @@ fn abstracted(alloc: Global, v: &Variable, x: Sides<'_>) -> Result<Term, AllocEr
 {
     let left = Term::abstraction(alloc, v, x.left)?;
     let right = Term::abstraction(alloc, v, x.right)?;
-    let ty = Ty::fun(alloc, v.ty(), x.ty)?;
-    mk_eq(alloc, &ty, &left, &right)
+    basis.equation(alloc, left.type_of(), &left, &right)
 }

@@ -116,6 +116,11 @@ match_more_none found ts us i h k = rw (drop_all i us k, drop-cons ts i (TyVar [
 
 pub ruleset match_ends = (match_ends_some, match_ends_none, match_more_none)
 
+-- whether a match was found
+pub match_test : (o : Option (List (TypeTree × List ℕ))) (found : List (TypeTree × List ℕ)) (b : Bool) → o ≡ cond b (Some found) None → b ≡ is_some o
+match_test o found true e = sym (ap is_some e)
+match_test o found false e = sym (ap is_some e)
+
 -- a constructor over a list of arguments
 arguments_of : (ts : List TypeTree) → arguments (type_list ts) ≡ length ts
 arguments_of [] = refl

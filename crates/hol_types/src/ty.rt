@@ -368,6 +368,18 @@ impl Ty {
         Ok(Some(pairs))
     }
 
+    /// Whether some pairs give the target: what [`Ty::match_to`] finds, without its pairs.
+    ///
+    /// Takes memory for the variables alone. Parts without variables are compared as `same` does. The others are walked at each place
+    /// where they stand.
+    #[tactic(auto, using(crate::proofs::Steps::match_test))]
+    pub fn matches(&self, alloc: Global, target: &Ty) -> Result<bool, AllocError>
+        ensures { IfOk result (λ matched. matched ≡ is_some (match_type self.now [] target.now)) }
+    {
+        let mut found = Vec::new(alloc);
+        self.match_into(target, &mut found)
+    }
+
     // Whether the pattern matches the target beside the pairs found so far. Those that it needs more are put at their end.
     #[tactic(auto, using(crate::proofs::Steps::match_ends, crate::proofs::Filters::closed_match))]
     fn match_into(&self, target: &Ty, found: &mut Vec<(Ty, Name)>) -> Result<bool, AllocError>
