@@ -181,7 +181,9 @@ impl Thm {
         b.promise();
         let first = a.hypotheses().without(alloc, b.concl())?;
         let second = b.hypotheses().without(alloc, a.concl())?;
-        let concl = a.basis().equation(alloc, a.concl().type_of(), a.concl(), b.concl())?;
+        let concl = a
+            .basis()
+            .equation(alloc, a.concl().type_of(), a.concl(), b.concl())?;
         let hyps = first.union(alloc, &second)?;
         Thm::closed(a.basis(), hyps, concl)
     }
@@ -210,12 +212,7 @@ fn applied(
 }
 
 // The equation of the abstractions of the sides.
-fn abstracted(
-    alloc: Global,
-    basis: &Basis,
-    v: &Variable,
-    x: Sides<'_>,
-) -> Result<Term, AllocError>
+fn abstracted(alloc: Global, basis: &Basis, v: &Variable, x: Sides<'_>) -> Result<Term, AllocError>
     requires left { named_type x.left.now ≡ Some x.ty.now }
     requires right { named_type x.right.now ≡ Some x.ty.now }
     ensures is { IfOk result (λ t. t ≡ mk_eq (fun_type v.now.1 x.entry.ty.now) (abs v.now x.entry.left.now) (abs v.now x.entry.right.now)) }
