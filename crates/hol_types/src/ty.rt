@@ -13,6 +13,7 @@ ghost use Rattle.hol_types.specs.Basic.{is_basic, is_bool};
 
 use crate::constructor::is_basic_constructor;
 use crate::filter::NameFilter;
+use crate::known::KnownName;
 use crate::lists::{insert_name, type_in};
 use crate::name::Name;
 use hol_mark::Mark;
@@ -141,7 +142,7 @@ impl Ty {
     pub fn fun(alloc: Global, domain: &Ty, range: &Ty) -> Result<Ty, AllocError>
         ensures { IfOk result (λ ty. ty ≡ fun_type domain.now range.now) }
     {
-        let name = Name::new(alloc, "fun")?;
+        let name = Name::known(KnownName::FunType);
         let mut args = Vec::with_capacity(alloc, 2)?;
         args.push(domain.copy()?)?;
         args.push(range.copy()?)?;
@@ -480,7 +481,7 @@ impl TyNode {
     {
         match self {
             TyNode::Var(_) => false,
-            TyNode::App(constructor, args) => constructor.as_str() == "fun" && args.len() == 2,
+            TyNode::App(constructor, args) => constructor.is(KnownName::FunType) && args.len() == 2,
         }
     }
 
@@ -491,7 +492,9 @@ impl TyNode {
     {
         match self {
             TyNode::Var(_) => false,
-            TyNode::App(constructor, args) => constructor.as_str() == "bool" && args.is_empty(),
+            TyNode::App(constructor, args) => {
+                constructor.is(KnownName::BoolType) && args.is_empty()
+            }
         }
     }
 }
