@@ -38,30 +38,17 @@ HaveTexts (p ∷ names) = (known_text p.1 ≡ p.0) × HaveTexts names
 
 found_is : (names : List (List ℕ × KnownName)) (c : List ℕ) (name : KnownName) → HaveTexts names → known_in names c ≡ Some name → known_text name ≡ c
 found_is [] c name h e = absurd (cc)
-found_is (p ∷ names) c name h e = by (bytes_eq c p.0) refl e
+found_is (p ∷ names) c name h e = by (bytes_eq c p.0) refl (λ f. found_is names c name h.1 f) e
   where
-    by : (b : Bool) → bytes_eq c p.0 ≡ b → cond b (Some p.1) (known_in names c) ≡ Some name → known_text name ≡ c
-    by true r f = let same : p.1 ≡ name = cc in sym (ap known_text same) ∙ h.0 ∙ sym ((bytes_eq-Decides c p.0).0 r)
-    by false r f = found_is names c name h.1 f
+    by : (b : Bool) → bytes_eq c p.0 ≡ b → (known_in names c ≡ Some name → known_text name ≡ c) → cond b (Some p.1) (known_in names c) ≡ Some name → known_text name ≡ c
+    by true r g f = let same : p.1 ≡ name = cc in sym (ap known_text same) ∙ h.0 ∙ sym ((bytes_eq-Decides c p.0).0 r)
+    by false r g f = g f
 
 have_texts : HaveTexts known_names
 have_texts = (refl, (refl, (refl, (refl, (refl, (refl, (refl, (refl, (refl, (refl, (refl, (refl, (refl, (refl, (refl, (refl, (refl, (refl, (refl, (refl, (refl, tt)))))))))))))))))))))
 
 pub known_is : (c : List ℕ) (name : KnownName) → known_at c ≡ Some name → known_text name ≡ c
 known_is c name e = found_is known_names c name have_texts e
-
--- none of them has the text
-abbrev pub HaveNone : List (List ℕ × KnownName) → List ℕ → Type 0
-HaveNone [] c = Unit {0}
-HaveNone (p ∷ names) c = (c ≡ p.0 → ⊥) × HaveNone names c
-
-pub not_among : (names : List (List ℕ × KnownName)) (c : List ℕ) → HaveNone names c → None ≡ known_in names c
-not_among [] c h = refl
-not_among (p ∷ names) c h = by (bytes_eq c p.0) refl (not_among names c h.1)
-  where
-    by : (b : Bool) → bytes_eq c p.0 ≡ b → None ≡ known_in names c → None ≡ cond b (Some p.1) (known_in names c)
-    by true r e = absurd (h.0 ((bytes_eq-Decides c p.0).0 r))
-    by false r e = e
 
 texts_tell : (a b : KnownName) → known_text a ≡ known_text b → a ≡ b
 texts_tell a b e = let f : Some a ≡ Some b = sym (known_again a) ∙ ap known_at e ∙ known_again b in cc
