@@ -15,7 +15,7 @@ ghost use Rattle.hol_equal.specs.Rules.{sym_of, prove_hyp_of, beta_conv_of};
 ghost use Rattle.hol_equal.specs.Unrefused.{IsUnrefused};
 
 pub use crate::replacement::subst;
-use hol_formulas::{Sides, constant, dest_eq, equality_type, occurrence};
+use hol_formulas::{Sides, dest_eq, occurrence};
 use hol_kernel::{Basis, KernelError, Thm};
 use hol_terms::{Term, TermNode, Variable};
 use hol_types::{Name, Ty};
@@ -90,14 +90,6 @@ pub fn abs(alloc: Global, v: &Variable, a: &Thm) -> Result<Thm, AllocError>
     unrefused(Thm::abs(alloc, &own, a))
 }
 
-// The constant `=` of the type.
-fn equality(alloc: Global, ty: &Ty) -> Result<Term, AllocError>
-    ensures { IfOk result (λ t. t ≡ constant (codes "=") ty.now) }
-{
-    let sign = Name::new(alloc, "=")?;
-    constant(alloc, &sign, ty)
-}
-
 /// The sides of the theorem's conclusion.
 pub fn sides_of(th: &Thm) -> Option<Sides<'_>>
     ensures { MatchOption result (dest_eq th.now.sequent.concl ≡ None) (λ x. th.now.sequent.concl ≡ equation x.ty.now (nameless [] x.left.now) (nameless [] x.right.now)) }
@@ -134,15 +126,26 @@ pub(crate) fn alpha(
     trans(alloc, &left, &right)
 }
 
+// `=` of a theorem that is an equation of terms of the type.
+fn sign_of<'a>(th: &'a Thm, ty: &Ty) -> &'a Term
+    requires equation { dest_eq th.now.sequent.concl ≡ None → ⊥ }
+    requires equal { th.now.sequent.concl ≡ equation ty.now (lhs th.now.sequent.concl) (rhs th.now.sequent.concl) }
+    ensures { result.now ≡ constant (codes "=") (equality_type ty.now) }
+{
+    let Some(sides) = dest_eq(th.concl()) else {
+        unreachable!()
+    };
+    sides.sign
+}
+
 // From `l = r`, `(=) l = (=) r`; the type is that of `l`.
 fn under_equality(alloc: Global, ty: &Ty, a: &Thm) -> Result<Thm, AllocError>
     requires equal { a.now.sequent.concl ≡ equation ty.now (lhs a.now.sequent.concl) (rhs a.now.sequent.concl) }
     ensures { IfOk result (λ th. th ≡ theorem_on a.now.basis (under (equality_type ty.now) (fixed (codes "=") (equality_type ty.now)) a.now.sequent)) }
 {
     a.well_typed();
-    let own = equality_type(alloc, ty)?;
-    let sign = equality(alloc, &own)?;
-    ap_term(alloc, &own, &sign, a)
+    let sign = sign_of(a, ty);
+    ap_term(alloc, sign.type_of(), sign, a)
 }
 
 // From `(=) l = (=) r`, `r = l`; the type is that of `l`.

@@ -4,10 +4,9 @@ ghost use Rattle.hol_types.specs.Fun.{fun_type};
 ghost use Rattle.hol_terms.specs.Named.{constant, named_type};
 ghost use Rattle.hol_formulas.specs.Equation.{bool_type, equality_type, mk_eq};
 
-use crate::terms::constant_named;
 use crate::types::equality_type;
 use hol_terms::Term;
-use hol_types::Ty;
+use hol_types::{KnownName, Name, Ty};
 use std::alloc::{AllocError, Global};
 use std::marker::Model;
 
@@ -40,7 +39,8 @@ impl Equality {
         ensures { IfOk result (λ equality. equality ≡ ty.now) }
     {
         let sign_type = equality_type(alloc, ty)?;
-        let sign = constant_named(alloc, "=", &sign_type)?;
+        let name = Name::known(KnownName::Equality);
+        let sign = Term::constant(alloc, &name, &sign_type)?;
         let ty = ty.copy()?;
         Ok(Equality { ty, sign })
     }

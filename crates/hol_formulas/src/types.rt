@@ -6,14 +6,14 @@ ghost use Rattle.hol_types.specs.Fun.{fun_type};
 ghost use Rattle.hol_formulas.specs.Equation.{bool_type, equality_type};
 ghost use Rattle.hol_formulas.specs.Formula.{negation_type, connective_type, quantifier_type};
 
-use hol_types::{Name, Ty};
+use hol_types::{KnownName, Name, Ty};
 use std::alloc::{AllocError, Global};
 
 /// The type of truth values.
 pub fn bool_type(alloc: Global) -> Result<Ty, AllocError>
     ensures { IfOk result (λ ty. ty ≡ bool_type) }
 {
-    let name = Name::new(alloc, "bool")?;
+    let name = Name::known(KnownName::BoolType);
     Ty::app(alloc, &name, &[])
 }
 
@@ -88,17 +88,6 @@ pub(crate) fn is_property_type(ty: &Ty, domain: &Ty) -> bool
         return false;
     };
     own.same(domain) && is_bool(truth)
-}
-
-/// Whether the type is that of `=` between terms of the type `domain`.
-#[tactic(auto, using(crate::proofs::TypeTests::function_types))]
-pub(crate) fn is_equality_at(ty: &Ty, domain: &Ty) -> bool
-    ensures { result ≡ type_eq ty.now (equality_type domain.now) }
-{
-    let Some((own, property)) = ty.dest_fun() else {
-        return false;
-    };
-    own.same(domain) && is_property_type(property, domain)
 }
 
 /// Whether the type is `bool->bool`.

@@ -12,7 +12,7 @@ ghost use Rattle.hol_kernel.specs.declared.error.Rule.TheVariants as rule;
 use crate::basis::Basis;
 use crate::error::{KernelError, Rule};
 use crate::thm::Thm;
-use hol_formulas::{Sides, dest_eq, is_bool, mk_eq_like};
+use hol_formulas::{Sides, dest_eq, is_bool, mk_eq_from};
 use hol_subst::Hypotheses;
 use hol_terms::{Term, TermNode, Variable};
 use hol_types::Ty;
@@ -69,7 +69,7 @@ impl Thm {
         if !x.right.alpha_equivalent(y.left) {
             return Err(KernelError::Refused(Rule::Trans));
         }
-        let concl = mk_eq_like(alloc, a.concl(), x.ty, x.left, y.right)?;
+        let concl = mk_eq_from(alloc, x, y.right)?;
         let hyps = a.hypotheses().union(alloc, b.hypotheses())?;
         Ok(Thm::closed(a.basis(), hyps, concl)?)
     }
