@@ -10,15 +10,15 @@ use Rattle.hol_formulas.proofs.TakingApart.{IsEquation, equation_parts, sides_ye
 use Rattle.hol_formulas.proofs.equations.dest_eq.Goals as goal
 
 -- the term taken apart
-term_is : (c : goal.Else-not-is_property_type) → c.args.term.now ≡ comb (comb (constant c.in-Const.name c.in-Const.ty) c.in-Comb-half.left) c.in-Comb.right
+term_is : (c : goal.Else-not-is_property_type) → c.args.term.now ≡ comb (comb (constant c.in-Const.name c.in-Const.ty) c.in-Comb-node.left) c.in-Comb.right
 term_is c = search rules
 
 parts_are : (c : goal.Else-not-is_property_type) → fun_parts c.in-Const.ty ≡ Some (c.in_ok-domain.domain.now, c.in_ok-domain.property.now)
 parts_are c = search rules
 
-is_equation : (c : goal.Else-not-is_property_type) → IsEquation c.in-Comb-half.left c.in-Comb.right c.in_ok-domain.domain.now c.type_of-ty.result.now
+is_equation : (c : goal.Else-not-is_property_type) → IsEquation c.in-Comb-node.left c.in-Comb.right c.in_ok-domain.domain.now c.type_of-ty.result.now
 is_equation c =
-    equation_parts c.in-Const.name c.in-Const.ty c.in-Comb-half.left c.in-Comb.right c.type_of-ty.result.now (c.in_ok-domain.domain.now, c.in_ok-domain.property.now)
+    equation_parts c.in-Const.name c.in-Const.ty c.in-Comb-node.left c.in-Comb.right c.type_of-ty.result.now (c.in_ok-domain.domain.now, c.in_ok-domain.property.now)
     (ap named_type (sym (term_is c)) ∙ c.type_of-ty.ensures.named) (parts_are c) (search rules)
 
 -- it is made with `=`
@@ -36,7 +36,7 @@ pub returns-clause-sides : goal.returns-clause-sides
 returns-clause-sides c =
     let name : bytes_eq c.in-Const.name (codes "=") ≡ true = search rules in
     ap (λ (t : Named). dest_eq (nameless [] t)) (term_is c)
-    ∙ sides_yes c.in-Const.name c.in-Const.ty (nameless [] c.in-Comb-half.left) (nameless [] c.in-Comb.right) (c.in_ok-domain.domain.now, c.in_ok-domain.property.now) (parts_are c) name (search rules)
+    ∙ sides_yes c.in-Const.name c.in-Const.ty (nameless [] c.in-Comb-node.left) (nameless [] c.in-Comb.right) (c.in_ok-domain.domain.now, c.in_ok-domain.property.now) (parts_are c) name (search rules)
 
 pub returns-clause-left : goal.returns-clause-left
 returns-clause-left c = (is_equation c).left
@@ -46,10 +46,10 @@ returns-clause-right c = (is_equation c).right
 
 pub returns-clause-sign : goal.returns-clause-sign
 returns-clause-sign c =
-    let is : c.in-Comb-half.sign ≡ constant c.in-Const.name c.in-Const.ty = search rules in
+    let is : c.in-Comb-node.sign ≡ constant c.in-Const.name c.in-Const.ty = search rules in
     is ∙ made_with c
 
 pub returns-clause-half : goal.returns-clause-half
 returns-clause-half c =
-    let is : c.in-Comb.half ≡ comb (constant c.in-Const.name c.in-Const.ty) c.in-Comb-half.left = search rules in
-    is ∙ ap (λ (sign : Named). comb sign c.in-Comb-half.left) (made_with c)
+    let is : c.in-Comb.half ≡ comb (constant c.in-Const.name c.in-Const.ty) c.in-Comb-node.left = search rules in
+    is ∙ ap (λ (sign : Named). comb sign c.in-Comb-node.left) (made_with c)
