@@ -2,7 +2,7 @@ use Rattle.std.proofs.Common.{◌≡◌, ap, sym, ◌∙◌, [], Some, codes}
 use Rattle.hol_types.specs.Tree.{TypeTree}
 use Rattle.hol_terms.specs.Named.{constant}
 use Rattle.hol_terms.specs.Nameless.{nameless}
-use Rattle.hol_formulas.specs.Equation.{equality_type, dest_eq}
+use Rattle.hol_formulas.specs.Equation.{Sides, equality_type, dest_eq}
 use Rattle.hol_formulas.proofs.FormulaLaws.{dest_eq_equation}
 use Rattle.hol_equal.proofs.Applies.{sides}
 use Rattle.hol_equal.specs.Applied.{lhs, rhs}
@@ -15,5 +15,6 @@ returns c =
     let l = lhs c.args.th.now.sequent.concl in
     let r = rhs c.args.th.now.sequent.concl in
     let found : Some own ≡ Some (sides c.args.ty.now l r) = sym c.in-Some.ensures.sides ∙ ap dest_eq (c.concl.ensures.concl ∙ c.requires.equal) ∙ dest_eq_equation c.args.ty.now l r in
-    let same : c.in-Some.sides.ty.now ≡ c.args.ty.now = cc in
+    let one : own ≡ sides c.args.ty.now l r = cc in
+    let same : c.in-Some.sides.ty.now ≡ c.args.ty.now = ap (λ (x : Sides). x.sides_type) one in
     c.in-Some.ensures.sign ∙ ap (λ (t : TypeTree). constant (codes "=") (equality_type t)) same
