@@ -8,6 +8,9 @@ use Rattle.hol_equal.proofs.Applies.{sides}
 use Rattle.hol_equal.specs.Applied.{lhs, rhs}
 use Rattle.hol_equal.proofs.applied.sign_of.Goals as goal
 
+one_type : (x y : Sides) → Some x ≡ Some y → x.sides_type ≡ y.sides_type
+one_type x y e = let one : x ≡ y = cc in ap (λ (z : Sides). z.sides_type) one
+
 -- the type of the sides that were found is that of the equation
 pub returns : goal.returns
 returns c =
@@ -15,6 +18,5 @@ returns c =
     let l = lhs c.args.th.now.sequent.concl in
     let r = rhs c.args.th.now.sequent.concl in
     let found : Some own ≡ Some (sides c.args.ty.now l r) = sym c.in-Some.ensures.sides ∙ ap dest_eq (c.concl.ensures.concl ∙ c.requires.equal) ∙ dest_eq_equation c.args.ty.now l r in
-    let one : own ≡ sides c.args.ty.now l r = cc in
-    let same : c.in-Some.sides.ty.now ≡ c.args.ty.now = ap (λ (x : Sides). x.sides_type) one in
+    let same : c.in-Some.sides.ty.now ≡ c.args.ty.now = one_type own (sides c.args.ty.now l r) found in
     c.in-Some.ensures.sign ∙ ap (λ (t : TypeTree). constant (codes "=") (equality_type t)) same
