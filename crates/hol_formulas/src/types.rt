@@ -33,9 +33,9 @@ pub fn type_variable(alloc: Global, name: &str) -> Result<Ty, AllocError>
     Ty::var(alloc, &name)
 }
 
-// `bool`, which shares the nodes of the given type where it is `bool`.
+/// `bool`, which shares the nodes of the given type where it is `bool`.
 #[tactic(auto, using(crate::proofs::TypeTests::same_type))]
-fn bool_beside(alloc: Global, ty: &Ty) -> Result<Ty, AllocError>
+pub(crate) fn bool_beside(alloc: Global, ty: &Ty) -> Result<Ty, AllocError>
     ensures { IfOk result (λ truth. truth ≡ bool_type) }
 {
     if is_bool(ty) {

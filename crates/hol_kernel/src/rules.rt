@@ -206,8 +206,8 @@ fn applied(
     ensures is { IfOk result (λ t. t ≡ mk_eq range.now (comb x.entry.left.now y.entry.left.now) (comb x.entry.right.now y.entry.right.now)) }
     ensures typed { IfOk result (λ t. named_type t ≡ Some bool_type) }
 {
-    let left = Term::application(alloc, x.left, y.left)?;
-    let right = Term::application(alloc, x.right, y.right)?;
+    let left = Term::application_to(alloc, x.left, y.left, range)?;
+    let right = Term::application_to(alloc, x.right, y.right, range)?;
     basis.equation(alloc, range, &left, &right)
 }
 
