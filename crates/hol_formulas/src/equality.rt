@@ -1,7 +1,8 @@
 //! The constant `=` between terms of a type.
-ghost use Rattle.std.specs.Prelude.{◌≡◌, IfOk, IsTrue, Some};
-ghost use Rattle.hol_terms.specs.Named.{named_type};
-ghost use Rattle.hol_formulas.specs.Equation.{bool_type, mk_eq};
+ghost use Rattle.std.specs.Prelude.{◌≡◌, IfOk, IsTrue, Some, codes};
+ghost use Rattle.hol_types.specs.Fun.{fun_type};
+ghost use Rattle.hol_terms.specs.Named.{constant, named_type};
+ghost use Rattle.hol_formulas.specs.Equation.{bool_type, equality_type, mk_eq};
 
 use crate::types::bool_beside;
 use hol_terms::Term;
@@ -59,6 +60,27 @@ impl Equality {
         self.ty.same(ty)
     }
 
+    // The constant.
+    fn sign(&self) -> &Term
+        ensures { result.now ≡ constant (codes "=") (equality_type self.now) }
+    {
+        &self.sign
+    }
+
+    // The type of the constant with a left side.
+    fn property(&self) -> &Ty
+        ensures { result.now ≡ fun_type self.now bool_type }
+    {
+        &self.property
+    }
+
+    // `bool`.
+    fn truth(&self) -> &Ty
+        ensures { result.now ≡ bool_type }
+    {
+        &self.truth
+    }
+
     /// `left = right`, for two terms of its type. No types are compared.
     #[tactic(auto, using(crate::proofs::Signs::half_type, crate::proofs::Signs::whole_type))]
     pub fn between(&self, alloc: Global, left: &Term, right: &Term) -> Result<Term, AllocError>
@@ -67,7 +89,7 @@ impl Equality {
         ensures is { IfOk result (λ t. t ≡ mk_eq self.now left.now right.now) }
         ensures typed { IfOk result (λ t. named_type t ≡ Some bool_type) }
     {
-        let applied = Term::application_to(alloc, &self.sign, left, &self.property)?;
-        Term::application_to(alloc, &applied, right, &self.truth)
+        let applied = Term::application_to(alloc, self.sign(), left, self.property())?;
+        Term::application_to(alloc, &applied, right, self.truth())
     }
 }
