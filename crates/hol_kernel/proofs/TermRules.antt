@@ -78,6 +78,16 @@ module _ (basis : Items) (t : Named) (a : TypeTree) (has : named_type t ≡ Some
       let is : a ≡ bool_type = (type_cmp_decides a bool_type).0 e in
       along basis own (only_hyp (nameless [] t)) hyps t concl p q r (by_assume (nameless [] t) (typed_type basis t a has f ∙ ap Some is)) (has ∙ ap Some is)
 
+  -- a formula has the type that its named term has
+  pub formula_type : HasType basis (nameless [] t) bool_type → type_eq a bool_type ≡ true
+  formula_type h =
+      let found : Some a ≡ Some bool_type = sym (typed_type basis t a has (ap is_some h)) ∙ h in
+      let same : a ≡ bool_type = cc in
+      (type_cmp_decides a bool_type).1 same
+
+  pub formula_typed : type_eq a bool_type ≡ true → is_typed basis (nameless [] t) ≡ true → HasType basis (nameless [] t) bool_type
+  formula_typed e f = typed_type basis t a has f ∙ ap Some ((type_cmp_decides a bool_type).0 e)
+
 -- where the term is not well typed nothing is given
 pub refl_none : (basis : Items) (t : Nameless) → is_typed basis t ≡ false → refl_of basis t ≡ None
 refl_none basis t e = by (type_over basis t) e

@@ -1,9 +1,10 @@
 //! The primitive rules of HOL Light (fusion.ml) that need no substitution.
-ghost use Rattle.std.specs.Prelude.{◌≡◌, IfOk, Some, []};
+ghost use Rattle.std.specs.Prelude.{◌≡◌, true, IfOk, Some, []};
 ghost use Rattle.hol_types.specs.Fun.{fun_type};
 ghost use Rattle.hol_terms.specs.Named.{abs, comb, named_type};
 ghost use Rattle.hol_formulas.specs.Equation.{bool_type, mk_eq};
 ghost use Rattle.hol_terms.specs.Nameless.{nameless};
+ghost use Rattle.hol_kernel.specs.Typing.{HasType, is_typed};
 ghost use Rattle.hol_kernel.specs.Rules.{refl_of, assume_of, beta_of, trans_of, mk_comb_of, abs_of, eq_mp_of, deduct_antisym_of};
 ghost use Rattle.hol_kernel.specs.Theorem.{theorem_on, over};
 ghost use Rattle.hol_kernel.specs.Gives.{Gives, in_kernel};
@@ -30,14 +31,23 @@ impl Thm {
         if !basis.is_typed(alloc, term)? {
             return Err(KernelError::Refused(Rule::Refl));
         }
+        Ok(Thm::refl_typed(alloc, basis, term)?)
+    }
+
+    /// [`Thm::refl`] of a term that is known to be well typed over the basis: it isn't walked.
+    pub fn refl_typed(alloc: Global, basis: &Basis, term: &Term) -> Result<Thm, AllocError>
+        requires typed { is_typed basis.now (nameless [] term.now) ≡ true }
+        ensures sequent { IfOk result (λ th. over basis.now (refl_of basis.now (nameless [] term.now)) ≡ Some th) }
+        ensures basis { IfOk result (λ th. th.basis ≡ basis.now) }
+    {
         let concl = basis.equation(alloc, term.type_of(), term, term)?;
-        Ok(Thm::unconditional(alloc, basis, concl)?)
+        Thm::unconditional(alloc, basis, concl)
     }
 
     /// The rule of assumption (fusion.ml, ASSUME): `{p} |- p` over the basis.
     ///
     /// Refused by [`Rule::Assume`] where `p` is not well typed over the prelude and the basis, or not of type `bool`.
-    #[tactic(auto, using(crate::proofs::TermRules::assumes))]
+    #[tactic(auto, using(crate::proofs::TermRules::assumes, crate::proofs::TermRules::formula_typed))]
     pub fn assume(alloc: Global, basis: &Basis, p: &Term) -> Result<Thm, KernelError>
         ensures sequent { Gives in_kernel rule.Assume (over basis.now (assume_of basis.now (nameless [] p.now))) result }
         ensures basis { IfOk result (λ th. th.basis ≡ basis.now) }
@@ -45,9 +55,19 @@ impl Thm {
         if !is_bool(p.type_of()) || !basis.is_typed(alloc, p)? {
             return Err(KernelError::Refused(Rule::Assume));
         }
+        Ok(Thm::assume_typed(alloc, basis, p)?)
+    }
+
+    /// [`Thm::assume`] of a term that is known to be well typed over the basis, of type `bool`: it isn't walked.
+    pub fn assume_typed(alloc: Global, basis: &Basis, p: &Term) -> Result<Thm, AllocError>
+        requires typed { HasType basis.now (nameless [] p.now) bool_type }
+        ensures sequent { IfOk result (λ th. over basis.now (assume_of basis.now (nameless [] p.now)) ≡ Some th) }
+        ensures basis { IfOk result (λ th. th.basis ≡ basis.now) }
+    {
+        let _ty = p.type_of();
         let concl = p.copy()?;
         let hyps = Hypotheses::one(alloc, p)?;
-        Ok(Thm::closed(basis, hyps, concl)?)
+        Thm::closed(basis, hyps, concl)
     }
 
     /// The rule of transitivity (fusion.ml, TRANS): from `s = m` and `n = t`, where `m` and `n` are alpha equivalent, `s = t`.
