@@ -40,7 +40,7 @@ pub fn refl(alloc: Global, basis: &Basis, ty: &Ty, t: &Term) -> Result<Thm, Allo
     requires typed { HasType basis.now (nameless [] t.now) ty.now }
     ensures { IfOk result (λ th. th ≡ theorem_on basis.now (reflexive (nameless [] t.now) ty.now)) }
 {
-    unrefused(Thm::refl(alloc, basis, t))
+    Thm::refl_typed(alloc, basis, t)
 }
 
 /// TRANS: from `s = m` and `n = t`, where `m` and `n` are equal up to bound names, `s = t`.
@@ -77,7 +77,7 @@ pub fn assume(alloc: Global, basis: &Basis, p: &Term) -> Result<Thm, AllocError>
     requires typed { HasType basis.now (nameless [] p.now) bool_type }
     ensures { IfOk result (λ th. th ≡ theorem_on basis.now (sequent_of (only_hyp (nameless [] p.now)) (nameless [] p.now))) }
 {
-    unrefused(Thm::assume(alloc, basis, p))
+    Thm::assume_typed(alloc, basis, p)
 }
 
 /// ABS: from `l = r`, for a variable of a type over the basis that is free in no hypothesis, `(\v. l) = (\v. r)`.
@@ -226,7 +226,7 @@ fn inst(alloc: Global, x: &Term, v: &Variable, a: &Thm) -> Result<Thm, AllocErro
     let mut pairs = Vec::new(alloc);
     let own = occurrence(alloc, v)?;
     pairs.push((x.copy()?, own))?;
-    unrefused(Thm::inst(alloc, &pairs, a))
+    Thm::inst_typed(alloc, &pairs, a)
 }
 
 /// INST_TYPE: the theorem with a type over its basis for the type variable of the name.
