@@ -215,7 +215,7 @@ fn beta(
 {
     let own = occurrence(alloc, v)?;
     let redex = Term::application(alloc, f, &own)?;
-    unrefused(Thm::beta(alloc, basis, &redex))
+    Thm::beta_typed(alloc, basis, &redex)
 }
 
 // INST: the theorem with the term for the variable.

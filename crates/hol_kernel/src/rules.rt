@@ -1,5 +1,5 @@
 //! The primitive rules of HOL Light (fusion.ml) that need no substitution.
-ghost use Rattle.std.specs.Prelude.{◌≡◌, true, IfOk, Some, []};
+ghost use Rattle.std.specs.Prelude.{◌≡◌, true, IfOk, IsSome, Some, []};
 ghost use Rattle.hol_types.specs.Fun.{fun_type};
 ghost use Rattle.hol_terms.specs.Named.{abs, comb, named_type};
 ghost use Rattle.hol_formulas.specs.Equation.{bool_type, mk_eq};
@@ -154,10 +154,11 @@ impl Thm {
         ensures sequent { Gives in_kernel rule.Beta (over basis.now (beta_of basis.now redex.now)) result }
         ensures basis { IfOk result (λ th. th.basis ≡ basis.now) }
     {
+        let _ty = redex.type_of();
         let TermNode::Comb(function, argument) = redex.node() else {
             return Err(KernelError::Refused(Rule::Beta));
         };
-        let (TermNode::Abs(v, body), TermNode::Var(w)) = (function.node(), argument.node()) else {
+        let (TermNode::Abs(v, _body), TermNode::Var(w)) = (function.node(), argument.node()) else {
             return Err(KernelError::Refused(Rule::Beta));
         };
         if !v.same(w) {
@@ -166,8 +167,23 @@ impl Thm {
         if !basis.is_typed(alloc, redex)? {
             return Err(KernelError::Refused(Rule::Beta));
         }
+        Ok(Thm::beta_typed(alloc, basis, redex)?)
+    }
+
+    /// [`Thm::beta`] of a term to which it is known to apply: it isn't walked.
+    pub fn beta_typed(alloc: Global, basis: &Basis, redex: &Term) -> Result<Thm, AllocError>
+        requires applies { IsSome (beta_of basis.now redex.now) }
+        ensures sequent { IfOk result (λ th. over basis.now (beta_of basis.now redex.now) ≡ Some th) }
+        ensures basis { IfOk result (λ th. th.basis ≡ basis.now) }
+    {
+        let TermNode::Comb(function, _argument) = redex.node() else {
+            unreachable!()
+        };
+        let TermNode::Abs(_v, body) = function.node() else {
+            unreachable!()
+        };
         let concl = basis.equation(alloc, redex.type_of(), redex, body)?;
-        Ok(Thm::unconditional(alloc, basis, concl)?)
+        Thm::unconditional(alloc, basis, concl)
     }
 
     /// The rule of modus ponens for equations (fusion.ml, EQ_MP): from `l = r` and `m`, where `l` and `m` are alpha equivalent, `r`.
