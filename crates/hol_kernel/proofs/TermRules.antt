@@ -5,6 +5,7 @@ use Rattle.std.specs.FinSet as set
 use Rattle.std.proofs.Common.{ap, sym, ◌∙◌, subst}
 use Rattle.std.proofs.lemmas.Bool.{and_right}
 use Rattle.std.proofs.Math.Bool.{and-true}
+use mathlib.Core.Bool.{true≢false}
 use Rattle.hol_types.specs.Tree.{TypeTree}
 use Rattle.hol_types.specs.Equal.{type_eq, variable_eq}
 use Rattle.hol_types.specs.Fun.{fun_type, fun_parts}
@@ -158,15 +159,15 @@ pub reduces : (basis : Items) (t : Named) (v : List ℕ × TypeTree) (b x : Name
 reduces basis t v b (var w) e h = by (variable_eq v w) refl (is_typed basis (nameless [] t)) refl
   where
     none : beta_of basis t ≡ None → IsReduced basis t v b
-    none n = absurd (subst IsSome n h)
+    none n = absurd (true≢false (sym (subst IsSome n h)))
 
     by : (k : Bool) → variable_eq v w ≡ k → (j : Bool) → is_typed basis (nameless [] t) ≡ j → IsReduced basis t v b
     by false r j s = none (ap (beta_of basis) e ∙ beta_other basis v w b r)
     by true r false s = none (ap (beta_of basis) e ∙ beta_untyped basis v w b r (sym (ap (λ (u : Named). is_typed basis (nameless [] u)) e) ∙ s))
     by true r true s = record { argument = w; is = e; same = r; typed = s }
-reduces basis t v b (constant c s) e h = absurd (subst (λ (u : Named). IsSome (beta_of basis u)) e h)
-reduces basis t v b (comb f y) e h = absurd (subst (λ (u : Named). IsSome (beta_of basis u)) e h)
-reduces basis t v b (abs w d) e h = absurd (subst (λ (u : Named). IsSome (beta_of basis u)) e h)
+reduces basis t v b (constant c s) e h = absurd (true≢false (sym (subst (λ (u : Named). IsSome (beta_of basis u)) e h)))
+reduces basis t v b (comb f y) e h = absurd (true≢false (sym (subst (λ (u : Named). IsSome (beta_of basis u)) e h)))
+reduces basis t v b (abs w d) e h = absurd (true≢false (sym (subst (λ (u : Named). IsSome (beta_of basis u)) e h)))
 
 -- ---- typing
 

@@ -16,7 +16,7 @@ beta_typed-requires c =
     let redex = comb (abs c.args.v.now c.args.b.now) (var c.args.v.now) in
     let whole : c.in_ok-redex.redex ≡ redex = rw (c.in_ok-redex.ensures, c.in_ok-own.ensures.is, c.requires.is) refl in
     let gives : beta_of B c.in_ok-redex.redex ≡ Some (own_contraction c.args.ty.now c.args.v.now c.args.b.now) = ap (beta_of B) whole ∙ c.requires.applies in
-    record { applies = subst IsSome (sym gives) tt }
+    record { applies = subst IsSome (sym gives) refl }
 
 pub returns : goal.returns
 returns c =
