@@ -51,7 +51,7 @@ pub enum KnownName {
 
 impl KnownName {
     /// The text of the name.
-    pub fn text(self) -> &'static str
+    pub(crate) fn text(self) -> &'static str
         ensures { result.now ≡ known_text self }
     {
         match self {
