@@ -5,14 +5,9 @@ use Rattle.hol_goal.specs.Goal.{GoalValue}
 use Rattle.hol_goal.specs.Answer.{UsedValue}
 use Rattle.hol_combine.specs.Runs.{RunValue, Leaves, Refuses, Stops, TurnLimit, before_goals, then_on, each, replicate}
 use Rattle.hol_combine.specs.Going.{copies}
+use Rattle.hol_combine.specs.Pending.{counted}
 use Rattle.hol_combine.proofs.After.{before_none, before_on, each_unchanged}
 use Rattle.hol_combine.proofs.Paying.{IsPaid, pays_for, pays_not}
-
--- each goal once and so many times more; where a number lacks nothing is done
-abbrev pub counted : (GoalValue → UsedValue → RunValue) → List ℕ → List GoalValue → UsedValue → RunValue
-counted f ns [] used = Leaves [] used
-counted f [] (g ∷ goals) used = Leaves [] used
-counted f (n ∷ ns) (g ∷ goals) used = then_on (replicate f (suc n) g used) (λ new l. before_goals new (counted f ns goals l))
 
 module _ (f : GoalValue → UsedValue → RunValue) where
   counted_append : (n : ℕ) (new : List GoalValue) (ns : List ℕ) (rest : List GoalValue) (used : UsedValue) → counted f (copies (length new) n ++ ns) (new ++ rest) used ≡ then_on (each (replicate f (suc n)) new used) (λ g l. before_goals g (counted f ns rest l))

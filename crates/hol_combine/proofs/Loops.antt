@@ -18,7 +18,8 @@ use Rattle.hol_combine.specs.declared.ran.RunError.{RunError}
 use Rattle.hol_combine.specs.declared.ran.RunError.TheVariants as error
 use Rattle.hol_combine.proofs.After.{each_first, error_then}
 use Rattle.hol_combine.proofs.Falling.{Falls, round_left, round_kept, round_stops, round_out}
-use Rattle.hol_combine.proofs.Counted.{counted, counted_all, count_again, count_last, count_out}
+use Rattle.hol_combine.specs.Pending.{counted}
+use Rattle.hol_combine.proofs.Counted.{counted_all, count_again, count_last, count_out}
 use Rattle.hol_combine.proofs.Lists.{each_every_one}
 use Rattle.hol_combine.proofs.Paying.{IsPaid}
 use Rattle.hol_combine.proofs.Progress.{Progress, starts, finishes, goes_again, keeps, fails, ends}

@@ -10,3 +10,4 @@ pub mod More
 pub mod Going
 pub mod Work
 pub mod Called
+pub mod Pending
