@@ -6,7 +6,7 @@ use Rattle.std.proofs.lemmas.Bool.{and_parts}
 use Rattle.std.proofs.lemmas.List.{take_rest}
 use Rattle.hol_goal.specs.Goal.{GoalValue}
 use Rattle.hol_goal.specs.Answer.{UsedValue}
-use Rattle.hol_combine.specs.ExprValue.{CallValue, ExprValue, ExprValues, Call, Then, ThenL, OrElse, Try, Repeat, Every, First, Replicate, Changed, DischThen, PopAssum, FirstAssum, SubgoalThen, no_exprs, more_exprs, exprs, then_all, or_else_all, expr_nodes, exprs_nodes}
+use Rattle.hol_combine.specs.ExprValue.{CallValue, ExprValue, ExprValues, Call, Then, ThenL, OrElse, Try, Repeat, Every, First, Replicate, Changed, DischThen, PopAssum, FirstAssum, SubgoalThen, Defined, no_exprs, more_exprs, exprs, then_all, or_else_all, expr_nodes, exprs_nodes}
 use Rattle.hol_combine.specs.Runs.{KnownValue, RunValue, Leaves, Refuses, Stops, before_goals, then_on, each, run, run_every, run_first, run_each}
 use Rattle.hol_combine.specs.Suits.{all_calls, all_calls_of}
 use Rattle.hol_combine.specs.More.{run_more}
@@ -63,6 +63,7 @@ has_nodes (DischThen called) = omega arith
 has_nodes (PopAssum called) = omega arith
 has_nodes (FirstAssum called) = omega arith
 has_nodes (SubgoalThen p called) = omega arith
+has_nodes (Defined t) = omega arith
 
 pub nodes_at : (ts : List ExprValue) (i : ℕ) (d : ExprValue) → i < length ts → expr_nodes (get_or ts i d) ≤ exprs_nodes (exprs ts)
 nodes_at [] i d h = absurd (omega (arith, h))

@@ -8,7 +8,7 @@ ghost use Rattle.hol_combine.specs.Runs.{KnownValue, RunValue};
 ghost use Rattle.hol_combine.specs.Suits.{are_indices};
 ghost use Rattle.hol_combine.specs.Pending.{Runs, reached_by, HasLeft, IsGoing, GoesTo};
 
-use crate::calls::run_call;
+use crate::calls::{paid_too, run_call};
 use crate::expr::{Expr, ExprNode};
 use crate::parts::{refused, unchanged};
 use crate::pending::{Pending, Reached};
@@ -74,6 +74,7 @@ pub(crate) fn begin<'a, T: Tacs>(
             Ok(Reached::Part(part, goal, used))
         }
         ExprNode::Hand(how, tac) => ended(run_handing(alloc, how, tac, &goal, tacs, used)),
+        ExprNode::Defined(more, part) => Ok(Reached::Part(part, goal, paid_too(used, *more)?)),
     }
 }
 

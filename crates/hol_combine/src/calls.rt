@@ -57,6 +57,22 @@ pub(crate) fn paid(used: Used) -> Result<Used, RunError>
     })
 }
 
+/// What may still be used where a turn is paid, and so many more. An error says that fewer are left.
+pub(crate) fn paid_too(used: Used, more: usize) -> Result<Used, RunError>
+    ensures paid { IfOk result (λ u. (used_value used).turns_left ≡ u.left + (more + 1)) }
+    ensures tested { IfOk result (λ u. u.tested.items ≡ used.tested.items) }
+    ensures few { IfErr result (λ e. (used.left ≤ more) × IsError (Stops TurnLimit used.tested.items) e) }
+{
+    let Used { left, tested } = used;
+    if left as usize <= more {
+        return Err(RunError::TurnLimit(tested));
+    }
+    Ok(Used {
+        left: left - 1 - more as u32,
+        tested,
+    })
+}
+
 /// A call that has paid. Nothing is asked of its theorems' hypotheses.
 pub(crate) fn call_paid<T: Tacs>(
     alloc: Global,

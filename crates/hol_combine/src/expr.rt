@@ -1,5 +1,6 @@
 //! Expressions of functions on goals, whose names are resolved.
 ghost use Rattle.std.specs.Prelude.{◌≡◌, IfOk};
+ghost use Rattle.hol_combine.specs.ExprValue.{Defined};
 ghost use Rattle.hol_combine.specs.ExprView.{expr_of_node};
 
 use crate::formula::Formula;
@@ -77,6 +78,8 @@ pub enum ExprNode {
     Changed(Expr),
     /// A theorem is handed to a function.
     Hand(Handing, TheoremTac),
+    /// A use of an expression that has a name, and so many more, each of what was named by the next.
+    Defined(usize, Expr),
 }
 
 impl Model for Expr {
@@ -106,6 +109,18 @@ impl Expr {
         Ok(Expr {
             node: Rc::new(alloc, node)?,
         })
+    }
+
+    /// A use of the expression by a name that it was given. It has one node, whatever the expression's size, and a use of a use is counted.
+    pub fn defined(&self, alloc: Global) -> Result<Expr, AllocError>
+        ensures { IfOk result (λ expr. expr ≡ Defined self.now) }
+    {
+        if let ExprNode::Defined(more, part) = self.node() {
+            if let Some(more) = more.checked_add(1) {
+                return Expr::new(alloc, ExprNode::Defined(more, part.copy()?));
+            }
+        }
+        Expr::new(alloc, ExprNode::Defined(0, self.copy()?))
     }
 
     /// The top node, with its parts by reference.
