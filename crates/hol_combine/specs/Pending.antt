@@ -1,6 +1,6 @@
 -- What is still to be done around the part of an expression that is run, the innermost first. Only private clauses speak of it.
 -- Source: J. Reynolds, Definitional Interpreters for Higher-Order Programming Languages (ACM 1972): continuations as data.
-use Rattle.std.specs.Prelude.{◌≡◌, ◌≤◌, ℕ, suc, Bool, true, ◌&&◌, IsTrue, nat_lt, List, [], ◌∷◌, ◌++◌, length, reverse, Result, Ok, Err}
+use Rattle.std.specs.Prelude.{◌≡◌, ◌≤◌, ℕ, suc, Bool, true, ◌&&◌, IsTrue, List, [], ◌∷◌, ◌++◌, length, reverse, Result, Ok, Err}
 use Rattle.hol_kernel.specs.Items.{Items}
 use Rattle.hol_kernel.specs.Sequent.{no_hyps}
 use Rattle.hol_goal.specs.Goal.{GoalValue}
@@ -183,7 +183,6 @@ AreFitting (p ∷ outer) = FitsPending p × AreFitting outer
 -- What a run has come to, within what is pending, comes to the whole, by valid moves from the goal at the start, over bases that suit.
 pub record IsGoing (known : KnownValue) (suits : Items → Bool) (start : GoalValue) (whole : RunValue) (outer : List Pending) (here : ReachedValue) : Type 0 where
   pub answer : around known outer (comes_to known here) ≡ whole
-  pub indices : (all_reached (λ call. nat_lt call.index (length known.table)) here ≡ true) × (all_pending (λ call. nat_lt call.index (length known.table)) outer ≡ true)
   pub suiting : (basis : Items) → IsTrue (suits basis) → IsTrue (all_reached (λ call. suits_args call.args basis) here) × IsTrue (all_pending (λ call. suits_args call.args basis) outer)
   pub led : IsLed suits start outer here
   pub fits : AreFitting outer

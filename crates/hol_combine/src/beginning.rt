@@ -1,11 +1,10 @@
 //! Where the run of an expression begins.
-ghost use Rattle.std.specs.Prelude.{◌≡◌, ◌≤◌, Bool, IfOk, length, reverse, true};
+ghost use Rattle.std.specs.Prelude.{◌≡◌, ◌≤◌, Bool, IfOk, reverse};
 ghost use Rattle.hol_kernel.specs.Items.{Items};
 ghost use Rattle.hol_goal.specs.Goal.{GoalValue};
 ghost use Rattle.hol_goal.specs.UsedView.{used_value};
 ghost use Rattle.hol_combine.specs.ExprValue.{Every, Repeat, Replicate, exprs, or_else_all};
 ghost use Rattle.hol_combine.specs.Runs.{KnownValue, RunValue};
-ghost use Rattle.hol_combine.specs.Suits.{are_indices};
 ghost use Rattle.hol_combine.specs.Pending.{Runs, reached_by, HasLeft, IsGoing, GoesTo};
 
 use crate::calls::{paid_too, run_call};
@@ -30,7 +29,6 @@ pub(crate) fn begin<'a, T: Tacs>(
     used: Used,
     outer: &mut Vec<Pending<'a>>,
 ) -> Result<Reached<'a>, RunError>
-    requires indices { are_indices (length (T.Tacs.known_of tacs.now).table) expr.now ≡ true }
     requires turns { used.left ≤ 100000 }
     ensures goes { (suits : Items → Bool) (start : GoalValue) (whole : RunValue) → IsGoing (T.Tacs.known_of tacs.now) suits start whole (reverse outer.old.items) (Runs expr.now goal (used_value used)) → GoesTo (T.Tacs.known_of tacs.now) suits start whole (reverse outer.new.items) result }
     ensures left { IfOk result (HasLeft used.left) }

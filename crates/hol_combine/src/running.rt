@@ -1,8 +1,8 @@
 //! Runs of expressions.
-ghost use Rattle.std.specs.Prelude.{◌≡◌, ◌≤◌, IfOk, length, true, [], ◌∷◌};
+ghost use Rattle.std.specs.Prelude.{◌≤◌, IfOk, [], ◌∷◌};
 ghost use Rattle.hol_registry.specs.RegistryView.{table};
 ghost use Rattle.hol_combine.specs.Runs.{run};
-ghost use Rattle.hol_combine.specs.Suits.{are_indices, suits_expr};
+ghost use Rattle.hol_combine.specs.Suits.{suits_expr};
 ghost use Rattle.hol_goal.specs.Answer.{starting};
 ghost use Rattle.hol_goal.specs.UsedView.{used_value};
 ghost use Rattle.hol_combine.specs.Agreeing.{known};
@@ -19,7 +19,7 @@ use hol_goal::{Goal, Names, Used};
 use hol_registry::Registry;
 use std::alloc::Global;
 
-/// Runs the expression on the goal, with so many turns, where constants have these names. Its calls are of functions of the registry.
+/// Runs the expression on the goal, with so many turns, where constants have these names. A call of an index beyond the registry is refused.
 pub fn run(
     alloc: Global,
     expr: &Expr,
@@ -28,7 +28,6 @@ pub fn run(
     names: &Names,
     turns: u32,
 ) -> Result<Ran, RunError>
-    requires indices { are_indices (length (table registry.now)) expr.now ≡ true }
     requires turns { turns ≤ 100000 }
     ensures answer { IsRun (run (known (table registry.now) names.now) expr.now goal.now (starting turns)) result }
     ensures valid { IfOk result (IsValidRun (suits_expr expr.now) (goal.now ∷ [])) }
@@ -48,7 +47,6 @@ fn run_expr<T: Tacs>(
     tacs: &T,
     used: Used,
 ) -> Result<Ran, RunError>
-    requires indices { are_indices (length (T.Tacs.known_of tacs.now).table) expr.now ≡ true }
     requires turns { used.left ≤ 100000 }
     ensures answer { IsRun (run (T.Tacs.known_of tacs.now) expr.now goal.now (used_value used)) result }
     ensures valid { IfOk result (IsValidRun (suits_expr expr.now) (goal.now ∷ [])) }
