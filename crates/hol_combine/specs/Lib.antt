@@ -1,6 +1,7 @@
 pub mod ExprValue
 pub mod Code
 pub mod ExprView
+pub mod ExprSize
 pub mod Falls
 pub mod Runs
 pub mod Agreeing

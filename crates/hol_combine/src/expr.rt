@@ -1,9 +1,11 @@
 //! Expressions of functions on goals, whose names are resolved.
-ghost use Rattle.std.specs.Prelude.{◌≡◌, IfOk};
+ghost use Rattle.std.specs.Prelude.{◌≡◌, IfOk, min};
+ghost use Rattle.hol_combine.specs.ExprSize.{expr_size};
 ghost use Rattle.hol_combine.specs.ExprValue.{Defined};
 ghost use Rattle.hol_combine.specs.ExprView.{expr_of_node};
 
 use crate::formula::Formula;
+use crate::sizes::node_size;
 use hol_goal::TacArgs;
 use hol_terms::Term;
 use std::alloc::{AllocError, Global};
@@ -45,11 +47,12 @@ pub enum Handing {
     SubgoalThen(Formula),
 }
 
-/// An expression of functions on goals: a call, or a tactical of HOL Light applied to what it takes. Copies share their nodes.
+/// An expression of functions on goals: a call, or a tactical of HOL Light applied to what it takes. It keeps its size. Copies share their nodes.
 #[cycle(expr)]
 #[derive(Drop)]
 pub struct Expr {
     node: Rc<ExprNode>,
+    size: u32,
 }
 
 /// The top node of an expression. Chains are lists, so that no expression is nested deeper than its brackets and lists are.
@@ -94,6 +97,11 @@ impl Model for Expr {
 
     ghost view = { λ e. expr_of_node e.node.value };
 
+    ghost use Rattle.std.specs.Prelude.{◌≡◌, min};
+    ghost use Rattle.hol_combine.specs.ExprSize.{expr_size};
+
+    ghost invariant = { λ e. e.size ≡ min (expr_size (expr_of_node e.node.value)) 20001 };
+
     ghost size = { expr_nodes };
 
     ghost use Rattle.hol_combine.specs.Falls.{deep_le_nodes};
@@ -106,8 +114,10 @@ impl Expr {
     pub fn new(alloc: Global, node: ExprNode) -> Result<Expr, AllocError>
         ensures { IfOk result (λ expr. expr ≡ expr_of_node node) }
     {
+        let size = node_size(&node);
         Ok(Expr {
             node: Rc::new(alloc, node)?,
+            size,
         })
     }
 
@@ -130,12 +140,20 @@ impl Expr {
         self.node.as_ref()
     }
 
+    /// The size, or 20,001 for more. Takes no memory: each expression keeps it.
+    pub fn size(&self) -> u32
+        ensures { result ≡ min (expr_size self.now) 20001 }
+    {
+        self.size
+    }
+
     /// The same expression, sharing its nodes.
     pub fn copy(&self) -> Result<Expr, AllocError>
         ensures { IfOk result (λ expr. expr ≡ self.now) }
     {
         Ok(Expr {
             node: self.node.clone()?,
+            size: self.size,
         })
     }
 }

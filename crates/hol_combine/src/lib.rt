@@ -15,6 +15,7 @@ mod pursuing;
 mod ran;
 mod resuming;
 mod running;
+mod sizes;
 mod tacs;
 mod theorem_tacs;
 mod work;
