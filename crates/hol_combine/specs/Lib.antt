@@ -2,6 +2,7 @@ pub mod ExprValue
 pub mod Code
 pub mod ExprView
 pub mod ExprSize
+pub mod Chains
 pub mod Falls
 pub mod Runs
 pub mod Agreeing

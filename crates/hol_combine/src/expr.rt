@@ -1,6 +1,7 @@
 //! Expressions of functions on goals, whose names are resolved.
 ghost use Rattle.std.specs.Prelude.{◌≡◌, IfOk, min};
 ghost use Rattle.hol_combine.specs.ExprSize.{expr_size};
+ghost use Rattle.hol_combine.specs.Chains.{IsWhole};
 ghost use Rattle.hol_combine.specs.ExprValue.{Defined};
 ghost use Rattle.hol_combine.specs.ExprView.{expr_of_node};
 
@@ -100,7 +101,9 @@ impl Model for Expr {
     ghost use Rattle.std.specs.Prelude.{◌≡◌, min};
     ghost use Rattle.hol_combine.specs.ExprSize.{expr_size};
 
-    ghost invariant = { λ e. e.size ≡ min (expr_size (expr_of_node e.node.value)) 20001 };
+    ghost use Rattle.hol_combine.specs.Chains.{IsWhole};
+
+    ghost invariant = { λ e. (e.size ≡ min (expr_size (expr_of_node e.node.value)) 20001) × IsWhole e.node.value };
 
     ghost size = { expr_nodes };
 
@@ -110,8 +113,10 @@ impl Model for Expr {
 }
 
 impl Expr {
-    /// The expression with this top node.
+    /// The expression with this top node. A chain is one node: its first part is no THEN under THEN, its last no ORELSE under ORELSE, and what
+    /// is used is no use.
     pub fn new(alloc: Global, node: ExprNode) -> Result<Expr, AllocError>
+        requires { IsWhole node }
         ensures { IfOk result (λ expr. expr ≡ expr_of_node node) }
     {
         let size = node_size(&node);
@@ -122,20 +127,21 @@ impl Expr {
     }
 
     /// A use of the expression by a name that it was given. It has one node, whatever the expression's size, and a use of a use is counted.
+    /// An error says also that no count is left for one more.
     pub fn defined(&self, alloc: Global) -> Result<Expr, AllocError>
         ensures { IfOk result (λ expr. expr ≡ Defined self.now) }
     {
         if let ExprNode::Defined(more, part) = self.node() {
-            if let Some(more) = more.checked_add(1) {
-                return Expr::new(alloc, ExprNode::Defined(more, part.copy()?));
-            }
+            let more = more.checked_add(1).ok_or(AllocError)?;
+            return Expr::new(alloc, ExprNode::Defined(more, part.copy()?));
         }
         Expr::new(alloc, ExprNode::Defined(0, self.copy()?))
     }
 
     /// The top node, with its parts by reference.
     pub fn node(&self) -> &ExprNode
-        ensures { expr_of_node result.now ≡ self.now }
+        ensures value { expr_of_node result.now ≡ self.now }
+        ensures whole { IsWhole result.now }
     {
         self.node.as_ref()
     }
