@@ -11,3 +11,4 @@ pub mod Calling
 pub mod Handed
 pub mod Arms
 pub mod Loops
+pub mod Steps
