@@ -55,7 +55,7 @@ module _ (test : CallValue → Bool) where
       let p = and_parts (all_calls test t) (all_calls test u) r.0 in
       (p.0, of_one test u p.1, r.1)
 
-then_same_on : (x : RunValue) (f h : List GoalValue → UsedValue → RunValue) → ((g : List GoalValue) (l : UsedValue) → f g l ≡ h g l) → then_on x f ≡ then_on x h
+pub then_same_on : (x : RunValue) (f h : List GoalValue → UsedValue → RunValue) → ((g : List GoalValue) (l : UsedValue) → f g l ≡ h g l) → then_on x f ≡ then_on x h
 then_same_on (Leaves g l) f h e = e g l
 then_same_on (Refuses why l) f h e = refl
 then_same_on (Stops why tested) f h e = refl

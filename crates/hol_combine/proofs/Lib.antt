@@ -12,3 +12,4 @@ pub mod Handed
 pub mod Arms
 pub mod Loops
 pub mod Steps
+pub mod Around

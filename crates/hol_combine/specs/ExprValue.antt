@@ -16,7 +16,8 @@ pub record TheoremTacValue : Type 0 where
   pub term : Option Nameless
 
 mutual
-  -- a call, or a tactical applied to what it takes
+  -- a call, or a tactical applied to what it takes; or a use of an expression that was named, as by a `let` of OCaml: it stands for its value, so the
+  -- name is no part of it
   pub data ExprValue : Type 0 where
     Call : CallValue → ExprValue
     Then : ExprValue → ExprValue → ExprValue
@@ -32,7 +33,6 @@ mutual
     PopAssum : TheoremTacValue → ExprValue
     FirstAssum : TheoremTacValue → ExprValue
     SubgoalThen : Nameless → TheoremTacValue → ExprValue
-    -- a use of an expression that has a name: it stands for its value, so the name is no part of it (`let` of OCaml, in which HOL Light's users name theirs)
     Defined : ExprValue → ExprValue
 
   pub data ExprValues : Type 0 where

@@ -76,14 +76,12 @@ around known (p ∷ outer) v = around known outer (resumed known p v)
 
 -- ---- what a run has come to
 
+-- an expression is to be run on a goal; one that was run left goals, by these moves, or was refused; or goals are gone through, by calls in these
+-- expressions
 pub data ReachedValue : Type 0 where
-  -- an expression is to be run on a goal
   Runs : ExprValue → GoalValue → UsedValue → ReachedValue
-  -- one that was run left goals, by these moves
   Left : List GoalValue → List Move → UsedValue → ReachedValue
-  -- one that was run was refused
   Refused : RefusalValue → UsedValue → ReachedValue
-  -- goals are gone through, by calls in these expressions
   Goes : ExprValues → (WorkValue → RunValue) → WorkValue → ReachedValue
 
 abbrev pub reached_value : Reached → ReachedValue

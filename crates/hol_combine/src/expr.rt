@@ -100,7 +100,6 @@ impl Model for Expr {
 
     ghost use Rattle.std.specs.Prelude.{◌≡◌, min};
     ghost use Rattle.hol_combine.specs.ExprSize.{expr_size};
-
     ghost use Rattle.hol_combine.specs.Chains.{IsWhole};
 
     ghost invariant = { λ e. (e.size ≡ min (expr_size (expr_of_node e.node.value)) 20001) × IsWhole e.node.value };
