@@ -9,7 +9,7 @@ use hol_goal::{Goal, Names, TacArgs};
 use hol_just::{TacFault, Tried};
 use hol_registry::Registry;
 
-/// What calls registered functions on goals: a registry, and the names of constants. The functions that call each other to run an expression take it by this trait.
+/// What calls registered functions on goals: a registry, and the names of constants. The functions that run an expression take it by this trait.
 pub(crate) trait Tacs {
     ghost use Rattle.std.specs.Prelude.{◌≡◌, ◌≤◌, ◌<◌, length, IfOk};
     ghost use Rattle.hol_goal.specs.ArgumentsView.{args_value};
