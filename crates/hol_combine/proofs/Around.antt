@@ -1,35 +1,20 @@
--- What is pending around runs: stops go through it, and what begins a tactical, or the next of goals that are gone through, comes to the same.
-use Rattle.std.specs.Prelude.{◌≡◌, ◌<◌, ◌+◌, ℕ, zero, suc, List, [], ◌∷◌, ◌++◌, refl}
+-- What begins a tactical, or the next of goals that are gone through, comes to the same.
+use Rattle.std.specs.Prelude.{◌≡◌, ◌<◌, ◌+◌, ℕ, zero, suc, List, [], ◌∷◌, ◌++◌, length, refl}
 use Rattle.std.proofs.Common.{ap, sym, ◌∙◌, arith}
+use Rattle.std.proofs.lemmas.List.{append-nil}
 use Rattle.hol_goal.specs.Goal.{GoalValue}
 use Rattle.hol_goal.specs.Answer.{UsedValue}
-use Rattle.hol_combine.specs.ExprValue.{ExprValue, Then, no_exprs, more_exprs, exprs, then_all, used_through}
-use Rattle.hol_combine.specs.Runs.{KnownValue, RunValue, Leaves, Refuses, Stops, StopValue, TurnLimit, before_goals, then_on, each, paying_from, replicate, run, run_every, run_each}
+use Rattle.hol_combine.specs.ExprValue.{ExprValue, Then, no_exprs, more_exprs, exprs, then_all, or_else_all, used_through}
+use Rattle.hol_combine.specs.Runs.{KnownValue, RunValue, Leaves, Refuses, Stops, TurnLimit, before_goals, then_on, otherwise, each, paying_from, repeated, replicate, run, run_every, run_first, run_each}
 use Rattle.hol_combine.specs.More.{run_more}
+use Rattle.hol_combine.specs.Going.{copies}
 use Rattle.hol_combine.specs.Work.{WorkValue, with_next}
-use Rattle.hol_combine.specs.Pending.{through, in_place, by_counts, counted, all_waiting, resumed, around}
-use Rattle.hol_combine.specs.declared.pending.Pending.{Pending}
-use Rattle.hol_combine.specs.declared.pending.Pending.TheVariants as pending
-use Rattle.hol_combine.proofs.After.{before_both, before_none, then_leaves, then_then}
-use Rattle.hol_combine.proofs.Arms.{then_same_on, then_is}
-use Rattle.hol_combine.proofs.Paying.{IsPaid, pays_for}
-
--- ---- stops
-
-resumed_stops : (known : KnownValue) (p : Pending) (why : StopValue) (tested : List (List ℕ)) → resumed known p (Stops why tested) ≡ Stops why tested
-resumed_stops known (pending.Then parts more) why tested = refl
-resumed_stops known (pending.Each parts more work) why tested = refl
-resumed_stops known (pending.ThenL parts) why tested = refl
-resumed_stops known (pending.Places parts work) why tested = refl
-resumed_stops known (pending.OrElse goal next more) why tested = refl
-resumed_stops known (pending.Try goal) why tested = refl
-resumed_stops known (pending.Changed goal) why tested = refl
-resumed_stops known (pending.Repeat part goal work) why tested = refl
-resumed_stops known (pending.Replicate part more rounds work) why tested = refl
-
-pub around_stops : (known : KnownValue) (outer : List Pending) (why : StopValue) (tested : List (List ℕ)) → around known outer (Stops why tested) ≡ Stops why tested
-around_stops known [] why tested = refl
-around_stops known (p ∷ outer) why tested = ap (around known outer) (resumed_stops known p why tested) ∙ around_stops known outer why tested
+use Rattle.hol_combine.specs.Pending.{through, in_place, by_rounds, by_counts, counted, all_waiting, after_round}
+use Rattle.hol_combine.proofs.After.{before_both, before_none, then_leaves, then_then, then_same_on, otherwise_same, each_one, none_after}
+use Rattle.hol_combine.proofs.Counted.{counted_append}
+use Rattle.hol_combine.proofs.Falling.{Falls, round_left, round_kept, round_stops, round_out}
+use Rattle.hol_combine.proofs.Lists.{each_every_one, then_more, first_is}
+use Rattle.hol_combine.proofs.Paying.{IsPaid, pays_for, pays_not}
 
 -- ---- goals after those that are done
 
@@ -48,19 +33,35 @@ next_then done (Stops why tested) rest more = refl
 module _ (known : KnownValue) where
   -- ---- where tacticals begin
 
+  then_is : (t u : ExprValue) (us : List ExprValue) (goal : GoalValue) (used : UsedValue) →
+      run known (then_all (Then t u) us) goal used ≡ then_on (then_on (run known t goal used) (each (run_every known (more_exprs u no_exprs)))) (run_more known (exprs us))
+  then_is t u us goal used =
+      then_more known (Then t u) us goal used
+      ∙ ap (λ x. then_on x (run_more known (exprs us))) (then_same_on (run known t goal used) (each (run known u)) (each (run_every known (more_exprs u no_exprs))) (λ g l. sym (each_every_one known u g l)))
+
   pub begins_chain : (t u : ExprValue) (us : List ExprValue) (goal : GoalValue) (used : UsedValue) →
       then_on (run known t goal used) (λ goals left. through known (u ∷ []) us (all_waiting goals left)) ≡ run known (then_all (Then t u) us) goal used
   begins_chain t u us goal used =
       then_same_on (run known t goal used) (λ goals left. through known (u ∷ []) us (all_waiting goals left)) (λ goals left. then_on (each (run_every known (more_exprs u no_exprs)) goals left) (run_more known (exprs us)))
       (λ goals left. ap (λ x. then_on x (run_more known (exprs us))) (before_none (each (run_every known (more_exprs u no_exprs)) goals left)))
       ∙ sym (then_then (run known t goal used) (each (run_every known (more_exprs u no_exprs))) (run_more known (exprs us)))
-      ∙ sym (then_is known (then_all (Then t u) us) t u us goal used refl)
+      ∙ sym (then_is t u us goal used)
 
   pub begins_every : (t : ExprValue) (ts : List ExprValue) (goal : GoalValue) (used : UsedValue) →
       then_on (run known t goal used) (λ goals left. through known ts [] (all_waiting goals left)) ≡ run_every known (more_exprs t (exprs ts)) goal used
   begins_every t ts goal used =
       then_same_on (run known t goal used) (λ goals left. through known ts [] (all_waiting goals left)) (each (run_every known (exprs ts)))
       (λ goals left. then_leaves (before_goals [] (each (run_every known (exprs ts)) goals left)) ∙ before_none (each (run_every known (exprs ts)) goals left))
+
+  pub begins_or_else : (t u : ExprValue) (us : List ExprValue) (goal : GoalValue) (used : UsedValue) →
+      otherwise (run known t goal used) (run_first known (more_exprs u (exprs us)) goal) ≡ otherwise (run known t goal used) (run known (or_else_all u us) goal)
+  begins_or_else t u us goal used = otherwise_same (run known t goal used) (run_first known (more_exprs u (exprs us)) goal) (run known (or_else_all u us) goal) (λ l. first_is known u us goal l)
+
+  pub begins_more : (n : ExprValue) (us : List ExprValue) (done : List GoalValue) (used : UsedValue) →
+      through known (n ∷ []) us (all_waiting done used) ≡ run_more known (exprs (n ∷ us)) (done ++ []) used
+  begins_more n us done used =
+      ap (λ x. then_on x (run_more known (exprs us))) (before_none (each (run_every known (more_exprs n no_exprs)) done used) ∙ each_every_one known n done used)
+      ∙ ap (λ (gs : List GoalValue). then_on (each (run known n) gs used) (run_more known (exprs us))) (sym (append-nil done))
 
   -- ---- the next of goals that are gone through
 
@@ -73,7 +74,41 @@ module _ (known : KnownValue) where
       in_place known (t ∷ ts) (with_next goal used w) ≡ then_on (run known t goal used) (λ new left. before_goals (w.done ++ new) (run_each known (exprs ts) w.waiting left))
   next_place t ts w goal used = next_after w.done (run known t goal used) (run_each known (exprs ts) w.waiting)
 
--- a round of REPLICATE_TAC that is paid
+-- ---- rounds of REPEAT
+
+pub begins_rounds : (f : GoalValue → UsedValue → RunValue) (goal : GoalValue) (used : UsedValue) → before_goals [] (each (repeated f) (goal ∷ []) used) ≡ repeated f goal used
+begins_rounds f goal used = before_none (each (repeated f) (goal ∷ []) used) ∙ each_one (repeated f) goal used
+
+module _ (f : GoalValue → UsedValue → RunValue) (falls : Falls f) (w : WorkValue) (goal : GoalValue) (used : UsedValue) where
+  -- one that is paid
+  pub next_round : (paid : UsedValue) → IsPaid used paid → after_round f goal w (f goal paid) ≡ by_rounds f (with_next goal used w)
+  next_round paid h = go (f goal paid) refl
+    where
+      go : (x : RunValue) → f goal paid ≡ x → after_round f goal w x ≡ by_rounds f (with_next goal used w)
+      go (Leaves new left) is = sym (ap (before_goals w.done) (round_left f falls goal w.waiting used paid left new h is))
+      go (Refuses why left) is = sym (before_both w.done (goal ∷ []) (each (repeated f) w.waiting left)) ∙ sym (ap (before_goals w.done) (round_kept f falls goal w.waiting used paid left why h is))
+      go (Stops why tested) is = sym (ap (before_goals w.done) (round_stops f falls goal w.waiting used paid why tested h is))
+
+  pub no_round : used.turns_left ≡ 0 → by_rounds f (with_next goal used w) ≡ Stops TurnLimit used.tested
+  no_round none = ap (before_goals w.done) (round_out f falls goal w.waiting used none)
+
+-- ---- rounds of REPLICATE_TAC
+
+pub begins_counts : (f : GoalValue → UsedValue → RunValue) (n : ℕ) (goal : GoalValue) (used : UsedValue) → before_goals [] (counted f (n ∷ []) (goal ∷ []) used) ≡ replicate f (suc n) goal used
+begins_counts f n goal used = before_none (counted f (n ∷ []) (goal ∷ []) used) ∙ none_after (replicate f (suc n) goal used)
+
+-- more rounds on the goals that one left
+pub counts_again : (f : GoalValue → UsedValue → RunValue) (n : ℕ) (new : List GoalValue) (ns : List ℕ) (w : WorkValue) (used : UsedValue) →
+    before_goals w.done (counted f (copies (length new) n ++ ns) (new ++ w.waiting) used) ≡ then_on (each (replicate f (suc n)) new used) (λ g l. before_goals (w.done ++ g) (counted f ns w.waiting l))
+counts_again f n new ns w used =
+    ap (before_goals w.done) (counted_append f n new ns w.waiting used)
+    ∙ next_after w.done (each (replicate f (suc n)) new used) (counted f ns w.waiting)
+
+pub no_count : (f : GoalValue → UsedValue → RunValue) (n : ℕ) (ns : List ℕ) (w : WorkValue) (goal : GoalValue) (used : UsedValue) → used.turns_left ≡ 0 → by_counts f (n ∷ ns) (with_next goal used w) ≡ Stops TurnLimit used.tested
+no_count f n ns w goal used none =
+    ap (λ a. before_goals w.done (then_on a (λ g l. before_goals g (counted f ns w.waiting l)))) (pays_not used (λ l. then_on (f goal l) (each (replicate f n))) none)
+
+-- one that is paid
 pub next_counted : (f : GoalValue → UsedValue → RunValue) (n : ℕ) (ns : List ℕ) (w : WorkValue) (goal : GoalValue) (used paid : UsedValue) → IsPaid used paid →
     by_counts f (n ∷ ns) (with_next goal used w) ≡ then_on (then_on (f goal paid) (each (replicate f n))) (λ new left. before_goals (w.done ++ new) (counted f ns w.waiting left))
 next_counted f n ns w goal used paid h =

@@ -2,16 +2,16 @@
 -- conclusions of its theorems; a formula counts as an argument, a number nothing. A use of a named expression counts what it stands for alone.
 -- Source: this project.
 use Rattle.std.specs.Prelude.{ℕ, ◌+◌, List, [], ◌∷◌, Option, Some, None}
-use Rattle.std.specs.FinSet as set
 use Rattle.hol_terms.specs.Nameless.{Nameless}
 use Rattle.hol_terms.specs.Size.{term_size}
 use Rattle.hol_kernel.specs.Given.{Given, given_sequent}
+use Rattle.hol_match.specs.Listed.{listed}
 use Rattle.hol_goal.specs.Goal.{terms_size}
 use Rattle.hol_goal.specs.Arguments.{TacArgsValue, Nothing, Term, Pair, Theorem, TermAndTheorem, Theorems}
 use Rattle.hol_combine.specs.ExprValue.{TheoremTacValue, ExprValue, ExprValues, Call, Then, ThenL, OrElse, Try, Repeat, Every, First, Replicate, Changed, DischThen, PopAssum, FirstAssum, SubgoalThen, Defined, no_exprs, more_exprs}
 
 abbrev pub given_size : Given → ℕ
-given_size given = terms_size (set.items (given_sequent given).hyps) + term_size [] (given_sequent given).concl
+given_size given = terms_size (listed (given_sequent given).hyps) + term_size [] (given_sequent given).concl
 
 abbrev pub givens_size : List Given → ℕ
 givens_size [] = 0

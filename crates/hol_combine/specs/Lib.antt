@@ -13,3 +13,5 @@ pub mod Going
 pub mod Work
 pub mod Called
 pub mod Pending
+pub mod Steps
+pub mod Advancing

@@ -1,18 +1,13 @@
 -- What is still to be done around the part of an expression that is run, the innermost first. Only private clauses speak of it.
 -- Source: J. Reynolds, Definitional Interpreters for Higher-Order Programming Languages (ACM 1972): continuations as data.
-use Rattle.std.specs.Prelude.{◌≡◌, ◌≤◌, ℕ, suc, Bool, true, ◌&&◌, IsTrue, List, [], ◌∷◌, ◌++◌, length, reverse, Result, Ok, Err}
-use Rattle.hol_kernel.specs.Items.{Items}
-use Rattle.hol_kernel.specs.Sequent.{no_hyps}
+use Rattle.std.specs.Prelude.{◌≤◌, ℕ, suc, List, [], ◌∷◌, ◌++◌, reverse, Result, Ok, Err}
 use Rattle.hol_goal.specs.Goal.{GoalValue}
 use Rattle.hol_goal.specs.Answer.{UsedValue}
 use Rattle.hol_goal.specs.UsedView.{used_value}
-use Rattle.hol_just.specs.Answering.{suits as suits_args}
-use Rattle.hol_just.specs.Valid.{IsValid}
 use Rattle.hol_just.specs.declared.reason.Move.{Move}
-use Rattle.hol_combine.specs.ExprValue.{CallValue, ExprValue, ExprValues, no_exprs, exprs, or_else_all}
-use Rattle.hol_combine.specs.Runs.{KnownValue, RefusalValue, RunValue, Leaves, Refuses, Stops, TurnLimit, LargeGoal, before_goals, then_on, otherwise, each, unchanged, changed, repeated, replicate, run, run_every, run_each}
+use Rattle.hol_combine.specs.ExprValue.{ExprValue, ExprValues, exprs}
+use Rattle.hol_combine.specs.Runs.{KnownValue, RefusalValue, RunValue, Leaves, Refuses, Stops, before_goals, then_on, otherwise, each, unchanged, changed, repeated, replicate, run, run_every, run_first, run_each}
 use Rattle.hol_combine.specs.More.{run_more, run_list}
-use Rattle.hol_combine.specs.Suits.{all_calls, all_calls_of}
 use Rattle.hol_combine.specs.RunView.{used_by, refusal_value}
 use Rattle.hol_combine.specs.Work.{WorkValue, work_value, finished, again, kept}
 use Rattle.hol_combine.specs.declared.ran.Ran.{Ran}
@@ -63,7 +58,7 @@ resumed known (pending.Then parts more) v = then_on v (λ goals left. through kn
 resumed known (pending.Each parts more work) v = then_on v (λ new left. through known parts.now more.now (finished (work_value work) new [] left))
 resumed known (pending.ThenL parts) v = then_on v (run_list known (exprs parts.now))
 resumed known (pending.Places parts work) v = then_on v (λ new left. in_place known parts.now (finished (work_value work) new [] left))
-resumed known (pending.OrElse goal next more) v = otherwise v (run known (or_else_all next.now more.now) goal)
+resumed known (pending.OrElse goal next more) v = otherwise v (run_first known (exprs (next.now ∷ more.now)) goal)
 resumed known (pending.Try goal) v = otherwise v (unchanged goal)
 resumed known (pending.Changed goal) v = changed goal v
 resumed known (pending.Repeat part goal work) v = after_round (run known part.now) goal (work_value work) v
@@ -77,12 +72,12 @@ around known (p ∷ outer) v = around known outer (resumed known p v)
 -- ---- what a run has come to
 
 -- an expression is to be run on a goal; one that was run left goals, by these moves, or was refused; or goals are gone through, by calls in these
--- expressions
+-- expressions, in so many steps of the loop
 pub data ReachedValue : Type 0 where
   Runs : ExprValue → GoalValue → UsedValue → ReachedValue
   Left : List GoalValue → List Move → UsedValue → ReachedValue
   Refused : RefusalValue → UsedValue → ReachedValue
-  Goes : ExprValues → (WorkValue → RunValue) → WorkValue → ReachedValue
+  Goes : ExprValues → (WorkValue → RunValue) → (WorkValue → ℕ) → WorkValue → ReachedValue
 
 abbrev pub reached_value : Reached → ReachedValue
 reached_value (reached.Part expr goal used) = Runs expr.now goal (used_value used)
@@ -93,7 +88,7 @@ abbrev pub comes_to : KnownValue → ReachedValue → RunValue
 comes_to known (Runs expr goal used) = run known expr goal used
 comes_to known (Left goals moves used) = Leaves goals used
 comes_to known (Refused why used) = Refuses why used
-comes_to known (Goes parts rest w) = rest w
+comes_to known (Goes parts rest steps w) = rest w
 
 -- what a run that has ended has come to; a stop goes through
 abbrev pub reached_by : Result Ran RunError → Result Reached RunError
@@ -108,91 +103,3 @@ abbrev pub HasLeft : ℕ → Reached → Type 0
 HasLeft turns (reached.Part expr goal used) = used.left ≤ turns
 HasLeft turns (reached.Left ran) = ran.left ≤ turns
 HasLeft turns (reached.Refused why used) = used.left ≤ turns
-
--- ---- calls that may still be made
-
-abbrev pub pending_parts : Pending → ExprValues
-pending_parts (pending.Then parts more) = exprs (parts.now ++ more.now)
-pending_parts (pending.Each parts more work) = exprs (parts.now ++ more.now)
-pending_parts (pending.ThenL parts) = exprs parts.now
-pending_parts (pending.Places parts work) = exprs parts.now
-pending_parts (pending.OrElse goal next more) = exprs (next.now ∷ more.now)
-pending_parts (pending.Try goal) = no_exprs
-pending_parts (pending.Changed goal) = no_exprs
-pending_parts (pending.Repeat part goal work) = exprs (part.now ∷ [])
-pending_parts (pending.Replicate part more rounds work) = exprs (part.now ∷ [])
-
-abbrev pub all_pending : (CallValue → Bool) → List Pending → Bool
-all_pending test [] = true
-all_pending test (p ∷ outer) = all_calls_of test (pending_parts p) && all_pending test outer
-
-abbrev pub all_reached : (CallValue → Bool) → ReachedValue → Bool
-all_reached test (Runs expr goal used) = all_calls test expr
-all_reached test (Left goals moves used) = true
-all_reached test (Refused why used) = true
-all_reached test (Goes parts rest w) = all_calls_of test parts
-
--- ---- moves that are valid
-
--- those of goals that are gone through lead from one goal to those that are done, this one, and those that wait
-abbrev pub LeadsBeside : (Items → Bool) → GoalValue → WorkValue → GoalValue → Type 0
-LeadsBeside suits from w goal = IsValid suits no_hyps w.moves (from ∷ []) (w.done ++ goal ∷ w.waiting)
-
--- from the goal on which the whole stands to the one on which the part does
-abbrev pub LeadsIn : (Items → Bool) → GoalValue → Pending → GoalValue → Type 0
-LeadsIn suits from (pending.Then parts more) goal = goal ≡ from
-LeadsIn suits from (pending.Each parts more work) goal = LeadsBeside suits from (work_value work) goal
-LeadsIn suits from (pending.ThenL parts) goal = goal ≡ from
-LeadsIn suits from (pending.Places parts work) goal = LeadsBeside suits from (work_value work) goal
-LeadsIn suits from (pending.OrElse same next more) goal = (goal ≡ from) × (same ≡ from)
-LeadsIn suits from (pending.Try same) goal = (goal ≡ from) × (same ≡ from)
-LeadsIn suits from (pending.Changed same) goal = (goal ≡ from) × (same ≡ from)
-LeadsIn suits from (pending.Repeat part same work) goal = (goal ≡ same) × LeadsBeside suits from (work_value work) goal
-LeadsIn suits from (pending.Replicate part more rounds work) goal = LeadsBeside suits from (work_value work) goal
-
-abbrev pub LeadsTo : (Items → Bool) → GoalValue → List Pending → GoalValue → Type 0
-LeadsTo suits start [] goal = goal ≡ start
-LeadsTo suits start (p ∷ outer) goal = (from : GoalValue) × LeadsIn suits from p goal × LeadsTo suits start outer from
-
-abbrev pub IsLed : (Items → Bool) → GoalValue → List Pending → ReachedValue → Type 0
-IsLed suits start outer (Runs expr goal used) = LeadsTo suits start outer goal
-IsLed suits start outer (Left goals moves used) = (from : GoalValue) × IsValid suits no_hyps moves (from ∷ []) goals × LeadsTo suits start outer from
-IsLed suits start outer (Refused why used) = (from : GoalValue) × LeadsTo suits start outer from
-IsLed suits start outer (Goes parts rest w) = (from : GoalValue) × IsValid suits no_hyps w.moves (from ∷ []) (w.done ++ w.waiting) × LeadsTo suits start outer from
-
--- ---- how a run goes on
-
--- as many goals wait as there are expressions, or numbers of rounds
-abbrev pub FitsPending : Pending → Type 0
-FitsPending (pending.Then parts more) = Unit {0}
-FitsPending (pending.Each parts more work) = Unit {0}
-FitsPending (pending.ThenL parts) = Unit {0}
-FitsPending (pending.Places parts work) = length (work_value work).waiting ≡ length parts.now
-FitsPending (pending.OrElse goal next more) = Unit {0}
-FitsPending (pending.Try goal) = Unit {0}
-FitsPending (pending.Changed goal) = Unit {0}
-FitsPending (pending.Repeat part goal work) = Unit {0}
-FitsPending (pending.Replicate part more rounds work) = length (work_value work).waiting ≡ length rounds.items
-
-abbrev pub AreFitting : List Pending → Type 0
-AreFitting [] = Unit {0}
-AreFitting (p ∷ outer) = FitsPending p × AreFitting outer
-
--- What a run has come to, within what is pending, comes to the whole, by valid moves from the goal at the start, over bases that suit.
-pub record IsGoing (known : KnownValue) (suits : Items → Bool) (start : GoalValue) (whole : RunValue) (outer : List Pending) (here : ReachedValue) : Type 0 where
-  pub answer : around known outer (comes_to known here) ≡ whole
-  pub suiting : (basis : Items) → IsTrue (suits basis) → IsTrue (all_reached (λ call. suits_args call.args basis) here) × IsTrue (all_pending (λ call. suits_args call.args basis) outer)
-  pub led : IsLed suits start outer here
-  pub fits : AreFitting outer
-
--- a run is stopped
-abbrev pub IsStop : RunValue → RunError → Type 0
-IsStop whole (error.Refused why left tested) = ⊥
-IsStop whole (error.TurnLimit tested) = whole ≡ Stops TurnLimit tested.items
-IsStop whole (error.LargeGoal tested) = whole ≡ Stops LargeGoal tested.items
-IsStop whole error.Memory = Unit {0}
-
--- it goes on, or it is stopped
-abbrev pub GoesTo : KnownValue → (Items → Bool) → GoalValue → RunValue → List Pending → Result Reached RunError → Type 0
-GoesTo known suits start whole outer (Ok here) = IsGoing known suits start whole outer (reached_value here)
-GoesTo known suits start whole outer (Err e) = IsStop whole e

@@ -1,11 +1,10 @@
 //! Where the run of an expression begins.
-ghost use Rattle.std.specs.Prelude.{◌≡◌, ◌≤◌, Bool, IfOk, reverse};
-ghost use Rattle.hol_kernel.specs.Items.{Items};
-ghost use Rattle.hol_goal.specs.Goal.{GoalValue};
+ghost use Rattle.std.specs.Prelude.{◌≡◌, ◌≤◌, ◌∷◌, IfOk, reverse};
 ghost use Rattle.hol_goal.specs.UsedView.{used_value};
-ghost use Rattle.hol_combine.specs.ExprValue.{Every, Repeat, Replicate, exprs, or_else_all};
-ghost use Rattle.hol_combine.specs.Runs.{KnownValue, RunValue};
-ghost use Rattle.hol_combine.specs.Pending.{Runs, reached_by, HasLeft, IsGoing, GoesTo};
+ghost use Rattle.hol_combine.specs.ExprValue.{Every, First, Repeat, Replicate, exprs};
+ghost use Rattle.hol_combine.specs.Runs.{KnownValue};
+ghost use Rattle.hol_combine.specs.Pending.{Runs, reached_by, HasLeft};
+ghost use Rattle.hol_combine.specs.Advancing.{GoesFrom};
 
 use crate::calls::{paid_too, run_call};
 use crate::expr::{Expr, ExprNode};
@@ -30,7 +29,7 @@ pub(crate) fn begin<'a, T: Tacs>(
     outer: &mut Vec<Pending<'a>>,
 ) -> Result<Reached<'a>, RunError>
     requires turns { used.left ≤ 100000 }
-    ensures goes { (suits : Items → Bool) (start : GoalValue) (whole : RunValue) → IsGoing (T.Tacs.known_of tacs.now) suits start whole (reverse outer.old.items) (Runs expr.now goal (used_value used)) → GoesTo (T.Tacs.known_of tacs.now) suits start whole (reverse outer.new.items) result }
+    ensures goes { GoesFrom (T.Tacs.known_of tacs.now) (reverse outer.old.items) (Runs expr.now goal (used_value used)) (reverse outer.new.items) result }
     ensures left { IfOk result (HasLeft used.left) }
 {
     match expr.node() {
@@ -99,7 +98,7 @@ pub(crate) fn begin_every<'a>(
     used: Used,
     outer: &mut Vec<Pending<'a>>,
 ) -> Result<Reached<'a>, RunError>
-    ensures goes { (known : KnownValue) (suits : Items → Bool) (start : GoalValue) (whole : RunValue) → IsGoing known suits start whole (reverse outer.old.items) (Runs (Every (exprs parts.now)) goal (used_value used)) → GoesTo known suits start whole (reverse outer.new.items) result }
+    ensures goes { (known : KnownValue) → GoesFrom known (reverse outer.old.items) (Runs (Every (exprs parts.now)) goal (used_value used)) (reverse outer.new.items) result }
     ensures left { IfOk result (HasLeft used.left) }
 {
     match parts {
@@ -115,7 +114,7 @@ pub(crate) fn begin_every<'a>(
     }
 }
 
-/// The first expression, or where it is refused the others, on the goal.
+/// FIRST of the expressions, on the goal.
 pub(crate) fn begin_alternatives<'a>(
     first: &'a Expr,
     more: &'a [Expr],
@@ -123,16 +122,17 @@ pub(crate) fn begin_alternatives<'a>(
     used: Used,
     outer: &mut Vec<Pending<'a>>,
 ) -> Result<Reached<'a>, RunError>
-    ensures goes { (known : KnownValue) (suits : Items → Bool) (start : GoalValue) (whole : RunValue) → IsGoing known suits start whole (reverse outer.old.items) (Runs (or_else_all first.now more.now) goal (used_value used)) → GoesTo known suits start whole (reverse outer.new.items) result }
+    ensures goes { (known : KnownValue) → GoesFrom known (reverse outer.old.items) (Runs (First (exprs (first.now ∷ more.now))) goal (used_value used)) (reverse outer.new.items) result }
     ensures left { IfOk result (HasLeft used.left) }
 {
-    if let [next, rest @ ..] = more {
-        outer.push(Pending::OrElse {
-            goal: goal.copy()?,
-            next,
-            more: rest,
-        })?;
-    }
+    let [next, rest @ ..] = more else {
+        return Ok(Reached::Part(first, goal, used));
+    };
+    outer.push(Pending::OrElse {
+        goal: goal.copy()?,
+        next,
+        more: rest,
+    })?;
     Ok(Reached::Part(first, goal, used))
 }
 
@@ -144,7 +144,7 @@ fn begin_repeat<'a>(
     used: Used,
     outer: &mut Vec<Pending<'a>>,
 ) -> Result<Reached<'a>, RunError>
-    ensures goes { (known : KnownValue) (suits : Items → Bool) (start : GoalValue) (whole : RunValue) → IsGoing known suits start whole (reverse outer.old.items) (Runs (Repeat part.now) goal.now (used_value used)) → GoesTo known suits start whole (reverse outer.new.items) result }
+    ensures goes { (known : KnownValue) → GoesFrom known (reverse outer.old.items) (Runs (Repeat part.now) goal.now (used_value used)) (reverse outer.new.items) result }
     ensures left { IfOk result (HasLeft used.left) }
 {
     let ran = unchanged(alloc, goal, used)?;
@@ -160,7 +160,7 @@ fn begin_replicate<'a>(
     used: Used,
     outer: &mut Vec<Pending<'a>>,
 ) -> Result<Reached<'a>, RunError>
-    ensures goes { (known : KnownValue) (suits : Items → Bool) (start : GoalValue) (whole : RunValue) → IsGoing known suits start whole (reverse outer.old.items) (Runs (Replicate times part.now) goal.now (used_value used)) → GoesTo known suits start whole (reverse outer.new.items) result }
+    ensures goes { (known : KnownValue) → GoesFrom known (reverse outer.old.items) (Runs (Replicate times part.now) goal.now (used_value used)) (reverse outer.new.items) result }
     ensures left { IfOk result (HasLeft used.left) }
 {
     let ran = unchanged(alloc, goal, used)?;

@@ -1,11 +1,11 @@
 //! Goals that are gone through, one after the other: what a run comes to at the next one.
-ghost use Rattle.std.specs.Prelude.{◌≡◌, ◌++◌, ◌∷◌, [], Bool, IfOk, length, reverse};
-ghost use Rattle.hol_kernel.specs.Items.{Items};
-ghost use Rattle.hol_goal.specs.Goal.{GoalValue};
+ghost use Rattle.std.specs.Prelude.{◌≡◌, ◌++◌, ◌∷◌, [], IfOk, length, reverse};
 ghost use Rattle.hol_combine.specs.ExprValue.{exprs};
-ghost use Rattle.hol_combine.specs.Runs.{KnownValue, RunValue, run};
+ghost use Rattle.hol_combine.specs.Runs.{KnownValue, run};
 ghost use Rattle.hol_combine.specs.Work.{work_value};
-ghost use Rattle.hol_combine.specs.Pending.{Goes, through, in_place, by_rounds, by_counts, HasLeft, IsGoing, GoesTo};
+ghost use Rattle.hol_combine.specs.Pending.{Goes, through, in_place, by_rounds, by_counts, HasLeft};
+ghost use Rattle.hol_combine.specs.Steps.{steps_through, steps_by_places, steps_by_rounds, steps_by_counts};
+ghost use Rattle.hol_combine.specs.Advancing.{GoesFrom};
 
 use crate::beginning::begin_every;
 use crate::calls::paid;
@@ -24,7 +24,7 @@ pub(crate) fn next_of_each<'a>(
     work: Work,
     outer: &mut Vec<Pending<'a>>,
 ) -> Result<Reached<'a>, RunError>
-    ensures goes { (known : KnownValue) (suits : Items → Bool) (start : GoalValue) (whole : RunValue) → IsGoing known suits start whole (reverse outer.old.items) (Goes (exprs (parts.now ++ more.now)) (through known parts.now more.now) (work_value work)) → GoesTo known suits start whole (reverse outer.new.items) result }
+    ensures goes { (known : KnownValue) → GoesFrom known (reverse outer.old.items) (Goes (exprs (parts.now ++ more.now)) (through known parts.now more.now) (steps_through known parts.now more.now) (work_value work)) (reverse outer.new.items) result }
     ensures left { IfOk result (HasLeft (work_value work).used.turns_left) }
 {
     let mut work = work;
@@ -32,12 +32,13 @@ pub(crate) fn next_of_each<'a>(
         outer.push(Pending::Each { parts, more, work })?;
         return begin_every(alloc, parts, goal, used, outer);
     }
-    if let [next, rest @ ..] = more {
-        outer.push(Pending::Then {
-            parts: slice::from_ref(next),
-            more: rest,
-        })?;
-    }
+    let [next, rest @ ..] = more else {
+        return Ok(Reached::Left(work.end()));
+    };
+    outer.push(Pending::Then {
+        parts: slice::from_ref(next),
+        more: rest,
+    })?;
     Ok(Reached::Left(work.end()))
 }
 
@@ -49,7 +50,7 @@ pub(crate) fn next_in_place<'a>(
     outer: &mut Vec<Pending<'a>>,
 ) -> Result<Reached<'a>, RunError>
     requires waiting { length (work_value work).waiting ≡ length parts.now }
-    ensures goes { (known : KnownValue) (suits : Items → Bool) (start : GoalValue) (whole : RunValue) → IsGoing known suits start whole (reverse outer.old.items) (Goes (exprs parts.now) (in_place known parts.now) (work_value work)) → GoesTo known suits start whole (reverse outer.new.items) result }
+    ensures goes { (known : KnownValue) → GoesFrom known (reverse outer.old.items) (Goes (exprs parts.now) (in_place known parts.now) (steps_by_places known parts.now) (work_value work)) (reverse outer.new.items) result }
     ensures left { IfOk result (HasLeft (work_value work).used.turns_left) }
 {
     let [part, rest @ ..] = parts else {
@@ -70,7 +71,7 @@ pub(crate) fn next_repeated<'a>(
     work: Work,
     outer: &mut Vec<Pending<'a>>,
 ) -> Result<Reached<'a>, RunError>
-    ensures goes { (known : KnownValue) (suits : Items → Bool) (start : GoalValue) (whole : RunValue) → IsGoing known suits start whole (reverse outer.old.items) (Goes (exprs (part.now ∷ [])) (by_rounds (run known part.now)) (work_value work)) → GoesTo known suits start whole (reverse outer.new.items) result }
+    ensures goes { (known : KnownValue) → GoesFrom known (reverse outer.old.items) (Goes (exprs (part.now ∷ [])) (by_rounds (run known part.now)) (steps_by_rounds known part.now) (work_value work)) (reverse outer.new.items) result }
     ensures left { IfOk result (HasLeft (work_value work).used.turns_left) }
 {
     let mut work = work;
@@ -95,7 +96,7 @@ pub(crate) fn next_replicated<'a>(
     outer: &mut Vec<Pending<'a>>,
 ) -> Result<Reached<'a>, RunError>
     requires waiting { length (work_value work).waiting ≡ length rounds.items }
-    ensures goes { (known : KnownValue) (suits : Items → Bool) (start : GoalValue) (whole : RunValue) → IsGoing known suits start whole (reverse outer.old.items) (Goes (exprs (part.now ∷ [])) (by_counts (run known part.now) (reverse rounds.items)) (work_value work)) → GoesTo known suits start whole (reverse outer.new.items) result }
+    ensures goes { (known : KnownValue) → GoesFrom known (reverse outer.old.items) (Goes (exprs (part.now ∷ [])) (by_counts (run known part.now) (reverse rounds.items)) (steps_by_counts known part.now (reverse rounds.items)) (work_value work)) (reverse outer.new.items) result }
     ensures left { IfOk result (HasLeft (work_value work).used.turns_left) }
 {
     let mut work = work;

@@ -1,14 +1,13 @@
 //! Where a part of a run has ended, and what stands around it goes on.
-ghost use Rattle.std.specs.Prelude.{◌≡◌, ◌∷◌, Bool, List, IfOk, length, reverse};
-ghost use Rattle.hol_kernel.specs.Items.{Items};
-ghost use Rattle.hol_goal.specs.Goal.{GoalValue};
+ghost use Rattle.std.specs.Prelude.{◌≡◌, ◌∷◌, List, IfOk, length, reverse};
 ghost use Rattle.hol_goal.specs.UsedView.{used_value};
-ghost use Rattle.hol_combine.specs.Runs.{KnownValue, RunValue};
+ghost use Rattle.hol_combine.specs.Runs.{KnownValue};
 ghost use Rattle.hol_combine.specs.RunView.{refusal_value, used_by};
 ghost use Rattle.hol_combine.specs.Work.{work_value};
 ghost use Rattle.hol_combine.specs.declared.pending.Pending.{Pending};
 ghost use Rattle.hol_combine.specs.declared.pending.Pending.TheVariants as pending;
-ghost use Rattle.hol_combine.specs.Pending.{Left, Refused, FitsPending, HasLeft, IsGoing, GoesTo};
+ghost use Rattle.hol_combine.specs.Pending.{Left, Refused, HasLeft};
+ghost use Rattle.hol_combine.specs.Advancing.{FitsPending, GoesFrom};
 
 use crate::beginning::{begin_alternatives, ended};
 use crate::expr::Expr;
@@ -28,7 +27,7 @@ pub(crate) fn after_goals<'a>(
     outer: &mut Vec<Pending<'a>>,
 ) -> Result<Reached<'a>, RunError>
     requires fits { FitsPending pending }
-    ensures goes { (known : KnownValue) (suits : Items → Bool) (start : GoalValue) (whole : RunValue) → IsGoing known suits start whole (pending ∷ reverse outer.old.items) (Left ran.step.goals.items ran.step.just (used_by ran)) → GoesTo known suits start whole (reverse outer.new.items) result }
+    ensures goes { (known : KnownValue) → GoesFrom known (pending.entry ∷ reverse outer.old.items) (Left ran.step.goals.items ran.step.just (used_by ran)) (reverse outer.new.items) result }
     ensures left { IfOk result (HasLeft ran.left) }
 {
     match pending {
@@ -50,8 +49,8 @@ pub(crate) fn after_goals<'a>(
             goal: _,
             next: _,
             more: _,
-        }
-        | Pending::Try { goal: _ } => { Ok(Reached::Left(ran)) }
+        } => Ok(Reached::Left(ran)),
+        Pending::Try { goal: _ } => Ok(Reached::Left(ran)),
         Pending::Changed { goal } => end_changed(alloc, goal, ran),
         Pending::Repeat {
             part,
@@ -79,7 +78,7 @@ pub(crate) fn after_refusal<'a>(
     used: Used,
     outer: &mut Vec<Pending<'a>>,
 ) -> Result<Reached<'a>, RunError>
-    ensures goes { (known : KnownValue) (suits : Items → Bool) (start : GoalValue) (whole : RunValue) → IsGoing known suits start whole (pending ∷ reverse outer.old.items) (Refused (refusal_value why) (used_value used)) → GoesTo known suits start whole (reverse outer.new.items) result }
+    ensures goes { (known : KnownValue) → GoesFrom known (pending.entry ∷ reverse outer.old.items) (Refused (refusal_value why) (used_value used)) (reverse outer.new.items) result }
     ensures left { IfOk result (HasLeft used.left) }
 {
     match pending {
@@ -117,7 +116,7 @@ fn begin_places<'a>(
     ran: Ran,
     outer: &mut Vec<Pending<'a>>,
 ) -> Result<Reached<'a>, RunError>
-    ensures goes { (known : KnownValue) (suits : Items → Bool) (start : GoalValue) (whole : RunValue) → IsGoing known suits start whole (pending.ThenL parts ∷ reverse outer.old.items) (Left ran.step.goals.items ran.step.just (used_by ran)) → GoesTo known suits start whole (reverse outer.new.items) result }
+    ensures goes { (known : KnownValue) → GoesFrom known (pending.ThenL parts.entry ∷ reverse outer.old.items) (Left ran.step.goals.items ran.step.just (used_by ran)) (reverse outer.new.items) result }
     ensures left { IfOk result (HasLeft ran.left) }
 {
     if parts.len() != ran.step.goals.len() {
@@ -129,7 +128,7 @@ fn begin_places<'a>(
 
 // CHANGED_TAC: a refusal where just the goal is left.
 fn end_changed<'a>(alloc: Global, goal: Goal, ran: Ran) -> Result<Reached<'a>, RunError>
-    ensures goes { (known : KnownValue) (suits : Items → Bool) (start : GoalValue) (whole : RunValue) (outer : List Pending) → IsGoing known suits start whole (pending.Changed goal ∷ outer) (Left ran.step.goals.items ran.step.just (used_by ran)) → GoesTo known suits start whole outer result }
+    ensures goes { (known : KnownValue) (outer : List Pending) → GoesFrom known (pending.Changed goal ∷ outer) (Left ran.step.goals.items ran.step.just (used_by ran)) outer result }
     ensures left { IfOk result (HasLeft ran.left) }
 {
     if is_just(&goal, &ran.step.goals) {
@@ -150,7 +149,7 @@ fn after_replicated<'a>(
     outer: &mut Vec<Pending<'a>>,
 ) -> Result<Reached<'a>, RunError>
     requires waiting { length (work_value work).waiting ≡ length rounds.items }
-    ensures goes { (known : KnownValue) (suits : Items → Bool) (start : GoalValue) (whole : RunValue) → IsGoing known suits start whole (pending.Replicate part more rounds work ∷ reverse outer.old.items) (Left ran.step.goals.items ran.step.just (used_by ran)) → GoesTo known suits start whole (reverse outer.new.items) result }
+    ensures goes { (known : KnownValue) → GoesFrom known (pending.Replicate part.entry more rounds work ∷ reverse outer.old.items) (Left ran.step.goals.items ran.step.just (used_by ran)) (reverse outer.new.items) result }
     ensures left { IfOk result (HasLeft ran.left) }
 {
     let mut work = work;

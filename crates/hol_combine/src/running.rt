@@ -55,16 +55,25 @@ fn run_expr<T: Tacs>(
     let mut outer = Vec::new(alloc);
     let mut reached = Reached::Part(expr, goal.copy()?, used);
     'steps: loop {
-        reached = match reached {
-            Reached::Part(part, goal, used) => begin(alloc, part, goal, tacs, used, &mut outer)?,
-            Reached::Left(ran) => match outer.pop() {
-                None => return Ok(ran),
-                Some(pending) => after_goals(alloc, pending, ran, &mut outer)?,
-            },
-            Reached::Refused(why, used) => match outer.pop() {
-                None => return Err(RunError::Refused(why, used.left, used.tested)),
-                Some(pending) => after_refusal(alloc, pending, why, used, &mut outer)?,
-            },
-        };
+        match reached {
+            Reached::Part(part, goal, used) => {
+                reached = begin(alloc, part, goal, tacs, used, &mut outer)?;
+                continue 'steps;
+            }
+            Reached::Left(ran) => {
+                let Some(pending) = outer.pop() else {
+                    return Ok(ran);
+                };
+                reached = after_goals(alloc, pending, ran, &mut outer)?;
+                continue 'steps;
+            }
+            Reached::Refused(why, used) => {
+                let Some(pending) = outer.pop() else {
+                    return Err(RunError::Refused(why, used.left, used.tested));
+                };
+                reached = after_refusal(alloc, pending, why, used, &mut outer)?;
+                continue 'steps;
+            }
+        }
     }
 }

@@ -13,6 +13,7 @@ use hol_kernel::{Given, GivenNode};
 const LARGEST_SIZE: u32 = 20_001;
 
 /// The size of the expression with this top node, or 20,001 for more. No part is gone into: each keeps its size.
+#[tactic(auto, using(crate::proofs::SizeSums::then_size, crate::proofs::SizeSums::or_size, crate::proofs::SizeSums::used_size))]
 pub(crate) fn node_size(node: &ExprNode) -> u32
     ensures { result ≡ min (expr_size (expr_of_node node.now)) 20001 }
 {

@@ -2,8 +2,9 @@ use Rattle.std.proofs.Common.{reverse}
 use Rattle.hol_goal.specs.UsedView.{used_value}
 use Rattle.hol_combine.specs.Runs.{run}
 use Rattle.hol_combine.specs.Suits.{suits_expr}
-use Rattle.hol_combine.specs.Pending.{reached_value, HasLeft, IsGoing}
-use Rattle.hol_combine.proofs.Steps.{steps_left}
+use Rattle.hol_combine.specs.Pending.{reached_value, HasLeft}
+use Rattle.hol_combine.specs.Steps.{steps_left}
+use Rattle.hol_combine.specs.Advancing.{IsGoing}
 use Rattle.hol_combine.proofs.running.run_expr.Given as goal
 
 -- what the run has come to, within what is pending, comes to the run of the whole
