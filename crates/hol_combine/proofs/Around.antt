@@ -120,16 +120,16 @@ next_counted f n ns w goal used paid h =
 module _ (known : KnownValue) (t : ExprValue) (goal : GoalValue) where
   -- so many are paid
   pub uses_run : (n : ℕ) (used paid : UsedValue) → used.turns_left ≡ n + paid.turns_left → paid.tested ≡ used.tested → run known (used_through n t) goal used ≡ run known t goal paid
-  uses_run zero used paid turns same = λ i. run known t goal (record { turns_left = turns i; tested = sym same i })
+  uses_run zero used paid turns same = let is : used.turns_left ≡ paid.turns_left = omega (arith, turns) in λ i. run known t goal (record { turns_left = is i; tested = sym same i })
   uses_run (suc n) used paid turns same =
       let left : UsedValue = record { turns_left = n + paid.turns_left; tested = used.tested } in
-      pays_for used left (run known (used_through n t) goal) (record { turns = turns; tested = refl }) ∙ uses_run n left paid refl same
+      pays_for used left (run known (used_through n t) goal) (record { turns = omega (arith, turns); tested = refl }) ∙ uses_run n left paid refl same
 
   -- fewer are left
   pub uses_stop : (n : ℕ) (used : UsedValue) → used.turns_left < n → run known (used_through n t) goal used ≡ Stops TurnLimit used.tested
   uses_stop zero used few = absurd (omega (arith, few))
-  uses_stop (suc n) used few = go used.turns_left few
+  uses_stop (suc n) used few = go used.turns_left (λ turns h. uses_stop n (record { turns_left = turns; tested = used.tested }) h) few
     where
-      go : (turns : ℕ) → turns < suc n → paying_from (run known (used_through n t) goal) used.tested turns ≡ Stops TurnLimit used.tested
-      go zero h = refl
-      go (suc turns) h = uses_stop n (record { turns_left = turns; tested = used.tested }) (omega (arith, h))
+      go : (turns : ℕ) → ((m : ℕ) → m < n → run known (used_through n t) goal (record { turns_left = m; tested = used.tested }) ≡ Stops TurnLimit used.tested) → turns < suc n → paying_from (run known (used_through n t) goal) used.tested turns ≡ Stops TurnLimit used.tested
+      go zero rest h = refl
+      go (suc turns) rest h = rest turns (omega (arith, h))

@@ -1,11 +1,12 @@
 -- What is begun: the first part of each tactical, and the next of goals that are gone through.
-use Rattle.std.specs.Prelude.{◌≡◌, ◌<◌, ◌≤◌, ◌+◌, ℕ, zero, suc, true, List, [], ◌∷◌, ◌++◌, length, reverse, refl}
+use Rattle.std.specs.Prelude.{◌≡◌, ◌<◌, ◌≤◌, ◌+◌, ◌==◌, ℕ, zero, suc, Bool, true, false, List, [], ◌∷◌, ◌++◌, length, reverse, refl}
 use Rattle.std.specs.Borrow.{Bor}
 use Rattle.std.specs.Global.{Vec}
 use Rattle.std.specs.Cmp.Derive.{both_true}
 use Rattle.std.proofs.Common.{ap, sym, ◌∙◌, subst, arith}
-use Rattle.std.proofs.lemmas.Bool.{and_parts}
-use Rattle.std.proofs.lemmas.List.{append-nil, length-reverse}
+use mathlib.Core.Bool.{true≢false}
+use Rattle.std.proofs.lemmas.Bool.{and_parts, eqb-true}
+use Rattle.std.proofs.lemmas.List.{append-nil, length-reverse, reverse-append}
 use Rattle.hol_kernel.specs.Sequent.{no_hyps}
 use Rattle.hol_goal.specs.Goal.{GoalValue}
 use Rattle.hol_goal.specs.Answer.{UsedValue}
@@ -13,22 +14,24 @@ use Rattle.hol_just.specs.Valid.{IsValid}
 use Rattle.hol_just.specs.declared.reason.Move.{Move}
 use Rattle.hol_just.proofs.Validity.{valid_none}
 use Rattle.hol_combine.specs.ExprValue.{ExprValue, ExprValues, Then, ThenL, OrElse, Try, Repeat, Every, First, Replicate, Changed, exprs, then_all, or_else_all, used_through}
-use Rattle.hol_combine.specs.Runs.{KnownValue, RunValue, Leaves, run}
+use Rattle.hol_combine.specs.Runs.{KnownValue, RunValue, Leaves, Stops, TurnLimit, run}
 use Rattle.hol_combine.specs.Suits.{all_calls, all_calls_of}
-use Rattle.hol_combine.specs.RunView.{used_by}
+use Rattle.hol_combine.specs.RunView.{used_by, IsError}
 use Rattle.hol_combine.specs.Going.{IsKept}
 use Rattle.hol_combine.specs.Work.{WorkValue, work_value, with_next, started}
 use Rattle.hol_combine.specs.Pending.{ReachedValue, Runs, Left, Goes, through, in_place, by_rounds, by_counts}
 use Rattle.hol_combine.specs.Steps.{steps_of, steps_through, steps_by_places, steps_by_rounds, steps_by_counts}
+use Rattle.hol_combine.specs.Advancing.{IsStop}
 use Rattle.hol_combine.specs.declared.ran.Ran.{Ran}
+use Rattle.hol_combine.specs.declared.ran.RunError.{RunError}
 use Rattle.hol_combine.specs.declared.work.Work.{Work}
 use Rattle.hol_combine.specs.declared.pending.Pending.{Pending}
 use Rattle.hol_combine.specs.declared.pending.Pending.TheVariants as pending
-use Rattle.hol_combine.proofs.Around.{begins_chain, begins_every, begins_or_else, begins_more, begins_rounds, begins_counts, next_through, next_place, next_round, next_counted, uses_run}
+use Rattle.hol_combine.proofs.Around.{begins_chain, begins_every, begins_or_else, begins_more, begins_rounds, begins_counts, next_through, next_place, next_round, no_round, next_counted, no_count, uses_run, uses_stop}
 use Rattle.hol_combine.proofs.Counting.{chain_steps, more_steps, every_steps, or_else_steps, next_steps, uses_steps, round_steps, count_steps}
 use Rattle.hol_combine.proofs.Lists.{in_then, of_one, one_of, in_both, in_used, in_or_else, every_one}
 use Rattle.hol_combine.proofs.Paying.{IsPaid}
-use Rattle.hol_combine.proofs.Stepping.{Enters, Becomes}
+use Rattle.hol_combine.proofs.Stepping.{Enters, Becomes, paid_stop}
 use Rattle.hol_combine.proofs.Turns.{run_falls}
 
 module _ (known : KnownValue) (goal : GoalValue) (used : UsedValue) where
@@ -131,10 +134,13 @@ module _ (known : KnownValue) (goal : GoalValue) (used : UsedValue) where
     led = λ suits start outer all l. l;
   }
 
+  pub uses_stopped : (n : ℕ) (t : ExprValue) (e : RunError) → used.turns_left ≤ n → IsError (Stops TurnLimit used.tested) e → IsStop (run known (used_through (suc n) t) goal used) e
+  uses_stopped n t e few h = paid_stop (run known (used_through (suc n) t) goal used) used.tested e (uses_stop known t goal (suc n) used (omega (arith, few))) h
+
   -- ---- rounds
 
   -- the goal alone waits
-  alone : WorkValue
+  abbrev alone : WorkValue
   alone = record { done = []; waiting = goal ∷ []; moves = []; used = used }
 
   kept_alone : (r : Ran) (w : WorkValue) → IsKept goal used r → w ≡ started r → w ≡ alone
@@ -207,16 +213,24 @@ module _ (known : KnownValue) (w : WorkValue) (goal : GoalValue) (used : UsedVal
         fits = (let there = ap (λ (v : WorkValue). length v.waiting) was in let here = ap (λ (l : List ℕ). length l) is in let turned = length-reverse rounds.items in omega (arith, there, here, turned, many));
       }))
 
+  pub round_stops : (t : ExprValue) (e : RunError) → used.turns_left ≡ 0 → IsError (Stops TurnLimit used.tested) e → IsStop (by_rounds (run known t) w) e
+  round_stops t e none h = paid_stop (by_rounds (run known t) w) used.tested e (ap (by_rounds (run known t)) was ∙ no_round (run known t) (run_falls known t) (work_value work) goal used none) h
+
+  pub count_stops : (t : ExprValue) (n : ℕ) (ns ms : List ℕ) (e : RunError) → ms ≡ n ∷ ns → used.turns_left ≡ 0 → IsError (Stops TurnLimit used.tested) e → IsStop (by_counts (run known t) ms w) e
+  count_stops t n ns ms e first none h = paid_stop (by_counts (run known t) ms w) used.tested e ((λ i. by_counts (run known t) (first i) (was i)) ∙ no_count (run known t) n ns (work_value work) goal used none) h
+
 -- none waits
-module _ (known : KnownValue) (w : WorkValue) (r : Ran) (empty : w.waiting ≡ []) (goals : r.step.goals.items ≡ w.done) (moves : r.step.just ≡ w.moves) (left : used_by r ≡ w.used) where
-  nothing : WorkValue
+module _ (known : KnownValue) (w w1 : WorkValue) (r : Ran) (was : (w.waiting ≡ []) × (w1 ≡ w)) (goals : r.step.goals.items ≡ w1.done) (moves : r.step.just ≡ w1.moves) (left : used_by r ≡ w1.used) where
+  abbrev nothing : WorkValue
   nothing = record { done = w.done; waiting = []; moves = w.moves; used = w.used }
 
   nothing_waits : w ≡ nothing
-  nothing_waits = λ i. record { done = w.done; waiting = empty i; moves = w.moves; used = w.used }
+  nothing_waits = λ i. record { done = w.done; waiting = was.0 i; moves = w.moves; used = w.used }
 
   ended : Left w.done w.moves w.used ≡ Left r.step.goals.items r.step.just (used_by r)
-  ended = λ i. Left (sym goals i) (sym moves i) (sym left i)
+  ended =
+      ap (λ (v : WorkValue). Left v.done v.moves v.used) (sym was.1)
+      ∙ (λ i. Left (sym goals i) (sym moves i) (sym left i))
 
   pub goes_to_end : (parts : ExprValues) (rest : WorkValue → RunValue) (steps : WorkValue → ℕ) → rest nothing ≡ Leaves (w.done ++ []) w.used → Becomes known (Goes parts rest steps w) (Left r.step.goals.items r.step.just (used_by r))
   goes_to_end parts rest steps is =
@@ -255,3 +269,25 @@ module _ (known : KnownValue) (w : WorkValue) (r : Ran) (empty : w.waiting ≡ [
 
   pub places_end : (parts : Bor (List ExprValue)) → parts.now ≡ [] → Becomes known (Goes (exprs parts.now) (in_place known parts.now) (steps_by_places known parts.now) w) (Left r.step.goals.items r.step.just (used_by r))
   places_end parts is = goes_to_end (exprs parts.now) (in_place known parts.now) (steps_by_places known parts.now) (ap (λ (l : List ExprValue). in_place known l nothing) is)
+
+  pub rounds_end : (t : ExprValue) → Becomes known (Goes (exprs (t ∷ [])) (by_rounds (run known t)) (steps_by_rounds known t) w) (Left r.step.goals.items r.step.just (used_by r))
+  rounds_end t = goes_to_end (exprs (t ∷ [])) (by_rounds (run known t)) (steps_by_rounds known t) refl
+
+  pub counts_end : (t : ExprValue) (ns : List ℕ) → Becomes known (Goes (exprs (t ∷ [])) (by_counts (run known t) ns) (steps_by_counts known t ns) w) (Left r.step.goals.items r.step.just (used_by r))
+  counts_end t ns = goes_to_end (exprs (t ∷ [])) (by_counts (run known t) ns) (steps_by_counts known t ns) refl
+
+-- ---- lists
+
+pub none_in : (ts : List ExprValue) → length ts < 1 → ts ≡ []
+none_in [] h = refl
+none_in (t ∷ ts) h = absurd (omega (arith, h))
+
+pub empty_list : (ts : List ExprValue) (b : Bool) → b ≡ (length ts == 0) → b ≡ true → ts ≡ []
+empty_list ts b is h = none_in ts (let n : length ts ≡ 0 = eqb-true (length ts) 0 (sym is ∙ h) in omega (arith, n))
+
+pub some_list : (ts : List ExprValue) (b : Bool) → b ≡ (length ts == 0) → b ≡ false → 1 ≤ length ts
+some_list [] b is h = absurd (true≢false (sym is ∙ h))
+some_list (t ∷ ts) b is h = omega arith
+
+pub popped : (xs ys : List ℕ) (n : ℕ) → xs ≡ ys ++ n ∷ [] → reverse xs ≡ n ∷ reverse ys
+popped xs ys n e = ap (λ (l : List ℕ). reverse l) e ∙ reverse-append ys (n ∷ [])

@@ -3,6 +3,7 @@ use Rattle.std.specs.Prelude.{◌≡◌, ◌<◌, ◌+◌, ℕ, zero, suc, Bool,
 use Rattle.std.specs.Borrow.{Bor}
 use Rattle.std.specs.Global.{Vec}
 use Rattle.std.proofs.Common.{ap, sym, ◌∙◌, subst, arith, append_assoc}
+use Rattle.std.proofs.lemmas.List.{length-append, length-reverse}
 use Rattle.hol_kernel.specs.Items.{Items}
 use Rattle.hol_kernel.specs.Sequent.{no_hyps}
 use Rattle.hol_goal.specs.Goal.{GoalValue}
@@ -155,6 +156,17 @@ module _ (known : KnownValue) (goals : List GoalValue) (moves : List Move) (used
         calls = λ test h. h;
         led = λ suits start outer l. (l.2.0, at_place suits l.2.0 l.0 (work_value work) goals moves l.2.1 l.1, l.2.2);
       })))
+
+copies_length : (k n : ℕ) (ns : List ℕ) → length (copies k n ++ ns) ≡ k + length ns
+copies_length zero n ns = omega arith
+copies_length (suc k) n ns = omega (arith, copies_length k n ns)
+
+-- as many goals wait as there are numbers
+pub counts_wait : (goals : List GoalValue) (moves : List Move) (used : UsedValue) (n : ℕ) (xs ys : List ℕ) (w0 w : WorkValue) → reverse ys ≡ copies (length goals) n ++ reverse xs → w ≡ again w0 goals moves used → length w0.waiting ≡ length xs → length w.waiting ≡ length ys
+counts_wait goals moves used n xs ys w0 w made is same =
+    let waits : length w.waiting ≡ length goals + length w0.waiting = ap (λ (v : WorkValue). length v.waiting) is ∙ length-append goals w0.waiting in
+    let numbers : length ys ≡ length goals + length (reverse xs) = sym (length-reverse ys) ∙ ap (λ (l : List ℕ). length l) made ∙ copies_length (length goals) n (reverse xs) in
+    omega (arith, waits, numbers, same, length-reverse xs)
 
 -- ---- refusals
 

@@ -122,11 +122,13 @@ module _ (known : KnownValue) where
 
   pub uses_steps : (n : ℕ) (t : ExprValue) (goal : GoalValue) (used paid : UsedValue) → used.turns_left ≡ n + paid.turns_left → paid.tested ≡ used.tested → steps_of known t goal paid + n ≤ steps_of known (used_through n t) goal used
   uses_steps zero t goal used paid turns same =
-      let is : steps_of known t goal used ≡ steps_of known t goal paid = λ i. steps_of known t goal (record { turns_left = turns i; tested = sym same i }) in
+      let turn : used.turns_left ≡ paid.turns_left = omega (arith, turns) in
+      let is : steps_of known t goal used ≡ steps_of known t goal paid = λ i. steps_of known t goal (record { turns_left = turn i; tested = sym same i }) in
       omega (arith, is)
   uses_steps (suc n) t goal used paid turns same =
       let left : UsedValue = record { turns_left = n + paid.turns_left; tested = used.tested } in
-      let pays : steps_paid (steps_of known (used_through n t) goal) used ≡ steps_of known (used_through n t) goal left = λ i. steps_paid_from (steps_of known (used_through n t) goal) used.tested (turns i) in
+      let turn : used.turns_left ≡ suc (n + paid.turns_left) = omega (arith, turns) in
+      let pays : steps_paid (steps_of known (used_through n t) goal) used ≡ steps_of known (used_through n t) goal left = λ i. steps_paid_from (steps_of known (used_through n t) goal) used.tested (turn i) in
       let rest = uses_steps n t goal left paid refl same in
       omega (arith, pays, rest)
 

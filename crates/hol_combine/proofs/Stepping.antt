@@ -12,14 +12,17 @@ use Rattle.hol_just.specs.Answering.{suits as suits_args}
 use Rattle.hol_just.specs.Valid.{IsValid}
 use Rattle.hol_just.specs.declared.reason.Move.{Move}
 use Rattle.hol_just.proofs.Validity.{valid_under}
-use Rattle.hol_combine.specs.ExprValue.{CallValue, ExprValue}
-use Rattle.hol_combine.specs.Runs.{KnownValue, RunValue, Leaves, Refuses, RefusalValue, Stops, StopValue, DoesNotFit, run}
+use Rattle.hol_combine.specs.ExprValue.{CallValue, TheoremTacValue, ExprValue}
+use Rattle.hol_combine.specs.ExprView.{expr_of_handing}
+use Rattle.hol_combine.specs.Runs.{KnownValue, RunValue, Leaves, Refuses, RefusalValue, Stops, StopValue, TurnLimit, DoesNotFit, run}
 use Rattle.hol_combine.specs.Suits.{all_calls_of, suits_expr}
 use Rattle.hol_combine.specs.RunView.{refusal_value, used_by, using, IsError, IsRun, IsValidRun}
-use Rattle.hol_combine.specs.Going.{IsRefusal}
-use Rattle.hol_combine.specs.Pending.{ReachedValue, Runs, Left, Refused, resumed, around, reached_value, reached_by, comes_to}
+use Rattle.hol_combine.specs.Going.{HasAtMost, LeavesAtMost, IsRefusal}
+use Rattle.hol_combine.specs.Pending.{ReachedValue, Runs, Left, Refused, resumed, around, reached_value, reached_by, comes_to, HasLeft}
 use Rattle.hol_combine.specs.Steps.{steps_of, steps_resumed, steps_around, steps_here, steps_left}
 use Rattle.hol_combine.specs.Advancing.{pending_parts, all_pending, all_reached, IsLed, FitsPending, AreFitting, IsGoing, IsStop, GoesTo, GoesFrom}
+use Rattle.hol_combine.specs.declared.expr.Handing.{Handing}
+use Rattle.hol_combine.specs.declared.expr.Handing.TheVariants as handing
 use Rattle.hol_combine.specs.declared.ran.Ran.{Ran}
 use Rattle.hol_combine.specs.declared.ran.RunError.{RunError}
 use Rattle.hol_combine.specs.declared.ran.RunError.TheVariants as error
@@ -50,6 +53,16 @@ stop_around known outer x whole (error.Refused why left tested) is h = absurd h
 stop_around known outer x whole (error.TurnLimit tested) is h = sym is ∙ ap (around known outer) h ∙ around_stops known outer _ tested.items
 stop_around known outer x whole (error.LargeGoal tested) is h = sym is ∙ ap (around known outer) h ∙ around_stops known outer _ tested.items
 stop_around known outer x whole error.Memory is h = tt
+
+stops_not : (tested : List (List ℕ)) (why : RefusalValue) (used : UsedValue) → Stops TurnLimit tested ≡ Refuses why used → ⊥
+stops_not tested why used e = cc
+
+-- no turn is left
+pub paid_stop : (x : RunValue) (tested : List (List ℕ)) (e : RunError) → x ≡ Stops TurnLimit tested → IsError (Stops TurnLimit tested) e → IsStop x e
+paid_stop x tested (error.Refused why left more) is h = absurd (stops_not tested (refusal_value why) (using left more.items) h)
+paid_stop x tested (error.TurnLimit more) is h = is ∙ h
+paid_stop x tested (error.LargeGoal more) is h = is ∙ h
+paid_stop x tested error.Memory is h = tt
 
 -- ---- numbers
 
@@ -146,21 +159,33 @@ module _ (known : KnownValue) (here next : ReachedValue) (p : Pending) (outer af
   pub resumes_from : Resumes known p here next → GoesFrom known outer next after result → GoesFrom known (p ∷ outer) here after result
   resumes_from e go = λ suits start whole g. goes_more known suits start whole (steps_left known outer next) (steps_left known (p ∷ outer) here) after result (resumes_fewer known here next p outer e) (go suits start whole (went_back known here next p outer suits start whole e g))
 
-module _ (known : KnownValue) (here : ReachedValue) (p : Pending) (outer : List Pending) (r : Reached) where
-  pub enters_ok : Enters known here p (reached_value r) → GoesFrom known outer here (p ∷ outer) (Ok r)
-  enters_ok e = λ suits start whole g. (entered known here (reached_value r) p outer suits start whole e g, enters_fewer known here (reached_value r) p outer e)
+-- it goes on to this
+abbrev pub GoesOnTo : KnownValue → List Pending → ReachedValue → List Pending → ReachedValue → Type 0
+GoesOnTo known before here after next = (suits : Items → Bool) (start : GoalValue) (whole : RunValue) → IsGoing known suits start whole before here → IsGoing known suits start whole after next × (steps_left known after next < steps_left known before here)
 
-  pub resumes_ok : Resumes known p here (reached_value r) → GoesFrom known (p ∷ outer) here outer (Ok r)
-  resumes_ok e = λ suits start whole g. (went_back known here (reached_value r) p outer suits start whole e g, resumes_fewer known here (reached_value r) p outer e)
+module _ (known : KnownValue) (here : ReachedValue) (p : Pending) (outer : List Pending) (next : ReachedValue) where
+  pub enters_ok : Enters known here p next → GoesOnTo known outer here (p ∷ outer) next
+  enters_ok e = λ suits start whole g. (entered known here next p outer suits start whole e g, enters_fewer known here next p outer e)
+
+  pub resumes_ok : Resumes known p here next → GoesOnTo known (p ∷ outer) here outer next
+  resumes_ok e = λ suits start whole g. (went_back known here next p outer suits start whole e g, resumes_fewer known here next p outer e)
 
 pub becomes_from : (known : KnownValue) (here next : ReachedValue) (outer after : List Pending) (result : Result Reached RunError) → Becomes known here next → GoesFrom known outer next after result → GoesFrom known outer here after result
 becomes_from known here next outer after result e go = λ suits start whole g. goes_more known suits start whole (steps_left known outer next) (steps_left known outer here) after result (becomes_fewer known here next outer e) (go suits start whole (became known here next outer suits start whole e g))
 
-pub becomes_ok : (known : KnownValue) (here : ReachedValue) (outer : List Pending) (r : Reached) → Becomes known here (reached_value r) → GoesFrom known outer here outer (Ok r)
-becomes_ok known here outer r e = λ suits start whole g. (became known here (reached_value r) outer suits start whole e g, becomes_fewer known here (reached_value r) outer e)
+pub becomes_ok : (known : KnownValue) (here : ReachedValue) (outer : List Pending) (next : ReachedValue) → Becomes known here next → GoesOnTo known outer here outer next
+becomes_ok known here outer next e = λ suits start whole g. (became known here next outer suits start whole e g, becomes_fewer known here next outer e)
 
 pub stops : (known : KnownValue) (here : ReachedValue) (outer after : List Pending) (e : RunError) → IsStop (comes_to known here) e → GoesFrom known outer here after (Err e)
 stops known here outer after e h = λ suits start whole g. stop_around known outer (comes_to known here) whole e g.answer h
+
+-- by a `?`
+pub stops_by : (known : KnownValue) (here : ReachedValue) (outer after : List Pending) (result : Result Reached RunError) (e x : RunError) → result ≡ Err e → e ≡ x → IsStop (comes_to known here) x → GoesFrom known outer here after result
+stops_by known here outer after result e x is same h = subst (λ (r : Result Reached RunError). GoesFrom known outer here after r) (sym is) (stops known here outer after e (subst (IsStop (comes_to known here)) (sym same) h))
+
+-- of an equal expression
+pub as_expr : (known : KnownValue) (outer after : List Pending) (result : Result Reached RunError) (goal : GoalValue) (used : UsedValue) (e expr : ExprValue) → e ≡ expr → GoesFrom known outer (Runs e goal used) after result → GoesFrom known outer (Runs expr goal used) after result
+as_expr known outer after result goal used e expr is go = subst (λ (x : ExprValue). GoesFrom known outer (Runs x goal used) after result) is go
 
 pub memory_goes : (known : KnownValue) (here : ReachedValue) (outer after : List Pending) (e : RunError) → e ≡ error.Memory → GoesFrom known outer here after (Err e)
 memory_goes known here outer after e is = λ suits start whole g. subst (IsStop whole) (sym is) tt
@@ -171,8 +196,8 @@ pushed : (old new : List Pending) (p : Pending) → new ≡ old ++ p ∷ [] → 
 pushed old new p is = ap (λ (l : List Pending). reverse l) is ∙ reverse-append old (p ∷ [])
 
 module _ (known : KnownValue) (here : ReachedValue) (p : Pending) (old new : List Pending) (is : new ≡ old ++ p ∷ []) where
-  pub pushes : (r : Reached) → Enters known here p (reached_value r) → GoesFrom known (reverse old) here (reverse new) (Ok r)
-  pushes r e = subst (λ (o : List Pending). GoesFrom known (reverse old) here o (Ok r)) (sym (pushed old new p is)) (enters_ok known here p (reverse old) r e)
+  pub pushes : (next : ReachedValue) → Enters known here p next → GoesOnTo known (reverse old) here (reverse new) next
+  pushes next e = subst (λ (o : List Pending). GoesOnTo known (reverse old) here o next) (sym (pushed old new p is)) (enters_ok known here p (reverse old) next e)
 
   pub pushes_from : (next : ReachedValue) (after : List Pending) (result : Result Reached RunError) → Enters known here p next → GoesFrom known (reverse new) next after result → GoesFrom known (reverse old) here after result
   pushes_from next after result e go = enters_from known here next p (reverse old) after result e (subst (λ (o : List Pending). GoesFrom known o next after result) (pushed old new p is) go)
@@ -182,7 +207,7 @@ module _ (known : KnownValue) (here : ReachedValue) (p : Pending) (old new : Lis
 module _ (known : KnownValue) (expr : ExprValue) (goal : GoalValue) (used : UsedValue) (outer : List Pending) (some : 0 < steps_of known expr goal used) where
   pub ended_goes : (result : Result Ran RunError) → IsRun (run known expr goal used) result → IfOk result (IsValidRun (suits_expr expr) (goal ∷ [])) → GoesFrom known outer (Runs expr goal used) outer (reached_by result)
   ended_goes (Ok ran) is valid =
-      becomes_ok known (Runs expr goal used) outer (reached.Left ran)
+      becomes_ok known (Runs expr goal used) outer (Left ran.step.goals.items ran.step.just (used_by ran))
       (record {
         answer = sym is;
         steps = some;
@@ -190,7 +215,7 @@ module _ (known : KnownValue) (expr : ExprValue) (goal : GoalValue) (used : Used
         led = λ suits start around all led. (goal, valid_under (suits_expr expr) suits no_hyps ran.step.just (goal ∷ []) ran.step.goals.items all valid, led);
       })
   ended_goes (Err (error.Refused why left tested)) is valid =
-      becomes_ok known (Runs expr goal used) outer (reached.Refused why (record { left = left; tested = tested }))
+      becomes_ok known (Runs expr goal used) outer (Refused (refusal_value why) (using left tested.items))
       (record { answer = sym is; steps = some; calls = λ test h. refl; led = λ suits start around all led. (goal, led) })
   ended_goes (Err (error.TurnLimit tested)) is valid = stops known (Runs expr goal used) outer outer (error.TurnLimit tested) is
   ended_goes (Err (error.LargeGoal tested)) is valid = stops known (Runs expr goal used) outer outer (error.LargeGoal tested) is
@@ -200,7 +225,7 @@ module _ (known : KnownValue) (expr : ExprValue) (goal : GoalValue) (used : Used
 module _ (known : KnownValue) (p : Pending) (goals : List GoalValue) (moves : List Move) (used : UsedValue) (name : List ℕ) (outer : List Pending) where
   pub refusal_goes : (e : RunError) → 0 < steps_resumed known p (Leaves goals used) → resumed known p (Leaves goals used) ≡ Refuses (DoesNotFit name) used → IsRefusal name used e → GoesFrom known (p ∷ outer) (Left goals moves used) outer (reached_by (Err e))
   refusal_goes (error.Refused why left tested) some is r =
-      resumes_ok known (Left goals moves used) p outer (reached.Refused why (record { left = left; tested = tested }))
+      resumes_ok known (Left goals moves used) p outer (Refused (refusal_value why) (using left tested.items))
       (record {
         answer = (λ i. Refuses (r.0 i) (r.1 i)) ∙ sym is;
         steps = some;
@@ -243,3 +268,28 @@ stop_error x (error.Refused why left tested) h = absurd h
 stop_error x (error.TurnLimit tested) h = h
 stop_error x (error.LargeGoal tested) h = h
 stop_error x error.Memory h = tt
+
+stop_at_most : (n : ℕ) (x : RunValue) (e : RunError) → IsStop x e → HasAtMost n e
+stop_at_most n x (error.Refused why left tested) h = absurd h
+stop_at_most n x (error.TurnLimit tested) h = tt
+stop_at_most n x (error.LargeGoal tested) h = tt
+stop_at_most n x error.Memory h = tt
+
+-- by a `?`
+pub stopped : (x : RunValue) (result : Result Ran RunError) (y e : RunError) → result ≡ Err y → y ≡ e → IsStop x e → IsRun x result
+stopped x result y e is same h = subst (IsRun x) (sym is) (subst (IsError x) (sym same) (stop_error x e h))
+
+pub stopped_left : (n : ℕ) (x : RunValue) (result : Result Ran RunError) (y e : RunError) → result ≡ Err y → y ≡ e → IsStop x e → LeavesAtMost n result
+stopped_left n x result y e is same h = subst (LeavesAtMost n) (sym is) (subst (HasAtMost n) (sym same) (stop_at_most n x e h))
+
+-- a theorem is handed over in one step
+pub handing_steps : (known : KnownValue) (how : Handing) (called : TheoremTacValue) (goal : GoalValue) (used : UsedValue) → 0 < steps_of known (expr_of_handing how called) goal used
+handing_steps known handing.DischThen called goal used = omega arith
+handing_steps known handing.PopAssum called goal used = omega arith
+handing_steps known handing.FirstAssum called goal used = omega arith
+handing_steps known (handing.SubgoalThen p) called goal used = omega arith
+
+pub has_left_more : (m n : ℕ) (r : Reached) → m ≤ n → HasLeft m r → HasLeft n r
+has_left_more m n (reached.Part expr goal used) h l = omega (arith, h, l)
+has_left_more m n (reached.Left ran) h l = omega (arith, h, l)
+has_left_more m n (reached.Refused why used) h l = omega (arith, h, l)

@@ -18,7 +18,7 @@ used_again (Err e) self part copied more next is same one h = tt
 
 -- ---- what is no use
 
-IsNoUse : Chain → Type 0
+abbrev IsNoUse : Chain → Type 0
 IsNoUse Steps = Unit {0}
 IsNoUse Alternatives = Unit {0}
 IsNoUse Uses = ⊥

@@ -101,17 +101,17 @@ pub(crate) fn begin_every<'a>(
     ensures goes { (known : KnownValue) → GoesFrom known (reverse outer.old.items) (Runs (Every (exprs parts.now)) goal (used_value used)) (reverse outer.new.items) result }
     ensures left { IfOk result (HasLeft used.left) }
 {
-    match parts {
-        [] => Ok(Reached::Left(unchanged(alloc, &goal, used)?)),
-        [only] => Ok(Reached::Part(only, goal, used)),
-        [first, rest @ ..] => {
-            outer.push(Pending::Then {
-                parts: rest,
-                more: &[],
-            })?;
-            Ok(Reached::Part(first, goal, used))
-        }
+    let [first, rest @ ..] = parts else {
+        return Ok(Reached::Left(unchanged(alloc, &goal, used)?));
+    };
+    if rest.is_empty() {
+        return Ok(Reached::Part(first, goal, used));
     }
+    outer.push(Pending::Then {
+        parts: rest,
+        more: &[],
+    })?;
+    Ok(Reached::Part(first, goal, used))
 }
 
 /// FIRST of the expressions, on the goal.

@@ -10,4 +10,4 @@ returns-in-Theorem c =
 
 pub returns-in-Assumed : goal.returns-in-Assumed
 returns-in-Assumed c =
-    assumed_size c.args.given.now c.in-Assumed.p c.size.result c.size-in-Assumed.result c.plus.result (sym c.node.ensures.value ∙ ap given_of c.in-Assumed.is) c.size.ensures c.size-in-Assumed.ensures c.plus.ensures
+    assumed_size c.args.given.now c.in-Assumed.p c.size.result c.size-in-Assumed.result c.plus.result (sym c.node.ensures.value ∙ ap given_of c.in-Assumed.is) c.size.ensures.size c.size-in-Assumed.ensures.size c.plus.ensures
