@@ -187,6 +187,13 @@ stops_by known here outer after result e x is same h = subst (λ (r : Result Rea
 pub as_expr : (known : KnownValue) (outer after : List Pending) (result : Result Reached RunError) (goal : GoalValue) (used : UsedValue) (e expr : ExprValue) → e ≡ expr → GoesFrom known outer (Runs e goal used) after result → GoesFrom known outer (Runs expr goal used) after result
 as_expr known outer after result goal used e expr is go = subst (λ (x : ExprValue). GoesFrom known outer (Runs x goal used) after result) is go
 
+pub as_expr_ok : (known : KnownValue) (outer after : List Pending) (next : ReachedValue) (goal : GoalValue) (used : UsedValue) (e expr : ExprValue) → e ≡ expr → GoesOnTo known outer (Runs e goal used) after next → GoesOnTo known outer (Runs expr goal used) after next
+as_expr_ok known outer after next goal used e expr is go = subst (λ (x : ExprValue). GoesOnTo known outer (Runs x goal used) after next) is go
+
+-- and of an equal goal
+pub goal_as : (known : KnownValue) (outer after : List Pending) (result : Result Reached RunError) (taken goal : GoalValue) (used : UsedValue) (e expr : ExprValue) → e ≡ expr → GoesFrom known outer (Runs e taken used) after result → taken ≡ goal → GoesFrom known outer (Runs expr goal used) after result
+goal_as known outer after result taken goal used e expr is go same = as_expr known outer after result goal used e expr is (subst (λ (x : GoalValue). GoesFrom known outer (Runs e x used) after result) same go)
+
 pub memory_goes : (known : KnownValue) (here : ReachedValue) (outer after : List Pending) (e : RunError) → e ≡ error.Memory → GoesFrom known outer here after (Err e)
 memory_goes known here outer after e is = λ suits start whole g. subst (IsStop whole) (sym is) tt
 
@@ -220,6 +227,13 @@ module _ (known : KnownValue) (expr : ExprValue) (goal : GoalValue) (used : Used
   ended_goes (Err (error.TurnLimit tested)) is valid = stops known (Runs expr goal used) outer outer (error.TurnLimit tested) is
   ended_goes (Err (error.LargeGoal tested)) is valid = stops known (Runs expr goal used) outer outer (error.LargeGoal tested) is
   ended_goes (Err error.Memory) is valid = stops known (Runs expr goal used) outer outer error.Memory tt
+
+-- of an equal expression, on an equal goal
+pub ended_as : (known : KnownValue) (e expr : ExprValue) (taken goal : GoalValue) (used : UsedValue) (outer : List Pending) (run_of : Result Ran RunError) (result : Result Reached RunError) → e ≡ expr → 0 < steps_of known e taken used → result ≡ reached_by run_of →
+    IsRun (run known e taken used) run_of → IfOk run_of (IsValidRun (suits_expr e) (taken ∷ [])) → taken ≡ goal → GoesFrom known outer (Runs expr goal used) outer result
+ended_as known e expr taken goal used outer run_of result is some by answer valid same =
+    goal_as known outer outer result taken goal used e expr is
+    (subst (λ (r : Result Reached RunError). GoesFrom known outer (Runs e taken used) outer r) (sym by) (ended_goes known e taken used outer some run_of answer valid)) same
 
 -- a tactical is refused, where a part had left goals
 module _ (known : KnownValue) (p : Pending) (goals : List GoalValue) (moves : List Move) (used : UsedValue) (name : List ℕ) (outer : List Pending) where
