@@ -5,11 +5,11 @@ use Rattle.std.proofs.lemmas.List.{append-nil}
 use Rattle.hol_goal.specs.Goal.{GoalValue}
 use Rattle.hol_goal.specs.Answer.{UsedValue}
 use Rattle.hol_combine.specs.ExprValue.{ExprValue, Then, no_exprs, more_exprs, exprs, then_all, or_else_all, used_through}
-use Rattle.hol_combine.specs.Runs.{KnownValue, RunValue, Leaves, Refuses, Stops, TurnLimit, before_goals, then_on, otherwise, each, paying_from, repeated, replicate, run, run_every, run_first, run_each}
+use Rattle.hol_combine.specs.Runs.{KnownValue, RunValue, Leaves, Refuses, Stops, TurnLimit, before_goals, then_on, otherwise, each, paying_from, repeated, replicate, run, run_every, run_first}
 use Rattle.hol_combine.specs.More.{run_more}
 use Rattle.hol_combine.specs.Going.{copies}
 use Rattle.hol_combine.specs.Work.{WorkValue, with_next}
-use Rattle.hol_combine.specs.Pending.{through, in_place, by_rounds, by_counts, counted, all_waiting, after_round}
+use Rattle.hol_combine.specs.Pending.{through, by_rounds, by_counts, counted, all_waiting, after_round}
 use Rattle.hol_combine.proofs.After.{before_both, before_none, then_leaves, then_then, then_same_on, otherwise_same, each_one, none_after}
 use Rattle.hol_combine.proofs.Counted.{counted_append}
 use Rattle.hol_combine.proofs.Falling.{Falls, round_left, round_kept, round_stops, round_out}
@@ -69,10 +69,6 @@ module _ (known : KnownValue) where
       through known parts more (with_next goal used w)
       ≡ then_on (run_every known (exprs parts) goal used) (λ new left. then_on (before_goals (w.done ++ new) (each (run_every known (exprs parts)) w.waiting left)) (run_more known (exprs more)))
   next_through parts more w goal used = next_then w.done (run_every known (exprs parts) goal used) (each (run_every known (exprs parts)) w.waiting) (run_more known (exprs more))
-
-  pub next_place : (t : ExprValue) (ts : List ExprValue) (w : WorkValue) (goal : GoalValue) (used : UsedValue) →
-      in_place known (t ∷ ts) (with_next goal used w) ≡ then_on (run known t goal used) (λ new left. before_goals (w.done ++ new) (run_each known (exprs ts) w.waiting left))
-  next_place t ts w goal used = next_after w.done (run known t goal used) (run_each known (exprs ts) w.waiting)
 
 -- ---- rounds of REPEAT
 

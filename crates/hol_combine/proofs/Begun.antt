@@ -1,5 +1,5 @@
 -- What is begun: the first part of each tactical, and the next of goals that are gone through.
-use Rattle.std.specs.Prelude.{◌≡◌, ◌<◌, ◌≤◌, ◌+◌, ◌==◌, ℕ, zero, suc, Bool, true, false, List, [], ◌∷◌, ◌++◌, length, reverse, refl}
+use Rattle.std.specs.Prelude.{◌≡◌, ◌<◌, ◌≤◌, ◌+◌, ◌==◌, ℕ, suc, Bool, true, false, List, [], ◌∷◌, ◌++◌, length, reverse, refl}
 use Rattle.std.specs.Borrow.{Bor}
 use Rattle.std.specs.Global.{Vec}
 use Rattle.std.specs.Cmp.Derive.{both_true}
@@ -11,23 +11,21 @@ use Rattle.hol_kernel.specs.Sequent.{no_hyps}
 use Rattle.hol_goal.specs.Goal.{GoalValue}
 use Rattle.hol_goal.specs.Answer.{UsedValue}
 use Rattle.hol_just.specs.Valid.{IsValid}
-use Rattle.hol_just.specs.declared.reason.Move.{Move}
 use Rattle.hol_just.proofs.Validity.{valid_none}
-use Rattle.hol_combine.specs.ExprValue.{ExprValue, ExprValues, Then, ThenL, OrElse, Try, Repeat, Every, First, Replicate, Changed, exprs, then_all, or_else_all, used_through}
+use Rattle.hol_combine.specs.ExprValue.{ExprValue, ExprValues, Then, OrElse, Repeat, Every, Replicate, exprs, then_all, or_else_all, used_through}
 use Rattle.hol_combine.specs.Runs.{KnownValue, RunValue, Leaves, Stops, TurnLimit, run}
 use Rattle.hol_combine.specs.Suits.{all_calls, all_calls_of}
 use Rattle.hol_combine.specs.RunView.{used_by, IsError}
 use Rattle.hol_combine.specs.Going.{IsKept}
 use Rattle.hol_combine.specs.Work.{WorkValue, work_value, with_next, started}
-use Rattle.hol_combine.specs.Pending.{ReachedValue, Runs, Left, Goes, through, in_place, by_rounds, by_counts}
-use Rattle.hol_combine.specs.Steps.{steps_of, steps_through, steps_by_places, steps_by_rounds, steps_by_counts}
+use Rattle.hol_combine.specs.Pending.{ReachedValue, Runs, Left, Goes, through, by_rounds, by_counts}
+use Rattle.hol_combine.specs.Steps.{steps_of, steps_through, steps_by_rounds, steps_by_counts}
 use Rattle.hol_combine.specs.Advancing.{IsStop}
 use Rattle.hol_combine.specs.declared.ran.Ran.{Ran}
 use Rattle.hol_combine.specs.declared.ran.RunError.{RunError}
 use Rattle.hol_combine.specs.declared.work.Work.{Work}
-use Rattle.hol_combine.specs.declared.pending.Pending.{Pending}
 use Rattle.hol_combine.specs.declared.pending.Pending.TheVariants as pending
-use Rattle.hol_combine.proofs.Around.{begins_chain, begins_every, begins_or_else, begins_more, begins_rounds, begins_counts, next_through, next_place, next_round, no_round, next_counted, no_count, uses_run, uses_stop}
+use Rattle.hol_combine.proofs.Around.{begins_chain, begins_every, begins_or_else, begins_more, begins_rounds, begins_counts, next_through, next_round, no_round, next_counted, no_count, uses_run, uses_stop}
 use Rattle.hol_combine.proofs.Counting.{chain_steps, more_steps, every_steps, or_else_steps, next_steps, uses_steps, round_steps, count_steps}
 use Rattle.hol_combine.proofs.Lists.{in_then, of_one, one_of, in_both, in_used, in_or_else, every_one}
 use Rattle.hol_combine.proofs.Paying.{IsPaid}
@@ -52,17 +50,6 @@ module _ (known : KnownValue) (goal : GoalValue) (used : UsedValue) where
       (subst (λ (l : List ExprValue). Enters known (Runs (then_all (Then t u) us) goal used) (pending.Then (record { ref_ptr = parts.ref_ptr; now = u ∷ [] }) (record { ref_ptr = more.ref_ptr; now = l })) (Runs t goal used)) (sym rest)
       (chain_begun t u us parts.ref_ptr more.ref_ptr))
 
-  pub then_list_begun : (t : ExprValue) (us : List ExprValue) (parts : Bor (List ExprValue)) → parts.now ≡ us → Enters known (Runs (ThenL t (exprs us)) goal used) (pending.ThenL parts) (Runs t goal used)
-  then_list_begun t us parts is =
-      subst (λ (l : List ExprValue). Enters known (Runs (ThenL t (exprs l)) goal used) (pending.ThenL parts) (Runs t goal used)) is
-      (record {
-        answer = refl;
-        steps = omega arith;
-        calls = λ test h. and_parts (all_calls test t) (all_calls_of test (exprs parts.now)) h;
-        led = λ suits start outer l. (goal, refl, l);
-        fits = tt;
-      })
-
   pub or_else_begun : (t : ExprValue) (us : List ExprValue) (same : GoalValue) (next : Bor ExprValue) (more : Bor (List ExprValue)) → same ≡ goal → more.now ≡ us →
       Enters known (Runs (OrElse t (or_else_all next.now us)) goal used) (pending.OrElse same next more) (Runs t goal used)
   or_else_begun t us same next more copied is =
@@ -75,29 +62,6 @@ module _ (known : KnownValue) (goal : GoalValue) (used : UsedValue) where
         led = λ suits start outer l. (goal, (refl, refl), l);
         fits = tt;
       }))
-
-  pub alternatives_begun : (t : ExprValue) (ts : List ExprValue) (same : GoalValue) (next : Bor ExprValue) (more : Bor (List ExprValue)) → same ≡ goal → ts ≡ next.now ∷ more.now →
-      Enters known (Runs (First (exprs (t ∷ ts))) goal used) (pending.OrElse same next more) (Runs t goal used)
-  alternatives_begun t ts same next more copied is =
-      subst (λ (l : List ExprValue). Enters known (Runs (First (exprs (t ∷ l))) goal used) (pending.OrElse same next more) (Runs t goal used)) (sym is)
-      (subst (λ (g : GoalValue). Enters known (Runs (First (exprs (t ∷ next.now ∷ more.now))) goal used) (pending.OrElse g next more) (Runs t goal used)) (sym copied)
-      (record {
-        answer = refl;
-        steps = omega arith;
-        calls = λ test h. and_parts (all_calls test t) (all_calls_of test (exprs (next.now ∷ more.now))) h;
-        led = λ suits start outer l. (goal, (refl, refl), l);
-        fits = tt;
-      }))
-
-  pub try_begun : (t : ExprValue) (same : GoalValue) → same ≡ goal → Enters known (Runs (Try t) goal used) (pending.Try same) (Runs t goal used)
-  try_begun t same copied =
-      subst (λ (g : GoalValue). Enters known (Runs (Try t) goal used) (pending.Try g) (Runs t goal used)) (sym copied)
-      (record { answer = refl; steps = omega arith; calls = λ test h. (h, refl); led = λ suits start outer l. (goal, (refl, refl), l); fits = tt })
-
-  pub changed_begun : (t : ExprValue) (same : GoalValue) → same ≡ goal → Enters known (Runs (Changed t) goal used) (pending.Changed same) (Runs t goal used)
-  changed_begun t same copied =
-      subst (λ (g : GoalValue). Enters known (Runs (Changed t) goal used) (pending.Changed g) (Runs t goal used)) (sym copied)
-      (record { answer = refl; steps = omega arith; calls = λ test h. (h, refl); led = λ suits start outer l. (goal, (refl, refl), l); fits = tt })
 
   pub every_begun : (t : ExprValue) (ts : List ExprValue) (rest none : Bor (List ExprValue)) → ts ≡ t ∷ rest.now → 1 ≤ length rest.now → none.now ≡ [] → Enters known (Runs (Every (exprs ts)) goal used) (pending.Then rest none) (Runs t goal used)
   every_begun t ts rest none is some empty =
@@ -120,11 +84,6 @@ module _ (known : KnownValue) (goal : GoalValue) (used : UsedValue) where
   every_only t ts is =
       subst (λ (l : List ExprValue). Becomes known (Runs (Every (exprs l)) goal used) (Runs t goal used)) (sym is)
       (record { answer = sym (every_one known t goal used); steps = omega arith; calls = λ test h. one_of test t h; led = λ suits start outer all l. l })
-
-  pub first_only : (t : ExprValue) (ts : List ExprValue) → ts ≡ [] → Becomes known (Runs (First (exprs (t ∷ ts))) goal used) (Runs t goal used)
-  first_only t ts is =
-      subst (λ (l : List ExprValue). Becomes known (Runs (First (exprs (t ∷ l))) goal used) (Runs t goal used)) (sym is)
-      (record { answer = refl; steps = omega arith; calls = λ test h. one_of test t h; led = λ suits start outer all l. l })
 
   pub uses_begun : (n : ℕ) (t : ExprValue) (paid : UsedValue) → used.turns_left ≡ suc n + paid.turns_left → paid.tested ≡ used.tested → Becomes known (Runs (used_through (suc n) t) goal used) (Runs t goal paid)
   uses_begun n t paid turns same = record {
@@ -173,19 +132,6 @@ module _ (known : KnownValue) (w : WorkValue) (goal : GoalValue) (used : UsedVal
         led = λ suits start outer l. l;
         fits = tt;
       })
-
-  pub place_begun : (t : ExprValue) (all rest : Bor (List ExprValue)) → all.now ≡ t ∷ rest.now → length w.waiting ≡ length all.now →
-      Enters known (Goes (exprs all.now) (in_place known all.now) (steps_by_places known all.now) w) (pending.Places rest work) (Runs t goal used)
-  place_begun t all rest is many =
-      subst (λ (l : List ExprValue). Enters known (Goes (exprs l) (in_place known l) (steps_by_places known l) w) (pending.Places rest work) (Runs t goal used)) (sym is)
-      (subst (λ (v : WorkValue). Enters known (Goes (exprs (t ∷ rest.now)) (in_place known (t ∷ rest.now)) (steps_by_places known (t ∷ rest.now)) v) (pending.Places rest work) (Runs t goal used)) (sym was)
-      (record {
-        answer = sym (next_place known t rest.now (work_value work) goal used);
-        steps = omega arith;
-        calls = λ test h. and_parts (all_calls test t) (all_calls_of test (exprs rest.now)) h;
-        led = λ suits start outer l. l;
-        fits = (let there = ap (λ (v : WorkValue). length v.waiting) was in let here = ap (λ (l : List ExprValue). length l) is in omega (arith, there, here, many));
-      }))
 
   pub round_begun : (part : Bor ExprValue) (same : GoalValue) (paid : UsedValue) → same ≡ goal → IsPaid used paid →
       Enters known (Goes (exprs (part.now ∷ [])) (by_rounds (run known part.now)) (steps_by_rounds known part.now) w) (pending.Repeat part same work) (Runs part.now goal paid)
@@ -266,15 +212,6 @@ module _ (known : KnownValue) (w w1 : WorkValue) (r : Ran) (was : (w.waiting ≡
   through_ends parts more is =
       goes_to_end (exprs (parts.now ++ more.now)) (through known parts.now more.now) (steps_through known parts.now more.now)
       (ap (λ (l : List ExprValue). through known parts.now l nothing) is)
-
-  pub places_end : (parts : Bor (List ExprValue)) → parts.now ≡ [] → Becomes known (Goes (exprs parts.now) (in_place known parts.now) (steps_by_places known parts.now) w) (Left r.step.goals.items r.step.just (used_by r))
-  places_end parts is = goes_to_end (exprs parts.now) (in_place known parts.now) (steps_by_places known parts.now) (ap (λ (l : List ExprValue). in_place known l nothing) is)
-
-  pub rounds_end : (t : ExprValue) → Becomes known (Goes (exprs (t ∷ [])) (by_rounds (run known t)) (steps_by_rounds known t) w) (Left r.step.goals.items r.step.just (used_by r))
-  rounds_end t = goes_to_end (exprs (t ∷ [])) (by_rounds (run known t)) (steps_by_rounds known t) refl
-
-  pub counts_end : (t : ExprValue) (ns : List ℕ) → Becomes known (Goes (exprs (t ∷ [])) (by_counts (run known t) ns) (steps_by_counts known t ns) w) (Left r.step.goals.items r.step.just (used_by r))
-  counts_end t ns = goes_to_end (exprs (t ∷ [])) (by_counts (run known t) ns) (steps_by_counts known t ns) refl
 
 -- ---- lists
 

@@ -1,5 +1,5 @@
 -- What goes on where a part has ended, by what was pending.
-use Rattle.std.specs.Prelude.{◌≡◌, ◌<◌, ◌+◌, ℕ, zero, suc, Bool, true, false, cond, codes, List, [], ◌∷◌, ◌++◌, length, reverse, refl}
+use Rattle.std.specs.Prelude.{◌≡◌, ◌+◌, ℕ, zero, suc, Bool, true, cond, codes, List, [], ◌∷◌, ◌++◌, length, reverse, refl}
 use Rattle.std.specs.Borrow.{Bor}
 use Rattle.std.specs.Global.{Vec}
 use Rattle.std.proofs.Common.{ap, sym, ◌∙◌, subst, arith, append_assoc}
@@ -13,20 +13,17 @@ use Rattle.hol_just.specs.Valid.{IsValid}
 use Rattle.hol_just.specs.declared.reason.Move.{Move}
 use Rattle.hol_just.proofs.Validity.{valid_at}
 use Rattle.hol_combine.specs.ExprValue.{ExprValue, First, exprs}
-use Rattle.hol_combine.specs.Runs.{KnownValue, RunValue, Leaves, Refuses, RefusalValue, DoesNotFit, then_on, is_just, run}
-use Rattle.hol_combine.specs.RunView.{used_by, IsValidRun}
-use Rattle.hol_combine.specs.Going.{IsKept, copies}
-use Rattle.hol_combine.specs.Work.{WorkValue, work_value, started, finished, again, kept}
-use Rattle.hol_combine.specs.Pending.{ReachedValue, Runs, Left, Refused, Goes, through, in_place, by_rounds, by_counts, resumed}
-use Rattle.hol_combine.specs.Steps.{steps_through, steps_by_places, steps_by_rounds, steps_by_counts, steps_resumed}
+use Rattle.hol_combine.specs.Runs.{KnownValue, Leaves, Refuses, RefusalValue, DoesNotFit, then_on, is_just, run}
+use Rattle.hol_combine.specs.Going.{copies}
+use Rattle.hol_combine.specs.Work.{WorkValue, work_value, finished, again, kept}
+use Rattle.hol_combine.specs.Pending.{Runs, Left, Refused, Goes, through, in_place, by_rounds, by_counts, resumed}
+use Rattle.hol_combine.specs.Steps.{steps_through, steps_by_places, steps_by_rounds, steps_by_counts}
 use Rattle.hol_combine.specs.Advancing.{LeadsBeside, LeadsTo}
-use Rattle.hol_combine.specs.declared.ran.Ran.{Ran}
 use Rattle.hol_combine.specs.declared.work.Work.{Work}
-use Rattle.hol_combine.specs.declared.pending.Pending.{Pending}
 use Rattle.hol_combine.specs.declared.pending.Pending.TheVariants as pending
 use Rattle.hol_combine.proofs.After.{before_none, each_unchanged}
 use Rattle.hol_combine.proofs.Around.{counts_again}
-use Rattle.hol_combine.proofs.Ends.{kept_goals, kept_valid, list_as_many, list_refused}
+use Rattle.hol_combine.proofs.Ends.{list_as_many, list_refused}
 use Rattle.hol_combine.proofs.Stepping.{Resumes}
 
 -- ---- moves on the goal that was taken, at its place
@@ -90,31 +87,7 @@ module _ (known : KnownValue) (goals : List GoalValue) (moves : List Move) (used
         led = λ suits start outer l. (l.2.0, all_done suits l.2.0 l.0 (work_value work) goals moves l.2.1 l.1, l.2.2);
       })
 
-  -- ---- ORELSE, TRY and CHANGED_TAC
-
-  pub or_else_leaves : (goal : GoalValue) (next : Bor ExprValue) (more : Bor (List ExprValue)) → Resumes known (pending.OrElse goal next more) (Left goals moves used) (Left goals moves used)
-  or_else_leaves goal next more = record {
-    answer = refl;
-    steps = omega arith;
-    calls = λ test h. refl;
-    led = λ suits start outer l. (l.2.0, subst (λ (g : GoalValue). IsValid suits no_hyps moves (g ∷ []) goals) l.2.1.0 l.1, l.2.2);
-  }
-
-  pub try_leaves : (goal : GoalValue) → Resumes known (pending.Try goal) (Left goals moves used) (Left goals moves used)
-  try_leaves goal = record {
-    answer = refl;
-    steps = omega arith;
-    calls = λ test h. refl;
-    led = λ suits start outer l. (l.2.0, subst (λ (g : GoalValue). IsValid suits no_hyps moves (g ∷ []) goals) l.2.1.0 l.1, l.2.2);
-  }
-
-  pub changed_leaves : (goal : GoalValue) → is_just goal goals ≡ false → Resumes known (pending.Changed goal) (Left goals moves used) (Left goals moves used)
-  changed_leaves goal new = record {
-    answer = ap (λ b. cond b (Refuses (DoesNotFit (codes "CHANGED_TAC")) used) (Leaves goals used)) (sym new);
-    steps = omega arith;
-    calls = λ test h. refl;
-    led = λ suits start outer l. (l.2.0, subst (λ (g : GoalValue). IsValid suits no_hyps moves (g ∷ []) goals) l.2.1.0 l.1, l.2.2);
-  }
+  -- ---- CHANGED_TAC
 
   pub changed_refuses : (goal : GoalValue) → is_just goal goals ≡ true → resumed known (pending.Changed goal) (Leaves goals used) ≡ Refuses (DoesNotFit (codes "CHANGED_TAC")) used
   changed_refuses goal same = ap (λ b. cond b (Refuses (DoesNotFit (codes "CHANGED_TAC")) used) (Leaves goals used)) same
@@ -170,18 +143,6 @@ counts_wait goals moves used n xs ys w0 w made is same =
 
 -- ---- refusals
 
--- what catches no refusal
-abbrev pub LetsThrough : Pending → Type 0
-LetsThrough (pending.Then parts more) = Unit {0}
-LetsThrough (pending.Each parts more work) = Unit {0}
-LetsThrough (pending.ThenL parts) = Unit {0}
-LetsThrough (pending.Places parts work) = Unit {0}
-LetsThrough (pending.OrElse goal next more) = ⊥
-LetsThrough (pending.Try goal) = ⊥
-LetsThrough (pending.Changed goal) = Unit {0}
-LetsThrough (pending.Repeat part goal work) = ⊥
-LetsThrough (pending.Replicate part more rounds work) = Unit {0}
-
 module _ (known : KnownValue) (why : RefusalValue) (used : UsedValue) where
   pub or_else_continued : (goal : GoalValue) (next : Bor ExprValue) (more : Bor (List ExprValue)) → Resumes known (pending.OrElse goal next more) (Refused why used) (Runs (First (exprs (next.now ∷ more.now))) goal used)
   or_else_continued goal next more = record {
@@ -189,14 +150,6 @@ module _ (known : KnownValue) (why : RefusalValue) (used : UsedValue) where
     steps = omega arith;
     calls = λ test h. h;
     led = λ suits start outer l. subst (LeadsTo suits start outer) (sym l.1.1.1) l.1.2;
-  }
-
-  pub try_unchanged : (goal : GoalValue) (r : Ran) → IsKept goal used r → Resumes known (pending.Try goal) (Refused why used) (Left r.step.goals.items r.step.just (used_by r))
-  try_unchanged goal r k = record {
-    answer = sym (kept_goals goal used r k);
-    steps = omega arith;
-    calls = λ test h. refl;
-    led = λ suits start outer l. (l.1.0, subst (λ (g : GoalValue). IsValidRun suits (g ∷ []) r) l.1.1.1 (kept_valid suits goal used r k), l.1.2);
   }
 
   pub round_kept : (part : Bor ExprValue) (goal : GoalValue) (work : Work) (w : WorkValue) → w ≡ kept (work_value work) goal used →
@@ -214,14 +167,3 @@ module _ (known : KnownValue) (why : RefusalValue) (used : UsedValue) where
       stays suits from taken same beside =
           subst (λ (gs : List GoalValue). IsValid suits no_hyps (work_value work).moves (from ∷ []) gs) (sym (append_assoc (work_value work).done (goal ∷ []) (work_value work).waiting))
           (subst (λ (g : GoalValue). LeadsBeside suits from (work_value work) g) same beside)
-
-  pub refused_through : (p : Pending) → LetsThrough p → Resumes known p (Refused why used) (Refused why used)
-  refused_through (pending.Then parts more) h = record { answer = refl; steps = omega arith; calls = λ test k. refl; led = λ suits start outer l. (l.1.0, l.1.2) }
-  refused_through (pending.Each parts more work) h = record { answer = refl; steps = omega arith; calls = λ test k. refl; led = λ suits start outer l. (l.1.0, l.1.2) }
-  refused_through (pending.ThenL parts) h = record { answer = refl; steps = omega arith; calls = λ test k. refl; led = λ suits start outer l. (l.1.0, l.1.2) }
-  refused_through (pending.Places parts work) h = record { answer = refl; steps = omega arith; calls = λ test k. refl; led = λ suits start outer l. (l.1.0, l.1.2) }
-  refused_through (pending.OrElse goal next more) h = absurd h
-  refused_through (pending.Try goal) h = absurd h
-  refused_through (pending.Changed goal) h = record { answer = refl; steps = omega arith; calls = λ test k. refl; led = λ suits start outer l. (l.1.0, l.1.2) }
-  refused_through (pending.Repeat part goal work) h = absurd h
-  refused_through (pending.Replicate part more rounds work) h = record { answer = refl; steps = omega arith; calls = λ test k. refl; led = λ suits start outer l. (l.1.0, l.1.2) }

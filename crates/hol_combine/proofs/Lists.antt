@@ -95,15 +95,6 @@ dropped_all [] (suc i) h = refl
 dropped_all (x ∷ ts) zero h = absurd (omega (arith, h))
 dropped_all (x ∷ ts) (suc i) h = dropped_all ts i (omega (arith, h))
 
-pub no_goals : (goals : List GoalValue) → length goals ≡ 0 → goals ≡ []
-no_goals [] h = refl
-no_goals (g ∷ goals) h = absurd (omega (arith, h))
-
 pub split : (ts : List ExprValue) (t : ExprValue) → 1 ≤ length ts → t ≡ get_or ts 0 t → ts ≡ t ∷ take (length ts - 1) (drop 1 ts)
 split [] t h e = absurd (omega (arith, h))
 split (x ∷ ts) t h e = λ i. sym e i ∷ sym (take_rest (x ∷ ts) 1) i
-
-pub only_one : (ts : List ExprValue) (t : ExprValue) → 1 ≤ length ts → length ts < 2 → t ≡ get_or ts 0 t → ts ≡ t ∷ []
-only_one [] t h k e = absurd (omega (arith, h))
-only_one (x ∷ []) t h k e = λ i. sym e i ∷ []
-only_one (x ∷ y ∷ ts) t h k e = absurd (omega (arith, k))

@@ -14,7 +14,7 @@ use Rattle.hol_subst.specs.AlphaOrder.{nameless_cmp}
 use Rattle.hol_subst.specs.Hypotheses.{Hyps, hyp_of, hyps_of, only_hyp}
 use Rattle.hol_subst.proofs.HypothesisLists.{hyps_total, hyps_same}
 use Rattle.hol_subst.proofs.SortedSets.{sorted_none, sorted_one, sorted_merged, set_merged}
-use Rattle.hol_kernel.specs.Given.{Given, proved, assumed, given_sequent}
+use Rattle.hol_kernel.specs.Given.{Given, proved, assumed}
 use Rattle.hol_kernel.specs.Theorem.{Theorem}
 use Rattle.hol_kernel.proofs.Members.{from_list_items}
 use Rattle.hol_kernel.proofs.Ordered.{sorted_is}

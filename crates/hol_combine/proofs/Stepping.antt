@@ -9,7 +9,6 @@ use Rattle.hol_kernel.specs.Sequent.{no_hyps}
 use Rattle.hol_goal.specs.Goal.{GoalValue}
 use Rattle.hol_goal.specs.Answer.{UsedValue}
 use Rattle.hol_just.specs.Answering.{suits as suits_args}
-use Rattle.hol_just.specs.Valid.{IsValid}
 use Rattle.hol_just.specs.declared.reason.Move.{Move}
 use Rattle.hol_just.proofs.Validity.{valid_under}
 use Rattle.hol_combine.specs.ExprValue.{CallValue, TheoremTacValue, ExprValue}
@@ -20,7 +19,7 @@ use Rattle.hol_combine.specs.RunView.{refusal_value, used_by, using, IsError, Is
 use Rattle.hol_combine.specs.Going.{HasAtMost, LeavesAtMost, IsRefusal}
 use Rattle.hol_combine.specs.Pending.{ReachedValue, Runs, Left, Refused, resumed, around, reached_value, reached_by, comes_to, HasLeft}
 use Rattle.hol_combine.specs.Steps.{steps_of, steps_resumed, steps_around, steps_here, steps_left}
-use Rattle.hol_combine.specs.Advancing.{pending_parts, all_pending, all_reached, IsLed, FitsPending, AreFitting, IsGoing, IsStop, GoesTo, GoesFrom}
+use Rattle.hol_combine.specs.Advancing.{pending_parts, all_pending, all_reached, IsLed, FitsPending, IsGoing, IsStop, GoesTo, GoesFrom}
 use Rattle.hol_combine.specs.declared.expr.Handing.{Handing}
 use Rattle.hol_combine.specs.declared.expr.Handing.TheVariants as handing
 use Rattle.hol_combine.specs.declared.ran.Ran.{Ran}
@@ -257,25 +256,6 @@ module _ (known : KnownValue) (suits : Items → Bool) (start : GoalValue) (whol
       GoesTo known suits start whole (steps_left known (reverse old) here) after result
   pops here old new p after result is go =
       subst (λ (o : List Pending). IsGoing known suits start whole o here → GoesTo known suits start whole (steps_left known o here) after result) (sym (pushed new old p is)) (go suits start whole)
-
-  pub fits_popped : (here : ReachedValue) (old new : List Pending) (p : Pending) → old ≡ new ++ p ∷ [] → IsGoing known suits start whole (reverse old) here → FitsPending p
-  fits_popped here old new p is g = (subst AreFitting (pushed new old p is) g.fits).0
-
-  pub leaves_all : (goals : List GoalValue) (moves : List Move) (used : UsedValue) (outer : List Pending) → outer ≡ [] → IsGoing known suits start whole (reverse outer) (Left goals moves used) → (whole ≡ Leaves goals used) × IsValid suits no_hyps moves (start ∷ []) goals
-  leaves_all goals moves used outer none g =
-      let h : IsGoing known suits start whole [] (Left goals moves used) = subst (λ (o : List Pending). IsGoing known suits start whole (reverse o) (Left goals moves used)) none g in
-      (sym h.answer, subst (λ (from : GoalValue). IsValid suits no_hyps moves (from ∷ []) goals) h.led.2 h.led.1)
-
-  pub refuses_all : (why : RefusalValue) (used : UsedValue) (outer : List Pending) → outer ≡ [] → IsGoing known suits start whole (reverse outer) (Refused why used) → whole ≡ Refuses why used
-  refuses_all why used outer none g =
-      let h : IsGoing known suits start whole [] (Refused why used) = subst (λ (o : List Pending). IsGoing known suits start whole (reverse o) (Refused why used)) none g in
-      sym h.answer
-
--- where it begins
-pub begins_whole : (known : KnownValue) (expr : ExprValue) (goal start : GoalValue) (used : UsedValue) (outer : List Pending) → outer ≡ [] → goal ≡ start → IsGoing known (suits_expr expr) start (run known expr start used) (reverse outer) (Runs expr goal used)
-begins_whole known expr goal start used outer none same =
-    subst (λ (o : List Pending). IsGoing known (suits_expr expr) start (run known expr start used) (reverse o) (Runs expr goal used)) (sym none)
-    (record { answer = ap (λ g. run known expr g used) same; suiting = λ basis s. (s, refl); led = same; fits = tt })
 
 pub stop_error : (x : RunValue) (e : RunError) → IsStop x e → IsError x e
 stop_error x (error.Refused why left tested) h = absurd h

@@ -1,6 +1,6 @@
 -- What is still to be done around the part of an expression that is run, the innermost first. Only private clauses speak of it.
 -- Source: J. Reynolds, Definitional Interpreters for Higher-Order Programming Languages (ACM 1972): continuations as data.
-use Rattle.std.specs.Prelude.{◌≤◌, ℕ, suc, List, [], ◌∷◌, ◌++◌, reverse, Result, Ok, Err}
+use Rattle.std.specs.Prelude.{◌≤◌, ℕ, suc, List, [], ◌∷◌, reverse, Result, Ok, Err}
 use Rattle.hol_goal.specs.Goal.{GoalValue}
 use Rattle.hol_goal.specs.Answer.{UsedValue}
 use Rattle.hol_goal.specs.UsedView.{used_value}

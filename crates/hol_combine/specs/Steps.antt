@@ -1,6 +1,6 @@
 -- How many steps of the loop a run takes at most, by cases as `run` is: each beginning, and each return to what is pending, is a step. Of chains that
 -- are one node it counts more. Only private clauses speak of it.
--- Source: this project; J. McCarthy, A Basis for a Mathematical Theory of Computation (1963): recursion on what is left to do.
+-- Source: this project.
 use Rattle.std.specs.Prelude.{ℕ, zero, suc, ◌+◌, List, [], ◌∷◌, ◌++◌, length, reverse}
 use Rattle.hol_goal.specs.Goal.{GoalValue}
 use Rattle.hol_goal.specs.Answer.{UsedValue}

@@ -1,4 +1,4 @@
-use Rattle.std.proofs.Common.{◌≡◌, ◌-◌, ◌==◌, ◌∷◌, length, drop, take, reverse, refl, sym, ◌∙◌, ap, arith, rules}
+use Rattle.std.proofs.Common.{◌≡◌, ◌-◌, ◌==◌, ◌∷◌, length, drop, take, reverse, refl, ◌∙◌, ap, arith, rules}
 use Rattle.hol_goal.specs.UsedView.{used_value}
 use Rattle.hol_combine.specs.ExprValue.{Every, exprs}
 use Rattle.hol_combine.specs.Pending.{Runs}

@@ -1,5 +1,5 @@
-use Rattle.std.proofs.Common.{◌≡◌, ◌<◌, ◌≤◌, ◌∙◌, ◌++◌, sym, ap, subst, rules, Err}
-use Rattle.std.specs.Prelude.{string_bytes, List, ℕ}
+use Rattle.std.proofs.Common.{◌≡◌, ◌<◌, ◌≤◌, ◌∙◌, sym, subst, rules, Err}
+use Rattle.std.specs.Prelude.{string_bytes, ℕ}
 use Rattle.hol_goal.specs.ArgumentsView.{args_value}
 use Rattle.hol_goal.specs.UsedView.{used_value}
 use Rattle.hol_combine.specs.Called.{IsAnsweredBy}

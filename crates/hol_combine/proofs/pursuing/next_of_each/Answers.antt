@@ -1,8 +1,8 @@
-use Rattle.std.proofs.Common.{◌≡◌, ◌-◌, ◌++◌, ◌∷◌, length, drop, take, reverse, ◌∙◌, ap, arith}
+use Rattle.std.proofs.Common.{◌≡◌, ◌-◌, ◌++◌, ◌∷◌, length, drop, take, reverse, arith}
 use Rattle.hol_goal.specs.UsedView.{used_value}
 use Rattle.hol_combine.specs.ExprValue.{Every, exprs}
 use Rattle.hol_combine.specs.RunView.{used_by}
-use Rattle.hol_combine.specs.Work.{WorkValue, work_value}
+use Rattle.hol_combine.specs.Work.{work_value}
 use Rattle.hol_combine.specs.Pending.{Runs, Left, Goes, through}
 use Rattle.hol_combine.specs.Steps.{steps_through}
 use Rattle.hol_combine.proofs.Begun.{each_begun, more_begun, through_ends, none_in}

@@ -1,4 +1,4 @@
-use Rattle.std.proofs.Common.{◌≡◌, ◌∷◌, length, codes, reverse, sym, subst, arith, Result, Err}
+use Rattle.std.proofs.Common.{◌≡◌, ◌∷◌, length, codes, reverse, sym, subst, arith, Result}
 use Rattle.hol_combine.specs.ExprValue.{exprs}
 use Rattle.hol_combine.specs.RunView.{used_by}
 use Rattle.hol_combine.specs.Work.{work_value}

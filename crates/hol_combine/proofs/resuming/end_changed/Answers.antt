@@ -1,4 +1,4 @@
-use Rattle.std.proofs.Common.{◌≡◌, ◌∷◌, true, codes, sym, subst, arith, rules, Result, Err}
+use Rattle.std.proofs.Common.{◌≡◌, ◌∷◌, true, codes, sym, subst, arith, rules, Result}
 use Rattle.hol_combine.specs.Runs.{is_just}
 use Rattle.hol_combine.specs.RunView.{used_by}
 use Rattle.hol_combine.specs.Pending.{Left}

@@ -7,7 +7,7 @@ use Rattle.hol_combine.specs.Suits.{suits_expr}
 use Rattle.hol_combine.specs.RunView.{refusal_value, used_by}
 use Rattle.hol_combine.specs.Pending.{Runs, Left, Refused, reached_value, HasLeft}
 use Rattle.hol_combine.specs.Steps.{steps_left}
-use Rattle.hol_combine.specs.Advancing.{IsGoing, GoesTo}
+use Rattle.hol_combine.specs.Advancing.{IsGoing}
 use Rattle.hol_combine.specs.declared.pending.Reached.{Reached}
 use Rattle.hol_combine.proofs.Stepping.{pops, stopped, stopped_left, has_left_more}
 use Rattle.hol_combine.proofs.running.run_expr.Goals as goal

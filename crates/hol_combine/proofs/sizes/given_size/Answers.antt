@@ -1,6 +1,5 @@
-use Rattle.std.proofs.Common.{sym, ◌∙◌, ap, [], ◌≡◌}
-use Rattle.hol_terms.specs.Nameless.{nameless}
-use Rattle.hol_kernel.specs.Given.{proved, assumed, given_of}
+use Rattle.std.proofs.Common.{sym, ◌∙◌, ap}
+use Rattle.hol_kernel.specs.Given.{given_of}
 use Rattle.hol_combine.proofs.SizeSums.{theorem_size, assumed_size}
 use Rattle.hol_combine.proofs.sizes.given_size.Goals as goal
 

@@ -1,4 +1,4 @@
-use Rattle.std.proofs.Common.{◌≡◌, ◌+◌, sym, ◌∙◌, ap, arith, rules}
+use Rattle.std.proofs.Common.{◌≡◌, ◌+◌, sym, ◌∙◌, ap, rules}
 use Rattle.hol_combine.specs.ExprView.{expr_of_node}
 use Rattle.hol_combine.proofs.Uses.{used_again, no_use}
 use Rattle.hol_combine.proofs.expr.Expr.defined.Goals as goal
