@@ -1,6 +1,6 @@
 // Refusals of commands in words: where the error stands in the command's text, and what to do about it.
 import { ELSEWHERE, FITS, FIXED, FORWARD, HANDING, OF_COMMANDS, OF_TACTICALS, QUOTED, TACS } from './tables.js';
-import { hasTactical, isMadeName, near, quotation, token, tokensBefore, wordRanges } from './notation.js';
+import { hasTactical, isMadeName, near, quotation, token, tokensBefore, withoutQuotations, wordRanges } from './notation.js';
 import { explain as explainSyntax, missingEnd } from './syntax.js';
 
 export const NUMBERS = {
@@ -93,7 +93,7 @@ function unknownTac(text, name, start) {
 
 // The tactical that hands a theorem to the function at a place, or null.
 function handingAt(text, start) {
-  const before = tokensBefore(text, start).filter((one) => one !== '(').pop();
+  const before = tokensBefore(withoutQuotations(text), start).filter((one) => one !== '(').pop();
   return HANDING.includes(before) ? before : null;
 }
 

@@ -164,7 +164,7 @@ def _unknown_tac(text: str, name: str, start: int) -> str:
 
 def _handing(text: str, start: int) -> Optional[str]:
     """The tactical that hands a theorem to the function at a place, or None."""
-    before = [token for token in notation.tokens_before(text, start) if token != "("]
+    before = [token for token in notation.tokens_before(notation.without_quotations(text), start) if token != "("]
     return before[-1] if before and before[-1] in notation.HANDING else None
 
 

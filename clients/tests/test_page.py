@@ -395,7 +395,7 @@ class Words(InBrowser):
         "g A `!(x) y. p`\ne REFL_TAC\nqed", "e (GEN_TAC", "new_type A 77", "new_definition A `c = p /\\ q`", "g A `f !x. p`", "g A `x`;",
         "e SPEC", "g toString `constructor`", "e toString", "e valueOf THEN constructor", "qed qed", "*) g A `p`",
         "e FIRST_ASSUM REWRITE_TAC", "new_basic_type_definition A B C D E F", "e REFL_TAC THEN REFL_TAC", "e CHANGED_TAC ALL_TAC",
-        "import A", "b x", "r x", "deftac", "deftac A", "deftac A A", "deftac (A)", "deftac A = TRY A", "deftac qed", "e DISCH_THEN (A)", "e A `x`",
+        "import A", "b x", "r x", "deftac", "deftac A", "deftac A A", "deftac (A)", "deftac A = TRY A", "deftac qed", "e DISCH_THEN (A)", "e A `x`", "e SUBGOAL_THEN `p` A",
         "e A THEN A THENL []", "e (A) ORELSE A [x]", "e ALL_TAC\ndeftac A ALL_TAC",
     ]
     PIECES = ["(*", "*)", ";;", "∀", "∃!", "∃", "¬", "→", "`", " ", "\n", "a", "=", "\\", "😀", "\ufeff", "g A `p`", "/", "\\/"]

@@ -47,7 +47,7 @@ class OfNamedFunctions(unittest.TestCase):
         self.assertNotIn("the expression", said("g A `p`", 13, ""))
 
     def test_it_takes_no_arguments_and_no_theorem(self):
-        for text in ("e CL TRUTH", "e CL `x`", "e CL []", "e CONJ_TAC THEN CL TRUTH", "e DISCH_THEN CL", "e DISCH_THEN (CL)", "e CL (TRUTH)"):
+        for text in ("e CL TRUTH", "e CL `x`", "e CL []", "e CONJ_TAC THEN CL TRUTH", "e DISCH_THEN CL", "e DISCH_THEN (CL)", "e CL (TRUTH)", "e SUBGOAL_THEN `p` CL"):
             self.assertEqual(self.marked(text, 6, "CL")[1:], ("CL", "no function on goals CL takes arguments: what deftac names takes none"))
         for text in ("e CL", "e CL THEN CL", "e TRY (CL THENL [])", "e (CL) ORELSE CL"):
             self.assertEqual(said(text, 6, "CL"), "there is no function on goals CL")
