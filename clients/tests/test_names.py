@@ -11,7 +11,7 @@ from holls.lsp import completion, features, hovering, lookup
 from holls.lsp.navigation import Navigation
 from holls.lsp.workspace import Workspace
 from tests.fake_server import Documents
-from tests.helpers import ROOT
+from tests.helpers import CLIENTS, ROOT
 
 A = "new_constant c `:A->bool`;;\ng ONCE `x = x /\\ y = y`;;\ne CONJ_TAC;;\ne REFL_TAC;; e REFL_TAC;;\nqed;;\ng GONE `x = x`;; oops;;\ndeftac HALVES CONJ_TAC;;\n"
 B = "import A;;\nnew_definition D_DEF `d x = c x`;;\nnew_basic_type_definition ty abs rep ABS_REP REP_ABS ONCE;;\n"
@@ -223,6 +223,15 @@ class Manual(unittest.TestCase):
         self.assertEqual(set(manual.TACTICALS), set(notation.TACTICALS))
         self.assertEqual((set(manual.RULES), set(manual.COMMANDS)), (set(notation.FORWARD), set(notation.COMMANDS)))
         self.assertEqual(set(manual.TACTICALS) | set(manual.RULES), set(protocol.RESERVED))
+
+    def test_the_editors_colour_its_commands_and_tacticals(self):
+        vim = (CLIENTS / "neovim" / "syntax" / "hol.vim").read_text(encoding="utf-8")
+        code = json.loads((CLIENTS / "vscode" / "syntaxes" / "hol.tmLanguage.json").read_text(encoding="utf-8"))["patterns"]
+        for group, name, own in (("holCommand", "keyword.control.hol", notation.COMMANDS), ("holTactical", "keyword.operator.hol", notation.TACTICALS)):
+            words = re.search(r"^syntax keyword %s (.*)$" % group, vim, re.M).group(1).split()
+            self.assertEqual(set(words), set(own))
+            matched = next(one["match"] for one in code if one.get("name") == name)
+            self.assertEqual(set(re.search(r"\(([a-zA-Z_|]+)\)", matched).group(1).split("|")), set(own))
 
     def test_the_preludes_statements_are_those_of_the_page(self):
         page = (ROOT / "docs" / "NOTATION.md").read_text(encoding="utf-8")
