@@ -22,7 +22,7 @@ export function made(theory) {
     if (report?.kind !== 'made' || word === 'import') return;
     for (const entry of report.entries) {
       const parts = SHOWN.exec(entry);
-      const [kind, name, shown] = parts?.[4] ? ['tac', parts[5], text.replace(NAMED, '')] : parts?.slice(1) ?? [];
+      const [kind, name, shown] = parts?.[4] ? ['tac', parts[5], text.replace(NAMED, '').replace(/\s+/g, ' ')] : parts?.slice(1) ?? [];
       if (kind) found.push({ kind: KINDS[kind], name, shown, origin: theory.name, theory, number });
     }
   });
