@@ -199,7 +199,8 @@ class Slot:
         self.read, after = before.reads(text), before.copy()
         self.is_run = self.read is not None and self.read != old.read
         if self.is_run and text.startswith("e ") and before.goals:
-            take_time(text[2:].strip(), before.goals[0])
+            name = text[2:].strip()
+            take_time(before.functions.get(name, name), before.goals[0])
         self.reply = after.run(text, earlier)
         self.after = old.after if old.before is not None and vars(old.after) == vars(after) else after
 

@@ -1,4 +1,4 @@
-"""What stands at a command, with types: constants, type constructors and theorems, by the texts that make them.
+"""What stands at a command, with types: constants, type constructors and theorems, and named functions on goals, by the texts that make them.
 
 A statement is read from the text of its `g` or `new_` command and not from what the program shows, which has no types. What can't be read, or
 was refused, is left out.
@@ -21,10 +21,11 @@ _LOGICAL = frozenset(name for name in reading.PRELUDE if name not in ("ONE_ONE",
 
 
 class Scope:
-    """The constants and the theorems that stand, the nearest last."""
+    """The constants, the theorems and the names of functions on goals that stand, the nearest last."""
 
     def __init__(self) -> None:
         self.signature = Signature()
+        self.functions: List[str] = []
         self.theorems: Dict[str, Term] = {}
         self.definitions: Dict[str, str] = {"ONE_ONE": "ONE_ONE", "ONTO": "ONTO"}
         for name, text in manual.PRELUDE.items():
@@ -57,6 +58,8 @@ class Scope:
             self.definitions[given[0]] = constant[1]
         elif word == "new_constant":
             self.signature.constants[given[0]] = reading.type_text(quoted.strip().lstrip(":"), self.signature)
+        elif word == "deftac":
+            self.functions.append(given[0])
         elif word == "new_type":
             self.signature.constructors[given[0]] = int(given[1])
         elif word == "new_basic_type_definition":
