@@ -77,12 +77,11 @@ class Finder:
         return self._at_once(()) or (self._by_named(items, list(theorems)) if theorems else self._by_any(items))
 
     def _at_once(self, theorems: Sequence[str]) -> Optional[List[str]]:
-        """A step that needs no search: by rewriting, or where none so short does it a use of a named function on goals."""
+        """A step that needs no search: by rewriting, or by a named function on goals where that is shorter."""
         found = self._quick(theorems)
-        if found and trying.length(found)[0] <= len("e " + trying.SHORT):
-            return found
-        use = self.functions.closing(self.asker, len(self.goals.goals), named.forms(self.is_growing), self._part(_CLOSING))
-        return min([one for one in (found, ["e " + use] if use else None) if one], key=trying.length, default=None)
+        below = sum(map(len, found)) - len("e ") if found else None
+        use = self.functions.closing(self.asker, self.goals, named.forms(self.is_growing), below, self._part(_CLOSING))
+        return ["e " + use] if use else found
 
     def _by_named(self, items: List[Item], names: List[str]) -> Optional[List[str]]:
         return self._quick(names) or self._search(items, names, self.until)

@@ -4,7 +4,7 @@ from __future__ import annotations
 
 import re
 import time
-from typing import Iterator, List, NamedTuple, Optional, Sequence, Tuple
+from typing import FrozenSet, Iterator, List, Mapping, NamedTuple, Optional, Sequence, Tuple
 
 from holls import protocol
 from holls.protocol import Goal, Goals, Refusal
@@ -18,19 +18,29 @@ _USE_SECONDS = 0.5
 """So long a use may run that is tried."""
 _MOST_LOST = 2
 """So many functions may have no answer in time; then none is tried any more, since each costs a server."""
+_WORD = re.compile(r"[A-Za-z_][A-Za-z0-9_']*")
 _PIECE = re.compile(r"`[^`]*`|[\[\]()]|(?<![A-Za-z0-9_'])(?:THEN|THENL|ORELSE)(?![A-Za-z0-9_'])")
 
 
 class Functions:
-    """Those that may stand at a goal, the shortest name first. One that doesn't stand, or has no answer in time, isn't tried again."""
+    """Those that may stand at a goal, the shortest name first, with the variables that they name.
 
-    def __init__(self, names: Sequence[str]) -> None:
-        self.names = sorted(dict.fromkeys(reversed(names)), key=len)
+    One that doesn't stand, or has no answer in time, isn't tried again.
+    """
+
+    def __init__(self, functions: Mapping[str, FrozenSet[str]]) -> None:
+        names = sorted(reversed(list(functions)), key=len)
+        self.names = {name: functions[name] for name in names}
         self._lost = 0
+
+    def at(self, goal: Goal) -> List[str]:
+        """The functions that may be meant for a goal: it has the variables that they name."""
+        words = frozenset(_WORD.findall(" ".join((goal.conclusion,) + goal.assumptions)))
+        return [name for name, variables in self.names.items() if variables <= words]
 
     def after(self, asker: Asker, name: str, form: str = "%s") -> Optional[Goals]:
         """The goals after a step that uses a function, which stands then; None where it is refused or isn't tried."""
-        if name not in self.names:
+        if name not in self.names or self._lost >= _MOST_LOST:
             return None
         report = asker.attempt("e " + form % name, time.monotonic() + _USE_SECONDS)
         if isinstance(report, Goals):
@@ -38,19 +48,24 @@ class Functions:
         self._lost += report is None
         is_unknown = isinstance(report, Refusal) and (report.number, report.argument) == (protocol.UNKNOWN_TAC, name)
         if report is None or is_unknown:
-            self.names = [other for other in self.names if other != name and self._lost < _MOST_LOST]
+            del self.names[name]
         return None
 
-    def closing(self, asker: Asker, open_goals: int, forms: Sequence[str], until: float) -> Optional[str]:
-        """A step that uses a function and closes the first goal, in the first of some forms that does; it is taken back."""
+    def closing(self, asker: Asker, goals: Goals, forms: Sequence[str], below: Optional[int], until: float) -> Optional[str]:
+        """A step that uses a function and closes the first goal, in the first of some forms that does; it is taken back.
+
+        It counts less than so many characters, if any are given.
+        """
         mark = asker.count
         for form in forms:
-            for name in self.names:
+            for name in self.at(goals.goals[0]):
                 if time.monotonic() > until:
                     return None
+                if below is not None and len(form % "") + _weight(name) >= below:
+                    continue
                 found = self.after(asker, name, form)
                 asker.back(mark)
-                if found is not None and len(found.goals) == open_goals - 1:
+                if found is not None and len(found.goals) == len(goals.goals) - 1:
                     return form % name
         return None
 
@@ -158,7 +173,7 @@ class Uses:
         """The functions that do what some of the calls do, and the calls that stay behind each; those that save most first."""
         mark, whole = self.asker.count, trying.cost(call.step)
         found: List[Tuple[int, str, List[_Call]]] = []
-        for name in self.functions.names:
+        for name in self.functions.at(call.goal):
             if time.monotonic() > self.until or len("e ") + _weight(name) >= whole:
                 break
             after = self.functions.after(self.asker, name)
