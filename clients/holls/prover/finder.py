@@ -24,7 +24,9 @@ _WITHOUT = 0.35
 _SHORTER_SECONDS = 0.25
 """So long shorter steps are searched than those of a truth table."""
 _TRYING_SECONDS = 1.5
-"""So long, at least, steps that were found are made fewer, and so long at most uses of named functions are put into them."""
+"""So long, at least, steps that were found are made fewer, and so long at most named functions are put into them."""
+_USING_SECONDS = 0.5
+"""So long, at least, named functions are put into steps."""
 _CLOSING = 0.1
 """The part of the time in which named functions are tried before a search."""
 
@@ -208,7 +210,9 @@ class Finder:
         """Shorter steps that do the same by named functions on goals."""
         if not self.functions.names:
             return []
-        used = named.Uses(self.asker, self.functions, self.goals, time.monotonic() + _TRYING_SECONDS).shortened(step)
+        now = time.monotonic()
+        until = min(now + _TRYING_SECONDS, max(self.until, now + _USING_SECONDS))
+        used = named.Uses(self.asker, self.functions, self.goals, until).shortened(step)
         return [] if used is None else self._variants(used)
 
     def _variants(self, step: Step) -> List[Step]:
