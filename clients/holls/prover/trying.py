@@ -16,19 +16,22 @@ _INTRODUCTION = re.compile(r"(X_GEN_TAC `[^`]*`|STRIP_TAC|DISCH_TAC|GEN_TAC)\Z")
 _SHORTER = (
     "GEN_TAC", "STRIP_TAC", "REPEAT GEN_TAC", "REPEAT STRIP_TAC", "REPEAT DISCH_TAC", "REPEAT GEN_TAC THEN DISCH_TAC",
     "REPEAT GEN_TAC THEN STRIP_TAC", "REPEAT GEN_TAC THEN REPEAT DISCH_TAC")
-_STRIPS = "REPEAT STRIP_TAC THEN "
+SHORT = "ASM_REWRITE_TAC []"
+"""Steps that are no longer aren't made fewer."""
+STRIPS = "REPEAT STRIP_TAC THEN "
+"""What a step that may close a goal begins with."""
 
 
 def closers(theorems: Sequence[str], is_growing: bool) -> List[str]:
     """Short steps that may close a goal, by rewriting with theorems; by assumptions only where these don't go on for ever."""
     if is_growing:
-        return [_STRIPS + "FIRST_ASSUM ACCEPT_TAC"]
+        return [STRIPS + "FIRST_ASSUM ACCEPT_TAC"]
     if not theorems:
-        return ["ASM_REWRITE_TAC []", _STRIPS + "ASM_REWRITE_TAC []", _STRIPS + "FIRST_ASSUM ACCEPT_TAC"]
+        return [SHORT, STRIPS + SHORT, STRIPS + "FIRST_ASSUM ACCEPT_TAC"]
     named = "[%s]" % "; ".join(theorems)
     alone = ["MATCH_MP_TAC %s THEN ASM_REWRITE_TAC []" % theorems[0]] if len(theorems) == 1 else []
     reduced = "REWRITE_TAC %s THEN BETA_TAC THEN REWRITE_TAC [ETA_AX]" % named
-    return ["REWRITE_TAC " + named, _STRIPS + "ASM_REWRITE_TAC " + named, reduced, _STRIPS + reduced] + alone
+    return ["REWRITE_TAC " + named, STRIPS + "ASM_REWRITE_TAC " + named, reduced, STRIPS + reduced] + alone
 
 
 def grows(term: Term) -> bool:
@@ -72,9 +75,9 @@ class Trial:
     def run(self, step: Step, open_goals: int) -> Optional[Step]:
         """Runs steps on the first goal. Answers those that were run in the end, or None where one is refused."""
         mark = self.asker.count
-        if _cost(step) > len("ASM_REWRITE_TAC []") and time.monotonic() < self.until:
+        if cost(step) > len(SHORT) and time.monotonic() < self.until:
             for text in self.closers:
-                if len(text) >= _cost(step):
+                if len(text) >= cost(step):
                     continue
                 found = goals_after(self.asker, text)
                 if found is not None and len(found.goals) == open_goals - 1:
@@ -155,7 +158,8 @@ def _are_alike(one: Goals, other: Goals) -> bool:
     return (first.conclusion, set(first.assumptions), set(first.free)) == (second.conclusion, set(second.assumptions), set(second.free))
 
 
-def _cost(step: Step) -> int:
+def cost(step: Step) -> int:
+    """How long the commands of steps are, in characters."""
     return sum(len(text) for text in commands(step))
 
 
