@@ -2,7 +2,9 @@
 ghost use Rattle.std.specs.Prelude.{◌≤◌};
 
 use crate::steps_tests::{is_done_from, read, setup};
-use hol_exec::{CommandNode, LocalCommand, Meter, Parsed, Reads, Setup, State, entry_text, parse};
+use hol_exec::{
+    Command, CommandNode, LocalCommand, Meter, Parsed, Reads, Setup, State, entry_text, parse,
+};
 use hol_goal::{Goal, Names, TacArgs, TacCode};
 use hol_registry::{Entry, Registry, RegistryError};
 use hol_tac::{conj_tac, refl_tac};
@@ -64,19 +66,38 @@ fn is_done(
     is_done_beside(alloc, meter, command, &old, state)
 }
 
+fn is_command_done(
+    alloc: Global,
+    meter: &mut Meter,
+    command: &Command,
+    state: &mut State,
+) -> Result<bool, AllocError> {
+    match command.node() {
+        CommandNode::Local(command) => is_done(alloc, meter, command, state),
+        CommandNode::Direct(_) => Ok(false),
+    }
+}
+
+fn is_parsed_done(
+    alloc: Global,
+    meter: &mut Meter,
+    parsed: &Parsed,
+    state: &mut State,
+) -> Result<bool, AllocError> {
+    match parsed {
+        Parsed::Read(command) => is_command_done(alloc, meter, command, state),
+        Parsed::Unread(_) => Ok(false),
+    }
+}
+
 fn is_step_done(
     alloc: Global,
     meter: &mut Meter,
     step: &str,
     state: &mut State,
 ) -> Result<bool, AllocError> {
-    let Parsed::Read(command) = parse(alloc, step)? else {
-        return Ok(false);
-    };
-    let CommandNode::Local(local) = command.node() else {
-        return Ok(false);
-    };
-    is_done(alloc, meter, local, state)
+    let parsed = parse(alloc, step)?;
+    is_parsed_done(alloc, meter, &parsed, state)
 }
 
 // Whether the constant and this theorem are all that stands.
