@@ -114,14 +114,14 @@ export class Editor {
     this.current = piece;
   }
 
-  // Where a place is on the screen.
+  // Where a place is on the screen: where the character behind it is, of which there always is one.
   rectangle(place) {
     let left = place;
     for (const block of this.under.children) {
       const walker = document.createTreeWalker(block, NodeFilter.SHOW_TEXT, (node) => (
         node.parentElement.closest('i') ? NodeFilter.FILTER_REJECT : NodeFilter.FILTER_ACCEPT));
       for (let node = walker.nextNode(); node; node = walker.nextNode()) {
-        if (left <= node.length) return rangeAt(node, left).getBoundingClientRect();
+        if (left < node.length) return rangeAt(node, left).getBoundingClientRect();
         left -= node.length;
       }
     }

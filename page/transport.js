@@ -1,4 +1,4 @@
-// What answers request lines: a program behind a WebSocket of `holls page`. Another one, as a worker with the program in it, has to have
+// What answers request lines: a program behind a WebSocket of `holls page`, of which a message has one or more lines. Another one, as a worker with the program in it, has to have
 // the same interface: open(ended) answers { send(line), close() }; send answers a promise of the reply line, and replies come in the order
 // of the lines; close ends the program at once; ended(reason) is called once if it ends by itself.
 
@@ -18,7 +18,7 @@ export function open(ended) {
     ended(reason);
   };
   socket.onopen = flush;
-  socket.onmessage = ({ data }) => waiting.shift()?.(data);
+  socket.onmessage = ({ data }) => data.split('\n').forEach((line) => waiting.shift()?.(line));
   socket.onclose = ({ reason }) => end(reason || "the local server `holls page` doesn't answer");
   return {
     send(line) {

@@ -29,6 +29,9 @@ PORT = 8765
 PROGRAMS = 32
 """So many programs run at once at most."""
 
+TOGETHER = 65536
+"""Lines that go in one message have hardly more bytes."""
+
 _KINDS = {
     ".html": "text/html; charset=utf-8", ".css": "text/css; charset=utf-8", ".js": "text/javascript; charset=utf-8",
     ".svg": "image/svg+xml", ".hol": "text/plain; charset=utf-8",
@@ -143,16 +146,23 @@ def serve(socket: WebSocket, program: List[str]) -> None:
 
 
 def _tell(events: "queue.Queue[Union[server.Line, server.Ended]]", socket: WebSocket) -> None:
-    """Sends what a program writes, and tells how it ended."""
+    """Sends what a program writes, and tells how it ended. Lines that are there together go in one message, which the page takes in before it draws."""
     while True:
-        event = events.get()
+        event, lines, size = events.get(), [], 0
+        while isinstance(event, server.Line):
+            lines.append(event.data)
+            size += len(event.data)
+            if events.empty() or size > TOGETHER:
+                break
+            event = events.get()
+        try:
+            if lines:
+                socket.send(b"".join(lines)[:-1])
+        except (OSError, ValueError):
+            return  # The page is gone, and the program ends.
         if isinstance(event, server.Ended):
             socket.close("hol_serve " + event.reason)
             return
-        try:
-            socket.send(event.data[:-1])
-        except (OSError, ValueError):
-            return  # The page is gone, and the program ends.
 
 
 def add_words(words: argparse.ArgumentParser) -> None:

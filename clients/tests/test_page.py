@@ -87,7 +87,7 @@ class Server(Served):
         socket = self.socket()
         socket.send(b'{"op":"new_theory","name":"A","at":0}\n{"op":"insert","theory":"A","at":0,"text":"g N `x = x`"}')
         socket.send(b'{"op":"report","theory":"A","at":0}')
-        replies = [json.loads(socket.receive()) for _ in range(3)]
+        replies = [json.loads(line) for line in lines_of(socket, 3)]
         self.assertEqual([reply["ok"] for reply in replies], [True] * 3)
         self.assertEqual(replies[2]["goals"][0]["goal"], "x = x")
         other = self.socket()  # Another program, which knows nothing of this one's theories.
@@ -105,8 +105,7 @@ class Server(Served):
         socket.send(b'{"op":"new_theory","name":"A","at":0}\n{"op":"insert","theory":"A","at":0,"text":"g N `loop`"}')
         socket.send(b'{"op":"insert","theory":"A","at":1,"text":"e HANG_TAC"}')
         socket.send(b"\n".join([b'{"op":"report","theory":"A","at":0}'] * 20000))
-        for _ in range(2):
-            socket.receive()
+        lines_of(socket, 2)
         while "HANG_TAC" not in log.read_text():
             time.sleep(0.05)
         self.assertEqual(self.programs(), 1)
@@ -125,7 +124,7 @@ class Server(Served):
         socket = self.socket()
         socket.send(b'{"op":"new_theory","name":"A","at":0}\n{"op":"insert","theory":"A","at":0,"text":"g N `big`"}')
         socket.send(b'{"op":"insert","theory":"A","at":1,"text":"e DIE_TAC"}')
-        self.assertEqual([json.loads(line) for line in socket.messages()], [{"ok": True}] * 2)
+        self.assertEqual([json.loads(line) for message in socket.messages() for line in message.split(b"\n")], [{"ok": True}] * 2)
         self.assertEqual(json.loads(self.asked(self.socket()))["error"], protocol.UNKNOWN_THEORY)
 
     def asked(self, socket):
@@ -506,6 +505,14 @@ class Program(InBrowser):
         self.assertTrue(all(one > 0 for one in took))
 
 
+def lines_of(socket, count):
+    """So many lines from a socket, of which a message has one or more."""
+    found = []
+    while len(found) < count:
+        found += socket.receive().split(b"\n")
+    return found
+
+
 THROUGH = """#!%(python)s
 import os, socket, sys
 sys.path.insert(0, "%(clients)s")
@@ -526,8 +533,11 @@ lines = lines if lines[-1] else lines[:-1]
 if lines:
     page.send(b"\\n".join(lines) + b"\\n")
 try:
-    for _ in lines:
-        sys.stdout.buffer.write(page.receive() + b"\\n")
+    written = 0
+    while written < len(lines):
+        message = page.receive() + b"\\n"
+        written += message.count(b"\\n")
+        sys.stdout.buffer.write(message)
 except Closed:
     pass
 """

@@ -1,9 +1,9 @@
 //! A proof by functions on goals: where a command is refused its memory the state reads as before, and the second time it comes to what it would have.
 ghost use Rattle.std.specs.Prelude.{◌≤◌};
 
-use crate::steps_tests::{is_done_from, setup};
+use crate::steps_tests::{is_done_from, read, setup};
 use hol_exec::{
-    CommandKeys, CommandNode, LocalCommand, Meter, Parsed, Reads, Setup, State, entry_text, parse,
+    Command, CommandNode, LocalCommand, Meter, Parsed, Reads, Setup, State, entry_text, parse,
 };
 use hol_goal::{Goal, Names, TacArgs, TacCode};
 use hol_registry::{Entry, Registry, RegistryError};
@@ -32,19 +32,62 @@ fn is_done_at_last(
     is_done_from(alloc, meter, command, old, state)
 }
 
-// The same, and whether a checkpoint of the state still is what it was.
+// Whether the command reads just this of the state.
+fn is_read(
+    alloc: Global,
+    command: &LocalCommand,
+    old: &Reads,
+    state: &State,
+) -> Result<bool, AllocError> {
+    let reads = read(alloc, command, state)?;
+    Ok(reads.same(old))
+}
+
+// Whether the command is done from this at last, and a checkpoint of the state still is what it was.
+fn is_done_beside(
+    alloc: Global,
+    meter: &mut Meter,
+    command: &LocalCommand,
+    old: &Reads,
+    state: &mut State,
+) -> Result<bool, AllocError> {
+    let checkpoint = state.checkpoint(alloc)?;
+    let done = is_done_at_last(alloc, meter, command, old, state)?;
+    Ok(done && is_read(alloc, command, old, &checkpoint)?)
+}
+
 fn is_done(
     alloc: Global,
     meter: &mut Meter,
     command: &LocalCommand,
     state: &mut State,
 ) -> Result<bool, AllocError> {
-    let keys = CommandKeys::of(alloc, command)?;
-    let old = Reads::of(alloc, command, &keys, state)?;
-    let checkpoint = state.checkpoint(alloc)?;
-    let done = is_done_at_last(alloc, meter, command, &old, state)?;
-    let kept = Reads::of(alloc, command, &keys, &checkpoint)?;
-    Ok(done && kept.same(&old))
+    let old = read(alloc, command, state)?;
+    is_done_beside(alloc, meter, command, &old, state)
+}
+
+fn is_command_done(
+    alloc: Global,
+    meter: &mut Meter,
+    command: &Command,
+    state: &mut State,
+) -> Result<bool, AllocError> {
+    match command.node() {
+        CommandNode::Local(command) => is_done(alloc, meter, command, state),
+        CommandNode::Direct(_) => Ok(false),
+    }
+}
+
+fn is_parsed_done(
+    alloc: Global,
+    meter: &mut Meter,
+    parsed: &Parsed,
+    state: &mut State,
+) -> Result<bool, AllocError> {
+    match parsed {
+        Parsed::Read(command) => is_command_done(alloc, meter, command, state),
+        Parsed::Unread(_) => Ok(false),
+    }
 }
 
 fn is_step_done(
@@ -53,13 +96,8 @@ fn is_step_done(
     step: &str,
     state: &mut State,
 ) -> Result<bool, AllocError> {
-    let Parsed::Read(command) = parse(alloc, step)? else {
-        return Ok(false);
-    };
-    let CommandNode::Local(local) = command.node() else {
-        return Ok(false);
-    };
-    is_done(alloc, meter, local, state)
+    let parsed = parse(alloc, step)?;
+    is_parsed_done(alloc, meter, &parsed, state)
 }
 
 // Whether the constant and this theorem are all that stands.

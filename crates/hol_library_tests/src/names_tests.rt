@@ -39,17 +39,37 @@ fn has_below(alloc: Global, names: &Names, limit: u32) -> Result<bool, AllocErro
     Ok(true)
 }
 
-// Whether a copy keeps its names while more are added to the other, and the other way around.
+// Whether the names of numbers below these limits stand, of either.
+fn have_below(
+    alloc: Global,
+    names: &Names,
+    limit: u32,
+    copy: &Names,
+    limit_of_copy: u32,
+) -> Result<bool, AllocError> {
+    Ok(has_below(alloc, copy, limit_of_copy)? && has_below(alloc, names, limit)?)
+}
+
+// Whether the names of numbers below 300 stand while a copy, of those below 150, gets more.
+fn keep_apart(alloc: Global, names: &Names, copy: &mut Names) -> Result<bool, AllocError> {
+    if !have_below(alloc, names, 300, copy, 150)? {
+        return Ok(false);
+    }
+    add(alloc, copy, 150, 200)?;
+    have_below(alloc, names, 300, copy, 200)
+}
+
+// Whether a copy of the names of numbers below 150 keeps its names while more are added to the other, and the other way around.
+fn go_on_apart(alloc: Global, names: &mut Names) -> Result<bool, AllocError> {
+    let mut copy = names.copy(alloc)?;
+    add(alloc, names, 150, 300)?;
+    keep_apart(alloc, names, &mut copy)
+}
+
 fn are_apart(alloc: Global) -> Result<bool, AllocError> {
     let mut names = Names::none(alloc);
     add(alloc, &mut names, 0, 150)?;
-    let mut copy = names.copy(alloc)?;
-    add(alloc, &mut names, 150, 300)?;
-    if !has_below(alloc, &copy, 150)? || !has_below(alloc, &names, 300)? {
-        return Ok(false);
-    }
-    add(alloc, &mut copy, 150, 200)?;
-    Ok(has_below(alloc, &copy, 200)? && has_below(alloc, &names, 300)?)
+    go_on_apart(alloc, &mut names)
 }
 
 #[test]

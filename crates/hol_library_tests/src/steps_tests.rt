@@ -1,12 +1,14 @@
 //! Commands of each kind, one after the other: the parts of each are the same as their copies, and what it reads and its outcome are the same a second time.
-ghost use Rattle.std.specs.Prelude.{◌≡◌};
+ghost use Rattle.std.specs.Prelude.{◌≡◌, IfOk};
 ghost use Rattle.hol_exec.specs.CommandView.{local_text};
 ghost use Rattle.hol_exec.specs.ReadsValue.{reads_of, AreKeyed};
+ghost use Rattle.hol_exec.specs.At.{IsOutcomeAt};
 
 use hol_exec::{
-    Command, CommandKeys, CommandNode, LocalCommand, Making, Meter, Parsed, Reads, Setup, State,
-    apply, parse, run_local,
+    Command, CommandKeys, CommandNode, LocalCommand, Making, Meter, Outcome, Parsed, Reads, Setup,
+    State, apply, parse, run_local,
 };
+use hol_goal::Names;
 use hol_prelude::Prelude;
 use hol_registry::{Registry, RegistryError};
 use std::alloc::{AllocError, Global};
@@ -25,7 +27,52 @@ e EVERY []
 e NO_TAC
 qed";
 
-// The command's outcome is carried out. Whether a second run from the same has the same outcome.
+/// What the command reads of the state.
+pub(crate) fn read(
+    alloc: Global,
+    command: &LocalCommand,
+    state: &State,
+) -> Result<Reads, AllocError>
+    ensures reads { IfOk result (λ r. r ≡ reads_of (local_text command.now) state.now) }
+    ensures keys { IfOk result (AreKeyed (local_text command.now)) }
+{
+    let keys = CommandKeys::of(alloc, command)?;
+    Reads::of(alloc, command, &keys, state)
+}
+
+// Whether a run from this has the outcome.
+fn is_outcome_again(
+    alloc: Global,
+    meter: &mut Meter,
+    command: &LocalCommand,
+    reads: &Reads,
+    names: &Names,
+    outcome: &Outcome,
+) -> Result<bool, AllocError>
+    requires { AreKeyed (local_text command.now) reads.now }
+{
+    let (again, _tested) = run_local(alloc, meter, command, reads, names)?;
+    Ok(outcome.same(&again))
+}
+
+// The outcome is carried out. Whether a second run from the same has the same outcome.
+fn is_applied(
+    alloc: Global,
+    meter: &mut Meter,
+    command: &LocalCommand,
+    reads: &Reads,
+    state: &mut State,
+    outcome: &Outcome,
+) -> Result<bool, AllocError>
+    requires keys { AreKeyed (local_text command.now) reads.now }
+    requires at { IsOutcomeAt state.old outcome.now }
+{
+    let same = is_outcome_again(alloc, meter, command, reads, state.env().names(), outcome)?;
+    apply(alloc, state, outcome)?;
+    Ok(same)
+}
+
+// The same of the command's outcome.
 #[tactic(auto, using(crate::proofs::Applied::local_outcome_applies))]
 fn is_carried_out(
     alloc: Global,
@@ -38,9 +85,7 @@ fn is_carried_out(
     requires reads { reads.now ≡ reads_of (local_text command.now) state.old }
 {
     let (outcome, _tested) = run_local(alloc, meter, command, reads, state.env().names())?;
-    let (again, _tested) = run_local(alloc, meter, command, reads, state.env().names())?;
-    apply(alloc, state, &outcome)?;
-    Ok(outcome.same(&again))
+    is_applied(alloc, meter, command, reads, state, &outcome)
 }
 
 /// Whether the command reads just this of the state, and has one outcome, which is then carried out: without memory the state stays.
@@ -51,8 +96,7 @@ pub(crate) fn is_done_from(
     old: &Reads,
     state: &mut State,
 ) -> Result<bool, AllocError> {
-    let keys = CommandKeys::of(alloc, command)?;
-    let reads = Reads::of(alloc, command, &keys, state)?;
+    let reads = read(alloc, command, state)?;
     Ok(reads.same(old) && is_carried_out(alloc, meter, command, &reads, state)?)
 }
 
@@ -82,8 +126,7 @@ fn is_run(
     if !is_written_copied(alloc, command)? {
         return Ok(false);
     }
-    let keys = CommandKeys::of(alloc, command)?;
-    let old = Reads::of(alloc, command, &keys, state)?;
+    let old = read(alloc, command, state)?;
     is_done_from(alloc, meter, command, &old, state)
 }
 
