@@ -16,3 +16,4 @@ pub mod Begun
 pub mod Continued
 pub mod SizeSums
 pub mod Uses
+pub mod Dropped

@@ -50,7 +50,6 @@ pub enum Handing {
 
 /// An expression of functions on goals: a call, or a tactical of HOL Light applied to what it takes. It keeps its size. Copies share their nodes.
 #[cycle(expr)]
-#[derive(Drop)]
 pub struct Expr {
     node: Rc<ExprNode>,
     size: u32,
@@ -109,6 +108,31 @@ impl Model for Expr {
     ghost use Rattle.hol_combine.specs.Falls.{deep_le_nodes};
 
     ghost size_decreases = { λ e h. deep_le_nodes e.node.value };
+}
+
+// A loop over what has one part, so that what stands under many TRY, or uses of what uses others, takes no stack.
+impl Drop for Expr {
+    #[cycle(expr)]
+    fn drop(mut self) {
+        loop {
+            let Expr { node, size: _ } = self;
+            match Rc::into_inner(node) {
+                Some(ExprNode::Try(part)) => self = part,
+                Some(ExprNode::Repeat(part)) => self = part,
+                Some(ExprNode::Changed(part)) => self = part,
+                Some(ExprNode::Replicate(_, part)) => self = part,
+                Some(ExprNode::Defined(_, part)) => self = part,
+                Some(ExprNode::Call(_)) => return,
+                Some(ExprNode::Then(_, _, _)) => return,
+                Some(ExprNode::ThenL(_, _)) => return,
+                Some(ExprNode::OrElse(_, _, _)) => return,
+                Some(ExprNode::Every(_)) => return,
+                Some(ExprNode::First(_)) => return,
+                Some(ExprNode::Hand(_, _)) => return,
+                None => return,
+            }
+        }
+    }
 }
 
 impl Expr {
