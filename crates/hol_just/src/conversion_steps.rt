@@ -38,7 +38,9 @@ pub(crate) fn conversion(
     let Some(converted) = thms.take() else {
         unreachable!()
     };
-    let thm = converted_back(alloc, trace, &converted, lemmas)?;
+    let made = converted_back(alloc, trace, &converted, lemmas);
+    drop(converted);
+    let thm = made?;
     thms.put(thm)
 }
 
