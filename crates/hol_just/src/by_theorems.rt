@@ -41,9 +41,8 @@ impl Just {
     {
         conclusion_typed(th);
         let closing = Just::accept_tac(alloc, th)?;
-        let mut just = Just::conjunct1(alloc)?;
-        just.then_at(0, &closing)?;
-        Ok(just)
+        let just = Just::conjunct1(alloc)?;
+        just.joined(0, closing)
     }
 
     // That of closing `q` by this theorem `p /\ q`.
@@ -52,9 +51,8 @@ impl Just {
     {
         conclusion_typed(th);
         let closing = Just::accept_tac(alloc, th)?;
-        let mut just = Just::conjunct2(alloc)?;
-        just.then_at(0, &closing)?;
-        Ok(just)
+        let just = Just::conjunct2(alloc)?;
+        just.joined(0, closing)
     }
 
     /// That of leaving `r` with `q` and `p` assumed, of `r`, by this theorem `p /\ q`.
@@ -85,9 +83,8 @@ impl Just {
     {
         conclusion_typed(th);
         let closing = Just::accept_tac(alloc, th)?;
-        let mut just = Just::disj_cases(alloc)?;
-        just.then_at(0, &closing)?;
-        Ok(just)
+        let just = Just::disj_cases(alloc)?;
+        just.joined(0, closing)
     }
 
     /// That of leaving `t = s` of `s = t`.
@@ -144,8 +141,7 @@ impl Just {
     {
         conclusion_typed(th);
         let closing = Just::accept_tac(alloc, th)?;
-        let mut just = Just::choose(alloc, v)?;
-        just.then_at(0, &closing)?;
-        Ok(just)
+        let just = Just::choose(alloc, v)?;
+        just.joined(0, closing)
     }
 }
