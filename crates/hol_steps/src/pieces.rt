@@ -2,8 +2,9 @@
 ghost use Rattle.std.specs.Prelude.{◌≡◌, ◌∷◌, ◌++◌, ◌||◌, List, map, IfOk, Some, []};
 ghost use Rattle.std.specs.List.{list_any};
 ghost use Rattle.hol_terms.specs.Named.{named_type};
-ghost use Rattle.hol_terms.specs.Nameless.{Nameless, nameless};
+ghost use Rattle.hol_terms.specs.Nameless.{Nameless, free, nameless};
 ghost use Rattle.hol_terms.specs.Alpha.{alpha_eq};
+ghost use Rattle.hol_subst.specs.Closing.{open_with};
 ghost use Rattle.hol_formulas.specs.Equation.{bool_type};
 ghost use Rattle.hol_formulas.specs.Formula.{is_truth, dest_conj, dest_disj, dest_exists};
 ghost use Rattle.hol_kernel.specs.Given.{assumed};
@@ -148,12 +149,21 @@ fn cases(
     ensures just { IfOk result (λ parts. LeavesCases (assumed (nameless [] piece.now)) parts.just) }
     ensures used { IfOk result (λ parts. used_value parts.used ≡ used_value used) }
 {
-    let just = splitting(alloc, piece)?;
-    let mut left = rest.copy(alloc)?;
-    left.put(p)?;
+    let left = copy_with(alloc, &rest, p)?;
     let mut right = rest;
     right.put(q)?;
+    let just = splitting(alloc, piece)?;
     two_parts(alloc, left, right, just, used)
+}
+
+// Equal pieces on an equal goal, with one before them.
+fn copy_with(alloc: Global, rest: &Waiting, piece: &Term) -> Result<Waiting, AllocError>
+    requires { named_type piece.now ≡ Some bool_type }
+    ensures { IfOk result (λ w. w ≡ waiting (nameless [] piece.now ∷ rest.now.pieces) rest.now.goal) }
+{
+    let mut copy = rest.copy(alloc)?;
+    copy.put(piece)?;
+    Ok(copy)
 }
 
 // Why either disjunct is assumed.
@@ -206,10 +216,45 @@ fn property(
     let FreshVariable { variable, tested } = v;
     let used = tested_more(used, tested)?;
     let just = choosing(alloc, &variable, piece)?;
-    let chosen = at_variable(alloc, x, p, &variable)?;
+    property_part(alloc, x, p, &variable, rest, just, used)
+}
+
+// The property of the variable is the first piece.
+fn property_part(
+    alloc: Global,
+    x: &Variable,
+    p: &Term,
+    v: &Variable,
+    rest: Waiting,
+    just: Just,
+    used: Used,
+) -> Result<Parts, AllocError>
+    requires body { named_type p.now ≡ Some bool_type }
+    requires typed { v.now.1 ≡ x.now.1 }
+    ensures waiting { IfOk result (λ parts. parts.waiting.items ≡ waiting (open_with (free v.now) 0 (nameless (x.now ∷ []) p.now) ∷ rest.pieces) rest.goal ∷ []) }
+    ensures just { IfOk result (λ parts. parts.just ≡ just) }
+    ensures used { IfOk result (λ parts. used_value parts.used ≡ used_value used) }
+{
+    let rest = with_property(alloc, x, p, v, rest)?;
+    one_part(alloc, rest, just, used)
+}
+
+// The property of the variable before the other pieces.
+fn with_property(
+    alloc: Global,
+    x: &Variable,
+    p: &Term,
+    v: &Variable,
+    rest: Waiting,
+) -> Result<Waiting, AllocError>
+    requires body { named_type p.now ≡ Some bool_type }
+    requires typed { v.now.1 ≡ x.now.1 }
+    ensures { IfOk result (λ w. w ≡ waiting (open_with (free v.now) 0 (nameless (x.now ∷ []) p.now) ∷ rest.pieces) rest.goal) }
+{
+    let chosen = at_variable(alloc, x, p, v)?;
     let mut rest = rest;
     rest.put(&chosen)?;
-    one_part(alloc, rest, just, used)
+    Ok(rest)
 }
 
 // Why the property of the variable is assumed.

@@ -1,8 +1,7 @@
 use Rattle.std.specs.Prelude.{List}
-use Rattle.std.proofs.Common.{[], ◌∷◌, ◌≡◌, ap, sym, ◌∙◌, subst}
+use Rattle.std.proofs.Common.{[], ◌∷◌, sym, ◌∙◌, subst}
 use Rattle.std.proofs.lemmas.Result.{IfOk-weaker}
 use Rattle.hol_terms.specs.Nameless.{nameless}
-use Rattle.hol_just.specs.Strip.{WaitingValue, waiting}
 use Rattle.hol_just.specs.Justifies.{LeavesCases}
 use Rattle.hol_just.specs.declared.reason.Move.{Move}
 use Rattle.hol_kernel.specs.Given.{assumed}
@@ -10,10 +9,7 @@ use Rattle.hol_steps.proofs.pieces.cases.Goals as goal
 
 pub returns-clause-waiting : goal.returns-clause-waiting
 returns-clause-waiting c =
-    let a = nameless [] c.args.p.now in
-    let b = nameless [] c.args.q.now in
-    let left = c.in_ok-put.ensures ∙ ap (λ (w : WaitingValue). waiting (a ∷ w.pieces) w.goal) c.in_ok-left.ensures in
-    IfOk-weaker c.two_parts.result _ _ (λ parts is. is ∙ (λ i. c.in_ok-put-2.ensures i ∷ left i ∷ [])) c.two_parts.ensures.waiting
+    IfOk-weaker c.two_parts.result _ _ (λ parts is. is ∙ (λ i. c.in_ok-put.ensures i ∷ c.in_ok-left.ensures i ∷ [])) c.two_parts.ensures.waiting
 
 pub returns-clause-just : goal.returns-clause-just
 returns-clause-just c =
