@@ -61,13 +61,12 @@ impl Just {
     {
         conclusion_typed(th);
         let left = Just::left_of(alloc, th)?;
-        let right = Just::right_of(alloc, th)?;
+        let just = Just::prove_hyp(alloc)?;
+        let just = just.joined(0, left)?;
         let cutting = Just::prove_hyp(alloc)?;
-        let mut just = Just::prove_hyp(alloc)?;
-        just.then_at(0, &left)?;
-        just.then_at(0, &cutting)?;
-        just.then_at(0, &right)?;
-        Ok(just)
+        let just = just.joined(0, cutting)?;
+        let right = Just::right_of(alloc, th)?;
+        just.joined(0, right)
     }
 
     /// That of leaving `p \/ q`, `r` with `p` assumed, and `r` with `q` assumed, of `r`.

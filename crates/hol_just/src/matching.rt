@@ -47,9 +47,9 @@ impl Just {
     pub fn instance(alloc: Global, th: &Given, formula: &Term, t: &Term) -> Result<Just, AllocError>
         ensures { IfOk result (λ just. ClosesByInstance th.now (bound_variables formula.now) (nameless [] t.now) just) }
     {
-        let given = th.copy()?;
         let named = formula.copy()?;
         let instance = t.copy()?;
+        let given = th.copy()?;
         Just::one(alloc, Reason::Matching(given, named, instance))
     }
 }
