@@ -1,5 +1,6 @@
 //! Instantiation of type variables in terms.
-ghost use Rattle.std.specs.Prelude.{◌≡◌, ◌⊎◌, ◌∷◌, ◌++◌, [], map, IfOk, OnOk};
+ghost use Rattle.std.specs.Prelude.{◌≡◌, ◌⊎◌, ◌∷◌, ◌++◌, [], map, IfOk, OnOk, MatchOption, List, ℕ};
+ghost use Rattle.hol_types.specs.Tree.{TypeTree};
 ghost use Rattle.hol_types.specs.Subst.{type_subst};
 ghost use Rattle.hol_terms.specs.Named.{var, constant};
 ghost use Rattle.hol_terms.specs.Nameless.{nameless, free_occurrences};
@@ -213,14 +214,24 @@ fn image(
 ) -> Result<Variable, AllocError>
     ensures { IfOk result (λ u. u ≡ image pairs.now (binders old.now) (binders new.now) v.now) }
 {
+    match standing(old, new, v) {
+        Some(u) => u.copy(),
+        None => instance(alloc, pairs, v),
+    }
+}
+
+// The new binder that stands for the variable, where an old one binds it.
+fn standing<'a>(old: &Scope, new: &Scope<'a>, v: &Variable) -> Option<&'a Variable>
+    ensures { (pairs : List (TypeTree × List ℕ)) → MatchOption result (image pairs (binders old.now) (binders new.now) v.now ≡ variable_inst pairs v.now) (λ u. image pairs (binders old.now) (binders new.now) v.now ≡ u.now) }
+{
     match (old, new) {
-        (Scope::Outside, _) => instance(alloc, pairs, v),
-        (Scope::Inside(_, _), Scope::Outside) => instance(alloc, pairs, v),
+        (Scope::Outside, _) => None,
+        (Scope::Inside(_, _), Scope::Outside) => None,
         (Scope::Inside(l, old), Scope::Inside(r, new)) => {
             if l.same(v) {
-                r.copy()
+                Some(*r)
             } else {
-                image(alloc, pairs, old, new, v)
+                standing(old, new, v)
             }
         }
     }
