@@ -166,3 +166,23 @@ def deep_runs():
     step = "new_definition D `twice p = ~ ~ p`"
     nested = ["g N `" + "twice (" * 199 + "p" + ")" * 199 + "`", *["e ONCE_REWRITE_TAC [D]"] * 199]
     yield Case("199 definitions unfolded from outside", [step, *nested], "goals")
+
+
+def deep_results():
+    """Terms of twice as many levels as a text can have, up to 8,000 in 20,000 nodes: made by rewriting a constant by itself under a redex, and by what is specialized."""
+    grown = ["new_constant c `:bool`", r"new_axiom AX `c <=> (\x:bool. c) T`", "g N `c`", "e REPLICATE_TAC 3990 (SUBST1_TAC AX)"]
+    yield Case("3,990 redexes made by as many steps", grown, "goals", seconds=12)
+    yield Case("3,990 redexes made by as many steps, reduced", [*grown, "e BETA_TAC"], "goals", seconds=12)
+
+    def redexes(body):
+        return "(\\" + "a " * 1_950 + f". {body})" + " T" * 1_950
+
+    given = ["new_constant c `:bool`", "new_axiom C `c <=> T`", "new_axiom AX `!x:bool. " + redexes("x") + "`", "g N `T`"]
+    deep = f"SPEC `{redexes('c')}` AX"
+    made = [*given, f"e MP_TAC ({deep})"]
+    ended = ["e DISCH_TAC THEN ACCEPT_TAC TRUTH", "qed"]
+    yield Case("3,900 binders over as many arguments", [*made, *ended], "made")
+    typed = [*given, f"e MP_TAC (INST_TYPE [`:B`,`:A`] (SPEC `{redexes('(P:A->bool) z')}` AX))"]
+    yield Case("3,900 binders over as many arguments, at another type", [*typed, *ended], "made", seconds=2)
+    yield Case("3,900 binders over as many arguments, rewritten at the end", [*made, "e PURE_REWRITE_TAC [C]", *ended], "made")
+    yield Case("3,900 binders over as many arguments, rewritten once", [*made, "e ONCE_REWRITE_TAC [C]", "qed"], "made")
