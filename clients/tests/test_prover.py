@@ -10,7 +10,7 @@ import unittest
 
 from holls import files, names, server
 from holls.protocol import Goals, Refusal
-from holls.prover import command, finding, ground, named, reading, retyping, scope, scripts, sequents, substituting, tables, typed, writing
+from holls.prover import command, finding, ground, named, reading, retyping, scope, scripts, sequents, substituting, tables, trying, typed, writing
 from holls.prover.asking import Asker
 from holls.prover.finder import Finder
 from holls.prover.scripts import Step
@@ -240,6 +240,15 @@ class OverTheProgram(unittest.TestCase):
     def test_equations(self):
         self.find_all("equations", 10)
 
+    def test_calls_that_nothing_needs_are_left_out(self):
+        self.asker.copy(["g GOAL `(p /\\ q ==> q /\\ p) /\\ (r ==> r)`", "e CONJ_TAC"])
+        goals, closing = self.asker.report(1), "CONJ_TAC THEN FIRST_ASSUM ACCEPT_TAC"
+        long = ["e REPEAT GEN_TAC THEN STRIP_TAC", "e ASSUME_TAC (ASSUME `p:bool`) THEN " + closing]
+        self.assertEqual(trying.fewer(self.asker, long, goals, time.monotonic() + SECONDS), ["e STRIP_TAC", "e " + closing])
+        self.assertTrue(trying.check(self.asker, ["e STRIP_TAC THEN " + closing], goals))
+        self.assertFalse(trying.check(self.asker, ["e STRIP_TAC THEN " + closing, "e DISCH_TAC"], goals))
+        self.assertEqual(self.asker.count, 2)
+
     def test_what_has_no_proof_gets_none_in_time(self):
         for name, goal in stored("unprovable"):
             steps, took = proved(self.asker, scope.Scope(), goal, 2.0)
@@ -308,10 +317,10 @@ class NamedFunctions(unittest.TestCase):
         self.assertIsNone(self.used("p <=> p", Step("REFL_TAC"), "TABLE_TAC"))
 
     def test_expressions_that_then_joins(self):
-        self.assertEqual(named.pieces("A THEN SUBGOAL_THEN `THEN` (B THEN C) THEN TRY [D; E THEN F] THEN G'"), [
+        self.assertEqual(trying.pieces("A THEN SUBGOAL_THEN `THEN` (B THEN C) THEN TRY [D; E THEN F] THEN G'"), [
             "A", "SUBGOAL_THEN `THEN` (B THEN C)", "TRY [D; E THEN F]", "G'"])
-        self.assertEqual(named.pieces("A THEN B ORELSE C"), ["A THEN B ORELSE C"])
-        self.assertEqual(named.pieces("A THEN B THENL [C; D]"), ["A THEN B THENL [C; D]"])
+        self.assertEqual(trying.pieces("A THEN B ORELSE C"), ["A THEN B ORELSE C"])
+        self.assertEqual(trying.pieces("A THEN B THENL [C; D]"), ["A THEN B THENL [C; D]"])
 
     def test_a_file_that_names_them(self):
         """Where the program has `deftac`: it is asked."""

@@ -31,6 +31,10 @@ _CLOSING = 0.1
 """The part of the time in which named functions are tried before a search."""
 
 
+_LEAVING_SECONDS = 0.3
+"""So long calls are left out that nothing needs."""
+
+
 class Unprovable(Exception):
     """What was to be taken for a proof can't be; the text says why."""
 
@@ -196,15 +200,18 @@ class Finder:
         mark = self.asker.count
         done = trying.run_each(self.asker, step, len(self.goals.goals), self.until)
         self.asker.back(mark)
-        return None if done is None else self._checked(self._used(done)) or scripts.commands(done)
+        return None if done is None else self._checked(self._used(done)) or self._fewer(scripts.commands(done))
 
     def _checked(self, attempts: Sequence[Step]) -> Optional[List[str]]:
-        """The commands of the first steps that close the goal."""
+        """The commands of the first steps that close the goal, without calls that it doesn't need."""
         for attempt in attempts:
             texts = scripts.commands(attempt)
-            if trying.check(self.asker, texts, len(self.goals.goals)):
-                return texts
+            if trying.check(self.asker, texts, self.goals):
+                return self._fewer(texts)
         return None
+
+    def _fewer(self, texts: List[str]) -> List[str]:
+        return trying.fewer(self.asker, texts, self.goals, time.monotonic() + _LEAVING_SECONDS)
 
     def _used(self, step: Step) -> List[Step]:
         """Shorter steps that do the same by named functions on goals."""

@@ -19,7 +19,6 @@ _USE_SECONDS = 0.5
 _MOST_LOST = 2
 """So many functions may have no answer in time; then none is tried any more, since each costs a server."""
 _WORD = re.compile(r"[A-Za-z_][A-Za-z0-9_']*")
-_PIECE = re.compile(r"`[^`]*`|[\[\]()]|(?<![A-Za-z0-9_'])(?:THEN|THENL|ORELSE)(?![A-Za-z0-9_'])")
 
 
 class Functions:
@@ -134,7 +133,7 @@ class Uses:
     def _recorded(self, step: Step) -> _Call:
         """Runs steps, a call at a time, and keeps the goals on which they are run."""
         subs = iter(step.subs)
-        call = self._recorded_calls(pieces(step.text), subs)
+        call = self._recorded_calls(trying.pieces(step.text), subs)
         if next(subs, None) is not None:
             raise _Refused
         return call._replace(written=step)
@@ -212,17 +211,3 @@ def _rest(call: _Call, left: Sequence[Goal]) -> Optional[List[_Call]]:
 def _serves(goal: Goal, wanted: Goal) -> bool:
     """Whether a goal is another one, perhaps with more assumptions."""
     return (goal.conclusion == wanted.conclusion and set(goal.assumptions) >= set(wanted.assumptions) and set(goal.free) >= set(wanted.free))
-
-
-def pieces(text: str) -> List[str]:
-    """The expressions that THEN joins in a text, outside of brackets; the text alone where another infix stands there."""
-    made, depth, begun = [], 0, 0
-    for found in _PIECE.finditer(text):
-        token = found.group()
-        depth += {"(": 1, "[": 1, ")": -1, "]": -1}.get(token, 0)
-        if depth == 0 and token in ("THENL", "ORELSE"):
-            return [text]
-        if depth == 0 and token == "THEN":
-            made.append(text[begun:found.start()].strip())
-            begun = found.end()
-    return made + [text[begun:].strip()]
