@@ -12,7 +12,7 @@ from holls.prover import trying
 from holls.prover.asking import Asker
 from holls.prover.scripts import Step
 
-MOST_CALLS = 150
+MOST_CALLS = 80
 """In a proof of more calls nothing is replaced."""
 _USE_SECONDS = 0.5
 """So long a use may run that is tried."""
