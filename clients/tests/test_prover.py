@@ -9,7 +9,7 @@ import time
 import unittest
 
 from holls import files, names, server
-from holls.protocol import Goals, Refusal
+from holls.protocol import Goal, Goals, Refusal
 from holls.prover import command, finding, ground, named, reading, retyping, scope, scripts, sequents, substituting, tables, trying, typed, writing
 from holls.prover.asking import Asker
 from holls.prover.finder import Finder
@@ -96,6 +96,15 @@ class Terms(unittest.TestCase):
         self.assertEqual(found.is_joined, False)
         self.assertEqual(typed.binary(goal)[1], typed.binary(goal)[2])
         self.assertIsNone(substituting.plan(equations[1:], None, reading.term("(p:C) = q", signature)))
+
+    def test_named_functions_and_the_variables_that_they_name(self):
+        known = standing()
+        known.add_file(theory("tactics"))
+        found = named.Functions(known.functions)
+        self.assertEqual(known.functions["TABLE_TAC"], frozenset("pqr"))
+        self.assertEqual(found.at(Goal(("f q",), ("f:bool->bool", "q:bool"), "q")), [
+            "EXT_TAC", "CASES_Q", "TABLE_TAC", "CLOSE_TAC", "STRIPS_TAC", "BOTH_WAYS_TAC"])
+        self.assertEqual(found.at(Goal((), ("q':bool",), "q'")), ["EXT_TAC", "CLOSE_TAC", "STRIPS_TAC", "BOTH_WAYS_TAC"])
 
     def test_a_theorem_at_the_types_of_a_goal(self):
         known = standing(3)
@@ -280,7 +289,7 @@ class NamedFunctions(unittest.TestCase):
 
     def found(self, goal, *functions):
         """The steps that are found where some functions stand."""
-        self.known.functions = {name: frozenset("p" if name == "CASES_TAC" else "") for name in functions}
+        self.known.functions = dict.fromkeys(functions, frozenset())
         self.asker.copy([*self.AXIOMS, "g GOAL `%s`" % goal])
         goals = self.asker.report(len(self.AXIOMS))
         steps = Finder(self.asker, self.known, goals, goal, time.monotonic() + SEARCH_SECONDS).find(None)

@@ -33,9 +33,9 @@ class Functions:
         self._lost = 0
 
     def at(self, goal: Goal) -> List[str]:
-        """The functions that may be meant for a goal: it has the variables that they name."""
+        """The functions that may be meant for a goal: it has a variable that they name, where they name any."""
         words = frozenset(_WORD.findall(" ".join((goal.conclusion,) + goal.assumptions)))
-        return [name for name, variables in self.names.items() if variables <= words]
+        return [name for name, variables in self.names.items() if not variables or variables & words]
 
     def after(self, asker: Asker, name: str, form: str = "%s") -> Optional[Goals]:
         """The goals after a step that uses a function, which stands then; None where it is refused or isn't tried."""
