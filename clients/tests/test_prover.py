@@ -257,6 +257,8 @@ class OverTheProgram(unittest.TestCase):
         self.assertTrue(trying.check(self.asker, ["e STRIP_TAC THEN " + closing], goals))
         self.assertFalse(trying.check(self.asker, ["e STRIP_TAC THEN " + closing, "e DISCH_TAC"], goals))
         self.assertEqual(self.asker.count, 2)
+        self.asker.forget()
+        self.assertEqual(proved(self.asker, scope.Scope(), "p /\\ q ==> p", SEARCH_SECONDS)[0], ["e REPEAT STRIP_TAC"])
 
     def test_what_has_no_proof_gets_none_in_time(self):
         for name, goal in stored("unprovable"):
@@ -287,12 +289,12 @@ class NamedFunctions(unittest.TestCase):
         self.known = scope.Scope()
         self.known.theorems["MIDDLE"] = scripts.MIDDLE
 
-    def found(self, goal, *functions):
+    def found(self, goal, *functions, theorems=None):
         """The steps that are found where some functions stand."""
         self.known.functions = dict.fromkeys(functions, frozenset())
         self.asker.copy([*self.AXIOMS, "g GOAL `%s`" % goal])
         goals = self.asker.report(len(self.AXIOMS))
-        steps = Finder(self.asker, self.known, goals, goal, time.monotonic() + SEARCH_SECONDS).find(None)
+        steps = Finder(self.asker, self.known, goals, goal, time.monotonic() + SEARCH_SECONDS).find(theorems)
         self.asker.forget()
         return steps
 
@@ -308,7 +310,10 @@ class NamedFunctions(unittest.TestCase):
     def test_a_use_closes_the_goal(self):
         goal = "!p q. (p ==> q) <=> (~p \\/ q)"
         self.assertEqual(self.found(goal, "HALVES", "TABLE_TAC"), ["e TABLE_TAC"])
-        self.assertEqual(self.found("!(f:A->B) g. (!x. f x = g x) ==> f = g", "EXT_TAC"), ["e REPEAT STRIP_TAC THEN EXT_TAC THEN ASM_REWRITE_TAC []"])
+        equal = "!(f:A->B) g. (!x. f x = g x) ==> f = g"
+        self.assertEqual(self.found(equal, "EXT_TAC"), ["e REPEAT STRIP_TAC THEN EXT_TAC THEN ASM_REWRITE_TAC []"])
+        self.known.theorems["EXT"] = reading.term(equal, self.known.signature)
+        self.assertEqual(self.found(equal, "EXT_TAC", theorems=["EXT"]), ["e ACCEPT_TAC EXT"])
         self.assertNotIn("TABLE_TAC", " ".join(self.found(goal)))
 
     def test_a_use_comes_to_what_steps_come_to(self):

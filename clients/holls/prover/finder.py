@@ -80,17 +80,20 @@ class Finder:
         except (Unreadable, RecursionError):
             return self._at_once(theorems or ())
         self.is_growing = any(trying.grows(item.term) for item in items)
-        return self._at_once(()) or (self._by_named(items, list(theorems)) if theorems else self._by_any(items))
+        at_once = self._at_once(())
+        return self._by_named(items, list(theorems), at_once) if theorems else at_once or self._by_any(items)
 
     def _at_once(self, theorems: Sequence[str]) -> Optional[List[str]]:
         """A step that needs no search: by rewriting, or by a named function on goals where that is shorter."""
         found = self._quick(theorems)
         below = sum(map(len, found)) - len("e ") if found else None
         use = self.functions.closing(self.asker, self.goals, named.forms(self.is_growing), below, self._part(_CLOSING))
-        return ["e " + use] if use else found
+        return self._fewer(["e " + use]) if use else found
 
-    def _by_named(self, items: List[Item], names: List[str]) -> Optional[List[str]]:
-        return self._quick(names) or self._search(items, names, self.until)
+    def _by_named(self, items: List[Item], names: List[str], at_once: Optional[List[str]]) -> Optional[List[str]]:
+        """The shortest steps by theorems that are named, or those that need no search."""
+        found = self._quick(names) or self._search(items, names, self._part(_WITHOUT) if at_once else self.until)
+        return min([one for one in (found, at_once) if one], key=trying.length, default=None)
 
     def _by_any(self, items: List[Item]) -> Optional[List[str]]:
         """Steps of a proof by the goal alone, or by theorems like it."""
@@ -134,7 +137,7 @@ class Finder:
         fine = [name for name in theorems if not trying.grows(self.scope.theorems[name])]
         closers = trying.closers(fine, self.is_growing)
         found = trying.Trial(self.asker, closers, self._part(0.5)).close(len(self.goals.goals))
-        return None if found is None else self._checked(self._used(Step(found))) or ["e " + found]
+        return None if found is None else self._checked(self._used(Step(found))) or self._fewer(["e " + found])
 
     def _table(self, items: Sequence[Item]) -> object:
         """Steps by a truth table; False where the sequent has none, since it isn't valid; None where it isn't tried."""

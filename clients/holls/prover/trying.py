@@ -141,12 +141,14 @@ def fewer(asker: Asker, texts: Sequence[str], goals: Goals, until: float) -> Lis
     made = [pieces(text[len("e "):]) for text in texts]
     for text in texts[:-1]:
         goals_after(asker, text[len("e "):])
+    longest = 0.0
     for at in reversed(range(len(made))):
         asker.back(mark + at)
         for number in reversed(range(len(made[at]))):
-            rest = made[at][:number] + made[at][number + 1:]
-            if time.monotonic() < until and check(asker, _joined([rest] + made[at + 1:]), goals):
+            rest, now = made[at][:number] + made[at][number + 1:], time.monotonic()
+            if now + longest < until and check(asker, _joined([rest] + made[at + 1:]), goals):
                 made[at] = rest
+            longest = max(longest, time.monotonic() - now)
     return _joined(made)
 
 
