@@ -199,11 +199,14 @@ class Finder:
         return self._checked(self._used(done) + self._variants(done))
 
     def _run_table(self, step: Step) -> Optional[List[str]]:
-        """Runs the steps of a truth table as they are, as long as there is time."""
-        mark = self.asker.count
+        """Runs the steps of a truth table as they are, as long as there is time; where they take long, as they are to stand."""
+        mark, begun = self.asker.count, time.monotonic()
         done = trying.run_each(self.asker, step, len(self.goals.goals), self.until)
+        is_quick = time.monotonic() - begun < 0.5 * _LEAVING_SECONDS
         self.asker.back(mark)
-        return None if done is None else self._checked(self._used(done)) or self._fewer(scripts.commands(done))
+        if done is None or not is_quick:
+            return None if done is None else scripts.commands(done)
+        return self._checked(self._used(done) + [done])
 
     def _checked(self, attempts: Sequence[Step]) -> Optional[List[str]]:
         """The commands of the first steps that close the goal, without calls that it doesn't need."""
