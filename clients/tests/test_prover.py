@@ -9,8 +9,8 @@ import time
 import unittest
 
 from holls import files, names, server
-from holls.protocol import Goals, Refusal
-from holls.prover import command, finding, ground, named, reading, retyping, scope, scripts, sequents, substituting, tables, typed, writing
+from holls.protocol import Goal, Goals, Refusal
+from holls.prover import command, finding, ground, named, reading, retyping, scope, scripts, sequents, substituting, tables, trying, typed, writing
 from holls.prover.asking import Asker
 from holls.prover.finder import Finder
 from holls.prover.scripts import Step
@@ -96,6 +96,15 @@ class Terms(unittest.TestCase):
         self.assertEqual(found.is_joined, False)
         self.assertEqual(typed.binary(goal)[1], typed.binary(goal)[2])
         self.assertIsNone(substituting.plan(equations[1:], None, reading.term("(p:C) = q", signature)))
+
+    def test_named_functions_and_the_variables_that_they_name(self):
+        known = standing()
+        known.add_file(theory("tactics"))
+        found = named.Functions(known.functions)
+        self.assertEqual(known.functions["TABLE_TAC"], frozenset("pqr"))
+        self.assertEqual(found.at(Goal(("f q",), ("f:bool->bool", "q:bool"), "q")), [
+            "EXT_TAC", "CASES_Q", "TABLE_TAC", "CLOSE_TAC", "STRIPS_TAC", "BOTH_WAYS_TAC"])
+        self.assertEqual(found.at(Goal((), ("q':bool",), "q'")), ["EXT_TAC", "CLOSE_TAC", "STRIPS_TAC", "BOTH_WAYS_TAC"])
 
     def test_a_theorem_at_the_types_of_a_goal(self):
         known = standing(3)
@@ -240,6 +249,17 @@ class OverTheProgram(unittest.TestCase):
     def test_equations(self):
         self.find_all("equations", 10)
 
+    def test_calls_that_nothing_needs_are_left_out(self):
+        self.asker.copy(["g GOAL `(p /\\ q ==> q /\\ p) /\\ (r ==> r)`", "e CONJ_TAC"])
+        goals, closing = self.asker.report(1), "CONJ_TAC THEN FIRST_ASSUM ACCEPT_TAC"
+        long = ["e REPEAT GEN_TAC THEN STRIP_TAC", "e ASSUME_TAC (ASSUME `p:bool`) THEN " + closing]
+        self.assertEqual(trying.fewer(self.asker, long, goals, time.monotonic() + SECONDS), ["e STRIP_TAC", "e " + closing])
+        self.assertTrue(trying.check(self.asker, ["e STRIP_TAC THEN " + closing], goals))
+        self.assertFalse(trying.check(self.asker, ["e STRIP_TAC THEN " + closing, "e DISCH_TAC"], goals))
+        self.assertEqual(self.asker.count, 2)
+        self.asker.forget()
+        self.assertEqual(proved(self.asker, scope.Scope(), "p /\\ q ==> p", SEARCH_SECONDS)[0], ["e REPEAT STRIP_TAC"])
+
     def test_what_has_no_proof_gets_none_in_time(self):
         for name, goal in stored("unprovable"):
             steps, took = proved(self.asker, scope.Scope(), goal, 2.0)
@@ -269,12 +289,12 @@ class NamedFunctions(unittest.TestCase):
         self.known = scope.Scope()
         self.known.theorems["MIDDLE"] = scripts.MIDDLE
 
-    def found(self, goal, *functions):
+    def found(self, goal, *functions, theorems=None):
         """The steps that are found where some functions stand."""
-        self.known.functions = {name: frozenset("p" if name == "CASES_TAC" else "") for name in functions}
+        self.known.functions = dict.fromkeys(functions, frozenset())
         self.asker.copy([*self.AXIOMS, "g GOAL `%s`" % goal])
         goals = self.asker.report(len(self.AXIOMS))
-        steps = Finder(self.asker, self.known, goals, goal, time.monotonic() + SEARCH_SECONDS).find(None)
+        steps = Finder(self.asker, self.known, goals, goal, time.monotonic() + SEARCH_SECONDS).find(theorems)
         self.asker.forget()
         return steps
 
@@ -290,7 +310,10 @@ class NamedFunctions(unittest.TestCase):
     def test_a_use_closes_the_goal(self):
         goal = "!p q. (p ==> q) <=> (~p \\/ q)"
         self.assertEqual(self.found(goal, "HALVES", "TABLE_TAC"), ["e TABLE_TAC"])
-        self.assertEqual(self.found("!(f:A->B) g. (!x. f x = g x) ==> f = g", "EXT_TAC"), ["e REPEAT STRIP_TAC THEN EXT_TAC THEN ASM_REWRITE_TAC []"])
+        equal = "!(f:A->B) g. (!x. f x = g x) ==> f = g"
+        self.assertEqual(self.found(equal, "EXT_TAC"), ["e REPEAT STRIP_TAC THEN EXT_TAC THEN ASM_REWRITE_TAC []"])
+        self.known.theorems["EXT"] = reading.term(equal, self.known.signature)
+        self.assertEqual(self.found(equal, "EXT_TAC", theorems=["EXT"]), ["e ACCEPT_TAC EXT"])
         self.assertNotIn("TABLE_TAC", " ".join(self.found(goal)))
 
     def test_a_use_comes_to_what_steps_come_to(self):
@@ -308,10 +331,10 @@ class NamedFunctions(unittest.TestCase):
         self.assertIsNone(self.used("p <=> p", Step("REFL_TAC"), "TABLE_TAC"))
 
     def test_expressions_that_then_joins(self):
-        self.assertEqual(named.pieces("A THEN SUBGOAL_THEN `THEN` (B THEN C) THEN TRY [D; E THEN F] THEN G'"), [
+        self.assertEqual(trying.pieces("A THEN SUBGOAL_THEN `THEN` (B THEN C) THEN TRY [D; E THEN F] THEN G'"), [
             "A", "SUBGOAL_THEN `THEN` (B THEN C)", "TRY [D; E THEN F]", "G'"])
-        self.assertEqual(named.pieces("A THEN B ORELSE C"), ["A THEN B ORELSE C"])
-        self.assertEqual(named.pieces("A THEN B THENL [C; D]"), ["A THEN B THENL [C; D]"])
+        self.assertEqual(trying.pieces("A THEN B ORELSE C"), ["A THEN B ORELSE C"])
+        self.assertEqual(trying.pieces("A THEN B THENL [C; D]"), ["A THEN B THENL [C; D]"])
 
     def test_a_file_that_names_them(self):
         """Where the program has `deftac`: it is asked."""

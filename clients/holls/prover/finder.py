@@ -31,6 +31,10 @@ _CLOSING = 0.1
 """The part of the time in which named functions are tried before a search."""
 
 
+_LEAVING_SECONDS = 0.3
+"""So long calls are left out that nothing needs."""
+
+
 class Unprovable(Exception):
     """What was to be taken for a proof can't be; the text says why."""
 
@@ -76,17 +80,20 @@ class Finder:
         except (Unreadable, RecursionError):
             return self._at_once(theorems or ())
         self.is_growing = any(trying.grows(item.term) for item in items)
-        return self._at_once(()) or (self._by_named(items, list(theorems)) if theorems else self._by_any(items))
+        at_once = self._at_once(())
+        return self._by_named(items, list(theorems), at_once) if theorems else at_once or self._by_any(items)
 
     def _at_once(self, theorems: Sequence[str]) -> Optional[List[str]]:
         """A step that needs no search: by rewriting, or by a named function on goals where that is shorter."""
         found = self._quick(theorems)
         below = sum(map(len, found)) - len("e ") if found else None
         use = self.functions.closing(self.asker, self.goals, named.forms(self.is_growing), below, self._part(_CLOSING))
-        return ["e " + use] if use else found
+        return self._fewer(["e " + use]) if use else found
 
-    def _by_named(self, items: List[Item], names: List[str]) -> Optional[List[str]]:
-        return self._quick(names) or self._search(items, names, self.until)
+    def _by_named(self, items: List[Item], names: List[str], at_once: Optional[List[str]]) -> Optional[List[str]]:
+        """The shortest steps by theorems that are named, or those that need no search."""
+        found = self._quick(names) or self._search(items, names, self._part(_WITHOUT) if at_once else self.until)
+        return min([one for one in (found, at_once) if one], key=trying.length, default=None)
 
     def _by_any(self, items: List[Item]) -> Optional[List[str]]:
         """Steps of a proof by the goal alone, or by theorems like it."""
@@ -130,7 +137,7 @@ class Finder:
         fine = [name for name in theorems if not trying.grows(self.scope.theorems[name])]
         closers = trying.closers(fine, self.is_growing)
         found = trying.Trial(self.asker, closers, self._part(0.5)).close(len(self.goals.goals))
-        return None if found is None else self._checked(self._used(Step(found))) or ["e " + found]
+        return None if found is None else self._checked(self._used(Step(found))) or self._fewer(["e " + found])
 
     def _table(self, items: Sequence[Item]) -> object:
         """Steps by a truth table; False where the sequent has none, since it isn't valid; None where it isn't tried."""
@@ -192,19 +199,25 @@ class Finder:
         return self._checked(self._used(done) + self._variants(done))
 
     def _run_table(self, step: Step) -> Optional[List[str]]:
-        """Runs the steps of a truth table as they are, as long as there is time."""
-        mark = self.asker.count
+        """Runs the steps of a truth table as they are, as long as there is time; where they take long, as they are to stand."""
+        mark, begun = self.asker.count, time.monotonic()
         done = trying.run_each(self.asker, step, len(self.goals.goals), self.until)
+        is_quick = time.monotonic() - begun < 0.5 * _LEAVING_SECONDS
         self.asker.back(mark)
-        return None if done is None else self._checked(self._used(done)) or scripts.commands(done)
+        if done is None or not is_quick:
+            return None if done is None else scripts.commands(done)
+        return self._checked(self._used(done) + [done])
 
     def _checked(self, attempts: Sequence[Step]) -> Optional[List[str]]:
-        """The commands of the first steps that close the goal."""
+        """The commands of the first steps that close the goal, without calls that it doesn't need."""
         for attempt in attempts:
             texts = scripts.commands(attempt)
-            if trying.check(self.asker, texts, len(self.goals.goals)):
-                return texts
+            if trying.check(self.asker, texts, self.goals):
+                return self._fewer(texts)
         return None
+
+    def _fewer(self, texts: List[str]) -> List[str]:
+        return trying.fewer(self.asker, texts, self.goals, time.monotonic() + _LEAVING_SECONDS)
 
     def _used(self, step: Step) -> List[Step]:
         """Shorter steps that do the same by named functions on goals."""

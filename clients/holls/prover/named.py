@@ -12,14 +12,13 @@ from holls.prover import trying
 from holls.prover.asking import Asker
 from holls.prover.scripts import Step
 
-MOST_CALLS = 150
+MOST_CALLS = 80
 """In a proof of more calls nothing is replaced."""
 _USE_SECONDS = 0.5
 """So long a use may run that is tried."""
 _MOST_LOST = 2
 """So many functions may have no answer in time; then none is tried any more, since each costs a server."""
 _WORD = re.compile(r"[A-Za-z_][A-Za-z0-9_']*")
-_PIECE = re.compile(r"`[^`]*`|[\[\]()]|(?<![A-Za-z0-9_'])(?:THEN|THENL|ORELSE)(?![A-Za-z0-9_'])")
 
 
 class Functions:
@@ -34,9 +33,9 @@ class Functions:
         self._lost = 0
 
     def at(self, goal: Goal) -> List[str]:
-        """The functions that may be meant for a goal: it has the variables that they name."""
+        """The functions that may be meant for a goal: it has a variable that they name, where they name any."""
         words = frozenset(_WORD.findall(" ".join((goal.conclusion,) + goal.assumptions)))
-        return [name for name, variables in self.names.items() if variables <= words]
+        return [name for name, variables in self.names.items() if not variables or variables & words]
 
     def after(self, asker: Asker, name: str, form: str = "%s") -> Optional[Goals]:
         """The goals after a step that uses a function, which stands then; None where it is refused or isn't tried."""
@@ -134,7 +133,7 @@ class Uses:
     def _recorded(self, step: Step) -> _Call:
         """Runs steps, a call at a time, and keeps the goals on which they are run."""
         subs = iter(step.subs)
-        call = self._recorded_calls(pieces(step.text), subs)
+        call = self._recorded_calls(trying.pieces(step.text), subs)
         if next(subs, None) is not None:
             raise _Refused
         return call._replace(written=step)
@@ -212,17 +211,3 @@ def _rest(call: _Call, left: Sequence[Goal]) -> Optional[List[_Call]]:
 def _serves(goal: Goal, wanted: Goal) -> bool:
     """Whether a goal is another one, perhaps with more assumptions."""
     return (goal.conclusion == wanted.conclusion and set(goal.assumptions) >= set(wanted.assumptions) and set(goal.free) >= set(wanted.free))
-
-
-def pieces(text: str) -> List[str]:
-    """The expressions that THEN joins in a text, outside of brackets; the text alone where another infix stands there."""
-    made, depth, begun = [], 0, 0
-    for found in _PIECE.finditer(text):
-        token = found.group()
-        depth += {"(": 1, "[": 1, ")": -1, "]": -1}.get(token, 0)
-        if depth == 0 and token in ("THENL", "ORELSE"):
-            return [text]
-        if depth == 0 and token == "THEN":
-            made.append(text[begun:found.start()].strip())
-            begun = found.end()
-    return made + [text[begun:].strip()]
