@@ -357,11 +357,12 @@ fn resolve_theorem_tac<N: LooksUp>(
     };
     match callee {
         Callee::Registered(tac) => {
-            let args = arguments(alloc, context, call, written)?;
+            let name = String::from_str(alloc, call.name.as_str())?;
+            let term = term_before(arguments(alloc, context, call, written)?);
             Ok(TheoremTac {
                 index: tac.index,
-                name: String::from_str(alloc, call.name.as_str())?,
-                term: term_before(args),
+                name,
+                term,
             })
         }
     }
