@@ -31,6 +31,7 @@ use hol_goal::Goal;
 use hol_notation_commands::LocalCommand;
 use hol_theory::{Key, Value};
 use hol_types::NameFilter;
+pub(crate) use keys::add_parts;
 pub(crate) use same::{Same, same_each};
 use std::alloc::{AllocError, Global};
 use std::hash::{Hash, Hasher};
@@ -370,7 +371,8 @@ fn are_apart(values: &[(Key, Option<Value>)], changes: &ChangedKeys) -> bool
     true
 }
 
-fn entry_copy(entry: &Option<Value>) -> Result<Option<Value>, AllocError>
+/// The same, if there is one.
+pub(crate) fn entry_copy(entry: &Option<Value>) -> Result<Option<Value>, AllocError>
     ensures { IfOk result (λ copied. copied ≡ entry.now) }
 {
     match entry {
@@ -405,6 +407,7 @@ fn goal_for(command: &LocalCommand, state: &State) -> Result<Option<Goal>, Alloc
             quotation: _,
         }
         | LocalCommand::Qed
+        | LocalCommand::DefineTac { name: _, tactic: _ }
         | LocalCommand::Make(_) => Ok(None),
     }
 }
@@ -426,6 +429,7 @@ fn closing_for(
             quotation: _,
         }
         | LocalCommand::Apply(_)
+        | LocalCommand::DefineTac { name: _, tactic: _ }
         | LocalCommand::Make(_) => Ok(None),
     }
 }
@@ -445,6 +449,7 @@ fn is_goal_for(goal: &Option<Goal>, command: &LocalCommand, state: &State) -> bo
             quotation: _,
         }
         | LocalCommand::Qed
+        | LocalCommand::DefineTac { name: _, tactic: _ }
         | LocalCommand::Make(_) => goal.is_none(),
     }
 }
@@ -464,6 +469,7 @@ fn is_closing_for(closing: &Option<Closing>, command: &LocalCommand, state: &Sta
             quotation: _,
         }
         | LocalCommand::Apply(_)
+        | LocalCommand::DefineTac { name: _, tactic: _ }
         | LocalCommand::Make(_) => closing.is_none(),
     }
 }

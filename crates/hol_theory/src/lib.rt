@@ -22,7 +22,7 @@ pub use laws::{
     theorems_follow,
 };
 pub use making::{
-    DefinedNames, Entries, item_at, item_entries, new_axiom, new_constant, new_definition,
+    DefinedNames, Entries, item_at, item_entries, new_axiom, new_constant, new_definition, new_tac,
     new_type, new_type_definition,
 };
 pub use same::same_basis;

@@ -12,9 +12,8 @@ ghost use Rattle.hol_resolve.specs.FormsView.{written_value};
 ghost use Rattle.hol_resolve.specs.ReadingView.{list_value, readings_value};
 ghost use Rattle.hol_exec.specs.Expr.{both, mapped, named_result, refused_by, term_before, formula, arguments_for, resolved_call, resolved_theorem_tac, resolved_whole, resolved_handing, resolved_expr, resolved_exprs};
 ghost use Rattle.hol_exec.specs.ContextView.{context_value, IsContext};
-ghost use Rattle.hol_exec.specs.ExprView.{IsFound, IsFault, IsRefusal, IsCallFound, IsTheoremTacFound, AreArgumentsFound, IsNodeFound, ArePartsFound, IsChainFound, AreAlternativesFound, handed};
+ghost use Rattle.hol_exec.specs.ExprView.{IsFound, IsFault, IsRefusal, IsTheoremTacFound, AreArgumentsFound, ArePartsFound, IsChainFound, AreAlternativesFound, handed};
 ghost use Rattle.hol_exec.specs.Resolved.{cited_theorems};
-ghost use Rattle.hol_exec.specs.Valid.{IsRunnableExpr};
 
 use crate::reading::is_statement;
 use crate::reads::Reads;
@@ -60,45 +59,38 @@ pub(crate) fn resolve_expr<N: LooksUp>(
     requires { IsContext context.now }
     ensures { IsFound (resolved_expr (context_value (N.LooksUp.table_of names.now) context.now) tactic.now) result }
 {
-    let node = resolve_node(alloc, names, context, tactic)?;
-    Ok(Expr::new(alloc, node)?)
-}
-
-// Resolves the top node of an expression.
-#[cycle(resolve_expr)]
-fn resolve_node<N: LooksUp>(
-    alloc: Global,
-    names: &N,
-    context: &Context<'_>,
-    tactic: &TacExpr,
-) -> Result<ExprNode, Unresolved>
-    requires { IsContext context.now }
-    ensures { IsNodeFound (resolved_expr (context_value (N.LooksUp.table_of names.now) context.now) tactic.now) result }
-{
     match tactic.node() {
-        TacExprNode::Call(call) => Ok(ExprNode::Call(resolve_call(alloc, names, context, call)?)),
+        TacExprNode::Call(call) => resolve_call(alloc, names, context, call),
         TacExprNode::Then(first, second) => resolve_then(alloc, names, context, first, second),
         TacExprNode::OrElse(first, second) => resolve_or_else(alloc, names, context, first, second),
         TacExprNode::ThenL(first, parts) => {
             let first = resolve_expr(alloc, names, context, first)?;
-            Ok(ExprNode::ThenL(first, resolve_each(alloc, names, context, parts)?))
+            let parts = resolve_each(alloc, names, context, parts)?;
+            Ok(Expr::new(alloc, ExprNode::ThenL(first, parts))?)
         }
-        TacExprNode::Repeat(part) => Ok(ExprNode::Repeat(resolve_expr(
-            alloc, names, context, part,
-        )?)),
-        TacExprNode::Try(part) => Ok(ExprNode::Try(resolve_expr(alloc, names, context, part)?)),
-        TacExprNode::Changed(part) => Ok(ExprNode::Changed(resolve_expr(
-            alloc, names, context, part,
-        )?)),
-        TacExprNode::Every(parts) => Ok(ExprNode::Every(resolve_each(
-            alloc, names, context, parts,
-        )?)),
-        TacExprNode::First(parts) => Ok(ExprNode::First(resolve_each(
-            alloc, names, context, parts,
-        )?)),
+        TacExprNode::Repeat(part) => {
+            let part = resolve_expr(alloc, names, context, part)?;
+            Ok(Expr::new(alloc, ExprNode::Repeat(part))?)
+        }
+        TacExprNode::Try(part) => {
+            let part = resolve_expr(alloc, names, context, part)?;
+            Ok(Expr::new(alloc, ExprNode::Try(part))?)
+        }
+        TacExprNode::Changed(part) => {
+            let part = resolve_expr(alloc, names, context, part)?;
+            Ok(Expr::new(alloc, ExprNode::Changed(part))?)
+        }
+        TacExprNode::Every(parts) => {
+            let parts = resolve_each(alloc, names, context, parts)?;
+            Ok(Expr::new(alloc, ExprNode::Every(parts))?)
+        }
+        TacExprNode::First(parts) => {
+            let parts = resolve_each(alloc, names, context, parts)?;
+            Ok(Expr::new(alloc, ExprNode::First(parts))?)
+        }
         TacExprNode::Replicate(times, part) => {
             let part = resolve_expr(alloc, names, context, part)?;
-            Ok(ExprNode::Replicate(*times, part))
+            Ok(Expr::new(alloc, ExprNode::Replicate(*times, part))?)
         }
         TacExprNode::DischThen(call) => hand(alloc, names, context, Handing::DischThen, call),
         TacExprNode::PopAssum(call) => hand(alloc, names, context, Handing::PopAssum, call),
@@ -136,16 +128,16 @@ fn resolve_then<N: LooksUp>(
     context: &Context<'_>,
     first: &TacExpr,
     second: &TacExpr,
-) -> Result<ExprNode, Unresolved>
+) -> Result<Expr, Unresolved>
     requires { IsContext context.now }
-    ensures { IsNodeFound (resolved_expr (context_value (N.LooksUp.table_of names.now) context.now) (Then first.now second.now)) result }
+    ensures { IsFound (resolved_expr (context_value (N.LooksUp.table_of names.now) context.now) (Then first.now second.now)) result }
 {
     let mut parts = Vec::new(alloc);
     push_then(alloc, names, context, &mut parts, first)?;
     parts.push(resolve_expr(alloc, names, context, second)?)?;
     let head = parts.remove(0);
     let next = parts.remove(0);
-    Ok(ExprNode::Then(head, next, parts))
+    Ok(Expr::new(alloc, ExprNode::Then(head, next, parts))?)
 }
 
 // Adds the parts of a chain of THEN, resolved.
@@ -191,15 +183,15 @@ fn resolve_or_else<N: LooksUp>(
     context: &Context<'_>,
     first: &TacExpr,
     second: &TacExpr,
-) -> Result<ExprNode, Unresolved>
+) -> Result<Expr, Unresolved>
     requires { IsContext context.now }
-    ensures { IsNodeFound (resolved_expr (context_value (N.LooksUp.table_of names.now) context.now) (OrElse first.now second.now)) result }
+    ensures { IsFound (resolved_expr (context_value (N.LooksUp.table_of names.now) context.now) (OrElse first.now second.now)) result }
 {
     let head = resolve_expr(alloc, names, context, first)?;
     let mut parts = Vec::new(alloc);
     push_or_else(alloc, names, context, &mut parts, second)?;
     let next = parts.remove(0);
-    Ok(ExprNode::OrElse(head, next, parts))
+    Ok(Expr::new(alloc, ExprNode::OrElse(head, next, parts))?)
 }
 
 // Adds the parts of a chain of ORELSE, resolved.
@@ -244,33 +236,37 @@ fn hand<N: LooksUp>(
     context: &Context<'_>,
     handing: Handing,
     call: &written::TacCall,
-) -> Result<ExprNode, Unresolved>
+) -> Result<Expr, Unresolved>
     requires { IsContext context.now }
-    ensures { IsNodeFound (handed handing (resolved_handing (context_value (N.LooksUp.table_of names.now) context.now) call.now)) result }
+    ensures { IsFound (handed handing (resolved_handing (context_value (N.LooksUp.table_of names.now) context.now) call.now)) result }
 {
     let tac = resolve_theorem_tac(alloc, names, context, call)?;
-    Ok(ExprNode::Hand(handing, tac))
+    Ok(Expr::new(alloc, ExprNode::Hand(handing, tac))?)
 }
 
-// Resolves a call: what it calls, and its arguments.
+// Resolves a call: what it calls, and its arguments. A use of an expression that was named is one node, whatever its size.
 fn resolve_call<N: LooksUp>(
     alloc: Global,
     names: &N,
     context: &Context<'_>,
     call: &written::TacCall,
-) -> Result<TacCall, Unresolved>
+) -> Result<Expr, Unresolved>
     requires { IsContext context.now }
-    ensures { IsCallFound (resolved_whole (context_value (N.LooksUp.table_of names.now) context.now) call.now) result }
+    ensures { IsFound (resolved_whole (context_value (N.LooksUp.table_of names.now) context.now) call.now) result }
 {
     let Some((callee, written)) = called(names, Role::Whole, call, context.reads) else {
         return Err(unknown(alloc, call)?);
     };
     match callee {
-        Callee::Registered(tac) => Ok(TacCall {
-            index: tac.index,
-            name: String::from_str(alloc, call.name.as_str())?,
-            args: arguments(alloc, context, call, written)?,
-        }),
+        Callee::Registered(tac) => {
+            let call = TacCall {
+                index: tac.index,
+                name: String::from_str(alloc, call.name.as_str())?,
+                args: arguments(alloc, context, call, written)?,
+            };
+            Ok(Expr::new(alloc, ExprNode::Call(call))?)
+        }
+        Callee::Defined(expr, _) => Ok(expr.defined(alloc)?),
     }
 }
 
@@ -296,6 +292,7 @@ fn resolve_theorem_tac<N: LooksUp>(
                 term: term_before(args),
             })
         }
+        Callee::Defined(_, _) => Err(unknown(alloc, call)?),
     }
 }
 
