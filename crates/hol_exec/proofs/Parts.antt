@@ -227,43 +227,43 @@ module _ (context : ContextValue) where
 
   -- what is written as no chain of a kind is resolved to none of it
   other_chain : (k : Chain) (t : TacText) (e : ExprValue) → resolved_expr context t ≡ Ok e → (Uses ≡ k → ⊥) → (text_chain t ≡ k → ⊥) → chain_of e ≡ k → ⊥
-  other_chain k t e found no not is =
-      elim (subst (Chained (text_chain t)) found (chained t)) [ inl u ↦ no (sym u ∙ is) | inr own ↦ not (sym own ∙ is) ]
+  other_chain k t e found never not is =
+      elim (subst (Chained (text_chain t)) found (chained t)) [ inl u ↦ never (sym u ∙ is) | inr own ↦ not (sym own ∙ is) ]
 
   pub no_steps : (n : TacExprNode) (t : TacText) (e : ExprValue) → tac_of_node n ≡ t → resolved_expr context t ≡ Ok e → ((a b : TacText) → n ≡ node.Then a b → ⊥) → chain_of e ≡ Steps → ⊥
   no_steps n t e is found not k = other_chain Steps t e found (λ u. absurd (cc)) (λ own. by n not (ap text_chain is ∙ own)) k
     where
       by : (m : TacExprNode) → ((a b : TacText) → m ≡ node.Then a b → ⊥) → text_chain (tac_of_node m) ≡ Steps → ⊥
-      by (node.Call call) no own = absurd (cc)
-      by (node.Then a b) no own = no a b refl
-      by (node.ThenL a bs) no own = absurd (cc)
-      by (node.OrElse a b) no own = absurd (cc)
-      by (node.Repeat a) no own = absurd (cc)
-      by (node.Try a) no own = absurd (cc)
-      by (node.Changed a) no own = absurd (cc)
-      by (node.Every xs) no own = absurd (cc)
-      by (node.First xs) no own = absurd (cc)
-      by (node.Replicate n a) no own = absurd (cc)
-      by (node.DischThen call) no own = absurd (cc)
-      by (node.PopAssum call) no own = absurd (cc)
-      by (node.FirstAssum call) no own = absurd (cc)
-      by (node.SubgoalThen p call) no own = absurd (cc)
+      by (node.Call call) never own = absurd (cc)
+      by (node.Then a b) never own = never a b refl
+      by (node.ThenL a bs) never own = absurd (cc)
+      by (node.OrElse a b) never own = absurd (cc)
+      by (node.Repeat a) never own = absurd (cc)
+      by (node.Try a) never own = absurd (cc)
+      by (node.Changed a) never own = absurd (cc)
+      by (node.Every xs) never own = absurd (cc)
+      by (node.First xs) never own = absurd (cc)
+      by (node.Replicate n a) never own = absurd (cc)
+      by (node.DischThen call) never own = absurd (cc)
+      by (node.PopAssum call) never own = absurd (cc)
+      by (node.FirstAssum call) never own = absurd (cc)
+      by (node.SubgoalThen p call) never own = absurd (cc)
 
   pub no_alternatives : (n : TacExprNode) (t : TacText) (e : ExprValue) → tac_of_node n ≡ t → resolved_expr context t ≡ Ok e → ((a b : TacText) → n ≡ node.OrElse a b → ⊥) → chain_of e ≡ Alternatives → ⊥
   no_alternatives n t e is found not k = other_chain Alternatives t e found (λ u. absurd (cc)) (λ own. by n not (ap text_chain is ∙ own)) k
     where
       by : (m : TacExprNode) → ((a b : TacText) → m ≡ node.OrElse a b → ⊥) → text_chain (tac_of_node m) ≡ Alternatives → ⊥
-      by (node.Call call) no own = absurd (cc)
-      by (node.Then a b) no own = absurd (cc)
-      by (node.ThenL a bs) no own = absurd (cc)
-      by (node.OrElse a b) no own = no a b refl
-      by (node.Repeat a) no own = absurd (cc)
-      by (node.Try a) no own = absurd (cc)
-      by (node.Changed a) no own = absurd (cc)
-      by (node.Every xs) no own = absurd (cc)
-      by (node.First xs) no own = absurd (cc)
-      by (node.Replicate n a) no own = absurd (cc)
-      by (node.DischThen call) no own = absurd (cc)
-      by (node.PopAssum call) no own = absurd (cc)
-      by (node.FirstAssum call) no own = absurd (cc)
-      by (node.SubgoalThen p call) no own = absurd (cc)
+      by (node.Call call) never own = absurd (cc)
+      by (node.Then a b) never own = absurd (cc)
+      by (node.ThenL a bs) never own = absurd (cc)
+      by (node.OrElse a b) never own = never a b refl
+      by (node.Repeat a) never own = absurd (cc)
+      by (node.Try a) never own = absurd (cc)
+      by (node.Changed a) never own = absurd (cc)
+      by (node.Every xs) never own = absurd (cc)
+      by (node.First xs) never own = absurd (cc)
+      by (node.Replicate n a) never own = absurd (cc)
+      by (node.DischThen call) never own = absurd (cc)
+      by (node.PopAssum call) never own = absurd (cc)
+      by (node.FirstAssum call) never own = absurd (cc)
+      by (node.SubgoalThen p call) never own = absurd (cc)

@@ -18,18 +18,18 @@ use Rattle.hol_exec.specs.Keys.{keys_in}
 use Rattle.hol_exec.specs.ReadsValue.{Values}
 use Rattle.hol_exec.specs.Resolved.{resolved_basis}
 
+-- what stands under those of the keys that are cited
+abbrev pub values_under : Values → List KeyValue → Values
+values_under cited keys = filter (λ v. list_any (key_eq v.0) keys) cited
+
+-- what these quotations read as
+abbrev pub readings_of : ReadingsValue → List AnyQuotation → ReadingsValue
+readings_of readings quotations = filter (λ r. list_any (λ q. nat_eq r.0 (place_of q)) quotations) readings
+
 module _ (cited : Values) (readings : ReadingsValue) where
-  -- what stands under those of the keys that are cited
-  abbrev pub values_under : List KeyValue → Values
-  values_under keys = filter (λ v. list_any (key_eq v.0) keys) cited
-
-  -- what these quotations read as
-  abbrev pub readings_of : List AnyQuotation → ReadingsValue
-  readings_of quotations = filter (λ r. list_any (λ q. nat_eq r.0 (place_of q)) quotations) readings
-
   -- the basis of all that is resolved in a theorem, as if nothing else were written
   abbrev pub parts_basis : List Part → Items
-  parts_basis parts = resolved_basis (values_under (keys_in parts)) (readings_of (quotations_in parts))
+  parts_basis parts = resolved_basis (values_under cited (keys_in parts)) (readings_of readings (quotations_in parts))
 
   abbrev pub own_basis : ThmText → Items
   own_basis th = parts_basis (parts_of_theorem th)

@@ -8,11 +8,11 @@ mod expressions;
 mod formulas;
 mod looks_up;
 mod occurring;
-mod own_bases;
 mod resolution;
+mod theorem_bases;
 mod unresolved;
 
 pub(crate) use basis::resolved_basis;
 pub(crate) use cited::theorem_at;
-pub(crate) use own_bases::own_bases;
 pub(crate) use resolution::{Resolution, resolve};
+pub(crate) use theorem_bases::own_bases;

@@ -1,5 +1,6 @@
 -- Nodes of expressions: where a chain is one node, no two nodes are one expression; and what a node's parts have of its nodes.
-use Rattle.std.specs.Prelude.{◌≡◌, ◌↔◌, ◌+◌, ◌≤◌, ℕ, zero, suc, false, IsTrue, List, [], ◌∷◌, ◌++◌, refl}
+use mathlib.Core.Bool.{true≢false}
+use Rattle.std.specs.Prelude.{◌≡◌, ◌↔◌, ◌+◌, ◌≤◌, ℕ, zero, suc, Bool, true, false, IsTrue, List, [], ◌∷◌, ◌++◌, refl}
 use Rattle.std.specs.Global.{Vec}
 use Rattle.std.proofs.Common.{ap, sym, ◌∙◌, subst, arith}
 use Rattle.std.proofs.lemmas.List.{append-nil, append_assoc}
@@ -132,28 +133,28 @@ steps (SubgoalThen p called) = SubgoalThen p called ∷ []
 steps (Defined t) = Defined t ∷ []
 
 one_step : (t : ExprValue) → (chain_of t ≡ Steps → ⊥) → steps t ≡ t ∷ []
-one_step (Call c) no = refl
-one_step (Then t u) no = absurd (no refl)
-one_step (ThenL t us) no = refl
-one_step (OrElse t u) no = refl
-one_step (Try t) no = refl
-one_step (Repeat t) no = refl
-one_step (Every ts) no = refl
-one_step (First ts) no = refl
-one_step (Replicate n t) no = refl
-one_step (Changed t) no = refl
-one_step (DischThen called) no = refl
-one_step (PopAssum called) no = refl
-one_step (FirstAssum called) no = refl
-one_step (SubgoalThen p called) no = refl
-one_step (Defined t) no = refl
+one_step (Call c) free = refl
+one_step (Then t u) free = absurd (free refl)
+one_step (ThenL t us) free = refl
+one_step (OrElse t u) free = refl
+one_step (Try t) free = refl
+one_step (Repeat t) free = refl
+one_step (Every ts) free = refl
+one_step (First ts) free = refl
+one_step (Replicate n t) free = refl
+one_step (Changed t) free = refl
+one_step (DischThen called) free = refl
+one_step (PopAssum called) free = refl
+one_step (FirstAssum called) free = refl
+one_step (SubgoalThen p called) free = refl
+one_step (Defined t) free = refl
 
 then_steps : (t : ExprValue) (us : List ExprValue) → steps (then_all t us) ≡ steps t ++ us
 then_steps t [] = sym (append-nil (steps t))
 then_steps t (u ∷ us) = then_steps (Then t u) us ∙ append_assoc (steps t) (u ∷ []) us
 
 chain_steps : (t u : ExprValue) (us : List ExprValue) → (chain_of t ≡ Steps → ⊥) → steps (then_all (Then t u) us) ≡ t ∷ u ∷ us
-chain_steps t u us no = then_steps (Then t u) us ∙ ap (λ (ts : List ExprValue). (ts ++ u ∷ []) ++ us) (one_step t no)
+chain_steps t u us free = then_steps (Then t u) us ∙ ap (λ (ts : List ExprValue). (ts ++ u ∷ []) ++ us) (one_step t free)
 
 abbrev branches : ExprValue → List ExprValue
 branches (Call c) = Call c ∷ []
@@ -173,25 +174,25 @@ branches (SubgoalThen p called) = SubgoalThen p called ∷ []
 branches (Defined t) = Defined t ∷ []
 
 one_branch : (t : ExprValue) → (chain_of t ≡ Alternatives → ⊥) → branches t ≡ t ∷ []
-one_branch (Call c) no = refl
-one_branch (Then t u) no = refl
-one_branch (ThenL t us) no = refl
-one_branch (OrElse t u) no = absurd (no refl)
-one_branch (Try t) no = refl
-one_branch (Repeat t) no = refl
-one_branch (Every ts) no = refl
-one_branch (First ts) no = refl
-one_branch (Replicate n t) no = refl
-one_branch (Changed t) no = refl
-one_branch (DischThen called) no = refl
-one_branch (PopAssum called) no = refl
-one_branch (FirstAssum called) no = refl
-one_branch (SubgoalThen p called) no = refl
-one_branch (Defined t) no = refl
+one_branch (Call c) free = refl
+one_branch (Then t u) free = refl
+one_branch (ThenL t us) free = refl
+one_branch (OrElse t u) free = absurd (free refl)
+one_branch (Try t) free = refl
+one_branch (Repeat t) free = refl
+one_branch (Every ts) free = refl
+one_branch (First ts) free = refl
+one_branch (Replicate n t) free = refl
+one_branch (Changed t) free = refl
+one_branch (DischThen called) free = refl
+one_branch (PopAssum called) free = refl
+one_branch (FirstAssum called) free = refl
+one_branch (SubgoalThen p called) free = refl
+one_branch (Defined t) free = refl
 
 chain_branches : (u : ExprValue) (us : List ExprValue) → (last_chain u us ≡ Alternatives → ⊥) → branches (or_else_all u us) ≡ u ∷ us
-chain_branches u [] no = one_branch u no
-chain_branches u (v ∷ us) no = ap (λ (ts : List ExprValue). u ∷ ts) (chain_branches v us no)
+chain_branches u [] free = one_branch u free
+chain_branches u (v ∷ us) free = ap (λ (ts : List ExprValue). u ∷ ts) (chain_branches v us free)
 
 -- ---- uses as numbers
 
@@ -213,25 +214,25 @@ count (SubgoalThen p called) = 0
 count (Defined t) = suc (count t)
 
 no_use : (t : ExprValue) → (chain_of t ≡ Uses → ⊥) → count t ≡ 0
-no_use (Call c) no = refl
-no_use (Then t u) no = refl
-no_use (ThenL t us) no = refl
-no_use (OrElse t u) no = refl
-no_use (Try t) no = refl
-no_use (Repeat t) no = refl
-no_use (Every ts) no = refl
-no_use (First ts) no = refl
-no_use (Replicate n t) no = refl
-no_use (Changed t) no = refl
-no_use (DischThen called) no = refl
-no_use (PopAssum called) no = refl
-no_use (FirstAssum called) no = refl
-no_use (SubgoalThen p called) no = refl
-no_use (Defined t) no = absurd (no refl)
+no_use (Call c) free = refl
+no_use (Then t u) free = refl
+no_use (ThenL t us) free = refl
+no_use (OrElse t u) free = refl
+no_use (Try t) free = refl
+no_use (Repeat t) free = refl
+no_use (Every ts) free = refl
+no_use (First ts) free = refl
+no_use (Replicate n t) free = refl
+no_use (Changed t) free = refl
+no_use (DischThen called) free = refl
+no_use (PopAssum called) free = refl
+no_use (FirstAssum called) free = refl
+no_use (SubgoalThen p called) free = refl
+no_use (Defined t) free = absurd (free refl)
 
 use_count : (n : ℕ) (t : ExprValue) → (chain_of t ≡ Uses → ⊥) → count (used_through n t) ≡ n
-use_count zero t no = no_use t no
-use_count (suc n) t no = ap suc (use_count n t no)
+use_count zero t free = no_use t free
+use_count (suc n) t free = ap suc (use_count n t free)
 
 used_same : (n : ℕ) (t u : ExprValue) → used_through n t ≡ used_through n u → t ≡ u
 used_same zero t u e = e
@@ -275,11 +276,11 @@ module _ (n : ExprNode) (a : ExprValue) (of_n : expr_of_node n ≡ a) where
 module _ (n m : ExprNode) (a b : ExprValue) (of_n : expr_of_node n ≡ a) (of_m : expr_of_node m ≡ b) where
   pub same_then : (t u t2 u2 : ExprValue) (us us2 : Vec ExprValue) → n ≡ node.Then t u us → m ≡ node.Then t2 u2 us2 → (chain_of t ≡ Steps → ⊥) → (chain_of t2 ≡ Steps → ⊥)
       → ((t ≡ t2) × ((u ≡ u2) × (us.items ≡ us2.items))) ↔ (a ≡ b)
-  same_then t u t2 u2 us us2 is_n is_m no no2 = (
+  same_then t u t2 u2 us us2 is_n is_m free no2 = (
     (λ e. sym (ap expr_of_node (sym is_n) ∙ of_n) ∙ (λ i. then_all (Then (e.0 i) (e.1.0 i)) (e.1.1 i)) ∙ (ap expr_of_node (sym is_m) ∙ of_m)),
     (λ e.
         let whole : then_all (Then t u) us.items ≡ then_all (Then t2 u2) us2.items = (ap expr_of_node (sym is_n) ∙ of_n) ∙ e ∙ sym (ap expr_of_node (sym is_m) ∙ of_m) in
-        let lists : t ∷ u ∷ us.items ≡ t2 ∷ u2 ∷ us2.items = sym (chain_steps t u us.items no) ∙ ap steps whole ∙ chain_steps t2 u2 us2.items no2 in
+        let lists : t ∷ u ∷ us.items ≡ t2 ∷ u2 ∷ us2.items = sym (chain_steps t u us.items free) ∙ ap steps whole ∙ chain_steps t2 u2 us2.items no2 in
         let first : t ≡ t2 = cc in
         let second : u ≡ u2 = cc in
         let more : us.items ≡ us2.items = cc in
@@ -288,24 +289,24 @@ module _ (n m : ExprNode) (a b : ExprValue) (of_n : expr_of_node n ≡ a) (of_m 
 
   pub same_or_else : (t u t2 u2 : ExprValue) (us us2 : Vec ExprValue) → n ≡ node.OrElse t u us → m ≡ node.OrElse t2 u2 us2
       → (last_chain u us.items ≡ Alternatives → ⊥) → (last_chain u2 us2.items ≡ Alternatives → ⊥) → ((t ≡ t2) × ((u ≡ u2) × (us.items ≡ us2.items))) ↔ (a ≡ b)
-  same_or_else t u t2 u2 us us2 is_n is_m no no2 = (
+  same_or_else t u t2 u2 us us2 is_n is_m free no2 = (
     (λ e. sym (ap expr_of_node (sym is_n) ∙ of_n) ∙ (λ i. OrElse (e.0 i) (or_else_all (e.1.0 i) (e.1.1 i))) ∙ (ap expr_of_node (sym is_m) ∙ of_m)),
     (λ e.
         let whole : OrElse t (or_else_all u us.items) ≡ OrElse t2 (or_else_all u2 us2.items) = (ap expr_of_node (sym is_n) ∙ of_n) ∙ e ∙ sym (ap expr_of_node (sym is_m) ∙ of_m) in
         let first : t ≡ t2 = cc in
         let rest : or_else_all u us.items ≡ or_else_all u2 us2.items = cc in
-        let lists : u ∷ us.items ≡ u2 ∷ us2.items = sym (chain_branches u us.items no) ∙ ap branches rest ∙ chain_branches u2 us2.items no2 in
+        let lists : u ∷ us.items ≡ u2 ∷ us2.items = sym (chain_branches u us.items free) ∙ ap branches rest ∙ chain_branches u2 us2.items no2 in
         let second : u ≡ u2 = cc in
         let more : us.items ≡ us2.items = cc in
         (first, (second, more))),
   )
 
   pub same_use : (k l : ℕ) (t u : ExprValue) → n ≡ node.Defined k t → m ≡ node.Defined l u → (chain_of t ≡ Uses → ⊥) → (chain_of u ≡ Uses → ⊥) → ((k ≡ l) × (t ≡ u)) ↔ (a ≡ b)
-  same_use k l t u is_n is_m no no2 = (
+  same_use k l t u is_n is_m free no2 = (
     (λ e. sym (ap expr_of_node (sym is_n) ∙ of_n) ∙ (λ i. used_through (suc (e.0 i)) (e.1 i)) ∙ (ap expr_of_node (sym is_m) ∙ of_m)),
     (λ e.
         let whole : used_through (suc k) t ≡ used_through (suc l) u = (ap expr_of_node (sym is_n) ∙ of_n) ∙ e ∙ sym (ap expr_of_node (sym is_m) ∙ of_m) in
-        let counts : suc k ≡ suc l = sym (use_count (suc k) t no) ∙ ap count whole ∙ use_count (suc l) u no2 in
+        let counts : suc k ≡ suc l = sym (use_count (suc k) t free) ∙ ap count whole ∙ use_count (suc l) u no2 in
         let times : k ≡ l = omega (arith, counts) in
         let used : used_through (suc k) t ≡ used_through (suc k) u = whole ∙ ap (λ (j : ℕ). used_through (suc j) u) (sym times) in
         (times, used_same (suc k) t u used)),
@@ -337,4 +338,28 @@ module _ (n m : ExprNode) (a b : ExprValue) (of_n : expr_of_node n ≡ a) (of_m 
         let first : t ≡ u = cc in
         let lists : exprs ts.items ≡ exprs us.items = cc in
         (first, exprs_same ts.items us.items lists)),
+  )
+
+-- ---- parts that are compared one after the other
+
+pub over : (r : Bool) (a b x y : List ExprValue) → IsTrue r ↔ (a ≡ b) → a ≡ x → b ≡ y → IsTrue r ↔ (x ≡ y)
+over r a b x y h p q = ((λ t. sym p ∙ h.0 t ∙ q), (λ e. h.1 (p ∙ e ∙ sym q)))
+
+module _ {P Q R G : Type 0} where
+  pub all_two : (x y : Bool) → IsTrue x ↔ P → IsTrue y ↔ Q → (P × Q) ↔ G → x ≡ true → IsTrue y ↔ G
+  all_two x y p q g is = ((λ t. g.0 (p.0 is, q.0 t)), (λ e. q.1 (g.1 e).1))
+
+  pub all_three : (x y z : Bool) → IsTrue x ↔ P → IsTrue y ↔ Q → IsTrue z ↔ R → (P × (Q × R)) ↔ G → x ≡ true → y ≡ true → IsTrue z ↔ G
+  all_three x y z p q r g is too = ((λ t. g.0 (p.0 is, (q.0 too, r.0 t))), (λ e. r.1 (g.1 e).1.1))
+
+  pub first_fails : (x v : Bool) → IsTrue x ↔ P → (P × Q) ↔ G → x ≡ false → v ≡ false → IsTrue v ↔ G
+  first_fails x v p g is fails = (
+    (λ t. absurd (true≢false (sym t ∙ fails))),
+    (λ e. absurd (true≢false (sym (p.1 (g.1 e).0) ∙ is))),
+  )
+
+  pub second_fails : (y v : Bool) → IsTrue y ↔ Q → (P × (Q × R)) ↔ G → y ≡ false → v ≡ false → IsTrue v ↔ G
+  second_fails y v q g is fails = (
+    (λ t. absurd (true≢false (sym t ∙ fails))),
+    (λ e. absurd (true≢false (sym (q.1 (g.1 e).1.0) ∙ is))),
   )

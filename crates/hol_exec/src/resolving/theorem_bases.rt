@@ -5,6 +5,7 @@ ghost use Rattle.hol_notation_tactics.specs.Parts.{parts_of, calls_in};
 ghost use Rattle.hol_resolve.specs.Quotations.{place_of};
 ghost use Rattle.hol_resolve.specs.FormsView.{written_value};
 ghost use Rattle.hol_resolve.specs.ReadingView.{list_value, readings_value};
+ghost use Rattle.hol_theory.specs.Key.{key_eq};
 ghost use Rattle.hol_exec.specs.Callee.{called};
 ghost use Rattle.hol_exec.specs.OwnBases.{values_under, readings_of, own_basis, argument_bases, call_bases, own_bases};
 ghost use Rattle.hol_exec.specs.SetupView.{setup_value};
@@ -129,11 +130,23 @@ fn values_under(
 {
     let mut values = Vec::new(alloc);
     for value in cited {
-        if keys.contains(&value.0) {
+        if is_among(&value.0, keys) {
             values.push((value.0.copy()?, entry_copy(&value.1)?))?;
         }
     }
     Ok(values)
+}
+
+// Whether it is one of the keys.
+fn is_among(key: &Key, keys: &[Key]) -> bool
+    ensures { result ≡ list_any (key_eq key.now) keys.now }
+{
+    for own in keys {
+        if *key == *own {
+            return true;
+        }
+    }
+    false
 }
 
 // What these quotations read as.
