@@ -345,18 +345,19 @@ module _ (n m : ExprNode) (a b : ExprValue) (of_n : expr_of_node n ≡ a) (of_m 
 pub over : (r : Bool) (a b x y : List ExprValue) → IsTrue r ↔ (a ≡ b) → a ≡ x → b ≡ y → IsTrue r ↔ (x ≡ y)
 over r a b x y h p q = ((λ t. sym p ∙ h.0 t ∙ q), (λ e. h.1 (p ∙ e ∙ sym q)))
 
-module _ {P Q R G : Type 0} where
+module _ {P Q G : Type 0} where
   pub all_two : (x y : Bool) → IsTrue x ↔ P → IsTrue y ↔ Q → (P × Q) ↔ G → x ≡ true → IsTrue y ↔ G
   all_two x y p q g is = ((λ t. g.0 (p.0 is, q.0 t)), (λ e. q.1 (g.1 e).1))
-
-  pub all_three : (x y z : Bool) → IsTrue x ↔ P → IsTrue y ↔ Q → IsTrue z ↔ R → (P × (Q × R)) ↔ G → x ≡ true → y ≡ true → IsTrue z ↔ G
-  all_three x y z p q r g is too = ((λ t. g.0 (p.0 is, (q.0 too, r.0 t))), (λ e. r.1 (g.1 e).1.1))
 
   pub first_fails : (x v : Bool) → IsTrue x ↔ P → (P × Q) ↔ G → x ≡ false → v ≡ false → IsTrue v ↔ G
   first_fails x v p g is fails = (
     (λ t. absurd (true≢false (sym t ∙ fails))),
     (λ e. absurd (true≢false (sym (p.1 (g.1 e).0) ∙ is))),
   )
+
+module _ {P Q R G : Type 0} where
+  pub all_three : (x y z : Bool) → IsTrue x ↔ P → IsTrue y ↔ Q → IsTrue z ↔ R → (P × (Q × R)) ↔ G → x ≡ true → y ≡ true → IsTrue z ↔ G
+  all_three x y z p q r g is too = ((λ t. g.0 (p.0 is, (q.0 too, r.0 t))), (λ e. r.1 (g.1 e).1.1))
 
   pub second_fails : (y v : Bool) → IsTrue y ↔ Q → (P × (Q × R)) ↔ G → y ≡ false → v ≡ false → IsTrue v ↔ G
   second_fails y v q g is fails = (

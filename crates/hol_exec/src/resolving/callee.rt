@@ -26,7 +26,7 @@ pub(crate) enum Callee<'a> {
 
 // The kind of arguments of what is called.
 fn kind_of(called: Callee<'_>) -> ArgumentKind
-    ensures { result ≡ kind_of (callee_value called) }
+    ensures { result ≡ kind_of (callee_value called.entry) }
 {
     match called {
         Callee::Registered(tac) => tac.code.arguments(),

@@ -152,27 +152,11 @@ fn push_then<N: LooksUp>(
     requires { IsContext context.now }
     ensures { IsChainFound (resolved_expr (context_value (N.LooksUp.table_of names.now) context.now) tactic.now) parts.old.items parts.new.items result }
 {
-    match tactic.node() {
-        TacExprNode::Then(first, second) => {
-            push_then(alloc, names, context, parts, first)?;
-            Ok(parts.push(resolve_expr(alloc, names, context, second)?)?)
-        }
-        TacExprNode::Call(_)
-        | TacExprNode::ThenL(_, _)
-        | TacExprNode::OrElse(_, _)
-        | TacExprNode::Repeat(_)
-        | TacExprNode::Try(_)
-        | TacExprNode::Changed(_)
-        | TacExprNode::Every(_)
-        | TacExprNode::First(_)
-        | TacExprNode::Replicate(_, _)
-        | TacExprNode::DischThen(_)
-        | TacExprNode::PopAssum(_)
-        | TacExprNode::FirstAssum(_)
-        | TacExprNode::SubgoalThen(_, _) => {
-            Ok(parts.push(resolve_expr(alloc, names, context, tactic)?)?)
-        }
+    if let TacExprNode::Then(first, second) = tactic.node() {
+        push_then(alloc, names, context, parts, first)?;
+        return Ok(parts.push(resolve_expr(alloc, names, context, second)?)?);
     }
+    Ok(parts.push(resolve_expr(alloc, names, context, tactic)?)?)
 }
 
 // Resolves `first ORELSE second`. A chain, which is written from the right, becomes a list.
@@ -206,27 +190,11 @@ fn push_or_else<N: LooksUp>(
     requires { IsContext context.now }
     ensures { AreAlternativesFound (resolved_expr (context_value (N.LooksUp.table_of names.now) context.now) tactic.now) parts.old.items parts.new.items result }
 {
-    match tactic.node() {
-        TacExprNode::OrElse(first, second) => {
-            parts.push(resolve_expr(alloc, names, context, first)?)?;
-            push_or_else(alloc, names, context, parts, second)
-        }
-        TacExprNode::Call(_)
-        | TacExprNode::Then(_, _)
-        | TacExprNode::ThenL(_, _)
-        | TacExprNode::Repeat(_)
-        | TacExprNode::Try(_)
-        | TacExprNode::Changed(_)
-        | TacExprNode::Every(_)
-        | TacExprNode::First(_)
-        | TacExprNode::Replicate(_, _)
-        | TacExprNode::DischThen(_)
-        | TacExprNode::PopAssum(_)
-        | TacExprNode::FirstAssum(_)
-        | TacExprNode::SubgoalThen(_, _) => {
-            Ok(parts.push(resolve_expr(alloc, names, context, tactic)?)?)
-        }
+    if let TacExprNode::OrElse(first, second) = tactic.node() {
+        parts.push(resolve_expr(alloc, names, context, first)?)?;
+        return push_or_else(alloc, names, context, parts, second);
     }
+    Ok(parts.push(resolve_expr(alloc, names, context, tactic)?)?)
 }
 
 // Resolves a function that a theorem is handed to.

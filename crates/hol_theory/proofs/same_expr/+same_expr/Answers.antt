@@ -107,7 +107,7 @@ same_expr-returns-then-same_expr-2 t c =
       | same_expr-then-same_expr w ↦
           all_three _ _ _ c.same_expr.ensures w.same_expr-then-same_expr.ensures (over _ _ _ _ _ c.same_exprs.ensures c.deref.ensures.value c.deref-then-same_expr-2.ensures.value) whole
           w.if-same_expr.true (sym w.value-is ∙ value)
-      | same_expr-else-same_expr w ↦ absurd (true≢false (sym value ∙ w.value-is))
+      | same_expr-else-same_expr w ↦ absurd (true≢false (sym value ∙ w.value-is ∙ w.if-same_expr.false))
     ]
 
 pub same_expr-returns-else-same_expr-2 : goal.same_expr-returns-else-same_expr-2
@@ -134,7 +134,7 @@ same_expr-returns-then-same_expr-5 t c =
       | same_expr-then-same_expr-4 w ↦
           all_three _ _ _ c.same_expr-in-OrElse.ensures w.same_expr-then-same_expr-4.ensures (over _ _ _ _ _ c.same_exprs-then-same_expr-5.ensures c.deref-then-same_expr-5.ensures.value c.deref-then-same_expr-5-2.ensures.value) whole
           w.if-same_expr-4.true (sym w.value-is ∙ value)
-      | same_expr-else-same_expr-4 w ↦ absurd (true≢false (sym value ∙ w.value-is))
+      | same_expr-else-same_expr-4 w ↦ absurd (true≢false (sym value ∙ w.value-is ∙ w.if-same_expr-4.false))
     ]
 
 pub same_expr-returns-else-same_expr-5 : goal.same_expr-returns-else-same_expr-5

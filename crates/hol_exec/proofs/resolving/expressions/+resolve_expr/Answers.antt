@@ -1,4 +1,4 @@
-use Rattle.std.proofs.Common.{rules, ◌≡◌, ◌++◌, ◌∷◌, [], List, drop, ap, sym, ◌∙◌, subst, arith, length, ◌<◌}
+use Rattle.std.proofs.Common.{rules, ◌≡◌, ◌++◌, ◌∷◌, [], List, drop, ap, sym, ◌∙◌, subst, arith, length, ◌<◌, Ok}
 use Rattle.hol_combine.specs.ExprValue.{ExprValue}
 use Rattle.hol_notation_tactics.specs.Text.{TacText, Then, tac_nodes}
 use Rattle.hol_notation_tactics.specs.TacView.{tac_of_node}
@@ -6,8 +6,8 @@ use Rattle.hol_notation_tactics.proofs.SameTactics.{nodes_at}
 use Rattle.hol_exec.specs.Expr.{both, resolved_handing, resolved_expr}
 use Rattle.hol_combine.specs.ExprValue as expr
 use Rattle.hol_exec.specs.ContextView.{context_value}
-use Rattle.hol_exec.specs.ExprView.{IsChain, IsNodeFound}
-use Rattle.hol_exec.proofs.Parts.{each_goes_on, each_ends, nothing_more, chain_longer, chain_node, formula_handed}
+use Rattle.hol_exec.specs.ExprView.{IsChain, IsFound}
+use Rattle.hol_exec.proofs.Parts.{each_goes_on, each_ends, nothing_more, chain_of_one, one_alternative, chain_longer, chain_node, formula_handed, no_steps, no_alternatives}
 use Rattle.hol_exec.proofs.resolving.expressions.+resolve_expr.Goals as goal
 
 pub push_then-returns-in_ok-push-in-Then : goal.push_then-returns-in_ok-push-in-Then
@@ -34,12 +34,12 @@ resolve_each-returns g t c =
     let none : drop c.loop-tactic.tactic-index c.args.tactics.now ≡ [] = nothing_more c.args.tactics.now c.loop-tactic.tactic-index (omega (arith, c.loop-tactic-test.false)) in
     each_ends (context_value (g.N.LooksUp.table_of c.args.names.now) c.args.context.now) c.args.tactics.now c.loop-tactic.parts.items c.loop-tactic.tactic-index none c.loop-tactic.invariant
 
-pub resolve_node-returns-in_ok-formula-in-SubgoalThen :
-    goal.resolve_node-returns-in_ok-formula-in-SubgoalThen
-resolve_node-returns-in_ok-formula-in-SubgoalThen g t c =
+pub resolve_expr-returns-in_ok-formula-in-SubgoalThen :
+    goal.resolve_expr-returns-in_ok-formula-in-SubgoalThen
+resolve_expr-returns-in_ok-formula-in-SubgoalThen g t c =
     let context = context_value (g.N.LooksUp.table_of c.args.names.now) c.args.context.now in
     let is = sym c.node.ensures ∙ ap tac_of_node c.in-SubgoalThen.is in
-    subst (λ (x : TacText). IsNodeFound (resolved_expr context x) c.hand-in-SubgoalThen.result) (sym is)
+    subst (λ (x : TacText). IsFound (resolved_expr context x) c.hand-in-SubgoalThen.result) (sym is)
     (formula_handed _ (resolved_handing context c.in-SubgoalThen.call) c.in_ok-formula-in-SubgoalThen.formula c.hand-in-SubgoalThen.result c.in_ok-formula-in-SubgoalThen.ensures c.hand-in-SubgoalThen.ensures)
 
 pub resolve_then-returns : goal.resolve_then-returns
@@ -51,4 +51,5 @@ resolve_then-returns g t c =
     chain_longer (resolved_expr context c.args.first.now) (resolved_expr context c.args.second.now) [] c.push_then.new.parts.items c.push.new.self.items c.in_ok-resolve_expr.field-0
     (subst (λ (old : List ExprValue). IsChain (resolved_expr context c.args.first.now) old c.push_then.new.parts.items) none c.in_ok-push_then.ensures) c.in_ok-resolve_expr.ensures grown in
     let two : 1 < length c.push.new.self.items = search rules in
-    chain_node (both expr.Then (resolved_expr context c.args.first.now) (resolved_expr context c.args.second.now)) c.push.new.self.items c.remove-head.new.self.items c.remove-next.new.self.items c.remove-head.result c.remove-next.result chain two c.remove-head.ensures.value c.remove-head.ensures.items c.remove-next.ensures.value c.remove-next.ensures.items
+    let found = chain_node (both expr.Then (resolved_expr context c.args.first.now) (resolved_expr context c.args.second.now)) c.push.new.self.items c.remove-head.new.self.items c.remove-next.new.self.items c.remove-head.result c.remove-next.result chain two c.remove-head.ensures.value c.remove-head.ensures.items c.remove-next.ensures.value c.remove-next.ensures.items in
+    found ∙ ap Ok (sym c.in_ok-new.ensures)

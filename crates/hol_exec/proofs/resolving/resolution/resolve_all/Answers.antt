@@ -5,7 +5,7 @@ use Rattle.hol_resolve.specs.ReadingView.{readings_value}
 use Rattle.hol_exec.specs.Expr.{resolved_expr}
 use Rattle.hol_exec.specs.Resolved.{cited_theorems, occurs_in, resolved_basis}
 use Rattle.hol_exec.specs.SetupView.{setup_value}
-use Rattle.hol_exec.proofs.Resolutions.{is_context, untaken_found, untaken_refused, fault_ends}
+use Rattle.hol_exec.proofs.Resolutions.{is_context, untaken_found}
 use Rattle.hol_exec.proofs.Known.{AreCitedIn}
 use Rattle.hol_exec.proofs.ReadOver.{resolved_cited}
 use Rattle.hol_exec.proofs.Runnable.{runs_found}
@@ -35,12 +35,3 @@ returns-in-Ok-clause-runnable g c =
     (λ x. occurs_in x readings)
     (subst (λ (b : Items). AreCitedIn (λ x. occurs_in x readings) b c.args.reads.now.cited) (sym is) (resolved_cited readings c.args.reads.now.cited c.args.reads.now.made c.cited.ensures.theory))
     (subst (λ (b : Items). AreOver b (readings_value c.args.readings)) (sym (c.in_ok-basis.ensures ∙ ap (resolved_basis c.args.reads.now.cited) c.list.ensures)) c.requires) c.args.tactic.now c.in-Ok.expr c.in-Ok.ensures
-
-pub returns-clause-value : goal.returns-clause-value
-returns-clause-value g c =
-    fault_ends
-    (resolved_expr (record { table = (setup_value c.args.setup.now).table; cited = c.args.reads.now.cited; readings = readings_value c.args.readings; basis = c.in_ok-basis.basis }) c.args.tactic.now)
-    _ c.in-Err.fault c.unresolved.result
-    (λ refused e. untaken_refused (setup_value c.args.setup.now) c.args.reads.now.cited c.args.tactic.now (readings_value c.args.readings) c.in_ok-basis.basis refused
-    (c.in_ok-basis.ensures ∙ ap (resolved_basis c.args.reads.now.cited) c.list.ensures) e)
-    c.in-Err.ensures c.unresolved.ensures.value
