@@ -10,13 +10,27 @@ use Rattle.hol_exec.specs.ExprView.{IsChain, IsFound}
 use Rattle.hol_exec.proofs.Parts.{each_goes_on, each_ends, nothing_more, chain_of_one, one_alternative, chain_longer, chain_node, formula_handed, no_steps, no_alternatives}
 use Rattle.hol_exec.proofs.resolving.expressions.+resolve_expr.Goals as goal
 
-pub push_then-returns-in_ok-push-in-Then : goal.push_then-returns-in_ok-push-in-Then
-push_then-returns-in_ok-push-in-Then g t c =
+pub push_then-returns-in-Then : goal.push_then-returns-in-Then
+push_then-returns-in-Then g t c =
     let context = context_value (g.N.LooksUp.table_of c.args.names.now) c.args.context.now in
     let is : c.args.tactic.now ≡ Then c.in-Then.first c.in-Then.second = sym c.node.ensures ∙ ap tac_of_node c.in-Then.is in
-    let grown : c.push.new.self.items ≡ c.push_then.new.parts.items ++ (c.in_ok-resolve_expr-in-Then.field-0 ∷ []) = search rules in
+    let grown : c.push.new.self.items ≡ c.push_then.new.parts.items ++ (c.in_ok-resolve_expr.field-0 ∷ []) = search rules in
     subst (λ (x : TacText). IsChain (resolved_expr context x) c.args.parts.now.items c.push.new.self.items) (sym is)
-    (chain_longer (resolved_expr context c.in-Then.first) (resolved_expr context c.in-Then.second) c.args.parts.now.items c.push_then.new.parts.items c.push.new.self.items c.in_ok-resolve_expr-in-Then.field-0 c.in_ok-push_then-in-Then.ensures c.in_ok-resolve_expr-in-Then.ensures grown)
+    (chain_longer (resolved_expr context c.in-Then.first) (resolved_expr context c.in-Then.second) c.args.parts.now.items c.push_then.new.parts.items c.push.new.self.items c.in_ok-resolve_expr.field-0 c.in_ok-push_then.ensures c.in_ok-resolve_expr.ensures grown)
+
+pub push_then-returns : goal.push_then-returns
+push_then-returns g t c =
+    let context = context_value (g.N.LooksUp.table_of c.args.names.now) c.args.context.now in
+    let grown : c.push-2.new.self.items ≡ c.args.parts.now.items ++ (c.in_ok-resolve_expr-2.field-0 ∷ []) = search rules in
+    chain_of_one (resolved_expr context c.args.tactic.now) c.args.parts.now.items c.push-2.new.self.items c.in_ok-resolve_expr-2.field-0 c.in_ok-resolve_expr-2.ensures grown
+    (no_steps context c.node.result.now c.args.tactic.now c.in_ok-resolve_expr-2.field-0 c.node.ensures c.in_ok-resolve_expr-2.ensures c.in_default.not-Then)
+
+pub push_or_else-returns : goal.push_or_else-returns
+push_or_else-returns g t c =
+    let context = context_value (g.N.LooksUp.table_of c.args.names.now) c.args.context.now in
+    let grown : c.push-2.new.self.items ≡ c.args.parts.now.items ++ (c.in_ok-resolve_expr-2.field-0 ∷ []) = search rules in
+    one_alternative (resolved_expr context c.args.tactic.now) c.args.parts.now.items c.push-2.new.self.items c.in_ok-resolve_expr-2.field-0 c.in_ok-resolve_expr-2.ensures grown
+    (no_alternatives context c.node.result.now c.args.tactic.now c.in_ok-resolve_expr-2.field-0 c.node.ensures c.in_ok-resolve_expr-2.ensures c.in_default.not-OrElse)
 
 pub resolve_each-resolve_expr-requires : goal.resolve_each-resolve_expr-requires
 resolve_each-resolve_expr-requires g t c κs within =
