@@ -2,7 +2,7 @@ use Rattle.std.proofs.Common.{rules, ◌≡◌, [], ◌∷◌, ◌++◌, length,
 use Rattle.std.proofs.lemmas.List.{length-append}
 use Rattle.hol_terms.specs.Nameless.{nameless}
 use Rattle.hol_conv.specs.Redexes.{contraction, passes_over}
-use Rattle.hol_conv.specs.Places.{around, is_marked, ComesBack, Lands, Took}
+use Rattle.hol_conv.specs.Places.{around, is_marked, Lands, Took}
 use Rattle.hol_conv.proofs.Rising.{walked_out, took_out, lands_back}
 use Rattle.hol_conv.proofs.place.+rise.Goals as goal
 
@@ -36,8 +36,8 @@ returns t c =
     let m = nameless [] c.in_ok-term.term in
     let is : fs ≡ gs ++ f ∷ [] = search rules in
     let term : m ≡ around f.step n = search rules in
-    let back : ComesBack f.step c.if-is_marked-2.is_passed_over hs ks = c.in_ok-come_back.ensures in
-    let seen : c.if-is_marked-2.is_passed_over ≡ (is_marked (reverse hs) && passes_over r m) = search rules in
+    let back = c.in_ok-come_back.ensures in
+    let seen : back.frame.is_passed_over ≡ (is_marked (reverse hs) && passes_over r m) = search rules in
     let none : contraction r [] m ≡ None = search rules in
     let stayed : Lands r (reverse gs) m (reverse hs) m = search rules in
-    lands_back r fs gs hs ks f back.frame n m is back.pushed term back.how (back.seen ∙ seen) c.requires.walked none stayed
+    lands_back r fs gs hs ks f back.frame n m is back.pushed term back.how seen c.requires.walked none stayed
